@@ -1,0 +1,103 @@
+-- Lists of terms, one after another.
+use Rattle.std.proofs.Common.{◌≡◌, ◌≢◌, ◌*◌, zero, suc, ◌≤◌, ◌&&◌, ℕ, ◌+◌, ◌<◌, true, false, drop, arith, Bool, List, [], ◌∷◌, ◌++◌, length, take, get_or, ap, ap₂, sym, ◌∙◌, refl, max}
+use Rattle.std.proofs.lemmas.List.{take_more, at_drop_more, at_drop_all, length-append}
+use Rattle.tab_term.specs.declared.term.Term.{Term}
+use Rattle.std.specs.Str.{IsUtf8, chars}
+use Rattle.std.proofs.Math.Utf8.{encode, encodes}
+use Rattle.std.proofs.lemmas.Str.{length-encode, len_utf8_bounds, encodes-chars}
+use Rattle.tab_term.specs.Data.{PlainTerm, PlainTerms, none, one_more, PlainPairs, no_pair, one_pair, depths, count, pair_count, weight, nodes}
+use Rattle.tab_term.specs.Same.{same, all_same, pairs_same}
+use Rattle.tab_term.specs.View.{term, terms, pairs}
+use Rattle.std.proofs.Common.{Ordering, Less, Equal, Greater}
+use Rattle.std.specs.Ordering.{ordering_then}
+use Rattle.tab_term.specs.Order.{order, pairs_order}
+
+abbrev pub push : PlainTerms → PlainTerm → PlainTerms
+push none t = one_more t none
+push (one_more u us) t = one_more u (push us t)
+
+pub terms-push : (ts : List Term) (t : Term) → terms (ts ++ t ∷ []) ≡ push (terms ts) (term t)
+terms-push [] t = refl
+terms-push (u ∷ us) t = ap (one_more (term u)) (terms-push us t)
+
+pub push_same : (xs bs : List Term) (i : ℕ) (a : Term) → i < length bs → terms xs ≡ terms (take i bs) → a ≡ get_or bs i a → terms (xs ++ a ∷ []) ≡ terms (take (i + 1) bs)
+push_same xs bs i a h e same = terms-push xs a ∙ ap (λ ts. push ts (term a)) e ∙ sym (terms-push (take i bs) a) ∙ ap terms (sym (take_more bs i a h ∙ ap (λ x. take i bs ++ x ∷ []) (sym same)))
+
+-- ---- a loop over two lists at once
+
+and_false : (b : Bool) → (b && false) ≡ false
+and_false true = refl
+and_false false = refl
+
+pub lengths_differ : (xs ys : List Term) → length xs ≢ length ys → all_same (terms xs) (terms ys) ≡ false
+lengths_differ [] [] h = absurd (h refl)
+lengths_differ [] (y ∷ ys) h = refl
+lengths_differ (x ∷ xs) [] h = refl
+lengths_differ (x ∷ xs) (y ∷ ys) h = ap (λ b. same (term x) (term y) && b) (lengths_differ xs ys (λ e. h (omega arith))) ∙ and_false (same (term x) (term y))
+
+pub next_same : (xs ys : List Term) (i : ℕ) (x y : Term) → i < length xs → i < length ys → x ≡ get_or xs i x → y ≡ get_or ys i y → all_same (terms (drop i xs)) (terms (drop i ys)) ≡ (same (term x) (term y) && all_same (terms (drop (i + 1) xs)) (terms (drop (i + 1) ys)))
+next_same xs ys i x y hx hy ex ey =
+    at_drop_more (λ us. all_same (terms us) (terms (drop i ys))) xs i x hx
+    ∙ at_drop_more (λ vs. all_same (terms (get_or xs i x ∷ drop (i + 1) xs)) (terms vs)) ys i y hy
+    ∙ ap₂ (λ u v. same (term u) (term v) && all_same (terms (drop (i + 1) xs)) (terms (drop (i + 1) ys))) (sym ex) (sym ey)
+
+pub all_past : (xs ys : List Term) (i : ℕ) → length xs ≤ i → length ys ≤ i → all_same (terms (drop i xs)) (terms (drop i ys)) ≡ true
+all_past xs ys i hx hy = at_drop_all (λ us. all_same (terms us) (terms (drop i ys))) xs i hx ∙ at_drop_all (λ vs. all_same none (terms vs)) ys i hy
+
+pub count_terms : (ts : List Term) → count (terms ts) ≡ length ts
+count_terms [] = refl
+count_terms (t ∷ ts) = ap suc (count_terms ts)
+
+-- a member weighs no more than all
+pub weight_at : (ts : List Term) (i : ℕ) (t : Term) → i < length ts → t ≡ get_or ts i t → weight (term t) ≤ nodes (terms ts)
+weight_at [] i t h e = absurd (omega arith)
+weight_at (u ∷ us) zero t h e = rw e (omega arith)
+weight_at (u ∷ us) (suc i) t h e = omega (arith, weight_at us i t (omega arith) e)
+
+encodes_below : (cs : List ℕ) → length (encodes cs) ≤ 4 * length cs
+encodes_below [] = omega arith
+encodes_below (c ∷ cs) = omega (arith, length-append (encode c) (encodes cs), length-encode c, (len_utf8_bounds c).1, encodes_below cs)
+
+pub bytes_of_chars : (s : List ℕ) → IsUtf8 s → length s ≤ 4 * length (chars s)
+bytes_of_chars s h = rw (encodes-chars s h) at (encodes_below (chars s))
+
+-- ---- pairs
+
+abbrev pub pairs_push : PlainPairs → PlainTerm → PlainTerm → PlainPairs
+pairs_push no_pair k x = one_pair k x no_pair
+pairs_push (one_pair l y ps) k x = one_pair l y (pairs_push ps k x)
+
+pub pairs-push : (ps : List (Term × Term)) (p : Term × Term) → pairs (ps ++ p ∷ []) ≡ pairs_push (pairs ps) (term p.0) (term p.1)
+pairs-push [] p = refl
+pairs-push (q ∷ qs) p = ap (one_pair (term q.0) (term q.1)) (pairs-push qs p)
+
+pub push_same_pair : (xs bs : List (Term × Term)) (i : ℕ) (k x : Term) (a : Term × Term) → i < length bs → pairs xs ≡ pairs (take i bs) → a ≡ get_or bs i a → k ≡ a.0 → x ≡ a.1 → pairs (xs ++ (k, x) ∷ []) ≡ pairs (take (i + 1) bs)
+push_same_pair xs bs i k x a h e same hk hx = pairs-push xs (k, x) ∙ ap₂ (λ u v. pairs_push (pairs xs) (term u) (term v)) hk hx ∙ ap (λ ts. pairs_push ts (term a.0) (term a.1)) e ∙ sym (pairs-push (take i bs) a) ∙ ap pairs (sym (take_more bs i a h ∙ ap (λ x. take i bs ++ x ∷ []) (sym same)))
+
+pub pair_lengths_differ : (xs ys : List (Term × Term)) → length xs ≢ length ys → pairs_same (pairs xs) (pairs ys) ≡ false
+pair_lengths_differ [] [] h = absurd (h refl)
+pair_lengths_differ [] (y ∷ ys) h = refl
+pair_lengths_differ (x ∷ xs) [] h = refl
+pair_lengths_differ (x ∷ xs) (y ∷ ys) h =
+    ap (λ b. same (term x.0) (term y.0) && (same (term x.1) (term y.1) && b)) (pair_lengths_differ xs ys (λ e. h (omega arith)))
+    ∙ ap (λ b. same (term x.0) (term y.0) && b) (and_false (same (term x.1) (term y.1)))
+    ∙ and_false (same (term x.0) (term y.0))
+
+pub count_pairs : (ps : List (Term × Term)) → pair_count (pairs ps) ≡ length ps
+count_pairs [] = refl
+count_pairs (p ∷ ps) = ap suc (count_pairs ps)
+
+pub at_pair : (xs ys : List (Term × Term)) (i : ℕ) (x y : Term × Term) → i < length xs → pair_count (pairs xs) ≡ pair_count (pairs ys) → x ≡ get_or xs i x → y ≡ get_or ys i y
+    → pairs_order (pairs (drop i xs)) (pairs (drop i ys)) ≡ pairs_order (pairs xs) (pairs ys)
+    → pairs_order (pairs xs) (pairs ys) ≡ ordering_then (ordering_then (order (term x.0) (term y.0)) (order (term x.1) (term y.1))) (pairs_order (pairs (drop (i + 1) xs)) (pairs (drop (i + 1) ys)))
+at_pair xs ys i x y hx cnt ex ey inv =
+    let hy : i < length ys = omega (arith, hx, count_pairs xs, count_pairs ys, cnt) in
+    sym inv
+    ∙ at_drop_more (λ us. pairs_order (pairs us) (pairs (drop i ys))) xs i x hx
+    ∙ at_drop_more (λ vs. pairs_order (pairs (get_or xs i x ∷ drop (i + 1) xs)) (pairs vs)) ys i y hy
+    ∙ ap₂ (λ u v. pairs_order (pairs (u ∷ drop (i + 1) xs)) (pairs (v ∷ drop (i + 1) ys))) (sym ex) (sym ey)
+
+pub past_pairs : (xs ys : List (Term × Term)) (i : ℕ) → length xs ≤ i → pair_count (pairs xs) ≡ pair_count (pairs ys) → pairs_order (pairs (drop i xs)) (pairs (drop i ys)) ≡ Equal
+past_pairs xs ys i h cnt =
+    at_drop_all (λ us. pairs_order (pairs us) (pairs (drop i ys))) xs i h
+    ∙ at_drop_all (λ vs. pairs_order no_pair (pairs vs)) ys i (omega (arith, h, count_pairs xs, count_pairs ys, cnt))

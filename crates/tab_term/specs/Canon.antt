@@ -1,0 +1,108 @@
+-- The one spelling of a term that is written, and by which terms are ordered: a tag, and what follows it.
+use Rattle.std.specs.Prelude.{ℕ, suc, ◌+◌, ◌^◌, ℤ, pos, negsuc, List, [], ◌∷◌, ◌++◌, length, Bool, true, false, ◌&&◌, nat_lt, ◌==◌, if◌then◌else◌, unsigned_abs}
+use Rattle.std.specs.Int.{w16, w32, w64, w128, to_be_bytes, to_le_bytes, cast_unsigned}
+use Rattle.tab_term.specs.Data.{PlainTerm, int, atom, tuple, list, bin, map, PlainTerms, none, one_more, PlainPairs, no_pair, one_pair, count, pair_count}
+
+-- without the zeros at the end
+abbrev pub before_zeros : ℕ → List ℕ → List ℕ
+before_zeros n [] = if n == 0 then [] else n ∷ []
+before_zeros n (b ∷ bs) = n ∷ b ∷ bs
+
+unfoldable pub significant : List ℕ → List ℕ
+significant [] = []
+significant (n ∷ ns) = before_zeros n (significant ns)
+
+abbrev pub is_byte : ℤ → Bool
+is_byte (pos n) = nat_lt n 256
+is_byte (negsuc n) = false
+
+abbrev pub fits_four : ℤ → Bool
+fits_four (pos n) = nat_lt n (2 ^ 31)
+fits_four (negsuc n) = nat_lt n (2 ^ 31)
+
+abbrev pub sign_of : ℤ → ℕ
+sign_of (pos n) = 0
+sign_of (negsuc n) = 1
+
+-- no term in memory has a number outside 128 bits; so that `canon` is one to one of all terms, it stands here whole
+unfoldable pub magnitude : ℕ → List ℕ
+magnitude n = if nat_lt n (2 ^ 128) then significant (to_le_bytes w128 n) else n ∷ []
+
+abbrev pub int_tag : ℤ → ℕ
+int_tag z = if is_byte z then 97 else (if fits_four z then 98 else 110)
+
+unfoldable pub int_contents : ℤ → List ℕ
+int_contents z =
+    if is_byte z then unsigned_abs z ∷ []
+    else (if fits_four z then to_be_bytes w32 (cast_unsigned w32 z)
+    else length (magnitude (unsigned_abs z)) ∷ sign_of z ∷ magnitude (unsigned_abs z))
+
+-- a length or a count; one that fits no payload stands in twelve bytes, and one that no memory has by itself
+abbrev pub wide_length_field : ℕ → List ℕ
+wide_length_field n = if nat_lt n (2 ^ 64) then to_be_bytes w64 n else 256 ∷ n ∷ []
+
+unfoldable pub length_field : ℕ → List ℕ
+length_field n = if nat_lt n 4294967295 then to_be_bytes w32 n else 255 ∷ 255 ∷ 255 ∷ 255 ∷ wide_length_field n
+
+abbrev pub atom_tag : ℕ → ℕ
+atom_tag n = if nat_lt n 256 then 119 else (if nat_lt n (2 ^ 16) then 118 else 120)
+
+unfoldable pub atom_length_field : ℕ → List ℕ
+atom_length_field n = if nat_lt n 256 then n ∷ [] else (if nat_lt n (2 ^ 16) then to_be_bytes w16 n else n ∷ [])
+
+abbrev pub tuple_tag : ℕ → ℕ
+tuple_tag n = if nat_lt n 256 then 104 else 105
+
+unfoldable pub arity_field : ℕ → List ℕ
+arity_field n = if nat_lt n 256 then n ∷ [] else length_field n
+
+-- whether a list is one of bytes, and which
+abbrev pub is_byte_term : PlainTerm → Bool
+is_byte_term (int z) = is_byte z
+is_byte_term _ = false
+
+abbrev pub byte_of : PlainTerm → ℕ
+byte_of (int z) = unsigned_abs z
+byte_of _ = 0
+
+abbrev pub all_bytes : PlainTerms → Bool
+all_bytes none = true
+all_bytes (one_more t ts) = is_byte_term t && all_bytes ts
+
+abbrev pub bytes_of : PlainTerms → List ℕ
+bytes_of none = []
+bytes_of (one_more t ts) = byte_of t ∷ bytes_of ts
+
+abbrev pub list_tag : PlainTerms → ℕ
+list_tag ts = if count ts == 0 then 106 else (if nat_lt (count ts) (2 ^ 16) && all_bytes ts then 107 else 108)
+
+unfoldable pub list_contents : PlainTerms → List ℕ → List ℕ
+list_contents ts elements =
+    if count ts == 0 then []
+    else (if nat_lt (count ts) (2 ^ 16) && all_bytes ts then to_be_bytes w16 (count ts) ++ bytes_of ts
+    else length_field (count ts) ++ elements ++ 106 ∷ [])
+
+abbrev pub tag : PlainTerm → ℕ
+tag (int z) = int_tag z
+tag (atom s) = atom_tag (length s)
+tag (tuple ts) = tuple_tag (count ts)
+tag (list ts) = list_tag ts
+tag (bin b) = 109
+tag (map ps) = 116
+
+unfoldable mutual
+  pub canon : PlainTerm → List ℕ
+  canon (int z) = int_tag z ∷ int_contents z
+  canon (atom s) = atom_tag (length s) ∷ atom_length_field (length s) ++ s
+  canon (tuple ts) = tuple_tag (count ts) ∷ arity_field (count ts) ++ canons ts
+  canon (list ts) = list_tag ts ∷ list_contents ts (canons ts)
+  canon (bin b) = 109 ∷ length_field (length b) ++ b
+  canon (map ps) = 116 ∷ length_field (pair_count ps) ++ pair_canons ps
+
+  pub canons : PlainTerms → List ℕ
+  canons none = []
+  canons (one_more t ts) = canon t ++ canons ts
+
+  pub pair_canons : PlainPairs → List ℕ
+  pair_canons no_pair = []
+  pair_canons (one_pair k x ps) = canon k ++ canon x ++ pair_canons ps

@@ -1,0 +1,62 @@
+-- What a term is.
+use Rattle.std.specs.Prelude.{ℕ, suc, max, ℤ, ◌+◌, List, [], ◌∷◌}
+
+mutual
+  pub data PlainTerm : Type 0 where
+    int : ℤ → PlainTerm
+    atom : List ℕ → PlainTerm
+    tuple : PlainTerms → PlainTerm
+    list : PlainTerms → PlainTerm
+    bin : List ℕ → PlainTerm
+    map : PlainPairs → PlainTerm             -- as it was built
+
+  pub data PlainTerms : Type 0 where
+    none : PlainTerms
+    one_more : PlainTerm → PlainTerms → PlainTerms
+
+  pub data PlainPairs : Type 0 where
+    no_pair : PlainPairs
+    one_pair : PlainTerm → PlainTerm → PlainPairs → PlainPairs
+
+abbrev pub count : PlainTerms → ℕ
+count none = 0
+count (one_more t ts) = suc (count ts)
+
+abbrev pub pair_count : PlainPairs → ℕ
+pair_count no_pair = 0
+pair_count (one_pair k x ps) = suc (pair_count ps)
+
+abbrev mutual
+  pub depth : PlainTerm → ℕ
+  depth (int z) = 1
+  depth (atom s) = 1
+  depth (tuple ts) = suc (depths ts)
+  depth (list ts) = suc (depths ts)
+  depth (bin b) = 1
+  depth (map ps) = suc (pair_depths ps)
+
+  pub depths : PlainTerms → ℕ
+  depths none = 0
+  depths (one_more t ts) = max (depth t) (depths ts)
+
+  pub pair_depths : PlainPairs → ℕ
+  pair_depths no_pair = 0
+  pair_depths (one_pair k x ps) = max (max (depth k) (depth x)) (pair_depths ps)
+
+-- how many terms stand inside, at any depth
+abbrev mutual
+  pub weight : PlainTerm → ℕ
+  weight (int z) = 1
+  weight (atom s) = 1
+  weight (tuple ts) = suc (nodes ts)
+  weight (list ts) = suc (nodes ts)
+  weight (bin b) = 1
+  weight (map ps) = suc (pair_nodes ps)
+
+  pub nodes : PlainTerms → ℕ
+  nodes none = 0
+  nodes (one_more t ts) = weight t + nodes ts
+
+  pub pair_nodes : PlainPairs → ℕ
+  pair_nodes no_pair = 0
+  pair_nodes (one_pair k x ps) = weight k + weight x + pair_nodes ps

@@ -1,0 +1,36 @@
+-- The order of terms, member by member. It is that of their spellings (proofs/Compare).
+use Rattle.std.specs.Prelude.{ℕ, List, length}
+use Rattle.std.specs.Ordering.{nat_cmp, ordering_then}
+use Rattle.std.proofs.Common.{Ordering, Less, Equal, Greater}
+use Rattle.std.specs.Cmp.Lexicographic.{slice_cmp}
+use Rattle.tab_term.specs.Data.{PlainTerm, int, atom, tuple, list, bin, map, PlainTerms, none, one_more, PlainPairs, no_pair, one_pair, count, pair_count}
+use Rattle.tab_term.specs.Canon.{tag, int_contents}
+
+abbrev pub by_tag : PlainTerm → PlainTerm → Ordering → Ordering
+by_tag a b o = ordering_then (nat_cmp (tag a) (tag b)) o
+
+abbrev mutual
+  -- where the tags are one
+  pub contents_order : PlainTerm → PlainTerm → Ordering
+  contents_order (int x) (int y) = slice_cmp nat_cmp (int_contents x) (int_contents y)
+  contents_order (atom s) (atom t) = ordering_then (nat_cmp (length s) (length t)) (slice_cmp nat_cmp s t)
+  contents_order (tuple xs) (tuple ys) = ordering_then (nat_cmp (count xs) (count ys)) (members_order xs ys)
+  contents_order (list xs) (list ys) = ordering_then (nat_cmp (count xs) (count ys)) (members_order xs ys)
+  contents_order (bin s) (bin t) = ordering_then (nat_cmp (length s) (length t)) (slice_cmp nat_cmp s t)
+  contents_order (map ps) (map qs) = ordering_then (nat_cmp (pair_count ps) (pair_count qs)) (pairs_order ps qs)
+  contents_order a b = Equal
+
+  pub members_order : PlainTerms → PlainTerms → Ordering
+  members_order none none = Equal
+  members_order none (one_more y ys) = Less
+  members_order (one_more x xs) none = Greater
+  members_order (one_more x xs) (one_more y ys) = ordering_then (by_tag x y (contents_order x y)) (members_order xs ys)
+
+  pub pairs_order : PlainPairs → PlainPairs → Ordering
+  pairs_order no_pair no_pair = Equal
+  pairs_order no_pair (one_pair l y qs) = Less
+  pairs_order (one_pair k x ps) no_pair = Greater
+  pairs_order (one_pair k x ps) (one_pair l y qs) = ordering_then (ordering_then (by_tag k l (contents_order k l)) (by_tag x y (contents_order x y))) (pairs_order ps qs)
+
+abbrev pub order : PlainTerm → PlainTerm → Ordering
+order a b = by_tag a b (contents_order a b)
