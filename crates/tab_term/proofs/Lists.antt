@@ -8,6 +8,7 @@ use Rattle.std.proofs.lemmas.Str.{length-encode, len_utf8_bounds, encodes-chars}
 use Rattle.tab_term.specs.Data.{PlainTerm, PlainTerms, none, one_more, PlainPairs, no_pair, one_pair, depths, count, pair_count, weight, nodes}
 use Rattle.tab_term.specs.Same.{same, all_same, pairs_same}
 use Rattle.tab_term.specs.View.{term, terms, pairs}
+use Rattle.tab_term.specs.Pattern.{matches, all_match}
 use Rattle.std.proofs.Common.{Ordering, Less, Equal, Greater}
 use Rattle.std.specs.Ordering.{ordering_then}
 use Rattle.tab_term.specs.Order.{order, pairs_order}
@@ -34,6 +35,12 @@ lengths_differ [] [] h = absurd (h refl)
 lengths_differ [] (y ∷ ys) h = refl
 lengths_differ (x ∷ xs) [] h = refl
 lengths_differ (x ∷ xs) (y ∷ ys) h = ap (λ b. same (term x) (term y) && b) (lengths_differ xs ys (λ e. h (omega arith))) ∙ and_false (same (term x) (term y))
+
+pub match_lengths_differ : (xs ys : List Term) → length xs ≢ length ys → all_match (terms xs) (terms ys) ≡ false
+match_lengths_differ [] [] h = absurd (h refl)
+match_lengths_differ [] (y ∷ ys) h = refl
+match_lengths_differ (x ∷ xs) [] h = refl
+match_lengths_differ (x ∷ xs) (y ∷ ys) h = ap (λ b. matches (term x) (term y) && b) (match_lengths_differ xs ys (λ e. h (omega arith))) ∙ and_false (matches (term x) (term y))
 
 pub next_same : (xs ys : List Term) (i : ℕ) (x y : Term) → i < length xs → i < length ys → x ≡ get_or xs i x → y ≡ get_or ys i y → all_same (terms (drop i xs)) (terms (drop i ys)) ≡ (same (term x) (term y) && all_same (terms (drop (i + 1) xs)) (terms (drop (i + 1) ys)))
 next_same xs ys i x y hx hy ex ey =

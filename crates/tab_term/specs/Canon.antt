@@ -1,9 +1,11 @@
--- The one spelling of a term that is written, and by which terms are ordered: a tag, and what follows it.
+-- The canonical spelling of a term: the one that is written, and by which terms are ordered. It is a tag of the
+-- External Term Format (ERTS User's Guide) and its contents, without the version byte. That each value has one spelling
+-- only, the shortest that holds it, is this project's own rule.
 use Rattle.std.specs.Prelude.{ℕ, suc, ◌+◌, ◌^◌, ℤ, pos, negsuc, List, [], ◌∷◌, ◌++◌, length, Bool, true, false, ◌&&◌, nat_lt, ◌==◌, if◌then◌else◌, unsigned_abs}
 use Rattle.std.specs.Int.{w16, w32, w64, w128, to_be_bytes, to_le_bytes, cast_unsigned}
 use Rattle.tab_term.specs.Data.{PlainTerm, int, atom, tuple, list, bin, map, PlainTerms, none, one_more, PlainPairs, no_pair, one_pair, count, pair_count}
 
--- without the zeros at the end
+-- a list of digits, lowest first, without the zeros at its end
 abbrev pub before_zeros : ℕ → List ℕ → List ℕ
 before_zeros n [] = if n == 0 then [] else n ∷ []
 before_zeros n (b ∷ bs) = n ∷ b ∷ bs
@@ -28,6 +30,7 @@ sign_of (negsuc n) = 1
 unfoldable pub magnitude : ℕ → List ℕ
 magnitude n = if nat_lt n (2 ^ 128) then significant (to_le_bytes w128 n) else n ∷ []
 
+-- SMALL_INTEGER_EXT (97) to 255, INTEGER_EXT (98) where four bytes with a sign hold it, else SMALL_BIG_EXT (110)
 abbrev pub int_tag : ℤ → ℕ
 int_tag z = if is_byte z then 97 else (if fits_four z then 98 else 110)
 
@@ -44,12 +47,14 @@ wide_length_field n = if nat_lt n (2 ^ 64) then to_be_bytes w64 n else 256 ∷ n
 unfoldable pub length_field : ℕ → List ℕ
 length_field n = if nat_lt n 4294967295 then to_be_bytes w32 n else 255 ∷ 255 ∷ 255 ∷ 255 ∷ wide_length_field n
 
+-- SMALL_ATOM_UTF8_EXT (119) to 255 bytes of text, else ATOM_UTF8_EXT (118); no atom's text has 65,536 bytes
 abbrev pub atom_tag : ℕ → ℕ
 atom_tag n = if nat_lt n 256 then 119 else (if nat_lt n (2 ^ 16) then 118 else 120)
 
 unfoldable pub atom_length_field : ℕ → List ℕ
 atom_length_field n = if nat_lt n 256 then n ∷ [] else (if nat_lt n (2 ^ 16) then to_be_bytes w16 n else n ∷ [])
 
+-- SMALL_TUPLE_EXT (104) to arity 255, else LARGE_TUPLE_EXT (105)
 abbrev pub tuple_tag : ℕ → ℕ
 tuple_tag n = if nat_lt n 256 then 104 else 105
 
@@ -73,6 +78,7 @@ abbrev pub bytes_of : PlainTerms → List ℕ
 bytes_of none = []
 bytes_of (one_more t ts) = byte_of t ∷ bytes_of ts
 
+-- NIL_EXT (106); STRING_EXT (107) for at most 65,535 members that are all bytes; else LIST_EXT (108) with tail NIL_EXT
 abbrev pub list_tag : PlainTerms → ℕ
 list_tag ts = if count ts == 0 then 106 else (if nat_lt (count ts) (2 ^ 16) && all_bytes ts then 107 else 108)
 
@@ -82,6 +88,7 @@ list_contents ts elements =
     else (if nat_lt (count ts) (2 ^ 16) && all_bytes ts then to_be_bytes w16 (count ts) ++ bytes_of ts
     else length_field (count ts) ++ elements ++ 106 ∷ [])
 
+-- also BINARY_EXT (109) and MAP_EXT (116)
 abbrev pub tag : PlainTerm → ℕ
 tag (int z) = int_tag z
 tag (atom s) = atom_tag (length s)

@@ -1,4 +1,5 @@
--- What a term is.
+-- What a term is (ERTS User's Guide, External Term Format): an integer, an atom as the UTF-8 bytes of its text, a tuple,
+-- a proper list, a binary, or a map.
 use Rattle.std.specs.Prelude.{ℕ, suc, max, ℤ, ◌+◌, List, [], ◌∷◌}
 
 mutual
@@ -8,7 +9,7 @@ mutual
     tuple : PlainTerms → PlainTerm
     list : PlainTerms → PlainTerm
     bin : List ℕ → PlainTerm
-    map : PlainPairs → PlainTerm             -- as it was built
+    map : PlainPairs → PlainTerm   -- its pairs as it was built with
 
   pub data PlainTerms : Type 0 where
     none : PlainTerms
@@ -26,6 +27,7 @@ abbrev pub pair_count : PlainPairs → ℕ
 pair_count no_pair = 0
 pair_count (one_pair k x ps) = suc (pair_count ps)
 
+-- 1 for what holds no term, else one more than the deepest member
 abbrev mutual
   pub depth : PlainTerm → ℕ
   depth (int z) = 1

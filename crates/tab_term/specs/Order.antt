@@ -1,4 +1,4 @@
--- The order of terms, member by member. It is that of their spellings (proofs/Compare).
+-- The order of terms, member by member. It is that of their canonical spellings as lists of bytes (Compare, OrderLaws).
 use Rattle.std.specs.Prelude.{ℕ, List, length}
 use Rattle.std.specs.Ordering.{nat_cmp, ordering_then}
 use Rattle.std.proofs.Common.{Ordering, Less, Equal, Greater}

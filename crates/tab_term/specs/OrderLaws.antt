@@ -4,6 +4,8 @@ use Rattle.std.specs.Prelude.{ℤ, pos, negsuc, unsigned_abs}
 use Rattle.std.specs.Ordering.{ordering_then, is_eq}
 use Rattle.std.proofs.lemmas.Bool.Decides.{same_from_decides}
 use Rattle.tab_term.specs.Same.{same, same-Decides}
+use Rattle.std.specs.Str.{bytes_eq}
+use Rattle.std.proofs.lemmas.Slice.Eq.{bytes_eq-Decides}
 use Rattle.std.specs.Cmp.Lexicographic.{slice_cmp}
 use Rattle.std.specs.Int.{w16, w32, w64, w128, to_be_bytes, to_le_bytes, cast_unsigned, cast_signed}
 use Rattle.std.specs.Int.RustNames.{FitsSigned}
@@ -11,7 +13,9 @@ use Rattle.std.proofs.Math.Facts.{to_z-of_z}
 use Rattle.std.proofs.Math.Nat.{mod-eq_of_lt, div-one}
 use Rattle.std.proofs.lemmas.List.{append-nil}
 use Rattle.std.proofs.lemmas.Int.{fits_signed_from_abs}
-use Rattle.std.proofs.lemmas.Cmp.{tied_itself, nat_list_cmp_total}
+use Rattle.std.specs.Ordering.{on}
+use Rattle.std.specs.Cmp.{IsTotalOrder}
+use Rattle.std.proofs.lemmas.Cmp.{tied_itself, nat_list_cmp_total, on_total}
 use Rattle.tab_term.specs.Data.{PlainTerm, int, atom, tuple, list, bin, map, PlainTerms, none, one_more, PlainPairs, no_pair, one_pair, count, pair_count}
 use Rattle.tab_term.specs.Canon.{canon, tag, int_tag, int_contents, magnitude, significant, before_zeros, is_byte, fits_four, sign_of}
 use Rattle.tab_term.specs.Order.{order, by_tag, contents_order, members_order, pairs_order}
@@ -143,6 +147,9 @@ order_is a b = ap₂ bytes_cmp (sym (append-nil (canon a))) (sym (append-nil (ca
 pub canon_same : (a b : PlainTerm) → bytes_cmp (canon a) (canon b) ≡ Equal → a ≡ b
 canon_same a b e = order_same a b (sym (order_is a b) ∙ e)
 
+pub canon_total : IsTotalOrder (on canon (slice_cmp nat_cmp))
+canon_total = on_total canon nat_list_cmp_total
+
 -- what the comparison does first
 pub at_one_tag : (a b : PlainTerm) → tag a ≡ tag b → order a b ≡ contents_order a b
 at_one_tag a b e = ap (λ o. ordering_then o (contents_order a b)) (tie_is (tag a) (tag b) e)
@@ -155,13 +162,16 @@ at_two_tags a b n = by (nat_cmp (tag a) (tag b)) (λ e. n (equal_is (tag a) (tag
     by Equal n = absurd (n refl)
     by Greater n = refl
 
+is_tie : (o : Ordering) → is_eq o ≡ true → o ≡ Equal
+is_tie Less e = absurd cc
+is_tie Equal e = refl
+is_tie Greater e = absurd cc
+
 pub matches_same : (a b : PlainTerm) → same a b ≡ is_eq (bytes_cmp (canon a) (canon b))
-matches_same a b = same_from_decides (same a b) (is_eq (bytes_cmp (canon a) (canon b))) (same-Decides a b) (λ e. canon_same a b (tie (bytes_cmp (canon a) (canon b)) e), λ e. ap (λ t. is_eq (bytes_cmp (canon t) (canon b))) e ∙ ap is_eq (itself (canon b)))
-  where
-    tie : (o : Ordering) → is_eq o ≡ true → o ≡ Equal
-    tie Less e = absurd cc
-    tie Equal e = refl
-    tie Greater e = absurd cc
+matches_same a b = same_from_decides (same a b) (is_eq (bytes_cmp (canon a) (canon b))) (same-Decides a b) (λ e. canon_same a b (is_tie (bytes_cmp (canon a) (canon b)) e), λ e. ap (λ t. is_eq (bytes_cmp (canon t) (canon b))) e ∙ ap is_eq (itself (canon b)))
+
+pub matches_bytes : (a b : List ℕ) → bytes_eq a b ≡ is_eq (bytes_cmp a b)
+matches_bytes a b = same_from_decides (bytes_eq a b) (is_eq (bytes_cmp a b)) (bytes_eq-Decides a b) (λ e. lists_are a b (is_tie (bytes_cmp a b) e), λ e. ap (λ t. is_eq (bytes_cmp t b)) e ∙ ap is_eq (itself b))
 
 -- ---- for the comparison's functions
 

@@ -60,18 +60,9 @@ same_equiv = record {
   congr = λ x y z e. ap (λ t. same t z) ((same-Decides x y).0 e);
 }
 
--- '_'
-abbrev pub wildcard : List ℕ
-wildcard = 95 ∷ []
-
-abbrev mutual
-  pub matches : PlainTerm → PlainTerm → Bool
-  matches (atom p) t = bytes_eq p wildcard || same (atom p) t
-  matches (tuple ps) (tuple ts) = all_match ps ts
-  matches (list ps) (list ts) = all_match ps ts
-  matches p t = same p t
-
-  pub all_match : PlainTerms → PlainTerms → Bool
-  all_match none none = true
-  all_match (one_more p ps) (one_more t ts) = matches p t && all_match ps ts
-  all_match ps ts = false
+pub bytes_equiv : IsEquivalence bytes_eq
+bytes_equiv = record {
+  refl = λ x. (bytes_eq-Decides x x).1 refl;
+  symm = λ x y. same_from_decides (bytes_eq x y) (bytes_eq y x) (bytes_eq-Decides x y) (Decides-like (bytes_eq y x) sym sym (bytes_eq-Decides y x));
+  congr = λ x y z e. ap (λ t. bytes_eq t z) ((bytes_eq-Decides x y).0 e);
+}

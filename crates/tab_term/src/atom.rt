@@ -1,0 +1,130 @@
+ghost use Rattle.std.specs.Prelude.{◌≡◌, ◌<◌, ◌≤◌, length, string_bytes, IfOk, OnErr, IsErr, ◌↔◌};
+ghost use Rattle.std.specs.Str.{chars};
+
+use std::alloc::{AllocError, Global};
+use std::cmp::Ordering;
+use std::marker::Model;
+use thiserror::Error;
+
+/// Why a text is no atom.
+#[derive(Clone, Copy, Debug, PartialEq, Eq, Error)]
+pub enum TermFault {
+    /// The text has more than 255 characters, whatever their bytes are.
+    #[error("an atom has at most 255 characters")]
+    TooLong,
+}
+
+/// A name: a text of at most 255 characters.
+#[derive(Drop)]
+pub struct Atom {
+    text: String,
+}
+
+impl Model for Atom {
+    ghost use Rattle.std.specs.Prelude.{List, ℕ, string_bytes};
+
+    ghost Value = { List ℕ };
+
+    ghost view = { λ a. string_bytes a.text };
+
+    ghost use Rattle.std.specs.Prelude.{◌≤◌, length};
+    ghost use Rattle.std.specs.Str.{chars};
+
+    ghost invariant = { λ a. length (chars (string_bytes a.text)) ≤ 255 };
+}
+
+impl Atom {
+    /// The atom of a text. It takes no memory: the text becomes the atom's.
+    pub fn new(text: String) -> Result<Atom, TermFault>
+        ensures ok { IfOk result (λ a. a ≡ string_bytes text) }
+        ensures fits { IsErr result ↔ (255 < length (chars (string_bytes text))) }
+    {
+        if count_chars(text.as_str()) > 255 {
+            return Err(TermFault::TooLong);
+        }
+        Ok(Atom { text })
+    }
+
+    /// The text.
+    #[tactic(auto, using(crate::proofs::Lists::bytes_of_chars))]
+    pub fn as_str(&self) -> &str
+        ensures text { result.now ≡ self.now }
+        ensures short { length (chars self.now) ≤ 255 }
+        ensures bytes { length self.now ≤ 1020 }
+    {
+        self.text.as_str()
+    }
+
+    /// The same atom, in memory of its own.
+    pub fn try_clone(&self, alloc: Global) -> Result<Atom, AllocError>
+        ensures { IfOk result (λ a. a ≡ self.now) }
+    {
+        Ok(Atom {
+            text: String::from_str(alloc, &self.text)?,
+        })
+    }
+}
+
+fn count_chars(text: &str) -> usize
+    ensures { result ≡ length (chars text.now) }
+{
+    text.chars().count()
+}
+
+impl PartialEq for Atom {
+    ghost use Rattle.std.specs.Str.{bytes_eq};
+    ghost use Rattle.tab_term.specs.Same.{bytes_equiv};
+    ghost use Rattle.std.specs.Cmp.{partial_equiv_from_equiv};
+
+    ghost eq = { bytes_eq };
+
+    ghost laws = { partial_equiv_from_equiv bytes_equiv };
+
+    fn eq(&self, other: &Atom) -> bool {
+        self.text == other.text
+    }
+}
+
+impl Eq for Atom {
+    ghost use Rattle.tab_term.specs.Same.{bytes_equiv};
+
+    ghost laws = { bytes_equiv };
+}
+
+/// Names in the order of their texts, byte by byte. (As keys of tables, atoms are terms, and ordered as such.)
+impl Ord for Atom {
+    ghost use Rattle.std.specs.Ordering.{nat_cmp};
+    ghost use Rattle.std.specs.Cmp.Lexicographic.{slice_cmp};
+    ghost use Rattle.std.proofs.Common.{rules};
+    ghost use Rattle.std.specs.Cmp.Rules.{comparing};
+    ghost use Rattle.std.proofs.lemmas.Cmp.{nat_list_cmp_total};
+    ghost use Rattle.tab_term.specs.OrderLaws.{matches_bytes};
+
+    ghost cmp = { slice_cmp nat_cmp };
+
+    ghost total = { nat_list_cmp_total };
+
+    ghost matches_partial_cmp = { Prim.search (comparing, rules) };
+
+    ghost matches_eq = { matches_bytes };
+
+    fn cmp(&self, other: &Atom) -> Ordering {
+        self.text.as_bytes().cmp(other.text.as_bytes())
+    }
+}
+
+impl PartialOrd for Atom {
+    ghost use Rattle.std.specs.Ordering.{nat_cmp, as_partial_cmp};
+    ghost use Rattle.std.specs.Cmp.Lexicographic.{slice_cmp};
+    ghost use Rattle.std.specs.Cmp.{partial_order_from_own_ties, partial_order_from_total};
+    ghost use Rattle.std.proofs.lemmas.Cmp.{nat_list_cmp_total};
+    ghost use Rattle.tab_term.specs.OrderLaws.{matches_bytes};
+
+    ghost partial_cmp = { as_partial_cmp (slice_cmp nat_cmp) };
+
+    ghost laws = { partial_order_from_own_ties (partial_order_from_total nat_list_cmp_total) matches_bytes };
+
+    fn partial_cmp(&self, other: &Atom) -> Option<Ordering> {
+        Some(self.cmp(other))
+    }
+}

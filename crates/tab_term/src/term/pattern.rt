@@ -1,0 +1,69 @@
+//! Patterns of `match_object`, as the Mnesia Reference Manual has them: the atom `'_'` fits every term.
+
+ghost use Rattle.std.specs.Prelude.{◌≡◌};
+ghost use Rattle.tab_term.specs.View.{term, terms};
+ghost use Rattle.tab_term.specs.Pattern.{matches as matches_of, all_match as all_match_of, has_wildcard as has_wildcard_of, any_wildcard as any_wildcard_of, is_wildcard as is_wildcard_of};
+
+use crate::atom::Atom;
+use crate::term::{Term, Terms};
+
+fn is_wildcard(name: &Atom) -> bool
+    ensures { result ≡ is_wildcard_of name.now }
+{
+    name.as_str() == "_"
+}
+
+/// Whether the term fits the pattern: the pattern is `'_'`; or both are tuples, or both are lists, of one length that
+/// fit element by element; or both are equal. A `'_'` inside a map is an atom like any other.
+#[cycle(matching)]
+pub fn matches(pattern: &Term, subject: &Term) -> bool
+    ensures { result ≡ matches_of (term pattern.now) (term subject.now) }
+{
+    match (pattern, subject) {
+        (Term::Atom(name), other) => is_wildcard(name) || pattern == other,
+        (Term::Tuple(patterns), Term::Tuple(subjects)) => all_match(patterns, subjects),
+        (Term::List(patterns), Term::List(subjects)) => all_match(patterns, subjects),
+        _ => pattern == subject,
+    }
+}
+
+#[cycle(matching)]
+fn all_match(patterns: &Terms, subjects: &Terms) -> bool
+    ensures { result ≡ all_match_of patterns.now subjects.now }
+{
+    let (patterns, subjects) = (patterns.items.as_slice(), subjects.items.as_slice());
+    if patterns.len() != subjects.len() {
+        return false;
+    }
+    for (i, pattern) in patterns.iter().enumerate() {
+        if !matches(pattern, &subjects[i]) {
+            return false;
+        }
+    }
+    true
+}
+
+/// Whether the atom `'_'` stands in the pattern at any depth, not looking into maps. Where it stands in the key of a
+/// pattern, the pattern's lock is the whole table's.
+#[cycle(wildcards)]
+pub fn has_wildcard(pattern: &Term) -> bool
+    ensures { result ≡ has_wildcard_of (term pattern.now) }
+{
+    match pattern {
+        Term::Atom(name) => is_wildcard(name),
+        Term::Tuple(elements) | Term::List(elements) => any_wildcard(elements),
+        _ => false,
+    }
+}
+
+#[cycle(wildcards)]
+fn any_wildcard(elements: &Terms) -> bool
+    ensures { result ≡ any_wildcard_of elements.now }
+{
+    for element in &elements.items {
+        if has_wildcard(element) {
+            return true;
+        }
+    }
+    false
+}
