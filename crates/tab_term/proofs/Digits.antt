@@ -32,4 +32,3 @@ no_zero ns (suc n) le h =
     let last : get_or ns n 0 ≢ 0 = rw m at (h (omega arith)) in
     let e : take (suc n) ns ≡ take n ns ++ get_or ns n 0 ∷ [] = ap (λ j. take j ns) k ∙ take_more ns n 0 (omega arith) in
     ap significant e ∙ other_last (take n ns) (get_or ns n 0) last ∙ sym e
-

@@ -94,7 +94,7 @@ one_cmp n m u v = ap (λ o. ordering_then o (bytes_cmp u v)) (sym (then_equal (n
 big_cmp : (s t : ℕ) (a b u v : List ℕ) → bytes_cmp (length a ∷ s ∷ a ++ u) (length b ∷ t ∷ b ++ v) ≡ ordering_then (bytes_cmp (length a ∷ s ∷ a) (length b ∷ t ∷ b)) (bytes_cmp u v)
 big_cmp s t a b u v =
     then_same (nat_cmp (length a) (length b)) (ordering_then (nat_cmp s t) (bytes_cmp (a ++ u) (b ++ v))) (ordering_then (ordering_then (nat_cmp s t) (bytes_cmp a b)) (bytes_cmp u v))
-        (λ e. ap (ordering_then (nat_cmp s t)) (text_cmp a b u v (equal_is (length a) (length b) e)) ∙ sym (then_assoc (nat_cmp s t) (bytes_cmp a b) (bytes_cmp u v)))
+    (λ e. ap (ordering_then (nat_cmp s t)) (text_cmp a b u v (equal_is (length a) (length b) e)) ∙ sym (then_assoc (nat_cmp s t) (bytes_cmp a b) (bytes_cmp u v)))
     ∙ sym (then_assoc (nat_cmp (length a) (length b)) (ordering_then (nat_cmp s t) (bytes_cmp a b)) (bytes_cmp u v))
 
 abbrev pub int_at : Bool → Bool → ℤ → List ℕ

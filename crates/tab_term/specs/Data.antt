@@ -9,7 +9,7 @@ mutual
     tuple : PlainTerms → PlainTerm
     list : PlainTerms → PlainTerm
     bin : List ℕ → PlainTerm
-    map : PlainPairs → PlainTerm   -- its pairs as it was built with
+    map : PlainPairs → PlainTerm  -- its pairs as it was built with
 
   pub data PlainTerms : Type 0 where
     none : PlainTerms

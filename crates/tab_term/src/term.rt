@@ -2,11 +2,10 @@ ghost use Rattle.std.specs.Prelude.{◌≡◌, min, length, IfOk};
 ghost use Rattle.tab_term.specs.Data.{depth, depths, pair_depths, count, pair_count};
 ghost use Rattle.tab_term.specs.View.{term, terms, pairs as pairs_of};
 
-use std::alloc::{AllocError, Global};
-use std::marker::Model;
-
 use crate::atom::Atom;
 use crate::bytes::Bytes;
+use std::alloc::{AllocError, Global};
+use std::marker::Model;
 
 pub mod equality;
 pub mod order;

@@ -14,9 +14,8 @@ ghost use Rattle.tab_term.specs.View.{term, terms};
 ghost use Rattle.tab_term.specs.Canon.{tag as tag_of, int_tag as int_tag_of, int_contents, list_tag as list_tag_of, all_bytes, is_byte_term as is_byte_term_of, is_byte as is_byte_of, fits_four as fits_four_of, sign_of, magnitude, significant, canon};
 ghost use Rattle.tab_term.specs.Order.{order, members_order, pairs_order};
 
-use std::cmp::Ordering;
-
 use crate::term::{Pairs, Term, Terms};
+use std::cmp::Ordering;
 
 fn is_byte(z: i128) -> bool
     ensures { result ≡ is_byte_of z }
@@ -57,7 +56,11 @@ fn list_tag(ts: &Terms) -> u8
     if items.len() == 0 {
         return 106;
     }
-    if items.len() < 65536 && are_bytes(items) { 107 } else { 108 }
+    if items.len() < 65536 && are_bytes(items) {
+        107
+    } else {
+        108
+    }
 }
 
 fn int_tag(z: i128) -> u8
@@ -138,7 +141,12 @@ fn compare_bigs(x: i128, y: i128) -> Ordering
 {
     let a = low_first(x.unsigned_abs());
     let b = low_first(y.unsigned_abs());
-    compare_signed(sign_byte(x), significant_of(&a), sign_byte(y), significant_of(&b))
+    compare_signed(
+        sign_byte(x),
+        significant_of(&a),
+        sign_byte(y),
+        significant_of(&b),
+    )
 }
 
 fn four(z: i128) -> u32
@@ -175,7 +183,10 @@ fn compare(a: &Term, b: &Term) -> Ordering
     }
     match (a, b) {
         (Term::Int(x), Term::Int(y)) => compare_ints(*x, *y),
-        (Term::Atom(x), Term::Atom(y)) => compare_bytes(x.as_str().as_bytes(), y.as_str().as_bytes()),
+        (Term::Atom(x), Term::Atom(y)) => compare_bytes(
+            x.as_str().as_bytes(),
+            y.as_str().as_bytes(),
+        ),
         (Term::Tuple(xs), Term::Tuple(ys)) => compare_all(xs, ys),
         (Term::List(xs), Term::List(ys)) => compare_all(xs, ys),
         (Term::Bin(x), Term::Bin(y)) => compare_bytes(x.as_slice(), y.as_slice()),

@@ -1,0 +1,36 @@
+-- Words of terms, as bytes; their order and equality.
+use Rattle.std.specs.Prelude.{ℕ, List, [], ◌∷◌, Bool, true, false, ◌&&◌, ◌||◌, ◌==◌, nat_lt, codes}
+use Rattle.std.specs.List.{list_any}
+use Rattle.std.specs.Ordering.{nat_cmp, is_lt}
+use Rattle.std.specs.Cmp.Lexicographic.{slice_cmp}
+use Rattle.std.specs.Str.{bytes_eq}
+use Rattle.tab_term.specs.Data.{PlainTerm, int, atom, tuple, list, bin, map, PlainTerms, none, one_more}
+use Rattle.tab_term.specs.Canon.{canon}
+
+-- byte lists in their order
+abbrev pub before : List ℕ → List ℕ → Bool
+before a b = is_lt (slice_cmp nat_cmp a b)
+
+-- terms in the order of their canonical bytes
+abbrev pub less : PlainTerm → PlainTerm → Bool
+less a b = before (canon a) (canon b)
+
+abbrev pub same_name : List ℕ → List ℕ → Bool
+same_name a b = bytes_eq a b
+
+abbrev pub has_name : List (List ℕ) → List ℕ → Bool
+has_name names n = list_any (bytes_eq n) names
+
+abbrev pub plain_terms : List PlainTerm → PlainTerms
+plain_terms [] = none
+plain_terms (t ∷ ts) = one_more t (plain_terms ts)
+
+abbrev pub terms_list : PlainTerms → List PlainTerm
+terms_list none = []
+terms_list (one_more t ts) = t ∷ terms_list ts
+
+abbrev pub pair : PlainTerm → PlainTerm → PlainTerm
+pair a b = tuple (one_more a (one_more b none))
+
+abbrev pub triple : PlainTerm → PlainTerm → PlainTerm → PlainTerm
+triple a b c = tuple (one_more a (one_more b (one_more c none)))

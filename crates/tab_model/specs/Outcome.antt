@@ -1,0 +1,339 @@
+-- What a step does: the next state, the reply, and the entry of the log.
+use Rattle.std.specs.Prelude.{◌≡◌, ℕ, suc, ◌+◌, ◌-◌, ◌^◌, min, List, [], ◌∷◌, ◌++◌, Bool, true, false, not, ◌&&◌, ◌||◌, ◌==◌, nat_lt, nat_le, if◌then◌else◌, Option, Some, None, is_some, map, length, IfSome}
+use Rattle.std.specs.List.{filter, list_any}
+use Rattle.tab_term.specs.Data.{PlainTerm, PlainTerms}
+use Rattle.tab_term.specs.declared.term.Term.{Term}
+use Rattle.tab_model.specs.declared.data.Operation.{Operation}
+use Rattle.tab_model.specs.declared.data.Move.{Move}
+use Rattle.tab_model.specs.declared.data.Move.TheVariants.{Do, Open, Close, Undo}
+use Rattle.tab_model.specs.declared.data.Reply.{Reply}
+use Rattle.tab_model.specs.declared.data.Reply.TheVariants as reply
+use Rattle.tab_model.specs.declared.data.Limit.TheVariants as limit
+use Rattle.tab_model.specs.declared.data.Item.{Item}
+use Rattle.tab_model.specs.declared.data.Item.TheVariants.{Began, Batch, Ended}
+use Rattle.tab_model.specs.declared.data.Ending.TheVariants as ending
+use Rattle.tab_model.specs.declared.data.Level.{Level}
+use Rattle.tab_model.specs.declared.data.Level.TheVariants.{Simple, Detailed}
+use Rattle.tab_model.specs.declared.data.Schema.{Schema}
+use Rattle.tab_model.specs.declared.data.Schema.TheVariants.{Create, Remove, AddIndex, DelIndex}
+use Rattle.tab_model.specs.declared.data.InfoItem.{InfoItem}
+use Rattle.tab_model.specs.declared.data.InfoItem.TheVariants as item
+use Rattle.tab_model.specs.declared.data.TableInfo.TheVariants as info
+use Rattle.tab_model.specs.declared.data.Command.{Command}
+use Rattle.tab_model.specs.declared.data.Command.TheVariants as command
+use Rattle.tab_model.specs.declared.data.Entry.{Entry}
+use Rattle.tab_model.specs.declared.data.Entry.TheVariants.{Committed, Changed, Subscribed, Unsubscribed}
+use Rattle.tab_model.specs.declared.data.Event.{Event}
+use Rattle.tab_model.specs.Worlds.{World, Table, find}
+use Rattle.tab_model.specs.Alone.{Mid, told}
+use Rattle.tab_model.specs.Operations.{failure}
+use Rattle.tab_model.specs.Events.{events, surviving}
+use Rattle.tab_model.specs.Locks.{needs}
+use Rattle.tab_model.specs.Ages.{Owned, Answer, Granted, Wait, Die, decide, can_retry}
+use Rattle.tab_model.specs.Schemas.{table_of_schema, schema_refusal, schema_effect, removed}
+use Rattle.tab_model.specs.Log.{has_session}
+use Rattle.tab_model.specs.Slices.{batch_for, end_for, dump_of}
+use Rattle.tab_model.specs.State.{Transaction, Outbox, Watch, Seat, Queued, State, seat_at, request_in, without_request, is_waiting, ages_of, is_busy, level_in, without_watch, count_moves, mid_of}
+
+-- what a session asks
+pub data Ask : Type 0 where
+  Join : Outbox → Ask
+  Leave Retry Take : Ask
+  DoCommand : Command → Ask
+
+pub record Outcome : Type 0 where
+  pub state : State
+  pub reply : Reply
+  pub entry : Option Entry
+
+abbrev pub nothing : State → Reply → Outcome
+nothing σ r = record { state = σ; reply = r; entry = None }
+
+abbrev pub is_empty : {A : Type 0} → List A → Bool
+is_empty [] = true
+is_empty (x ∷ xs) = false
+
+abbrev pub change : List Seat → Seat → List Seat
+change [] s = []
+change (x ∷ xs) s = if x.number == s.number then s ∷ xs else x ∷ change xs s
+
+abbrev pub without_seat : List Seat → ℕ → List Seat
+without_seat [] n = []
+without_seat (x ∷ xs) n = if x.number == n then without_seat xs n else x ∷ without_seat xs n
+
+abbrev pub with_transaction : Seat → Option Transaction → Seat
+with_transaction s transaction = record { number = s.number; transaction = transaction; watching = s.watching; outbox = s.outbox; overflow = s.overflow }
+
+abbrev pub with_seat : State → Seat → State
+with_seat σ s = record { tables = σ.tables; seats = change σ.seats s; queue = σ.queue; next_age = σ.next_age; commits = σ.commits; greatest = σ.greatest; limits = σ.limits }
+
+abbrev pub with_queue : State → List Queued → State
+with_queue σ q = record { tables = σ.tables; seats = σ.seats; queue = q; next_age = σ.next_age; commits = σ.commits; greatest = σ.greatest; limits = σ.limits }
+
+-- posts
+abbrev pub pushed : Outbox → List Item → Outbox
+pushed b items = record { items = b.items ++ items; refusals = b.refusals; capacity = b.capacity }
+
+abbrev pub refused : Outbox → Outbox
+refused b = record { items = b.items; refusals = min (b.refusals + 1) (2 ^ 64 - 1); capacity = b.capacity }
+
+-- moves
+abbrev pub more : Transaction → Move → Option Reply → Transaction
+more transaction x r = record { age = transaction.age; moves = transaction.moves ++ x ∷ []; told = transaction.told ++ r ∷ [] }
+
+abbrev pub ends : Mid → Move → Bool
+ends m (Do o) = is_some (failure m.now o) && is_empty m.saved
+ends m Open = false
+ends m Close = false
+ends m Undo = is_empty m.saved
+
+abbrev pub after_move : Transaction → Move → Option Reply → Bool → Option Transaction
+after_move transaction x r true = None
+after_move transaction x r false = Some (more transaction x r)
+
+-- the reply of a move that is told one
+abbrev pub said : Option Reply → Reply → Reply
+said None r = r
+said (Some x) r = x
+
+-- a move that is made is told what it is told alone; one that ends level 1 ends the transaction
+abbrev pub made : State → Seat → Transaction → Move → Reply → Outcome
+made σ s transaction x r =
+    nothing (with_seat σ (with_transaction s (after_move transaction x (told (mid_of σ transaction) x) (ends (mid_of σ transaction) x)))) (said (told (mid_of σ transaction) x) r)
+
+abbrev pub emptied : Transaction → Transaction
+emptied transaction = record { age = transaction.age; moves = []; told = [] }
+
+abbrev pub decided : State → Seat → Transaction → Operation → Answer → Outcome
+decided σ s transaction o Granted = made σ s transaction (Do o) reply.Done
+decided σ s transaction o Wait = nothing (with_queue σ (σ.queue ++ record { session = s.number; age = transaction.age; operation = o } ∷ [])) reply.Waiting
+decided σ s transaction o Die = nothing (with_seat σ (with_transaction s (Some (emptied transaction)))) reply.Restart
+
+abbrev pub within : State → Seat → Transaction → Operation → Bool → Outcome
+within σ s transaction o false = nothing σ (reply.SystemLimit limit.Operations)
+within σ s transaction o true = decided σ s transaction o (decide (ages_of σ) (transaction.age, needs o))
+
+abbrev pub operate : State → Seat → Operation → Option Transaction → Outcome
+operate σ s o None = nothing σ reply.NoTransaction
+operate σ s o (Some transaction) = within σ s transaction o (nat_lt (count_moves transaction.moves) σ.limits.operations)
+
+abbrev pub retried : State → Seat → Transaction → Operation → Bool → Outcome
+retried σ s transaction o false = nothing σ reply.Waiting
+retried σ s transaction o true = made (with_queue σ (without_request σ.queue s.number)) s transaction (Do o) reply.Done
+
+abbrev pub retry_in : State → Seat → Operation → Option Transaction → Outcome
+retry_in σ s o None = nothing σ reply.NotWaiting
+retry_in σ s o (Some transaction) = retried σ s transaction o (can_retry (ages_of σ) (transaction.age, needs o))
+
+abbrev pub retry : State → Seat → Option Queued → Outcome
+retry σ s None = nothing σ reply.NotWaiting
+retry σ s (Some q) = retry_in σ s q.operation s.transaction
+
+-- transactions
+abbrev pub opened : State → Seat → Bool → Outcome
+opened σ s false = nothing σ (reply.SystemLimit limit.Ages)
+opened σ s true =
+    nothing (record { tables = σ.tables; seats = change σ.seats (with_transaction s (Some (record { age = σ.next_age; moves = []; told = [] }))); queue = σ.queue; next_age = σ.next_age + 1; commits = σ.commits; greatest = σ.greatest; limits = σ.limits }) (reply.Tid σ.next_age)
+
+abbrev pub open_first : State → Seat → Outcome
+open_first σ s = opened σ s (nat_le σ.next_age σ.limits.ages)
+
+abbrev pub nested : State → Seat → Transaction → Bool → Bool → Outcome
+nested σ s transaction false b = nothing σ (reply.SystemLimit limit.Nesting)
+nested σ s transaction true false = nothing σ (reply.SystemLimit limit.Operations)
+nested σ s transaction true true = made σ s transaction Open reply.Done
+
+abbrev pub begin : State → Seat → Option Transaction → Outcome
+begin σ s None = open_first σ s
+begin σ s (Some transaction) = nested σ s transaction (nat_lt (suc (length (mid_of σ transaction).saved)) σ.limits.nesting) (nat_lt (count_moves transaction.moves) σ.limits.operations)
+
+abbrev pub one_shot : State → Seat → Option Transaction → Outcome
+one_shot σ s None = open_first σ s
+one_shot σ s (Some transaction) = nothing σ reply.InTransaction
+
+abbrev pub abort : State → Seat → Term → Option Transaction → Outcome
+abort σ s r None = nothing σ reply.NoTransaction
+abort σ s r (Some transaction) = made (with_queue σ (without_request σ.queue s.number)) s transaction Undo (reply.UserAbort r)
+
+-- what a step puts into one seat's post
+abbrev pub overflowed : ℕ → Seat → Seat
+overflowed n s = record { number = s.number; transaction = s.transaction; watching = []; outbox = refused s.outbox; overflow = Some n }
+
+abbrev pub given : ℕ → List ℕ → List Item → Seat → Seat
+given n over items s =
+    if has_session over s.number then overflowed n s
+    else record { number = s.number; transaction = s.transaction; watching = s.watching; outbox = pushed s.outbox items; overflow = s.overflow }
+
+abbrev pub batch_to : ℕ → List Event → Seat → List Item
+batch_to n es s = batch_for (level_in s.watching) n es
+
+abbrev pub commit_now : State → List ℕ → Seat → Transaction → List Event → Outcome
+commit_now σ over s transaction es =
+    record {
+      state = record {
+        tables = (mid_of σ transaction).now;
+        seats = map (λ x. given (σ.commits + 1) over (batch_to (σ.commits + 1) es x) x) (change σ.seats (with_transaction s None));
+        queue = σ.queue; next_age = σ.next_age; commits = σ.commits + 1; greatest = σ.greatest; limits = σ.limits;
+      };
+      reply = reply.Atomic (σ.commits + 1);
+      entry = Some (Committed (σ.commits + 1) s.number transaction.age transaction.moves transaction.told over);
+    }
+
+abbrev pub events_now : State → Transaction → List Event
+events_now σ transaction = events σ.tables transaction.age (surviving transaction.moves transaction.told)
+
+abbrev pub commit_at : State → List ℕ → Seat → Transaction → Bool → Outcome
+commit_at σ over s transaction false = made σ s transaction Close reply.Done
+commit_at σ over s transaction true = commit_now σ over s transaction (events_now σ transaction)
+
+abbrev pub commit : State → List ℕ → Seat → Option Transaction → Outcome
+commit σ over s None = nothing σ reply.NoTransaction
+commit σ over s (Some transaction) = commit_at σ over s transaction (is_empty (mid_of σ transaction).saved)
+
+-- schema commands
+abbrev pub unwatched : Option (List ℕ) → Seat → Seat
+unwatched None s = s
+unwatched (Some t) s = record { number = s.number; transaction = s.transaction; watching = without_watch s.watching t; outbox = s.outbox; overflow = s.overflow }
+
+abbrev pub end_to : Option (List ℕ) → Seat → List Item
+end_to t s = end_for (level_in s.watching) t
+
+abbrev pub schema_now : State → List ℕ → Schema → Outcome
+schema_now σ over c =
+    record {
+      state = record {
+        tables = schema_effect σ.tables c;
+        seats = map (λ x. given (σ.commits + 1) over (end_to (removed c) x) (unwatched (removed c) x)) σ.seats;
+        queue = σ.queue; next_age = σ.next_age; commits = σ.commits; greatest = σ.greatest; limits = σ.limits;
+      };
+      reply = reply.AtomicOk;
+      entry = Some (Changed c over);
+    }
+
+abbrev pub has_room : State → Schema → Bool
+has_room σ (Create t os) = nat_lt (length σ.tables) σ.limits.tables
+has_room σ (Remove t) = true
+has_room σ (AddIndex t a) = true
+has_room σ (DelIndex t a) = true
+
+abbrev pub schema_if : State → List ℕ → Schema → Option Reply → Bool → Bool → Outcome
+schema_if σ over c (Some r) busy room = nothing σ r
+schema_if σ over c None true room = nothing σ (reply.Locked (table_of_schema c))
+schema_if σ over c None false false = nothing σ (reply.SystemLimit limit.Tables)
+schema_if σ over c None false true = schema_now σ over c
+
+abbrev pub schema : State → List ℕ → Schema → Option Transaction → Outcome
+schema σ over c (Some transaction) = nothing σ reply.InTransaction
+schema σ over c None = schema_if σ over c (schema_refusal σ.tables c) (is_busy σ (table_of_schema c)) (has_room σ c)
+
+abbrev pub info_at : Table → InfoItem → Reply
+info_at t item.Kind = reply.Told (info.Kind t.def.kind)
+info_at t item.Attributes = reply.Told (info.Attributes t.def.attributes)
+info_at t item.Index = reply.Told (info.Index t.def.indexes)
+info_at t item.Size = reply.Told (info.Size (length t.rows))
+
+abbrev pub table_info : List ℕ → InfoItem → Option Table → Reply
+table_info n i None = reply.SubNoTable n
+table_info n i (Some t) = info_at t i
+
+-- subscriptions
+abbrev pub same_level : Level → Level → Bool
+same_level Simple Simple = true
+same_level Detailed Detailed = true
+same_level Simple Detailed = false
+same_level Detailed Simple = false
+
+abbrev pub is_at : Option Level → Level → Bool
+is_at None l = false
+is_at (Some x) l = same_level x l
+
+-- a mark into the post, with what then watches; or a refusal that the post counts
+abbrev pub marked : State → Bool → Seat → List Watch → Item → Entry → Outcome
+marked σ true s ws x e = nothing (with_seat σ (record { number = s.number; transaction = s.transaction; watching = s.watching; outbox = refused s.outbox; overflow = s.overflow })) reply.OutboxFull
+marked σ false s ws x e =
+    record {
+      state = with_seat σ (record { number = s.number; transaction = s.transaction; watching = ws; outbox = pushed s.outbox (x ∷ []); overflow = s.overflow });
+      reply = reply.SubscribedHere;
+      entry = Some e;
+    }
+
+abbrev pub subscribe_refusal : State → Seat → List ℕ → Option Reply
+subscribe_refusal σ s t =
+    if is_some s.overflow then Some reply.OverflowUntold
+    else (if not (is_some (find σ.tables t)) then Some (reply.SubNoTable t)
+    else (if is_some (level_in s.watching t) then Some (reply.AlreadySubscribed t) else None))
+
+abbrev pub subscribe : State → List ℕ → Seat → List ℕ → Level → Bool → Option Reply → Outcome
+subscribe σ over s t l dump (Some r) = nothing σ r
+subscribe σ over s t l dump None =
+    marked σ (has_session over s.number) s (record { table = t; level = l } ∷ s.watching) (Began t l (dump_of σ.tables t dump)) (Subscribed s.number t l dump)
+
+abbrev pub unsubscribe : State → List ℕ → Seat → List ℕ → Bool → Outcome
+unsubscribe σ over s t false = nothing σ (reply.NotSubscribed t)
+unsubscribe σ over s t true =
+    marked σ (has_session over s.number) s (without_watch s.watching t) (Ended t ending.Unsubscribed) (Unsubscribed s.number t)
+
+-- a joined session's command that isn't refused WaitingNow
+abbrev pub do_command : State → List ℕ → Seat → Command → Outcome
+do_command σ over s (command.Schema c) = schema σ over c s.transaction
+do_command σ over s (command.TableInfo t i) = nothing σ (table_info t i (find σ.tables t))
+do_command σ over s command.Begin = begin σ s s.transaction
+do_command σ over s command.Commit = commit σ over s s.transaction
+do_command σ over s (command.Abort r) = abort σ s r s.transaction
+do_command σ over s (command.Do o) = operate σ s o s.transaction
+do_command σ over s (command.Subscribe t l dump) = subscribe σ over s t l dump (subscribe_refusal σ s t)
+do_command σ over s (command.Unsubscribe t l) = unsubscribe σ over s t (is_at (level_in s.watching t) l)
+do_command σ over s (command.OneShot parts retries) = one_shot σ s s.transaction
+
+abbrev pub is_abort : Command → Bool
+is_abort (command.Abort r) = true
+is_abort c = false
+
+abbrev pub command_if : State → List ℕ → Seat → Command → Bool → Outcome
+command_if σ over s c true = nothing σ reply.WaitingNow
+command_if σ over s c false = do_command σ over s c
+
+abbrev pub give : State → Seat → List Item → Option ℕ → Outcome
+give σ s (x ∷ xs) l =
+    nothing (with_seat σ (record { number = s.number; transaction = s.transaction; watching = s.watching; outbox = record { items = xs; refusals = s.outbox.refusals; capacity = s.outbox.capacity }; overflow = s.overflow })) (reply.Taken x)
+give σ s [] None = nothing σ reply.Empty
+give σ s [] (Some n) = nothing (with_seat σ (record { number = s.number; transaction = s.transaction; watching = s.watching; outbox = s.outbox; overflow = None })) (reply.Overflow n)
+
+-- of a channel post (no capacity that decides) a Take sees no item: they are its other end's
+abbrev pub takable : Outbox → Option ℕ → List Item
+takable b None = []
+takable b (Some c) = b.items
+
+abbrev pub leave : State → Seat → Outcome
+leave σ s = nothing (record { tables = σ.tables; seats = without_seat σ.seats s.number; queue = without_request σ.queue s.number; next_age = σ.next_age; commits = σ.commits; greatest = σ.greatest; limits = σ.limits }) reply.Done
+
+abbrev pub seated : State → List ℕ → Seat → Ask → Outcome
+seated σ over s (Join b) = nothing σ reply.BadSession
+seated σ over s Leave = leave σ s
+seated σ over s Retry = retry σ s (request_in σ.queue s.number)
+seated σ over s Take = give σ s (takable s.outbox s.outbox.capacity) s.overflow
+seated σ over s (DoCommand c) = command_if σ over s c (is_waiting σ s.number && not (is_abort c))
+
+abbrev pub fresh : ℕ → Outbox → Seat
+fresh n b = record { number = n; transaction = None; watching = []; outbox = b; overflow = None }
+
+abbrev pub join : State → ℕ → Outbox → Bool → Bool → Outcome
+join σ n b false room = nothing σ reply.BadSession
+join σ n b true false = nothing σ (reply.SystemLimit limit.Sessions)
+join σ n b true true =
+    nothing (record { tables = σ.tables; seats = σ.seats ++ fresh n b ∷ []; queue = σ.queue; next_age = σ.next_age; commits = σ.commits; greatest = n; limits = σ.limits }) reply.Done
+
+abbrev pub unseated : State → ℕ → Ask → Outcome
+unseated σ n (Join b) = join σ n b (nat_lt σ.greatest n) (nat_lt (length σ.seats) σ.limits.sessions)
+unseated σ n Leave = nothing σ reply.BadSession
+unseated σ n Retry = nothing σ reply.BadSession
+unseated σ n Take = nothing σ reply.BadSession
+unseated σ n (DoCommand c) = nothing σ reply.BadSession
+
+abbrev pub by_seat : State → List ℕ → ℕ → Ask → Option Seat → Outcome
+by_seat σ over n a None = unseated σ n a
+by_seat σ over n a (Some s) = seated σ over s a
+
+-- one step. In over stand the sessions whose posts refused in it
+unfoldable pub outcome : State → List ℕ → ℕ → Ask → Outcome
+outcome σ over n a = by_seat σ over n a (seat_at σ.seats n)

@@ -1,0 +1,111 @@
+-- Which posts refuse, runs, and what a run says of the last state.
+use Rattle.std.specs.Prelude.{◌≡◌, ◌≢◌, ℕ, ◌+◌, ◌<◌, ◌≤◌, List, [], ◌∷◌, ◌++◌, Bool, true, false, not, ◌||◌, ◌&&◌, ◌==◌, nat_le, if◌then◌else◌, Option, Some, None, is_some, length, IfSome}
+use Rattle.std.specs.List.{filter}
+use Rattle.tab_model.specs.declared.data.Reply.{Reply}
+use Rattle.tab_model.specs.declared.data.Reply.TheVariants as reply
+use Rattle.tab_model.specs.declared.data.Item.{Item}
+use Rattle.tab_model.specs.declared.data.Level.{Level}
+use Rattle.tab_model.specs.declared.data.Schema.{Schema}
+use Rattle.tab_model.specs.declared.data.Command.{Command}
+use Rattle.tab_model.specs.declared.data.Command.TheVariants as command
+use Rattle.tab_model.specs.declared.data.Entry.{Entry}
+use Rattle.tab_model.specs.declared.data.Limits.{Limits}
+use Rattle.tab_model.specs.Worlds.{World}
+use Rattle.tab_model.specs.Schemas.{table_of_schema, schema_refusal, removed}
+use Rattle.tab_model.specs.Log.{serial, in_force, commits_from, IsLegal}
+use Rattle.tab_model.specs.Slices.{slice}
+use Rattle.tab_model.specs.State.{Transaction, Outbox, Seat, State, new, seat_at, is_waiting, is_busy, level_in, mid_of}
+use Rattle.tab_model.specs.Outcome.{Ask, Join, Leave, Retry, Take, DoCommand, Outcome, outcome, is_empty, batch_to, end_to, events_now, has_room, subscribe_refusal, is_at}
+
+-- those whose posts are handed an item in a step
+abbrev pub put_commit : State → Option Transaction → List Seat
+put_commit σ None = []
+put_commit σ (Some transaction) = if is_empty (mid_of σ transaction).saved then filter (λ x. not (is_empty (batch_to (σ.commits + 1) (events_now σ transaction) x))) σ.seats else []
+
+abbrev pub put_schema : State → Schema → Option Transaction → List Seat
+put_schema σ c (Some transaction) = []
+put_schema σ c None =
+    if is_some (schema_refusal σ.tables c) || is_busy σ (table_of_schema c) then [] else filter (λ x. not (is_empty (end_to (removed c) x))) σ.seats
+
+abbrev pub put_command : State → Seat → Command → List Seat
+put_command σ s (command.Schema c) = put_schema σ c s.transaction
+put_command σ s command.Commit = put_commit σ s.transaction
+put_command σ s (command.Subscribe t l dump) = if is_some (subscribe_refusal σ s t) then [] else s ∷ []
+put_command σ s (command.Unsubscribe t l) = if is_at (level_in s.watching t) l then s ∷ [] else []
+put_command σ s c = []
+
+abbrev pub put_ask : State → Ask → Option Seat → List Seat
+put_ask σ (DoCommand c) (Some s) = if is_waiting σ s.number then [] else put_command σ s c
+put_ask σ a s = []
+
+-- each of them refuses or not: where its capacity decides, that decides
+abbrev pub Pinned : List Seat → List ℕ → Type 0
+Pinned [] over = over ≡ []
+Pinned (s ∷ seats) over =
+    (b : Bool) × (rest : List ℕ) × (over ≡ (if b then s.number ∷ rest else rest))
+    × IfSome s.outbox.capacity (λ c. b ≡ nat_le c (length s.outbox.items)) × Pinned seats rest
+
+abbrev pub Allowed : State → List ℕ → ℕ → Ask → Type 0
+Allowed σ over n a = Pinned (put_ask σ a (seat_at σ.seats n)) over
+
+-- a post is handed in with an empty row (the caller's condition)
+abbrev pub JoinsEmpty : Ask → Type 0
+JoinsEmpty (Join b) = b.items ≡ []
+JoinsEmpty Leave = Unit {0}
+JoinsEmpty Retry = Unit {0}
+JoinsEmpty Take = Unit {0}
+JoinsEmpty (DoCommand c) = Unit {0}
+
+pub record Call : Type 0 where
+  pub session : ℕ
+  pub ask : Ask
+  -- the sessions whose posts refused
+  pub over : List ℕ
+
+abbrev pub outcome_of : State → Call → Outcome
+outcome_of σ c = outcome σ c.over c.session c.ask
+
+abbrev pub after_all : State → List Call → State
+after_all σ [] = σ
+after_all σ (c ∷ cs) = after_all (outcome_of σ c).state cs
+
+abbrev pub entries : Option Entry → List Entry
+entries None = []
+entries (Some e) = e ∷ []
+
+abbrev pub log_of : State → List Call → List Entry
+log_of σ [] = []
+log_of σ (c ∷ cs) = entries (outcome_of σ c).entry ++ log_of (outcome_of σ c).state cs
+
+abbrev pub replies_of : State → List Call → List Reply
+replies_of σ [] = []
+replies_of σ (c ∷ cs) = (outcome_of σ c).reply ∷ replies_of (outcome_of σ c).state cs
+
+abbrev pub item_of : Reply → List Item
+item_of (reply.Taken x) = x ∷ []
+item_of r = []
+
+abbrev pub taken_now : ℕ → ℕ → Reply → List Item
+taken_now m n r = if m == n then item_of r else []
+
+abbrev pub taken_of : ℕ → State → List Call → List Item
+taken_of m σ [] = []
+taken_of m σ (c ∷ cs) = taken_now m c.session (outcome_of σ c).reply ++ taken_of m (outcome_of σ c).state cs
+
+pub record IsSeatTied (n : ℕ) (s : Seat) (log : List Entry) (taken : List Item) : Type 0 where
+  pub watching : (t : List ℕ) → level_in s.watching t ≡ in_force n log t
+  pub items : taken ++ s.outbox.items ≡ slice n log
+
+-- nothing of a session that has not joined yet
+pub record IsNew (n : ℕ) (log : List Entry) (taken : List Item) : Type 0 where
+  pub watching : (t : List ℕ) → in_force n log t ≡ None
+  pub owed : slice n log ≡ []
+  pub taken_none : taken ≡ []
+
+-- a state is what the log says, and what its sessions have taken
+pub record IsTied (σ : State) (log : List Entry) (taken : ℕ → List Item) : Type 0 where
+  pub tables : σ.tables ≡ serial log
+  pub legal : IsLegal [] 0 log
+  pub commits : σ.commits ≡ commits_from 0 log
+  pub seats : (n : ℕ) (s : Seat) → seat_at σ.seats n ≡ Some s → IsSeatTied n s log (taken n)
+  pub fresh : (n : ℕ) → σ.greatest < n → IsNew n log (taken n)

@@ -1,0 +1,86 @@
+-- Schema commands on whole tables.
+use Rattle.std.specs.Prelude.{ℕ, List, [], ◌∷◌, Bool, true, false, ◌||◌, not, if◌then◌else◌, Option, Some, None, codes}
+use Rattle.tab_term.specs.Data.{PlainTerm, int, atom, tuple, list, bin, map, PlainTerms, none, one_more}
+use Rattle.tab_term.specs.View.{term}
+use Rattle.tab_term.specs.declared.term.Term.{Term}
+use Rattle.tab_model.specs.declared.data.TableDef.{TableDef}
+use Rattle.tab_model.specs.declared.data.Schema.{Schema}
+use Rattle.tab_model.specs.declared.data.Schema.TheVariants.{Create, Remove, AddIndex, DelIndex}
+use Rattle.tab_model.specs.declared.data.Reply.{Reply}
+use Rattle.tab_model.specs.declared.data.Reply.TheVariants as reply
+use Rattle.tab_model.specs.Names.{pair}
+use Rattle.tab_model.specs.Definitions.{position, is_indexed, add_number, less_number, with_indexes, Parsed, Good, Bad, parse_options}
+use Rattle.tab_model.specs.Worlds.{World, Table, find, place, without, with_def}
+use Rattle.tab_model.specs.Shapes.{held}
+
+abbrev pub table_of_schema : Schema → List ℕ
+table_of_schema (Create t os) = t
+table_of_schema (Remove t) = t
+table_of_schema (AddIndex t a) = t
+table_of_schema (DelIndex t a) = t
+
+abbrev pub is_some_position : Option ℕ → Bool
+is_some_position None = false
+is_some_position (Some p) = true
+
+abbrev pub bad_parse : List ℕ → Parsed → Option Reply
+bad_parse t (Good def) = None
+bad_parse t (Bad what) = Some (reply.BadDefinition t (held what))
+
+-- the refusals of a schema command on a world, but for locks and limits
+abbrev pub create_refusal : List ℕ → PlainTerms → Option Table → Option Reply
+create_refusal t os (Some x) = Some (reply.AlreadyExists t)
+create_refusal t os None = bad_parse t (parse_options t os)
+
+abbrev pub remove_refusal : List ℕ → Option Table → Option Reply
+remove_refusal t (Some x) = None
+remove_refusal t None = Some (reply.NoTable t)
+
+abbrev pub add_refusal : List ℕ → Term → Option Table → Option Reply
+add_refusal t a None = Some (reply.NoTable t)
+add_refusal t a (Some x) =
+    if not (is_some_position (position x.def (term a))) || is_indexed x.def (position x.def (term a))
+    then Some (reply.BadDefinition t (held (pair (atom (codes "index")) (term a)))) else None
+
+abbrev pub del_refusal : List ℕ → Term → Option Table → Option Reply
+del_refusal t a None = Some (reply.NoTable t)
+del_refusal t a (Some x) = if is_indexed x.def (position x.def (term a)) then None else Some (reply.NoIndex t a)
+
+abbrev pub schema_refusal : World → Schema → Option Reply
+schema_refusal w (Create t os) = create_refusal t os (find w t)
+schema_refusal w (Remove t) = remove_refusal t (find w t)
+schema_refusal w (AddIndex t a) = add_refusal t a (find w t)
+schema_refusal w (DelIndex t a) = del_refusal t a (find w t)
+
+abbrev pub create_parsed : World → Parsed → World
+create_parsed w (Good def) = place w (record { def = def; rows = [] })
+create_parsed w (Bad what) = w
+
+abbrev pub add_at : TableDef → Option ℕ → TableDef
+add_at def None = def
+add_at def (Some p) = with_indexes def (add_number p def.indexes)
+
+abbrev pub del_at : TableDef → Option ℕ → TableDef
+del_at def None = def
+del_at def (Some p) = with_indexes def (less_number p def.indexes)
+
+abbrev pub add_effect : World → Term → Option Table → World
+add_effect w a None = w
+add_effect w a (Some x) = place w (with_def x (add_at x.def (position x.def (term a))))
+
+abbrev pub del_effect : World → Term → Option Table → World
+del_effect w a None = w
+del_effect w a (Some x) = place w (with_def x (del_at x.def (position x.def (term a))))
+
+abbrev pub schema_effect : World → Schema → World
+schema_effect w (Create t os) = create_parsed w (parse_options t os)
+schema_effect w (Remove t) = without w t
+schema_effect w (AddIndex t a) = add_effect w a (find w t)
+schema_effect w (DelIndex t a) = del_effect w a (find w t)
+
+-- the table that a schema command ends
+abbrev pub removed : Schema → Option (List ℕ)
+removed (Create t os) = None
+removed (Remove t) = Some t
+removed (AddIndex t a) = None
+removed (DelIndex t a) = None

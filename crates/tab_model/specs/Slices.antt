@@ -1,0 +1,58 @@
+-- The items that a log owes to each session.
+use Rattle.std.specs.Prelude.{ℕ, List, [], ◌∷◌, ◌++◌, Bool, true, false, ◌==◌, if◌then◌else◌, Option, Some, None, is_some, filter_map}
+use Rattle.tab_term.specs.Data.{PlainTerm, PlainTerms}
+use Rattle.tab_model.specs.declared.data.Level.{Level}
+use Rattle.tab_model.specs.declared.data.Event.{Event}
+use Rattle.tab_model.specs.declared.data.Item.{Item}
+use Rattle.tab_model.specs.declared.data.Item.TheVariants.{Began, Batch, Ended}
+use Rattle.tab_model.specs.declared.data.Ending.TheVariants as ending
+use Rattle.tab_model.specs.declared.data.Entry.{Entry}
+use Rattle.tab_model.specs.declared.data.Entry.TheVariants.{Committed, Changed, Subscribed, Unsubscribed}
+use Rattle.tab_model.specs.Names.{plain_terms}
+use Rattle.tab_model.specs.Worlds.{World, rows_of}
+use Rattle.tab_model.specs.Events.{events, surviving}
+use Rattle.tab_model.specs.Shapes.{shape}
+use Rattle.tab_model.specs.Schemas.{removed}
+use Rattle.tab_model.specs.Log.{serial, in_force, has_session}
+
+-- a commit's events at the levels of a session, as one item where there are any
+abbrev pub as_batch : ℕ → List PlainTerm → List Item
+as_batch n [] = []
+as_batch n (e ∷ es) = Batch n (plain_terms (e ∷ es)) ∷ []
+
+abbrev pub shape_at : Option Level → Event → Option PlainTerm
+shape_at None e = None
+shape_at (Some l) e = Some (shape l e)
+
+abbrev pub batch_for : (List ℕ → Option Level) → ℕ → List Event → List Item
+batch_for levels n es = as_batch n (filter_map (λ e. shape_at (levels e.tab) e) es)
+
+abbrev pub dump_of : World → List ℕ → Bool → Option PlainTerms
+dump_of w t true = Some (plain_terms (rows_of w t))
+dump_of w t false = None
+
+abbrev pub ended_item : List ℕ → Option Level → List Item
+ended_item t None = []
+ended_item t (Some l) = Ended t ending.Deleted ∷ []
+
+abbrev pub end_for : (List ℕ → Option Level) → Option (List ℕ) → List Item
+end_for levels None = []
+end_for levels (Some t) = ended_item t (levels t)
+
+abbrev pub unless_over : Bool → List Item → List Item
+unless_over true items = []
+unless_over false items = items
+
+-- what an entry owes to a session, after the log before it
+abbrev pub owed : ℕ → List Entry → Entry → List Item
+owed s log (Committed n x age xs rs over) = unless_over (has_session over s) (batch_for (in_force s log) n (events (serial log) age (surviving xs rs)))
+owed s log (Changed c over) = unless_over (has_session over s) (end_for (in_force s log) (removed c))
+owed s log (Subscribed x t l dump) = if x == s then Began t l (dump_of (serial log) t dump) ∷ [] else []
+owed s log (Unsubscribed x t) = if x == s then Ended t ending.Unsubscribed ∷ [] else []
+
+abbrev pub slice_after : ℕ → List Entry → List Entry → List Item
+slice_after s log [] = []
+slice_after s log (e ∷ es) = owed s log e ++ slice_after s (log ++ e ∷ []) es
+
+abbrev pub slice : ℕ → List Entry → List Item
+slice s log = slice_after s [] log

@@ -1,0 +1,159 @@
+-- What a core is, as plain data.
+use Rattle.std.specs.Prelude.{◌≡◌, ◌≢◌, ◌<◌, ◌≤◌, ℕ, suc, ◌+◌, List, [], ◌∷◌, ◌++◌, Bool, true, false, not, ◌&&◌, ◌||◌, ◌==◌, if◌then◌else◌, Option, Some, None, is_some, map, length, flat_map}
+use Rattle.std.specs.List.{list_any, filter}
+use Rattle.std.specs.Str.{bytes_eq}
+use Rattle.tab_model.specs.declared.data.Operation.{Operation}
+use Rattle.tab_model.specs.declared.data.Move.{Move}
+use Rattle.tab_model.specs.declared.data.Move.TheVariants.{Do, Open, Close, Undo}
+use Rattle.tab_model.specs.declared.data.Reply.{Reply}
+use Rattle.tab_model.specs.declared.data.Item.{Item}
+use Rattle.tab_model.specs.declared.data.Level.{Level}
+use Rattle.tab_model.specs.declared.data.Limits.{Limits}
+use Rattle.tab_model.specs.Worlds.{World}
+use Rattle.tab_model.specs.Alone.{Mid, start, after, replies}
+use Rattle.tab_model.specs.Locks.{Lock, needs, locks_of, Apart}
+use Rattle.tab_model.specs.Ages.{Ages, Owned, Rises}
+
+-- an open transaction: what it did since its begin or its last restart, and what it was told
+pub record Transaction : Type 0 where
+  pub age : ℕ
+  pub moves : List Move
+  pub told : List (Option Reply)
+
+-- a post: its items, how often it refused, and its capacity where that decides
+pub record Outbox : Type 0 where
+  pub items : List Item
+  pub refusals : ℕ
+  pub capacity : Option ℕ
+
+pub record Watch : Type 0 where
+  pub table : List ℕ
+  pub level : Level
+
+pub record Seat : Type 0 where
+  pub number : ℕ
+  pub transaction : Option Transaction
+  pub watching : List Watch
+  pub outbox : Outbox
+  pub overflow : Option ℕ
+
+pub record Queued : Type 0 where
+  pub session : ℕ
+  pub age : ℕ
+  pub operation : Operation
+
+pub record State : Type 0 where
+  pub tables : World
+  pub seats : List Seat
+  pub queue : List Queued
+  pub next_age : ℕ
+  pub commits : ℕ
+  pub greatest : ℕ
+  pub limits : Limits
+
+abbrev pub new : Limits → State
+new limits = record { tables = []; seats = []; queue = []; next_age = 1; commits = 0; greatest = 0; limits = limits }
+
+abbrev pub seat_at : List Seat → ℕ → Option Seat
+seat_at [] n = None
+seat_at (s ∷ seats) n = if s.number == n then Some s else seat_at seats n
+
+abbrev pub moves_in : Option Transaction → List Move
+moves_in None = []
+moves_in (Some transaction) = transaction.moves
+
+abbrev pub told_in_transaction : Option Transaction → List (Option Reply)
+told_in_transaction None = []
+told_in_transaction (Some transaction) = transaction.told
+
+abbrev pub age_in : Option Transaction → ℕ
+age_in None = 0
+age_in (Some transaction) = transaction.age
+
+abbrev pub transaction_in : Option Seat → Option Transaction
+transaction_in None = None
+transaction_in (Some s) = s.transaction
+
+-- a session's open transaction
+abbrev pub transaction_at : State → ℕ → Option Transaction
+transaction_at σ n = transaction_in (seat_at σ.seats n)
+
+abbrev pub moves_at : State → ℕ → List Move
+moves_at σ n = moves_in (transaction_at σ n)
+
+abbrev pub told_at : State → ℕ → List (Option Reply)
+told_at σ n = told_in_transaction (transaction_at σ n)
+
+abbrev pub age_at : State → ℕ → ℕ
+age_at σ n = age_in (transaction_at σ n)
+
+abbrev pub request_in : List Queued → ℕ → Option Queued
+request_in [] n = None
+request_in (q ∷ qs) n = if q.session == n then Some q else request_in qs n
+
+abbrev pub without_request : List Queued → ℕ → List Queued
+without_request [] n = []
+without_request (q ∷ qs) n = if q.session == n then without_request qs n else q ∷ without_request qs n
+
+abbrev pub is_waiting : State → ℕ → Bool
+is_waiting σ n = is_some (request_in σ.queue n)
+
+-- the locks held and awaited, each with its age
+abbrev pub with_age : ℕ → List Lock → List Owned
+with_age a [] = []
+with_age a (l ∷ ls) = (a, l) ∷ with_age a ls
+
+abbrev pub held_by : Option Transaction → List Owned
+held_by None = []
+held_by (Some transaction) = with_age transaction.age (locks_of transaction.moves)
+
+abbrev pub held_in : List Seat → List Owned
+held_in [] = []
+held_in (s ∷ seats) = held_by s.transaction ++ held_in seats
+
+abbrev pub queued_in : List Queued → List Owned
+queued_in [] = []
+queued_in (q ∷ qs) = (q.age, needs q.operation) ∷ queued_in qs
+
+abbrev pub ages_of : State → Ages
+ages_of σ = record { held = held_in σ.seats; queue = queued_in σ.queue }
+
+abbrev pub is_in : List ℕ → Owned → Bool
+is_in t x = bytes_eq (x.1).table t
+
+-- whether some transaction holds or awaits a lock in the table
+abbrev pub is_busy : State → List ℕ → Bool
+is_busy σ t = list_any (is_in t) (held_in σ.seats ++ queued_in σ.queue)
+
+abbrev pub level_in : List Watch → List ℕ → Option Level
+level_in [] t = None
+level_in (x ∷ xs) t = if bytes_eq x.table t then Some x.level else level_in xs t
+
+abbrev pub without_watch : List Watch → List ℕ → List Watch
+without_watch [] t = []
+without_watch (x ∷ xs) t = if bytes_eq x.table t then without_watch xs t else x ∷ without_watch xs t
+
+-- operations and child begins of this attempt
+abbrev pub count_moves : List Move → ℕ
+count_moves [] = 0
+count_moves (Do o ∷ xs) = suc (count_moves xs)
+count_moves (Open ∷ xs) = suc (count_moves xs)
+count_moves (Close ∷ xs) = count_moves xs
+count_moves (Undo ∷ xs) = count_moves xs
+
+abbrev pub mid_of : State → Transaction → Mid
+mid_of σ transaction = after (start σ.tables transaction.age) transaction.moves
+
+-- what every reached core has
+pub record IsSound (σ : State) : Type 0 where
+  -- each open transaction was told what it is told alone, on the tables as they are now
+  pub told : (n : ℕ) → replies (start σ.tables (age_at σ n)) (moves_at σ n) ≡ told_at σ n
+  -- the locks of two sessions' transactions don't conflict
+  pub apart : (m n : ℕ) → m ≢ n → Apart (locks_of (moves_at σ m)) (locks_of (moves_at σ n))
+  -- ages are different, and taken already
+  pub ages : (m n : ℕ) (t u : Transaction) → transaction_at σ m ≡ Some t → transaction_at σ n ≡ Some u → t.age ≡ u.age → m ≡ n
+  pub taken : (n : ℕ) (t : Transaction) → transaction_at σ n ≡ Some t → t.age < σ.next_age
+  -- a queued request is one of an open transaction, and waits rise
+  pub queued : (n : ℕ) (q : Queued) → request_in σ.queue n ≡ Some q → (t : Transaction) × (transaction_at σ n ≡ Some t) × (t.age ≡ q.age)
+  pub rises : Rises (ages_of σ)
+  pub joined : (n : ℕ) (s : Seat) → seat_at σ.seats n ≡ Some s → n ≤ σ.greatest

@@ -1,0 +1,88 @@
+-- A table's records, as one list in canonical order: by key, then by insertion.
+use Rattle.std.specs.Prelude.{◌≡◌, ℕ, List, [], ◌∷◌, ◌++◌, Bool, true, false, not, ◌&&◌, ◌||◌, if◌then◌else◌}
+use Rattle.std.specs.List.{filter, list_any, list_all}
+use Rattle.tab_term.specs.Data.{PlainTerm, int, atom, tuple, list, bin, map, PlainTerms, none, one_more}
+use Rattle.tab_term.specs.Same.{same}
+use Rattle.tab_term.specs.View.{term}
+use Rattle.tab_model.specs.declared.data.Kind.{Kind}
+use Rattle.tab_model.specs.declared.data.Kind.TheVariants.{Set, Bag}
+use Rattle.tab_model.specs.declared.data.Change.{Change}
+use Rattle.tab_model.specs.declared.data.Change.TheVariants as change
+use Rattle.tab_model.specs.Names.{less}
+
+abbrev pub Rows : Type 0
+Rows = List PlainTerm
+
+-- the second element of a record
+abbrev pub second : PlainTerms → PlainTerm
+second none = list none
+second (one_more t none) = list none
+second (one_more t (one_more u us)) = u
+
+abbrev pub key : PlainTerm → PlainTerm
+key (tuple ts) = second ts
+key (int z) = list none
+key (atom s) = list none
+key (list ts) = list none
+key (bin b) = list none
+key (map ps) = list none
+
+abbrev pub has_key : PlainTerm → PlainTerm → Bool
+has_key k r = same (key r) k
+
+-- the records of a key, in their order
+abbrev pub at : Rows → PlainTerm → Rows
+at rows k = filter (has_key k) rows
+
+abbrev pub delete : Rows → PlainTerm → Rows
+delete rows k = filter (λ r. not (has_key k r)) rows
+
+abbrev pub delete_object : Rows → PlainTerm → Rows
+delete_object rows r = filter (λ x. not (same r x)) rows
+
+-- after all records whose key isn't greater
+abbrev pub insert : PlainTerm → Rows → Rows
+insert r [] = r ∷ []
+insert r (x ∷ rows) = if less (key r) (key x) then r ∷ x ∷ rows else x ∷ insert r rows
+
+abbrev pub put_bag : Rows → PlainTerm → Bool → Rows
+put_bag rows r true = rows
+put_bag rows r false = insert r rows
+
+-- a set keeps the newest record of a key; a bag keeps all, each once
+abbrev pub put : Kind → Rows → PlainTerm → Rows
+put Set rows r = insert r (delete rows (key r))
+put Bag rows r = put_bag rows r (list_any (same r) rows)
+
+abbrev pub apply : Kind → Rows → Change → Rows
+apply kind rows (change.Write r) = put kind rows (term r)
+apply kind rows (change.Delete t k) = delete rows (term k)
+apply kind rows (change.DeleteObject r) = delete_object rows (term r)
+
+abbrev pub applied : Kind → Rows → List Change → Rows
+applied kind rows [] = rows
+applied kind rows (c ∷ cs) = applied kind (apply kind rows c) cs
+
+-- any list of records in canonical order
+abbrev pub whole_onto : Rows → Rows → Rows
+whole_onto [] done = done
+whole_onto (r ∷ rs) done = whole_onto rs (insert r done)
+
+abbrev pub whole : Rows → Rows
+whole rows = whole_onto rows []
+
+abbrev pub follows : PlainTerm → PlainTerm → Bool
+follows r x = same (key r) (key x) || less (key r) (key x)
+
+-- keys ascend
+abbrev pub is_ordered : Rows → Bool
+is_ordered [] = true
+is_ordered (r ∷ rows) = list_all (follows r) rows && is_ordered rows
+
+abbrev pub SameTable : Rows → Rows → Type 0
+SameTable a b = (k : PlainTerm) → at a k ≡ at b k
+
+-- each key once, where equal keys stand together
+abbrev pub keys : Rows → Rows
+keys [] = []
+keys (r ∷ rows) = key r ∷ filter (λ k. not (same (key r) k)) (keys rows)

@@ -1,0 +1,50 @@
+-- All tables, in the order of their names' bytes.
+use Rattle.std.specs.Prelude.{◌≡◌, ℕ, List, [], ◌∷◌, Bool, true, false, if◌then◌else◌, Option, Some, None, is_some, length}
+use Rattle.std.specs.Str.{bytes_eq}
+use Rattle.tab_term.specs.Data.{PlainTerm}
+use Rattle.tab_model.specs.declared.data.Kind.{Kind}
+use Rattle.tab_model.specs.declared.data.TableDef.{TableDef}
+use Rattle.tab_model.specs.Names.{before}
+use Rattle.tab_model.specs.Tables.{Rows, at}
+
+pub record Table : Type 0 where
+  pub def : TableDef
+  pub rows : Rows
+
+abbrev pub World : Type 0
+World = List Table
+
+abbrev pub name_of : Table → List ℕ
+name_of t = t.def.name
+
+abbrev pub find : World → List ℕ → Option Table
+find [] n = None
+find (t ∷ w) n = if bytes_eq (name_of t) n then Some t else find w n
+
+abbrev pub there : World → List ℕ → Bool
+there w n = is_some (find w n)
+
+-- in place of the table of that name, or where its name stands in order
+abbrev pub place : World → Table → World
+place [] t = t ∷ []
+place (u ∷ w) t = if bytes_eq (name_of u) (name_of t) then t ∷ w else (if before (name_of t) (name_of u) then t ∷ u ∷ w else u ∷ place w t)
+
+abbrev pub without : World → List ℕ → World
+without [] n = []
+without (t ∷ w) n = if bytes_eq (name_of t) n then without w n else t ∷ without w n
+
+abbrev pub rows_in : Option Table → Rows
+rows_in None = []
+rows_in (Some t) = t.rows
+
+abbrev pub rows_of : World → List ℕ → Rows
+rows_of w n = rows_in (find w n)
+
+abbrev pub cell : World → List ℕ → PlainTerm → Rows
+cell w n k = at (rows_of w n) k
+
+abbrev pub with_rows : Table → Rows → Table
+with_rows t rows = record { def = t.def; rows = rows }
+
+abbrev pub with_def : Table → TableDef → Table
+with_def t def = record { def = def; rows = t.rows }

@@ -1,0 +1,92 @@
+//! Lists that stand inside the data, each seen as a plain list.
+use crate::data::{Move, Part, Reply};
+use std::marker::Model;
+use tab_term::Atom;
+
+/// Names in order.
+#[derive(Drop)]
+pub struct Atoms {
+    pub items: Vec<Atom>,
+}
+
+impl Model for Atoms {
+    ghost use Rattle.std.specs.Prelude.{List, ℕ};
+
+    ghost Value = { List (List ℕ) };
+
+    ghost view = { λ a. a.items.items };
+}
+
+/// Numbers: positions of attributes, or sessions.
+#[derive(Drop)]
+pub struct Numbers {
+    pub items: Vec<u64>,
+}
+
+impl Model for Numbers {
+    ghost use Rattle.std.specs.Prelude.{List, ℕ};
+
+    ghost Value = { List ℕ };
+
+    ghost view = { λ a. a.items.items };
+}
+
+/// What a transaction did, in order.
+#[derive(Drop)]
+pub struct Moves {
+    pub items: Vec<Move>,
+}
+
+impl Model for Moves {
+    ghost use Rattle.std.specs.Prelude.{List};
+    ghost use Rattle.tab_model.specs.declared.data.Move.{Move};
+
+    ghost use Rattle.std.specs.Coded.{codes};
+    ghost use Rattle.tab_term.specs.Code.{terms_code, pairs_code};
+
+    ghost Value = { List Move };
+
+    ghost coded = { Prim.hlevel (codes, terms_code, pairs_code) };
+
+    ghost view = { λ a. a.items.items };
+}
+
+/// What a transaction was told: None for an abort.
+#[derive(Drop)]
+pub struct Replies {
+    pub items: Vec<Option<Reply>>,
+}
+
+impl Model for Replies {
+    ghost use Rattle.std.specs.Prelude.{List, Option};
+    ghost use Rattle.tab_model.specs.declared.data.Reply.{Reply};
+
+    ghost use Rattle.std.specs.Coded.{codes};
+    ghost use Rattle.tab_term.specs.Code.{terms_code, pairs_code};
+
+    ghost Value = { List (Option Reply) };
+
+    ghost coded = { Prim.hlevel (codes, terms_code, pairs_code) };
+
+    ghost view = { λ a. a.items.items };
+}
+
+/// The parts of a one-shot.
+#[derive(Drop)]
+pub struct Parts {
+    pub items: Vec<Part>,
+}
+
+impl Model for Parts {
+    ghost use Rattle.std.specs.Prelude.{List};
+    ghost use Rattle.tab_model.specs.declared.data.Part.{Part};
+
+    ghost use Rattle.std.specs.Coded.{codes};
+    ghost use Rattle.tab_term.specs.Code.{terms_code, pairs_code};
+
+    ghost Value = { List Part };
+
+    ghost coded = { Prim.hlevel (codes, terms_code, pairs_code) };
+
+    ghost view = { λ a. a.items.items };
+}
