@@ -144,3 +144,6 @@ find-without (u ∷ w) m n = cases (find-without w m n) (bytes_eq (name_of u) m)
     cases ih false e true f true g = absurd (false≢true (sym e ∙ ap (bytes_eq (name_of u)) (eq_names m n g) ∙ f))
     cases ih false e true f false g = ap (λ z. if z then Some u else find (without w m) n) f
     cases ih false e false f c g = ap (λ z. if z then Some u else find (without w m) n) f ∙ ih ∙ ap (λ z. if z then None else find w n) g
+
+pub change_at_key : (kind : Kind) (rows : Rows) (c : Change) (k : PlainTerm) → is_ordered rows ≡ true → at (apply kind rows c) k ≡ (if same (key_of_change c) k then apply kind (at rows k) c else at rows k)
+change_at_key = at-apply

@@ -17,7 +17,7 @@ use Rattle.tab_model.specs.Worlds.{World, Table, find}
 use Rattle.tab_model.specs.Operations.{table_of, change_of_op}
 use Rattle.tab_model.specs.Alone.{Mid, start, after, replies}
 use Rattle.tab_model.specs.Locks.{Part, All, Key, Lock, lock, needs, locks_of, meets, conflict, Apart}
-use Rattle.tab_model.specs.Laws.{IsOrderedWorld}
+use Rattle.tab_model.specs.Worlds.{IsOrderedWorld}
 use Rattle.tab_model.proofs.TableLaws.{same_true, same_refl}
 use Rattle.tab_model.proofs.Stay.{Like, AgreeTab, Agree, SeesPart, AgreeMid, SeesAll, same_replies, WritesAll, KeepsMid, keeps_after}
 
@@ -28,7 +28,8 @@ seen : List Lock → List ℕ → PlainTerm → Bool
 seen [] t k = false
 seen (l ∷ ls) t k = covers_cell l t k || seen ls t k
 
-every : List ℕ → Bool
+-- every table
+abbrev pub every : List ℕ → Bool
 every t = true
 
 mono_part : (p q : PlainTerm → Bool) → ((k : PlainTerm) → p k ≡ true → q k ≡ true) → (part : Part) → SeesPart p part → SeesPart q part
@@ -40,7 +41,7 @@ or_right true b h = refl
 or_right false b h = h
 
 more_seen : (m : Lock) (ls : List Lock) (xs : List Move) → SeesAll (seen ls) every xs → SeesAll (seen (m ∷ ls)) every xs
-unfolding seen every
+unfolding seen
 more_seen m ls [] s = tt
 more_seen m ls (Do o ∷ xs) s = ((s.0.0, mono_part (seen ls (table_of o)) (seen (m ∷ ls) (table_of o)) (λ k h. or_right (covers_cell m (table_of o) k) (seen ls (table_of o) k) h) (needs o).part s.0.1), more_seen m ls xs s.1)
 more_seen m ls (Open ∷ xs) s = (tt, more_seen m ls xs s.1)
@@ -65,7 +66,6 @@ own_op (op.ReadLockTable t) ls = own t All false ls
 own_op (op.WriteLockTable t) ls = own t All true ls
 
 sees_own : (xs : List Move) → SeesAll (seen (locks_of xs)) every xs
-unfolding every
 sees_own [] = tt
 sees_own (Do o ∷ xs) = ((refl, own_op o (locks_of xs)), more_seen (needs o) (locks_of xs) xs (sees_own xs))
 sees_own (Open ∷ xs) = (tt, sees_own xs)
@@ -106,7 +106,6 @@ unseen t k [] h = refl
 unseen t k (m ∷ ms) h = let p = or_parts (conflict (lock t (Key k) true) m) (list_any (conflict (lock t (Key k) true)) ms) h in or_none (covers_cell m t k) (seen ms t k) (one_unseen t k m p.0) (unseen t k ms p.1)
 
 writes_apart : (xs : List Move) (ms : List Lock) → Apart (locks_of xs) ms → WritesAll (seen ms) every xs
-unfolding every
 writes_apart [] ms h = tt
 writes_apart (Do (op.Read t k) ∷ xs) ms h = (tt, writes_apart xs ms (or_parts (list_any (conflict (needs (op.Read t k))) ms) _ h).1)
 writes_apart (Do (op.ReadForWrite t k) ∷ xs) ms h = (tt, writes_apart xs ms (or_parts (list_any (conflict (needs (op.ReadForWrite t k))) ms) _ h).1)
@@ -122,7 +121,7 @@ writes_apart (Open ∷ xs) ms h = (tt, writes_apart xs ms h)
 writes_apart (Close ∷ xs) ms h = (tt, writes_apart xs ms h)
 writes_apart (Undo ∷ xs) ms h = (tt, writes_apart xs ms h)
 
-agree_self : (c : List ℕ → PlainTerm → Bool) (w : World) → IsOrderedWorld w → Agree c every w w
+pub agree_self : (c : List ℕ → PlainTerm → Bool) (w : World) → IsOrderedWorld w → Agree c every w w
 agree_self c w o t d = cases (find w t) refl
   where
     cases : (x : Option Table) → find w t ≡ x → AgreeTab (c t) x x

@@ -25,10 +25,10 @@ use Rattle.tab_model.proofs.TableLaws.{same_true}
 use Rattle.tab_model.proofs.ChangeLaws.{at-apply, ordered-apply, find-place}
 use Rattle.tab_model.proofs.Frame.{AgreeOn, Alike, same_failure, same_told}
 
-eq_names : (a b : List ℕ) → bytes_eq a b ≡ true → a ≡ b
+pub eq_names : (a b : List ℕ) → bytes_eq a b ≡ true → a ≡ b
 eq_names a b h = (bytes_eq-Decides a b).0 h
 
-find_name : (w : World) (n : List ℕ) (x : Table) → find w n ≡ Some x → name_of x ≡ n
+pub find_name : (w : World) (n : List ℕ) (x : Table) → find w n ≡ Some x → name_of x ≡ n
 find_name [] n x h = cc
 find_name (u ∷ w) n x h = cases (find_name w n x) (bytes_eq (name_of u) n) refl h
   where

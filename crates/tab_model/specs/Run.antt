@@ -62,6 +62,10 @@ pub record Call : Type 0 where
   -- the sessions whose posts refused
   pub over : List ℕ
 
+abbrev pub AllJoinEmpty : List Call → Type 0
+AllJoinEmpty [] = Unit {0}
+AllJoinEmpty (c ∷ cs) = JoinsEmpty c.ask × AllJoinEmpty cs
+
 abbrev pub outcome_of : State → Call → Outcome
 outcome_of σ c = outcome σ c.over c.session c.ask
 

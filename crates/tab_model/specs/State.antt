@@ -9,7 +9,7 @@ use Rattle.tab_model.specs.declared.data.Reply.{Reply}
 use Rattle.tab_model.specs.declared.data.Item.{Item}
 use Rattle.tab_model.specs.declared.data.Level.{Level}
 use Rattle.tab_model.specs.declared.data.Limits.{Limits}
-use Rattle.tab_model.specs.Worlds.{World}
+use Rattle.tab_model.specs.Worlds.{World, IsOrderedWorld}
 use Rattle.tab_model.specs.Alone.{Mid, start, after, replies}
 use Rattle.tab_model.specs.Locks.{Lock, needs, locks_of, Apart}
 use Rattle.tab_model.specs.Ages.{Ages, Owned, Rises}
@@ -144,16 +144,20 @@ count_moves (Undo ∷ xs) = count_moves xs
 abbrev pub mid_of : State → Transaction → Mid
 mid_of σ transaction = after (start σ.tables transaction.age) transaction.moves
 
+-- a session sits once
+abbrev pub AreDistinct : List Seat → Type 0
+AreDistinct [] = Unit {0}
+AreDistinct (s ∷ seats) = (seat_at seats s.number ≡ None) × AreDistinct seats
+
 -- what every reached core has
 pub record IsSound (σ : State) : Type 0 where
   -- each open transaction was told what it is told alone, on the tables as they are now
   pub told : (n : ℕ) → replies (start σ.tables (age_at σ n)) (moves_at σ n) ≡ told_at σ n
   -- the locks of two sessions' transactions don't conflict
   pub apart : (m n : ℕ) → m ≢ n → Apart (locks_of (moves_at σ m)) (locks_of (moves_at σ n))
-  -- ages are different, and taken already
+  -- ages are different, and below the next one
   pub ages : (m n : ℕ) (t u : Transaction) → transaction_at σ m ≡ Some t → transaction_at σ n ≡ Some u → t.age ≡ u.age → m ≡ n
   pub taken : (n : ℕ) (t : Transaction) → transaction_at σ n ≡ Some t → t.age < σ.next_age
-  -- a queued request is one of an open transaction, and waits rise
-  pub queued : (n : ℕ) (q : Queued) → request_in σ.queue n ≡ Some q → (t : Transaction) × (transaction_at σ n ≡ Some t) × (t.age ≡ q.age)
-  pub rises : Rises (ages_of σ)
   pub joined : (n : ℕ) (s : Seat) → seat_at σ.seats n ≡ Some s → n ≤ σ.greatest
+  pub distinct : AreDistinct σ.seats
+  pub ordered : IsOrderedWorld σ.tables

@@ -5,7 +5,7 @@ use Rattle.tab_term.specs.Data.{PlainTerm}
 use Rattle.tab_model.specs.declared.data.Kind.{Kind}
 use Rattle.tab_model.specs.declared.data.TableDef.{TableDef}
 use Rattle.tab_model.specs.Names.{before}
-use Rattle.tab_model.specs.Tables.{Rows, at}
+use Rattle.tab_model.specs.Tables.{Rows, at, is_ordered}
 
 pub record Table : Type 0 where
   pub def : TableDef
@@ -48,3 +48,7 @@ with_rows t rows = record { def = t.def; rows = rows }
 
 abbrev pub with_def : Table → TableDef → Table
 with_def t def = record { def = def; rows = t.rows }
+
+-- every table's rows are in canonical order
+abbrev pub IsOrderedWorld : World → Type 0
+IsOrderedWorld w = (n : List ℕ) (t : Table) → find w n ≡ Some t → is_ordered t.rows ≡ true

@@ -1,0 +1,59 @@
+-- Any list of steps: what its last state keeps, and what its log says of it.
+use Rattle.std.proofs.Common.{◌≡◌, ℕ, List, [], ◌∷◌, ◌++◌, refl, sym, ap, ◌∙◌, subst, append-nil, append_assoc, Some}
+use Rattle.tab_model.specs.declared.data.Item.{Item}
+use Rattle.tab_model.specs.declared.data.Entry.{Entry}
+use Rattle.tab_model.specs.declared.data.Limits.{Limits}
+use Rattle.tab_model.specs.Alone.{start, replies}
+use Rattle.tab_model.specs.Log.{serial, IsLegal}
+use Rattle.tab_model.specs.Slices.{slice}
+use Rattle.tab_model.specs.State.{Seat, State, new, seat_at, age_at, moves_at, told_at, IsSound}
+use Rattle.tab_model.specs.Outcome.{Outcome, outcome}
+use Rattle.tab_model.specs.Run.{Call, outcome_of, after_all, entries, log_of, taken_now, taken_of, AllJoinEmpty, IsTied}
+use Rattle.tab_model.proofs.TiedSteps.{step_tied}
+use Rattle.tab_model.proofs.SoundSteps.{step_sound}
+
+pub new_sound : (limits : Limits) → IsSound (new limits)
+new_sound limits = record {
+  told = λ n. refl;
+  apart = λ m n d. refl;
+  ages = λ m n t u e f g. cc;
+  taken = λ n t e. cc;
+  joined = λ n s e. cc;
+  distinct = tt;
+  ordered = λ n t e. cc;
+}
+
+pub run_sound : (σ : State) (calls : List Call) → IsSound σ → IsSound (after_all σ calls)
+run_sound σ [] sound = sound
+run_sound σ (c ∷ calls) sound = run_sound (outcome_of σ c).state calls (step_sound σ c.over c.session c.ask sound)
+
+-- the log and the items taken go on
+pub run_tied : (σ : State) (log : List Entry) (taken : ℕ → List Item) (calls : List Call) → IsSound σ → AllJoinEmpty calls → IsTied σ log taken → IsTied (after_all σ calls) (log ++ log_of σ calls) (λ m. taken m ++ taken_of m σ calls)
+run_tied σ log taken [] sound empty t = subst (λ (l : List Entry). IsTied σ l (λ m. taken m ++ [])) (sym (append-nil log)) (subst (λ (f : ℕ → List Item). IsTied σ log f) (λ i m. sym (append-nil (taken m)) i) t)
+run_tied σ log taken (c ∷ calls) sound empty t =
+    let o : Outcome = outcome_of σ c in
+    let before = step_tied σ log taken c.over c.session c.ask sound empty.0 t in
+    let all = run_tied o.state (log ++ entries o.entry) (λ m. taken m ++ taken_now m c.session o.reply) calls (step_sound σ c.over c.session c.ask sound) empty.1 before in
+    subst (λ (l : List Entry). IsTied (after_all o.state calls) l (λ m. taken m ++ taken_of m σ (c ∷ calls))) (append_assoc log (entries o.entry) (log_of o.state calls))
+      (subst (λ (f : ℕ → List Item). IsTied (after_all o.state calls) ((log ++ entries o.entry) ++ log_of o.state calls) f) (λ i m. append_assoc (taken m) (taken_now m c.session o.reply) (taken_of m o.state calls) i) all)
+
+new_tied : (limits : Limits) → IsTied (new limits) [] (λ m. [])
+new_tied limits = record {
+  tables = refl; legal = tt; commits = refl; seats = λ n s e. cc;
+  fresh = λ n h. record { watching = λ t. refl; owed = refl; taken_none = refl };
+}
+
+tied : (limits : Limits) (calls : List Call) → AllJoinEmpty calls → IsTied (after_all (new limits) calls) (log_of (new limits) calls) (λ m. taken_of m (new limits) calls)
+tied limits calls empty = run_tied (new limits) [] (λ m. []) calls (new_sound limits) empty (new_tied limits)
+
+pub schedule_legal : (limits : Limits) (calls : List Call) → AllJoinEmpty calls → IsLegal [] 0 (log_of (new limits) calls)
+schedule_legal limits calls empty = (tied limits calls empty).legal
+
+pub schedule_tables : (limits : Limits) (calls : List Call) → AllJoinEmpty calls → (after_all (new limits) calls).tables ≡ serial (log_of (new limits) calls)
+schedule_tables limits calls empty = (tied limits calls empty).tables
+
+pub schedule_told : (limits : Limits) (calls : List Call) (n : ℕ) → replies (start (after_all (new limits) calls).tables (age_at (after_all (new limits) calls) n)) (moves_at (after_all (new limits) calls) n) ≡ told_at (after_all (new limits) calls) n
+schedule_told limits calls n = (run_sound (new limits) calls (new_sound limits)).told n
+
+pub schedule_rows : (limits : Limits) (calls : List Call) (n : ℕ) (s : Seat) → AllJoinEmpty calls → seat_at (after_all (new limits) calls).seats n ≡ Some s → taken_of n (new limits) calls ++ s.outbox.items ≡ slice n (log_of (new limits) calls)
+schedule_rows limits calls n s empty here = ((tied limits calls empty).seats n s here).items
