@@ -12,6 +12,10 @@ ghost use Rattle.std.specs.Prelude.{◌≡◌, ◌↔◌, [], ◌∷◌, ◌++�
 ghost use Rattle.std.specs.Option.{option_copied};
 ghost use Rattle.tab_map.specs.Entries.{Ascends, lookup, insert_entry, remove_entry, entries_from, entries_above};
 
+mod iter;
+
+pub use iter::Iter;
+
 use std::alloc::{AllocError, Global};
 use std::cmp::Ordering;
 use std::marker::Model;
@@ -145,7 +149,8 @@ impl<K: Ord + Drop, V: Drop> Map<K, V> {
 
     /// The entry with the least key above the given key.
     pub fn first_above(&self, key: &K) -> Option<&(K, V)>
-        ensures { option_copied result ≡ slice_get (entries_above K.cmp key.now self.now) 0 }
+        ensures entry { option_copied result ≡ slice_get (entries_above K.cmp key.now self.now) 0 }
+        ensures ascends { Ascends K.cmp self.now }
     {
         match &self.root {
             Tree::Leaf => None,
