@@ -8,13 +8,15 @@
 //! A map does not count its entries: the type that holds one keeps the number beside it, where it needs one.
 #![tactic(auto)]
 
-ghost use Rattle.std.specs.Prelude.{◌≡◌, ◌↔◌, [], ◌∷◌, ◌++◌, IfOk, MatchOption, IsTrue, length, slice_get, is_some};
+ghost use Rattle.std.specs.Prelude.{◌≡◌, ◌↔◌, ◌≤◌, [], ◌∷◌, ◌++◌, IfOk, MatchOption, IsTrue, length, slice_get, is_some};
 ghost use Rattle.std.specs.Option.{option_copied};
 ghost use Rattle.tab_map.specs.Entries.{Ascends, lookup, insert_entry, remove_entry, entries_from, entries_above};
 
 mod iter;
+mod set;
 
 pub use iter::Iter;
+pub use set::{Keys, Set};
 
 use std::alloc::{AllocError, Global};
 use std::cmp::Ordering;
@@ -23,7 +25,6 @@ use std::sync::Arc;
 
 /// A map from keys to values, in the order of the keys.
 #[cycle(tree)]
-#[derive(Drop)]
 pub struct Map<K: Ord, V> {
     root: Tree<K, V>,
 }
@@ -64,12 +65,51 @@ impl<K: Ord, V> Model for Map<K, V> {
     ghost size_decreases = { λ a h. Prim.grind (arith, length-append) };
 }
 
+impl<K: Ord + Drop, V: Drop> Drop for Map<K, V> {
+    #[cycle(tree)]
+    fn drop(self) {
+        let Map { root } = self;
+        drop(root);
+    }
+}
+
 impl<K: Ord + Drop, V: Drop> Map<K, V> {
     /// The empty map.
     pub fn new() -> Map<K, V>
         ensures { result ≡ [] }
     {
         Map { root: Tree::Leaf }
+    }
+
+    /// The map of entries that stand in the order of their keys, in O(n).
+    pub fn from_sorted(alloc: Global, mut entries: Vec<(K, V)>) -> Result<Map<K, V>, AllocError>
+        requires { Ascends K.cmp entries.items }
+        ensures { IfOk result (λ m. m ≡ entries.items) }
+    {
+        let count = entries.len();
+        Map::from_last(alloc, &mut entries, count)
+    }
+
+    // Takes the last `count` entries. Half of them are on each side of the root, so the tree is balanced.
+    fn from_last(
+        alloc: Global,
+        entries: &mut Vec<(K, V)>,
+        count: usize,
+    ) -> Result<Map<K, V>, AllocError>
+        requires enough { count ≤ length entries.old.items }
+        requires sorted { Ascends K.cmp entries.old.items }
+        ensures taken { IfOk result (λ m. entries.old.items ≡ entries.new.items ++ m) }
+        ensures count { IfOk result (λ m. length m ≡ count) }
+    {
+        if count == 0 {
+            return Ok(Map::new());
+        }
+        let right = Map::from_last(alloc, entries, count / 2)?;
+        let Some(entry) = entries.pop() else {
+            unreachable!()
+        };
+        let left = Map::from_last(alloc, entries, (count - 1) / 2)?;
+        Map::node(alloc, left, Arc::new(alloc, entry)?, right)
     }
 
     /// The same map, in constant time. It allocates nothing: the error is a count of owners that is full, at 2^63.
@@ -110,7 +150,8 @@ impl<K: Ord + Drop, V: Drop> Map<K, V> {
     }
 
     pub fn contains_key(&self, key: &K) -> bool
-        ensures { result ≡ is_some (lookup K.cmp key.now self.now) }
+        ensures found { result ≡ is_some (lookup K.cmp key.now self.now) }
+        ensures ascends { Ascends K.cmp self.now }
     {
         self.get(key).is_some()
     }

@@ -30,7 +30,7 @@ returns-in_ok-try_clone-in-Greater g t c =
     let f = is_node g.K.Ord.cmp c.self.view_is c.self.invariant c.in-Node.is in
     let p : g.K.Ord.cmp c.args.key.now c.in-Node.node.value.entry.value.0 ≡ Greater = cc in
     let h = removed_greater g.met.K.Ord.total c.args.key.now f p in
-    if_ok_is _ (cc (c.in_ok-right-in-Greater.ensures, c.in_ok-try_clone-in-Greater.ensures, c.in_ok-share-in-Greater.ensures, h.is)) c.balanced-in-Greater-2.ensures
+    if_ok_is _ (cc (c.in_ok-right-in-Greater.ensures, c.in_ok-try_clone-in-Greater.ensures, c.in_ok-share-in-Greater.ensures, h.is)) c.balanced-in-Greater.ensures
 
 pub joined-requires : goal.joined-requires
 joined-requires g t c =

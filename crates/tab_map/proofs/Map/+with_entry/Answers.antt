@@ -30,7 +30,7 @@ returns-in_ok-share-in-Equal-2 g t c =
     let f = is_node g.K.Ord.cmp c.self.view_is c.self.invariant c.in-Node.is in
     let p : g.K.Ord.cmp c.args.entry.value.0 c.in-Node.node.value.entry.value.0 ≡ Equal = cc in
     let h = inserted_equal g.met.K.Ord.total c.args.entry.value f p in
-    if_ok_is _ (cc (c.in_ok-share-in-Equal.ensures, c.in_ok-share-in-Equal-2.ensures, h.is)) c.node-in-Equal-2.ensures
+    if_ok_is _ (cc (c.in_ok-share-in-Equal.ensures, c.in_ok-share-in-Equal-2.ensures, h.is)) c.node-in-Equal.ensures
 
 pub balanced-requires-in-Greater : goal.balanced-requires-in-Greater
 balanced-requires-in-Greater g t c =
@@ -44,4 +44,4 @@ returns-in_ok-try_clone-in-Greater g t c =
     let f = is_node g.K.Ord.cmp c.self.view_is c.self.invariant c.in-Node.is in
     let p : g.K.Ord.cmp c.args.entry.value.0 c.in-Node.node.value.entry.value.0 ≡ Greater = cc in
     let h = inserted_greater g.met.K.Ord.total c.args.entry.value f p in
-    if_ok_is _ (cc (c.in_ok-right-in-Greater.ensures, c.in_ok-try_clone-in-Greater.ensures, c.in_ok-share-in-Greater.ensures, h.is)) c.balanced-in-Greater-2.ensures
+    if_ok_is _ (cc (c.in_ok-right-in-Greater.ensures, c.in_ok-try_clone-in-Greater.ensures, c.in_ok-share-in-Greater.ensures, h.is)) c.balanced-in-Greater.ensures

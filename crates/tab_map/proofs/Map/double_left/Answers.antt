@@ -12,4 +12,4 @@ pub node-requires-3 : goal.node-requires-3
 node-requires-3 g c = rw (c.in_ok-left.ensures, c.in_ok-try_clone-2.ensures, c.in_ok-right.ensures, c.in_ok-share.ensures, c.in_ok-share-2.ensures, c.in_ok-try_clone.ensures, c.in_ok-share-3.ensures, append_assoc) c.requires
 
 pub returns : goal.returns
-returns g c = rw (c.in_ok-left.ensures, c.in_ok-try_clone-2.ensures, c.in_ok-right.ensures, c.in_ok-share.ensures, c.in_ok-share-2.ensures, c.in_ok-try_clone.ensures, c.in_ok-share-3.ensures, append_assoc) at c.node-4.ensures
+returns g c = rw (c.in_ok-left.ensures, c.in_ok-try_clone-2.ensures, c.in_ok-right.ensures, c.in_ok-share.ensures, c.in_ok-share-2.ensures, c.in_ok-try_clone.ensures, c.in_ok-share-3.ensures, append_assoc) at c.node-3.ensures

@@ -8,4 +8,4 @@ pub node-requires-2 : goal.node-requires-2
 node-requires-2 g c = rw (c.in_ok-share-2.ensures, c.in_ok-try_clone.ensures, c.in_ok-right.ensures, c.in_ok-share.ensures) c.requires
 
 pub returns : goal.returns
-returns g c = rw (c.in_ok-share-2.ensures, c.in_ok-try_clone.ensures, c.in_ok-right.ensures, c.in_ok-share.ensures) at c.node-3.ensures
+returns g c = rw (c.in_ok-share-2.ensures, c.in_ok-try_clone.ensures, c.in_ok-right.ensures, c.in_ok-share.ensures) at c.node-2.ensures
