@@ -1,0 +1,5 @@
+pub mod Order
+pub mod AtNode
+pub mod Left
+pub mod OfKeys
+pub mod Taken

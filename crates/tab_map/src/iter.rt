@@ -1,0 +1,68 @@
+//! Iterators over a map's entries, which take no memory.
+ghost use Rattle.std.specs.Prelude.{◌≡◌};
+ghost use Rattle.std.specs.Iterator.{YieldsFirstRef, item_count};
+ghost use Rattle.tab_map.specs.Entries.{Ascends, entries_from};
+
+use crate::Map;
+use std::iter::FusedIterator;
+use std::marker::Model;
+
+/// The entries of a map in the order of their keys, seen as the list of those that are left.
+///
+/// It walks by key: each step finds the first entry above the last one, in O(log n).
+#[derive(Drop)]
+pub struct Iter<'a, K: Ord, V> {
+    map: &'a Map<K, V>,
+    next: Option<&'a (K, V)>,
+}
+
+impl<'a, K: Ord, V> Model for Iter<'a, K, V> {
+    ghost use Rattle.std.specs.Prelude.{List};
+
+    ghost Value = { List (K × V) };
+
+    ghost use Rattle.std.specs.Option.{option_copied};
+    ghost use Rattle.tab_map.specs.InOrder.{entries_left};
+
+    ghost view = { λ it. entries_left K.cmp it.map.now (option_copied it.next) };
+}
+
+impl<K: Ord + Drop, V: Drop> Map<K, V> {
+    /// The entries in the order of their keys.
+    pub fn iter<'a>(&'a self) -> Iter<'a, K, V>
+        ensures entries { result ≡ self.now }
+        ensures ascends { Ascends K.cmp self.now }
+    {
+        Iter {
+            map: self,
+            next: self.first(),
+        }
+    }
+
+    /// The entries whose keys are the given key or above it, in the order of their keys.
+    pub fn iter_from<'a>(&'a self, key: &K) -> Iter<'a, K, V>
+        ensures entries { result ≡ entries_from K.cmp key.now self.now }
+        ensures ascends { Ascends K.cmp self.now }
+    {
+        Iter {
+            map: self,
+            next: self.first_from(key),
+        }
+    }
+}
+
+impl<'a, K: Ord + Drop, V: Drop> Iterator for Iter<'a, K, V> {
+    type Item = &'a (K, V);
+
+    ghost next_gives = { YieldsFirstRef (λ left. left) };
+
+    ghost remaining = { item_count (λ left. left) };
+
+    fn next(&mut self) -> Option<&'a (K, V)> {
+        let entry = self.next?;
+        self.next = self.map.first_above(&entry.0);
+        Some(entry)
+    }
+}
+
+impl<'a, K: Ord + Drop, V: Drop> FusedIterator for Iter<'a, K, V> {}

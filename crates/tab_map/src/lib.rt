@@ -1,0 +1,480 @@
+//! A persistent ordered map: each change makes a new map, which shares with the old one all nodes but a path.
+//!
+//! A map is an AVL tree (Adelson-Velsky and Landis, 1962) whose nodes stand behind `Arc`, and contracts see it as
+//! the list of its entries in the order of their keys. A change takes O(log n) time and memory and leaves the old
+//! map as it was, also where an allocation is refused. The heights of the tree keep it balanced; no contract
+//! speaks of them.
+//!
+//! A map does not count its entries: the type that holds one keeps the number beside it, where it needs one.
+#![tactic(auto)]
+
+ghost use Rattle.std.specs.Prelude.{◌≡◌, ◌↔◌, ◌≤◌, [], ◌∷◌, ◌++◌, IfOk, MatchOption, IsTrue, length, slice_get, is_some};
+ghost use Rattle.std.specs.Option.{option_copied};
+ghost use Rattle.tab_map.specs.Entries.{Ascends, lookup, insert_entry, remove_entry, entries_from, entries_above};
+
+mod iter;
+mod set;
+
+pub use iter::Iter;
+pub use set::{Keys, Set};
+
+use std::alloc::{AllocError, Global};
+use std::cmp::Ordering;
+use std::marker::Model;
+use std::sync::Arc;
+
+/// A map from keys to values, in the order of the keys.
+#[cycle(tree)]
+pub struct Map<K: Ord, V> {
+    root: Tree<K, V>,
+}
+
+#[cycle(tree)]
+#[derive(Drop)]
+enum Tree<K: Ord, V> {
+    Leaf,
+    Node(Arc<Node<K, V>, Global>),
+}
+
+// The entry has an `Arc` of its own, so that a copy of the node copies neither key nor value.
+#[cycle(tree)]
+#[derive(Drop)]
+struct Node<K: Ord, V> {
+    left: Map<K, V>,
+    entry: Arc<(K, V), Global>,
+    height: u8,
+    right: Map<K, V>,
+}
+
+impl<K: Ord, V> Model for Map<K, V> {
+    ghost use Rattle.std.specs.Prelude.{List, length};
+
+    ghost Value = { List (K × V) };
+
+    ghost use Rattle.tab_map.specs.Entries.{Ascends};
+    ghost use Rattle.tab_map.specs.InOrder.{entries};
+
+    ghost view = { λ a. entries a.root };
+
+    ghost invariant = { λ a. Ascends K.cmp (entries a.root) };
+
+    ghost size = { length };
+
+    ghost use Rattle.std.proofs.Common.{arith, length-append};
+
+    ghost size_decreases = { λ a h. Prim.grind (arith, length-append) };
+}
+
+impl<K: Ord + Drop, V: Drop> Drop for Map<K, V> {
+    #[cycle(tree)]
+    fn drop(self) {
+        let Map { root } = self;
+        drop(root);
+    }
+}
+
+impl<K: Ord + Drop, V: Drop> Map<K, V> {
+    /// The empty map.
+    pub fn new() -> Map<K, V>
+        ensures { result ≡ [] }
+    {
+        Map { root: Tree::Leaf }
+    }
+
+    /// The map of entries that stand in the order of their keys, in O(n).
+    pub fn from_sorted(alloc: Global, mut entries: Vec<(K, V)>) -> Result<Map<K, V>, AllocError>
+        requires { Ascends K.cmp entries.items }
+        ensures { IfOk result (λ m. m ≡ entries.items) }
+    {
+        let count = entries.len();
+        Map::from_last(alloc, &mut entries, count)
+    }
+
+    // Takes the last `count` entries. Half of them are on each side of the root, so the tree is balanced.
+    fn from_last(
+        alloc: Global,
+        entries: &mut Vec<(K, V)>,
+        count: usize,
+    ) -> Result<Map<K, V>, AllocError>
+        requires enough { count ≤ length entries.old.items }
+        requires sorted { Ascends K.cmp entries.old.items }
+        ensures taken { IfOk result (λ m. entries.old.items ≡ entries.new.items ++ m) }
+        ensures count { IfOk result (λ m. length m ≡ count) }
+    {
+        if count == 0 {
+            return Ok(Map::new());
+        }
+        let right = Map::from_last(alloc, entries, count / 2)?;
+        let Some(entry) = entries.pop() else {
+            unreachable!()
+        };
+        let left = Map::from_last(alloc, entries, (count - 1) / 2)?;
+        Map::node(alloc, left, Arc::new(alloc, entry)?, right)
+    }
+
+    /// The same map, in constant time. It allocates nothing: the error is a count of owners that is full, at 2^63.
+    pub fn share(&self) -> Result<Map<K, V>, AllocError>
+        ensures { IfOk result (λ m. m ≡ self.now) }
+    {
+        match &self.root {
+            Tree::Leaf => Ok(Map::new()),
+            Tree::Node(node) => Ok(Map {
+                root: Tree::Node(Arc::try_clone(node)?),
+            }),
+        }
+    }
+
+    pub fn is_empty(&self) -> bool
+        ensures empty { IsTrue result ↔ (self.now ≡ []) }
+        ensures ascends { Ascends K.cmp self.now }
+    {
+        match &self.root {
+            Tree::Leaf => true,
+            Tree::Node(_) => false,
+        }
+    }
+
+    /// The value at the key.
+    pub fn get(&self, key: &K) -> Option<&V>
+        ensures value { option_copied result ≡ lookup K.cmp key.now self.now }
+        ensures ascends { Ascends K.cmp self.now }
+    {
+        match &self.root {
+            Tree::Leaf => None,
+            Tree::Node(node) => match key.cmp(&node.entry.0) {
+                Ordering::Less => node.left.get(key),
+                Ordering::Equal => Some(&node.entry.1),
+                Ordering::Greater => node.right.get(key),
+            },
+        }
+    }
+
+    pub fn contains_key(&self, key: &K) -> bool
+        ensures found { result ≡ is_some (lookup K.cmp key.now self.now) }
+        ensures ascends { Ascends K.cmp self.now }
+    {
+        self.get(key).is_some()
+    }
+
+    /// The entry with the least key.
+    pub fn first(&self) -> Option<&(K, V)>
+        ensures entry { option_copied result ≡ slice_get self.now 0 }
+        ensures ascends { Ascends K.cmp self.now }
+    {
+        match &self.root {
+            Tree::Leaf => None,
+            Tree::Node(node) => match node.left.first() {
+                None => Some(&node.entry),
+                found => found,
+            },
+        }
+    }
+
+    /// The entry with the least key that is the given key or above it.
+    pub fn first_from(&self, key: &K) -> Option<&(K, V)>
+        ensures entry { option_copied result ≡ slice_get (entries_from K.cmp key.now self.now) 0 }
+        ensures ascends { Ascends K.cmp self.now }
+    {
+        match &self.root {
+            Tree::Leaf => None,
+            Tree::Node(node) => match key.cmp(&node.entry.0) {
+                Ordering::Less => match node.left.first_from(key) {
+                    None => Some(&node.entry),
+                    found => found,
+                },
+                Ordering::Equal => Some(&node.entry),
+                Ordering::Greater => node.right.first_from(key),
+            },
+        }
+    }
+
+    /// The entry with the least key above the given key.
+    pub fn first_above(&self, key: &K) -> Option<&(K, V)>
+        ensures entry { option_copied result ≡ slice_get (entries_above K.cmp key.now self.now) 0 }
+        ensures ascends { Ascends K.cmp self.now }
+    {
+        match &self.root {
+            Tree::Leaf => None,
+            Tree::Node(node) => match key.cmp(&node.entry.0) {
+                Ordering::Less => match node.left.first_above(key) {
+                    None => Some(&node.entry),
+                    found => found,
+                },
+                Ordering::Equal => node.right.first(),
+                Ordering::Greater => node.right.first_above(key),
+            },
+        }
+    }
+
+    fn height(&self) -> u8 {
+        match &self.root {
+            Tree::Leaf => 0,
+            Tree::Node(node) => node.height,
+        }
+    }
+
+    fn node(
+        alloc: Global,
+        left: Map<K, V>,
+        entry: Arc<(K, V), Global>,
+        right: Map<K, V>,
+    ) -> Result<Map<K, V>, AllocError>
+        requires { Ascends K.cmp (left ++ entry.value ∷ right) }
+        ensures { IfOk result (λ m. m ≡ left ++ entry.value ∷ right) }
+    {
+        let height = left.height().max(right.height()).saturating_add(1);
+        let node = Arc::new(
+            alloc,
+            Node {
+                left,
+                entry,
+                height,
+                right,
+            },
+        )?;
+        Ok(Map {
+            root: Tree::Node(node),
+        })
+    }
+
+    // The same entries, where one side may be two levels higher than the other. No clause speaks of heights.
+    fn balanced(
+        alloc: Global,
+        left: Map<K, V>,
+        entry: Arc<(K, V), Global>,
+        right: Map<K, V>,
+    ) -> Result<Map<K, V>, AllocError>
+        requires { Ascends K.cmp (left ++ entry.value ∷ right) }
+        ensures { IfOk result (λ m. m ≡ left ++ entry.value ∷ right) }
+    {
+        if left.height() > right.height().saturating_add(1) {
+            Map::lean_left(alloc, left, entry, right)
+        } else if right.height() > left.height().saturating_add(1) {
+            Map::lean_right(alloc, left, entry, right)
+        } else {
+            Map::node(alloc, left, entry, right)
+        }
+    }
+
+    fn lean_left(
+        alloc: Global,
+        left: Map<K, V>,
+        entry: Arc<(K, V), Global>,
+        right: Map<K, V>,
+    ) -> Result<Map<K, V>, AllocError>
+        requires { Ascends K.cmp (left ++ entry.value ∷ right) }
+        ensures { IfOk result (λ m. m ≡ left ++ entry.value ∷ right) }
+    {
+        let Tree::Node(outer) = &left.root else {
+            return Map::node(alloc, left, entry, right);
+        };
+        let inner = &outer.right;
+        match &inner.root {
+            Tree::Node(middle) if outer.left.height() < middle.height => Map::double_left(
+                alloc, outer, middle, entry, right,
+            ),
+            _ => Map::single_left(alloc, outer, entry, right),
+        }
+    }
+
+    fn lean_right(
+        alloc: Global,
+        left: Map<K, V>,
+        entry: Arc<(K, V), Global>,
+        right: Map<K, V>,
+    ) -> Result<Map<K, V>, AllocError>
+        requires { Ascends K.cmp (left ++ entry.value ∷ right) }
+        ensures { IfOk result (λ m. m ≡ left ++ entry.value ∷ right) }
+    {
+        let Tree::Node(outer) = &right.root else {
+            return Map::node(alloc, left, entry, right);
+        };
+        let inner = &outer.left;
+        match &inner.root {
+            Tree::Node(middle) if outer.right.height() < middle.height => Map::double_right(
+                alloc, left, entry, outer, middle,
+            ),
+            _ => Map::single_right(alloc, left, entry, outer),
+        }
+    }
+
+    fn single_right(
+        alloc: Global,
+        left: Map<K, V>,
+        entry: Arc<(K, V), Global>,
+        outer: &Node<K, V>,
+    ) -> Result<Map<K, V>, AllocError>
+        requires { Ascends K.cmp (left ++ entry.value ∷ (outer.now.left ++ outer.now.entry.value ∷ outer.now.right)) }
+        ensures { IfOk result (λ m. m ≡ left ++ entry.value ∷ (outer.now.left ++ outer.now.entry.value ∷ outer.now.right)) }
+    {
+        let left = Map::node(alloc, left, entry, outer.left.share()?)?;
+        Map::node(
+            alloc,
+            left,
+            Arc::try_clone(&outer.entry)?,
+            outer.right.share()?,
+        )
+    }
+
+    fn double_right(
+        alloc: Global,
+        left: Map<K, V>,
+        entry: Arc<(K, V), Global>,
+        outer: &Node<K, V>,
+        middle: &Node<K, V>,
+    ) -> Result<Map<K, V>, AllocError>
+        requires { Ascends K.cmp (left ++ entry.value ∷ (middle.now.left ++ middle.now.entry.value ∷ (middle.now.right ++ outer.now.entry.value ∷ outer.now.right))) }
+        ensures { IfOk result (λ m. m ≡ left ++ entry.value ∷ (middle.now.left ++ middle.now.entry.value ∷ (middle.now.right ++ outer.now.entry.value ∷ outer.now.right))) }
+    {
+        let right = Map::node(
+            alloc,
+            middle.right.share()?,
+            Arc::try_clone(&outer.entry)?,
+            outer.right.share()?,
+        )?;
+        let left = Map::node(alloc, left, entry, middle.left.share()?)?;
+        Map::node(alloc, left, Arc::try_clone(&middle.entry)?, right)
+    }
+
+    fn single_left(
+        alloc: Global,
+        outer: &Node<K, V>,
+        entry: Arc<(K, V), Global>,
+        right: Map<K, V>,
+    ) -> Result<Map<K, V>, AllocError>
+        requires { Ascends K.cmp (outer.now.left ++ outer.now.entry.value ∷ (outer.now.right ++ entry.value ∷ right)) }
+        ensures { IfOk result (λ m. m ≡ outer.now.left ++ outer.now.entry.value ∷ (outer.now.right ++ entry.value ∷ right)) }
+    {
+        let right = Map::node(alloc, outer.right.share()?, entry, right)?;
+        Map::node(
+            alloc,
+            outer.left.share()?,
+            Arc::try_clone(&outer.entry)?,
+            right,
+        )
+    }
+
+    fn double_left(
+        alloc: Global,
+        outer: &Node<K, V>,
+        middle: &Node<K, V>,
+        entry: Arc<(K, V), Global>,
+        right: Map<K, V>,
+    ) -> Result<Map<K, V>, AllocError>
+        requires { Ascends K.cmp (outer.now.left ++ outer.now.entry.value ∷ (middle.now.left ++ middle.now.entry.value ∷ (middle.now.right ++ entry.value ∷ right))) }
+        ensures { IfOk result (λ m. m ≡ outer.now.left ++ outer.now.entry.value ∷ (middle.now.left ++ middle.now.entry.value ∷ (middle.now.right ++ entry.value ∷ right))) }
+    {
+        let right = Map::node(alloc, middle.right.share()?, entry, right)?;
+        let left = Map::node(
+            alloc,
+            outer.left.share()?,
+            Arc::try_clone(&outer.entry)?,
+            middle.left.share()?,
+        )?;
+        Map::node(alloc, left, Arc::try_clone(&middle.entry)?, right)
+    }
+
+    /// The map with this value at the key: in place of the value there, or as a new entry.
+    pub fn inserted(&self, alloc: Global, key: K, value: V) -> Result<Map<K, V>, AllocError>
+        ensures { IfOk result (λ m. m ≡ insert_entry K.cmp (key, value) self.now) }
+    {
+        let entry = Arc::new(alloc, (key, value))?;
+        self.with_entry(alloc, entry)
+    }
+
+    fn with_entry(
+        &self,
+        alloc: Global,
+        entry: Arc<(K, V), Global>,
+    ) -> Result<Map<K, V>, AllocError>
+        ensures { IfOk result (λ m. m ≡ insert_entry K.cmp entry.value self.now) }
+    {
+        match &self.root {
+            Tree::Leaf => Map::node(alloc, Map::new(), entry, Map::new()),
+            Tree::Node(node) => match entry.0.cmp(&node.entry.0) {
+                Ordering::Less => {
+                    let left = node.left.with_entry(alloc, entry)?;
+                    Map::balanced(
+                        alloc,
+                        left,
+                        Arc::try_clone(&node.entry)?,
+                        node.right.share()?,
+                    )
+                }
+                Ordering::Equal => Map::node(alloc, node.left.share()?, entry, node.right.share()?),
+                Ordering::Greater => {
+                    let right = node.right.with_entry(alloc, entry)?;
+                    Map::balanced(
+                        alloc,
+                        node.left.share()?,
+                        Arc::try_clone(&node.entry)?,
+                        right,
+                    )
+                }
+            },
+        }
+    }
+
+    /// The map without the entry at the key. A removal allocates too, since it copies the path to the entry.
+    pub fn removed(&self, alloc: Global, key: &K) -> Result<Map<K, V>, AllocError>
+        ensures { IfOk result (λ m. m ≡ remove_entry K.cmp key.now self.now) }
+    {
+        match &self.root {
+            Tree::Leaf => Ok(Map::new()),
+            Tree::Node(node) => match key.cmp(&node.entry.0) {
+                Ordering::Less => {
+                    let left = node.left.removed(alloc, key)?;
+                    Map::balanced(
+                        alloc,
+                        left,
+                        Arc::try_clone(&node.entry)?,
+                        node.right.share()?,
+                    )
+                }
+                Ordering::Equal => Map::joined(alloc, &node.left, &node.right),
+                Ordering::Greater => {
+                    let right = node.right.removed(alloc, key)?;
+                    Map::balanced(
+                        alloc,
+                        node.left.share()?,
+                        Arc::try_clone(&node.entry)?,
+                        right,
+                    )
+                }
+            },
+        }
+    }
+
+    fn joined(alloc: Global, left: &Map<K, V>, right: &Map<K, V>) -> Result<Map<K, V>, AllocError>
+        requires { Ascends K.cmp (left.now ++ right.now) }
+        ensures { IfOk result (λ m. m ≡ left.now ++ right.now) }
+    {
+        match right.split_first(alloc)? {
+            None => left.share(),
+            Some((entry, rest)) => Map::balanced(alloc, left.share()?, entry, rest),
+        }
+    }
+
+    fn split_first(
+        &self,
+        alloc: Global,
+    ) -> Result<Option<(Arc<(K, V), Global>, Map<K, V>)>, AllocError>
+        ensures { IfOk result (λ o. MatchOption o (self.now ≡ []) (λ p. self.now ≡ p.0.value ∷ p.1)) }
+    {
+        match &self.root {
+            Tree::Leaf => Ok(None),
+            Tree::Node(node) => match node.left.split_first(alloc)? {
+                None => Ok(Some((Arc::try_clone(&node.entry)?, node.right.share()?))),
+                Some((first, rest)) => {
+                    let rest = Map::balanced(
+                        alloc,
+                        rest,
+                        Arc::try_clone(&node.entry)?,
+                        node.right.share()?,
+                    )?;
+                    Ok(Some((first, rest)))
+                }
+            },
+        }
+    }
+}

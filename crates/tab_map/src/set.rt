@@ -1,0 +1,117 @@
+//! A persistent ordered set: a map whose values say nothing.
+ghost use Rattle.std.specs.Prelude.{◌≡◌, ◌↔◌, [], ◌∷◌, IfOk, IsTrue, slice_get};
+ghost use Rattle.std.specs.Iterator.{YieldsFirstRef, item_count};
+ghost use Rattle.std.specs.Option.{option_copied};
+ghost use Rattle.tab_map.specs.KeyList.{KeysAscend, contains_key, insert_key, remove_key};
+
+use crate::{Iter, Map};
+use std::alloc::{AllocError, Global};
+use std::iter::FusedIterator;
+use std::marker::Model;
+
+/// A set of keys in their order. Each change makes a new set, as with a [`Map`].
+#[derive(Drop)]
+pub struct Set<K: Ord> {
+    map: Map<K, ()>,
+}
+
+impl<K: Ord> Model for Set<K> {
+    ghost use Rattle.std.specs.Prelude.{List};
+
+    ghost Value = { List K };
+
+    ghost use Rattle.tab_map.specs.KeyList.{keys};
+
+    ghost view = { λ set. keys set.map };
+}
+
+impl<K: Ord + Drop> Set<K> {
+    /// The empty set.
+    pub fn new() -> Set<K>
+        ensures { result ≡ [] }
+    {
+        Set { map: Map::new() }
+    }
+
+    /// The same set, in constant time. It allocates nothing, as with a map.
+    pub fn share(&self) -> Result<Set<K>, AllocError>
+        ensures { IfOk result (λ set. set ≡ self.now) }
+    {
+        Ok(Set {
+            map: self.map.share()?,
+        })
+    }
+
+    pub fn is_empty(&self) -> bool
+        ensures empty { IsTrue result ↔ (self.now ≡ []) }
+        ensures ascends { KeysAscend K.cmp self.now }
+    {
+        self.map.is_empty()
+    }
+
+    pub fn contains(&self, key: &K) -> bool
+        ensures found { result ≡ contains_key K.cmp key.now self.now }
+        ensures ascends { KeysAscend K.cmp self.now }
+    {
+        self.map.contains_key(key)
+    }
+
+    /// The set with the key.
+    pub fn inserted(&self, alloc: Global, key: K) -> Result<Set<K>, AllocError>
+        ensures { IfOk result (λ set. set ≡ insert_key K.cmp key self.now) }
+    {
+        Ok(Set {
+            map: self.map.inserted(alloc, key, ())?,
+        })
+    }
+
+    /// The set without the key.
+    pub fn removed(&self, alloc: Global, key: &K) -> Result<Set<K>, AllocError>
+        ensures { IfOk result (λ set. set ≡ remove_key K.cmp key.now self.now) }
+    {
+        Ok(Set {
+            map: self.map.removed(alloc, key)?,
+        })
+    }
+
+    /// The keys in their order.
+    pub fn iter<'a>(&'a self) -> Keys<'a, K>
+        ensures keys { result ≡ self.now }
+        ensures ascends { KeysAscend K.cmp self.now }
+    {
+        Keys {
+            entries: self.map.iter(),
+        }
+    }
+}
+
+/// The keys of a set in their order, seen as the list of those that are left.
+#[derive(Drop)]
+pub struct Keys<'a, K: Ord> {
+    entries: Iter<'a, K, ()>,
+}
+
+impl<'a, K: Ord> Model for Keys<'a, K> {
+    ghost use Rattle.std.specs.Prelude.{List};
+
+    ghost Value = { List K };
+
+    ghost use Rattle.tab_map.specs.KeyList.{keys};
+
+    ghost view = { λ it. keys it.entries };
+}
+
+impl<'a, K: Ord + Drop> Iterator for Keys<'a, K> {
+    type Item = &'a K;
+
+    ghost next_gives = { YieldsFirstRef (λ left. left) };
+
+    ghost remaining = { item_count (λ left. left) };
+
+    fn next(&mut self) -> Option<&'a K> {
+        let entry = self.entries.next()?;
+        Some(&entry.0)
+    }
+}
+
+impl<'a, K: Ord + Drop> FusedIterator for Keys<'a, K> {}
