@@ -30,7 +30,7 @@ ordered-apply kind rows (change.Delete t k) o = ordered-filter (λ x. not (has_k
 ordered-apply kind rows (change.DeleteObject r) o = ordered-filter (λ x. not (same (term r) x)) rows o
 
 -- whether a record is there is seen at its key
-any_at : (r : PlainTerm) (rows : Rows) → list_any (same r) rows ≡ list_any (same r) (at rows (key r))
+pub any_at : (r : PlainTerm) (rows : Rows) → list_any (same r) rows ≡ list_any (same r) (at rows (key r))
 any_at r [] = refl
 any_at r (x ∷ rows) = cases (any_at r rows) (has_key (key r) x) refl (same r x) refl
   where
@@ -39,7 +39,7 @@ any_at r (x ∷ rows) = cases (any_at r rows) (has_key (key r) x) refl (same r x
     cases ih false e true f = absurd (false≢true (sym e ∙ ap (λ z. same (key z) (key r)) (sym (same_true r x f)) ∙ same_refl (key r)))
     cases ih false e false f = ih
 
-none_left : (rows : Rows) (k : PlainTerm) → delete (at rows k) k ≡ []
+pub none_left : (rows : Rows) (k : PlainTerm) → delete (at rows k) k ≡ []
 none_left [] k = refl
 none_left (x ∷ rows) k = cases (none_left rows k) (has_key k x) refl
   where
@@ -47,7 +47,7 @@ none_left (x ∷ rows) k = cases (none_left rows k) (has_key k x) refl
     cases ih true e = ap (λ b. if not b then x ∷ delete (at rows k) k else delete (at rows k) k) e ∙ ih
     cases ih false e = ih
 
-at_end : (rows : Rows) (r : PlainTerm) → insert r (at rows (key r)) ≡ at rows (key r) ++ r ∷ []
+pub at_end : (rows : Rows) (r : PlainTerm) → insert r (at rows (key r)) ≡ at rows (key r) ++ r ∷ []
 at_end [] r = refl
 at_end (x ∷ rows) r = cases (at_end rows r) (has_key (key r) x) refl (less (key r) (key x)) refl
   where

@@ -1,0 +1,39 @@
+-- Records as a map keeps them: by key, each key's records in the order of insertion.
+use Rattle.std.specs.Prelude.{◌≡◌, ◌≢◌, List, [], ◌∷◌, ◌++◌, true}
+use Rattle.std.specs.List.{list_all}
+use Rattle.std.specs.Ordering.{on, nat_cmp}
+use Rattle.std.specs.declared.cmp.Ordering.{Ordering}
+use Rattle.std.specs.Cmp.Lexicographic.{slice_cmp}
+use Rattle.tab_term.specs.declared.term.Term.{Term}
+use Rattle.tab_term.specs.View.{term}
+use Rattle.tab_term.specs.Canon.{canon}
+use Rattle.tab_term.specs.Data.{PlainTerms}
+use Rattle.tab_map.specs.Entries.{Ascends}
+use Rattle.tab_model.specs.Names.{terms_list}
+use Rattle.tab_model.specs.Tables.{Rows, has_key}
+
+-- the order of terms
+abbrev pub term_cmp : Term → Term → Ordering
+term_cmp = on (λ t. canon (term t)) (slice_cmp nat_cmp)
+
+abbrev pub Entry : Type 0
+Entry = Term × PlainTerms
+
+-- the records of all keys, one key after another
+abbrev pub joined : List Entry → Rows
+joined [] = []
+joined (e ∷ es) = terms_list e.1 ++ joined es
+
+-- a key has records, and they have that key
+pub record IsKeyed (e : Entry) : Type 0 where
+  pub keyed : list_all (has_key (term e.0)) (terms_list e.1) ≡ true
+  pub filled : terms_list e.1 ≢ []
+
+abbrev pub AllKeyed : List Entry → Type 0
+AllKeyed [] = Unit {0}
+AllKeyed (e ∷ es) = IsKeyed e × AllKeyed es
+
+-- what the map of a table's records keeps
+pub record IsInOrder (es : List Entry) : Type 0 where
+  pub ascends : Ascends term_cmp es
+  pub keyed : AllKeyed es

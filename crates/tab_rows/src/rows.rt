@@ -1,0 +1,169 @@
+ghost use Rattle.std.specs.Prelude.{◌≡◌, [], ◌∷◌, ◌++◌, IfOk, OnOk, OnErr, true};
+ghost use Rattle.std.specs.List.{list_any};
+ghost use Rattle.tab_model.specs.declared.data.Kind.TheVariants as Kind;
+ghost use Rattle.tab_term.specs.Same.{same};
+ghost use Rattle.tab_term.specs.View.{term, terms};
+ghost use Rattle.tab_model.specs.Names.{plain_terms, terms_list};
+ghost use Rattle.tab_model.specs.Tables.{at, key as key_of_row, put as put_in, delete as delete_in};
+
+use std::alloc::{AllocError, Global};
+use std::marker::Model;
+use tab_map::Map;
+use tab_model::Kind;
+use tab_term::{Term, Terms};
+
+/// The records of one table.
+pub struct Rows {
+    kind: Kind,
+    records: Map<Term, Terms>,
+}
+
+impl Model for Rows {
+    ghost use Rattle.std.specs.Prelude.{List};
+    ghost use Rattle.std.specs.Coded.{codes};
+    ghost use Rattle.tab_term.specs.Code.{term_code};
+    ghost use Rattle.tab_term.specs.Data.{PlainTerm};
+    ghost use Rattle.tab_model.specs.declared.data.Kind.{Kind};
+    ghost use Rattle.tab_rows.specs.Joined.{joined, IsInOrder};
+
+    ghost Value = { Kind × List PlainTerm };
+
+    ghost coded = { Prim.hlevel (codes, term_code) };
+
+    ghost view = { λ a. (a.kind, joined a.records) };
+
+    ghost invariant = { λ a. IsInOrder a.records };
+}
+
+impl Drop for Rows {
+    fn drop(self) {
+        let Rows { kind: _, records } = self;
+        drop(records);
+    }
+}
+
+impl Rows {
+    /// No records.
+    pub fn new(kind: Kind) -> Rows
+        ensures { result ≡ (kind, []) }
+    {
+        Rows { kind, records: Map::new() }
+    }
+
+    /// The same records, in constant time.
+    pub fn share(&self) -> Result<Rows, AllocError>
+        ensures { IfOk result (λ rows. rows ≡ self.now) }
+    {
+        Ok(Rows {
+            kind: self.kind,
+            records: self.records.share()?,
+        })
+    }
+
+    /// The records of the key, in the order of their insertion, without memory.
+    pub fn at(&self, key: &Term) -> &[Term]
+        ensures { terms result.now ≡ plain_terms (at self.now.1 (term key.now)) }
+    {
+        match self.records.get(key) {
+            Some(records) => records.as_slice(),
+            None => &[],
+        }
+    }
+
+    /// Copies of the records of the key, in the order of their insertion.
+    pub fn read(&self, alloc: Global, key: &Term) -> Result<Terms, AllocError>
+        ensures { IfOk result (λ records. records ≡ plain_terms (at self.now.1 (term key.now))) }
+    {
+        copies(alloc, self.at(key))
+    }
+
+    /// Writes a record. In a set it takes the place of its key's records; in a bag it comes after them, and where an
+    /// equal record is there already, nothing moves.
+    pub fn put(&mut self, alloc: Global, row: Term) -> Result<(), AllocError>
+        ensures ok { OnOk result (self.new ≡ (self.old.0, put_in self.old.0 self.old.1 (term row))) }
+        ensures err { OnErr result (self.new ≡ self.old) }
+    {
+        let key = copy_of_key(alloc, &row)?;
+        match self.kind {
+            Kind::Set => self.set(alloc, key, row),
+            Kind::Bag => self.add(alloc, key, row),
+        }
+    }
+
+    fn set(&mut self, alloc: Global, key: Term, row: Term) -> Result<(), AllocError>
+        requires keyed { term key ≡ key_of_row (term row) }
+        requires kind { self.old.0 ≡ Kind.Set }
+        ensures ok { OnOk result (self.new ≡ (self.old.0, put_in self.old.0 self.old.1 (term row))) }
+        ensures err { OnErr result (self.new ≡ self.old) }
+    {
+        let mut only = Vec::with_capacity(alloc, 1)?;
+        only.push(row)?;
+        self.records = self.records.inserted(alloc, key, Terms::from_vec(only))?;
+        Ok(())
+    }
+
+    fn add(&mut self, alloc: Global, key: Term, row: Term) -> Result<(), AllocError>
+        requires keyed { term key ≡ key_of_row (term row) }
+        requires kind { self.old.0 ≡ Kind.Bag }
+        ensures ok { OnOk result (self.new ≡ (self.old.0, put_in self.old.0 self.old.1 (term row))) }
+        ensures err { OnErr result (self.new ≡ self.old) }
+    {
+        if contains(self.at(&key), &row) {
+            return Ok(());
+        }
+        let records = copies_and(alloc, self.at(&key), row)?;
+        self.records = self.records.inserted(alloc, key, records)?;
+        Ok(())
+    }
+
+    /// Takes out all records of the key.
+    pub fn delete(&mut self, alloc: Global, key: &Term) -> Result<(), AllocError>
+        ensures ok { OnOk result (self.new ≡ (self.old.0, delete_in self.old.1 (term key.now))) }
+        ensures err { OnErr result (self.new ≡ self.old) }
+    {
+        self.records = self.records.removed(alloc, key)?;
+        Ok(())
+    }
+}
+
+fn contains(records: &[Term], row: &Term) -> bool
+    ensures { result ≡ list_any (same (term row.now)) (terms_list (terms records.now)) }
+{
+    for other in records {
+        if row == other {
+            return true;
+        }
+    }
+    false
+}
+
+fn copies_and(alloc: Global, records: &[Term], row: Term) -> Result<Terms, AllocError>
+    ensures { IfOk result (λ all. terms_list all ≡ terms_list (terms records.now) ++ term row ∷ []) }
+{
+    let mut all = copies(alloc, records)?.into_vec();
+    all.push(row)?;
+    Ok(Terms::from_vec(all))
+}
+
+/// The second element of a record, which is its key.
+fn copy_of_key(alloc: Global, row: &Term) -> Result<Term, AllocError>
+    ensures { IfOk result (λ k. term k ≡ key_of_row (term row.now)) }
+{
+    match row {
+        Term::Tuple(elements) => match elements.as_slice() {
+            [_, key, ..] => key.try_clone(alloc),
+            _ => Ok(Term::List(Terms::from_vec(Vec::new(alloc)))),
+        },
+        _ => Ok(Term::List(Terms::from_vec(Vec::new(alloc)))),
+    }
+}
+
+fn copies(alloc: Global, records: &[Term]) -> Result<Terms, AllocError>
+    ensures { IfOk result (λ copy. copy ≡ terms records.now) }
+{
+    let mut copies = Vec::with_capacity(alloc, records.len())?;
+    for row in records {
+        copies.push(row.try_clone(alloc)?)?;
+    }
+    Ok(Terms::from_vec(copies))
+}
