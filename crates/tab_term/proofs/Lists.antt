@@ -68,6 +68,13 @@ encodes_below (c ∷ cs) = omega (arith, length-append (encode c) (encodes cs), 
 pub bytes_of_chars : (s : List ℕ) → IsUtf8 s → length s ≤ 4 * length (chars s)
 bytes_of_chars s h = rw (encodes-chars s h) at (encodes_below (chars s))
 
+encodes_above : (cs : List ℕ) → length cs ≤ length (encodes cs)
+encodes_above [] = omega arith
+encodes_above (c ∷ cs) = omega (arith, length-append (encode c) (encodes cs), length-encode c, (len_utf8_bounds c).0, encodes_above cs)
+
+pub chars_of_bytes : (s : List ℕ) → IsUtf8 s → length (chars s) ≤ length s
+chars_of_bytes s h = rw (encodes-chars s h) at (encodes_above (chars s))
+
 -- ---- pairs
 
 abbrev pub pairs_push : PlainPairs → PlainTerm → PlainTerm → PlainPairs

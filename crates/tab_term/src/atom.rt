@@ -45,6 +45,17 @@ impl Atom {
         Ok(Atom { text })
     }
 
+    /// The atom of a text that is known to be short, as of a word of a command.
+    #[tactic(auto, using(crate::proofs::Lists::chars_of_bytes))]
+    pub fn from_short_text(alloc: Global, text: &str) -> Result<Atom, AllocError>
+        requires { length text.now ≤ 255 }
+        ensures { IfOk result (λ a. a ≡ text.now) }
+    {
+        Ok(Atom {
+            text: String::from_str(alloc, text)?,
+        })
+    }
+
     /// The text.
     #[tactic(auto, using(crate::proofs::Lists::bytes_of_chars))]
     pub fn as_str(&self) -> &str

@@ -14,6 +14,7 @@ ghost use Rattle.tab_term.specs.View.{term, terms};
 ghost use Rattle.tab_term.specs.Canon.{tag as tag_of, int_tag as int_tag_of, int_contents, list_tag as list_tag_of, all_bytes, is_byte_term as is_byte_term_of, is_byte as is_byte_of, fits_four as fits_four_of, sign_of, magnitude, significant, canon};
 ghost use Rattle.tab_term.specs.Order.{order, members_order, pairs_order};
 
+use crate::atom::Atom;
 use crate::term::{Pairs, Term, Terms};
 use std::cmp::Ordering;
 
@@ -96,6 +97,12 @@ fn compare_bytes(x: &[u8], y: &[u8]) -> Ordering
         Ordering::Greater => Ordering::Greater,
         Ordering::Equal => x.cmp(y),
     }
+}
+
+fn compare_atoms(x: &Atom, y: &Atom) -> Ordering
+    ensures { result ≡ ordering_then (nat_cmp (length x.now) (length y.now)) (slice_cmp nat_cmp x.now y.now) }
+{
+    compare_bytes(x.as_str().as_bytes(), y.as_str().as_bytes())
 }
 
 /// The bytes without the zeros at the end.
@@ -183,10 +190,7 @@ fn compare(a: &Term, b: &Term) -> Ordering
     }
     match (a, b) {
         (Term::Int(x), Term::Int(y)) => compare_ints(*x, *y),
-        (Term::Atom(x), Term::Atom(y)) => compare_bytes(
-            x.as_str().as_bytes(),
-            y.as_str().as_bytes(),
-        ),
+        (Term::Atom(x), Term::Atom(y)) => compare_atoms(x, y),
         (Term::Tuple(xs), Term::Tuple(ys)) => compare_all(xs, ys),
         (Term::List(xs), Term::List(ys)) => compare_all(xs, ys),
         (Term::Bin(x), Term::Bin(y)) => compare_bytes(x.as_slice(), y.as_slice()),
