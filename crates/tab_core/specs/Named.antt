@@ -1,0 +1,26 @@
+-- Tables as a map keeps them, by name.
+use Rattle.std.specs.Prelude.{◌≡◌, ℕ, List, [], ◌∷◌, map}
+use Rattle.std.specs.Ordering.{nat_cmp}
+use Rattle.std.specs.declared.cmp.Ordering.{Ordering}
+use Rattle.std.specs.Cmp.Lexicographic.{slice_cmp}
+use Rattle.tab_map.specs.Entries.{Ascends}
+use Rattle.tab_model.specs.Worlds.{World, Table, name_of}
+
+-- the order of names: byte by byte
+abbrev pub name_cmp : List ℕ → List ℕ → Ordering
+name_cmp = slice_cmp nat_cmp
+
+abbrev pub Entry : Type 0
+Entry = List ℕ × Table
+
+abbrev pub world_of : List Entry → World
+world_of es = map (λ e. e.1) es
+
+abbrev pub AllNamed : List Entry → Type 0
+AllNamed [] = Unit {0}
+AllNamed (e ∷ es) = (name_of e.1 ≡ e.0) × AllNamed es
+
+-- each table stands at its own name, and the names ascend
+pub record AreNamed (es : List Entry) : Type 0 where
+  pub ascends : Ascends name_cmp es
+  pub named : AllNamed es

@@ -1,0 +1,14 @@
+//! The core: a machine of steps over tables, sessions and their transactions.
+//!
+//! Each step is a function of the core's state as contracts see it (`outcome` of tab_model). One session with one
+//! level of transaction is served so far, and the commands that `is_served` names.
+
+#![tactic(auto)]
+
+
+
+mod table;
+mod tables;
+
+pub use table::Table;
+pub use tables::Tables;

@@ -1,0 +1,70 @@
+ghost use Rattle.std.specs.Prelude.{◌≡◌, [], IfOk, min, length};
+ghost use Rattle.std.specs.Option.{option_copied};
+ghost use Rattle.tab_model.specs.Worlds.{find, place};
+
+use std::alloc::{AllocError, Global};
+use std::marker::Model;
+use tab_map::Map;
+use tab_term::Atom;
+
+use crate::table::Table;
+
+/// All tables, by name. Sharing them takes constant time.
+pub struct Tables {
+    by_name: Map<Atom, Table>,
+}
+
+impl Model for Tables {
+    ghost use Rattle.std.specs.Coded.{codes};
+    ghost use Rattle.tab_term.specs.Code.{term_code};
+    ghost use Rattle.tab_model.specs.Worlds.{World};
+    ghost use Rattle.tab_core.specs.Named.{world_of, AreNamed};
+
+    ghost Value = { World };
+
+    ghost coded = { Prim.hlevel (codes, term_code) };
+
+    ghost view = { λ a. world_of a.by_name };
+
+    ghost invariant = { λ a. AreNamed a.by_name };
+}
+
+impl Drop for Tables {
+    fn drop(self) {
+        let Tables { by_name } = self;
+        drop(by_name);
+    }
+}
+
+impl Tables {
+    pub fn new() -> Tables
+        ensures { result ≡ [] }
+    {
+        Tables { by_name: Map::new() }
+    }
+
+    /// The same tables, in constant time.
+    pub fn share(&self) -> Result<Tables, AllocError>
+        ensures { IfOk result (λ tables. tables ≡ self.now) }
+    {
+        Ok(Tables {
+            by_name: self.by_name.share()?,
+        })
+    }
+
+    pub fn get(&self, name: &Atom) -> Option<&Table>
+        ensures { option_copied result ≡ find self.now name.now }
+    {
+        self.by_name.get(name)
+    }
+
+    /// The tables with this one in the place of the one of its name, or among them. These stay as they were.
+    pub fn placed(&self, alloc: Global, table: Table) -> Result<Tables, AllocError>
+        ensures { IfOk result (λ tables. tables ≡ place self.now table) }
+    {
+        let name = table.def().name.try_clone(alloc)?;
+        Ok(Tables {
+            by_name: self.by_name.inserted(alloc, name, table)?,
+        })
+    }
+}
