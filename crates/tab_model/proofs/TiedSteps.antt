@@ -140,7 +140,7 @@ kept_none : (b : Bool) → kept_if b None ≡ None
 kept_none true = refl
 kept_none false = refl
 
-batch_none : (n : ℕ) (es : List Event) → batch_for (λ u. None) n es ≡ []
+pub batch_none : (n : ℕ) (es : List Event) → batch_for (λ u. None) n es ≡ []
 batch_none n es = ap (as_batch n) (none es)
   where
     none : (es : List Event) → filter_map (λ e. shape_at None e) es ≡ []
