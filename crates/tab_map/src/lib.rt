@@ -14,6 +14,8 @@ ghost use Rattle.tab_map.specs.Entries.{Ascends, lookup, insert_entry, remove_en
 
 mod iter;
 mod set;
+#[cfg(test)]
+mod tests;
 
 pub use iter::Iter;
 pub use set::{Keys, Set};
