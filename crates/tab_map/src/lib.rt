@@ -19,7 +19,6 @@ mod tests;
 
 pub use iter::Iter;
 pub use set::{Keys, Set};
-
 use std::alloc::{AllocError, Global};
 use std::cmp::Ordering;
 use std::marker::Model;
@@ -384,11 +383,7 @@ impl<K: Ord + Drop, V: Drop> Map<K, V> {
         self.with_entry(alloc, entry)
     }
 
-    fn with_entry(
-        &self,
-        alloc: Global,
-        entry: Arc<(K, V), Global>,
-    ) -> Result<Map<K, V>, AllocError>
+    fn with_entry(&self, alloc: Global, entry: Arc<(K, V), Global>) -> Result<Map<K, V>, AllocError>
         ensures { IfOk result (λ m. m ≡ insert_entry K.cmp entry.value self.now) }
     {
         match &self.root {

@@ -54,12 +54,7 @@ struct World {
 }
 
 impl World {
-    fn with(
-        &self,
-        alloc: Global,
-        name: String,
-        table: Map<u32, u64>,
-    ) -> Result<World, AllocError>
+    fn with(&self, alloc: Global, name: String, table: Map<u32, u64>) -> Result<World, AllocError>
         ensures { IfOk result (λ w. w.tables ≡ insert_entry string_cmp (name, table) self.now.tables) }
     {
         Ok(World {
@@ -207,7 +202,10 @@ fn does_as_std(rt: HostRuntime) -> Result<(), Fail> {
         assert_eq!(rt; map.iter_from(key).next(), Some(&(*key, *value)));
     }
     assert_eq!(rt; entries.next(), None);
-    assert_eq!(rt; map.first().map(|entry| entry.0), std_map.first_key_value().map(|e| *e.0));
+    assert_eq!(rt;
+        map.first().map(|entry| entry.0),
+        std_map.first_key_value().map(|e| *e.0)
+    );
     Ok(())
 }
 
@@ -223,8 +221,16 @@ fn finds_around(rt: HostRuntime) -> Result<(), Fail> {
         (40, Some('d'), None),
         (45, None, None),
     ] {
-        assert_eq!(rt; map.first_from(&key).map(|entry| entry.1), from, "from {key}");
-        assert_eq!(rt; map.first_above(&key).map(|entry| entry.1), above, "above {key}");
+        assert_eq!(rt;
+            map.first_from(&key).map(|entry| entry.1),
+            from,
+            "from {key}"
+        );
+        assert_eq!(rt;
+            map.first_above(&key).map(|entry| entry.1),
+            above,
+            "above {key}"
+        );
     }
     assert_eq!(rt; levels(&map), 3);
     assert_eq!(rt; map.iter_from(&15).count(), 3);
@@ -251,28 +257,30 @@ fn sets(rt: HostRuntime) -> Result<(), Fail> {
 fn tables(rt: HostRuntime) -> Result<(), Fail> {
     let alloc = rt.alloc();
     let key = Term::Tuple([1i64, 2].iter().map(|n| Term::Integer(*n)).collect(alloc)?);
-    let rows = Rows {
-        rows: Map::new(),
-    };
+    let rows = Rows { rows: Map::new() };
     let atom = Term::Atom(String::from_str(alloc, "a")?);
     let rows = rows.with(alloc, key, Vec::new(alloc))?;
     let more = rows.with(alloc, atom, Vec::new(alloc))?;
     let atom = Term::Atom(String::from_str(alloc, "a")?);
     assert!(rt; more.records(&atom).is_some() && rows.records(&atom).is_none());
     assert!(rt; more.without(alloc, &atom)?.records(&atom).is_none());
-    let index = Index {
-        keys: Map::new(),
-    };
+    let index = Index { keys: Map::new() };
     let index = index.with(alloc, Term::Integer(7), Term::Integer(1))?;
     let index = index.with(alloc, Term::Integer(7), Term::Integer(2))?;
     for (key, wanted) in [(1, true), (2, true), (3, false)] {
-        assert_eq!(rt; index.has(&Term::Integer(7), &Term::Integer(key)), wanted, "at {key}");
+        assert_eq!(rt;
+            index.has(&Term::Integer(7), &Term::Integer(key)),
+            wanted,
+            "at {key}"
+        );
     }
-    let world = World {
-        tables: Map::new(),
-    };
+    let world = World { tables: Map::new() };
     let name = String::from_str(alloc, "squares")?;
-    let world = world.with(alloc, String::from_str(alloc, "squares")?, squares(alloc, 10)?)?;
+    let world = world.with(
+        alloc,
+        String::from_str(alloc, "squares")?,
+        squares(alloc, 10)?,
+    )?;
     assert_eq!(rt; world.table(&name).map(total), Some(285));
     if let Some(table) = world.table(&name) {
         assert!(rt; is_below(table, 82) && !is_below(table, 81));
