@@ -1,5 +1,5 @@
 -- What an operation on entries does to their keys.
-use Rattle.std.proofs.Common.{◌≡◌, List, [], ◌∷◌, refl, ap, map, None, Some, false, true}
+use Rattle.std.proofs.Common.{◌≡◌, List, [], ◌∷◌, refl, ap, None, Some, false, true}
 use Rattle.std.specs.Prelude.{is_some}
 use Rattle.std.specs.declared.cmp.Ordering.{Ordering}
 use Rattle.std.specs.declared.cmp.Ordering.TheVariants.{Less, Equal, Greater}

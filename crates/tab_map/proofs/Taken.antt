@@ -1,5 +1,5 @@
 -- What is left of a list from whose end a subtree, an entry and a subtree are taken.
-use Rattle.std.proofs.Common.{◌≡◌, ℕ, ◌+◌, List, [], ◌∷◌, ◌++◌, length, append_assoc, length-append, refl, ap, ◌∙◌, subst, arith}
+use Rattle.std.proofs.Common.{◌≡◌, ◌+◌, List, [], ◌∷◌, ◌++◌, length, append_assoc, length-append, refl, ap, ◌∙◌, subst}
 use Rattle.std.specs.declared.cmp.Ordering.{Ordering}
 use Rattle.tab_map.specs.Entries.{Ascends}
 use Rattle.tab_map.proofs.Order.{ascends_front, ascends_back}

@@ -14,10 +14,11 @@ ghost use Rattle.tab_map.specs.Entries.{Ascends, lookup, insert_entry, remove_en
 
 mod iter;
 mod set;
+#[cfg(test)]
+mod tests;
 
 pub use iter::Iter;
 pub use set::{Keys, Set};
-
 use std::alloc::{AllocError, Global};
 use std::cmp::Ordering;
 use std::marker::Model;
@@ -382,11 +383,7 @@ impl<K: Ord + Drop, V: Drop> Map<K, V> {
         self.with_entry(alloc, entry)
     }
 
-    fn with_entry(
-        &self,
-        alloc: Global,
-        entry: Arc<(K, V), Global>,
-    ) -> Result<Map<K, V>, AllocError>
+    fn with_entry(&self, alloc: Global, entry: Arc<(K, V), Global>) -> Result<Map<K, V>, AllocError>
         ensures { IfOk result (λ m. m ≡ insert_entry K.cmp entry.value self.now) }
     {
         match &self.root {

@@ -60,18 +60,16 @@ impl<K: Ord + Drop> Set<K> {
     pub fn inserted(&self, alloc: Global, key: K) -> Result<Set<K>, AllocError>
         ensures { IfOk result (λ set. set ≡ insert_key K.cmp key self.now) }
     {
-        Ok(Set {
-            map: self.map.inserted(alloc, key, ())?,
-        })
+        let with_key = self.map.inserted(alloc, key, ())?;
+        Ok(Set { map: with_key })
     }
 
     /// The set without the key.
     pub fn removed(&self, alloc: Global, key: &K) -> Result<Set<K>, AllocError>
         ensures { IfOk result (λ set. set ≡ remove_key K.cmp key.now self.now) }
     {
-        Ok(Set {
-            map: self.map.removed(alloc, key)?,
-        })
+        let without_key = self.map.removed(alloc, key)?;
+        Ok(Set { map: without_key })
     }
 
     /// The keys in their order.
