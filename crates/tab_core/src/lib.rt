@@ -7,8 +7,13 @@
 
 
 
+mod machine;
+mod operate;
+mod stepped;
+mod transaction;
 mod table;
 mod tables;
 
+pub use stepped::Stepped;
 pub use table::Table;
 pub use tables::Tables;
