@@ -223,3 +223,19 @@ module _ (w work : World) (session age : Option ℕ) (moves : List Move) (told :
       cases s None i = tt
       cases None (Some a) i = absurd i
       cases (Some n) (Some a) i = record { operations = operations_push moves o i.operations; sees = h.tables ∙ work_after w work a moves o i.sees h.works }
+
+pub commit_if : (w work w' : World) (session age : Option ℕ) (moves moves' : List Move) (told told' : List (Option Reply)) (over : List ℕ) (na cm gr : ℕ) (lim : Limits) (n a : ℕ) → session ≡ Some n → age ≡ Some a → IsOpenIn w session age moves work
+    → w' ≡ work → moves' ≡ moves → told' ≡ told → over ≡ []
+    → asked (state_of w session (transaction_of age moves told) na cm gr lim) command.Commit
+      ≡ record { state = state_of w' session None na (cm + 1) gr lim; reply = reply.Atomic (cm + 1); entry = Some (Committed (cm + 1) n a moves' told' over) }
+commit_if w work w' session age moves moves' told told' over na cm gr lim n a e f i ws ms ts os = cases session age e f i
+  where
+    cases : (s b : Option ℕ) → s ≡ Some n → b ≡ Some a → IsOpenIn w s b moves work
+        → asked (state_of w s (transaction_of b moves told) na cm gr lim) command.Commit ≡ record { state = state_of w' s None na (cm + 1) gr lim; reply = reply.Atomic (cm + 1); entry = Some (Committed (cm + 1) n a moves' told' over) }
+    cases None b e f i = cc
+    cases (Some m) None e f i = cc
+    cases (Some m) (Some b) e f i =
+        let p : m ≡ n = cc in
+        let q : b ≡ a = cc in
+        commits_now w work m (record { age = b; moves = moves; told = told }) na cm gr lim i.operations i.sees
+        ∙ (λ j. record { state = state_of (sym ws j) (Some m) None na (cm + 1) gr lim; reply = reply.Atomic (cm + 1); entry = Some (Committed (cm + 1) (p j) (q j) (sym ms j) (sym ts j) (sym os j)) })

@@ -2,18 +2,21 @@
 
 ghost use Rattle.std.specs.Prelude.{◌≡◌, ◌≤◌, ◌<◌, [], IfOk, OnErr, Some, None, true};
 ghost use Rattle.tab_model.specs.declared.data.Command.TheVariants as command;
-ghost use Rattle.tab_model.specs.declared.data.Limits.{Limits as LimitsOf};
+ghost use Rattle.tab_model.specs.declared.data.Schema.TheVariants as schema;
+ghost use Rattle.tab_term.specs.Data.{none};
+ghost use Rattle.tab_model.specs.Definitions.{parse_options, Good};
 ghost use Rattle.tab_model.specs.State.{new};
-ghost use Rattle.tab_model.specs.Outcome.{nothing};
-ghost use Rattle.tab_core.specs.Served.{serves, serves_operation, serves_schema};
-ghost use Rattle.tab_core.specs.Single.{asked};
+ghost use Rattle.tab_model.specs.Outcome.{nothing, unseated, Join};
+ghost use Rattle.tab_core.specs.Served.{serves_operation};
+ghost use Rattle.tab_core.specs.Single.{asked, no_outbox};
 
 use std::alloc::{AllocError, Global};
 use std::marker::Model;
+use std::mem;
 use tab_model::{
-    Atoms, Entry, Kind, Limit, Limits, Move, Moves, Numbers, Operation, Replies, Reply, Schema, TableDef,
+    Atoms, Entry, Kind, Limit, Limits, Move, Moves, Numbers, Replies, Reply, Schema, TableDef,
 };
-use tab_term::{Atom, Term};
+use tab_term::{Atom, Term, Terms};
 
 use crate::operate::{Effect, Performed, perform};
 use crate::stepped::Stepped;
@@ -164,4 +167,96 @@ impl Machine {
             }
         }
     }
+
+    /// Takes no memory.
+    pub fn commit(&mut self) -> Stepped
+        ensures { asked self.old command.Commit ≡ record { state = self.new; reply = result.reply; entry = result.entry } }
+    {
+        let Some(session) = self.session else {
+            return Stepped::without_entry(Reply::BadSession);
+        };
+        let Some(age) = self.open else {
+            return Stepped::without_entry(Reply::NoTransaction);
+        };
+        let moves = mem::replace(&mut self.moves, Vec::new(self.alloc));
+        let told = mem::replace(&mut self.told, Vec::new(self.alloc));
+        self.tables = mem::replace(&mut self.work, Tables::new());
+        self.open = None;
+        self.commits += 1;
+        Stepped {
+            reply: Reply::Atomic(self.commits),
+            entry: Some(Entry::Committed(
+                self.commits,
+                session as u64,
+                age,
+                Moves { items: moves },
+                Replies { items: told },
+                Numbers {
+                    items: Vec::new(self.alloc),
+                },
+            )),
+        }
+    }
+
+    pub fn create(&mut self, name: Atom) -> Result<Stepped, AllocError>
+        ensures ok { IfOk result (λ s. asked self.old (command.Schema (schema.Create name none)) ≡ record { state = self.new; reply = s.reply; entry = s.entry }) }
+        ensures err { OnErr result (self.new ≡ self.old) }
+    {
+        if self.session.is_none() {
+            return Ok(Stepped::without_entry(Reply::BadSession));
+        }
+        if self.open.is_some() {
+            return Ok(Stepped::without_entry(Reply::InTransaction));
+        }
+        if self.tables.get(&name).is_some() {
+            return Ok(Stepped::without_entry(Reply::AlreadyExists(name)));
+        }
+        if !self.tables.has_room(self.limits.tables) {
+            return Ok(Stepped::without_entry(Reply::SystemLimit(Limit::Tables)));
+        }
+        let table = Table::new(self.alloc, default_definition(self.alloc, &name)?)?;
+        self.tables = self.tables.placed(self.alloc, table)?;
+        Ok(Stepped {
+            reply: Reply::AtomicOk,
+            entry: Some(Entry::Changed(
+                Schema::Create(name, Terms::from_vec(Vec::new(self.alloc))),
+                Numbers {
+                    items: Vec::new(self.alloc),
+                },
+            )),
+        })
+    }
+
+    /// Of a session that has not joined. Takes no memory.
+    pub fn join(&mut self, session: u32) -> Reply
+        ensures { unseated self.old session (Join no_outbox) ≡ nothing self.new result }
+    {
+        if session <= self.greatest {
+            return Reply::BadSession;
+        }
+        if self.session.is_some() || self.limits.sessions == 0 {
+            return Reply::SystemLimit(Limit::Sessions);
+        }
+        self.session = Some(session);
+        self.open = None;
+        self.greatest = session;
+        Reply::Done
+    }
+}
+
+/// The definition of a table that is created without options: a set of the attributes `key` and `val`.
+fn default_definition(alloc: Global, name: &Atom) -> Result<TableDef, AllocError>
+    ensures { IfOk result (λ def. parse_options name.now none ≡ Good def) }
+{
+    let mut attributes = Vec::with_capacity(alloc, 2)?;
+    attributes.push(Atom::from_short_text(alloc, "key")?)?;
+    attributes.push(Atom::from_short_text(alloc, "val")?)?;
+    Ok(TableDef {
+        name: name.try_clone(alloc)?,
+        kind: Kind::Set,
+        attributes: Atoms { items: attributes },
+        indexes: Numbers {
+            items: Vec::new(alloc),
+        },
+    })
 }

@@ -1,4 +1,4 @@
-ghost use Rattle.std.specs.Prelude.{◌≡◌, [], IfOk, min, length};
+ghost use Rattle.std.specs.Prelude.{◌≡◌, [], IfOk, nat_lt, length};
 ghost use Rattle.std.specs.Option.{option_copied};
 ghost use Rattle.tab_model.specs.Worlds.{find, place};
 
@@ -66,5 +66,19 @@ impl Tables {
         Ok(Tables {
             by_name: self.by_name.inserted(alloc, name, table)?,
         })
+    }
+
+    /// Whether there are fewer tables than the limit.
+    pub fn has_room(&self, limit: u64) -> bool
+        ensures { result ≡ nat_lt (length self.now) limit }
+    {
+        let mut room = limit;
+        for _table in self.by_name.iter() {
+            if room == 0 {
+                return false;
+            }
+            room -= 1;
+        }
+        room > 0
     }
 }
