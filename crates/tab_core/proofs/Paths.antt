@@ -1,6 +1,6 @@
 -- What the one session is answered, path by path.
-use Rattle.std.proofs.Common.{◌≡◌, ℕ, zero, suc, ◌+◌, ◌<◌, ◌≤◌, List, [], ◌∷◌, ◌++◌, Bool, true, false, ◌||◌, ◌&&◌, not, refl, sym, ap, ap₂, ◌∙◌, subst, arith, length, Option, Some, None}
-use Rattle.std.specs.Prelude.{◌==◌, if◌then◌else◌, nat_lt, nat_le, is_some}
+use Rattle.std.proofs.Common.{◌≡◌, ◌≢◌, ℕ, zero, suc, ◌+◌, ◌<◌, ◌≤◌, List, [], ◌∷◌, ◌++◌, Bool, true, false, ◌||◌, ◌&&◌, not, refl, sym, ap, ap₂, ◌∙◌, subst, arith, length, Option, Some, None}
+use Rattle.std.specs.Prelude.{◌==◌, if◌then◌else◌, nat_eq, nat_lt, nat_le, is_some}
 use Rattle.std.specs.List.{list_any}
 use Rattle.std.proofs.lemmas.Bool.Decides.{nat_tests}
 use Rattle.tab_term.specs.declared.term.Term.{Term}
@@ -20,11 +20,11 @@ use Rattle.tab_model.specs.Locks.{Lock, needs, locks_of}
 use Rattle.tab_model.specs.Ages.{Owned, Granted, Wait, Die, opposes, decide}
 use Rattle.tab_model.specs.Slices.{as_batch, batch_for}
 use Rattle.tab_model.specs.State.{Transaction, Seat, State, with_age, ages_of, count_moves}
-use Rattle.tab_model.specs.Outcome.{Outcome, nothing, is_empty, change, ends, after_move, said, made, more, decided, within, operate, nested, batch_to, events_now}
+use Rattle.tab_model.specs.Outcome.{Ask, Join, Leave, Retry, Take, DoCommand, outcome, by_seat, seated, unseated, Outcome, nothing, is_empty, change, ends, after_move, said, made, more, decided, within, operate, nested, batch_to, events_now}
 use Rattle.tab_model.proofs.TiedSteps.{batch_none}
 use Rattle.tab_core.specs.declared.operate.Effect.{Effect}
 use Rattle.tab_core.specs.Performs.{HasEffect}
-use Rattle.tab_core.specs.Single.{no_outbox, transaction_of, seat_of, state_of, AllOperations, IsOpenIn, asked}
+use Rattle.tab_core.specs.Single.{IsAlone, no_outbox, transaction_of, seat_of, state_of, AllOperations, IsOpenIn, asked}
 
 itself : (n : ℕ) → (n == n) ≡ true
 itself n = grind (arith, nat_tests)
@@ -239,3 +239,47 @@ commit_if w work w' session age moves moves' told told' over na cm gr lim n a e 
         let q : b ≡ a = cc in
         commits_now w work m (record { age = b; moves = moves; told = told }) na cm gr lim i.operations i.sees
         ∙ (λ j. record { state = state_of (sym ws j) (Some m) None na (cm + 1) gr lim; reply = reply.Atomic (cm + 1); entry = Some (Committed (cm + 1) (p j) (q j) (sym ms j) (sym ts j) (sym os j)) })
+
+-- ---- who asks
+
+pub alone : (w : World) (session : Option ℕ) (t : Option Transaction) (na cm gr : ℕ) (lim : Limits) (n : ℕ) → session ≡ Some n → IsAlone (state_of w session t na cm gr lim) n
+unfolding outcome
+alone w None t na cm gr lim n e = cc
+alone w (Some m) t na cm gr lim n e = record {
+  command = λ c. seat_found (DoCommand c) ∙ refl;
+  join = λ b. seat_found (Join b);
+  retry = seat_found Retry;
+  take = seat_found Take;
+  leave = seat_found Leave ∙ ap (λ b. nothing (record { tables = w; seats = if b then [] else seat_of m t ∷ []; queue = []; next_age = na; commits = cm; greatest = gr; limits = lim }) reply.Done) (itself m);
+}
+  where
+    same : (m == n) ≡ true
+    same = let p : m ≡ n = cc in ap (λ k. k == n) p ∙ itself n
+    seat_found : (a : Ask) → by_seat (state_of w (Some m) t na cm gr lim) [] n a (if m == n then Some (seat_of m t) else None) ≡ seated (state_of w (Some m) t na cm gr lim) [] (seat_of m t) a
+    seat_found a = ap (λ b. by_seat (state_of w (Some m) t na cm gr lim) [] n a (if b then Some (seat_of m t) else None)) same
+
+pub no_one : (w : World) (t : Option Transaction) (na cm gr : ℕ) (lim : Limits) (n : ℕ) (a : Ask) → outcome (state_of w None t na cm gr lim) [] n a ≡ unseated (state_of w None t na cm gr lim) n a
+unfolding outcome
+no_one w t na cm gr lim n a = refl
+
+pub another : (w : World) (m : ℕ) (t : Option Transaction) (na cm gr : ℕ) (lim : Limits) (n : ℕ) (a : Ask) → m ≢ n → outcome (state_of w (Some m) t na cm gr lim) [] n a ≡ unseated (state_of w (Some m) t na cm gr lim) n a
+unfolding outcome
+another w m t na cm gr lim n a d = ap (λ b. by_seat (state_of w (Some m) t na cm gr lim) [] n a (if b then Some (seat_of m t) else None)) (differ m n d)
+  where
+    differ : (m n : ℕ) → m ≢ n → (m == n) ≡ false
+    differ m n d = grind (arith, nat_tests)
+
+pub seated_if : (w : World) (session : Option ℕ) (t : Option Transaction) (na cm gr : ℕ) (lim : Limits) (m n : ℕ) → session ≡ Some m → nat_eq m n ≡ true → IsAlone (state_of w session t na cm gr lim) n
+seated_if w session t na cm gr lim m n e h = alone w session t na cm gr lim n (e ∙ ap (λ k. Some k) (eq_is m n h))
+  where
+    eq_is : (m n : ℕ) → nat_eq m n ≡ true → m ≡ n
+    eq_is m n h = grind (arith, nat_tests)
+
+pub stranger_if : (w : World) (session : Option ℕ) (t : Option Transaction) (na cm gr : ℕ) (lim : Limits) (m n : ℕ) (a : Ask) → session ≡ Some m → nat_eq m n ≡ false → outcome (state_of w session t na cm gr lim) [] n a ≡ unseated (state_of w session t na cm gr lim) n a
+stranger_if w session t na cm gr lim m n a e h = subst (λ (s : Option ℕ). outcome (state_of w s t na cm gr lim) [] n a ≡ unseated (state_of w s t na cm gr lim) n a) (sym e) (another w m t na cm gr lim n a (other m n h))
+  where
+    other : (m n : ℕ) → nat_eq m n ≡ false → m ≢ n
+    other m n h = grind (arith, nat_tests)
+
+pub none_if : (w : World) (session : Option ℕ) (t : Option Transaction) (na cm gr : ℕ) (lim : Limits) (n : ℕ) (a : Ask) → session ≡ None → outcome (state_of w session t na cm gr lim) [] n a ≡ unseated (state_of w session t na cm gr lim) n a
+none_if w session t na cm gr lim n a e = subst (λ (s : Option ℕ). outcome (state_of w s t na cm gr lim) [] n a ≡ unseated (state_of w s t na cm gr lim) n a) (sym e) (no_one w t na cm gr lim n a)

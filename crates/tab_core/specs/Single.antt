@@ -9,7 +9,7 @@ use Rattle.tab_model.specs.declared.data.Reply.TheVariants as reply
 use Rattle.tab_model.specs.Worlds.{World}
 use Rattle.tab_model.specs.Alone.{start, after}
 use Rattle.tab_model.specs.State.{Transaction, Outbox, Seat, State}
-use Rattle.tab_model.specs.Outcome.{Outcome, nothing, do_command}
+use Rattle.tab_model.specs.Outcome.{Join, Leave, Retry, Take, DoCommand, Outcome, nothing, do_command, outcome}
 
 -- no item is ever put into it
 abbrev pub no_outbox : Outbox
@@ -70,3 +70,11 @@ asked_in σ (s ∷ seats) c = do_command σ [] s c
 
 abbrev pub asked : State → Command → Outcome
 asked σ c = asked_in σ σ.seats c
+
+-- the session is the only one, and waits for nothing: what it is answered
+pub record IsAlone (σ : State) (n : ℕ) : Type 0 where
+  pub command : (c : Command) → outcome σ [] n (DoCommand c) ≡ asked σ c
+  pub join : (b : Outbox) → outcome σ [] n (Join b) ≡ nothing σ reply.BadSession
+  pub retry : outcome σ [] n Retry ≡ nothing σ reply.NotWaiting
+  pub take : outcome σ [] n Take ≡ nothing σ reply.Empty
+  pub leave : outcome σ [] n Leave ≡ nothing (record { tables = σ.tables; seats = []; queue = []; next_age = σ.next_age; commits = σ.commits; greatest = σ.greatest; limits = σ.limits }) reply.Done

@@ -1,20 +1,20 @@
 //! The machine of one session: each step, command by command.
 
-ghost use Rattle.std.specs.Prelude.{◌≡◌, ◌≤◌, ◌<◌, [], IfOk, OnErr, Some, None, true};
+ghost use Rattle.std.specs.Prelude.{◌≡◌, ◌≤◌, ◌<◌, [], IfOk, OnErr, true, false};
 ghost use Rattle.tab_model.specs.declared.data.Command.TheVariants as command;
 ghost use Rattle.tab_model.specs.declared.data.Schema.TheVariants as schema;
 ghost use Rattle.tab_term.specs.Data.{none};
 ghost use Rattle.tab_model.specs.Definitions.{parse_options, Good};
 ghost use Rattle.tab_model.specs.State.{new};
-ghost use Rattle.tab_model.specs.Outcome.{nothing, unseated, Join};
-ghost use Rattle.tab_core.specs.Served.{serves_operation};
-ghost use Rattle.tab_core.specs.Single.{asked, no_outbox};
+ghost use Rattle.tab_model.specs.Outcome.{Ask, Join, Leave, DoCommand, nothing, unseated, outcome};
+ghost use Rattle.tab_core.specs.Served.{serves, serves_operation};
+ghost use Rattle.tab_core.specs.Single.{asked, no_outbox, IsAlone};
 
 use std::alloc::{AllocError, Global};
 use std::marker::Model;
 use std::mem;
 use tab_model::{
-    Atoms, Entry, Kind, Limit, Limits, Move, Moves, Numbers, Replies, Reply, Schema, TableDef,
+    Atoms, Command, Entry, Kind, Limit, Limits, Move, Moves, Numbers, Replies, Reply, Schema, TableDef,
 };
 use tab_term::{Atom, Term, Terms};
 
@@ -22,7 +22,7 @@ use crate::operate::{Effect, Performed, perform};
 use crate::stepped::Stepped;
 use crate::table::Table;
 use crate::tables::Tables;
-use crate::transaction::{Pending, push_move, push_told};
+use crate::transaction::{Pending, Request, push_move, push_told};
 
 /// At most one session, and one level of its transaction.
 pub struct Machine {
@@ -241,6 +241,48 @@ impl Machine {
         self.open = None;
         self.greatest = session;
         Reply::Done
+    }
+
+    /// Takes no memory.
+    pub fn leave(&mut self, session: u32) -> Reply
+        ensures { outcome self.old [] session Leave ≡ nothing self.new result }
+    {
+        if !self.is_seated(session) {
+            return Reply::BadSession;
+        }
+        self.session = None;
+        self.open = None;
+        Reply::Done
+    }
+
+    /// Whether this session has joined.
+    pub fn is_seated(&self, session: u32) -> bool
+        ensures seated { result ≡ true → IsAlone self.now session }
+        ensures stranger { result ≡ false → (a : Ask) → outcome self.now [] session a ≡ unseated self.now session a }
+    {
+        match self.session {
+            Some(number) => number == session,
+            None => false,
+        }
+    }
+
+    /// A command of a session.
+    pub fn command(&mut self, session: u32, request: Request) -> Result<Stepped, AllocError>
+        requires { serves request.command ≡ true }
+        ensures ok { IfOk result (λ s. outcome self.old [] session (DoCommand request.command) ≡ record { state = self.new; reply = s.reply; entry = s.entry }) }
+        ensures err { OnErr result (self.new ≡ self.old) }
+    {
+        if !self.is_seated(session) {
+            return Ok(Stepped::without_entry(Reply::BadSession));
+        }
+        match request.into_command() {
+            Command::Begin => Ok(Stepped::without_entry(self.begin()?)),
+            Command::Commit => Ok(self.commit()),
+            Command::Abort(reason) => Ok(Stepped::without_entry(self.abort(reason))),
+            Command::Do(operation) => Ok(Stepped::without_entry(self.operate(Pending { operation })?)),
+            Command::Schema(Schema::Create(name, _)) => self.create(name),
+            _ => unreachable!(),
+        }
     }
 }
 

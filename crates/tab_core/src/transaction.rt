@@ -1,6 +1,6 @@
 ghost use Rattle.std.specs.Prelude.{◌≡◌, ◌<◌, [], ◌∷◌, ◌++◌, vec_len, vec_capacity};
 
-use tab_model::{Move, Operation, Reply};
+use tab_model::{Command, Move, Operation, Reply};
 
 /// An operation that waits for its place in the trace.
 pub struct Pending {
@@ -11,6 +11,27 @@ impl Drop for Pending {
     fn drop(self) {
         let Pending { operation } = self;
         drop(operation);
+    }
+}
+
+/// A command that waits to be looked at.
+pub struct Request {
+    pub command: Command,
+}
+
+impl Drop for Request {
+    fn drop(self) {
+        let Request { command } = self;
+        drop(command);
+    }
+}
+
+impl Request {
+    pub fn into_command(self) -> Command
+        ensures { result ≡ self.command }
+    {
+        let Request { command } = self;
+        command
     }
 }
 
