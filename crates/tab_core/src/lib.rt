@@ -10,10 +10,12 @@
 mod machine;
 mod operate;
 mod stepped;
+mod steps;
 mod transaction;
 mod table;
 mod tables;
 
 pub use stepped::Stepped;
+pub use steps::Step;
 pub use table::Table;
 pub use tables::Tables;

@@ -6,7 +6,8 @@ ghost use Rattle.tab_model.specs.declared.data.Schema.TheVariants as schema;
 ghost use Rattle.tab_term.specs.Data.{none};
 ghost use Rattle.tab_model.specs.Definitions.{parse_options, Good};
 ghost use Rattle.tab_model.specs.State.{new};
-ghost use Rattle.tab_model.specs.Outcome.{Ask, Join, Leave, DoCommand, nothing, unseated, outcome};
+ghost use Rattle.tab_core.specs.Runs.{Makes, ask_of, serves_step};
+ghost use Rattle.tab_model.specs.Outcome.{Ask, Join, Leave, Retry, Take, DoCommand, nothing, unseated, outcome};
 ghost use Rattle.tab_core.specs.Served.{serves, serves_operation};
 ghost use Rattle.tab_core.specs.Single.{asked, no_outbox, IsAlone};
 
@@ -20,6 +21,7 @@ use tab_term::{Atom, Term, Terms};
 
 use crate::operate::{Effect, Performed, perform};
 use crate::stepped::Stepped;
+use crate::steps::Step;
 use crate::table::Table;
 use crate::tables::Tables;
 use crate::transaction::{Pending, Request, push_move, push_told};
@@ -283,6 +285,43 @@ impl Machine {
             Command::Schema(Schema::Create(name, _)) => self.create(name),
             _ => unreachable!(),
         }
+    }
+
+    pub fn step(&mut self, session: u32, step: Step) -> Result<Stepped, AllocError>
+        requires { serves_step step ≡ true }
+        ensures done { IfOk result (λ s. Makes self.old session (ask_of step) s self.new) }
+        ensures err { OnErr result (self.new ≡ self.old) }
+    {
+        match step {
+            Step::Join => Ok(Stepped::without_entry(self.seat(session))),
+            Step::Leave => Ok(Stepped::without_entry(self.leave(session))),
+            Step::Retry => Ok(Stepped::without_entry(self.retry(session))),
+            Step::Take => Ok(Stepped::without_entry(self.take(session))),
+            Step::Do(command) => self.command(session, Request { command }),
+        }
+    }
+
+    fn seat(&mut self, session: u32) -> Reply
+        ensures { outcome self.old [] session (Join no_outbox) ≡ nothing self.new result }
+    {
+        if self.is_seated(session) {
+            return Reply::BadSession;
+        }
+        self.join(session)
+    }
+
+    /// No one waits, since there is one session.
+    fn retry(&self, session: u32) -> Reply
+        ensures { outcome self.now [] session Retry ≡ nothing self.now result }
+    {
+        if self.is_seated(session) { Reply::NotWaiting } else { Reply::BadSession }
+    }
+
+    /// No one has an item, since no one subscribes.
+    fn take(&self, session: u32) -> Reply
+        ensures { outcome self.now [] session Take ≡ nothing self.now result }
+    {
+        if self.is_seated(session) { Reply::Empty } else { Reply::BadSession }
     }
 }
 
