@@ -9,12 +9,14 @@
 
 mod machine;
 mod operate;
+mod running;
 mod stepped;
 mod steps;
 mod transaction;
 mod table;
 mod tables;
 
+pub use running::Core;
 pub use stepped::Stepped;
 pub use steps::Step;
 pub use table::Table;

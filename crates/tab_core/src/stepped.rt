@@ -15,4 +15,13 @@ impl Stepped {
     {
         Stepped { reply, entry: None }
     }
+
+    /// The reply alone.
+    pub fn into_reply(self) -> Reply
+        ensures { result ≡ self.reply }
+    {
+        let Stepped { reply, entry } = self;
+        drop(entry);
+        reply
+    }
 }

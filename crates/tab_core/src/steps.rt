@@ -1,6 +1,7 @@
 use tab_model::Command;
 
 /// What a session asks.
+#[derive(Drop)]
 pub enum Step {
     /// Takes a session number greater than all that joined before.
     Join,

@@ -1,0 +1,14 @@
+use Rattle.std.proofs.Common.{◌≡◌, ◌+◌, ◌≤◌, List, ◌++◌, length, vec_len, vec_capacity}
+use Rattle.std.specs.Vec.Iter.{into_iter_items, into_iter_len}
+use Rattle.tab_model.specs.declared.data.Entry.{Entry}
+use Rattle.tab_model.specs.declared.data.Reply.{Reply}
+use Rattle.tab_model.specs.State.{State}
+use Rattle.tab_core.specs.Runs.{Ran, AllServed, asks_of}
+use Rattle.tab_core.proofs.RunLemmas.{IsRunning}
+use Rattle.tab_core.proofs.running.Core.run_steps.Given as goal
+
+-- what a run of the rest gives is a run of all
+abbrev pub invariant-loop-session : goal.invariant-loop-session
+invariant-loop-session l = IsRunning l.fn.self l.self l.fn.steps.items (into_iter_items l.session-iterator) l.replies.items
+    × (vec_len l.replies + length (into_iter_items l.session-iterator) ≤ vec_capacity l.replies)
+    × (into_iter_len l.session-iterator ≡ length (into_iter_items l.session-iterator))
