@@ -1,0 +1,2 @@
+pub mod Spells
+pub mod Reading

@@ -2,5 +2,10 @@
 #![tactic(auto)]
 
 mod counted;
+mod decoding;
+mod fault;
+mod leaf;
 
 pub use counted::{Broken, Counted};
+pub use decoding::{decode, spellings_are_apart};
+pub use fault::{EtfFault, Fault};
