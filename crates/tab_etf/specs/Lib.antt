@@ -1,2 +1,3 @@
 pub mod Spells
 pub mod Reading
+pub mod Writing

@@ -5,6 +5,8 @@ mod counted;
 mod decoding;
 mod fault;
 mod leaf;
+mod pending;
+mod spelling;
 
 pub use counted::{Broken, Counted};
 pub use decoding::{decode, spellings_are_apart};
