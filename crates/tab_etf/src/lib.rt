@@ -5,9 +5,11 @@ mod counted;
 mod decoding;
 mod fault;
 mod leaf;
+mod measuring;
 mod pending;
 mod spelling;
 
 pub use counted::{Broken, Counted};
 pub use decoding::{decode, spellings_are_apart};
 pub use fault::{EtfFault, Fault};
+pub use measuring::encoded_len;

@@ -14,13 +14,13 @@ use tab_term::{Pairs, Term, Terms};
 
 // ---- integers
 
-fn is_in_byte(z: i128) -> bool
+pub fn is_in_byte(z: i128) -> bool
     ensures { result ≡ is_byte z }
 {
     0 <= z && z < 256
 }
 
-fn is_in_four(z: i128) -> bool
+pub fn is_in_four(z: i128) -> bool
     ensures { result ≡ fits_four z }
 {
     -2147483648 <= z && z < 2147483648
