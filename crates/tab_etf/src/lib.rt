@@ -4,12 +4,16 @@
 mod counted;
 mod decoding;
 mod fault;
+mod framing;
 mod leaf;
 mod measuring;
 mod pending;
 mod spelling;
+mod splitting;
 
 pub use counted::{Broken, Counted};
 pub use decoding::{decode, spellings_are_apart};
 pub use fault::{EtfFault, Fault};
+pub use framing::{Frame, FrameFault};
 pub use measuring::encoded_len;
+pub use splitting::Splitter;
