@@ -1,7 +1,7 @@
 -- Writing one thing after another.
 use Rattle.std.proofs.Common.{◌≡◌, ℕ, ◌+◌, ◌-◌, ◌^◌, ◌<◌, ◌≤◌, min, Bool, true, false, List, [], ◌∷◌, ◌++◌, length, take, Option, Some, None, refl, sym, ap, subst, ◌∙◌, append_assoc, arith, length-append}
 use Rattle.std.specs.Io.KnownBytes.{Appends}
-use Rattle.std.proofs.lemmas.List.{append-nil, take-append-le, take_min}
+use Rattle.std.proofs.lemmas.List.{append-nil, take-append-le, take_min, length-take}
 use Rattle.std.proofs.Math.Seq.{take-append-add}
 use Rattle.tab_etf.specs.Writing.{Output, HasFaults, Leads, Grows, KnownGrows, Puts, Hands}
 
@@ -87,3 +87,35 @@ hands_out failed failed' faults faults' sent sent' kept kept' all h e n =
 
 pub puts_as : (a b : Output) (s t : List ℕ) → Puts a b s → s ≡ t → Puts a b t
 puts_as a b s t p e = subst (λ (x : List ℕ). Puts a b x) e p
+
+-- ---- all is handed over
+
+known_done : (a b : Output) (x y : Option (List ℕ)) (s : List ℕ) → a.failed ≡ false → b.failed ≡ false → a.kept ≡ [] → b.kept ≡ [] → KnownGrows a x b y s → Appends x y s
+known_done a b None y s fa fb ka kb h = tt
+known_done a b (Some xs) None s fa fb ka kb h = absurd h
+known_done a b (Some xs) (Some ys) s fa fb ka kb h =
+    let l = h.leads [] (xs ++ s) in
+    let l' = rw (fa, fb, ka, kb, append-nil) at l in
+    sym (append-nil ys) ∙ l' refl
+
+pub puts_done : (a b : Output) (s : List ℕ) → a.failed ≡ false → b.failed ≡ false → a.kept ≡ [] → b.kept ≡ [] → Puts a b s → Appends a.sent b.sent s × (b.faults ≡ a.faults)
+puts_done a b s fa fb ka kb p =
+    let f = rw (fa, fb) at (p.faults a.faults) in
+    (known_done a b a.sent b.sent s fa fb ka kb p.text, f refl)
+
+known_cut : (a b : Output) (x y : Option (List ℕ)) (s : List ℕ) → a.failed ≡ false → b.failed ≡ true → a.kept ≡ [] → KnownGrows a x b y s → (n : ℕ) × Appends x y (take n s)
+known_cut a b None y s fa fb ka h = (0, tt)
+known_cut a b (Some xs) None s fa fb ka h = absurd h
+known_cut a b (Some xs) (Some ys) s fa fb ka h =
+    let l = h.leads [] (xs ++ s) in
+    let l' = rw (fa, fb, ka, append-nil) at l in
+    let p = l' refl in
+    let n = p.0 in
+    let enough : length xs ≤ n = omega (arith, h.longer, ap length p.1, length-take n (xs ++ s)) in
+    let m : n ≡ length xs + (n - length xs) = omega arith in
+    (n - length xs, p.1 ∙ ap (λ k. take k (xs ++ s)) m ∙ take-append-add xs s (n - length xs))
+
+pub puts_cut : (a b : Output) (s : List ℕ) → a.failed ≡ false → b.failed ≡ true → a.kept ≡ [] → Puts a b s → ((n : ℕ) × Appends a.sent b.sent (take n s)) × (b.faults ≡ min (a.faults + 1) (2 ^ 64 - 1))
+puts_cut a b s fa fb ka p =
+    let f = rw (fa, fb) at (p.faults a.faults) in
+    (known_cut a b a.sent b.sent s fa fb ka p.text, f refl)

@@ -1,5 +1,9 @@
 -- Bytes on their way to a device. Some are kept until there are enough of them, and after a fault no more are written.
-use Rattle.std.specs.Prelude.{◌≡◌, ℕ, ◌+◌, ◌≤◌, ◌^◌, ◌-◌, min, List, [], ◌∷◌, ◌++◌, length, take, Bool, true, false, Option, Some, None}
+use Rattle.std.specs.Prelude.{◌≡◌, ℕ, ◌+◌, ◌<◌, ◌≤◌, ◌^◌, ◌-◌, min, List, [], ◌∷◌, ◌++◌, length, take, Bool, true, false, Option, Some, None}
+use Rattle.std.specs.Io.KnownBytes.{Appends}
+use Rattle.tab_etf.specs.Frames.{frame}
+use Rattle.tab_etf.specs.declared.framing.FrameFault.{FrameFault}
+use Rattle.tab_etf.specs.declared.framing.FrameFault.TheVariants.{FrameTooLong, CutOff, Device, NoMemory}
 use Rattle.tab_etf.specs.declared.counted.Counted.{Counted}
 use Rattle.tab_etf.specs.declared.pending.Pending.{Pending}
 
@@ -41,3 +45,9 @@ abbrev pub Hands : Bool → ℕ → Option (List ℕ) → Bool → ℕ → Optio
 Hands failed faults sent failed' faults' sent' all =
     (kept bytes : List ℕ) → all ≡ kept ++ bytes
     → Puts (record { failed = failed; faults = faults; sent = sent; kept = kept }) (record { failed = failed'; faults = faults'; sent = sent'; kept = [] }) bytes
+
+-- why the frame of a payload was not written, and what was
+abbrev pub IsUnwritten : FrameFault → List ℕ → Option (List ℕ) → Option (List ℕ) → ℕ → ℕ → Type 0
+IsUnwritten (FrameTooLong n) payload old new faults faults' = (4294967295 < length payload) × (n ≡ 4294967295) × (new ≡ old) × (faults' ≡ faults)
+IsUnwritten Device payload old new faults faults' = (length payload ≤ 4294967295) × ((n : ℕ) × Appends old new (take n (frame payload))) × (faults' ≡ min (faults + 1) (2 ^ 64 - 1))
+IsUnwritten _ payload old new faults faults' = ⊥

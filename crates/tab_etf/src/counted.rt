@@ -36,6 +36,13 @@ impl<T> Counted<T> {
         self.faults
     }
 
+    /// The reader or writer itself.
+    pub fn into_inner(self) -> T
+        ensures { result ≡ self.inner }
+    {
+        self.inner
+    }
+
     fn fault(&mut self) -> Broken
         ensures faults { self.new.faults ≡ min (self.old.faults + 1) u64.MAX }
         ensures inner { self.new.inner ≡ self.old.inner }

@@ -3,6 +3,7 @@
 
 mod counted;
 mod decoding;
+mod encoding;
 mod fault;
 mod framing;
 mod leaf;
@@ -13,6 +14,7 @@ mod splitting;
 
 pub use counted::{Broken, Counted};
 pub use decoding::{decode, spellings_are_apart};
+pub use encoding::{EncodeFault, append_frame, encode, write_frame};
 pub use fault::{EtfFault, Fault};
 pub use framing::{Frame, FrameFault};
 pub use measuring::encoded_len;
