@@ -5,3 +5,4 @@ pub mod Frames
 pub mod Streams
 pub mod Feeding
 pub mod Fronts
+pub mod Arrivals

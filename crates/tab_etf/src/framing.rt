@@ -42,6 +42,17 @@ impl From<AllocError> for FrameFault {
 }
 
 impl Frame {
+    /// The frame of these bytes, which it keeps.
+    pub(crate) fn from_vec(payload: Vec<u8>) -> Frame
+        ensures payload { payload_of result ≡ payload.items }
+        ensures told { IsTold result }
+    {
+        if payload.is_empty() {
+            return Frame::Empty;
+        }
+        Frame::Payload(payload)
+    }
+
     /// The frame of these bytes.
     pub(crate) fn of(alloc: Global, payload: &[u8]) -> Result<Frame, AllocError>
         ensures payload { IfOk result (λ f. payload_of f ≡ payload.now) }

@@ -9,6 +9,7 @@ mod framing;
 mod leaf;
 mod measuring;
 mod pending;
+mod receiving;
 mod spelling;
 mod splitting;
 
