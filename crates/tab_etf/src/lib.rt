@@ -19,4 +19,5 @@ pub use encoding::{EncodeFault, append_frame, encode, write_frame};
 pub use fault::{EtfFault, Fault};
 pub use framing::{Frame, FrameFault};
 pub use measuring::encoded_len;
+pub use receiving::read_frame;
 pub use splitting::Splitter;

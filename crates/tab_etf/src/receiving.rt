@@ -70,3 +70,32 @@ fn read_payload<R: Read>(alloc: Global, reader: &mut Counted<R>, count: usize) -
     }
     Ok(Frame::from_vec(payload))
 }
+
+/// The next frame of a reader; None where the stream ends before it.
+///
+/// Of a frame over 1,048,576 bytes only the length is read. At `NoMemory` its payload was read over, so
+/// that the next frame can be read. A stream that ends inside a frame is `CutOff`.
+pub fn read_frame<R: Read>(alloc: Global, reader: &mut Counted<R>) -> Result<Option<Frame>, FrameFault>
+    ensures frame { ReadsFrame (R.remaining reader.old.inner) (R.remaining reader.new.inner) result }
+    ensures told { IfOk result (λ frame. IfSome frame IsTold) }
+    ensures faults { CountsFaults result reader.old.faults reader.new.faults }
+{
+    let mut head = [0; 4];
+    let Ok(came) = fill(reader, &mut head) else {
+        return Err(FrameFault::Device);
+    };
+    if came == 0 {
+        return Ok(None);
+    }
+    if came < 4 {
+        return Err(FrameFault::CutOff);
+    }
+    let count = u32::from_be_bytes(head);
+    if count > LIMIT {
+        return Err(FrameFault::FrameTooLong(count));
+    }
+    match read_payload(alloc, reader, count as usize) {
+        Ok(frame) => Ok(Some(frame)),
+        Err(fault) => Err(fault),
+    }
+}
