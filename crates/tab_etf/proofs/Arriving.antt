@@ -47,7 +47,7 @@ module _ (xs ys : List ℕ) where
     known_long lt = (subst (λ (o : Option ℕ). IsOver o (from_be_bytes w32 head)) (sym next) (refl, lt), sym behind_head)
 
     module _ (zs payload : List ℕ) (small : from_be_bytes w32 head ≤ limit) (f : ys ≡ payload ++ zs) where
-      known_front : length payload ≡ from_be_bytes w32 head → front xs ≡ Some (payload, zs)
+      pub known_front : length payload ≡ from_be_bytes w32 head → front xs ≡ Some (payload, zs)
       known_front len =
           let n = from_be_bytes w32 head in
           let rest : drop 4 xs ≡ payload ++ zs = behind_head ∙ f in

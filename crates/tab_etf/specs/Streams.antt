@@ -1,6 +1,6 @@
 -- The payloads of a stream, up to what is no frame.
-use Rattle.std.specs.Prelude.{◌≡◌, ◌≢◌, ℕ, zero, suc, ◌+◌, ◌<◌, ◌≤◌, List, [], ◌∷◌, ◌++◌, length, take, drop, Option, Some, None, nat_lt, if◌then◌else◌}
-use Rattle.tab_etf.specs.Frames.{limit, length_next}
+use Rattle.std.specs.Prelude.{◌≡◌, ◌≢◌, ℕ, zero, suc, ◌+◌, ◌<◌, ◌≤◌, List, [], ◌∷◌, ◌++◌, length, take, drop, Option, Some, None, nat_lt, if◌then◌else◌, ◌⊎◌}
+use Rattle.tab_etf.specs.Frames.{limit, frames, length_next}
 
 -- a payload of so many bytes, and what stands behind it
 abbrev pub behind : ℕ → List ℕ → Option (List ℕ × List ℕ)
@@ -47,3 +47,20 @@ pub record Stops (bytes : List ℕ) (given : List (List ℕ)) (n : ℕ) : Type 0
   pub ends : (more : List ℕ) → rest_of (bytes ++ more) ≢ []
   pub next : (more : List ℕ) → length_next (rest_of (bytes ++ more)) ≡ Some n
   pub over : limit < n
+
+-- ---- what the payloads of a stream are, in the words of frames
+
+abbrev pub AreWithin : List (List ℕ) → Type 0
+AreWithin [] = Unit {0}
+AreWithin (p ∷ ps) = (length p ≤ limit) × AreWithin ps
+
+-- no whole frame stands there: no length, fewer bytes than it says, or one over the limit
+abbrev pub IsShort : List ℕ → Option ℕ → Type 0
+IsShort bytes None = length bytes < 4
+IsShort bytes (Some n) = (length bytes < n + 4) ⊎ (limit < n)
+
+-- the payloads of a stream are the first frames of it, up to where no whole frame stands
+pub record AreFirstFrames (bytes : List ℕ) : Type 0 where
+  pub whole : frames (payloads bytes) ++ rest_of bytes ≡ bytes
+  pub within : AreWithin (payloads bytes)
+  pub ends : IsShort (rest_of bytes) (length_next (rest_of bytes))

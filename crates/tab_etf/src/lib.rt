@@ -20,4 +20,4 @@ pub use fault::{EtfFault, Fault};
 pub use framing::{Frame, FrameFault};
 pub use measuring::encoded_len;
 pub use receiving::read_frame;
-pub use splitting::Splitter;
+pub use splitting::{LIMIT, Splitter, payloads_are_framed};

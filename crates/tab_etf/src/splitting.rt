@@ -1,11 +1,12 @@
 //! Frames from a stream that comes in pieces.
 
 ghost use Rattle.std.specs.Prelude.{◌≡◌, ◌≢◌, ◌≤◌, ◌<◌, ◌++◌, ◌∷◌, ◌+◌, [], List, ℕ, length, drop, OnOk, IfOk, IfErr, OnErr, MatchOption, IfSome, Some, None, ◌⊎◌};
+ghost use Rattle.std.specs.List.{All};
 ghost use Rattle.tab_etf.specs.declared.framing.FrameFault.TheVariants.{CutOff};
 ghost use Rattle.tab_etf.specs.Feeding.{Held, IsGoing, IsStopped};
 ghost use Rattle.tab_etf.specs.Fronts.{MatchFront};
-ghost use Rattle.tab_etf.specs.Frames.{length_next, IsOver, AreTold, contents};
-ghost use Rattle.tab_etf.specs.Streams.{front, GoesOn, payloads, rest_of};
+ghost use Rattle.tab_etf.specs.Frames.{length_next, frames, IsOver, AreTold, contents};
+ghost use Rattle.tab_etf.specs.Streams.{front, GoesOn, payloads, rest_of, AreWithin, AreFirstFrames};
 
 use crate::framing::{Frame, FrameFault};
 use std::alloc::{AllocError, Global};
@@ -201,4 +202,11 @@ fn end_of(rest: &[u8]) -> Result<(), FrameFault>
         [] => Ok(()),
         [_, ..] => Err(FrameFault::CutOff),
     }
+}
+
+/// What the payloads of a stream are: those of its first frames, up to where no whole frame stands.
+pub fn payloads_are_framed()
+    ensures first { (bytes : List ℕ) → All (λ b. b < 256) bytes → AreFirstFrames bytes }
+    ensures only { (ps : List (List ℕ)) (rest : List ℕ) → AreWithin ps → (payloads (frames ps ++ rest) ≡ ps ++ payloads rest) × (rest_of (frames ps ++ rest) ≡ rest_of rest) }
+{
 }
