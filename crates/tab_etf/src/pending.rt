@@ -1,6 +1,6 @@
 //! Bytes that wait for a device, so that it gets few large pieces.
 
-ghost use Rattle.std.specs.Prelude.{◌≡◌, [], false};
+ghost use Rattle.std.specs.Prelude.{◌≡◌, [], ◌∷◌, false};
 ghost use Rattle.tab_etf.specs.Writing.{Hands, Puts, output};
 
 use crate::counted::Counted;
@@ -69,5 +69,15 @@ impl Pending {
             return;
         }
         self.failed = hand_over(self.failed, device, bytes);
+    }
+
+    /// Adds one byte to those that wait.
+    pub fn put_byte<W: Write>(&mut self, device: &mut Counted<W>, byte: u8)
+        ensures { Puts (output W.contents device.old self.old) (output W.contents device.new self.new) (byte ∷ []) }
+    {
+        if self.bytes.try_push(byte).is_ok() {
+            return;
+        }
+        self.put(device, &[byte]);
     }
 }

@@ -199,7 +199,7 @@ fn put_bytes<W: Write>(device: &mut Counted<W>, pending: &mut Pending, ts: &[Ter
     ensures { Puts (output W.contents device.old pending.old) (output W.contents device.new pending.new) (bytes_of (terms ts.now)) }
 {
     for t in ts {
-        pending.put(device, &[byte_in(t)]);
+        pending.put_byte(device, byte_in(t));
     }
 }
 
