@@ -110,7 +110,7 @@ enough (suc m) zero [] p q = rw front_none refl
 enough (suc m) zero (b ∷ bytes) p q = absurd (omega arith)
 enough (suc m) (suc n) bytes p q =
     cut_by_same (cut_at_most m) (cut_at_most n) bytes (front bytes)
-        (λ x e. let lt : length x.1 < length bytes = front_falls bytes x e in enough m n x.1 (omega arith) (omega arith))
+    (λ x e. let lt : length x.1 < length bytes = front_falls bytes x e in enough m n x.1 (omega arith) (omega arith))
 
 again : (n : ℕ) (bytes : List ℕ) → cut_at_most (suc n) bytes ≡ cut_by (cut_at_most n) bytes (front bytes)
 unfolding cut_at_most

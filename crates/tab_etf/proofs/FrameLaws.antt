@@ -13,11 +13,6 @@ use Rattle.tab_etf.proofs.Fields.{IsBytes, IsBytes-take, IsBytes-drop, wide32}
 
 -- ---- the first frame
 
-record IsFirst (bytes p rest : List ℕ) : Type 0 where
-  parts : bytes ≡ frame p ++ rest
-  small : length p ≤ limit
-  later : rest ≡ drop (length p) (drop 4 bytes)
-
 known : (b : Bool) (m n : ℕ) → cond b None (Some m) ≡ Some n → (b ≡ false) × (m ≡ n)
 known true m n e = absurd cc
 known false m n e = (refl, cc)
@@ -93,8 +88,8 @@ ends_at (suc n) bytes le =
     elim (some_or_none (front bytes)) [
       | inl none ↦ subst (λ (r : List ℕ). front r ≡ None) (sym (payloads-none bytes none).1) none
       | inr some ↦
-        let p = payloads-front bytes some.0.0 some.0.1 some.1 in
-        subst (λ (r : List ℕ). front r ≡ None) (sym p.1) (ends_at n some.0.1 (omega (arith, front_falls bytes some.0 some.1)))
+          let p = payloads-front bytes some.0.0 some.0.1 some.1 in
+          subst (λ (r : List ℕ). front r ≡ None) (sym p.1) (ends_at n some.0.1 (omega (arith, front_falls bytes some.0 some.1)))
     ]
 
 tests : (a b : Bool) (y : List ℕ × List ℕ) → cond a None (cond b None (Some y)) ≡ None → (a ≡ true) ⊎ (b ≡ true)

@@ -51,9 +51,9 @@ sent_known a b (Some xs) None kept bytes fa fb ka kb h = absurd h
 sent_known a b (Some xs) (Some ys) kept bytes fa fb ka kb h = record {
   longer = omega (arith, ap length h, length-append xs (kept ++ bytes));
   leads = λ more whole l.
-    let l' : xs ++ (kept ++ (bytes ++ more)) ≡ whole = rw (fa, ka) at l in
-    let e : ys ++ more ≡ whole = ap (λ (r : List ℕ). r ++ more) h ∙ append_assoc xs (kept ++ bytes) more ∙ ap (λ (r : List ℕ). xs ++ r) (append_assoc kept bytes more) ∙ l' in
-    rw (fb, kb) e;
+      let l' : xs ++ (kept ++ (bytes ++ more)) ≡ whole = rw (fa, ka) at l in
+      let e : ys ++ more ≡ whole = ap (λ (r : List ℕ). r ++ more) h ∙ append_assoc xs (kept ++ bytes) more ∙ ap (λ (r : List ℕ). xs ++ r) (append_assoc kept bytes more) ∙ l' in
+      rw (fb, kb) e;
 }
 
 pub hands_sent : (faults faults' : ℕ) (sent sent' : Option (List ℕ)) (all : List ℕ) → faults' ≡ faults → Appends sent sent' all → Hands false faults sent false faults' sent' all
@@ -68,10 +68,10 @@ lost_known a b (Some xs) None kept bytes n fa fb ka h = absurd h
 lost_known a b (Some xs) (Some ys) kept bytes n fa fb ka h = record {
   longer = omega (arith, ap length h, length-append xs (take n (kept ++ bytes)));
   leads = λ more whole l.
-    let l' : xs ++ (kept ++ (bytes ++ more)) ≡ whole = rw (fa, ka) at l in
-    let parts : whole ≡ (xs ++ (kept ++ bytes)) ++ more = sym l' ∙ ap (λ (r : List ℕ). xs ++ r) (sym (append_assoc kept bytes more)) ∙ sym (append_assoc xs (kept ++ bytes) more) in
-    let found : (k : ℕ) × (ys ≡ take k whole) = beginning xs ys (kept ++ bytes) more whole n h parts in
-    rw fb found;
+      let l' : xs ++ (kept ++ (bytes ++ more)) ≡ whole = rw (fa, ka) at l in
+      let parts : whole ≡ (xs ++ (kept ++ bytes)) ++ more = sym l' ∙ ap (λ (r : List ℕ). xs ++ r) (sym (append_assoc kept bytes more)) ∙ sym (append_assoc xs (kept ++ bytes) more) in
+      let found : (k : ℕ) × (ys ≡ take k whole) = beginning xs ys (kept ++ bytes) more whole n h parts in
+      rw fb found;
 }
 
 pub hands_lost : (faults faults' : ℕ) (sent sent' : Option (List ℕ)) (all : List ℕ) (n : ℕ) → faults' ≡ min (faults + 1) (2 ^ 64 - 1) → Appends sent sent' (take n all) → Hands false faults sent true faults' sent' all
@@ -95,7 +95,7 @@ known_done a b None y s fa fb ka kb h = tt
 known_done a b (Some xs) None s fa fb ka kb h = absurd h
 known_done a b (Some xs) (Some ys) s fa fb ka kb h =
     let l = h.leads [] (xs ++ s) in
-    let l' = rw (fa, fb, ka, kb, append-nil) at l in
+    let l' = rw (fa, fb, ka, kb, append-nil s) at l in
     sym (append-nil ys) ∙ l' refl
 
 pub puts_done : (a b : Output) (s : List ℕ) → a.failed ≡ false → b.failed ≡ false → a.kept ≡ [] → b.kept ≡ [] → Puts a b s → Appends a.sent b.sent s × (b.faults ≡ a.faults)

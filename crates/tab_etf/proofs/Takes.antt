@@ -164,9 +164,12 @@ module _ (l : ℕ) where
       let made : PlainTerm × List ℕ = (int d.0, c.0.1) in
       let told : Spells (int d.0) (110 ∷ length c.0.0 ∷ b.0.0 ∷ c.0.0) = small_big_ext (omega (arith, s.1, t.1)) z in
       subst (λ (y : PlainTerm × List ℕ). Spelled (suc l) (110 ∷ bytes) y.0 y.1) (ok_is made x d.2)
-      (record { text = 110 ∷ a.0.0 ∷ b.0.0 ∷ c.0.0;
+      (record {
+        text = 110 ∷ a.0.0 ∷ b.0.0 ∷ c.0.0;
         takes = behind_takes 110 bytes (a.0.0 ∷ b.0.0 ∷ c.0.0) c.0.1 (Takes-then bytes (a.0.0 ∷ b.0.0 ∷ []) b.0.1 c.0.0 c.0.1 (Takes-then bytes (a.0.0 ∷ []) a.0.1 (b.0.0 ∷ []) b.0.1 t.0 u.0) s.0);
-        spells = subst (λ (k : ℕ). Spells (int d.0) (110 ∷ k ∷ b.0.0 ∷ c.0.0)) s.1 told; within = omega arith })
+        spells = subst (λ (k : ℕ). Spells (int d.0) (110 ∷ k ∷ b.0.0 ∷ c.0.0)) s.1 told;
+        within = omega arith;
+      })
 
   atom_takes : (tag limit : ℕ) (field : ℕ → List ℕ) (text : List ℕ → Result (List ℕ × List ℕ) Stop) (is : List ℕ → ℕ → Result (List ℕ) Stop) → TakesText field limit text
       → ((s : List ℕ) (left : ℕ) (name : List ℕ) → IsBytes s → length s < limit → is s left ≡ Ok name → Spells (atom name) (tag ∷ (field (length s) ++ s)))
@@ -220,8 +223,12 @@ module _ (l : ℕ) where
       let told : Spells (list (numbers b.0.0)) (107 ∷ to_be_bytes w16 (length b.0.0) ++ b.0.0) = string_ext (omega (arith, s.1, t.1)) in
       let shallow : (ltb 0 (length b.0.0) && eqb l 0) ≡ false = subst (λ (k : ℕ). (ltb 0 k && eqb l 0) ≡ false) (sym s.1) g.0 in
       subst (λ (y : PlainTerm × List ℕ). Spelled (suc l) (107 ∷ bytes) y.0 y.1) (ok_is made x g.1)
-      (record { text = 107 ∷ (to_be_bytes w16 a.0.0 ++ b.0.0); takes = behind_takes 107 bytes (to_be_bytes w16 a.0.0 ++ b.0.0) b.0.1 (Takes-then bytes (to_be_bytes w16 a.0.0) a.0.1 b.0.0 b.0.1 t.0 s.0);
-        spells = subst (λ (k : ℕ). Spells (list (numbers b.0.0)) (107 ∷ to_be_bytes w16 k ++ b.0.0)) s.1 told; within = omega (arith, numbers_depth b.0.0 l shallow) })
+      (record {
+        text = 107 ∷ (to_be_bytes w16 a.0.0 ++ b.0.0);
+        takes = behind_takes 107 bytes (to_be_bytes w16 a.0.0 ++ b.0.0) b.0.1 (Takes-then bytes (to_be_bytes w16 a.0.0) a.0.1 b.0.0 b.0.1 t.0 s.0);
+        spells = subst (λ (k : ℕ). Spells (list (numbers b.0.0)) (107 ∷ to_be_bytes w16 k ++ b.0.0)) s.1 told;
+        within = omega (arith, numbers_depth b.0.0 l shallow);
+      })
 
   nil_takes : SoundBehind (suc l) 106 (λ bytes. Ok (list none, bytes))
   nil_takes bytes x fits e =
@@ -242,15 +249,15 @@ module _ (l : ℕ) where
   unfolding leaf
   leaf_sound tag bytes x fits e =
       pick 97 tag bytes small_integer x fits small_integer_takes e (λ e.
-        pick 98 tag bytes integer x fits integer_takes e (λ e.
-          pick 110 tag bytes small_big x fits small_big_takes e (λ e.
-            pick 100 tag bytes latin1_atom x fits latin1_atom_takes e (λ e.
-              pick 115 tag bytes small_latin1_atom x fits small_latin1_atom_takes e (λ e.
-                pick 118 tag bytes utf8_atom x fits utf8_atom_takes e (λ e.
-                  pick 119 tag bytes small_utf8_atom x fits small_utf8_atom_takes e (λ e.
-                    pick 106 tag bytes (λ b. Ok (list none, b)) x fits nil_takes e (λ e.
-                      pick 107 tag bytes (string (eqb l 0)) x fits string_takes e (λ e.
-                        pick 109 tag bytes binary x fits binary_takes e (λ e. absurd cc))))))))))
+      pick 98 tag bytes integer x fits integer_takes e (λ e.
+      pick 110 tag bytes small_big x fits small_big_takes e (λ e.
+      pick 100 tag bytes latin1_atom x fits latin1_atom_takes e (λ e.
+      pick 115 tag bytes small_latin1_atom x fits small_latin1_atom_takes e (λ e.
+      pick 118 tag bytes utf8_atom x fits utf8_atom_takes e (λ e.
+      pick 119 tag bytes small_utf8_atom x fits small_utf8_atom_takes e (λ e.
+      pick 106 tag bytes (λ b. Ok (list none, b)) x fits nil_takes e (λ e.
+      pick 107 tag bytes (string (eqb l 0)) x fits string_takes e (λ e.
+      pick 109 tag bytes binary x fits binary_takes e (λ e. absurd cc))))))))))
 
   module _ (read : Reads) (sound : Sound l read) where
     small_tuple_takes : SoundBehind (suc l) 104 (small_tuple read)
@@ -275,8 +282,12 @@ module _ (l : ℕ) where
         let made : PlainTerm × List ℕ = (tuple b.0.0, b.0.1) in
         let told : Spells (tuple b.0.0) (105 ∷ (to_be_bytes w32 (count b.0.0) ++ ts.text)) = large_tuple_ext (omega (arith, ts.counts, t.1)) ts.spells in
         subst (λ (y : PlainTerm × List ℕ). Spelled (suc l) (105 ∷ bytes) y.0 y.1) (ok_is made x b.2)
-        (record { text = 105 ∷ (to_be_bytes w32 a.0.0 ++ ts.text); takes = behind_takes 105 bytes (to_be_bytes w32 a.0.0 ++ ts.text) b.0.1 (Takes-then bytes (to_be_bytes w32 a.0.0) a.0.1 ts.text b.0.1 t.0 ts.takes);
-          spells = subst (λ (k : ℕ). Spells (tuple b.0.0) (105 ∷ (to_be_bytes w32 k ++ ts.text))) ts.counts told; within = omega (arith, ts.within) })
+        (record {
+          text = 105 ∷ (to_be_bytes w32 a.0.0 ++ ts.text);
+          takes = behind_takes 105 bytes (to_be_bytes w32 a.0.0 ++ ts.text) b.0.1 (Takes-then bytes (to_be_bytes w32 a.0.0) a.0.1 ts.text b.0.1 t.0 ts.takes);
+          spells = subst (λ (k : ℕ). Spells (tuple b.0.0) (105 ∷ (to_be_bytes w32 k ++ ts.text))) ts.counts told;
+          within = omega (arith, ts.within);
+        })
 
     long_list_takes : SoundBehind (suc l) 108 (long_list read)
     unfolding long_list end_of_list
@@ -291,15 +302,19 @@ module _ (l : ℕ) where
         let told : Spells (list b.0.0) (((108 ∷ to_be_bytes w32 (count b.0.0)) ++ ts.text) ++ 106 ∷ []) = list_ext (omega (arith, ts.counts, t.1)) ts.spells in
         let both = Takes-then bytes (to_be_bytes w32 a.0.0 ++ ts.text) b.0.1 (106 ∷ []) c.0 (Takes-then bytes (to_be_bytes w32 a.0.0) a.0.1 ts.text b.0.1 t.0 ts.takes) end in
         subst (λ (y : PlainTerm × List ℕ). Spelled (suc l) (108 ∷ bytes) y.0 y.1) (ok_is made x c.2)
-        (record { text = 108 ∷ ((to_be_bytes w32 a.0.0 ++ ts.text) ++ 106 ∷ []); takes = behind_takes 108 bytes ((to_be_bytes w32 a.0.0 ++ ts.text) ++ 106 ∷ []) c.0 both;
-          spells = subst (λ (k : ℕ). Spells (list b.0.0) (((108 ∷ to_be_bytes w32 k) ++ ts.text) ++ 106 ∷ [])) ts.counts told; within = omega (arith, ts.within) })
+        (record {
+          text = 108 ∷ ((to_be_bytes w32 a.0.0 ++ ts.text) ++ 106 ∷ []);
+          takes = behind_takes 108 bytes ((to_be_bytes w32 a.0.0 ++ ts.text) ++ 106 ∷ []) c.0 both;
+          spells = subst (λ (k : ℕ). Spells (list b.0.0) (((108 ∷ to_be_bytes w32 k) ++ ts.text) ++ 106 ∷ [])) ts.counts told;
+          within = omega (arith, ts.within);
+        })
 
     behind_sound : (tag : ℕ) → SoundBehind (suc l) tag (behind read (eqb l 0) tag)
     unfolding behind
     behind_sound tag bytes x fits e =
         pick 104 tag bytes (small_tuple read) x fits small_tuple_takes e (λ e.
-          pick 105 tag bytes (large_tuple read) x fits large_tuple_takes e (λ e.
-            pick 108 tag bytes (long_list read) x fits long_list_takes e (λ e. leaf_sound tag bytes x fits e)))
+        pick 105 tag bytes (large_tuple read) x fits large_tuple_takes e (λ e.
+        pick 108 tag bytes (long_list read) x fits long_list_takes e (λ e. leaf_sound tag bytes x fits e)))
 
 pub sound : (l : ℕ) → Sound l (term_at l)
 unfolding term_at

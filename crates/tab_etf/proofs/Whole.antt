@@ -22,15 +22,15 @@ found [] t fits e = absurd cc
 found (v ∷ bytes) t fits e =
     elim (chosen (eqb v 131) (term_at 64 bytes >>= λ x. cond (eqb (length x.1) 0) (Ok x.0) (stop Trailing (length x.1))) (stop Version (length bytes + 1)) (done t) e) [
       | inl here ↦
-        let a = bind_ok (term_at 64 bytes) (λ x. cond (eqb (length x.1) 0) (Ok x.0) (stop Trailing (length x.1))) t here.1 in
-        let s = sound 64 bytes a.0 (IsBytes-rest v bytes fits) a.1 in
-        elim (chosen (eqb (length a.0.1) 0) (done a.0.0) (stop Trailing (length a.0.1)) (done t) a.2) [
-          | inl last ↦
-            let nothing : a.0.1 ≡ [] = nil_from_length a.0.1 (eqb-true _ _ last.0) in
-            let all : v ∷ bytes ≡ 131 ∷ s.text = ap (λ n. n ∷ bytes) (eqb-true v 131 here.0) ∙ ap (λ (b : List ℕ). 131 ∷ b) (s.takes.parts ∙ ap (λ (r : List ℕ). s.text ++ r) nothing ∙ append-nil s.text) in
-            subst (λ (u : PlainTerm). (b : List ℕ) × (v ∷ bytes ≡ 131 ∷ b) × Spells u b × (depth u ≤ 64)) (ok_is a.0.0 t last.1) (s.text, all, s.spells, s.within)
-          | inr more ↦ absurd (let h = more.1 in cc)
-        ]
+          let a = bind_ok (term_at 64 bytes) (λ x. cond (eqb (length x.1) 0) (Ok x.0) (stop Trailing (length x.1))) t here.1 in
+          let s = sound 64 bytes a.0 (IsBytes-rest v bytes fits) a.1 in
+          elim (chosen (eqb (length a.0.1) 0) (done a.0.0) (stop Trailing (length a.0.1)) (done t) a.2) [
+            | inl last ↦
+                let nothing : a.0.1 ≡ [] = nil_from_length a.0.1 (eqb-true _ _ last.0) in
+                let all : v ∷ bytes ≡ 131 ∷ s.text = ap (λ n. n ∷ bytes) (eqb-true v 131 here.0) ∙ ap (λ (b : List ℕ). 131 ∷ b) (s.takes.parts ∙ ap (λ (r : List ℕ). s.text ++ r) nothing ∙ append-nil s.text) in
+                subst (λ (u : PlainTerm). (b : List ℕ) × (v ∷ bytes ≡ 131 ∷ b) × Spells u b × (depth u ≤ 64)) (ok_is a.0.0 t last.1) (s.text, all, s.spells, s.within)
+            | inr more ↦ absurd (let h = more.1 in cc)
+          ]
       | inr other ↦ absurd (let h = other.1 in cc)
     ]
 

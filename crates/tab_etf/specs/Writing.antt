@@ -10,7 +10,7 @@ use Rattle.tab_etf.specs.declared.pending.Pending.{Pending}
 pub record Output : Type 0 where
   pub failed : Bool
   pub faults : ℕ
-  pub sent : Option (List ℕ)                 -- what the device holds, where that is known
+  pub sent : Option (List ℕ)  -- what the device holds, where that is known
   pub kept : List ℕ
 
 abbrev pub output : {W : Type 0} → (W → Option (List ℕ)) → Counted W → Pending → Output

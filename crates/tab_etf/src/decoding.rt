@@ -61,7 +61,12 @@ fn long_list_of(alloc: Global, levels: usize, bytes: &[u8]) -> Result<(Term, &[u
 
 /// So many terms. The count alone makes no room: places come as elements are read.
 #[cycle(read)]
-fn terms_of(alloc: Global, levels: usize, count: u32, bytes: &[u8]) -> Result<(Terms, &[u8]), ReadError>
+fn terms_of(
+    alloc: Global,
+    levels: usize,
+    count: u32,
+    bytes: &[u8],
+) -> Result<(Terms, &[u8]), ReadError>
     ensures { Gives (λ x. (x.0, x.1.now)) result (times (term_at levels) count bytes.now) }
 {
     let places = bytes.len().min(count as usize).min(FIRST_PLACES);
@@ -77,7 +82,12 @@ fn terms_of(alloc: Global, levels: usize, count: u32, bytes: &[u8]) -> Result<(T
 
 #[cycle(read)]
 #[tactic(auto, unfolding(crate::specs::Reading::behind))]
-fn behind_of(alloc: Global, levels: usize, tag: u8, bytes: &[u8]) -> Result<(Term, &[u8]), ReadError>
+fn behind_of(
+    alloc: Global,
+    levels: usize,
+    tag: u8,
+    bytes: &[u8],
+) -> Result<(Term, &[u8]), ReadError>
     ensures { Gives (λ x. (term x.0, x.1.now)) result (behind (term_at levels) (levels == 0) tag bytes.now) }
 {
     match tag {
@@ -127,7 +137,10 @@ fn placed(alloc: Global, payload: &[u8]) -> Result<Term, EtfFault>
     match whole_of(alloc, payload) {
         Ok(found) => Ok(found),
         Err(ReadError::Memory) => Err(EtfFault::NoMemory),
-        Err(ReadError::At(at)) => Err(EtfFault::At(at.fault, payload.len().saturating_sub(at.left))),
+        Err(ReadError::At(at)) => Err(EtfFault::At(
+            at.fault,
+            payload.len().saturating_sub(at.left),
+        )),
     }
 }
 
@@ -147,5 +160,4 @@ pub fn decode(alloc: Global, payload: &[u8]) -> Result<Term, EtfFault>
 /// No spelling begins another, and one byte list spells one term.
 pub fn spellings_are_apart()
     ensures { (s t : PlainTerm) (a b x y : List ℕ) → Spells s a → Spells t b → a ++ x ≡ b ++ y → (a ≡ b) × (s ≡ t) }
-{
-}
+{}

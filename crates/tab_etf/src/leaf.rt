@@ -122,13 +122,7 @@ fn signed_of(sign: u8, m: u128) -> Option<i128>
     ensures { result ≡ signed_value sign m }
 {
     match sign {
-        0 => {
-            if m < TOP {
-                Some(m as i128)
-            } else {
-                None
-            }
-        }
+        0 => { if m < TOP { Some(m as i128) } else { None } }
         1 => {
             if m == TOP {
                 Some(i128::MIN)
@@ -273,12 +267,20 @@ fn binary_of(alloc: Global, bytes: &[u8]) -> Result<(Term, &[u8]), ReadError>
     ensures { Gives (λ x. (term x.0, x.1.now)) result (binary bytes.now) }
 {
     let (content, rest) = text32_at(bytes)?;
-    Ok((Term::Bin(Bytes::from_vec(Vec::from_slice(alloc, content)?)), rest))
+    Ok((
+        Term::Bin(Bytes::from_vec(Vec::from_slice(alloc, content)?)),
+        rest,
+    ))
 }
 
 /// What stands behind the tag of a term without elements.
 #[tactic(auto, unfolding(crate::specs::Reading::leaf))]
-pub fn leaf_of(alloc: Global, deepest: bool, tag: u8, bytes: &[u8]) -> Result<(Term, &[u8]), ReadError>
+pub fn leaf_of(
+    alloc: Global,
+    deepest: bool,
+    tag: u8,
+    bytes: &[u8],
+) -> Result<(Term, &[u8]), ReadError>
     ensures { Gives (λ x. (term x.0, x.1.now)) result (leaf deepest tag bytes.now) }
 {
     match tag {

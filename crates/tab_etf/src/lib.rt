@@ -12,6 +12,8 @@ mod pending;
 mod receiving;
 mod spelling;
 mod splitting;
+#[cfg(test)]
+mod tests;
 
 pub use counted::{Broken, Counted};
 pub use decoding::{decode, spellings_are_apart};

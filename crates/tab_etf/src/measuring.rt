@@ -114,7 +114,9 @@ fn pairs_len(ps: &[(Term, Term)]) -> u64
 {
     let mut sum: u64 = 0;
     for p in ps {
-        sum = sum.saturating_add(spelled_len(&p.0)).saturating_add(spelled_len(&p.1));
+        sum = sum
+            .saturating_add(spelled_len(&p.0))
+            .saturating_add(spelled_len(&p.1));
     }
     sum
 }

@@ -45,7 +45,11 @@ fn keep(kept: &mut Vec<u8>, lost: bool, bytes: &[u8]) -> bool
 }
 
 /// Reads a payload of so many bytes. Its buffer grows as they come, and where it can't, they are read over.
-fn read_payload<R: Read>(alloc: Global, reader: &mut Counted<R>, count: usize) -> Result<Frame, FrameFault>
+fn read_payload<R: Read>(
+    alloc: Global,
+    reader: &mut Counted<R>,
+    count: usize,
+) -> Result<Frame, FrameFault>
     ensures payload { ReadsPayload (R.remaining reader.old.inner) (R.remaining reader.new.inner) count result }
     ensures told { IfOk result IsTold }
     ensures faults { CountsFaults result reader.old.faults reader.new.faults }
@@ -75,7 +79,10 @@ fn read_payload<R: Read>(alloc: Global, reader: &mut Counted<R>, count: usize) -
 ///
 /// Of a frame over 1,048,576 bytes only the length is read. At `NoMemory` its payload was read over, so
 /// that the next frame can be read. A stream that ends inside a frame is `CutOff`.
-pub fn read_frame<R: Read>(alloc: Global, reader: &mut Counted<R>) -> Result<Option<Frame>, FrameFault>
+pub fn read_frame<R: Read>(
+    alloc: Global,
+    reader: &mut Counted<R>,
+) -> Result<Option<Frame>, FrameFault>
     ensures frame { ReadsFrame (R.remaining reader.old.inner) (R.remaining reader.new.inner) result }
     ensures told { IfOk result (λ frame. IfSome frame IsTold) }
     ensures faults { CountsFaults result reader.old.faults reader.new.faults }

@@ -75,8 +75,16 @@ fn split(alloc: Global, bytes: &[u8]) -> Result<Parts, AllocError>
                 frames.push(Frame::of(alloc, &bytes[used + 4..used + 4 + count])?)?;
                 used += 4 + count;
             }
-            Front::Part => return Ok(Parts { frames, used, over: None }),
-            Front::Over(count) => return Ok(Parts { frames, used, over: Some(count) }),
+            Front::Part => return Ok(Parts {
+                frames,
+                used,
+                over: None,
+            }),
+            Front::Over(count) => return Ok(Parts {
+                frames,
+                used,
+                over: Some(count),
+            }),
         }
     }
 }
@@ -208,5 +216,4 @@ fn end_of(rest: &[u8]) -> Result<(), FrameFault>
 pub fn payloads_are_framed()
     ensures first { (bytes : List ℕ) → All (λ b. b < 256) bytes → AreFirstFrames bytes }
     ensures only { (ps : List (List ℕ)) (rest : List ℕ) → AreWithin ps → (payloads (frames ps ++ rest) ≡ ps ++ payloads rest) × (rest_of (frames ps ++ rest) ≡ rest_of rest) }
-{
-}
+{}

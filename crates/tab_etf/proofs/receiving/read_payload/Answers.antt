@@ -22,7 +22,9 @@ pub loop-left-preserved : goal.loop-left-preserved
 loop-left-preserved g c =
     let room : length c.fill.new.buf ≡ c.min-room.result = omega (arith, c.fill.auto.buf, length-take c.min-room.result c.loop-left.chunk, c.loop-left.invariant.3, c.min-room.ensures) in
     let few : c.in-Ok.came < c.loop-left.left + 1 = omega (arith, c.in-Ok.ensures.bound, room, c.min-room.ensures) in
-    let sum : c.args.count - (c.loop-left.left - c.in-Ok.came) ≡ c.args.count - c.loop-left.left + c.in-Ok.came = omega (arith, c.loop-left.invariant.0, few) in
-    (omega (arith, c.loop-left.invariant.0), c.in-Ok.ensures.same ∙ c.loop-left.invariant.1,
-    come_more _ _ _ _ _ _ _ _ _ _ _ _ c.loop-left.invariant.2 c.in-Ok.ensures.bytes c.in-Ok.ensures.bound sum c.keep-lost.ensures,
-    omega (arith, room, length-append c.fill.new.buf (drop c.min-room.result c.loop-left.chunk), length-drop c.min-room.result c.loop-left.chunk, c.loop-left.invariant.3, c.min-room.ensures))
+    let sum : c.args.count - (c.loop-left.left - c.in-Ok.came) ≡ c.args.count - c.loop-left.left + c.in-Ok.came = omega (arith, c.loop-left.invariant.0, few) in (
+      omega (arith, c.loop-left.invariant.0),
+      c.in-Ok.ensures.same ∙ c.loop-left.invariant.1,
+      come_more _ _ _ _ _ _ _ _ _ _ _ _ c.loop-left.invariant.2 c.in-Ok.ensures.bytes c.in-Ok.ensures.bound sum c.keep-lost.ensures,
+      omega (arith, room, length-append c.fill.new.buf (drop c.min-room.result c.loop-left.chunk), length-drop c.min-room.result c.loop-left.chunk, c.loop-left.invariant.3, c.min-room.ensures),
+    )

@@ -17,13 +17,13 @@ pub put_list-returns-then-is_empty : goal.put_list-returns-then-is_empty
 put_list-returns-then-is_empty g t c =
     puts_as _ _ _ _ c.put.ensures
     (list_empty c.args.ts.now (terms c.as_slice-items.result.now) (length c.as_slice-items.result.now) c.as_slice-items.ensures.items c.as_slice-items.ensures.len
-      (sym c.is_empty.ensures ∙ c.if-is_empty.true))
+    (sym c.is_empty.ensures ∙ c.if-is_empty.true))
 
 pub put_list-returns-then-are_bytes : goal.put_list-returns-then-are_bytes
 put_list-returns-then-are_bytes g t c =
     puts_as _ _ _ _ c.put_string.ensures
     (list_bytes c.args.ts.now (terms c.as_slice-items.result.now) (length c.as_slice-items.result.now) c.as_slice-items.ensures.items c.as_slice-items.ensures.len
-      (sym c.is_empty.ensures ∙ c.if-is_empty.false) c.if-items-lt65536.true (sym c.are_bytes.ensures ∙ c.if-are_bytes.true))
+    (sym c.is_empty.ensures ∙ c.if-is_empty.false) c.if-items-lt65536.true (sym c.are_bytes.ensures ∙ c.if-are_bytes.true))
 
 pub put_list-returns-else-items-lt65536 : goal.put_list-returns-else-items-lt65536
 put_list-returns-else-items-lt65536 g t c =
@@ -31,9 +31,9 @@ put_list-returns-else-items-lt65536 g t c =
     puts_as _ _ _ _ (puts_then _ _ _ _ _ (puts_then _ _ _ _ _ c.put_tagged.ensures c.put_all.ensures) c.put-else-items-lt65536.ensures)
     (elim c.else-items-lt65536.branch [
       | put_list-else-items-lt65536-via-then-items-lt65536+else-are_bytes w ↦
-        list_others c.args.ts.now (terms c.as_slice-items.result.now) (length c.as_slice-items.result.now) c.as_slice-items.ensures.items c.as_slice-items.ensures.len some (sym w.are_bytes.ensures ∙ w.if-are_bytes.false)
+          list_others c.args.ts.now (terms c.as_slice-items.result.now) (length c.as_slice-items.result.now) c.as_slice-items.ensures.items c.as_slice-items.ensures.len some (sym w.are_bytes.ensures ∙ w.if-are_bytes.false)
       | put_list-else-items-lt65536-via-else-items-lt65536 w ↦
-        list_many c.args.ts.now (terms c.as_slice-items.result.now) (length c.as_slice-items.result.now) c.as_slice-items.ensures.items c.as_slice-items.ensures.len some w.if-items-lt65536.false
+          list_many c.args.ts.now (terms c.as_slice-items.result.now) (length c.as_slice-items.result.now) c.as_slice-items.ensures.items c.as_slice-items.ensures.len some w.if-items-lt65536.false
     ])
 
 pub put_pairs-loop-p-init : goal.put_pairs-loop-p-init

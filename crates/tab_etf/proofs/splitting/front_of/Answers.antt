@@ -10,6 +10,7 @@ returns-then-bytes-count c =
     front_short c.args.bytes.now c.in-Some.count (sym c.in-Some.ensures.value) (omega arith) (omega (arith, length-drop 4 c.args.bytes.now, c.if-bytes-count.true))
 
 pub returns : goal.returns
-returns c =
-    (omega (arith, c.in-Some.ensures.long, c.if-bytes-count.false),
-     λ more. front-whole c.args.bytes.now more c.in-Some.count (sym c.in-Some.ensures.value) (omega arith) (omega (arith, length-drop 4 c.args.bytes.now, c.if-bytes-count.false)))
+returns c = (
+  omega (arith, c.in-Some.ensures.long, c.if-bytes-count.false),
+  λ more. front-whole c.args.bytes.now more c.in-Some.count (sym c.in-Some.ensures.value) (omega arith) (omega (arith, length-drop 4 c.args.bytes.now, c.if-bytes-count.false)),
+)
