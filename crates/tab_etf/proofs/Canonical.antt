@@ -1,5 +1,5 @@
 -- Which spelling is the canonical one, by cases.
-use Rattle.std.proofs.Common.{◌≡◌, ◌≢◌, ℕ, ◌+◌, ◌^◌, ◌<◌, ◌≤◌, ℤ, Bool, true, false, List, [], ◌∷◌, ◌++◌, length, refl, unsigned_abs, arith, ltb, eqb, ◌&&◌, ap, sym, ◌∙◌}
+use Rattle.std.proofs.Common.{◌≡◌, ◌≢◌, ℕ, ◌^◌, ◌<◌, ◌≤◌, ℤ, Bool, true, false, List, [], ◌∷◌, ◌++◌, length, refl, unsigned_abs, arith, ltb, eqb, ◌&&◌, ap, sym, ◌∙◌}
 use Rattle.std.specs.Int.{w16, w32, w64, to_be_bytes, cast_unsigned}
 use Rattle.std.proofs.lemmas.Bool.{le-ltb, lt-ltb, ne_eqb, eq-eqb, eqb-true, eqb-false}
 use Rattle.tab_term.specs.Canon.{is_byte, fits_four, int_tag, int_contents, sign_of, magnitude, length_field, atom_tag, atom_length_field, tuple_tag, arity_field, all_bytes, bytes_of, list_tag, list_contents, canons}

@@ -1,12 +1,12 @@
 -- The payloads of a stream are those of its frames.
-use Rattle.std.proofs.Common.{◌≡◌, ℕ, zero, suc, ◌+◌, ◌<◌, ◌≤◌, ◌^◌, List, [], ◌∷◌, ◌++◌, length, take, drop, Option, Some, None, Bool, true, false, cond, ltb, refl, sym, ap, subst, ◌∙◌, append_assoc, arith, inl, inr, ◌⊎◌, length-append, length-drop}
+use Rattle.std.proofs.Common.{◌≡◌, ℕ, zero, suc, ◌<◌, ◌≤◌, List, [], ◌∷◌, ◌++◌, length, take, drop, Option, Some, None, Bool, true, false, cond, ltb, refl, sym, ap, subst, ◌∙◌, append_assoc, arith, inl, inr, ◌⊎◌, length-drop}
 use Rattle.std.specs.List.{All}
 use Rattle.std.specs.Int.{w32, to_be_bytes, from_be_bytes}
-use Rattle.std.proofs.lemmas.Bool.{cases_lt, ltb-false, ltb-true, le-ltb}
-use Rattle.std.proofs.lemmas.List.{take-append-drop, length-take, take_at, drop_at, append-nil, get_or_past}
+use Rattle.std.proofs.lemmas.Bool.{cases_lt, ltb-false, ltb-true}
+use Rattle.std.proofs.lemmas.List.{take-append-drop, length-take, drop_at, get_or_past}
 use Rattle.std.proofs.lemmas.Nat.{from_be_bytes-to_be_bytes_4}
 use Rattle.tab_etf.specs.Frames.{limit, frame, frames, length_next}
-use Rattle.tab_etf.specs.Streams.{behind, after_length, front, Cut, cut_by, cut_at_most, payloads, rest_of, AreWithin, IsShort, AreFirstFrames}
+use Rattle.tab_etf.specs.Streams.{after_length, front, Cut, cut_by, cut_at_most, payloads, rest_of, AreWithin, IsShort, AreFirstFrames}
 use Rattle.tab_etf.proofs.Cuts.{front_falls, payloads-front, payloads-none}
 use Rattle.tab_etf.proofs.Arriving.{known_front}
 use Rattle.tab_etf.proofs.Fields.{IsBytes, IsBytes-take, IsBytes-drop, wide32}

@@ -1,9 +1,9 @@
 -- How long a spelling is.
-use Rattle.std.proofs.Common.{◌≡◌, ◌≢◌, ℕ, suc, ◌+◌, ◌-◌, ◌^◌, ◌<◌, ◌≤◌, min, ℤ, Bool, true, false, List, [], ◌∷◌, ◌++◌, length, take, get_or, refl, unsigned_abs, sym, ap, ◌∙◌, arith, eqb, length-append}
+use Rattle.std.proofs.Common.{◌≡◌, ℕ, suc, ◌+◌, ◌-◌, ◌^◌, ◌<◌, ◌≤◌, min, ℤ, true, false, List, [], ◌∷◌, ◌++◌, length, take, get_or, refl, unsigned_abs, sym, ap, ◌∙◌, arith, eqb, length-append}
 use Rattle.std.specs.Int.{w16, to_be_bytes}
 use Rattle.tab_term.specs.declared.term.Term.{Term}
-use Rattle.tab_term.specs.Data.{PlainTerm, int, atom, tuple, list, bin, map, PlainTerms, none, one_more, PlainPairs, no_pair, count, pair_count}
-use Rattle.tab_term.specs.Canon.{is_byte, fits_four, int_tag, int_contents, magnitude, length_field, atom_tag, atom_length_field, tuple_tag, arity_field, all_bytes, bytes_of, list_tag, list_contents, canon, canons, pair_canons}
+use Rattle.tab_term.specs.Data.{int, atom, tuple, list, bin, map, PlainTerms, none, one_more, PlainPairs, no_pair, count, pair_count}
+use Rattle.tab_term.specs.Canon.{is_byte, fits_four, int_tag, int_contents, magnitude, length_field, atom_tag, atom_length_field, tuple_tag, arity_field, all_bytes, bytes_of, canon, canons, pair_canons}
 use Rattle.tab_term.specs.View.{term, terms, pairs}
 use Rattle.tab_etf.proofs.Canonical as is
 use Rattle.tab_etf.proofs.Elements.{canons_next, pairs_next}

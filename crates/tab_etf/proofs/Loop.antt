@@ -1,7 +1,7 @@
 -- Reading terms one after the other, as a loop does.
 use Rattle.std.proofs.Common.{◌≡◌, ℕ, suc, ◌-◌, ◌+◌, ◌≤◌, ◌<◌, List, [], ◌∷◌, ◌++◌, Result, Ok, Err, refl, sym, ap, ◌∙◌, arith}
 use Rattle.tab_term.specs.declared.term.Term.{Term}
-use Rattle.tab_term.specs.Data.{PlainTerm, PlainTerms, none, one_more}
+use Rattle.tab_term.specs.Data.{PlainTerms, none, one_more}
 use Rattle.tab_term.specs.View.{term, terms}
 use Rattle.tab_etf.specs.declared.fault.Stop.{Stop}
 use Rattle.tab_etf.specs.declared.fault.ReadError.{ReadError}

@@ -1,5 +1,5 @@
 -- The value of a magnitude, byte by byte.
-use Rattle.std.proofs.Common.{◌≡◌, ℕ, zero, suc, ◌+◌, ◌*◌, ◌-◌, ◌<◌, ◌≤◌, List, [], ◌∷◌, length, drop, get_or, arith, ap, refl, ◌∙◌, ◌^◌, Bool, true, false, cond, ltb, leb, eqb, Option, None, ℤ}
+use Rattle.std.proofs.Common.{◌≡◌, ℕ, zero, suc, ◌+◌, ◌*◌, ◌-◌, ◌<◌, ◌≤◌, List, [], ◌∷◌, length, drop, get_or, arith, ap, refl, ◌^◌, Bool, true, false, cond, ltb, leb, eqb, Option, None, ℤ}
 use Rattle.std.proofs.lemmas.Bool.{le-ltb, lt-leb}
 use Rattle.tab_etf.specs.Spells.{signed_value}
 use Rattle.std.proofs.lemmas.List.{at_drop_more}

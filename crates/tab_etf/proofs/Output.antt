@@ -1,9 +1,9 @@
 -- Writing one thing after another.
-use Rattle.std.proofs.Common.{◌≡◌, ℕ, ◌+◌, ◌-◌, ◌^◌, ◌<◌, ◌≤◌, min, Bool, true, false, List, [], ◌∷◌, ◌++◌, length, take, Option, Some, None, refl, sym, ap, subst, ◌∙◌, append_assoc, arith, length-append}
+use Rattle.std.proofs.Common.{◌≡◌, ℕ, ◌+◌, ◌-◌, ◌^◌, ◌≤◌, min, Bool, true, false, List, [], ◌++◌, length, take, Option, Some, None, refl, sym, ap, subst, ◌∙◌, append_assoc, arith, length-append}
 use Rattle.std.specs.Io.KnownBytes.{Appends}
 use Rattle.std.proofs.lemmas.List.{append-nil, take-append-le, take_min, length-take}
 use Rattle.std.proofs.Math.Seq.{take-append-add}
-use Rattle.tab_etf.specs.Writing.{Output, HasFaults, Leads, Grows, KnownGrows, Puts, Hands}
+use Rattle.tab_etf.specs.Writing.{Output, KnownGrows, Puts, Hands}
 
 known_then : (a b c : Output) (x y z : Option (List ℕ)) (s t : List ℕ) → KnownGrows a x b y s → KnownGrows b y c z t → KnownGrows a x c z (s ++ t)
 known_then a b c None y z s t p q = tt

@@ -1,14 +1,13 @@
 -- What is read is spelled so.
-use Rattle.std.proofs.Common.{◌≡◌, ℕ, zero, suc, ◌+◌, ◌^◌, ◌<◌, ◌≤◌, ◌&&◌, max, cond, Bool, true, false, List, [], ◌∷◌, ◌++◌, length, get_or, Result, Ok, Err, Option, Some, None, refl, sym, ap, subst, ◌∙◌, append_assoc, arith, pos, ℤ, eqb, ltb, leb, inl, inr}
+use Rattle.std.proofs.Common.{◌≡◌, ℕ, zero, suc, ◌+◌, ◌^◌, ◌<◌, ◌≤◌, ◌&&◌, cond, false, List, [], ◌∷◌, ◌++◌, length, Result, Ok, Option, Some, None, refl, sym, ap, subst, arith, pos, ℤ, eqb, ltb, leb, inl, inr}
 use Rattle.std.specs.List.{All}
 use Rattle.std.specs.Int.{w16, w32, to_be_bytes, cast_unsigned, cast_signed}
-use Rattle.std.specs.Int.RustNames.{FitsSigned}
 use Rattle.std.proofs.Math.Facts.{sfits_to_z, Fits-of_lt}
 use Rattle.std.proofs.lemmas.Bool.{eqb-true, leb-true}
 use Rattle.std.proofs.lemmas.Int.{of_z-to_z}
 use Rattle.std.proofs.lemmas.List.Elements.{All-from_get_or}
 use Rattle.std.proofs.lemmas.Str.{IsUtf8-from_is_utf8}
-use Rattle.std.specs.Str.{IsUtf8, is_utf8, chars, encode_utf8_all}
+use Rattle.std.specs.Str.{is_utf8, chars, encode_utf8_all}
 use Rattle.std.proofs.lemmas.Bool.Decides.{nat_tests}
 use Rattle.tab_term.specs.Data.{PlainTerm, int, atom, tuple, list, bin, PlainTerms, none, one_more, count, depth, depths}
 use Rattle.tab_term.specs.Numbers.{low_value}

@@ -1,18 +1,17 @@
 -- Texts, and the numbers of a string.
-use Rattle.std.proofs.Common.{◌≡◌, ℕ, suc, ◌+◌, ◌^◌, ◌≤◌, ◌<◌, List, [], ◌∷◌, ◌++◌, length, take, get_or, pos, refl, sym, ap, ap₂, subst, ◌∙◌, Ok, arith, Bool, true, false, ◌&&◌, leb, cond}
+use Rattle.std.proofs.Common.{◌≡◌, ℕ, suc, ◌+◌, ◌<◌, List, [], ◌∷◌, ◌++◌, length, take, get_or, pos, refl, sym, ap, ap₂, ◌∙◌, Ok, arith, Bool, true, false, leb}
 use Rattle.std.specs.List.{All}
 use Rattle.std.specs.Str.{IsUtf8, is_utf8, chars, encode_utf8_all}
 use Rattle.std.proofs.Math.Utf8.{encode, encodes, scalar, scalars, low_scalar}
 use Rattle.std.proofs.lemmas.Bool.{le-leb}
 use Rattle.std.proofs.lemmas.Str.{IsUtf8-from_is_utf8, is_utf8-from_IsUtf8, chars-encodes, encodes-append}
 use Rattle.std.proofs.lemmas.List.{take_more, append-nil}
-use Rattle.tab_term.specs.Data.{PlainTerm, int, PlainTerms, none, one_more}
+use Rattle.tab_term.specs.Data.{int, one_more}
 use Rattle.tab_term.specs.declared.term.Term.{Term}
 use Rattle.tab_term.specs.View.{term, terms}
 use Rattle.tab_term.proofs.Lists.{push, terms-push}
 use Rattle.tab_etf.specs.declared.fault.Fault.TheVariants as faults
-use Rattle.tab_etf.specs.declared.fault.ReadError.{ReadError}
-use Rattle.tab_etf.specs.Reading.{utf8_is, latin1_is, atom_is, stop, Gives, ◌>>=◌}
+use Rattle.tab_etf.specs.Reading.{utf8_is, latin1_is, atom_is, stop}
 use Rattle.tab_etf.specs.Spells.{numbers, IsAtomText, IsLatin1Text}
 
 bool_cases : (b : Bool) → (b ≡ true → ⊥) → b ≡ false

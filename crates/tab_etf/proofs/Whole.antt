@@ -1,9 +1,8 @@
 -- The laws of whole payloads.
-use Rattle.std.proofs.Common.{◌≡◌, ℕ, zero, suc, ◌+◌, ◌<◌, ◌≤◌, max, cond, Bool, true, false, List, [], ◌∷◌, ◌++◌, length, Result, Ok, Err, refl, sym, ap, subst, ◌∙◌, arith, eqb, inl, inr}
+use Rattle.std.proofs.Common.{◌≡◌, ℕ, suc, ◌+◌, ◌≤◌, max, cond, List, [], ◌∷◌, ◌++◌, length, Result, Ok, Err, refl, sym, ap, subst, ◌∙◌, arith, eqb, inl, inr}
 use Rattle.std.proofs.lemmas.Bool.{eqb-true}
 use Rattle.std.proofs.lemmas.List.{append-nil, nil_from_length, append_cancel_right}
 use Rattle.tab_term.specs.Data.{PlainTerm, depth}
-use Rattle.tab_etf.specs.declared.fault.Stop.{Stop}
 use Rattle.tab_etf.specs.declared.fault.Fault.TheVariants.{Trailing, Version}
 use Rattle.tab_etf.specs.Spells.{Spells}
 use Rattle.std.specs.Prelude.{IfOk}

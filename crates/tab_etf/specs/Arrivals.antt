@@ -1,5 +1,5 @@
 -- What a reader took from a stream.
-use Rattle.std.specs.Prelude.{◌≡◌, ◌≢◌, ℕ, ◌+◌, ◌-◌, ◌<◌, ◌≤◌, ◌^◌, min, List, [], ◌++◌, length, drop, Option, Some, None, Result, Ok, Err, Bool, false}
+use Rattle.std.specs.Prelude.{◌≡◌, ◌≢◌, ℕ, ◌+◌, ◌-◌, ◌<◌, ◌^◌, min, List, [], ◌++◌, length, drop, Option, Some, None, Result, Ok, Err, Bool, false}
 use Rattle.std.specs.Io.KnownBytes.{Consumes, IsAtEnd}
 use Rattle.tab_etf.specs.declared.framing.Frame.{Frame}
 use Rattle.tab_etf.specs.declared.framing.FrameFault.{FrameFault}

@@ -1,9 +1,8 @@
 -- What a splitter holds, and what a piece of the stream does to it.
-use Rattle.std.specs.Prelude.{◌≡◌, ◌≢◌, ℕ, ◌+◌, ◌≤◌, List, [], ◌++◌, length, take, drop, Option, Some, None, ◌⊎◌}
+use Rattle.std.specs.Prelude.{◌≡◌, ℕ, List, ◌++◌, Option, Some, None, ◌⊎◌}
 use Rattle.tab_etf.specs.declared.framing.FrameFault.{FrameFault}
-use Rattle.tab_etf.specs.declared.framing.FrameFault.TheVariants.{FrameTooLong, CutOff, Device, NoMemory}
-use Rattle.tab_etf.specs.Frames.{length_next, IsOver}
-use Rattle.tab_etf.specs.Streams.{front, GoesOn, Stops}
+use Rattle.tab_etf.specs.declared.framing.FrameFault.TheVariants.{FrameTooLong, NoMemory}
+use Rattle.tab_etf.specs.Streams.{GoesOn, Stops}
 
 -- the rest, and once a length was over the limit that length with the payloads before it
 pub record Held : Type 0 where

@@ -1,9 +1,9 @@
 -- Bytes on their way to a device. Some are kept until there are enough of them, and after a fault no more are written.
-use Rattle.std.specs.Prelude.{◌≡◌, ℕ, ◌+◌, ◌<◌, ◌≤◌, ◌^◌, ◌-◌, min, List, [], ◌∷◌, ◌++◌, length, take, Bool, true, false, Option, Some, None}
+use Rattle.std.specs.Prelude.{◌≡◌, ℕ, ◌+◌, ◌<◌, ◌≤◌, ◌^◌, ◌-◌, min, List, [], ◌++◌, length, take, Bool, true, false, Option, Some, None}
 use Rattle.std.specs.Io.KnownBytes.{Appends}
 use Rattle.tab_etf.specs.Frames.{frame}
 use Rattle.tab_etf.specs.declared.framing.FrameFault.{FrameFault}
-use Rattle.tab_etf.specs.declared.framing.FrameFault.TheVariants.{FrameTooLong, CutOff, Device, NoMemory}
+use Rattle.tab_etf.specs.declared.framing.FrameFault.TheVariants.{FrameTooLong, Device}
 use Rattle.tab_etf.specs.declared.counted.Counted.{Counted}
 use Rattle.tab_etf.specs.declared.pending.Pending.{Pending}
 

@@ -1,6 +1,5 @@
-use Rattle.std.proofs.Common.{◌≡◌, ◌∙◌, ◌++◌, [], true, false, sym, ap, List, ℕ}
+use Rattle.std.proofs.Common.{◌∙◌, sym}
 use Rattle.std.proofs.lemmas.List.{append-nil}
-use Rattle.tab_etf.specs.Writing.{Puts}
 use Rattle.tab_etf.proofs.Output.{puts_as, puts_then, puts_done, puts_cut}
 use Rattle.tab_etf.proofs.encoding.spell.Goals as goal
 

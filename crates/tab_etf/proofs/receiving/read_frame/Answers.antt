@@ -1,4 +1,4 @@
-use Rattle.std.proofs.Common.{◌≡◌, ◌<◌, ◌≤◌, length, arith}
+use Rattle.std.proofs.Common.{arith}
 use Rattle.tab_etf.proofs.Arriving.{frame_short, frame_long, frame_ok, frame_err}
 use Rattle.tab_etf.proofs.receiving.read_frame.Goals as goal
 

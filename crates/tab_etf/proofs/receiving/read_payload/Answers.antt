@@ -1,4 +1,4 @@
-use Rattle.std.proofs.Common.{◌≡◌, ◌<◌, ◌+◌, ◌-◌, ◌++◌, take, drop, length, arith, sym, ap, ◌∙◌, refl}
+use Rattle.std.proofs.Common.{◌≡◌, ◌<◌, ◌+◌, ◌-◌, ◌++◌, take, drop, length, arith, ◌∙◌, refl}
 use Rattle.std.proofs.lemmas.List.{length-take, length-append, length-drop}
 use Rattle.tab_etf.proofs.Known.{Consumes-then, come_more}
 use Rattle.tab_etf.proofs.receiving.read_payload.Goals as goal

@@ -1,4 +1,4 @@
-use Rattle.std.proofs.Common.{◌≡◌, ◌∷◌, ◌++◌, [], true, false, eqb, length, sym, ap, ◌∙◌}
+use Rattle.std.proofs.Common.{◌≡◌, false, eqb, length, sym, ◌∙◌}
 use Rattle.tab_etf.proofs.Output.{puts_as, puts_then, puts_none}
 use Rattle.tab_etf.proofs.Canonical.{list_empty, list_bytes, list_many, list_others}
 use Rattle.tab_etf.proofs.Elements.{canons_next, pairs_next, no_canons, no_pair_canons}

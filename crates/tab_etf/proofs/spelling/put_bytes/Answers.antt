@@ -1,4 +1,4 @@
-use Rattle.std.proofs.Common.{◌≡◌, true, sym, ap, ◌∙◌, ◌∷◌, ◌++◌, []}
+use Rattle.std.proofs.Common.{sym}
 use Rattle.tab_etf.proofs.Output.{puts_as, puts_then}
 use Rattle.tab_etf.proofs.Elements.{bytes_next, all_bytes_at}
 use Rattle.tab_etf.proofs.spelling.put_bytes.Goals as goal

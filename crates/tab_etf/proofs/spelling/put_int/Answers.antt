@@ -1,7 +1,7 @@
 use Rattle.std.proofs.Common.{◌≡◌, sym, ap, ◌∙◌, ◌∷◌, [], List, ℕ, true, false, unsigned_abs}
 use Rattle.std.specs.Int.{w32, w128, to_be_bytes, cast_unsigned}
 use Rattle.std.proofs.lemmas.Int.{to_z-of_z}
-use Rattle.tab_term.specs.Canon.{is_byte, fits_four, sign_of, magnitude}
+use Rattle.tab_term.specs.Canon.{is_byte, fits_four}
 use Rattle.tab_etf.proofs.Output.{puts_as, puts_then}
 use Rattle.tab_etf.proofs.Canonical.{int_one, int_four, int_big, big_bytes}
 use Rattle.tab_etf.proofs.spelling.put_int.Goals as goal

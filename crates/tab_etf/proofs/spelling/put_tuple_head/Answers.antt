@@ -1,4 +1,4 @@
-use Rattle.std.proofs.Common.{sym, ap, ◌∙◌, ◌∷◌}
+use Rattle.std.proofs.Common.{sym}
 use Rattle.tab_etf.proofs.Output.{puts_as, puts_then}
 use Rattle.tab_etf.proofs.Canonical.{tuple_short, tuple_long}
 use Rattle.tab_etf.proofs.spelling.put_tuple_head.Goals as goal

@@ -1,4 +1,4 @@
-use Rattle.std.proofs.Common.{◌≡◌, ◌≤◌, ◌<◌, ◌∙◌, length, drop, arith, sym, length-drop}
+use Rattle.std.proofs.Common.{◌∙◌, arith, sym, length-drop}
 use Rattle.tab_etf.proofs.Cuts.{front_part, front_short, front-whole}
 use Rattle.tab_etf.proofs.splitting.front_of.Goals as goal
 

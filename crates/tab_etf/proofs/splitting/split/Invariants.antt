@@ -1,4 +1,4 @@
-use Rattle.std.proofs.Common.{ℕ, List, ◌≡◌, ◌≤◌, ◌-◌, length, drop}
+use Rattle.std.proofs.Common.{ℕ, List, ◌≤◌, ◌-◌, length, drop}
 use Rattle.tab_etf.specs.declared.framing.Frame.{Frame}
 use Rattle.tab_etf.specs.Frames.{contents, AreTold}
 use Rattle.tab_etf.specs.Streams.{GoesOn}
