@@ -1,0 +1,124 @@
+//! Payloads and frames of terms.
+
+ghost use Rattle.std.specs.Prelude.{◌≡◌, ◌<◌, ◌≤◌, ◌+◌, ◌^◌, ◌++◌, ◌∷◌, ◌↔◌, [], ℕ, min, length, take, OnOk, OnErr, IfErr, IfOk, Err};
+ghost use Rattle.std.specs.Int.{w32, to_be_bytes};
+ghost use Rattle.std.specs.Io.KnownBytes.{Appends, Keeps};
+ghost use Rattle.tab_term.specs.Canon.{canon};
+ghost use Rattle.tab_term.specs.View.{term};
+ghost use Rattle.tab_etf.specs.Frames.{frame};
+ghost use Rattle.tab_etf.specs.Writing.{IsUnwritten};
+
+use crate::counted::{Broken, Counted};
+use crate::framing::FrameFault;
+use crate::measuring::encoded_len;
+use crate::pending::Pending;
+use crate::spelling::put;
+use std::alloc::AllocError;
+use std::io::Write;
+use tab_term::Term;
+use thiserror::Error;
+
+/// Why a term was not encoded.
+#[derive(Clone, Copy, Debug, PartialEq, Eq, Error)]
+pub enum EncodeFault {
+    /// The payload is over 4,294,967,295 bytes.
+    #[error("the payload is too long")]
+    TooLong,
+    #[error("no memory")]
+    NoMemory,
+}
+
+/// Writes these bytes and the spelling behind them; where that fails, a beginning of them.
+fn spell<W: Write>(device: &mut Counted<W>, head: &[u8], value: &Term) -> Result<(), Broken>
+    ensures ok { OnOk result (Appends (W.contents device.old.inner) (W.contents device.new.inner) (head.now ++ canon (term value.now))) }
+    ensures same { OnOk result (device.new.faults ≡ device.old.faults) }
+    ensures part { OnErr result ((n : ℕ) × Appends (W.contents device.old.inner) (W.contents device.new.inner) (take n (head.now ++ canon (term value.now)))) }
+    ensures rose { OnErr result (device.new.faults ≡ min (device.old.faults + 1) u64.MAX) }
+{
+    let mut pending = Pending::new();
+    pending.put(device, head);
+    put(device, &mut pending, value);
+    pending.write_out(device);
+    if pending.has_failed() {
+        return Err(Broken);
+    }
+    Ok(())
+}
+
+/// The length of a payload, and its first byte.
+fn frame_head(len: u32) -> [u8; 5]
+    ensures { result ≡ to_be_bytes w32 len ++ 131 ∷ [] }
+{
+    let [a, b, c, d] = len.to_be_bytes();
+    [a, b, c, d, 131]
+}
+
+/// Writes the frame of a term.
+///
+/// It takes no memory: pieces of at most 512 bytes wait on the stack. At `Device` a beginning of the
+/// frame is written; at `FrameTooLong` nothing is.
+pub fn write_frame<W: Write>(device: &mut Counted<W>, value: &Term) -> Result<(), FrameFault>
+    ensures ok { OnOk result (Appends (W.contents device.old.inner) (W.contents device.new.inner) (frame (131 ∷ canon (term value.now)))) }
+    ensures same { OnOk result (device.new.faults ≡ device.old.faults) }
+    ensures err { IfErr result (λ e. IsUnwritten e (131 ∷ canon (term value.now)) (W.contents device.old.inner) (W.contents device.new.inner) device.old.faults device.new.faults) }
+{
+    let Some(len) = encoded_len(value) else {
+        return Err(FrameFault::FrameTooLong(u32::MAX));
+    };
+    match spell(device, &frame_head(len as u32), value) {
+        Ok(()) => Ok(()),
+        Err(_) => Err(FrameFault::Device),
+    }
+}
+
+/// Adds bytes and the spelling behind them, so many bytes together. On an error the bytes are as before.
+fn append(value: &Term, head: &[u8], len: usize, out: &mut Vec<u8>) -> Result<(), AllocError>
+    ensures ok { OnOk result (out.new.items ≡ out.old.items ++ (head.now ++ canon (term value.now))) }
+    ensures err { OnErr result (out.new.items ≡ out.old.items) }
+{
+    let start = out.len();
+    out.reserve(len)?;
+    let alloc = *out.allocator();
+    let mut device = Counted::new(std::mem::replace(out, Vec::new(alloc)));
+    let spelled = spell(&mut device, head, value);
+    *out = device.into_inner();
+    if spelled.is_err() {
+        out.truncate(start);
+        return Err(AllocError);
+    }
+    Ok(())
+}
+
+/// Adds the payload of a term: the byte 131 and the canonical spelling.
+///
+/// On an error the bytes are as before. `TooLong` goes before `NoMemory`.
+pub fn encode(value: &Term, out: &mut Vec<u8>) -> Result<(), EncodeFault>
+    ensures ok { OnOk result (out.new.items ≡ out.old.items ++ 131 ∷ canon (term value.now)) }
+    ensures too_long { (result ≡ Err EncodeFault.TooLong) ↔ (4294967295 < length (131 ∷ canon (term value.now))) }
+    ensures err { OnErr result (out.new.items ≡ out.old.items) }
+{
+    let Some(len) = encoded_len(value) else {
+        return Err(EncodeFault::TooLong);
+    };
+    match append(value, &[131], len as usize, out) {
+        Ok(()) => Ok(()),
+        Err(_) => Err(EncodeFault::NoMemory),
+    }
+}
+
+/// Adds the frame of a term: four bytes of length, and the payload.
+///
+/// On an error the bytes are as before. `TooLong` goes before `NoMemory`.
+pub fn append_frame(value: &Term, out: &mut Vec<u8>) -> Result<(), EncodeFault>
+    ensures ok { OnOk result (out.new.items ≡ out.old.items ++ frame (131 ∷ canon (term value.now))) }
+    ensures too_long { (result ≡ Err EncodeFault.TooLong) ↔ (4294967295 < length (131 ∷ canon (term value.now))) }
+    ensures err { OnErr result (out.new.items ≡ out.old.items) }
+{
+    let Some(len) = encoded_len(value) else {
+        return Err(EncodeFault::TooLong);
+    };
+    match append(value, &frame_head(len as u32), len as usize + 4, out) {
+        Ok(()) => Ok(()),
+        Err(_) => Err(EncodeFault::NoMemory),
+    }
+}

@@ -1,0 +1,66 @@
+//! Frames, and why there is none.
+
+ghost use Rattle.std.specs.Prelude.{◌≡◌, IfOk};
+ghost use Rattle.tab_etf.specs.declared.framing.FrameFault.TheVariants.{NoMemory};
+ghost use Rattle.tab_etf.specs.Frames.{payload_of, IsTold};
+
+use std::alloc::{AllocError, AllocFailed, Global};
+use thiserror::Error;
+
+/// What stands in one frame.
+#[derive(Debug, Drop)]
+pub enum Frame {
+    /// A payload of no bytes.
+    Empty,
+    /// A payload of at least one byte.
+    Payload(Vec<u8>),
+}
+
+/// Why a frame was not read or written.
+#[derive(Clone, Copy, Debug, PartialEq, Eq, Error)]
+pub enum FrameFault {
+    /// The length of a payload that is too long: over 1,048,576 bytes at reading. At writing, where a
+    /// length of four bytes can't tell it, it is `u32::MAX`.
+    #[error("a frame of {0} bytes")]
+    FrameTooLong(u32),
+    /// The stream ends inside a frame.
+    #[error("the stream ends inside a frame")]
+    CutOff,
+    /// A read or a write failed.
+    #[error("the device failed")]
+    Device,
+    #[error("no memory")]
+    NoMemory,
+}
+
+impl From<AllocError> for FrameFault {
+    ghost from_gives = { λ _ e. e ≡ NoMemory };
+
+    fn from(_e: AllocError) -> FrameFault {
+        FrameFault::NoMemory
+    }
+}
+
+impl Frame {
+    /// The frame of these bytes, which it keeps.
+    pub(crate) fn from_vec(payload: Vec<u8>) -> Frame
+        ensures payload { payload_of result ≡ payload.items }
+        ensures told { IsTold result }
+    {
+        if payload.is_empty() {
+            return Frame::Empty;
+        }
+        Frame::Payload(payload)
+    }
+
+    /// The frame of these bytes.
+    pub(crate) fn of(alloc: Global, payload: &[u8]) -> Result<Frame, AllocError>
+        ensures payload { IfOk result (λ f. payload_of f ≡ payload.now) }
+        ensures told { IfOk result IsTold }
+    {
+        if payload.is_empty() {
+            return Ok(Frame::Empty);
+        }
+        Ok(Frame::Payload(Vec::from_slice(alloc, payload)?))
+    }
+}

@@ -1,0 +1,25 @@
+//! The external term format over packets with a length of four bytes: terms as bytes, and bytes as terms.
+#![tactic(auto)]
+
+mod counted;
+mod decoding;
+mod encoding;
+mod fault;
+mod framing;
+mod leaf;
+mod measuring;
+mod pending;
+mod receiving;
+mod spelling;
+mod splitting;
+#[cfg(test)]
+mod tests;
+
+pub use counted::{Broken, Counted};
+pub use decoding::{decode, spellings_are_apart};
+pub use encoding::{EncodeFault, append_frame, encode, write_frame};
+pub use fault::{EtfFault, Fault};
+pub use framing::{Frame, FrameFault};
+pub use measuring::encoded_len;
+pub use receiving::read_frame;
+pub use splitting::{LIMIT, Splitter, payloads_are_framed};

@@ -1,0 +1,130 @@
+//! How long the canonical spelling of a term is.
+
+ghost use Rattle.std.specs.Prelude.{◌≡◌, ◌<◌, ◌≤◌, ◌+◌, ◌^◌, ◌∷◌, min, length, MatchOption, unsigned_abs};
+ghost use Rattle.tab_term.specs.Canon.{int_tag, int_contents, magnitude, length_field, atom_tag, atom_length_field, tuple_tag, arity_field, list_tag, list_contents, canon, canons, pair_canons};
+ghost use Rattle.tab_term.specs.Data.{list};
+ghost use Rattle.tab_term.specs.View.{term, terms, pairs as pairs_of};
+
+use crate::spelling::{are_bytes, is_in_byte, is_in_four, low_first, significant_of};
+use tab_term::{Term, Terms};
+
+/// The longest payload that a length of four bytes can tell.
+const LONGEST: u64 = 0xffff_ffff;
+
+#[tactic(auto, using(crate::proofs::Lengths::one_long, crate::proofs::Lengths::four_long, crate::proofs::Lengths::big_long))]
+fn int_len(z: i128) -> u64
+    ensures { result ≡ length (int_tag z ∷ int_contents z) }
+{
+    if is_in_byte(z) {
+        2
+    } else if is_in_four(z) {
+        5
+    } else {
+        big_len(z)
+    }
+}
+
+fn big_len(z: i128) -> u64
+    ensures { result ≡ 3 + length (magnitude (unsigned_abs z)) }
+{
+    let bytes = low_first(z.unsigned_abs());
+    significant_of(&bytes).len() as u64 + 3
+}
+
+#[tactic(auto, using(crate::proofs::Lengths::field_short, crate::proofs::Lengths::field_long))]
+fn field_len(n: usize) -> u64
+    ensures value { result ≡ length (length_field n) }
+    ensures small { result ≤ 12 }
+{
+    if n < 0xffff_ffff { 4 } else { 12 }
+}
+
+#[tactic(auto, using(crate::proofs::Lengths::atom_short, crate::proofs::Lengths::atom_long))]
+fn atom_len(n: usize) -> u64
+    requires { n < 2 ^ 16 }
+    ensures { result ≡ length (atom_tag n ∷ atom_length_field n) + n }
+{
+    if n < 256 { n as u64 + 2 } else { n as u64 + 3 }
+}
+
+#[tactic(auto, using(crate::proofs::Lengths::arity_short, crate::proofs::Lengths::arity_long))]
+fn arity_len(n: usize) -> u64
+    ensures value { result ≡ length (arity_field n) }
+    ensures small { result ≤ 12 }
+{
+    if n < 256 { 1 } else { field_len(n) }
+}
+
+/// How long the canonical spelling is; `u64::MAX` stands for more.
+#[cycle(len)]
+#[tactic(auto, using(crate::proofs::Lengths::int_length, crate::proofs::Lengths::atom_length, crate::proofs::Lengths::tuple_length, crate::proofs::Lengths::bin_length, crate::proofs::Lengths::map_length))]
+fn spelled_len(t: &Term) -> u64
+    ensures { result ≡ min (length (canon (term t.now))) u64.MAX }
+{
+    match t {
+        Term::Int(z) => int_len(*z),
+        Term::Atom(a) => atom_len(a.as_str().len()),
+        Term::Tuple(ts) => {
+            let items = ts.as_slice();
+            all_len(items).saturating_add(arity_len(items.len()) + 1)
+        }
+        Term::List(ts) => list_len(ts),
+        Term::Bin(b) => {
+            let n = b.as_slice().len();
+            (n as u64).saturating_add(field_len(n) + 1)
+        }
+        Term::Map(ps) => {
+            let items = ps.as_slice();
+            pairs_len(items).saturating_add(field_len(items.len()) + 1)
+        }
+    }
+}
+
+#[cycle(len)]
+#[tactic(auto, using(crate::proofs::Lengths::empty_length, crate::proofs::Lengths::bytes_length, crate::proofs::Lengths::many_length, crate::proofs::Lengths::others_length))]
+fn list_len(ts: &Terms) -> u64
+    ensures { result ≡ min (length (canon (list ts.now))) u64.MAX }
+{
+    let items = ts.as_slice();
+    if items.is_empty() {
+        1
+    } else if items.len() < 0x1_0000 && are_bytes(items) {
+        items.len() as u64 + 3
+    } else {
+        all_len(items).saturating_add(field_len(items.len()) + 2)
+    }
+}
+
+#[cycle(len)]
+#[tactic(auto, using(tab_term::proofs::Lists::weight_at, crate::proofs::Lengths::canons_more, crate::proofs::Lengths::none_length))]
+fn all_len(ts: &[Term]) -> u64
+    ensures { result ≡ min (length (canons (terms ts.now))) u64.MAX }
+{
+    let mut sum: u64 = 0;
+    for t in ts {
+        sum = sum.saturating_add(spelled_len(t));
+    }
+    sum
+}
+
+#[cycle(len)]
+#[tactic(auto, using(crate::proofs::Elements::pair_weight_at, crate::proofs::Lengths::pairs_more, crate::proofs::Lengths::no_pair_length))]
+fn pairs_len(ps: &[(Term, Term)]) -> u64
+    ensures { result ≡ min (length (pair_canons (pairs_of ps.now))) u64.MAX }
+{
+    let mut sum: u64 = 0;
+    for p in ps {
+        sum = sum
+            .saturating_add(spelled_len(&p.0))
+            .saturating_add(spelled_len(&p.1));
+    }
+    sum
+}
+
+/// How long a term's payload is: the byte 131 and the canonical spelling. None where it passes 4,294,967,295 bytes.
+pub fn encoded_len(value: &Term) -> Option<u64>
+    ensures { MatchOption result (4294967295 < length (131 ∷ canon (term value.now))) (λ n. (n ≡ length (131 ∷ canon (term value.now))) × (n ≤ 4294967295)) }
+{
+    let len = spelled_len(value).saturating_add(1);
+    if len <= LONGEST { Some(len) } else { None }
+}

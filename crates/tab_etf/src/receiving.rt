@@ -1,0 +1,108 @@
+//! Frames from a reader, one at a time.
+
+ghost use Rattle.std.specs.Prelude.{◌≡◌, ◌<◌, ◌≤◌, ◌+◌, ◌++◌, List, ℕ, min, length, take, OnOk, OnErr, IfOk, IfSome, false};
+ghost use Rattle.std.specs.Io.KnownBytes.{Consumes, IsAtEnd};
+ghost use Rattle.tab_etf.specs.Arrivals.{ReadsFrame, ReadsPayload, CountsFaults};
+ghost use Rattle.tab_etf.specs.Frames.{IsTold};
+
+use crate::counted::{Broken, Counted};
+use crate::framing::{Frame, FrameFault};
+use crate::splitting::LIMIT;
+use std::alloc::Global;
+use std::io::Read;
+
+/// How many bytes of a payload are read at once.
+const CHUNK: usize = 4096;
+
+/// Reads until the buffer is full or the stream ends, and returns how many bytes came.
+fn fill<R: Read>(reader: &mut Counted<R>, buf: &mut [u8]) -> Result<usize, Broken>
+    ensures bound { IfOk result (λ n. n ≤ length buf.new) }
+    ensures bytes { IfOk result (λ n. Consumes (R.remaining reader.old.inner) (R.remaining reader.new.inner) (take n buf.new)) }
+    ensures end { IfOk result (λ n. n < length buf.new → IsAtEnd (R.remaining reader.new.inner)) }
+    ensures same { OnOk result (reader.new.faults ≡ reader.old.faults) }
+    ensures part { OnErr result ((got : List ℕ) × Consumes (R.remaining reader.old.inner) (R.remaining reader.new.inner) got) }
+    ensures rose { OnErr result (reader.new.faults ≡ min (reader.old.faults + 1) u64.MAX) }
+{
+    let mut at = 0;
+    while at < buf.len() {
+        match reader.get(&mut buf[at..]) {
+            Ok(0) => return Ok(at),
+            Ok(count) => at += count,
+            Err(broken) => return Err(broken),
+        }
+    }
+    Ok(at)
+}
+
+/// Adds bytes to those that are kept, unless some are lost, and returns whether some are lost then.
+fn keep(kept: &mut Vec<u8>, lost: bool, bytes: &[u8]) -> bool
+    ensures { result ≡ false → (lost ≡ false) × (kept.new.items ≡ kept.old.items ++ bytes.now) }
+{
+    if lost {
+        return true;
+    }
+    kept.extend_from_slice(bytes).is_err()
+}
+
+/// Reads a payload of so many bytes. Its buffer grows as they come, and where it can't, they are read over.
+fn read_payload<R: Read>(
+    alloc: Global,
+    reader: &mut Counted<R>,
+    count: usize,
+) -> Result<Frame, FrameFault>
+    ensures payload { ReadsPayload (R.remaining reader.old.inner) (R.remaining reader.new.inner) count result }
+    ensures told { IfOk result IsTold }
+    ensures faults { CountsFaults result reader.old.faults reader.new.faults }
+{
+    let mut payload = Vec::new(alloc);
+    let mut lost = false;
+    let mut left = count;
+    let mut chunk = [0; CHUNK];
+    while left > 0 {
+        let room = left.min(CHUNK);
+        let Ok(came) = fill(reader, &mut chunk[..room]) else {
+            return Err(FrameFault::Device);
+        };
+        if came < room {
+            return Err(FrameFault::CutOff);
+        }
+        lost = keep(&mut payload, lost, &chunk[..came]);
+        left -= came;
+    }
+    if lost {
+        return Err(FrameFault::NoMemory);
+    }
+    Ok(Frame::from_vec(payload))
+}
+
+/// The next frame of a reader; None where the stream ends before it.
+///
+/// Of a frame over 1,048,576 bytes only the length is read. At `NoMemory` its payload was read over, so
+/// that the next frame can be read. A stream that ends inside a frame is `CutOff`.
+pub fn read_frame<R: Read>(
+    alloc: Global,
+    reader: &mut Counted<R>,
+) -> Result<Option<Frame>, FrameFault>
+    ensures frame { ReadsFrame (R.remaining reader.old.inner) (R.remaining reader.new.inner) result }
+    ensures told { IfOk result (λ frame. IfSome frame IsTold) }
+    ensures faults { CountsFaults result reader.old.faults reader.new.faults }
+{
+    let mut head = [0; 4];
+    let Ok(came) = fill(reader, &mut head) else {
+        return Err(FrameFault::Device);
+    };
+    if came == 0 {
+        return Ok(None);
+    }
+    if came < 4 {
+        return Err(FrameFault::CutOff);
+    }
+    let count = u32::from_be_bytes(head);
+    if count > LIMIT {
+        return Err(FrameFault::FrameTooLong(count));
+    }
+    match read_payload(alloc, reader, count as usize) {
+        Ok(frame) => Ok(Some(frame)),
+        Err(fault) => Err(fault),
+    }
+}
