@@ -1,23 +1,24 @@
 //! The core: a machine of steps over tables, sessions and their transactions.
 //!
-//! Each step is a function of the core's state as contracts see it (`outcome` of tab_model). One session with one
-//! level of transaction is served so far, and the commands that `is_served` names.
+//! Contracts see a core as one plain state (`State` of tab_model), and a step is a function of it (`outcome`). So far
+//! one session is served, with one level of transaction, and the commands that `is_served` names.
 
 #![tactic(auto)]
-
-
 
 mod machine;
 mod operate;
 mod running;
+mod served;
 mod stepped;
 mod steps;
-mod transaction;
 mod table;
 mod tables;
+mod transaction;
+
+#[cfg(test)]
+mod tests;
 
 pub use running::Core;
+pub use served::is_served;
 pub use stepped::Stepped;
 pub use steps::Step;
-pub use table::Table;
-pub use tables::Tables;
