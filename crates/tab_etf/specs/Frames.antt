@@ -1,11 +1,11 @@
--- Payloads behind their lengths, on a stream ("packet 4").
+-- Payloads behind their lengths, on a stream (ERTS: {packet, 4}, four bytes of length, the highest first).
 use Rattle.std.specs.Prelude.{◌≡◌, ◌≢◌, ℕ, ◌<◌, List, [], ◌∷◌, ◌++◌, length, take, map, Option, Some, None, nat_lt, if◌then◌else◌}
 use Rattle.std.specs.List.{flat_map}
 use Rattle.std.specs.Int.{w32, to_be_bytes, from_be_bytes}
 use Rattle.tab_etf.specs.declared.framing.Frame.{Frame}
 use Rattle.tab_etf.specs.declared.framing.Frame.TheVariants.{Empty, Payload}
 
--- the longest payload that is read
+-- the longest payload that is read (a rule of this project)
 abbrev pub limit : ℕ
 limit = 1048576
 

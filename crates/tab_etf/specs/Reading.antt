@@ -1,4 +1,4 @@
--- Reading from left to right, with the first fault that is met.
+-- Reading from left to right, with the first fault that is met (the faults and their order are rules of this project).
 use Rattle.std.specs.Prelude.{◌≡◌, ◌-◌, ℕ, zero, suc, ◌+◌, ℤ, pos, List, [], ◌∷◌, length, take, drop, Bool, ◌&&◌, Result, Ok, Err, Option, Some, None, nat_lt, nat_le, ◌==◌, if◌then◌else◌, encode_utf8_all}
 use Rattle.std.specs.Int.{Width, w16, w32, byte_len, from_be_bytes, cast_signed}
 use Rattle.std.specs.Str.{is_utf8, chars}
@@ -182,7 +182,7 @@ term_at levels [] = stop faults.Truncated 0
 term_at zero (tag ∷ bytes) = stop faults.Depth (length bytes + 1)
 term_at (suc levels) (tag ∷ bytes) = behind (term_at levels) (levels == 0) tag bytes
 
--- a payload: the version, one term of at most 64 levels, and nothing after it
+-- a payload: the version, one term of at most 64 levels (a rule of this project), and nothing after it
 unfoldable pub whole : List ℕ → Result PlainTerm Stop
 whole [] = stop faults.Truncated 0
 whole (v ∷ bytes) =
