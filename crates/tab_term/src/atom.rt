@@ -1,4 +1,4 @@
-ghost use Rattle.std.specs.Prelude.{◌≡◌, ◌<◌, ◌≤◌, length, string_bytes, IfOk, OnErr, IsErr, ◌↔◌};
+ghost use Rattle.std.specs.Prelude.{◌≡◌, ◌<◌, ◌≤◌, nat_lt, length, string_bytes, IfOk, OnErr, IsErr, ◌↔◌};
 ghost use Rattle.std.specs.Str.{chars};
 
 use std::alloc::{AllocError, Global};
@@ -34,12 +34,12 @@ impl Model for Atom {
 }
 
 impl Atom {
-    /// The atom of a text. It takes no memory: the text becomes the atom's.
+    /// The atom of a text. It takes no memory: the text becomes the atom's. A text of at most 255 bytes needs no count.
     pub fn new(text: String) -> Result<Atom, TermFault>
         ensures ok { IfOk result (λ a. a ≡ string_bytes text) }
         ensures fits { IsErr result ↔ (255 < length (chars (string_bytes text))) }
     {
-        if count_chars(text.as_str()) > 255 {
+        if is_too_long(text.as_str()) {
             return Err(TermFault::TooLong);
         }
         Ok(Atom { text })
@@ -74,6 +74,16 @@ impl Atom {
             text: String::from_str(alloc, &self.text)?,
         })
     }
+}
+
+#[tactic(auto, using(crate::proofs::Lists::chars_of_bytes))]
+fn is_too_long(text: &str) -> bool
+    ensures { result ≡ nat_lt 255 (length (chars text.now)) }
+{
+    if text.len() <= 255 {
+        return false;
+    }
+    count_chars(text) > 255
 }
 
 fn count_chars(text: &str) -> usize
