@@ -13,6 +13,7 @@ ghost use Rattle.tab_model.specs.Tables.{Rows, at, apply, is_ordered, SameTable}
 ghost use Rattle.tab_model.specs.Operations.{key_of_change};
 ghost use Rattle.tab_model.specs.Worlds.{World, IsOrderedWorld};
 ghost use Rattle.tab_model.specs.Alone.{start, after, replies};
+ghost use Rattle.tab_model.specs.Events.{surviving, change_all};
 ghost use Rattle.tab_model.specs.Locks.{locks_of, Apart};
 ghost use Rattle.tab_model.specs.Ages.{Ages, Owned, Rises, decide, after_request, can_retry, after_retry, request_of, forget, Chain, last_of};
 ghost use Rattle.tab_model.specs.Log.{serial, IsLegal};
@@ -64,4 +65,11 @@ pub fn waits_have_no_cycle()
     ensures retry { (g : Ages) (r : Owned) → request_of r.0 g.queue ≡ Some r → Rises g → Rises (after_retry g r (can_retry g r)) }
     ensures forget { (g : Ages) (a : ℕ) → Rises g → Rises (forget g a) }
     ensures chain { (g : Ages) (a b : ℕ) (bs : List ℕ) → Rises g → Chain g a (b ∷ bs) → a < last_of b bs }
+{}
+
+/// The updates that no abort and no failure undid, read off a transaction's replies and made one after another, give the
+/// tables that the transaction leaves.
+#[tactic(auto, using(crate::proofs::Survive::survivors_are))]
+pub fn survivors_right()
+    ensures { (w : World) (age : ℕ) (xs : List Move) → change_all w (surviving xs (replies (start w age) xs)) ≡ (after (start w age) xs).now }
 {}
