@@ -1,23 +1,28 @@
 //! Laws of the definitions. Each is the contract of a function that does nothing.
 
-ghost use Rattle.std.specs.Prelude.{◌≡◌, ◌<◌, ℕ, List, [], ◌∷◌, ◌++◌, true, if◌then◌else◌, Some};
-ghost use Rattle.tab_term.specs.Data.{PlainTerm};
+ghost use Rattle.std.specs.Prelude.{◌≡◌, ◌<◌, ℕ, List, [], ◌∷◌, ◌++◌, true, false, if◌then◌else◌, Some, map};
+ghost use Rattle.std.specs.List.{list_any};
+ghost use Rattle.tab_term.specs.Data.{PlainTerm, PlainTerms};
 ghost use Rattle.tab_term.specs.Same.{same};
 ghost use Rattle.tab_model.specs.declared.data.Change.{Change};
 ghost use Rattle.tab_model.specs.declared.data.Entry.{Entry};
+ghost use Rattle.tab_model.specs.declared.data.Event.{Event};
 ghost use Rattle.tab_model.specs.declared.data.Item.{Item};
 ghost use Rattle.tab_model.specs.declared.data.Kind.{Kind};
+ghost use Rattle.tab_model.specs.declared.data.Level.{Level};
 ghost use Rattle.tab_model.specs.declared.data.Limits.{Limits};
 ghost use Rattle.tab_model.specs.declared.data.Move.{Move};
-ghost use Rattle.tab_model.specs.Tables.{Rows, at, apply, is_ordered, SameTable};
+ghost use Rattle.tab_model.specs.Names.{terms_list};
+ghost use Rattle.tab_model.specs.Tables.{Rows, at, apply, applied, is_ordered, SameTable};
 ghost use Rattle.tab_model.specs.Operations.{key_of_change};
-ghost use Rattle.tab_model.specs.Worlds.{World, IsOrderedWorld};
+ghost use Rattle.tab_model.specs.Worlds.{World, Table, find, rows_of, IsOrderedWorld};
 ghost use Rattle.tab_model.specs.Alone.{start, after, replies};
-ghost use Rattle.tab_model.specs.Events.{surviving, change_all};
+ghost use Rattle.tab_model.specs.Events.{surviving, events, change_all};
 ghost use Rattle.tab_model.specs.Locks.{locks_of, Apart};
 ghost use Rattle.tab_model.specs.Ages.{Ages, Owned, Rises, decide, after_request, can_retry, after_retry, request_of, forget, Chain, last_of};
-ghost use Rattle.tab_model.specs.Log.{serial, IsLegal};
-ghost use Rattle.tab_model.specs.Slices.{slice};
+ghost use Rattle.tab_model.specs.Log.{entered, serial, serial_from, stands, in_force, IsRight, IsLegal, commits_from};
+ghost use Rattle.tab_model.specs.Since.{changes_on, deletes, StandsSince};
+ghost use Rattle.tab_model.specs.Slices.{dump_of, owed, slice};
 ghost use Rattle.tab_model.specs.State.{State, Seat, new, seat_at, age_at, moves_at, told_at, IsSound};
 ghost use Rattle.tab_model.specs.Outcome.{Ask, outcome};
 ghost use Rattle.tab_model.specs.Run.{Call, AllJoinEmpty, JoinsEmpty, IsTied, after_all, log_of, taken_of, entries, taken_now};
@@ -72,4 +77,33 @@ pub fn waits_have_no_cycle()
 #[tactic(auto, using(crate::proofs::Survive::survivors_are))]
 pub fn survivors_right()
     ensures { (w : World) (age : ℕ) (xs : List Move) → change_all w (surviving xs (replies (start w age) xs)) ≡ (after (start w age) xs).now }
+{}
+
+/// The changes that a legal log made to a table that stood before it and that it doesn't delete, applied to the table's
+/// rows before it, give the rows after it: so the changes since a subscription that stands give the table now, from the
+/// rows at its beginning or from the dump of its begin mark. The changes are those that the events of the commits carry.
+#[tactic(auto, using(crate::proofs::Given::log_applies, crate::proofs::Given::events_carry))]
+pub fn events_give_the_rows()
+    ensures log { (w : World) (n : ℕ) (x : Table) (t : List ℕ) (log : List Entry) → IsLegal w n log → find w t ≡ Some x → list_any (deletes t) log ≡ false → rows_of (serial_from w log) t ≡ applied x.def.kind (rows_of w t) (changes_on t log) }
+    ensures since { (s : ℕ) (t : List ℕ) (l : Level) (log : List Entry) (x : Table) → IsLegal [] 0 log → (i : StandsSince s t l log) → find (serial i.earlier) t ≡ Some x → rows_of (serial log) t ≡ applied x.def.kind (rows_of (serial i.earlier) t) (changes_on t i.since) }
+    ensures dump { (s : ℕ) (t : List ℕ) (l : Level) (log : List Entry) (x : Table) (records : PlainTerms) → IsLegal [] 0 log → (i : StandsSince s t l log) → find (serial i.earlier) t ≡ Some x → dump_of (serial i.earlier) t i.dump ≡ Some records → rows_of (serial log) t ≡ applied x.def.kind (terms_list records) (changes_on t i.since) }
+    ensures carried { (w : World) (age : ℕ) (cs : List Change) → map (λ (e : Event). e.change) (events w age cs) ≡ cs }
+{}
+
+/// What a log with one entry more says: its tables are that entry's on the tables before; a subscription's level is what
+/// the entry leaves of it; a session's items are those before and then those that the entry owes it.
+#[tactic(auto, using(crate::proofs::Seats::serial_more, crate::proofs::Seats::in_force_more, crate::proofs::Seats::slice_more, crate::proofs::Seats::legal_more))]
+pub fn a_log_with_one_entry_more()
+    ensures tables { (log : List Entry) (e : Entry) → serial (log ++ e ∷ []) ≡ entered (serial log) e }
+    ensures levels { (s : ℕ) (log : List Entry) (e : Entry) (t : List ℕ) → in_force s (log ++ e ∷ []) t ≡ stands s t (in_force s log t) e }
+    ensures items { (s : ℕ) (log : List Entry) (e : Entry) → slice s (log ++ e ∷ []) ≡ slice s log ++ owed s log e }
+    ensures legal { (log : List Entry) (e : Entry) → IsLegal [] 0 log → IsRight (serial log) (commits_from 0 log) e → IsLegal [] 0 (log ++ e ∷ []) }
+{}
+
+/// A subscription is in force exactly where the log has its Subscribed entry and after it no unsubscribing of it, no
+/// deletion of its table, no overflow of its session, and no further Subscribed entry.
+#[tactic(auto, using(crate::proofs::InForce::in_force_stands))]
+pub fn subscriptions_stand_in_the_log()
+    ensures stands { (s : ℕ) (t : List ℕ) (l : Level) (log : List Entry) → in_force s log t ≡ Some l → StandsSince s t l log }
+    ensures in_force { (s : ℕ) (t : List ℕ) (l : Level) (log : List Entry) → StandsSince s t l log → in_force s log t ≡ Some l }
 {}

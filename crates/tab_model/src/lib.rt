@@ -11,5 +11,8 @@ pub use data::{
     Change, Command, Ending, Entry, Event, InfoItem, Item, Kind, Level, Limit, Limits, Lock, Mode, Move, Operation,
     Part, Reply, Schema, TableDef, TableInfo, What,
 };
-pub use laws::{every_schedule, replies_stay, steps_keep_what_holds, survivors_right, tables_are_lists, waits_have_no_cycle};
+pub use laws::{
+    a_log_with_one_entry_more, events_give_the_rows, every_schedule, replies_stay, steps_keep_what_holds,
+    subscriptions_stand_in_the_log, survivors_right, tables_are_lists, waits_have_no_cycle,
+};
 pub use lists::{Atoms, Moves, Numbers, Parts, Replies};
