@@ -19,6 +19,7 @@ ghost use Rattle.tab_model.specs.Worlds.{World, Table, find, rows_of, IsOrderedW
 ghost use Rattle.tab_model.specs.Alone.{start, after, replies};
 ghost use Rattle.tab_model.specs.Events.{surviving, events, change_all};
 ghost use Rattle.tab_model.specs.Locks.{locks_of, Apart};
+ghost use Rattle.tab_model.specs.Shapes.{shape, change_of, IsShaped, ShapesChange};
 ghost use Rattle.tab_model.specs.Ages.{Ages, Owned, Rises, decide, after_request, can_retry, after_retry, request_of, forget, Chain, last_of};
 ghost use Rattle.tab_model.specs.Log.{entered, serial, serial_from, stands, in_force, IsRight, IsLegal, commits_from};
 ghost use Rattle.tab_model.specs.Since.{changes_on, deletes, StandsSince};
@@ -106,4 +107,12 @@ pub fn a_log_with_one_entry_more()
 pub fn subscriptions_stand_in_the_log()
     ensures stands { (s : ℕ) (t : List ℕ) (l : Level) (log : List Entry) → in_force s log t ≡ Some l → StandsSince s t l log }
     ensures in_force { (s : ℕ) (t : List ℕ) (l : Level) (log : List Entry) → StandsSince s t l log → in_force s log t ≡ Some l }
+{}
+
+/// An event's term, at either level, tells the event's change; and a term that tells a change is the term of an event
+/// with that change. An event has a term where its record has arity 3 or more and its table's atom first.
+#[tactic(auto, using(crate::proofs::ShapeLaws::shape_tells, crate::proofs::ShapeLaws::change_shapes))]
+pub fn events_tell_their_changes()
+    ensures shaped { (l : Level) (e : Event) → IsShaped e → change_of (shape l e) ≡ Some e.change }
+    ensures no_other { (x : PlainTerm) (c : Change) → change_of x ≡ Some c → ShapesChange x c }
 {}
