@@ -25,7 +25,7 @@ either true r t o f g = g
 either false r t o f g = f
 
 -- a reply tells whether the operation failed
-reply_tells : (x : Option Table) (o : Operation) → is_failure (Some (answer_or (failure_in x o) x o)) ≡ is_some (failure_in x o)
+pub reply_tells : (x : Option Table) (o : Operation) → is_failure (Some (answer_or (failure_in x o) x o)) ≡ is_some (failure_in x o)
 reply_tells None o = refl
 reply_tells (Some t) (op.Read n k) = refl
 reply_tells (Some t) (op.ReadForWrite n k) = refl

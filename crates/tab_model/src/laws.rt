@@ -1,9 +1,10 @@
 //! Laws of the definitions. Each is the contract of a function that does nothing.
 
-ghost use Rattle.std.specs.Prelude.{◌≡◌, ◌<◌, ℕ, List, [], ◌∷◌, ◌++◌, true, false, if◌then◌else◌, Some, map};
+ghost use Rattle.std.specs.Prelude.{◌≡◌, ◌≢◌, ◌<◌, ℕ, List, [], ◌∷◌, ◌++◌, true, false, if◌then◌else◌, Some, None, map};
 ghost use Rattle.std.specs.List.{list_any};
 ghost use Rattle.tab_term.specs.Data.{PlainTerm, PlainTerms};
 ghost use Rattle.tab_term.specs.Same.{same};
+ghost use Rattle.tab_term.specs.declared.term.Term.{Term};
 ghost use Rattle.tab_model.specs.declared.data.Change.{Change};
 ghost use Rattle.tab_model.specs.declared.data.Entry.{Entry};
 ghost use Rattle.tab_model.specs.declared.data.Event.{Event};
@@ -12,20 +13,26 @@ ghost use Rattle.tab_model.specs.declared.data.Kind.{Kind};
 ghost use Rattle.tab_model.specs.declared.data.Level.{Level};
 ghost use Rattle.tab_model.specs.declared.data.Limits.{Limits};
 ghost use Rattle.tab_model.specs.declared.data.Move.{Move};
+ghost use Rattle.tab_model.specs.declared.data.Move.TheVariants.{Do, Undo};
+ghost use Rattle.tab_model.specs.declared.data.Operation.{Operation};
+ghost use Rattle.tab_model.specs.declared.data.Reply.TheVariants as reply;
+ghost use Rattle.tab_model.specs.declared.data.Schema.{Schema};
+ghost use Rattle.tab_model.specs.declared.data.Command.TheVariants as command;
 ghost use Rattle.tab_model.specs.Names.{terms_list};
 ghost use Rattle.tab_model.specs.Tables.{Rows, at, apply, applied, is_ordered, SameTable};
 ghost use Rattle.tab_model.specs.Operations.{key_of_change};
 ghost use Rattle.tab_model.specs.Worlds.{World, Table, find, rows_of, IsOrderedWorld};
 ghost use Rattle.tab_model.specs.Alone.{start, after, replies};
-ghost use Rattle.tab_model.specs.Events.{surviving, events, change_all};
+ghost use Rattle.tab_model.specs.Events.{is_failure, surviving, events, change_all};
 ghost use Rattle.tab_model.specs.Locks.{locks_of, Apart};
 ghost use Rattle.tab_model.specs.Shapes.{shape, change_of, IsShaped, ShapesChange};
 ghost use Rattle.tab_model.specs.Ages.{Ages, Owned, Rises, decide, after_request, can_retry, after_retry, request_of, forget, Chain, last_of};
 ghost use Rattle.tab_model.specs.Log.{entered, serial, serial_from, stands, in_force, IsRight, IsLegal, commits_from};
 ghost use Rattle.tab_model.specs.Since.{changes_on, deletes, StandsSince};
 ghost use Rattle.tab_model.specs.Slices.{dump_of, owed, slice};
-ghost use Rattle.tab_model.specs.State.{State, Seat, new, seat_at, age_at, moves_at, told_at, IsSound};
-ghost use Rattle.tab_model.specs.Outcome.{Ask, outcome};
+ghost use Rattle.tab_model.specs.State.{State, Seat, Transaction, Queued, new, seat_at, transaction_at, request_in, age_at, moves_at, told_at, IsSound};
+ghost use Rattle.tab_model.specs.Outcome.{Ask, Retry, DoCommand, outcome};
+ghost use Rattle.tab_model.specs.Refusals.{AsBefore, standing, counted, requested, queued, empty_again, restarted, Restarts, EndsLevel};
 ghost use Rattle.tab_model.specs.Run.{Call, AllJoinEmpty, JoinsEmpty, IsTied, after_all, log_of, taken_of, entries, taken_now};
 
 /// For every schedule of steps: commits are numbered in order and were told what they are told alone in that order;
@@ -115,4 +122,27 @@ pub fn subscriptions_stand_in_the_log()
 pub fn events_tell_their_changes()
     ensures shaped { (l : Level) (e : Event) → IsShaped e → change_of (shape l e) ≡ Some e.change }
     ensures no_other { (x : PlainTerm) (c : Change) → change_of x ≡ Some c → ShapesChange x c }
+{}
+
+/// A refusal leaves the state as it was, and so does a schema command that isn't done. A mark that the post refuses leaves
+/// only that post's count one higher; a wait queues the operation and nothing else; a restart leaves level 1 open, empty
+/// and of the same age, and all else as it was.
+#[tactic(auto, using(crate::proofs::RefusalLaws::as_before, crate::proofs::RefusalLaws::schema_refused, crate::proofs::RefusalLaws::refusal_counted, crate::proofs::RefusalLaws::waits_queued, crate::proofs::RefusalLaws::restarts_empty, crate::proofs::RefusalLaws::restarted_open))]
+pub fn refusals_change_nothing()
+    ensures refused { (σ : State) (over : List ℕ) (n : ℕ) (a : Ask) → standing (outcome σ over n a).reply ≡ AsBefore → (outcome σ over n a).state ≡ σ }
+    ensures schema { (σ : State) (over : List ℕ) (n : ℕ) (c : Schema) → (outcome σ over n (DoCommand (command.Schema c))).reply ≢ reply.AtomicOk → (outcome σ over n (DoCommand (command.Schema c))).state ≡ σ }
+    ensures outbox_full { (σ : State) (over : List ℕ) (n : ℕ) (a : Ask) → (outcome σ over n a).reply ≡ reply.OutboxFull → (outcome σ over n a).state ≡ counted σ (seat_at σ.seats n) }
+    ensures waiting { (σ : State) (over : List ℕ) (n : ℕ) (a : Ask) → (outcome σ over n a).reply ≡ reply.Waiting → (outcome σ over n a).state ≡ queued σ (requested (seat_at σ.seats n) a) }
+    ensures restart { (σ : State) (over : List ℕ) (n : ℕ) (a : Ask) → (outcome σ over n a).reply ≡ reply.Restart → Restarts σ (seat_at σ.seats n) (outcome σ over n a).state }
+    ensures restarted { (σ : State) (n : ℕ) → transaction_at (restarted σ (seat_at σ.seats n)) n ≡ empty_again (transaction_at σ n) }
+{}
+
+/// An operation that fails, at once or when it is retried, and an abort end the innermost level alone: the transaction is
+/// over where that is level 1; else it stays open with its locks, at most the operation's more, on the tables that the
+/// level began with.
+#[tactic(auto)]
+pub fn levels_end_alone()
+    ensures failed { (σ : State) (over : List ℕ) (n : ℕ) (t : Transaction) (o : Operation) → transaction_at σ n ≡ Some t → is_failure (Some (outcome σ over n (DoCommand (command.Do o))).reply) ≡ true → EndsLevel σ n t (Do o) (Some (outcome σ over n (DoCommand (command.Do o))).reply) (outcome σ over n (DoCommand (command.Do o))).state }
+    ensures retried { (σ : State) (over : List ℕ) (n : ℕ) (t : Transaction) (q : Queued) → transaction_at σ n ≡ Some t → request_in σ.queue n ≡ Some q → is_failure (Some (outcome σ over n Retry).reply) ≡ true → EndsLevel σ n t (Do q.operation) (Some (outcome σ over n Retry).reply) (outcome σ over n Retry).state }
+    ensures aborted { (σ : State) (over : List ℕ) (n : ℕ) (t : Transaction) (r : Term) → transaction_at σ n ≡ Some t → EndsLevel σ n t Undo None (outcome σ over n (DoCommand (command.Abort r))).state }
 {}
