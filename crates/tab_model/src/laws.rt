@@ -1,6 +1,6 @@
 //! Laws of the definitions. Each is the contract of a function that does nothing.
 
-ghost use Rattle.std.specs.Prelude.{◌≡◌, ◌≢◌, ◌<◌, ℕ, List, [], ◌∷◌, ◌++◌, true, false, if◌then◌else◌, Some, None, map};
+ghost use Rattle.std.specs.Prelude.{◌≡◌, ◌≢◌, ◌<◌, ◌↔◌, ◌⊎◌, ℕ, List, [], ◌∷◌, ◌++◌, true, false, if◌then◌else◌, Some, None, map};
 ghost use Rattle.std.specs.List.{list_any};
 ghost use Rattle.tab_term.specs.Data.{PlainTerm, PlainTerms};
 ghost use Rattle.tab_term.specs.Same.{same};
@@ -26,7 +26,7 @@ ghost use Rattle.tab_model.specs.Alone.{start, after, replies};
 ghost use Rattle.tab_model.specs.Events.{is_failure, surviving, events, change_all};
 ghost use Rattle.tab_model.specs.Locks.{locks_of, Apart};
 ghost use Rattle.tab_model.specs.Shapes.{shape, change_of, IsShaped, ShapesChange};
-ghost use Rattle.tab_model.specs.Ages.{Ages, Owned, Rises, decide, after_request, can_retry, after_retry, request_of, forget, Chain, last_of};
+ghost use Rattle.tab_model.specs.Ages.{Ages, Owned, Granted, Wait, Die, Covered, Opposed, OpposedByOlder, OpposedBefore, Rises, decide, after_request, can_retry, after_retry, request_of, forget, Chain, last_of};
 ghost use Rattle.tab_model.specs.Log.{entered, serial, serial_from, stands, in_force, IsRight, IsLegal, commits_from};
 ghost use Rattle.tab_model.specs.Since.{changes_on, deletes, StandsSince};
 ghost use Rattle.tab_model.specs.Slices.{dump_of, owed, slice};
@@ -145,4 +145,15 @@ pub fn levels_end_alone()
     ensures failed { (σ : State) (over : List ℕ) (n : ℕ) (t : Transaction) (o : Operation) → transaction_at σ n ≡ Some t → is_failure (Some (outcome σ over n (DoCommand (command.Do o))).reply) ≡ true → EndsLevel σ n t (Do o) (Some (outcome σ over n (DoCommand (command.Do o))).reply) (outcome σ over n (DoCommand (command.Do o))).state }
     ensures retried { (σ : State) (over : List ℕ) (n : ℕ) (t : Transaction) (q : Queued) → transaction_at σ n ≡ Some t → request_in σ.queue n ≡ Some q → is_failure (Some (outcome σ over n Retry).reply) ≡ true → EndsLevel σ n t (Do q.operation) (Some (outcome σ over n Retry).reply) (outcome σ over n Retry).state }
     ensures aborted { (σ : State) (over : List ℕ) (n : ℕ) (t : Transaction) (r : Term) → transaction_at σ n ≡ Some t → EndsLevel σ n t Undo None (outcome σ over n (DoCommand (command.Abort r))).state }
+{}
+
+/// Wait-die in its own words. A request is granted exactly where an own lock covers it or no other owner's lock, held or
+/// queued, conflicts; it waits where all owners in conflict are younger; it dies where one of them is older. A retry is
+/// granted exactly where no other owner's lock, held or queued before it, conflicts.
+#[tactic(auto, using(crate::proofs::Deciding::granted_where, crate::proofs::Deciding::waits_where, crate::proofs::Deciding::dies_where, crate::proofs::Deciding::retries_where))]
+pub fn older_wait_and_younger_die()
+    ensures granted { (g : Ages) (r : Owned) → (decide g r ≡ Granted) ↔ (Covered g r ⊎ (Opposed g r → ⊥)) }
+    ensures waits { (g : Ages) (r : Owned) → (decide g r ≡ Wait) ↔ ((Covered g r → ⊥) × Opposed g r × (OpposedByOlder g r → ⊥)) }
+    ensures dies { (g : Ages) (r : Owned) → (decide g r ≡ Die) ↔ ((Covered g r → ⊥) × OpposedByOlder g r) }
+    ensures retried { (g : Ages) (r : Owned) → (can_retry g r ≡ true) ↔ (OpposedBefore g r → ⊥) }
 {}
