@@ -259,7 +259,7 @@ seat_sound σ seats qs a c g n o at' sound sits below later within_g above disti
 
 -- ---- sessions sit once
 
-change_none : (seats : List Seat) (s : Seat) (q : ℕ) → seat_at seats q ≡ None → seat_at (change seats s) q ≡ None
+pub change_none : (seats : List Seat) (s : Seat) (q : ℕ) → seat_at seats q ≡ None → seat_at (change seats s) q ≡ None
 change_none [] s q h = refl
 change_none (x ∷ xs) s q h = grind (arith, nat_tests, change_none xs s q)
 
@@ -271,7 +271,7 @@ distinct-change (x ∷ xs) s d = cases (distinct-change xs s d.1) (x.number == s
     cases ih true e = (ap (seat_at xs) (sym (eq_true x.number s.number e)) ∙ d.0, d.1)
     cases ih false e = (change_none xs s x.number d.0, ih)
 
-without_none : (seats : List Seat) (n q : ℕ) → seat_at seats q ≡ None → seat_at (without_seat seats n) q ≡ None
+pub without_none : (seats : List Seat) (n q : ℕ) → seat_at seats q ≡ None → seat_at (without_seat seats n) q ≡ None
 without_none [] n q h = refl
 without_none (x ∷ xs) n q h = grind (arith, nat_tests, without_none xs n q)
 
@@ -283,7 +283,7 @@ distinct-without (x ∷ xs) n d = cases (distinct-without xs n d.1) (x.number ==
     cases ih true = ih
     cases ih false = (without_none xs n x.number d.0, ih)
 
-push_none : (seats : List Seat) (s : Seat) (q : ℕ) → seat_at seats q ≡ None → (s.number == q) ≡ false → seat_at (seats ++ s ∷ []) q ≡ None
+pub push_none : (seats : List Seat) (s : Seat) (q : ℕ) → seat_at seats q ≡ None → (s.number == q) ≡ false → seat_at (seats ++ s ∷ []) q ≡ None
 push_none [] s q h e = grind (arith, nat_tests)
 push_none (x ∷ xs) s q h e = grind (arith, nat_tests, push_none xs s q)
 

@@ -126,7 +126,7 @@ module _ (σ : State) (sound : IsSound σ) (s : Seat) (here : seat_at σ.seats s
 
 -- ---- all seats
 
-given_same : (n : ℕ) (over : List ℕ) (items : List Item) (s : Seat) → ((given n over items s).number ≡ s.number) × ((given n over items s).transaction ≡ s.transaction)
+pub given_same : (n : ℕ) (over : List ℕ) (items : List Item) (s : Seat) → ((given n over items s).number ≡ s.number) × ((given n over items s).transaction ≡ s.transaction)
 given_same n over items s = cases (has_session over s.number)
   where
     cases : (b : Bool) → (Seat.number (if b then overflowed n s else record { number = s.number; transaction = s.transaction; watching = s.watching; outbox = pushed s.outbox items; overflow = s.overflow }) ≡ s.number)
@@ -181,7 +181,7 @@ commit_sound σ over s t es sound here is = tables_sound ended_state (mid_of σ 
     apart_of n = subst (λ (x : Option Seat). Apart (locks_of t.moves) (locks_of (moves_in (transaction_in x)))) (sym (seat_at-change σ.seats (with_transaction s None) s n here)) (apart_either n (n == s.number) refl)
 
 -- THE LOCKED TABLE: a schema command on a table where no one has a lock changes nothing that anyone has seen
-unwatched_same : (o : Option (List ℕ)) (x : Seat) → ((unwatched o x).number ≡ x.number) × ((unwatched o x).transaction ≡ x.transaction)
+pub unwatched_same : (o : Option (List ℕ)) (x : Seat) → ((unwatched o x).number ≡ x.number) × ((unwatched o x).transaction ≡ x.transaction)
 unwatched_same None x = (refl, refl)
 unwatched_same (Some t) x = (refl, refl)
 

@@ -113,3 +113,11 @@ pub record IsTied (σ : State) (log : List Entry) (taken : ℕ → List Item) : 
   pub commits : σ.commits ≡ commits_from 0 log
   pub seats : (n : ℕ) (s : Seat) → seat_at σ.seats n ≡ Some s → IsSeatTied n s log (taken n)
   pub fresh : (n : ℕ) → σ.greatest < n → IsNew n log (taken n)
+
+-- a list is a beginning of another
+pub record Begins (xs ys : List Item) : Type 0 where
+  pub rest : List Item
+  pub is : xs ++ rest ≡ ys
+
+abbrev pub leaves : ℕ → Call
+leaves n = record { session = n; ask = Leave; over = [] }

@@ -33,7 +33,7 @@ ghost use Rattle.tab_model.specs.Slices.{dump_of, owed, slice};
 ghost use Rattle.tab_model.specs.State.{State, Seat, Transaction, Queued, new, seat_at, transaction_at, request_in, age_at, moves_at, told_at, IsSound};
 ghost use Rattle.tab_model.specs.Outcome.{Ask, Retry, DoCommand, outcome};
 ghost use Rattle.tab_model.specs.Refusals.{AsBefore, standing, counted, requested, queued, empty_again, restarted, Restarts, EndsLevel};
-ghost use Rattle.tab_model.specs.Run.{Call, AllJoinEmpty, JoinsEmpty, IsTied, after_all, log_of, taken_of, entries, taken_now};
+ghost use Rattle.tab_model.specs.Run.{Call, AllJoinEmpty, Begins, leaves, JoinsEmpty, IsTied, after_all, log_of, taken_of, entries, taken_now};
 
 /// For every schedule of steps: commits are numbered in order and were told what they are told alone in that order;
 /// the tables are those of running them so; each open transaction was told what it is told alone on the tables as they
@@ -156,4 +156,12 @@ pub fn older_wait_and_younger_die()
     ensures waits { (g : Ages) (r : Owned) → (decide g r ≡ Wait) ↔ ((Covered g r → ⊥) × Opposed g r × (OpposedByOlder g r → ⊥)) }
     ensures dies { (g : Ages) (r : Owned) → (decide g r ≡ Die) ↔ ((Covered g r → ⊥) × OpposedByOlder g r) }
     ensures retried { (g : Ages) (r : Owned) → (can_retry g r ≡ true) ↔ (OpposedBefore g r → ⊥) }
+{}
+
+/// For every schedule: a joined session has taken a beginning of its slice, and one that left has taken, whatever came
+/// after its Leave, a beginning of its slice at that moment.
+#[tactic(auto, using(crate::proofs::Gone::joined_begins, crate::proofs::Gone::left_begins))]
+pub fn who_leaves_has_taken_a_beginning()
+    ensures joined { (limits : Limits) (calls : List Call) (n : ℕ) (s : Seat) → AllJoinEmpty calls → seat_at (after_all (new limits) calls).seats n ≡ Some s → Begins (taken_of n (new limits) calls) (slice n (log_of (new limits) calls)) }
+    ensures left { (limits : Limits) (calls later : List Call) (n : ℕ) (s : Seat) → AllJoinEmpty calls → seat_at (after_all (new limits) calls).seats n ≡ Some s → Begins (taken_of n (new limits) (calls ++ leaves n ∷ later)) (slice n (log_of (new limits) calls)) }
 {}
