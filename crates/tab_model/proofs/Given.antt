@@ -166,7 +166,7 @@ not_deleted s t (e ∷ log) h =
     let q = or_parts (unsubscribes s t e) (deletes t e || overflows s e) p.0 in
     or_both (deletes t e) (list_any (deletes t) log) (or_parts (deletes t e) (overflows s e) q.1).0 (not_deleted s t log p.1)
 
-serial-append : (w : World) (xs ys : List Entry) → serial_from w (xs ++ ys) ≡ serial_from (serial_from w xs) ys
+pub serial-append : (w : World) (xs ys : List Entry) → serial_from w (xs ++ ys) ≡ serial_from (serial_from w xs) ys
 serial-append w [] ys = refl
 serial-append w (x ∷ xs) ys = serial-append (entered w x) xs ys
 

@@ -37,13 +37,13 @@ run_tied σ log taken (c ∷ calls) sound empty t =
     subst (λ (l : List Entry). IsTied (after_all o.state calls) l (λ m. taken m ++ taken_of m σ (c ∷ calls))) (append_assoc log (entries o.entry) (log_of o.state calls))
       (subst (λ (f : ℕ → List Item). IsTied (after_all o.state calls) ((log ++ entries o.entry) ++ log_of o.state calls) f) (λ i m. append_assoc (taken m) (taken_now m c.session o.reply) (taken_of m o.state calls) i) all)
 
-new_tied : (limits : Limits) → IsTied (new limits) [] (λ m. [])
+pub new_tied : (limits : Limits) → IsTied (new limits) [] (λ m. [])
 new_tied limits = record {
   tables = refl; legal = tt; commits = refl; seats = λ n s e. cc;
   fresh = λ n h. record { watching = λ t. refl; owed = refl; taken_none = refl };
 }
 
-tied : (limits : Limits) (calls : List Call) → AllJoinEmpty calls → IsTied (after_all (new limits) calls) (log_of (new limits) calls) (λ m. taken_of m (new limits) calls)
+pub tied : (limits : Limits) (calls : List Call) → AllJoinEmpty calls → IsTied (after_all (new limits) calls) (log_of (new limits) calls) (λ m. taken_of m (new limits) calls)
 tied limits calls empty = run_tied (new limits) [] (λ m. []) calls (new_sound limits) empty (new_tied limits)
 
 pub schedule_legal : (limits : Limits) (calls : List Call) → AllJoinEmpty calls → IsLegal [] 0 (log_of (new limits) calls)

@@ -1,5 +1,5 @@
 -- What a log says of one table: its changes, its deletion, and the subscriptions that stand.
-use Rattle.std.specs.Prelude.{◌≡◌, ℕ, List, [], ◌∷◌, ◌++◌, Bool, true, false, ◌&&◌, ◌||◌, ◌==◌, Option, Some, None}
+use Rattle.std.specs.Prelude.{◌≡◌, ℕ, List, [], ◌∷◌, ◌++◌, Bool, true, false, ◌&&◌, ◌||◌, ◌==◌, Option, Some, None, is_some}
 use Rattle.std.specs.List.{filter, list_any}
 use Rattle.std.specs.Str.{bytes_eq}
 use Rattle.tab_model.specs.declared.data.Change.{Change}
@@ -9,7 +9,9 @@ use Rattle.tab_model.specs.declared.data.Entry.TheVariants.{Committed, Changed, 
 use Rattle.tab_model.specs.Operations.{table_of_change}
 use Rattle.tab_model.specs.Events.{surviving}
 use Rattle.tab_model.specs.Schemas.{removed}
-use Rattle.tab_model.specs.Log.{has_session, is_removed}
+use Rattle.tab_model.specs.Tables.{Rows, applied}
+use Rattle.tab_model.specs.Worlds.{World, Table, find}
+use Rattle.tab_model.specs.Log.{has_session, is_removed, entered, serial}
 
 abbrev pub is_of : List ℕ → Change → Bool
 is_of t c = bytes_eq (table_of_change c) t
@@ -66,3 +68,21 @@ pub record StandsSince (s : ℕ) (t : List ℕ) (l : Level) (log : List Entry) :
   pub is : log ≡ earlier ++ Subscribed s t l dump ∷ since
   pub not_ended : list_any (ends_it s t) since ≡ false
   pub not_anew : list_any (subscribes s t) since ≡ false
+
+-- a subscription was made on a table that stood then
+abbrev pub StoodFor : World → Entry → Type 0
+StoodFor w (Committed n s age xs rs over) = Unit {0}
+StoodFor w (Changed c over) = Unit {0}
+StoodFor w (Subscribed s t l dump) = is_some (find w t) ≡ true
+StoodFor w (Unsubscribed s t) = Unit {0}
+
+abbrev pub AllStood : World → List Entry → Type 0
+AllStood w [] = Unit {0}
+AllStood w (e ∷ es) = StoodFor w e × AllStood (entered w e) es
+
+-- a table's rows are those of it at the beginning of a subscription that stands, with the changes since applied
+pub record RowsSince (s : ℕ) (t : List ℕ) (l : Level) (log : List Entry) (rows : Rows) : Type 0 where
+  pub subscription : StandsSince s t l log
+  pub table : Table
+  pub stood : find (serial subscription.earlier) t ≡ Some table
+  pub now : rows ≡ applied table.def.kind table.rows (changes_on t subscription.since)
