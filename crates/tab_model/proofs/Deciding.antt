@@ -1,5 +1,5 @@
 -- The answers of wait-die as sentences.
-use Rattle.std.proofs.Common.{◌≡◌, ◌≢◌, ℕ, ◌<◌, List, [], ◌∷◌, ◌++◌, Bool, true, false, ◌||◌, ◌&&◌, not, refl, sym, ap, ◌∙◌, subst, arith, ◌⊎◌, inl, inr}
+use Rattle.std.proofs.Common.{◌≡◌, ◌≢◌, ℕ, ◌<◌, List, ◌++◌, Bool, true, false, ◌||◌, ◌&&◌, not, refl, sym, ap, ◌∙◌, arith, ◌⊎◌, inl, inr}
 use Rattle.std.specs.Prelude.{◌==◌, if◌then◌else◌, nat_lt, ◌↔◌}
 use Rattle.std.specs.List.{list_any, Any}
 use Rattle.std.proofs.lemmas.Bool.{false≢true}
@@ -7,7 +7,7 @@ use Rattle.std.proofs.lemmas.Bool.Decides.{nat_tests}
 use Rattle.std.proofs.lemmas.List.Folds.{Any-from_list_any, list_any-from_Any}
 use Rattle.tab_model.specs.Locks.{conflict, covers}
 use Rattle.tab_model.specs.Ages.{Owned, Ages, opposes, covers_own, blocks, Answer, Granted, Wait, Die, all_of, decide, before, can_retry, Covered, Opposed, OpposedByOlder, OpposedBefore}
-use Rattle.tab_model.proofs.Seats.{eq_true, other_number, itself}
+use Rattle.tab_model.proofs.Seats.{eq_true, itself}
 
 and_parts : (a b : Bool) → (a && b) ≡ true → (a ≡ true) × (b ≡ true)
 and_parts true b h = (refl, h)
@@ -110,6 +110,7 @@ granted_where g r = (to, from)
         cases : (list_any (covers_own r) g.held ≡ true) ⊎ (list_any (opposes r) (all_of g) ≡ false) → Covered g r ⊎ (Opposed g r → ⊥)
         cases (inl e) = inl (covered_is g r e)
         cases (inr e) = inr (no_of (Opposed g r) (list_any (opposes r) (all_of g)) (is_opposed r (all_of g)) e)
+
     from : Covered g r ⊎ (Opposed g r → ⊥) → decide g r ≡ Granted
     from (inl c) = by_tests g r ∙ or_not_left (list_any (covers_own r) g.held) (list_any (opposes r) (all_of g)) (inl (is_covered g r c)) (list_any (blocks r) (all_of g))
     from (inr n) = by_tests g r ∙ or_not_left (list_any (covers_own r) g.held) (list_any (opposes r) (all_of g)) (inr (false_of (Opposed g r) (list_any (opposes r) (all_of g)) (opposed_is r (all_of g)) n)) (list_any (blocks r) (all_of g))
@@ -123,11 +124,12 @@ unfolding answer_by
 dies_of a o b e f h = λ i. if e i || not (f i) then Granted else if h i then Die else Wait
 
 pub waits_where : (g : Ages) (r : Owned) → (decide g r ≡ Wait) ↔ ((Covered g r → ⊥) × Opposed g r × (OpposedByOlder g r → ⊥))
-waits_where g r =
-    ((λ h. let p = waits_by (list_any (covers_own r) g.held) (list_any (opposes r) (all_of g)) (list_any (blocks r) (all_of g)) (sym (by_tests g r) ∙ h) in
+waits_where g r = (
+  (λ h. let p = waits_by (list_any (covers_own r) g.held) (list_any (opposes r) (all_of g)) (list_any (blocks r) (all_of g)) (sym (by_tests g r) ∙ h) in
       (no_of (Covered g r) (list_any (covers_own r) g.held) (is_covered g r) p.0, opposed_is r (all_of g) p.1, no_of (OpposedByOlder g r) (list_any (blocks r) (all_of g)) (is_blocked g r) p.2)),
-     (λ h. by_tests g r ∙ waits_of (list_any (covers_own r) g.held) (list_any (opposes r) (all_of g)) (list_any (blocks r) (all_of g))
-       (false_of (Covered g r) (list_any (covers_own r) g.held) (covered_is g r) h.0) (is_opposed r (all_of g) h.1) (false_of (OpposedByOlder g r) (list_any (blocks r) (all_of g)) (blocked_is g r) h.2)))
+  (λ h. by_tests g r ∙ waits_of (list_any (covers_own r) g.held) (list_any (opposes r) (all_of g)) (list_any (blocks r) (all_of g))
+      (false_of (Covered g r) (list_any (covers_own r) g.held) (covered_is g r) h.0) (is_opposed r (all_of g) h.1) (false_of (OpposedByOlder g r) (list_any (blocks r) (all_of g)) (blocked_is g r) h.2)),
+)
 
 lt_other : (m n : ℕ) → m < n → m ≢ n
 lt_other m n h e = omega (arith, h, e)
@@ -136,16 +138,18 @@ older_opposes : (g : Ages) (r : Owned) → OpposedByOlder g r → Opposed g r
 older_opposes g r a = (a.0, a.1, a.2, a.3, (lt_other (a.1).0 r.0 (a.4).0, (a.4).1))
 
 pub dies_where : (g : Ages) (r : Owned) → (decide g r ≡ Die) ↔ ((Covered g r → ⊥) × OpposedByOlder g r)
-dies_where g r =
-    ((λ h. let p = dies_by (list_any (covers_own r) g.held) (list_any (opposes r) (all_of g)) (list_any (blocks r) (all_of g)) (sym (by_tests g r) ∙ h) in
+dies_where g r = (
+  (λ h. let p = dies_by (list_any (covers_own r) g.held) (list_any (opposes r) (all_of g)) (list_any (blocks r) (all_of g)) (sym (by_tests g r) ∙ h) in
       (no_of (Covered g r) (list_any (covers_own r) g.held) (is_covered g r) p.0, blocked_is g r p.1)),
-     (λ h. by_tests g r ∙ dies_of (list_any (covers_own r) g.held) (list_any (opposes r) (all_of g)) (list_any (blocks r) (all_of g))
-       (false_of (Covered g r) (list_any (covers_own r) g.held) (covered_is g r) h.0) (is_opposed r (all_of g) (older_opposes g r h.1)) (is_blocked g r h.1)))
+  (λ h. by_tests g r ∙ dies_of (list_any (covers_own r) g.held) (list_any (opposes r) (all_of g)) (list_any (blocks r) (all_of g))
+      (false_of (Covered g r) (list_any (covers_own r) g.held) (covered_is g r) h.0) (is_opposed r (all_of g) (older_opposes g r h.1)) (is_blocked g r h.1)),
+)
 
 pub retries_where : (g : Ages) (r : Owned) → (can_retry g r ≡ true) ↔ (OpposedBefore g r → ⊥)
-retries_where g r =
-    ((λ h. no_of (OpposedBefore g r) (list_any (opposes r) (g.held ++ before r.0 g.queue)) (is_opposed r (g.held ++ before r.0 g.queue)) (not_true (list_any (opposes r) (g.held ++ before r.0 g.queue)) h)),
-     (λ n. ap not (false_of (OpposedBefore g r) (list_any (opposes r) (g.held ++ before r.0 g.queue)) (opposed_is r (g.held ++ before r.0 g.queue)) n)))
+retries_where g r = (
+  (λ h. no_of (OpposedBefore g r) (list_any (opposes r) (g.held ++ before r.0 g.queue)) (is_opposed r (g.held ++ before r.0 g.queue)) (not_true (list_any (opposes r) (g.held ++ before r.0 g.queue)) h)),
+  (λ n. ap not (false_of (OpposedBefore g r) (list_any (opposes r) (g.held ++ before r.0 g.queue)) (opposed_is r (g.held ++ before r.0 g.queue)) n)),
+)
   where
     not_true : (b : Bool) → not b ≡ true → b ≡ false
     not_true true h = cc

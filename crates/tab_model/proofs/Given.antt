@@ -1,6 +1,6 @@
 -- The changes that a legal log made to a table give its rows.
-use Rattle.std.proofs.Common.{◌≡◌, ℕ, ◌+◌, List, [], ◌∷◌, ◌++◌, Bool, true, false, ◌||◌, ◌&&◌, not, refl, sym, ap, ◌∙◌, subst, Option, Some, None, append_assoc}
-use Rattle.std.specs.Prelude.{if◌then◌else◌, is_some, map}
+use Rattle.std.proofs.Common.{◌≡◌, ℕ, List, [], ◌∷◌, ◌++◌, Bool, true, false, ◌||◌, refl, sym, ap, ◌∙◌, subst, Option, Some, None}
+use Rattle.std.specs.Prelude.{if◌then◌else◌, map}
 use Rattle.std.specs.Str.{bytes_eq}
 use Rattle.std.specs.List.{filter, list_any}
 use Rattle.std.proofs.lemmas.Bool.{false≢true}
@@ -16,13 +16,12 @@ use Rattle.tab_model.specs.declared.data.Entry.{Entry}
 use Rattle.tab_model.specs.declared.data.Entry.TheVariants.{Committed, Changed, Subscribed, Unsubscribed}
 use Rattle.tab_model.specs.Definitions.{position}
 use Rattle.tab_model.specs.Tables.{Rows, apply, applied}
-use Rattle.tab_model.specs.Worlds.{World, Table, name_of, find, place, rows_in, rows_of, with_rows, with_def}
+use Rattle.tab_model.specs.Worlds.{World, Table, find, place, rows_in, rows_of, with_rows, with_def}
 use Rattle.tab_model.specs.Operations.{table_of_change, change_table, change_world}
-use Rattle.tab_model.specs.Alone.{start, after}
 use Rattle.tab_model.specs.Events.{surviving, change_all, events}
-use Rattle.tab_model.specs.Schemas.{table_of_schema, schema_refusal, schema_effect, create_refusal, removed, add_at, del_at, add_effect, del_effect}
+use Rattle.tab_model.specs.Schemas.{table_of_schema, schema_refusal, schema_effect, create_refusal, add_at, del_at, add_effect, del_effect}
 use Rattle.tab_model.specs.Log.{entered, serial, serial_from, IsRight, IsLegal, count_after, commits_from}
-use Rattle.tab_model.specs.Since.{is_of, changes_in, changes_on, deletes, overflows, unsubscribes, ends_it, subscribes, StandsSince}
+use Rattle.tab_model.specs.Since.{is_of, changes_in, changes_on, deletes, overflows, unsubscribes, ends_it, StandsSince}
 use Rattle.tab_model.specs.Slices.{dump_of}
 use Rattle.tab_model.specs.Names.{plain_terms, terms_list}
 use Rattle.tab_model.specs.declared.data.Event.{Event}
@@ -60,6 +59,7 @@ changed_all w x t (c ∷ cs) f = cases (bytes_eq (table_of_change c) t) refl
   where
     rest : List Change
     rest = filter (is_of t) cs
+
     cases : (b : Bool) → bytes_eq (table_of_change c) t ≡ b
         → (bytes_eq (table_of_change c) t ≡ true → find (change_all (change_world w c) cs) t ≡ Some (with_rows x (applied x.def.kind (apply x.def.kind x.rows c) rest)))
         → (bytes_eq (table_of_change c) t ≡ false → find (change_all (change_world w c) cs) t ≡ Some (with_rows x (applied x.def.kind x.rows rest)))

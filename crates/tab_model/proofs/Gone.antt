@@ -1,12 +1,10 @@
 -- A session that left takes nothing more, and never sits again.
-use Rattle.std.proofs.Common.{◌≡◌, ◌≢◌, ℕ, ◌+◌, ◌<◌, ◌≤◌, List, [], ◌∷◌, ◌++◌, Bool, true, false, ◌||◌, ◌&&◌, not, refl, sym, ap, ◌∙◌, subst, arith, append-nil, append_assoc, Option, Some, None}
-use Rattle.std.specs.Prelude.{◌==◌, if◌then◌else◌, nat_lt, map, length, min}
-use Rattle.std.proofs.lemmas.Bool.{false≢true}
+use Rattle.std.proofs.Common.{◌≡◌, ℕ, ◌+◌, ◌<◌, ◌≤◌, List, [], ◌∷◌, ◌++◌, Bool, true, false, refl, sym, ap, ◌∙◌, subst, arith, append-nil, append_assoc, Option, Some, None}
+use Rattle.std.specs.Prelude.{◌==◌, if◌then◌else◌, nat_lt, map, length}
 use Rattle.std.proofs.lemmas.Bool.Decides.{nat_tests}
 use Rattle.tab_term.specs.declared.term.Term.{Term}
 use Rattle.tab_model.specs.declared.data.Operation.{Operation}
-use Rattle.tab_model.specs.declared.data.Move.{Move}
-use Rattle.tab_model.specs.declared.data.Move.TheVariants.{Do, Open, Close, Undo}
+use Rattle.tab_model.specs.declared.data.Move.TheVariants.{Do, Open, Close}
 use Rattle.tab_model.specs.declared.data.Reply.{Reply}
 use Rattle.tab_model.specs.declared.data.Reply.TheVariants as reply
 use Rattle.tab_model.specs.declared.data.Item.{Item}
@@ -19,10 +17,10 @@ use Rattle.tab_model.specs.declared.data.Command.TheVariants as command
 use Rattle.tab_model.specs.Ages.{Answer, Granted, Wait, Die}
 use Rattle.tab_model.specs.Schemas.{removed}
 use Rattle.tab_model.specs.Slices.{slice}
-use Rattle.tab_model.specs.State.{Transaction, Outbox, Watch, Seat, Queued, State, new, seat_at, without_request}
-use Rattle.tab_model.specs.Outcome.{Ask, Join, Leave, Retry, Take, DoCommand, Outcome, outcome, nothing, with_queue, with_transaction, change, without_seat, made, decided, within, operate, retried, retry_in, retry, opened, nested, begin, one_shot, abort, given, batch_to, end_to, unwatched, commit_now, commit_at, commit, events_now, schema_now, schema_if, schema, marked, subscribe, unsubscribe, do_command, command_if, give, leave, seated, fresh, join, unseated, by_seat}
-use Rattle.tab_model.specs.Run.{Call, outcome_of, after_all, entries, log_of, taken_now, taken_of, item_of, AllJoinEmpty, Begins, leaves}
-use Rattle.tab_model.proofs.Seats.{eq_true, other_number, found, seat_at-map, mapped, seat_at-without, itself}
+use Rattle.tab_model.specs.State.{Transaction, Outbox, Watch, Seat, Queued, State, new, seat_at}
+use Rattle.tab_model.specs.Outcome.{Ask, Join, Leave, Retry, Take, DoCommand, outcome, with_transaction, change, made, decided, within, operate, retried, retry_in, retry, opened, nested, begin, one_shot, abort, given, batch_to, end_to, unwatched, commit_at, commit, events_now, schema_if, schema, marked, subscribe, unsubscribe, do_command, command_if, give, seated, fresh, join, unseated, by_seat}
+use Rattle.tab_model.specs.Run.{Call, outcome_of, after_all, log_of, taken_now, taken_of, item_of, AllJoinEmpty, Begins, leaves}
+use Rattle.tab_model.proofs.Seats.{eq_true, found, seat_at-map, mapped, seat_at-without, itself}
 use Rattle.tab_model.proofs.Seated.{change_none, without_none, push_none}
 use Rattle.tab_model.proofs.SoundSteps.{given_same, unwatched_same}
 use Rattle.tab_model.proofs.Schedules.{run_sound, new_sound, schedule_rows}
@@ -90,7 +88,7 @@ module _ (n : ℕ) (σ : State) (s : Seat) (gone : IsGone n σ) where
   commit_at_gone over t false = changed_gone _ (made σ s t Close reply.Done).state refl refl
   commit_at_gone over t true = record {
     none = none_mapped (λ x. given (σ.commits + 1) over (batch_to (σ.commits + 1) (events_now σ t) x) x) (λ x. (given_same (σ.commits + 1) over (batch_to (σ.commits + 1) (events_now σ t) x) x).0)
-      (change σ.seats (with_transaction s None)) n (change_none σ.seats (with_transaction s None) n gone.none);
+        (change σ.seats (with_transaction s None)) n (change_none σ.seats (with_transaction s None) n gone.none);
     joined = gone.joined;
   }
 
@@ -104,7 +102,7 @@ module _ (n : ℕ) (σ : State) (s : Seat) (gone : IsGone n σ) where
   schema_if_gone over c None false false = gone
   schema_if_gone over c None false true = record {
     none = none_mapped (λ x. given (σ.commits + 1) over (end_to (removed c) x) (unwatched (removed c) x))
-      (λ x. (given_same (σ.commits + 1) over (end_to (removed c) x) (unwatched (removed c) x)).0 ∙ (unwatched_same (removed c) x).0) σ.seats n gone.none;
+        (λ x. (given_same (σ.commits + 1) over (end_to (removed c) x) (unwatched (removed c) x)).0 ∙ (unwatched_same (removed c) x).0) σ.seats n gone.none;
     joined = gone.joined;
   }
 
@@ -159,6 +157,7 @@ join_gone n σ m b true true e gone = let lt = below σ.greatest m e in let le =
   where
     below : (g m : ℕ) → nat_lt g m ≡ true → g < m
     below g m h = grind (arith, nat_tests)
+
     other : (m n : ℕ) → n < m → (m == n) ≡ false
     other m n h = grind (arith, nat_tests)
 
@@ -228,9 +227,11 @@ left_begins limits calls later n s empty here =
   where
     σ : State
     σ = after_all (new limits) calls
+
     gone : IsGone n (outcome_of σ (leaves n)).state × (taken_now n n (outcome_of σ (leaves n)).reply ≡ [])
     gone = left σ n s here ((run_sound (new limits) calls (new_sound limits)).joined n s here)
+
     no_more : taken_of n (new limits) (calls ++ leaves n ∷ later) ≡ taken_of n (new limits) calls
     no_more = taken-append n (new limits) calls (leaves n ∷ later)
-      ∙ ap (λ xs. taken_of n (new limits) calls ++ xs) (λ i. gone.1 i ++ gone_takes n (outcome_of σ (leaves n)).state later gone.0 i)
-      ∙ append-nil (taken_of n (new limits) calls)
+        ∙ ap (λ xs. taken_of n (new limits) calls ++ xs) (λ i. gone.1 i ++ gone_takes n (outcome_of σ (leaves n)).state later gone.0 i)
+        ∙ append-nil (taken_of n (new limits) calls)

@@ -1,16 +1,15 @@
 -- A subscription is in force exactly where a Subscribed entry stands that nothing after it ended.
-use Rattle.std.proofs.Common.{◌≡◌, ℕ, ◌+◌, List, [], ◌∷◌, ◌++◌, Bool, true, false, ◌||◌, ◌&&◌, not, refl, sym, ap, ◌∙◌, subst, Option, Some, None, append_assoc, ◌⊎◌, inl, inr, arith}
-use Rattle.std.specs.Prelude.{◌==◌, if◌then◌else◌, is_some}
+use Rattle.std.proofs.Common.{◌≡◌, ℕ, List, [], ◌∷◌, ◌++◌, Bool, true, false, ◌||◌, ◌&&◌, not, refl, ap, ◌∙◌, Option, Some, None, ◌⊎◌, inl, inr}
+use Rattle.std.specs.Prelude.{◌==◌, if◌then◌else◌}
 use Rattle.std.specs.Str.{bytes_eq}
 use Rattle.std.specs.List.{list_any}
 use Rattle.std.proofs.lemmas.Slice.Eq.{bytes_eq-Decides}
 use Rattle.tab_model.specs.declared.data.Level.{Level}
-use Rattle.tab_model.specs.declared.data.Schema.{Schema}
 use Rattle.tab_model.specs.declared.data.Entry.{Entry}
 use Rattle.tab_model.specs.declared.data.Entry.TheVariants.{Committed, Changed, Subscribed, Unsubscribed}
 use Rattle.tab_model.specs.Schemas.{removed}
 use Rattle.tab_model.specs.Log.{has_session, is_removed, kept_if, stands, in_force, in_force_from}
-use Rattle.tab_model.specs.Since.{deletes, overflows, unsubscribes, ends_it, subscribes, StandsSince}
+use Rattle.tab_model.specs.Since.{ends_it, subscribes, StandsSince}
 use Rattle.tab_model.proofs.Seats.{eq_true, itself}
 use Rattle.tab_model.proofs.Stay.{eq_names}
 
@@ -93,6 +92,7 @@ found_from s t b l (e ∷ log) h = cases (found_from s t (stands s t b e) l log 
     begun : Never s t (stands s t b e) l log → Untouched s t b l e ⊎ Begun s t l e → Never s t b l (e ∷ log) ⊎ StandsSince s t l (e ∷ log)
     begun n (inl u) = inl (record { before = u.before; not_ended = λ i. u.not_ended i || n.not_ended i; not_anew = λ i. u.not_anew i || n.not_anew i })
     begun n (inr u) = inr (record { earlier = []; dump = u.dump; since = log; is = λ i. u.is i ∷ log; not_ended = n.not_ended; not_anew = n.not_anew })
+
     cases : Never s t (stands s t b e) l log ⊎ StandsSince s t l log → Never s t b l (e ∷ log) ⊎ StandsSince s t l (e ∷ log)
     cases (inl n) = begun n (one_entry s t b l e n.before)
     cases (inr r) = inr (record { earlier = e ∷ r.earlier; dump = r.dump; since = r.since; is = λ i. e ∷ r.is i; not_ended = r.not_ended; not_anew = r.not_anew })

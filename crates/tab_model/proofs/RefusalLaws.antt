@@ -1,10 +1,8 @@
 -- What each reply says of the state after it.
 use Rattle.std.proofs.Common.{◌≡◌, ℕ, List, [], ◌∷◌, ◌++◌, Bool, true, false, ◌||◌, ◌&&◌, not, refl, sym, ap, ◌∙◌, subst, append-nil, Option, Some, None}
 use Rattle.std.specs.Prelude.{if◌then◌else◌, is_some, ◌==◌}
-use Rattle.tab_term.specs.Data.{PlainTerms}
 use Rattle.tab_term.specs.View.{term}
 use Rattle.tab_term.specs.declared.term.Term.{Term}
-use Rattle.tab_model.specs.declared.data.TableDef.{TableDef}
 use Rattle.tab_model.specs.declared.data.Operation.{Operation}
 use Rattle.tab_model.specs.declared.data.Operation.TheVariants as op
 use Rattle.tab_model.specs.declared.data.Move.{Move}
@@ -24,16 +22,15 @@ use Rattle.tab_model.specs.Definitions.{Parsed, Good, Bad, parse_options, fits_d
 use Rattle.tab_model.specs.Worlds.{World, Table, find}
 use Rattle.tab_model.specs.Operations.{table_of, failure_in, failure, answer_at, answer_or, answer}
 use Rattle.tab_model.specs.Alone.{Mid, start, after, back, next, told}
-use Rattle.tab_model.specs.Locks.{needs, locks_of}
+use Rattle.tab_model.specs.Locks.{locks_of}
 use Rattle.tab_model.specs.Events.{is_failure}
 use Rattle.tab_model.proofs.Seats.{found, seat_at-change, itself}
-use Rattle.tab_model.proofs.Seated.{locks-more, lock_of_move}
+use Rattle.tab_model.proofs.Seated.{locks-more}
 use Rattle.tab_model.proofs.Survive.{reply_tells}
-use Rattle.std.proofs.lemmas.Bool.{false≢true}
 use Rattle.tab_model.specs.Schemas.{is_some_position, bad_parse, create_refusal, remove_refusal, add_refusal, del_refusal, schema_refusal}
 use Rattle.tab_model.specs.Ages.{Answer, Granted, Wait, Die}
 use Rattle.tab_model.specs.State.{Transaction, Outbox, Watch, Seat, Queued, State, seat_at, mid_of, level_in, without_request, request_in, is_waiting, transaction_at, transaction_in}
-use Rattle.tab_model.specs.Outcome.{Ask, Join, Leave, Retry, Take, DoCommand, Outcome, outcome, nothing, with_queue, with_seat, with_transaction, change, more, ends, after_move, emptied, schema_now, is_empty, made, said, decided, within, operate, retried, retry_in, retry, opened, open_first, nested, begin, one_shot, abort, commit_at, commit, schema_if, schema, table_info, marked, subscribe_refusal, subscribe, unsubscribe, do_command, command_if, give, seated, join, unseated, by_seat}
+use Rattle.tab_model.specs.Outcome.{Ask, Join, Leave, Retry, Take, DoCommand, Outcome, outcome, nothing, with_queue, with_transaction, change, ends, after_move, is_empty, made, said, decided, within, operate, retried, retry_in, retry, opened, nested, begin, one_shot, abort, commit_at, commit, schema_if, schema, table_info, marked, subscribe_refusal, subscribe, unsubscribe, do_command, command_if, give, seated, join, unseated, by_seat}
 use Rattle.tab_model.specs.Refusals.{Standing, AsBefore, Counted, Queues, Emptied, Changes, standing, counted, queued_for, requested, queued, empty_again, restarted, Restarts, EndsLevel}
 
 -- the state after a step, by what its reply says; q is what a wait queues
@@ -98,6 +95,7 @@ refusal_fair σ s q (AddIndex t a) = cases (find σ.tables t)
     either_way : (b : Bool) (r : Reply) → Fair σ s q (nothing σ r) → FairRefusal σ s q (if b then Some r else None)
     either_way true r h = h
     either_way false r h = tt
+
     cases : (x : Option Table) → FairRefusal σ s q (add_refusal t a x)
     cases None = tt
     cases (Some x) = either_way (not (is_some_position (position x.def (term a))) || is_indexed x.def (position x.def (term a))) _ refl
@@ -106,6 +104,7 @@ refusal_fair σ s q (DelIndex t a) = cases (find σ.tables t)
     either_way : (b : Bool) → FairRefusal σ s q (if b then None else Some (reply.NoIndex t a))
     either_way true = tt
     either_way false = tt
+
     cases : (x : Option Table) → FairRefusal σ s q (del_refusal t a x)
     cases None = tt
     cases (Some x) = either_way (is_indexed x.def (position x.def (term a)))
@@ -302,6 +301,7 @@ schema_refused σ over n c h = cases (seat_at σ.seats n) h
     by_wait : (s : Seat) (b : Bool) → ((command_if σ over s (command.Schema c) b).reply ≡ reply.AtomicOk → ⊥) → (command_if σ over s (command.Schema c) b).state ≡ σ
     by_wait s true h = refl
     by_wait s false h = schema_quiet σ over c s.transaction h
+
     cases : (o : Option Seat) → ((by_seat σ over n (DoCommand (command.Schema c)) o).reply ≡ reply.AtomicOk → ⊥) → (by_seat σ over n (DoCommand (command.Schema c)) o).state ≡ σ
     cases None h = refl
     cases (Some s) h = by_wait s _ h
@@ -326,6 +326,7 @@ level_ended σ τ n s t x r here tables seats gone ended = record {
   where
     then_is : Option Transaction
     then_is = after_move t x (told (mid_of σ t) x) (ends (mid_of σ t) x)
+
     now : transaction_in (seat_at (change τ.seats (with_transaction s then_is)) n) ≡ then_is
     now = ap (λ (xs : List Seat). transaction_in (seat_at (change xs (with_transaction s then_is)) n)) seats ∙ ap transaction_in (changed_here σ n s here then_is)
 
@@ -338,8 +339,8 @@ failed_made : (σ τ : State) (n : ℕ) (s : Seat) (t : Transaction) (o : Operat
     → EndsLevel σ n t (Do o) (Some (made τ s t (Do o) reply.Done).reply) (made τ s t (Do o) reply.Done).state
 failed_made σ τ n s t o here tables seats failed =
     subst (λ (w : World). EndsLevel σ n t (Do o) (Some (answer (after (start w t.age) t.moves).now o)) (record { tables = τ.tables; seats = change τ.seats (with_transaction s (after_move t (Do o) (told (after (start w t.age) t.moves) (Do o)) (ends (after (start w t.age) t.moves) (Do o)))); queue = τ.queue; next_age = τ.next_age; commits = τ.commits; greatest = τ.greatest; limits = τ.limits }))
-      (sym tables)
-      (level_ended σ τ n s t (Do o) reply.Done here tables seats (if_back (is_some (failure (mid_of σ t).now o)) (back (mid_of σ t)) _ fails) (ap (λ b. b && is_empty (mid_of σ t).saved) fails))
+    (sym tables)
+    (level_ended σ τ n s t (Do o) reply.Done here tables seats (if_back (is_some (failure (mid_of σ t).now o)) (back (mid_of σ t)) _ fails) (ap (λ b. b && is_empty (mid_of σ t).saved) fails))
   where
     fails : is_some (failure (mid_of σ t).now o) ≡ true
     fails = ap (λ (w : World). is_some (failure (after (start w t.age) t.moves).now o)) (sym tables) ∙ sym (reply_tells (find (mid_of τ t).now (table_of o)) o) ∙ failed
@@ -354,16 +355,20 @@ operation_failed σ over n t o mine failed = cases (seat_at σ.seats n) refl min
     by_answer s Granted here f = failed_made σ σ n s t o here refl refl f
     by_answer s Wait here f = cc
     by_answer s Die here f = cc
+
     by_room : (s : Seat) (b : Bool) → seat_at σ.seats n ≡ Some s → is_failure (Some (within σ s t o b).reply) ≡ true → EndsLevel σ n t (Do o) (Some (within σ s t o b).reply) (within σ s t o b).state
     by_room s false here f = cc
     by_room s true here f = by_answer s _ here f
+
     by_transaction : (s : Seat) (x : Option Transaction) → seat_at σ.seats n ≡ Some s → x ≡ Some t → is_failure (Some (operate σ s o x).reply) ≡ true → EndsLevel σ n t (Do o) (Some (operate σ s o x).reply) (operate σ s o x).state
     by_transaction s None here e f = cc
     by_transaction s (Some u) here e f = let same : t ≡ u = cc in
         subst (λ (v : Transaction). is_failure (Some (operate σ s o (Some v)).reply) ≡ true → EndsLevel σ n t (Do o) (Some (operate σ s o (Some v)).reply) (operate σ s o (Some v)).state) same (λ g. by_room s _ here g) f
+
     by_wait : (s : Seat) (b : Bool) → seat_at σ.seats n ≡ Some s → s.transaction ≡ Some t → is_failure (Some (command_if σ over s (command.Do o) b).reply) ≡ true → EndsLevel σ n t (Do o) (Some (command_if σ over s (command.Do o) b).reply) (command_if σ over s (command.Do o) b).state
     by_wait s true here e f = cc
     by_wait s false here e f = by_transaction s s.transaction here e f
+
     cases : (x : Option Seat) → seat_at σ.seats n ≡ x → transaction_in x ≡ Some t → is_failure (Some (by_seat σ over n (DoCommand (command.Do o)) x).reply) ≡ true → EndsLevel σ n t (Do o) (Some (by_seat σ over n (DoCommand (command.Do o)) x).reply) (by_seat σ over n (DoCommand (command.Do o)) x).state
     cases None here e f = cc
     cases (Some s) here e f = by_wait s _ here e f
@@ -377,14 +382,17 @@ retry_failed σ over n t q mine asked failed = cases (seat_at σ.seats n) refl m
     by_turn : (s : Seat) (b : Bool) → seat_at σ.seats n ≡ Some s → is_failure (Some (retried σ s t q.operation b).reply) ≡ true → EndsLevel σ n t (Do q.operation) (Some (retried σ s t q.operation b).reply) (retried σ s t q.operation b).state
     by_turn s false here f = cc
     by_turn s true here f = failed_made σ (with_queue σ (without_request σ.queue s.number)) n s t q.operation here refl refl f
+
     by_transaction : (s : Seat) (x : Option Transaction) → seat_at σ.seats n ≡ Some s → x ≡ Some t → is_failure (Some (retry_in σ s q.operation x).reply) ≡ true → EndsLevel σ n t (Do q.operation) (Some (retry_in σ s q.operation x).reply) (retry_in σ s q.operation x).state
     by_transaction s None here e f = cc
     by_transaction s (Some u) here e f = let same : t ≡ u = cc in
         subst (λ (v : Transaction). is_failure (Some (retry_in σ s q.operation (Some v)).reply) ≡ true → EndsLevel σ n t (Do q.operation) (Some (retry_in σ s q.operation (Some v)).reply) (retry_in σ s q.operation (Some v)).state) same (λ g. by_turn s _ here g) f
+
     by_request : (s : Seat) (x : Option Queued) → seat_at σ.seats n ≡ Some s → s.transaction ≡ Some t → x ≡ Some q → is_failure (Some (retry σ s x).reply) ≡ true → EndsLevel σ n t (Do q.operation) (Some (retry σ s x).reply) (retry σ s x).state
     by_request s None here e g f = cc
     by_request s (Some p) here e g f = let same : q ≡ p = cc in
         subst (λ (v : Queued). is_failure (Some (retry σ s (Some v)).reply) ≡ true → EndsLevel σ n t (Do q.operation) (Some (retry σ s (Some v)).reply) (retry σ s (Some v)).state) same (λ h. by_transaction s s.transaction here e h) f
+
     cases : (x : Option Seat) → seat_at σ.seats n ≡ x → transaction_in x ≡ Some t → is_failure (Some (by_seat σ over n Retry x).reply) ≡ true → EndsLevel σ n t (Do q.operation) (Some (by_seat σ over n Retry x).reply) (by_seat σ over n Retry x).state
     cases None here e f = cc
     cases (Some s) here e f = by_request s (request_in σ.queue s.number) here e (ap (request_in σ.queue) (found σ.seats s n here) ∙ asked) f
@@ -397,14 +405,17 @@ aborted σ over n t r mine = cases (seat_at σ.seats n) refl mine
     and_no : (b : Bool) → (b && false) ≡ false
     and_no true = refl
     and_no false = refl
+
     by_transaction : (s : Seat) (x : Option Transaction) → seat_at σ.seats n ≡ Some s → x ≡ Some t → EndsLevel σ n t Undo None (abort σ s r x).state
     by_transaction s None here e = cc
     by_transaction s (Some u) here e = let same : t ≡ u = cc in
         subst (λ (v : Transaction). EndsLevel σ n t Undo None (abort σ s r (Some v)).state) same
-          (level_ended σ (with_queue σ (without_request σ.queue s.number)) n s t Undo (reply.UserAbort r) here refl refl refl refl)
+        (level_ended σ (with_queue σ (without_request σ.queue s.number)) n s t Undo (reply.UserAbort r) here refl refl refl refl)
+
     by_wait : (s : Seat) (b : Bool) → b ≡ false → seat_at σ.seats n ≡ Some s → s.transaction ≡ Some t → EndsLevel σ n t Undo None (command_if σ over s (command.Abort r) b).state
     by_wait s true g here e = cc
     by_wait s false g here e = by_transaction s s.transaction here e
+
     cases : (x : Option Seat) → seat_at σ.seats n ≡ x → transaction_in x ≡ Some t → EndsLevel σ n t Undo None (by_seat σ over n (DoCommand (command.Abort r)) x).state
     cases None here e = cc
     cases (Some s) here e = by_wait s _ (and_no (is_waiting σ s.number)) here e

@@ -1,8 +1,7 @@
 -- The change of a term is that of the event whose shape it is.
-use Rattle.std.proofs.Common.{◌≡◌, ℕ, zero, suc, ◌<◌, List, [], ◌∷◌, Bool, true, false, ◌||◌, ◌&&◌, refl, sym, ap, ◌∙◌, subst, Option, Some, None, arith}
-use Rattle.std.specs.Prelude.{if◌then◌else◌, pos, negsuc, codes}
+use Rattle.std.proofs.Common.{◌≡◌, ℕ, zero, suc, ◌<◌, List, Bool, true, false, refl, sym, ap, ◌∙◌, Option, Some, None, arith}
+use Rattle.std.specs.Prelude.{if◌then◌else◌, pos, codes}
 use Rattle.std.specs.Str.{bytes_eq}
-use Rattle.std.proofs.lemmas.Bool.{false≢true}
 use Rattle.std.proofs.lemmas.Slice.Eq.{bytes_eq-Decides}
 use Rattle.tab_term.specs.Data.{PlainTerm, int, atom, tuple, list, bin, map, PlainTerms, none, one_more}
 use Rattle.tab_term.specs.View.{term}
@@ -14,8 +13,8 @@ use Rattle.tab_model.specs.declared.data.Change.{Change}
 use Rattle.tab_model.specs.declared.data.Change.TheVariants as change
 use Rattle.tab_model.specs.declared.data.Event.{Event}
 use Rattle.tab_model.specs.Names.{pair, triple}
-use Rattle.tab_model.specs.Operations.{tag, table_of_change}
-use Rattle.tab_model.specs.Shapes.{held, tid, five, simple, detailed, body, shape, is_record, is_id, written, object_deleted, key_deleted, deleted, in_table, simple_change, detailed_change, simple_body, detailed_body, by_rest, change_in_body, change_in, change_of, is_whole, IsShaped, ShapesChange}
+use Rattle.tab_model.specs.Operations.{table_of_change}
+use Rattle.tab_model.specs.Shapes.{held, tid, five, simple, detailed, body, shape, is_record, is_id, written, object_deleted, key_deleted, deleted, in_table, simple_change, detailed_change, detailed_body, by_rest, change_in_body, change_in, change_of, is_whole, IsShaped, ShapesChange}
 
 held_term : (r : Term) → held (term r) ≡ r
 held_term (is.Int z) = refl
@@ -118,19 +117,25 @@ simple_is n x i c id h = cases (bytes_eq n (codes "write")) refl (bytes_eq n (co
     cases : (p : Bool) → bytes_eq n (codes "write") ≡ p → (q : Bool) → bytes_eq n (codes "delete") ≡ q → (r : Bool) → bytes_eq n (codes "delete_object") ≡ r
         → (if p then written x else (if q then key_deleted x else (if r then object_deleted x else None))) ≡ Some c → BodyOf (one_more (atom n) (one_more x (one_more i none))) c
     cases true e q f r g h = let w = written_is x c h in record {
-      level = Simple; event = record { tab = table_of_change (change.Write (held x)); change = change.Write (held x); old = none; age = suc id.age };
+      level = Simple;
+      event = record { tab = table_of_change (change.Write (held x)); change = change.Write (held x); old = none; age = suc id.age };
       is = λ j. triple (atom (sym (names_true n (codes "write") e) j)) (term_held x j) (id.is j);
-      change_is = w.change_is; shaped = shaped (change.Write (held x)) none id.age w.whole;
+      change_is = w.change_is;
+      shaped = shaped (change.Write (held x)) none id.age w.whole;
     }
     cases false e true f r g h = let w = key_is x c h in record {
-      level = Simple; event = record { tab = w.table; change = change.Delete w.table (held w.key); old = none; age = suc id.age };
+      level = Simple;
+      event = record { tab = w.table; change = change.Delete w.table (held w.key); old = none; age = suc id.age };
       is = (λ j. triple (atom (sym (names_true n (codes "delete") f) j)) (pair (atom w.table) (term_held w.key j)) (id.is j)) ∙ ap (λ y. triple (atom n) y i) w.is;
-      change_is = w.change_is; shaped = shaped (change.Delete w.table (held w.key)) none id.age refl;
+      change_is = w.change_is;
+      shaped = shaped (change.Delete w.table (held w.key)) none id.age refl;
     }
     cases false e false f true g h = let w = object_is x c h in record {
-      level = Simple; event = record { tab = table_of_change (change.DeleteObject (held x)); change = change.DeleteObject (held x); old = none; age = suc id.age };
+      level = Simple;
+      event = record { tab = table_of_change (change.DeleteObject (held x)); change = change.DeleteObject (held x); old = none; age = suc id.age };
       is = λ j. triple (atom (sym (names_true n (codes "delete_object") g) j)) (term_held x j) (id.is j);
-      change_is = w.change_is; shaped = shaped (change.DeleteObject (held x)) none id.age w.whole;
+      change_is = w.change_is;
+      shaped = shaped (change.DeleteObject (held x)) none id.age w.whole;
     }
     cases false e false f false g h = cc
 
@@ -149,14 +154,16 @@ object_deletes : (x : PlainTerm) (c : Change) → object_deleted x ≡ Some c �
 object_deletes x c h = let w = object_is x c h in record {
   change = change.DeleteObject (held x);
   is = λ t old a. ap (λ y. five (atom (codes "delete")) (atom t) y (list old) (tid a)) (term_held x);
-  change_is = w.change_is; whole = w.whole;
+  change_is = w.change_is;
+  whole = w.whole;
 }
 
 deletes_is : (x : PlainTerm) (c : Change) → deleted x ≡ Some c → Deletes x c
 deletes_is (tuple (one_more (atom u) (one_more k none))) c h = record {
   change = change.Delete u (held k);
   is = λ t old a. ap (λ y. five (atom (codes "delete")) (atom t) (pair (atom u) y) (list old) (tid a)) (term_held k);
-  change_is = cc; whole = refl;
+  change_is = cc;
+  whole = refl;
 }
 deletes_is x c h = object_deletes x c h
 
@@ -169,14 +176,18 @@ detailed_is n t x i old c id h = cases (bytes_eq n (codes "write")) refl (bytes_
     cases : (p : Bool) → bytes_eq n (codes "write") ≡ p → (q : Bool) → bytes_eq n (codes "delete") ≡ q
         → (if p then in_table t (written x) else (if q then in_table t (deleted x) else None)) ≡ Some c → BodyOf (one_more (atom n) (one_more (atom t) (one_more x (one_more (list old) (one_more i none))))) c
     cases true e q f h = let u = in_table_is t (written x) c h in let w = written_is x c u.0 in record {
-      level = Detailed; event = record { tab = t; change = change.Write (held x); old = old; age = suc id.age };
+      level = Detailed;
+      event = record { tab = t; change = change.Write (held x); old = old; age = suc id.age };
       is = λ j. five (atom (sym (names_true n (codes "write") e) j)) (atom t) (term_held x j) (list old) (id.is j);
-      change_is = w.change_is; shaped = in_one (change.Write (held x)) c t old id.age w.change_is u.1 w.whole;
+      change_is = w.change_is;
+      shaped = in_one (change.Write (held x)) c t old id.age w.change_is u.1 w.whole;
     }
     cases false e true f h = let u = in_table_is t (deleted x) c h in let w = deletes_is x c u.0 in record {
-      level = Detailed; event = record { tab = t; change = w.change; old = old; age = suc id.age };
+      level = Detailed;
+      event = record { tab = t; change = w.change; old = old; age = suc id.age };
       is = w.is t old (suc id.age) ∙ (λ j. five (atom (sym (names_true n (codes "delete") f) j)) (atom t) x (list old) (id.is j));
-      change_is = w.change_is; shaped = in_one w.change c t old id.age w.change_is u.1 w.whole;
+      change_is = w.change_is;
+      shaped = in_one w.change c t old id.age w.change_is u.1 w.whole;
     }
     cases false e false f h = cc
 

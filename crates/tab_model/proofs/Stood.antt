@@ -10,16 +10,16 @@ use Rattle.tab_model.specs.declared.data.Level.{Level}
 use Rattle.tab_model.specs.declared.data.Limits.{Limits}
 use Rattle.tab_model.specs.declared.data.Schema.{Schema}
 use Rattle.tab_model.specs.declared.data.Entry.{Entry}
-use Rattle.tab_model.specs.declared.data.Entry.TheVariants.{Committed, Changed, Subscribed, Unsubscribed}
+use Rattle.tab_model.specs.declared.data.Entry.TheVariants.{Subscribed, Unsubscribed}
 use Rattle.tab_model.specs.declared.data.Command.{Command}
 use Rattle.tab_model.specs.declared.data.Command.TheVariants as command
 use Rattle.tab_model.specs.Tables.{applied}
 use Rattle.tab_model.specs.Worlds.{World, Table, find, rows_in, rows_of}
 use Rattle.tab_model.specs.Ages.{Answer, Granted, Wait, Die}
-use Rattle.tab_model.specs.Log.{entered, serial, serial_from, in_force}
+use Rattle.tab_model.specs.Log.{entered, serial, serial_from}
 use Rattle.tab_model.specs.Since.{changes_on, StandsSince, StoodFor, AllStood, RowsSince}
-use Rattle.tab_model.specs.State.{Transaction, Outbox, Watch, Seat, Queued, State, new, seat_at, level_in, IsSound}
-use Rattle.tab_model.specs.Outcome.{Ask, Join, Leave, Retry, Take, DoCommand, Outcome, outcome, decided, within, operate, retried, retry_in, retry, opened, nested, begin, one_shot, abort, commit_at, commit, schema_if, schema, marked, subscribe_refusal, subscribe, unsubscribe, do_command, command_if, give, seated, join, unseated, by_seat}
+use Rattle.tab_model.specs.State.{Transaction, Watch, Seat, Queued, State, new, seat_at, level_in, IsSound}
+use Rattle.tab_model.specs.Outcome.{Ask, Join, Leave, Retry, Take, DoCommand, Outcome, outcome, decided, within, operate, retried, retry_in, retry, opened, nested, begin, one_shot, abort, commit_at, commit, schema_if, schema, marked, subscribe_refusal, subscribe, unsubscribe, command_if, give, seated, join, unseated, by_seat}
 use Rattle.tab_model.specs.Run.{Call, outcome_of, after_all, entries, log_of, taken_now, AllJoinEmpty, IsTied}
 use Rattle.tab_model.proofs.Given.{since_applies, serial-append}
 use Rattle.tab_model.proofs.InForce.{in_force_stands}
@@ -40,6 +40,7 @@ module _ (σ : State) (s : Seat) where
       by_answer Granted = tt
       by_answer Wait = tt
       by_answer Die = tt
+
       by_room : (b : Bool) → Stood σ.tables (within σ s t o b).entry
       by_room false = tt
       by_room true = by_answer _
@@ -51,6 +52,7 @@ module _ (σ : State) (s : Seat) where
       by_turn : (t : Transaction) (b : Bool) → Stood σ.tables (retried σ s t q.operation b).entry
       by_turn t false = tt
       by_turn t true = tt
+
       by_transaction : (x : Option Transaction) → Stood σ.tables (retry_in σ s q.operation x).entry
       by_transaction None = tt
       by_transaction (Some t) = by_turn t _
@@ -174,7 +176,7 @@ run_stood σ log taken (c ∷ calls) sound empty t =
     let after = step_tied σ log taken c.over c.session c.ask sound empty.0 t in
     let rest = run_stood o.state (log ++ entries o.entry) (λ m. taken m ++ taken_now m c.session o.reply) calls (step_sound σ c.over c.session c.ask sound) empty.1 after in
     stood_on σ.tables o.entry (log_of o.state calls) (step_stood σ c.over c.session c.ask)
-      (subst (λ (w : World). AllStood w (log_of o.state calls)) (after.tables ∙ serial-append [] log (entries o.entry) ∙ ap (λ w. serial_from w (entries o.entry)) (sym t.tables)) rest)
+    (subst (λ (w : World). AllStood w (log_of o.state calls)) (after.tables ∙ serial-append [] log (entries o.entry) ∙ ap (λ w. serial_from w (entries o.entry)) (sym t.tables)) rest)
 
 stood-rest : (w : World) (xs ys : List Entry) → AllStood w (xs ++ ys) → AllStood (serial_from w xs) ys
 stood-rest w [] ys h = h
@@ -187,18 +189,24 @@ schedule_applied limits calls n s t l empty here watched = by_table (find (seria
   where
     log : List Entry
     log = log_of (new limits) calls
+
     sub : StandsSince n t l log
     sub = in_force_stands n t l log (sym (((tied limits calls empty).seats n s here).watching t) ∙ watched)
+
     all : AllStood [] (sub.earlier ++ Subscribed n t l sub.dump ∷ sub.since)
     all = subst (λ (es : List Entry). AllStood [] es) sub.is (run_stood (new limits) [] (λ m. []) calls (new_sound limits) empty (new_tied limits))
+
     stood : is_some (find (serial sub.earlier) t) ≡ true
     stood = (stood-rest [] sub.earlier (Subscribed n t l sub.dump ∷ sub.since) all).0
+
     by_table : (o : Option Table) → find (serial sub.earlier) t ≡ o → is_some o ≡ true → RowsSince n t l log (rows_of (after_all (new limits) calls).tables t)
     by_table None e h = cc
     by_table (Some x) e h = record {
-      subscription = sub; table = x; stood = e;
+      subscription = sub;
+      table = x;
+      stood = e;
       now = ap (λ w. rows_of w t) (tied limits calls empty).tables ∙ since_applies n t l log x (tied limits calls empty).legal sub e
-        ∙ ap (λ (o : Option Table). applied x.def.kind (rows_in o) (changes_on t sub.since)) e;
+          ∙ ap (λ (o : Option Table). applied x.def.kind (rows_in o) (changes_on t sub.since)) e;
     }
 
 pub schedule_stood : (limits : Limits) (calls : List Call) → AllJoinEmpty calls → AllStood [] (log_of (new limits) calls)

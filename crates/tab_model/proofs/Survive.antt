@@ -1,12 +1,7 @@
 -- The surviving updates of a transaction, one after another, give the tables that it leaves; and what they leave of one table.
-use Rattle.std.proofs.Common.{◌≡◌, ℕ, List, [], ◌∷◌, ◌++◌, Bool, true, false, ◌||◌, ◌&&◌, not, refl, sym, ap, ◌∙◌, subst, Option, Some, None}
+use Rattle.std.proofs.Common.{◌≡◌, ℕ, List, [], ◌∷◌, ◌++◌, Bool, true, false, refl, ap, ◌∙◌, subst, Option, Some, None}
 use Rattle.std.specs.Prelude.{if◌then◌else◌, is_some, map}
-use Rattle.std.specs.Str.{bytes_eq}
-use Rattle.std.specs.List.{filter, list_any}
-use Rattle.std.proofs.lemmas.Bool.{false≢true}
-use Rattle.std.proofs.lemmas.Slice.Eq.{bytes_eq-Decides}
 use Rattle.tab_term.specs.View.{term}
-use Rattle.tab_model.specs.declared.data.TableDef.{TableDef}
 use Rattle.tab_model.specs.declared.data.Operation.{Operation}
 use Rattle.tab_model.specs.declared.data.Operation.TheVariants as op
 use Rattle.tab_model.specs.declared.data.Move.{Move}
@@ -17,7 +12,7 @@ use Rattle.tab_model.specs.declared.data.Change.{Change}
 use Rattle.tab_model.specs.Definitions.{fits_def, is_indexed, position}
 use Rattle.tab_model.specs.Worlds.{World, Table, find}
 use Rattle.tab_model.specs.Operations.{table_of, failure_in, failure, answer_at, answer_or, answer, change_of_op, change_by, change_world, effect}
-use Rattle.tab_model.specs.Alone.{Mid, start, forgotten, back_to, back, next, told, after, replies}
+use Rattle.tab_model.specs.Alone.{Mid, start, forgotten, back_to, back, next, after, replies}
 use Rattle.tab_model.specs.Events.{drop_level, top_level, is_failure, with_change, survivors, surviving, change_all}
 
 either : (b : Bool) (r : Reply) (t : Table) (o : Operation) → is_failure (Some r) ≡ true → is_failure (Some (answer_at t o)) ≡ false → is_failure (Some (answer_or (if b then None else Some r) (Some t) o)) ≡ is_some (if b then None else Some r)
@@ -64,16 +59,17 @@ survives : (w : World) (now : List Change) (saved : List (List Change)) (m : Mid
 survives w now saved m [] k = k.now_is
 survives w now saved m (Do o ∷ xs) k =
     by_case (is_failure (Some (answer m.now o))) (is_some (failure m.now o)) (reply_tells (find m.now (table_of o)) o)
-      (survives w (top_level saved) (drop_level saved) (back m) xs (kept_back w now saved m k))
-      (survives w (with_change now (change_of_op o)) saved on xs (record { now_is = kept_change w now (change_of_op o) ∙ ap (λ v. effect v o) k.now_is; saved_are = k.saved_are; base_is = k.base_is }))
+    (survives w (top_level saved) (drop_level saved) (back m) xs (kept_back w now saved m k))
+    (survives w (with_change now (change_of_op o)) saved on xs (record { now_is = kept_change w now (change_of_op o) ∙ ap (λ v. effect v o) k.now_is; saved_are = k.saved_are; base_is = k.base_is }))
   where
     on : Mid
     on = record { age = m.age; now = effect m.now o; saved = m.saved; base = m.base }
+
     by_case : (a b : Bool) → a ≡ b
         → change_all w (survivors (top_level saved) (drop_level saved) xs (replies (back m) xs)) ≡ (after (back m) xs).now
         → change_all w (survivors (with_change now (change_of_op o)) saved xs (replies on xs)) ≡ (after on xs).now
         → change_all w (if a then survivors (top_level saved) (drop_level saved) xs (replies (if b then back m else on) xs) else survivors (with_change now (change_of_op o)) saved xs (replies (if b then back m else on) xs))
-            ≡ (after (if b then back m else on) xs).now
+        ≡ (after (if b then back m else on) xs).now
     by_case true true e p q = p
     by_case false false e p q = q
     by_case true false e p q = cc

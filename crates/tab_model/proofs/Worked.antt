@@ -1,13 +1,12 @@
 -- Worked rows, by computing.
-use Rattle.std.proofs.Common.{◌≡◌, ℕ, List, [], ◌∷◌, ◌++◌, refl, Some, None, true, false}
-use Rattle.std.specs.Prelude.{codes, pos, negsuc, Bool}
-use Rattle.tab_term.specs.Data.{PlainTerm, int, atom, tuple, list, bin, map, PlainTerms, none, one_more}
+use Rattle.std.proofs.Common.{◌≡◌, ℕ, List, [], ◌∷◌, refl, Some, None, true, false}
+use Rattle.std.specs.Prelude.{codes, pos, negsuc}
+use Rattle.tab_term.specs.Data.{PlainTerm, int, atom, list, PlainTerms, none, one_more}
 use Rattle.tab_term.specs.declared.term.Term.TheVariants as is
 use Rattle.tab_model.specs.declared.data.Operation.TheVariants as op
-use Rattle.tab_model.specs.declared.data.Reply.{Reply}
 use Rattle.tab_model.specs.declared.data.Reply.TheVariants as reply
-use Rattle.tab_model.specs.declared.data.Kind.TheVariants.{Set, Bag}
-use Rattle.tab_model.specs.declared.data.Schema.TheVariants.{Create, Remove, AddIndex, DelIndex}
+use Rattle.tab_model.specs.declared.data.Kind.TheVariants.{Set}
+use Rattle.tab_model.specs.declared.data.Schema.TheVariants.{Remove, AddIndex, DelIndex}
 use Rattle.tab_model.specs.declared.data.Command.TheVariants as command
 use Rattle.tab_model.specs.declared.data.Level.TheVariants.{Simple, Detailed}
 use Rattle.tab_model.specs.declared.data.Item.TheVariants.{Began, Batch, Ended}
@@ -99,10 +98,10 @@ unfolding outcome canon int_contents
 row_order = refl
 
 pub row_dump : told_in (joins 1 ∷ creates 1 (codes "t") none ∷ begins 1 ∷ writes 1 (codes "t") 2 (codes "b") ∷ writes 1 (codes "t") 1 (codes "a") ∷ commits 1
-      ∷ call 1 (DoCommand (command.Subscribe (codes "t") Simple true)) ∷ takes 1 ∷ begins 1 ∷ does 1 (op.Delete (codes "t") (is.Int (pos 1))) ∷ writes 1 (codes "t") 3 (codes "c") ∷ commits 1 ∷ takes 1 ∷ [])
+    ∷ call 1 (DoCommand (command.Subscribe (codes "t") Simple true)) ∷ takes 1 ∷ begins 1 ∷ does 1 (op.Delete (codes "t") (is.Int (pos 1))) ∷ writes 1 (codes "t") 3 (codes "c") ∷ commits 1 ∷ takes 1 ∷ [])
     ≡ reply.Done ∷ reply.AtomicOk ∷ reply.Tid 1 ∷ reply.Done ∷ reply.Done ∷ reply.Atomic 1 ∷ reply.SubscribedHere
-      ∷ reply.Taken (Began (codes "t") Simple (Some (plain_terms (rec (codes "t") 1 (codes "a") ∷ rec (codes "t") 2 (codes "b") ∷ [])))) ∷ reply.Tid 2 ∷ reply.Done ∷ reply.Done ∷ reply.Atomic 2
-      ∷ reply.Taken (Batch 2 (plain_terms (event (triple (atom (codes "delete")) (pair (atom (codes "t")) (num 1)) (tid 2)) ∷ event (write_by 2 (codes "t") 3 (codes "c")) ∷ []))) ∷ []
+    ∷ reply.Taken (Began (codes "t") Simple (Some (plain_terms (rec (codes "t") 1 (codes "a") ∷ rec (codes "t") 2 (codes "b") ∷ [])))) ∷ reply.Tid 2 ∷ reply.Done ∷ reply.Done ∷ reply.Atomic 2
+    ∷ reply.Taken (Batch 2 (plain_terms (event (triple (atom (codes "delete")) (pair (atom (codes "t")) (num 1)) (tid 2)) ∷ event (write_by 2 (codes "t") 3 (codes "c")) ∷ []))) ∷ []
 unfolding outcome canon int_contents
 row_dump = refl
 
@@ -133,7 +132,7 @@ row_two_upgrades = refl
 -- the younger dies and keeps its age: its event has it, and the next begin is of age 3
 pub row_younger_dies : told_in (joins 1 ∷ joins 2 ∷ joins 3 ∷ creates 1 (codes "t") none ∷ subscribes 3 (codes "t") ∷ takes 3 ∷ begins 1 ∷ begins 2 ∷ writes 1 (codes "t") 5 (codes "a") ∷ reads 2 (codes "t") 5 ∷ commits 1 ∷ writes 2 (codes "t") 6 (codes "c") ∷ begins 3 ∷ commits 2 ∷ takes 3 ∷ takes 3 ∷ [])
     ≡ reply.Done ∷ reply.Done ∷ reply.Done ∷ reply.AtomicOk ∷ reply.SubscribedHere ∷ reply.Taken (Began (codes "t") Simple None) ∷ reply.Tid 1 ∷ reply.Tid 2 ∷ reply.Done ∷ reply.Restart ∷ reply.Atomic 1 ∷ reply.Done ∷ reply.Tid 3 ∷ reply.Atomic 2
-      ∷ reply.Taken (Batch 1 (plain_terms (event (write_by 1 (codes "t") 5 (codes "a")) ∷ []))) ∷ reply.Taken (Batch 2 (plain_terms (event (write_by 2 (codes "t") 6 (codes "c")) ∷ []))) ∷ []
+    ∷ reply.Taken (Batch 1 (plain_terms (event (write_by 1 (codes "t") 5 (codes "a")) ∷ []))) ∷ reply.Taken (Batch 2 (plain_terms (event (write_by 2 (codes "t") 6 (codes "c")) ∷ []))) ∷ []
 unfolding outcome canon int_contents
 row_younger_dies = refl
 
@@ -145,11 +144,11 @@ row_own_commit = refl
 
 -- two tables: a batch has the events of both in the order of the updates; a deletion ends the one, and the other goes on
 pub row_two_tables : told_in (joins 1 ∷ creates 1 (codes "t") none ∷ creates 1 (codes "u") none ∷ subscribes 1 (codes "t") ∷ subscribes 1 (codes "u") ∷ takes 1 ∷ takes 1 ∷ begins 1 ∷ writes 1 (codes "t") 1 (codes "a") ∷ writes 1 (codes "u") 1 (codes "b") ∷ writes 1 (codes "t") 2 (codes "c") ∷ commits 1
-      ∷ call 1 (DoCommand (command.Schema (Remove (codes "u")))) ∷ begins 1 ∷ writes 1 (codes "t") 3 (codes "d") ∷ commits 1 ∷ call 1 (DoCommand (command.Unsubscribe (codes "t") Simple)) ∷ takes 1 ∷ takes 1 ∷ takes 1 ∷ takes 1 ∷ takes 1 ∷ [])
+    ∷ call 1 (DoCommand (command.Schema (Remove (codes "u")))) ∷ begins 1 ∷ writes 1 (codes "t") 3 (codes "d") ∷ commits 1 ∷ call 1 (DoCommand (command.Unsubscribe (codes "t") Simple)) ∷ takes 1 ∷ takes 1 ∷ takes 1 ∷ takes 1 ∷ takes 1 ∷ [])
     ≡ reply.Done ∷ reply.AtomicOk ∷ reply.AtomicOk ∷ reply.SubscribedHere ∷ reply.SubscribedHere ∷ reply.Taken (Began (codes "t") Simple None) ∷ reply.Taken (Began (codes "u") Simple None) ∷ reply.Tid 1 ∷ reply.Done ∷ reply.Done ∷ reply.Done ∷ reply.Atomic 1
-      ∷ reply.AtomicOk ∷ reply.Tid 2 ∷ reply.Done ∷ reply.Atomic 2 ∷ reply.SubscribedHere
-      ∷ reply.Taken (Batch 1 (plain_terms (event (write1 (codes "t") 1 (codes "a")) ∷ event (write1 (codes "u") 1 (codes "b")) ∷ event (write1 (codes "t") 2 (codes "c")) ∷ [])))
-      ∷ reply.Taken (Ended (codes "u") ending.Deleted) ∷ reply.Taken (Batch 2 (plain_terms (event (write_by 2 (codes "t") 3 (codes "d")) ∷ []))) ∷ reply.Taken (Ended (codes "t") ending.Unsubscribed) ∷ reply.Empty ∷ []
+    ∷ reply.AtomicOk ∷ reply.Tid 2 ∷ reply.Done ∷ reply.Atomic 2 ∷ reply.SubscribedHere
+    ∷ reply.Taken (Batch 1 (plain_terms (event (write1 (codes "t") 1 (codes "a")) ∷ event (write1 (codes "u") 1 (codes "b")) ∷ event (write1 (codes "t") 2 (codes "c")) ∷ [])))
+    ∷ reply.Taken (Ended (codes "u") ending.Deleted) ∷ reply.Taken (Batch 2 (plain_terms (event (write_by 2 (codes "t") 3 (codes "d")) ∷ []))) ∷ reply.Taken (Ended (codes "t") ending.Unsubscribed) ∷ reply.Empty ∷ []
 unfolding outcome canon int_contents
 row_two_tables = refl
 
@@ -173,23 +172,23 @@ abbrev words : List PlainTerm → PlainTerm
 words ts = list (plain_terms ts)
 
 pub row_options : told_in (joins 1
-      ∷ creates 1 (codes "v") (options (attributes_are (num 1) ∷ indexes_are (num 1) ∷ kind_is (codes "bag") ∷ kind_is (codes "set") ∷ []))
-      ∷ creates 1 (codes "v") (options (indexes_are (num 1) ∷ attributes_are (words (word (codes "k") ∷ word (codes "k") ∷ [])) ∷ []))
-      ∷ creates 1 (codes "v") (options (indexes_are (num 1) ∷ []))
-      ∷ creates 1 (codes "v") (options (indexes_are (words (word (codes "val") ∷ word (codes "key") ∷ [])) ∷ []))
-      ∷ creates 1 (codes "v") (options (indexes_are (words (num 2 ∷ [])) ∷ []))
-      ∷ creates 1 (codes "v") (options (pair (atom (codes "record_name")) (atom (codes "w")) ∷ []))
-      ∷ creates 1 (codes "v") (options (indexes_are (words (num 3 ∷ word (codes "val") ∷ [])) ∷ pair (atom (codes "record_name")) (atom (codes "v")) ∷ pair (atom (codes "ram_copies")) (words []) ∷ []))
-      ∷ call 1 (DoCommand (command.TableInfo (codes "v") item.Index)) ∷ call 1 (DoCommand (command.TableInfo (codes "v") item.Attributes)) ∷ call 1 (DoCommand (command.TableInfo (codes "v") item.Kind)) ∷ call 1 (DoCommand (command.TableInfo (codes "v") item.Size)) ∷ call 1 (DoCommand (command.TableInfo (codes "w") item.Size)) ∷ [])
+    ∷ creates 1 (codes "v") (options (attributes_are (num 1) ∷ indexes_are (num 1) ∷ kind_is (codes "bag") ∷ kind_is (codes "set") ∷ []))
+    ∷ creates 1 (codes "v") (options (indexes_are (num 1) ∷ attributes_are (words (word (codes "k") ∷ word (codes "k") ∷ [])) ∷ []))
+    ∷ creates 1 (codes "v") (options (indexes_are (num 1) ∷ []))
+    ∷ creates 1 (codes "v") (options (indexes_are (words (word (codes "val") ∷ word (codes "key") ∷ [])) ∷ []))
+    ∷ creates 1 (codes "v") (options (indexes_are (words (num 2 ∷ [])) ∷ []))
+    ∷ creates 1 (codes "v") (options (pair (atom (codes "record_name")) (atom (codes "w")) ∷ []))
+    ∷ creates 1 (codes "v") (options (indexes_are (words (num 3 ∷ word (codes "val") ∷ [])) ∷ pair (atom (codes "record_name")) (atom (codes "v")) ∷ pair (atom (codes "ram_copies")) (words []) ∷ []))
+    ∷ call 1 (DoCommand (command.TableInfo (codes "v") item.Index)) ∷ call 1 (DoCommand (command.TableInfo (codes "v") item.Attributes)) ∷ call 1 (DoCommand (command.TableInfo (codes "v") item.Kind)) ∷ call 1 (DoCommand (command.TableInfo (codes "v") item.Size)) ∷ call 1 (DoCommand (command.TableInfo (codes "w") item.Size)) ∷ [])
     ≡ reply.Done
-      ∷ reply.BadDefinition (codes "v") (held (kind_is (codes "set")))
-      ∷ reply.BadDefinition (codes "v") (held (word (codes "attributes")))
-      ∷ reply.BadDefinition (codes "v") (held (indexes_are (num 1)))
-      ∷ reply.BadDefinition (codes "v") (held (indexes_are (word (codes "key"))))
-      ∷ reply.BadDefinition (codes "v") (held (indexes_are (num 2)))
-      ∷ reply.BadDefinition (codes "v") (held (pair (atom (codes "record_name")) (atom (codes "w"))))
-      ∷ reply.AtomicOk
-      ∷ reply.Told (info.Index (3 ∷ [])) ∷ reply.Told (info.Attributes (codes "key" ∷ codes "val" ∷ [])) ∷ reply.Told (info.Kind Set) ∷ reply.Told (info.Size 0) ∷ reply.SubNoTable (codes "w") ∷ []
+    ∷ reply.BadDefinition (codes "v") (held (kind_is (codes "set")))
+    ∷ reply.BadDefinition (codes "v") (held (word (codes "attributes")))
+    ∷ reply.BadDefinition (codes "v") (held (indexes_are (num 1)))
+    ∷ reply.BadDefinition (codes "v") (held (indexes_are (word (codes "key"))))
+    ∷ reply.BadDefinition (codes "v") (held (indexes_are (num 2)))
+    ∷ reply.BadDefinition (codes "v") (held (pair (atom (codes "record_name")) (atom (codes "w"))))
+    ∷ reply.AtomicOk
+    ∷ reply.Told (info.Index (3 ∷ [])) ∷ reply.Told (info.Attributes (codes "key" ∷ codes "val" ∷ [])) ∷ reply.Told (info.Kind Set) ∷ reply.Told (info.Size 0) ∷ reply.SubNoTable (codes "w") ∷ []
 unfolding outcome canon int_contents
 row_options = refl
 
@@ -210,13 +209,13 @@ row_refusals = refl
 
 -- an index is added and taken away; writes of another table's form end the level
 pub row_schema : told_in (joins 1 ∷ creates 1 (codes "t") none
-      ∷ call 1 (DoCommand (command.Schema (AddIndex (codes "t") (is.Atom (codes "key"))))) ∷ call 1 (DoCommand (command.Schema (DelIndex (codes "t") (is.Atom (codes "val")))))
-      ∷ call 1 (DoCommand (command.Schema (AddIndex (codes "t") (is.Atom (codes "val"))))) ∷ call 1 (DoCommand (command.Schema (AddIndex (codes "t") (is.Int (pos 3)))))
-      ∷ begins 1 ∷ writes 1 (codes "t") 1 (codes "a") ∷ does 1 (op.IndexRead (codes "t") (is.Atom (codes "a")) (is.Int (pos 3)))
-      ∷ begins 1 ∷ does 1 (op.Write (is.Tuple (one_more (atom (codes "t")) (one_more (num 1) none)))) ∷ reads 1 (codes "t") 1 ∷ does 1 (op.ReadForWrite (codes "t") (is.Int (pos 2))) ∷ does 1 (op.ReadLockTable (codes "t")) ∷ commits 1
-      ∷ call 1 (DoCommand (command.Schema (DelIndex (codes "t") (is.Atom (codes "val"))))) ∷ [])
+    ∷ call 1 (DoCommand (command.Schema (AddIndex (codes "t") (is.Atom (codes "key"))))) ∷ call 1 (DoCommand (command.Schema (DelIndex (codes "t") (is.Atom (codes "val")))))
+    ∷ call 1 (DoCommand (command.Schema (AddIndex (codes "t") (is.Atom (codes "val"))))) ∷ call 1 (DoCommand (command.Schema (AddIndex (codes "t") (is.Int (pos 3)))))
+    ∷ begins 1 ∷ writes 1 (codes "t") 1 (codes "a") ∷ does 1 (op.IndexRead (codes "t") (is.Atom (codes "a")) (is.Int (pos 3)))
+    ∷ begins 1 ∷ does 1 (op.Write (is.Tuple (one_more (atom (codes "t")) (one_more (num 1) none)))) ∷ reads 1 (codes "t") 1 ∷ does 1 (op.ReadForWrite (codes "t") (is.Int (pos 2))) ∷ does 1 (op.ReadLockTable (codes "t")) ∷ commits 1
+    ∷ call 1 (DoCommand (command.Schema (DelIndex (codes "t") (is.Atom (codes "val"))))) ∷ [])
     ≡ reply.Done ∷ reply.AtomicOk ∷ reply.BadDefinition (codes "t") (held (indexes_are (word (codes "key")))) ∷ reply.NoIndex (codes "t") (is.Atom (codes "val")) ∷ reply.AtomicOk ∷ reply.BadDefinition (codes "t") (held (indexes_are (num 3)))
-      ∷ reply.Tid 1 ∷ reply.Done ∷ reply.Found (plain_terms (rec (codes "t") 1 (codes "a") ∷ [])) ∷ reply.Tid 1 ∷ reply.BadType (codes "t") (is.Tuple (one_more (atom (codes "t")) (one_more (num 1) none)))
-      ∷ reply.Found (plain_terms (rec (codes "t") 1 (codes "a") ∷ [])) ∷ reply.Found none ∷ reply.Done ∷ reply.Atomic 1 ∷ reply.AtomicOk ∷ []
+    ∷ reply.Tid 1 ∷ reply.Done ∷ reply.Found (plain_terms (rec (codes "t") 1 (codes "a") ∷ [])) ∷ reply.Tid 1 ∷ reply.BadType (codes "t") (is.Tuple (one_more (atom (codes "t")) (one_more (num 1) none)))
+    ∷ reply.Found (plain_terms (rec (codes "t") 1 (codes "a") ∷ [])) ∷ reply.Found none ∷ reply.Done ∷ reply.Atomic 1 ∷ reply.AtomicOk ∷ []
 unfolding outcome canon int_contents
 row_schema = refl
