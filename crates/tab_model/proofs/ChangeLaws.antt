@@ -1,15 +1,15 @@
 -- What a change does at each key, and that tables stay canonical.
-use Rattle.std.proofs.Common.{◌≡◌, ℕ, List, [], ◌∷◌, ◌++◌, Bool, true, false, ◌||◌, ◌&&◌, not, cond, refl, sym, ap, ◌∙◌, arith, append-nil, subst, Option, Some, None}
+use Rattle.std.proofs.Common.{◌≡◌, ℕ, List, [], ◌∷◌, ◌++◌, Bool, true, false, ◌||◌, not, refl, sym, ap, ◌∙◌, append-nil, Option, Some, None}
 use Rattle.std.specs.Prelude.{if◌then◌else◌}
 use Rattle.std.specs.Str.{bytes_eq}
-use Rattle.std.specs.List.{filter, list_any, list_all}
+use Rattle.std.specs.List.{filter, list_any}
 use Rattle.std.proofs.lemmas.Bool.{false≢true}
 use Rattle.std.proofs.lemmas.Slice.Eq.{bytes_eq-Decides}
 use Rattle.tab_term.specs.Data.{PlainTerm}
-use Rattle.tab_term.specs.Same.{same, same-Decides}
+use Rattle.tab_term.specs.Same.{same}
 use Rattle.tab_term.specs.View.{term}
 use Rattle.tab_model.specs.Names.{less, before}
-use Rattle.tab_model.specs.Tables.{Rows, key, has_key, at, delete, delete_object, insert, put_bag, put, apply, follows, is_ordered}
+use Rattle.tab_model.specs.Tables.{Rows, key, has_key, at, delete, delete_object, insert, put_bag, put, apply, is_ordered}
 use Rattle.tab_model.specs.Worlds.{World, Table, name_of, find, place, without}
 use Rattle.tab_model.specs.Operations.{key_of_change}
 use Rattle.tab_model.specs.declared.data.Kind.{Kind}

@@ -2,7 +2,6 @@
 use Rattle.std.proofs.Common.{◌≡◌, ℕ, List, [], ◌∷◌, ◌++◌, Bool, true, false, ◌||◌, ◌&&◌, not, refl, sym, ap, ◌∙◌, arith}
 use Rattle.std.specs.Str.{bytes_eq}
 use Rattle.std.specs.List.{list_any}
-use Rattle.std.proofs.lemmas.Bool.{false≢true}
 use Rattle.std.proofs.lemmas.Bool.Decides.{nat_tests}
 use Rattle.std.proofs.lemmas.Slice.Eq.{bytes_eq-Decides}
 use Rattle.tab_term.specs.Data.{PlainTerm}
@@ -74,4 +73,4 @@ served_one l a b e f = not_true (conflict l b) (λ h.
     let g = and_parts (bytes_eq a.table l.table) ((a.write || not l.write) && contains a.part l.part) e in
     let k = and_parts (a.write || not l.write) (contains a.part l.part) g.1 in
     sym f ∙ and_both (bytes_eq a.table b.table) ((a.write || b.write) && meets a.part b.part) (ap (λ z. bytes_eq z b.table) (bytes_true a.table l.table g.0) ∙ c.0)
-        (and_both (a.write || b.write) (meets a.part b.part) (writes_wider a.write l.write b.write k.0 d.0) (meets_wider a.part l.part b.part k.1 d.1)))
+    (and_both (a.write || b.write) (meets a.part b.part) (writes_wider a.write l.write b.write k.0 d.0) (meets_wider a.part l.part b.part k.1 d.1)))

@@ -1,10 +1,8 @@
 -- An operation is told the same in two worlds that agree on what its lock covers.
-use Rattle.std.proofs.Common.{◌≡◌, ℕ, List, [], ◌∷◌, ◌++◌, Bool, true, false, ◌||◌, ◌&&◌, not, cond, refl, sym, ap, ap₂, ◌∙◌, subst, Option, Some, None}
-use Rattle.std.specs.Prelude.{if◌then◌else◌, is_some}
-use Rattle.std.specs.Str.{bytes_eq}
-use Rattle.std.specs.List.{filter, list_any}
+use Rattle.std.proofs.Common.{◌≡◌, [], ◌∷◌, Bool, true, false, ◌||◌, ◌&&◌, refl, sym, ap, ap₂, ◌∙◌, Option, Some, None}
+use Rattle.std.specs.Prelude.{if◌then◌else◌}
+use Rattle.std.specs.List.{filter}
 use Rattle.std.proofs.lemmas.Bool.{false≢true}
-use Rattle.std.proofs.lemmas.Slice.Eq.{bytes_eq-Decides}
 use Rattle.tab_term.specs.Data.{PlainTerm, int, atom, tuple, list, bin, map, PlainTerms, none, one_more}
 use Rattle.tab_term.specs.Same.{same, all_same}
 use Rattle.tab_term.specs.Pattern.{matches, all_match, has_wildcard, any_wildcard}
@@ -18,9 +16,9 @@ use Rattle.tab_model.specs.Names.{plain_terms}
 use Rattle.tab_model.specs.Tables.{Rows, key, second, has_key, at, is_ordered, SameTable}
 use Rattle.tab_model.specs.Answers.{match_object}
 use Rattle.tab_model.specs.Definitions.{fits_def, is_indexed, position}
-use Rattle.tab_model.specs.Worlds.{World, Table, find, rows_in}
-use Rattle.tab_model.specs.Operations.{table_of, failure_in, answer_in, answer_or, failure_at, answer_at, bad_type}
-use Rattle.tab_model.specs.Locks.{Part, All, Key, Lock, needs}
+use Rattle.tab_model.specs.Worlds.{Table}
+use Rattle.tab_model.specs.Operations.{failure_in, answer_or, failure_at, answer_at, bad_type}
+use Rattle.tab_model.specs.Locks.{Part, All, Key, needs}
 use Rattle.tab_model.proofs.TableLaws.{same_true, same_refl, same_lists}
 
 -- a pattern without '_' matches what it equals alone
@@ -44,7 +42,6 @@ mutual
 and_false : (a : Bool) → (a && false) ≡ false
 and_false true = refl
 and_false false = refl
-
 
 and_parts : (a b : Bool) → (a && b) ≡ true → (a ≡ true) × (b ≡ true)
 and_parts true b h = (refl, h)

@@ -1,25 +1,24 @@
 -- Locks that do not conflict: what the one transaction sees, the other does not write.
-use Rattle.std.proofs.Common.{◌≡◌, ℕ, List, [], ◌∷◌, ◌++◌, Bool, true, false, ◌||◌, ◌&&◌, not, cond, refl, sym, ap, ap₂, ◌∙◌, subst, Option, Some, None}
+use Rattle.std.proofs.Common.{◌≡◌, ℕ, List, [], ◌∷◌, Bool, true, false, ◌||◌, ◌&&◌, refl, sym, ap, ◌∙◌, Option, Some, None}
 use Rattle.std.specs.Str.{bytes_eq}
 use Rattle.std.specs.List.{list_any}
 use Rattle.std.proofs.lemmas.Bool.{false≢true}
 use Rattle.std.proofs.lemmas.Slice.Eq.{bytes_eq-Decides}
 use Rattle.tab_term.specs.Data.{PlainTerm}
-use Rattle.tab_term.specs.Same.{same, same-Decides}
+use Rattle.tab_term.specs.Same.{same}
 use Rattle.tab_term.specs.View.{term}
 use Rattle.tab_model.specs.declared.data.Operation.{Operation}
 use Rattle.tab_model.specs.declared.data.Operation.TheVariants as op
 use Rattle.tab_model.specs.declared.data.Move.{Move}
 use Rattle.tab_model.specs.declared.data.Move.TheVariants.{Do, Open, Close, Undo}
-use Rattle.tab_model.specs.declared.data.Reply.{Reply}
-use Rattle.tab_model.specs.Tables.{key, is_ordered}
+use Rattle.tab_model.specs.Tables.{key}
 use Rattle.tab_model.specs.Worlds.{World, Table, find}
-use Rattle.tab_model.specs.Operations.{table_of, change_of_op}
-use Rattle.tab_model.specs.Alone.{Mid, start, after, replies}
+use Rattle.tab_model.specs.Operations.{table_of}
+use Rattle.tab_model.specs.Alone.{start, after, replies}
 use Rattle.tab_model.specs.Locks.{Part, All, Key, Lock, lock, needs, locks_of, meets, conflict, Apart}
 use Rattle.tab_model.specs.Worlds.{IsOrderedWorld}
 use Rattle.tab_model.proofs.TableLaws.{same_true, same_refl}
-use Rattle.tab_model.proofs.Stay.{Like, AgreeTab, Agree, SeesPart, AgreeMid, SeesAll, same_replies, WritesAll, KeepsMid, keeps_after}
+use Rattle.tab_model.proofs.Stay.{AgreeTab, Agree, SeesPart, SeesAll, same_replies, WritesAll, keeps_after}
 
 covers_cell : Lock → List ℕ → PlainTerm → Bool
 covers_cell l t k = bytes_eq l.table t && meets l.part (Key k)

@@ -50,9 +50,11 @@ less-linear a b h = by_case (slice_cmp nat_cmp (canon a) (canon b)) refl h
     or_left : (p q : Bool) → p ≡ true → (p || q) ≡ true
     or_left true q e = refl
     or_left false q e = cc
+
     or_right : (p q : Bool) → q ≡ true → (p || q) ≡ true
     or_right true q e = refl
     or_right false q e = e
+
     by_case : (o : Ordering) → slice_cmp nat_cmp (canon a) (canon b) ≡ o → is_lt o ≡ false → (same b a || less b a) ≡ true
     by_case Less e h = cc
     by_case Equal e h = or_left (same b a) (less b a) ((same-Decides b a).1 (sym (canon_same a b e)))

@@ -15,14 +15,14 @@ use Rattle.tab_model.specs.declared.data.Move.TheVariants.{Do, Open, Close, Undo
 use Rattle.tab_model.specs.declared.data.Schema.{Schema}
 use Rattle.tab_model.specs.declared.data.Schema.TheVariants.{Create, Remove, AddIndex, DelIndex}
 use Rattle.tab_model.specs.Tables.{is_ordered}
-use Rattle.tab_model.specs.Definitions.{Parsed, Good, Bad, parse_options, without_fault, with_names, with_index, indexed, with_indexes, kind_in, first_fault, bad_option, position, value_of, attributes_in, default_names}
-use Rattle.tab_model.specs.Worlds.{World, Table, IsOrderedWorld, name_of, find, place, without, with_def}
-use Rattle.tab_model.specs.Operations.{table_of, change_of_op}
-use Rattle.tab_model.specs.Alone.{Mid, start, after}
+use Rattle.tab_model.specs.Definitions.{Parsed, Good, Bad, parse_options, without_fault, with_names, with_index, indexed, kind_in, first_fault, bad_option, position, value_of}
+use Rattle.tab_model.specs.Worlds.{World, Table, IsOrderedWorld, name_of, find, place, with_def}
+use Rattle.tab_model.specs.Operations.{table_of}
+use Rattle.tab_model.specs.Alone.{start, after}
 use Rattle.tab_model.specs.Locks.{Part, All, Key, Lock, needs, locks_of}
-use Rattle.tab_model.specs.Schemas.{table_of_schema, schema_effect, schema_refusal, create_parsed, add_at, del_at, add_effect, del_effect}
+use Rattle.tab_model.specs.Schemas.{table_of_schema, schema_effect, create_parsed, add_at, del_at, add_effect, del_effect}
 use Rattle.tab_model.proofs.ChangeLaws.{find-place, find-without}
-use Rattle.tab_model.proofs.Stay.{find_name, Like, AgreeTab, Agree, SeesPart, SeesAll, WritesAll, keeps_after}
+use Rattle.tab_model.proofs.Stay.{find_name, AgreeTab, Agree, SeesPart, SeesAll, WritesAll, keeps_after}
 use Rattle.tab_model.proofs.Heart.{agree_self}
 
 -- ---- tables stay in order through a transaction
@@ -195,8 +195,8 @@ names_sym t u h = cases (bytes_eq t u) refl
 pub agree_elsewhere : (w : World) (c : Schema) → IsOrderedWorld w → Agree (no_cell_of (table_of_schema c)) (not_at (table_of_schema c)) (schema_effect w c) w
 agree_elsewhere w c o u d =
     subst (λ (x : Option Table). AgreeTab (no_cell_of (table_of_schema c) u) x (find w u))
-      (sym (schema_elsewhere w c u (names_sym (table_of_schema c) u (not_true (bytes_eq u (table_of_schema c)) d))))
-      (agree_self (no_cell_of (table_of_schema c)) w o u refl)
+    (sym (schema_elsewhere w c u (names_sym (table_of_schema c) u (not_true (bytes_eq u (table_of_schema c)) d))))
+    (agree_self (no_cell_of (table_of_schema c)) w o u refl)
   where
     not_true : (b : Bool) → not b ≡ true → b ≡ false
     not_true true h = cc

@@ -1,5 +1,5 @@
 -- Any list of steps: what its last state keeps, and what its log says of it.
-use Rattle.std.proofs.Common.{◌≡◌, ℕ, List, [], ◌∷◌, ◌++◌, refl, sym, ap, ◌∙◌, subst, append-nil, append_assoc, Some}
+use Rattle.std.proofs.Common.{◌≡◌, ℕ, List, [], ◌∷◌, ◌++◌, refl, sym, subst, append-nil, append_assoc, Some}
 use Rattle.tab_model.specs.declared.data.Item.{Item}
 use Rattle.tab_model.specs.declared.data.Entry.{Entry}
 use Rattle.tab_model.specs.declared.data.Limits.{Limits}
@@ -7,7 +7,7 @@ use Rattle.tab_model.specs.Alone.{start, replies}
 use Rattle.tab_model.specs.Log.{serial, IsLegal}
 use Rattle.tab_model.specs.Slices.{slice}
 use Rattle.tab_model.specs.State.{Seat, State, new, seat_at, age_at, moves_at, told_at, IsSound}
-use Rattle.tab_model.specs.Outcome.{Outcome, outcome}
+use Rattle.tab_model.specs.Outcome.{Outcome}
 use Rattle.tab_model.specs.Run.{Call, outcome_of, after_all, entries, log_of, taken_now, taken_of, AllJoinEmpty, IsTied}
 use Rattle.tab_model.proofs.TiedSteps.{step_tied}
 use Rattle.tab_model.proofs.SoundSteps.{step_sound}
@@ -35,15 +35,18 @@ run_tied σ log taken (c ∷ calls) sound empty t =
     let before = step_tied σ log taken c.over c.session c.ask sound empty.0 t in
     let all = run_tied o.state (log ++ entries o.entry) (λ m. taken m ++ taken_now m c.session o.reply) calls (step_sound σ c.over c.session c.ask sound) empty.1 before in
     subst (λ (l : List Entry). IsTied (after_all o.state calls) l (λ m. taken m ++ taken_of m σ (c ∷ calls))) (append_assoc log (entries o.entry) (log_of o.state calls))
-      (subst (λ (f : ℕ → List Item). IsTied (after_all o.state calls) ((log ++ entries o.entry) ++ log_of o.state calls) f) (λ i m. append_assoc (taken m) (taken_now m c.session o.reply) (taken_of m o.state calls) i) all)
+    (subst (λ (f : ℕ → List Item). IsTied (after_all o.state calls) ((log ++ entries o.entry) ++ log_of o.state calls) f) (λ i m. append_assoc (taken m) (taken_now m c.session o.reply) (taken_of m o.state calls) i) all)
 
-new_tied : (limits : Limits) → IsTied (new limits) [] (λ m. [])
+pub new_tied : (limits : Limits) → IsTied (new limits) [] (λ m. [])
 new_tied limits = record {
-  tables = refl; legal = tt; commits = refl; seats = λ n s e. cc;
+  tables = refl;
+  legal = tt;
+  commits = refl;
+  seats = λ n s e. cc;
   fresh = λ n h. record { watching = λ t. refl; owed = refl; taken_none = refl };
 }
 
-tied : (limits : Limits) (calls : List Call) → AllJoinEmpty calls → IsTied (after_all (new limits) calls) (log_of (new limits) calls) (λ m. taken_of m (new limits) calls)
+pub tied : (limits : Limits) (calls : List Call) → AllJoinEmpty calls → IsTied (after_all (new limits) calls) (log_of (new limits) calls) (λ m. taken_of m (new limits) calls)
 tied limits calls empty = run_tied (new limits) [] (λ m. []) calls (new_sound limits) empty (new_tied limits)
 
 pub schedule_legal : (limits : Limits) (calls : List Call) → AllJoinEmpty calls → IsLegal [] 0 (log_of (new limits) calls)

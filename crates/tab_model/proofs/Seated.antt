@@ -1,19 +1,16 @@
 -- Seats: whose locks they hold, and that a step of one session keeps what every reached state has.
-use Rattle.std.proofs.Common.{◌≡◌, ◌≢◌, ℕ, ◌+◌, ◌<◌, ◌≤◌, List, [], ◌∷◌, ◌++◌, Bool, true, false, ◌||◌, ◌&&◌, not, refl, sym, ap, ◌∙◌, subst, arith, append-nil, Option, Some, None}
-use Rattle.std.specs.Prelude.{◌==◌, if◌then◌else◌, nat_lt, map}
+use Rattle.std.proofs.Common.{◌≡◌, ◌≢◌, ℕ, ◌<◌, ◌≤◌, List, [], ◌∷◌, ◌++◌, Bool, true, false, ◌||◌, ◌&&◌, not, refl, sym, ap, ◌∙◌, subst, arith, Option, Some, None}
+use Rattle.std.specs.Prelude.{◌==◌, if◌then◌else◌, map}
 use Rattle.std.specs.List.{list_any}
-use Rattle.std.proofs.lemmas.Bool.{false≢true}
 use Rattle.std.proofs.lemmas.Bool.Decides.{nat_tests}
 use Rattle.tab_model.specs.declared.data.Move.{Move}
 use Rattle.tab_model.specs.declared.data.Move.TheVariants.{Do, Open, Close, Undo}
-use Rattle.tab_model.specs.declared.data.Reply.{Reply}
-use Rattle.tab_model.specs.declared.data.Limits.{Limits}
 use Rattle.tab_model.specs.Alone.{Mid, start, after, told, next, replies}
 use Rattle.tab_model.specs.Locks.{Lock, needs, locks_of, conflict, covers, Apart}
-use Rattle.tab_model.specs.Ages.{Owned, Ages, Answer, Granted, Wait, Die, opposes, covers_own, blocks, all_of, decide, before, can_retry}
-use Rattle.tab_model.specs.State.{Transaction, Seat, Queued, State, seat_at, transaction_in, moves_in, told_in_transaction, age_in, transaction_at, moves_at, told_at, age_at, with_age, held_by, held_in, queued_in, ages_of, mid_of, AreDistinct, IsSound}
-use Rattle.tab_model.specs.Outcome.{change, without_seat, with_transaction, with_seat, more, emptied}
-use Rattle.tab_model.proofs.Seats.{eq_true, other_number, found, seat_at-change, seat_at-push, seat_at-without, seat_at-map, mapped}
+use Rattle.tab_model.specs.Ages.{Owned, Granted, Wait, Die, opposes, covers_own, decide}
+use Rattle.tab_model.specs.State.{Transaction, Seat, Queued, State, seat_at, transaction_in, moves_in, told_in_transaction, age_in, transaction_at, moves_at, with_age, held_by, held_in, queued_in, ages_of, mid_of, AreDistinct, IsSound}
+use Rattle.tab_model.specs.Outcome.{change, without_seat, more, emptied}
+use Rattle.tab_model.proofs.Seats.{eq_true, other_number, seat_at-map, mapped}
 use Rattle.tab_model.proofs.Conflicts.{any-append, conflict-sym, served_one}
 
 pub or_parts : (a b : Bool) → (a || b) ≡ false → (a ≡ false) × (b ≡ false)
@@ -108,11 +105,12 @@ pub held_some : (p : Owned → Bool) (seats : List Seat) → AreDistinct seats �
 held_some p [] d h = cc
 held_some p (x ∷ xs) d h =
     either_one (IsHolder p (x ∷ xs)) (list_any p (held_by x.transaction)) (list_any p (held_in xs)) (sym (any-append p (held_by x.transaction) (held_in xs)) ∙ h)
-      (λ e. record { seat = x; here = ap (λ b. if b then Some x else seat_at xs x.number) (itself x.number); holds = e })
-      (λ e. behind (held_some p xs d.1 e))
+    (λ e. record { seat = x; here = ap (λ b. if b then Some x else seat_at xs x.number) (itself x.number); holds = e })
+    (λ e. behind (held_some p xs d.1 e))
   where
     itself : (n : ℕ) → (n == n) ≡ true
     itself n = grind (arith, nat_tests)
+
     behind : IsHolder p xs → IsHolder p (x ∷ xs)
     behind r = record { seat = r.seat; here = cases (x.number == r.seat.number) refl; holds = r.holds }
       where
@@ -158,6 +156,7 @@ covered_own a b l (k ∷ ls) h = either_one ((b ≡ a) × (list_any (covers l) (
     and_parts : (a b : Bool) → (a && b) ≡ true → (a ≡ true) × (b ≡ true)
     and_parts true b h = (refl, h)
     and_parts false b h = cc
+
     or_right : (a b : Bool) → b ≡ true → (a || b) ≡ true
     or_right true b e = refl
     or_right false b e = e
@@ -165,9 +164,9 @@ covered_own a b l (k ∷ ls) h = either_one ((b ≡ a) × (list_any (covers l) (
 pub granted_apart : (σ : State) (n m : ℕ) (t : Transaction) (l : Lock) → IsSound σ → transaction_at σ n ≡ Some t → m ≢ n → decide (ages_of σ) (t.age, l) ≡ Granted → list_any (conflict l) (locks_of (moves_at σ m)) ≡ false
 granted_apart σ n m t l sound mine differ granted =
     either_one (list_any (conflict l) (locks_of (moves_at σ m)) ≡ false) (list_any (covers_own (t.age, l)) (held_in σ.seats)) (not (list_any (opposes (t.age, l)) (held_in σ.seats ++ queued_in σ.queue)))
-      (granted_is _ _ granted)
-      (λ e. covered (held_some (covers_own (t.age, l)) σ.seats sound.distinct e))
-      (λ e. unopposed_apart σ n m t l sound mine differ (or_parts _ _ (sym (any-append (opposes (t.age, l)) (held_in σ.seats) (queued_in σ.queue)) ∙ not_true _ e)).0)
+    (granted_is _ _ granted)
+    (λ e. covered (held_some (covers_own (t.age, l)) σ.seats sound.distinct e))
+    (λ e. unopposed_apart σ n m t l sound mine differ (or_parts _ _ (sym (any-append (opposes (t.age, l)) (held_in σ.seats) (queued_in σ.queue)) ∙ not_true _ e)).0)
   where
     covered : IsHolder (covers_own (t.age, l)) σ.seats → list_any (conflict l) (locks_of (moves_at σ m)) ≡ false
     covered r = cases r.seat.transaction refl r.holds
@@ -216,7 +215,7 @@ pub more_sits : (σ : State) (n : ℕ) (t : Transaction) (x : Move) → IsSound 
 more_sits σ n t x sound mine free = aged_sits σ n t (more t x (told (mid_of σ t) x)) sound mine refl
     (replies-more (start σ.tables t.age) t.moves x ∙ ap (λ rs. rs ++ told (mid_of σ t) x ∷ []) (ap (λ (o : Option Transaction). replies (start σ.tables (age_in o)) (moves_in o)) (sym mine) ∙ sound.told n ∙ ap told_in_transaction mine))
     (λ m d. subst (λ (ls : List Lock). Apart ls (locks_of (moves_at σ m))) (sym (locks-more t.moves x))
-      (Apart-append (locks_of t.moves) (lock_of_move x) (locks_of (moves_at σ m)) (subst (λ (o : Option Transaction). Apart (locks_of (moves_in o)) (locks_of (moves_at σ m))) mine (sound.apart n m (λ e. d (sym e)))) (free m d)))
+    (Apart-append (locks_of t.moves) (lock_of_move x) (locks_of (moves_at σ m)) (subst (λ (o : Option Transaction). Apart (locks_of (moves_in o)) (locks_of (moves_at σ m))) mine (sound.apart n m (λ e. d (sym e)))) (free m d)))
 
 -- one seat is another, and all else stays
 pub seat_sound : (σ : State) (seats : List Seat) (qs : List Queued) (a c g n : ℕ) (o : Option Seat)
@@ -227,7 +226,7 @@ pub seat_sound : (σ : State) (seats : List Seat) (qs : List Queued) (a c g n : 
 seat_sound σ seats qs a c g n o at' sound sits below later within_g above distinct = record {
   told = λ q. subst (λ (x : Option Seat). replies (start σ.tables (age_in (transaction_in x))) (moves_in (transaction_in x)) ≡ told_in_transaction (transaction_in x)) (sym (at' q)) (told_if q (q == n));
   apart = λ p q differ. subst (λ (x : Option Seat). Apart (locks_of (moves_in (transaction_in x))) (locks_of (moves_in (transaction_in (seat_at seats q))))) (sym (at' p))
-    (subst (λ (x : Option Seat). Apart (locks_of (moves_in (transaction_in (pick p (p == n))))) (locks_of (moves_in (transaction_in x)))) (sym (at' q)) (apart_if p q differ (p == n) (q == n) refl refl));
+      (subst (λ (x : Option Seat). Apart (locks_of (moves_in (transaction_in (pick p (p == n))))) (locks_of (moves_in (transaction_in x)))) (sym (at' q)) (apart_if p q differ (p == n) (q == n) refl refl));
   ages = λ p q t u e f same. ages_if p q t u (p == n) (q == n) refl refl (ap transaction_in (sym (at' p)) ∙ e) (ap transaction_in (sym (at' q)) ∙ f) same;
   taken = λ q t e. taken_if q t (q == n) (ap transaction_in (sym (at' q)) ∙ e);
   joined = λ q s e. joined_if q s (q == n) refl (sym (at' q) ∙ e);
@@ -237,29 +236,34 @@ seat_sound σ seats qs a c g n o at' sound sits below later within_g above disti
   where
     pick : ℕ → Bool → Option Seat
     pick q b = if b then o else seat_at σ.seats q
+
     told_if : (q : ℕ) (b : Bool) → replies (start σ.tables (age_in (transaction_in (if b then o else seat_at σ.seats q)))) (moves_in (transaction_in (if b then o else seat_at σ.seats q))) ≡ told_in_transaction (transaction_in (if b then o else seat_at σ.seats q))
     told_if q true = sits.told
     told_if q false = sound.told q
+
     apart_if : (p q : ℕ) → p ≢ q → (b d : Bool) → (p == n) ≡ b → (q == n) ≡ d → Apart (locks_of (moves_in (transaction_in (if b then o else seat_at σ.seats p)))) (locks_of (moves_in (transaction_in (if d then o else seat_at σ.seats q))))
     apart_if p q differ true true e f = absurd (differ (eq_true p n e ∙ sym (eq_true q n f)))
     apart_if p q differ true false e f = sits.apart q (other_number q n f)
     apart_if p q differ false true e f = Apart-sym (locks_of (moves_in (transaction_in o))) (locks_of (moves_at σ p)) (sits.apart p (other_number p n e))
     apart_if p q differ false false e f = sound.apart p q differ
+
     ages_if : (p q : ℕ) (t u : Transaction) (b d : Bool) → (p == n) ≡ b → (q == n) ≡ d → transaction_in (if b then o else seat_at σ.seats p) ≡ Some t → transaction_in (if d then o else seat_at σ.seats q) ≡ Some u → t.age ≡ u.age → p ≡ q
     ages_if p q t u true true e f h k same = eq_true p n e ∙ sym (eq_true q n f)
     ages_if p q t u true false e f h k same = absurd (sits.ages q t u (other_number q n f) h k same)
     ages_if p q t u false true e f h k same = absurd (sits.ages p u t (other_number p n e) k h (sym same))
     ages_if p q t u false false e f h k same = sound.ages p q t u h k same
+
     taken_if : (q : ℕ) (t : Transaction) (b : Bool) → transaction_in (if b then o else seat_at σ.seats q) ≡ Some t → t.age < a
     taken_if q t true h = below t h
     taken_if q t false h = let k = sound.taken q t h in omega (arith, k, later)
+
     joined_if : (q : ℕ) (s : Seat) (b : Bool) → (q == n) ≡ b → (if b then o else seat_at σ.seats q) ≡ Some s → q ≤ g
     joined_if q s true e h = let k = within_g s h in let same = eq_true q n e in omega (arith, k, same)
     joined_if q s false e h = let k = sound.joined q s h in omega (arith, k, above)
 
 -- ---- sessions sit once
 
-change_none : (seats : List Seat) (s : Seat) (q : ℕ) → seat_at seats q ≡ None → seat_at (change seats s) q ≡ None
+pub change_none : (seats : List Seat) (s : Seat) (q : ℕ) → seat_at seats q ≡ None → seat_at (change seats s) q ≡ None
 change_none [] s q h = refl
 change_none (x ∷ xs) s q h = grind (arith, nat_tests, change_none xs s q)
 
@@ -271,7 +275,7 @@ distinct-change (x ∷ xs) s d = cases (distinct-change xs s d.1) (x.number == s
     cases ih true e = (ap (seat_at xs) (sym (eq_true x.number s.number e)) ∙ d.0, d.1)
     cases ih false e = (change_none xs s x.number d.0, ih)
 
-without_none : (seats : List Seat) (n q : ℕ) → seat_at seats q ≡ None → seat_at (without_seat seats n) q ≡ None
+pub without_none : (seats : List Seat) (n q : ℕ) → seat_at seats q ≡ None → seat_at (without_seat seats n) q ≡ None
 without_none [] n q h = refl
 without_none (x ∷ xs) n q h = grind (arith, nat_tests, without_none xs n q)
 
@@ -283,7 +287,7 @@ distinct-without (x ∷ xs) n d = cases (distinct-without xs n d.1) (x.number ==
     cases ih true = ih
     cases ih false = (without_none xs n x.number d.0, ih)
 
-push_none : (seats : List Seat) (s : Seat) (q : ℕ) → seat_at seats q ≡ None → (s.number == q) ≡ false → seat_at (seats ++ s ∷ []) q ≡ None
+pub push_none : (seats : List Seat) (s : Seat) (q : ℕ) → seat_at seats q ≡ None → (s.number == q) ≡ false → seat_at (seats ++ s ∷ []) q ≡ None
 push_none [] s q h e = grind (arith, nat_tests)
 push_none (x ∷ xs) s q h e = grind (arith, nat_tests, push_none xs s q)
 
@@ -293,6 +297,7 @@ distinct-push (x ∷ xs) s h d = cases (λ g. distinct-push xs s g d.1) (x.numbe
   where
     flip : (m n : ℕ) → (m == n) ≡ false → (n == m) ≡ false
     flip m n e = grind (arith, nat_tests)
+
     cases : (seat_at xs s.number ≡ None → AreDistinct (xs ++ s ∷ [])) → (b : Bool) → (x.number == s.number) ≡ b → (if b then Some x else seat_at xs s.number) ≡ None → AreDistinct (x ∷ (xs ++ s ∷ []))
     cases ih true e g = cc
     cases ih false e g = (push_none xs s x.number d.0 (flip x.number s.number e), ih g)

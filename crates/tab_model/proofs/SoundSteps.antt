@@ -1,9 +1,8 @@
 -- Each step keeps what every reached state has.
-use Rattle.std.proofs.Common.{◌≡◌, ◌≢◌, ℕ, ◌+◌, ◌<◌, ◌≤◌, List, [], ◌∷◌, ◌++◌, Bool, true, false, ◌||◌, ◌&&◌, not, refl, sym, ap, ◌∙◌, subst, arith, append-nil, Option, Some, None}
-use Rattle.std.specs.Prelude.{◌==◌, if◌then◌else◌, nat_lt, map, is_some}
+use Rattle.std.proofs.Common.{◌≡◌, ◌≢◌, ℕ, ◌+◌, ◌<◌, ◌≤◌, List, [], ◌∷◌, ◌++◌, Bool, true, false, ◌||◌, refl, sym, ap, ◌∙◌, subst, arith, Option, Some, None}
+use Rattle.std.specs.Prelude.{◌==◌, if◌then◌else◌, nat_lt, map}
 use Rattle.std.specs.List.{list_any}
 use Rattle.std.specs.Str.{bytes_eq}
-use Rattle.std.proofs.lemmas.Bool.Decides.{nat_tests}
 use Rattle.tab_term.specs.declared.term.Term.{Term}
 use Rattle.tab_model.specs.declared.data.Operation.{Operation}
 use Rattle.tab_model.specs.declared.data.Move.{Move}
@@ -17,19 +16,18 @@ use Rattle.tab_model.specs.declared.data.Command.{Command}
 use Rattle.tab_model.specs.declared.data.Command.TheVariants as command
 use Rattle.tab_model.specs.declared.data.Entry.{Entry}
 use Rattle.tab_model.specs.declared.data.Event.{Event}
-use Rattle.tab_model.specs.declared.data.Limits.{Limits}
-use Rattle.tab_model.specs.Worlds.{World, IsOrderedWorld, find}
-use Rattle.tab_model.specs.Alone.{Mid, start, after, told, replies}
-use Rattle.tab_model.specs.Locks.{Lock, needs, locks_of, conflict, Apart}
-use Rattle.tab_model.specs.Ages.{Owned, Answer, Granted, Wait, Die, opposes, decide, before, can_retry}
-use Rattle.tab_model.specs.Schemas.{table_of_schema, schema_refusal, schema_effect, removed}
+use Rattle.tab_model.specs.Worlds.{World, IsOrderedWorld}
+use Rattle.tab_model.specs.Alone.{start, told, replies}
+use Rattle.tab_model.specs.Locks.{Lock, needs, locks_of, Apart}
+use Rattle.tab_model.specs.Ages.{Answer, Granted, Wait, Die, opposes, decide, before, can_retry}
+use Rattle.tab_model.specs.Schemas.{table_of_schema, schema_effect, removed}
 use Rattle.tab_model.specs.Log.{has_session}
 use Rattle.tab_model.specs.State.{Transaction, Outbox, Watch, Seat, Queued, State, new, seat_at, transaction_in, moves_in, told_in_transaction, age_in, transaction_at, moves_at, told_at, age_at, held_by, held_in, queued_in, ages_of, is_in, is_busy, request_in, without_request, is_waiting, level_in, count_moves, mid_of, AreDistinct, IsSound}
-use Rattle.tab_model.specs.Outcome.{Ask, Join, Leave, Retry, Take, DoCommand, Outcome, nothing, is_empty, change, without_seat, with_transaction, with_seat, with_queue, more, ends, after_move, said, made, emptied, decided, within, operate, retried, retry_in, retry, opened, open_first, nested, begin, one_shot, abort, given, overflowed, pushed, refused, batch_to, commit_now, events_now, commit_at, commit, unwatched, end_to, schema_now, has_room, schema_if, schema, table_info, marked, subscribe_refusal, subscribe, unsubscribe, is_at, do_command, is_abort, command_if, give, takable, leave, seated, fresh, join, unseated, by_seat, outcome}
-use Rattle.tab_model.proofs.Seats.{eq_true, other_number, found, seat_at-change, seat_at-push, seat_at-without, seat_at-map, mapped}
+use Rattle.tab_model.specs.Outcome.{Ask, Join, Leave, Retry, Take, DoCommand, change, without_seat, with_transaction, with_seat, with_queue, more, ends, after_move, made, emptied, decided, within, operate, retried, retry_in, retry, opened, nested, begin, one_shot, abort, given, overflowed, pushed, batch_to, commit_now, events_now, commit_at, commit, unwatched, end_to, schema_now, schema_if, schema, marked, subscribe, unsubscribe, do_command, command_if, give, leave, seated, fresh, join, unseated, by_seat, outcome}
+use Rattle.tab_model.proofs.Seats.{other_number, found, seat_at-change, seat_at-push, seat_at-without, seat_at-map, mapped}
 use Rattle.tab_model.proofs.Conflicts.{any-append}
 use Rattle.tab_model.proofs.Heart.{stays}
-use Rattle.tab_model.proofs.Stay.{AgreeMid, same_replies}
+use Rattle.tab_model.proofs.Stay.{same_replies}
 use Rattle.tab_model.proofs.Ordered.{ordered-after, schema_ordered, no_cell_of, not_at, sees_not, agree_elsewhere}
 use Rattle.tab_model.proofs.Seated.{or_parts, not_true, lock_of_move, Apart-sym, held_none, unopposed_apart, granted_apart, MaySit, none_sits, own_sits, emptied_sits, more_sits, seat_sound, distinct-change, distinct-without, distinct-push, distinct-map}
 
@@ -126,7 +124,7 @@ module _ (σ : State) (sound : IsSound σ) (s : Seat) (here : seat_at σ.seats s
 
 -- ---- all seats
 
-given_same : (n : ℕ) (over : List ℕ) (items : List Item) (s : Seat) → ((given n over items s).number ≡ s.number) × ((given n over items s).transaction ≡ s.transaction)
+pub given_same : (n : ℕ) (over : List ℕ) (items : List Item) (s : Seat) → ((given n over items s).number ≡ s.number) × ((given n over items s).transaction ≡ s.transaction)
 given_same n over items s = cases (has_session over s.number)
   where
     cases : (b : Bool) → (Seat.number (if b then overflowed n s else record { number = s.number; transaction = s.transaction; watching = s.watching; outbox = pushed s.outbox items; overflow = s.overflow }) ≡ s.number)
@@ -151,7 +149,7 @@ pub tables_sound : (σ : State) (w : World) (f : Seat → Seat) (c : ℕ) → Is
 tables_sound σ w f c sound num tx o same = record {
   told = λ n. subst (λ (x : Option Transaction). replies (start w (age_in x)) (moves_in x) ≡ told_in_transaction x) (sym (at' n)) (same n ∙ sound.told n);
   apart = λ m n d. subst (λ (x : Option Transaction). Apart (locks_of (moves_in x)) (locks_of (moves_in (transaction_in (seat_at (map f σ.seats) n))))) (sym (at' m))
-    (subst (λ (x : Option Transaction). Apart (locks_of (moves_at σ m)) (locks_of (moves_in x))) (sym (at' n)) (sound.apart m n d));
+      (subst (λ (x : Option Transaction). Apart (locks_of (moves_at σ m)) (locks_of (moves_in x))) (sym (at' n)) (sound.apart m n d));
   ages = λ m n t u e g. sound.ages m n t u (sym (at' m) ∙ e) (sym (at' n) ∙ g);
   taken = λ n t e. sound.taken n t (sym (at' n) ∙ e);
   joined = λ n r e. let m = mapped_there f (seat_at σ.seats n) r (sym (seat_at-map f num σ.seats n) ∙ e) in sound.joined n m.0 m.1;
@@ -170,18 +168,22 @@ commit_sound σ over s t es sound here is = tables_sound ended_state (mid_of σ 
   where
     f : Seat → Seat
     f x = given (σ.commits + 1) over (batch_to (σ.commits + 1) es x) x
+
     ended_state : State
     ended_state = with_seat σ (with_transaction s None)
+
     ended : IsSound (with_seat σ (with_transaction s None))
     ended = changed_sound σ sound s here (with_transaction s None) refl (none_sits σ s.number) (λ t e. cc)
+
     apart_either : (n : ℕ) (b : Bool) → (n == s.number) ≡ b → Apart (locks_of t.moves) (locks_of (moves_in (transaction_in (if b then Some (with_transaction s None) else seat_at σ.seats n))))
     apart_either n true e = Apart-sym [] (locks_of t.moves) refl
     apart_either n false e = subst (λ (x : Option Transaction). Apart (locks_of (moves_in x)) (locks_of (moves_at σ n))) (ap transaction_in here ∙ is) (sound.apart s.number n (λ h. other_number n s.number e (sym h)))
+
     apart_of : (n : ℕ) → Apart (locks_of t.moves) (locks_of (moves_at (with_seat σ (with_transaction s None)) n))
     apart_of n = subst (λ (x : Option Seat). Apart (locks_of t.moves) (locks_of (moves_in (transaction_in x)))) (sym (seat_at-change σ.seats (with_transaction s None) s n here)) (apart_either n (n == s.number) refl)
 
 -- THE LOCKED TABLE: a schema command on a table where no one has a lock changes nothing that anyone has seen
-unwatched_same : (o : Option (List ℕ)) (x : Seat) → ((unwatched o x).number ≡ x.number) × ((unwatched o x).transaction ≡ x.transaction)
+pub unwatched_same : (o : Option (List ℕ)) (x : Seat) → ((unwatched o x).number ≡ x.number) × ((unwatched o x).transaction ≡ x.transaction)
 unwatched_same None x = (refl, refl)
 unwatched_same (Some t) x = (refl, refl)
 
@@ -199,9 +201,9 @@ schema_now_sound σ over c sound free = tables_sound σ (schema_effect σ.tables
     (λ x. (given_same (σ.commits + 1) over _ (unwatched (removed c) x)).1 ∙ (unwatched_same (removed c) x).1)
     (schema_ordered σ.tables c sound.ordered)
     (λ n. same_replies (no_cell_of (table_of_schema c)) (not_at (table_of_schema c)) (start (schema_effect σ.tables c) (age_at σ n)) (start σ.tables (age_at σ n)) (moves_at σ n)
-      (record { age = refl; now = agree_elsewhere σ.tables c sound.ordered; saved = tt; base = agree_elsewhere σ.tables c sound.ordered })
-      (sees_not (table_of_schema c) (moves_at σ n) (idle (table_of_schema c) (transaction_at σ n) (held_none (is_in (table_of_schema c)) σ.seats n
-        (or_parts _ _ (sym (any-append (is_in (table_of_schema c)) (held_in σ.seats) (queued_in σ.queue)) ∙ free)).0))))
+    (record { age = refl; now = agree_elsewhere σ.tables c sound.ordered; saved = tt; base = agree_elsewhere σ.tables c sound.ordered })
+    (sees_not (table_of_schema c) (moves_at σ n) (idle (table_of_schema c) (transaction_at σ n) (held_none (is_in (table_of_schema c)) σ.seats n
+    (or_parts _ _ (sym (any-append (is_in (table_of_schema c)) (held_in σ.seats) (queued_in σ.queue)) ∙ free)).0))))
   where
     f : Seat → Seat
     f x = given (σ.commits + 1) over (end_to (removed c) x) (unwatched (removed c) x)
@@ -213,7 +215,7 @@ module _ (σ : State) (sound : IsSound σ) (s : Seat) (here : seat_at σ.seats s
   retried_sound t o false e is = sound
   retried_sound t o true e is = made_sound (with_queue σ (without_request σ.queue s.number)) (requeued σ _ sound) s here t (Do o) reply.Done is
       (λ m d. or_none _ (unopposed_apart σ s.number m t (needs o) sound (ap transaction_in here ∙ is) d
-        (or_parts _ _ (sym (any-append (opposes (t.age, needs o)) (held_in σ.seats) (before t.age (queued_in σ.queue))) ∙ not_true _ e)).0))
+      (or_parts _ _ (sym (any-append (opposes (t.age, needs o)) (held_in σ.seats) (before t.age (queued_in σ.queue))) ∙ not_true _ e)).0))
 
   retry_in_sound : (o : Operation) (x : Option Transaction) → s.transaction ≡ x → IsSound (retry_in σ s o x).state
   retry_in_sound o None is = sound

@@ -1,13 +1,11 @@
 -- A transaction sees no more than its locks cover, and changes no more than it writes.
-use Rattle.std.proofs.Common.{◌≡◌, ℕ, List, [], ◌∷◌, ◌++◌, Bool, true, false, ◌||◌, ◌&&◌, not, cond, refl, sym, ap, ap₂, ◌∙◌, subst, Option, Some, None}
+use Rattle.std.proofs.Common.{◌≡◌, ℕ, List, [], ◌∷◌, Bool, true, false, refl, sym, ap, ◌∙◌, subst, Option, Some, None}
 use Rattle.std.specs.Prelude.{if◌then◌else◌, is_some}
 use Rattle.std.specs.Str.{bytes_eq}
-use Rattle.std.specs.List.{list_any}
 use Rattle.std.proofs.lemmas.Bool.{false≢true}
 use Rattle.std.proofs.lemmas.Slice.Eq.{bytes_eq-Decides}
 use Rattle.tab_term.specs.Data.{PlainTerm}
 use Rattle.tab_term.specs.Same.{same}
-use Rattle.tab_term.specs.View.{term}
 use Rattle.tab_model.specs.declared.data.Operation.{Operation}
 use Rattle.tab_model.specs.declared.data.Operation.TheVariants as op
 use Rattle.tab_model.specs.declared.data.Change.{Change}
@@ -16,14 +14,14 @@ use Rattle.tab_model.specs.declared.data.Move.{Move}
 use Rattle.tab_model.specs.declared.data.Move.TheVariants.{Do, Open, Close, Undo}
 use Rattle.tab_model.specs.declared.data.TableDef.{TableDef}
 use Rattle.tab_model.specs.declared.data.Reply.{Reply}
-use Rattle.tab_model.specs.Tables.{Rows, at, apply, is_ordered}
-use Rattle.tab_model.specs.Worlds.{World, Table, name_of, find, place, with_rows}
+use Rattle.tab_model.specs.Tables.{at, apply, is_ordered}
+use Rattle.tab_model.specs.Worlds.{World, Table, name_of, find, with_rows}
 use Rattle.tab_model.specs.Operations.{table_of, failure_in, failure, answer, answer_or, change_of_op, table_of_change, key_of_change, change_table, change_world, change_by, effect}
-use Rattle.tab_model.specs.Alone.{Mid, start, forgotten, back_to, back, next, told, after, replies}
+use Rattle.tab_model.specs.Alone.{Mid, forgotten, back_to, back, next, told, after, replies}
 use Rattle.tab_model.specs.Locks.{Part, All, Key, needs}
 use Rattle.tab_model.proofs.TableLaws.{same_true}
 use Rattle.tab_model.proofs.ChangeLaws.{at-apply, ordered-apply, find-place}
-use Rattle.tab_model.proofs.Frame.{AgreeOn, Alike, same_failure, same_told}
+use Rattle.tab_model.proofs.Frame.{Alike, same_failure, same_told}
 
 pub eq_names : (a b : List ℕ) → bytes_eq a b ≡ true → a ≡ b
 eq_names a b h = (bytes_eq-Decides a b).0 h
@@ -97,8 +95,8 @@ module _ (c : List ℕ → PlainTerm → Bool) (d : List ℕ → Bool) where
       cases (Some x) e None f g = absurd g
       cases (Some x) e (Some y) f g =
           subst (λ o. AgreeTab (c t) o (find (change_table v (Some y) h) t)) (sym (find-place w (with_rows x (apply x.def.kind x.rows h)) t))
-            (subst (λ o. AgreeTab (c t) (if bytes_eq (name_of x) t then Some (with_rows x (apply x.def.kind x.rows h)) else find w t) o) (sym (find-place v (with_rows y (apply y.def.kind y.rows h)) t ∙ ap (λ (z : TableDef). if bytes_eq z.name t then Some (with_rows y (apply y.def.kind y.rows h)) else find v t) (sym g.defs)))
-              (placed (bytes_eq (name_of x) t) refl))
+          (subst (λ o. AgreeTab (c t) (if bytes_eq (name_of x) t then Some (with_rows x (apply x.def.kind x.rows h)) else find w t) o) (sym (find-place v (with_rows y (apply y.def.kind y.rows h)) t ∙ ap (λ (z : TableDef). if bytes_eq z.name t then Some (with_rows y (apply y.def.kind y.rows h)) else find v t) (sym g.defs)))
+          (placed (bytes_eq (name_of x) t) refl))
         where
           placed : (b : Bool) → bytes_eq (name_of x) t ≡ b → AgreeTab (c t) (if b then Some (with_rows x (apply x.def.kind x.rows h)) else find w t) (if b then Some (with_rows y (apply y.def.kind y.rows h)) else find v t)
           placed true k = subst (λ (n : List ℕ). Like (c n) (with_rows x (apply x.def.kind x.rows h)) (with_rows y (apply y.def.kind y.rows h))) (sym (find_name w (table_of_change h) x e) ∙ eq_names (name_of x) t k) (like_change (c (table_of_change h)) x y h g)
@@ -179,7 +177,7 @@ module _ (c : List ℕ → PlainTerm → Bool) (d : List ℕ → Bool) where
 
   agree_next : (m n : Mid) (x : Move) → AgreeMid m n → SeesMove x → AgreeMid (next m x) (next n x)
   agree_next m n (Do o) a s = agree_choice _ _ _ _ _ _ (ap is_some (same_answer m.now n.now o a.now s).0) (agree_back m n m.saved n.saved a.age a.base a.saved)
-    (record { age = a.age; now = agree_effect m.now n.now o a.now s.0; saved = a.saved; base = a.base })
+      (record { age = a.age; now = agree_effect m.now n.now o a.now s.0; saved = a.saved; base = a.base })
   agree_next m n Open a s = record { age = a.age; now = a.now; saved = (a.now, a.saved); base = a.base }
   agree_next m n Close a s = record { age = a.age; now = a.now; saved = agree_forgotten m.saved n.saved a.saved; base = a.base }
   agree_next m n Undo a s = agree_back m n m.saved n.saved a.age a.base a.saved

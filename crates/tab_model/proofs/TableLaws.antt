@@ -1,12 +1,12 @@
 -- What is at a key after each change, and that canonical lists with the same cells are equal.
-use Rattle.std.proofs.Common.{◌≡◌, ℕ, List, [], ◌∷◌, ◌++◌, Bool, true, false, ◌||◌, ◌&&◌, not, cond, refl, sym, ap, ◌∙◌, arith, append-nil, subst}
+use Rattle.std.proofs.Common.{◌≡◌, [], ◌∷◌, ◌++◌, Bool, true, false, ◌||◌, ◌&&◌, not, refl, sym, ap, ◌∙◌, append-nil}
 use Rattle.std.specs.Prelude.{if◌then◌else◌}
 use Rattle.std.specs.List.{filter, list_any, list_all}
 use Rattle.std.proofs.lemmas.Bool.{false≢true}
 use Rattle.tab_term.specs.Data.{PlainTerm}
 use Rattle.tab_term.specs.Same.{same, same-Decides}
 use Rattle.tab_model.specs.Names.{less}
-use Rattle.tab_model.specs.Tables.{Rows, key, has_key, at, delete, delete_object, insert, put_bag, put, follows, is_ordered, SameTable, whole_onto, whole}
+use Rattle.tab_model.specs.Tables.{Rows, key, has_key, at, delete, insert, put_bag, put, follows, is_ordered, SameTable, whole_onto, whole}
 use Rattle.tab_model.specs.declared.data.Kind.TheVariants.{Set, Bag}
 use Rattle.tab_model.proofs.Order.{less-asym, less-trans, less-irrefl, less-linear}
 
@@ -155,7 +155,7 @@ ordered-insert r (x ∷ rows) o = by_case (ordered-insert r rows (and_parts (lis
     by_case : is_ordered (insert r rows) ≡ true → (b : Bool) → less (key r) (key x) ≡ b → is_ordered (if b then r ∷ x ∷ rows else x ∷ insert r rows) ≡ true
     by_case ih true e =
         and_both (list_all (follows r) (x ∷ rows)) (is_ordered (x ∷ rows))
-            (and_both (follows r x) (list_all (follows r) rows) (or_right (same (key r) (key x)) (less (key r) (key x)) e) (all_follow r x rows e (and_parts (list_all (follows x) rows) (is_ordered rows) o).0)) o
+        (and_both (follows r x) (list_all (follows r) rows) (or_right (same (key r) (key x)) (less (key r) (key x)) e) (all_follow r x rows e (and_parts (list_all (follows x) rows) (is_ordered rows) o).0)) o
     by_case ih false e = and_both (list_all (follows x) (insert r rows)) (is_ordered (insert r rows)) (all_insert (follows x) r rows (less-linear (key r) (key x) e) (and_parts (list_all (follows x) rows) (is_ordered rows) o).0) ih
 
 -- the canonical list has the same cells
@@ -193,7 +193,6 @@ cons_nil x xs h = absurd cc
 at_own : (x : PlainTerm) (rows : Rows) → at (x ∷ rows) (key x) ≡ x ∷ at rows (key x)
 at_own x rows = ap (λ b. if b then x ∷ at rows (key x) else at rows (key x)) (same_refl (key x))
 
-
 -- a key at which something stands is not before the first
 later : (k y : PlainTerm) (ys : Rows) (x : PlainTerm) (xs : Rows) → list_all (follows y) ys ≡ true → at ys k ≡ x ∷ xs → (same (key y) k || less (key y) k) ≡ true
 later k y [] x xs f h = absurd (false≢true (cons_nil x xs h))
@@ -219,10 +218,12 @@ first_key x xs y ys f g h = same_true (key x) (key y) (or_not (same (key x) (key
   where
     there : (same (key y) (key x) || less (key y) (key x)) ≡ true
     there = first_or_later (key x) y ys x (at xs (key x)) g (sym (h (key x)) ∙ at_own x xs)
+
     by_case : (b : Bool) → less (key x) (key y) ≡ b → (s : Bool) → same (key y) (key x) ≡ s → b ≡ false
     by_case false e s d = refl
     by_case true e true d = absurd (false≢true (sym (less_other (key x) (key y) e) ∙ d))
     by_case true e false d = absurd (false≢true (sym (less-asym (key x) (key y) e) ∙ ap (λ b. b || less (key y) (key x)) (sym d) ∙ there))
+
     by_case_less : less (key x) (key y) ≡ false
     by_case_less = by_case (less (key x) (key y)) refl (same (key y) (key x)) refl
 
@@ -235,17 +236,23 @@ same_lists (x ∷ xs) (y ∷ ys) o p h = λ i. heads i ∷ same_lists xs ys os.1
   where
     os : (list_all (follows x) xs ≡ true) × (is_ordered xs ≡ true)
     os = and_parts (list_all (follows x) xs) (is_ordered xs) o
+
     ps : (list_all (follows y) ys ≡ true) × (is_ordered ys ≡ true)
     ps = and_parts (list_all (follows y) ys) (is_ordered ys) p
+
     keys_same : key x ≡ key y
     keys_same = first_key x xs y ys os.0 ps.0 h
+
     both : x ∷ at xs (key x) ≡ y ∷ at ys (key x)
     both = sym (at_own x xs) ∙ h (key x) ∙ ap (λ b. if b then y ∷ at ys (key x) else at ys (key x)) (ap (same (key y)) keys_same ∙ same_refl (key y))
+
     heads : x ≡ y
     heads = ap (head_or x) both
+
     at_key : (q : PlainTerm) (b : Bool) → same (key x) q ≡ b → at xs q ≡ at ys q
     at_key q true e = ap (at xs) (sym (same_true (key x) q e)) ∙ ap tail_of both ∙ ap (at ys) (same_true (key x) q e)
     at_key q false e =
         ap (λ b. if b then x ∷ at xs q else at xs q) (sym e) ∙ h q ∙ ap (λ b. if b then y ∷ at ys q else at ys q) (ap (λ k. same k q) (sym keys_same) ∙ e)
+
     tails : SameTable xs ys
     tails q = at_key q (same (key x) q) refl

@@ -1,19 +1,15 @@
 -- Each step keeps the state tied to its log.
-use Rattle.std.proofs.Common.{◌≡◌, ◌≢◌, ℕ, ◌+◌, ◌<◌, ◌≤◌, List, [], ◌∷◌, ◌++◌, Bool, true, false, ◌||◌, ◌&&◌, not, cond, refl, sym, ap, ◌∙◌, subst, arith, append-nil, append_assoc, Option, Some, None}
-use Rattle.std.specs.Prelude.{◌==◌, if◌then◌else◌, nat_lt, map}
-use Rattle.std.specs.Str.{bytes_eq}
-use Rattle.std.proofs.lemmas.Bool.Decides.{nat_tests}
+use Rattle.std.proofs.Common.{◌≡◌, ◌≢◌, ℕ, ◌<◌, ◌≤◌, List, [], ◌∷◌, ◌++◌, Bool, true, false, refl, sym, ap, ◌∙◌, subst, arith, append-nil, append_assoc, Some, None}
+use Rattle.std.specs.Prelude.{◌==◌, if◌then◌else◌}
 use Rattle.tab_model.specs.declared.data.Item.{Item}
-use Rattle.tab_model.specs.declared.data.Level.{Level}
 use Rattle.tab_model.specs.declared.data.Reply.{Reply}
 use Rattle.tab_model.specs.declared.data.Entry.{Entry}
-use Rattle.tab_model.specs.declared.data.Entry.TheVariants.{Committed, Changed, Subscribed, Unsubscribed}
-use Rattle.tab_model.specs.Log.{entered, serial, serial_from, stands, in_force, IsRight, count_after, commits_from, IsLegal}
-use Rattle.tab_model.specs.Slices.{owed, slice}
-use Rattle.tab_model.specs.State.{Transaction, Outbox, Watch, Seat, Queued, State, seat_at, level_in, IsSound}
+use Rattle.tab_model.specs.Log.{entered, stands, IsRight, count_after, commits_from}
+use Rattle.tab_model.specs.Slices.{owed}
+use Rattle.tab_model.specs.State.{Seat, State, seat_at, level_in}
 use Rattle.tab_model.specs.Run.{entries, item_of, taken_now, IsSeatTied, IsNew, IsTied}
-use Rattle.tab_model.specs.Outcome.{Outcome, change, nothing}
-use Rattle.tab_model.proofs.Seats.{eq_true, other_number, found, seat_at-change, serial-push, in_force-push, commits-push, slice-push, legal-push}
+use Rattle.tab_model.specs.Outcome.{Outcome, change}
+use Rattle.tab_model.proofs.Seats.{eq_true, other_number, seat_at-change, serial-push, in_force-push, commits-push, slice-push, legal-push}
 
 -- what all steps do to the items taken
 abbrev pub kept : ℕ → (ℕ → List Item) → Reply → ℕ → List Item
@@ -38,7 +34,10 @@ pub quiet_tied : (σ τ : State) (log : List Entry) (tk tk' : ℕ → List Item)
     → IsTied τ (log ++ []) tk'
 quiet_tied σ τ log tk tk' t ts cs le seats same =
     subst (λ (l : List Entry). IsTied τ l tk') (sym (append-nil log)) (record {
-      tables = ts ∙ t.tables; legal = t.legal; commits = cs ∙ t.commits; seats = seats;
+      tables = ts ∙ t.tables;
+      legal = t.legal;
+      commits = cs ∙ t.commits;
+      seats = seats;
       fresh = λ q h. subst (λ (xs : List Item). IsNew q log xs) (same q h) (t.fresh q (omega arith));
     })
 

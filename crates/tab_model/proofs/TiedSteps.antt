@@ -1,5 +1,5 @@
 -- Each command keeps the state tied to its log.
-use Rattle.std.proofs.Common.{◌≡◌, ◌≢◌, ℕ, ◌+◌, ◌<◌, ◌≤◌, List, [], ◌∷◌, ◌++◌, Bool, true, false, ◌||◌, ◌&&◌, not, cond, refl, sym, ap, ◌∙◌, subst, arith, append-nil, append_assoc, Option, Some, None}
+use Rattle.std.proofs.Common.{◌≡◌, ◌≢◌, ℕ, ◌+◌, ◌<◌, List, [], ◌∷◌, ◌++◌, Bool, true, false, ◌||◌, ◌&&◌, not, refl, sym, ap, ◌∙◌, subst, arith, append-nil, append_assoc, Option, Some, None}
 use Rattle.std.specs.Prelude.{◌==◌, if◌then◌else◌, nat_lt, map, filter_map, is_some, codes}
 use Rattle.std.specs.Str.{bytes_eq}
 use Rattle.std.proofs.lemmas.Bool.{false≢true}
@@ -12,11 +12,10 @@ use Rattle.tab_model.specs.declared.data.Operation.TheVariants as op
 use Rattle.tab_model.specs.declared.data.Move.{Move}
 use Rattle.tab_model.specs.declared.data.Move.TheVariants.{Do, Open, Close, Undo}
 use Rattle.tab_model.specs.declared.data.Item.{Item}
-use Rattle.tab_model.specs.declared.data.Item.TheVariants.{Began, Batch, Ended}
+use Rattle.tab_model.specs.declared.data.Item.TheVariants.{Began, Ended}
 use Rattle.tab_model.specs.declared.data.Ending.TheVariants as ending
 use Rattle.tab_model.specs.declared.data.Level.{Level}
 use Rattle.tab_model.specs.declared.data.Event.{Event}
-use Rattle.tab_model.specs.declared.data.Change.{Change}
 use Rattle.tab_model.specs.declared.data.Schema.{Schema}
 use Rattle.tab_model.specs.declared.data.Schema.TheVariants.{Create, Remove, AddIndex, DelIndex}
 use Rattle.tab_model.specs.Shapes.{held}
@@ -36,17 +35,15 @@ use Rattle.tab_model.specs.Worlds.{World, Table, find}
 use Rattle.tab_model.specs.Operations.{bad_type, failure_in, answer_or, answer}
 use Rattle.tab_model.specs.Alone.{Mid, start, replies, told}
 use Rattle.tab_model.specs.Events.{events, surviving}
-use Rattle.tab_model.specs.Locks.{needs}
-use Rattle.tab_model.specs.Ages.{Answer, Granted, Wait, Die, decide, can_retry}
+use Rattle.tab_model.specs.Ages.{Answer, Granted, Wait, Die}
 use Rattle.tab_model.specs.Schemas.{removed, schema_refusal, table_of_schema, create_refusal, bad_parse, remove_refusal, add_refusal, del_refusal, is_some_position}
-use Rattle.tab_model.specs.Log.{entered, serial, serial_from, has_session, is_removed, kept_if, stands, in_force, IsRight, count_after, commits_from, IsLegal}
-use Rattle.tab_model.specs.Slices.{as_batch, shape_at, batch_for, dump_of, ended_item, end_for, unless_over, owed, slice}
-use Rattle.tab_model.specs.State.{Transaction, Outbox, Watch, Seat, Queued, State, new, seat_at, transaction_in, moves_in, told_in_transaction, age_in, request_in, without_request, is_waiting, ages_of, is_busy, level_in, without_watch, count_moves, mid_of, IsSound}
+use Rattle.tab_model.specs.Log.{entered, serial, has_session, is_removed, kept_if, stands, in_force, IsRight, count_after}
+use Rattle.tab_model.specs.Slices.{as_batch, shape_at, batch_for, dump_of, end_for, unless_over, owed}
+use Rattle.tab_model.specs.State.{Transaction, Outbox, Watch, Seat, Queued, State, new, seat_at, transaction_in, moves_in, told_in_transaction, age_in, without_request, level_in, without_watch, mid_of, IsSound}
 use Rattle.tab_model.specs.Run.{entries, item_of, taken_now, JoinsEmpty, IsSeatTied, IsNew, IsTied}
-use Rattle.tab_model.specs.Outcome.{Ask, Join, Leave, Retry, Take, DoCommand, Outcome, nothing, is_empty, change, without_seat, with_transaction, with_seat, with_queue, pushed, refused, more, ends, after_move, said, made, emptied, decided, within, operate, retried, retry_in, retry, opened, open_first, nested, begin, one_shot, abort, overflowed, given, batch_to, commit_now, events_now, commit_at, commit, unwatched, end_to, schema_now, has_room, schema_if, schema, info_at, table_info, is_at, marked, subscribe_refusal, subscribe, unsubscribe, do_command, is_abort, command_if, give, takable, leave, seated, fresh, join, unseated, by_seat, outcome}
-use Rattle.tab_model.proofs.Seats.{eq_true, other_number, differs, differs', itself, found, seat_at-change, seat_at-push, seat_at-without, seat_at-map, mapped, mapped_some}
+use Rattle.tab_model.specs.Outcome.{Ask, Join, Leave, Retry, Take, DoCommand, nothing, change, with_transaction, with_queue, pushed, said, made, decided, within, operate, retried, retry_in, retry, opened, nested, begin, one_shot, abort, overflowed, given, batch_to, commit_now, events_now, commit_at, commit, unwatched, end_to, schema_now, schema_if, schema, table_info, is_at, marked, subscribe_refusal, subscribe, unsubscribe, do_command, command_if, give, takable, leave, seated, fresh, join, unseated, by_seat, outcome}
+use Rattle.tab_model.proofs.Seats.{eq_true, differs, differs', itself, found, seat_at-push, seat_at-without, seat_at-map, mapped_some}
 use Rattle.tab_model.proofs.Tied.{kept, none_taken, Ties, quiet_tied, Moves, entry_tied, changed_some}
-
 
 -- an operation's answer gives no item
 if_item : (b : Bool) (f : Reply) (t : Table) (o : Operation) → item_of f ≡ [] → item_of (answer_or None (Some t) o) ≡ [] → item_of (answer_or (if b then None else Some f) (Some t) o) ≡ []
@@ -119,6 +116,7 @@ given_moves q n over items log e x y num outbox ow gone stay = cases (has_sessio
   where
     at_q : has_session over y.number ≡ has_session over q
     at_q = ap (has_session over) num
+
     cases : (b : Bool) → has_session over y.number ≡ b → Moves q log e x (if b then overflowed n y else record { number = y.number; transaction = y.transaction; watching = y.watching; outbox = pushed y.outbox items; overflow = y.overflow })
     cases true h = record {
       watching = λ u. sym (gone (sym at_q ∙ h) u);
@@ -215,10 +213,10 @@ module _ (σ : State) (log : List Entry) (tk : ℕ → List Item) (t : IsTied σ
     same_tied : (s' : Seat) (qs : List Queued) (a : ℕ) (r : Reply) → item_of r ≡ [] → s'.number ≡ s.number → s'.watching ≡ s.watching → s'.outbox.items ≡ s.outbox.items
         → Ties s.number log tk (nothing (record { tables = σ.tables; seats = change σ.seats s'; queue = qs; next_age = a; commits = σ.commits; greatest = σ.greatest; limits = σ.limits }) r)
     same_tied s' qs a r h num ws bs = quiet_tied σ _ log tk _ t refl refl (omega arith)
-      (λ q z f. changed_some σ.seats s' s q z (λ k y. IsSeatTied k y log (kept s.number tk r k)) (ap (seat_at σ.seats) num ∙ here) f
+        (λ q z f. changed_some σ.seats s' s q z (λ k y. IsSeatTied k y log (kept s.number tk r k)) (ap (seat_at σ.seats) num ∙ here) f
         (let m = t.seats s.number s here in subst (λ (k : ℕ). IsSeatTied k s' log (kept s.number tk r k)) (sym num) (record { watching = λ u. ap (λ w. level_in w u) ws ∙ m.watching u; items = ap (λ xs. xs ++ s'.outbox.items) (sym (none_taken tk s.number r h s.number)) ∙ ap (λ xs. tk s.number ++ xs) bs ∙ m.items }))
         (λ k d y g. subst (λ (xs : List Item). IsSeatTied k y log xs) (none_taken tk s.number r h k) (t.seats k y g)))
-      (λ q g. none_taken tk s.number r h q)
+        (λ q g. none_taken tk s.number r h q)
 
     made_tied : (transaction : Transaction) (x : Move) (r : Reply) → item_of r ≡ [] → Ties s.number log tk (made σ s transaction x r)
     made_tied transaction x r h = same_tied (with_transaction s _) σ.queue σ.next_age _ (said_item (mid_of σ transaction) x r h) refl refl refl
@@ -256,10 +254,10 @@ module _ (σ : State) (log : List Entry) (tk : ℕ → List Item) (t : IsTied σ
     -- taking the first item moves it from the row to the items taken
     give_tied : ((q : ℕ) → σ.greatest < q → q ≢ s.number) → (xs : List Item) (l : Option ℕ) → s.outbox.items ≡ xs → Ties s.number log tk (give σ s xs l)
     give_tied above (x ∷ xs) l is = quiet_tied σ _ log tk _ t refl refl (omega arith)
-      (λ q z f. changed_some σ.seats _ s q z (λ k y. IsSeatTied k y log (kept s.number tk (reply.Taken x) k)) here f
+        (λ q z f. changed_some σ.seats _ s q z (λ k y. IsSeatTied k y log (kept s.number tk (reply.Taken x) k)) here f
         (let m = t.seats s.number s here in record { watching = m.watching; items = ap (λ b. (tk s.number ++ (if b then x ∷ [] else [])) ++ xs) (itself s.number) ∙ append_assoc (tk s.number) (x ∷ []) xs ∙ ap (λ ys. tk s.number ++ ys) (sym is) ∙ m.items })
         (λ k d y g. subst (λ (ys : List Item). IsSeatTied k y log ys) (same k d) (t.seats k y g)))
-      (λ q g. same q (above q g))
+        (λ q g. same q (above q g))
       where
         same : (k : ℕ) → k ≢ s.number → tk k ≡ kept s.number tk (reply.Taken x) k
         same k d = sym (append-nil (tk k)) ∙ ap (λ b. tk k ++ (if b then x ∷ [] else [])) (sym (differs' k s.number d))
@@ -298,56 +296,62 @@ module _ (σ : State) (log : List Entry) (tk : ℕ → List Item) (t : IsTied σ
           → Ties s.number log tk (marked σ over s ws x e)
       mark_tied true ws x e ts cs right wat ow others = same_tied s here _ σ.queue σ.next_age reply.OutboxFull refl refl refl refl
       mark_tied false ws x e ts cs right wat ow others = entry_tied σ _ log tk _ e t ts cs refl right
-        (λ q r f. changed_some σ.seats _ s q r (λ k y. (z : Seat) × (seat_at σ.seats k ≡ Some z) × Moves k log e z y) here f
+          (λ q r f. changed_some σ.seats _ s q r (λ k y. (z : Seat) × (seat_at σ.seats k ≡ Some z) × Moves k log e z y) here f
           (s, here, record { watching = wat; items = ap (λ xs. s.outbox.items ++ xs) (sym ow) })
           (λ k d z g. (z, g, record { watching = λ u. sym ((others k d).0 u (level_in z.watching u)); items = sym (append-nil z.outbox.items) ∙ ap (λ xs. z.outbox.items ++ xs) (sym (others k d).1) })))
-        (λ q h. (λ u. (others q (low q h)).0 u None, (others q (low q h)).1))
-        (none_taken tk s.number reply.SubscribedHere refl)
+          (λ q h. (λ u. (others q (low q h)).0 u None, (others q (low q h)).1))
+          (none_taken tk s.number reply.SubscribedHere refl)
 
       subscribe_tied : (over : List ℕ) (n : List ℕ) (l : Level) (dump : Bool) (r : Option Reply) → item_in r ≡ [] → Ties s.number log tk (subscribe σ over s n l dump r)
       subscribe_tied over n l dump (Some r) h = nothing_tied s.number r h
       subscribe_tied over n l dump None h = mark_tied _ _ _ (Subscribed s.number n l dump) refl refl tt
-        (λ u. ap (λ b. if b && bytes_eq n u then Some l else level_in s.watching u) (sym (itself s.number)))
-        ((λ i. if itself s.number i then Began n l (dump_of (sym t.tables i) n dump) ∷ [] else []))
-        (λ q d. (λ u b. ap (λ k. if k && bytes_eq n u then Some l else b) (differs q s.number d), ap (λ k. if k then Began n l (dump_of (serial log) n dump) ∷ [] else []) (differs q s.number d)))
+          (λ u. ap (λ b. if b && bytes_eq n u then Some l else level_in s.watching u) (sym (itself s.number)))
+          ((λ i. if itself s.number i then Began n l (dump_of (sym t.tables i) n dump) ∷ [] else []))
+          (λ q d. (λ u b. ap (λ k. if k && bytes_eq n u then Some l else b) (differs q s.number d), ap (λ k. if k then Began n l (dump_of (serial log) n dump) ∷ [] else []) (differs q s.number d)))
 
       unsubscribe_tied : (over : List ℕ) (n : List ℕ) (b : Bool) → Ties s.number log tk (unsubscribe σ over s n b)
       unsubscribe_tied over n false = nothing_tied s.number (reply.NotSubscribed n) refl
       unsubscribe_tied over n true = mark_tied _ _ _ (Unsubscribed s.number n) refl refl tt
-        (λ u. left_level s.watching n u ∙ ap (λ b. kept_if (not (b && bytes_eq n u)) (level_in s.watching u)) (sym (itself s.number)))
-        (ap (λ b. if b then Ended n ending.Unsubscribed ∷ [] else []) (itself s.number))
-        (λ q d. (λ u b. ap (λ k. kept_if (not (k && bytes_eq n u)) b) (differs q s.number d), ap (λ k. if k then Ended n ending.Unsubscribed ∷ [] else []) (differs q s.number d)))
+          (λ u. left_level s.watching n u ∙ ap (λ b. kept_if (not (b && bytes_eq n u)) (level_in s.watching u)) (sym (itself s.number)))
+          (ap (λ b. if b then Ended n ending.Unsubscribed ∷ [] else []) (itself s.number))
+          (λ q d. (λ u b. ap (λ k. kept_if (not (k && bytes_eq n u)) b) (differs q s.number d), ap (λ k. if k then Ended n ending.Unsubscribed ∷ [] else []) (differs q s.number d)))
 
       -- THE COMMIT: each seat is given what the entry owes it
       commit_tied : (over : List ℕ) (transaction : Transaction) → s.transaction ≡ Some transaction → Ties s.number log tk (commit_now σ over s transaction (events_now σ transaction))
       commit_tied over transaction is = entry_tied σ _ log tk _ e t refl refl refl (refl, right) seats
-        (λ q h. (λ u. kept_none (not (has_session over q)), fresh_owed q (t.fresh q h).watching))
-        (none_taken tk s.number (reply.Atomic (σ.commits + 1)) refl)
+          (λ q h. (λ u. kept_none (not (has_session over q)), fresh_owed q (t.fresh q h).watching))
+          (none_taken tk s.number (reply.Atomic (σ.commits + 1)) refl)
         where
           e : Entry
           e = Committed (σ.commits + 1) s.number transaction.age transaction.moves transaction.told over
+
           tx_is : transaction_in (seat_at σ.seats s.number) ≡ Some transaction
           tx_is = ap transaction_in here ∙ is
+
           right : replies (start σ.tables transaction.age) transaction.moves ≡ transaction.told
           right = ap (λ (o : Option Transaction). replies (start σ.tables (age_in o)) (moves_in o)) (sym tx_is) ∙ sound.told s.number ∙ ap told_in_transaction tx_is
+
           fresh_owed : (q : ℕ) → ((u : List ℕ) → in_force q log u ≡ None) → owed q log e ≡ []
           fresh_owed q h = (λ i. unless_over (has_session over q) (batch_for (λ u. h u i) (σ.commits + 1) (events (serial log) transaction.age (surviving transaction.moves transaction.told))))
-            ∙ ap (unless_over (has_session over q)) (batch_none (σ.commits + 1) (events (serial log) transaction.age (surviving transaction.moves transaction.told))) ∙ unless_nil (has_session over q)
+              ∙ ap (unless_over (has_session over q)) (batch_none (σ.commits + 1) (events (serial log) transaction.age (surviving transaction.moves transaction.told))) ∙ unless_nil (has_session over q)
+
           f : Seat → Seat
           f x = given (σ.commits + 1) over (batch_to (σ.commits + 1) (events_now σ transaction) x) x
+
           moves : (q : ℕ) (x y : Seat) → seat_at σ.seats q ≡ Some x → y.number ≡ q → y.watching ≡ x.watching → y.outbox ≡ x.outbox → Moves q log e x (given (σ.commits + 1) over (batch_to (σ.commits + 1) (events_now σ transaction) y) y)
           moves q x y g num ws outbox = given_moves q (σ.commits + 1) over _ log e x y num outbox
-            (λ i. unless_over (has_session over q) (batch_for (λ u. (sym ((t.seats q x g).watching u) ∙ ap (λ w. level_in w u) (sym ws)) i) (σ.commits + 1) (events (sym t.tables i) transaction.age (surviving transaction.moves transaction.told))))
-            (λ h u. ap (λ b. kept_if (not b) (level_in x.watching u)) h)
-            (λ h u. ap (λ w. level_in w u) ws ∙ ap (λ b. kept_if (not b) (level_in x.watching u)) (sym h))
+              (λ i. unless_over (has_session over q) (batch_for (λ u. (sym ((t.seats q x g).watching u) ∙ ap (λ w. level_in w u) (sym ws)) i) (σ.commits + 1) (events (sym t.tables i) transaction.age (surviving transaction.moves transaction.told))))
+              (λ h u. ap (λ b. kept_if (not b) (level_in x.watching u)) h)
+              (λ h u. ap (λ w. level_in w u) ws ∙ ap (λ b. kept_if (not b) (level_in x.watching u)) (sym h))
+
           seats : (q : ℕ) (r : Seat) → seat_at (map f (change σ.seats (with_transaction s None))) q ≡ Some r → (x : Seat) × (seat_at σ.seats q ≡ Some x) × Moves q log e x r
           seats q r g =
-            let m = mapped_some f _ r (sym (seat_at-map f (λ x. given_number (σ.commits + 1) over _ x) (change σ.seats (with_transaction s None)) q) ∙ g) in
-            let P : ℕ → Seat → Type 0 = λ k y. (x : Seat) × (seat_at σ.seats k ≡ Some x) × Moves k log e x (f y) in
-            let got : P q m.0 = changed_some σ.seats (with_transaction s None) s q m.0 P here m.1
+              let m = mapped_some f _ r (sym (seat_at-map f (λ x. given_number (σ.commits + 1) over _ x) (change σ.seats (with_transaction s None)) q) ∙ g) in
+              let P : ℕ → Seat → Type 0 = λ k y. (x : Seat) × (seat_at σ.seats k ≡ Some x) × Moves k log e x (f y) in
+              let got : P q m.0 = changed_some σ.seats (with_transaction s None) s q m.0 P here m.1
               (s, here, moves s.number s (with_transaction s None) here refl refl refl)
               (λ k d y j. (y, j, moves k y y j (found σ.seats y k j) refl refl)) in
-            (got.0, got.1, subst (λ (z : Seat). Moves q log e got.0 z) m.2 got.2)
+              (got.0, got.1, subst (λ (z : Seat). Moves q log e got.0 z) m.2 got.2)
 
       commit_at_tied : (over : List ℕ) (transaction : Transaction) (b : Bool) → s.transaction ≡ Some transaction → Ties s.number log tk (commit_at σ over s transaction b)
       commit_at_tied over transaction false is = made_tied s here transaction Close reply.Done refl
@@ -360,30 +364,36 @@ module _ (σ : State) (log : List Entry) (tk : ℕ → List Item) (t : IsTied σ
   -- a schema command: those that watch a table that goes are given its end
   schema_tied : (n : ℕ) (over : List ℕ) (c : Schema) → schema_refusal σ.tables c ≡ None → Ties n log tk (schema_now σ over c)
   schema_tied n over c right = entry_tied σ _ log tk _ e t refl refl refl right seats
-    (λ q h. (λ u. kept_none (not (is_removed u (removed c) || has_session over q)), fresh_owed q (t.fresh q h).watching))
-    (none_taken tk n reply.AtomicOk refl)
+      (λ q h. (λ u. kept_none (not (is_removed u (removed c) || has_session over q)), fresh_owed q (t.fresh q h).watching))
+      (none_taken tk n reply.AtomicOk refl)
     where
       e : Entry
       e = Changed c over
+
       fresh_owed : (q : ℕ) → ((u : List ℕ) → in_force q log u ≡ None) → owed q log e ≡ []
       fresh_owed q h = (λ i. unless_over (has_session over q) (end_for (λ u. h u i) (removed c))) ∙ ap (unless_over (has_session over q)) (end_none (removed c)) ∙ unless_nil (has_session over q)
+
       f : Seat → Seat
       f x = given (σ.commits + 1) over (end_to (removed c) x) (unwatched (removed c) x)
+
       or_true : (b : Bool) → (b || true) ≡ true
       or_true true = refl
       or_true false = refl
+
       or_false : (b : Bool) → (b || false) ≡ b
       or_false true = refl
       or_false false = refl
+
       moves : (q : ℕ) (x : Seat) → seat_at σ.seats q ≡ Some x → Moves q log e x (f x)
       moves q x g = given_moves q (σ.commits + 1) over (end_to (removed c) x) log e x (unwatched (removed c) x) ((unwatched_same (removed c) x).0 ∙ found σ.seats x q g) (unwatched_same (removed c) x).1
-        (λ i. unless_over (has_session over q) (end_for (λ u. (sym ((t.seats q x g).watching u)) i) (removed c)))
-        (λ h u. ap (λ b. kept_if (not (is_removed u (removed c) || b)) (level_in x.watching u)) h ∙ ap (λ b. kept_if (not b) (level_in x.watching u)) (or_true (is_removed u (removed c))))
-        (λ h u. unwatched_level (removed c) x u ∙ ap (λ b. kept_if (not b) (level_in x.watching u)) (sym (or_false (is_removed u (removed c)))) ∙ ap (λ b. kept_if (not (is_removed u (removed c) || b)) (level_in x.watching u)) (sym h))
+          (λ i. unless_over (has_session over q) (end_for (λ u. (sym ((t.seats q x g).watching u)) i) (removed c)))
+          (λ h u. ap (λ b. kept_if (not (is_removed u (removed c) || b)) (level_in x.watching u)) h ∙ ap (λ b. kept_if (not b) (level_in x.watching u)) (or_true (is_removed u (removed c))))
+          (λ h u. unwatched_level (removed c) x u ∙ ap (λ b. kept_if (not b) (level_in x.watching u)) (sym (or_false (is_removed u (removed c)))) ∙ ap (λ b. kept_if (not (is_removed u (removed c) || b)) (level_in x.watching u)) (sym h))
+
       seats : (q : ℕ) (r : Seat) → seat_at (map f σ.seats) q ≡ Some r → (x : Seat) × (seat_at σ.seats q ≡ Some x) × Moves q log e x r
       seats q r g =
-        let m = mapped_some f _ r (sym (seat_at-map f (λ x. given_number (σ.commits + 1) over (end_to (removed c) x) (unwatched (removed c) x) ∙ (unwatched_same (removed c) x).0) σ.seats q) ∙ g) in
-        (m.0, m.1, subst (λ (z : Seat). Moves q log e m.0 z) m.2 (moves q m.0 m.1))
+          let m = mapped_some f _ r (sym (seat_at-map f (λ x. given_number (σ.commits + 1) over (end_to (removed c) x) (unwatched (removed c) x) ∙ (unwatched_same (removed c) x).0) σ.seats q) ∙ g) in
+          (m.0, m.1, subst (λ (z : Seat). Moves q log e m.0 z) m.2 (moves q m.0 m.1))
 
   schema_if_tied : (n : ℕ) (over : List ℕ) (c : Schema) (o : Option Reply) (busy room : Bool) → schema_refusal σ.tables c ≡ o → item_in o ≡ [] → Ties n log tk (schema_if σ over c o busy room)
   schema_if_tied n over c (Some r) busy room h g = nothing_tied n r g
@@ -421,8 +431,8 @@ module _ (σ : State) (log : List Entry) (tk : ℕ → List Item) (t : IsTied σ
 
     leave_tied : (s : Seat) → Ties s.number log tk (leave σ s)
     leave_tied s = quiet_tied σ _ log tk _ t refl refl (omega arith)
-      (λ q z f. cases q z (q == s.number) (sym (seat_at-without σ.seats s.number q) ∙ f))
-      (λ q g. none_taken tk s.number reply.Done refl q)
+        (λ q z f. cases q z (q == s.number) (sym (seat_at-without σ.seats s.number q) ∙ f))
+        (λ q g. none_taken tk s.number reply.Done refl q)
       where
         cases : (q : ℕ) (z : Seat) (b : Bool) → (if b then None else seat_at σ.seats q) ≡ Some z → IsSeatTied q z log (kept s.number tk reply.Done q)
         cases q z true f = cc
@@ -442,13 +452,13 @@ module _ (σ : State) (log : List Entry) (tk : ℕ → List Item) (t : IsTied σ
         let above : σ.greatest < n = grind (arith, nat_tests) in
         let new = t.fresh n above in
         quiet_tied σ _ log tk _ t refl refl (omega arith)
-          (λ q z f. cases q z new (q == n) refl (sym (seat_at-push σ.seats (fresh n b) q none) ∙ f))
-          (λ q g. none_taken tk n reply.Done refl q)
+        (λ q z f. cases q z new (q == n) refl (sym (seat_at-push σ.seats (fresh n b) q none) ∙ f))
+        (λ q g. none_taken tk n reply.Done refl q)
       where
         cases : (q : ℕ) (z : Seat) → IsNew n log (tk n) → (c : Bool) → (q == n) ≡ c → (if c then Some (fresh n b) else seat_at σ.seats q) ≡ Some z → IsSeatTied q z log (kept n tk reply.Done q)
         cases q z new true g f = let h : fresh n b ≡ z = cc in
             subst (λ (k : ℕ). IsSeatTied k z log (kept n tk reply.Done k)) (sym (eq_true q n g)) (subst (λ (y : Seat). IsSeatTied n y log (kept n tk reply.Done n)) h
-              (record { watching = λ u. sym (new.watching u); items = ap (λ xs. kept n tk reply.Done n ++ xs) empty ∙ append-nil _ ∙ sym (none_taken tk n reply.Done refl n) ∙ new.taken_none ∙ sym new.owed }))
+            (record { watching = λ u. sym (new.watching u); items = ap (λ xs. kept n tk reply.Done n ++ xs) empty ∙ append-nil _ ∙ sym (none_taken tk n reply.Done refl n) ∙ new.taken_none ∙ sym new.owed }))
         cases q z new false g f = subst (λ (xs : List Item). IsSeatTied q z log xs) (none_taken tk n reply.Done refl q) (t.seats q z f)
 
     unseated_tied : (n : ℕ) (a : Ask) → seat_at σ.seats n ≡ None → JoinsEmpty a → Ties n log tk (unseated σ n a)

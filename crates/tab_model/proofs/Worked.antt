@@ -1,21 +1,26 @@
 -- Worked rows, by computing.
-use Rattle.std.proofs.Common.{◌≡◌, ℕ, List, [], ◌∷◌, ◌++◌, refl, Some, None, true, false}
-use Rattle.std.specs.Prelude.{codes, pos, negsuc, Bool}
-use Rattle.tab_term.specs.Data.{PlainTerm, int, atom, tuple, list, bin, map, PlainTerms, none, one_more}
+use Rattle.std.proofs.Common.{◌≡◌, ℕ, List, [], ◌∷◌, refl, Some, None, true, false}
+use Rattle.std.specs.Prelude.{codes, pos, negsuc}
+use Rattle.tab_term.specs.Data.{PlainTerm, int, atom, list, PlainTerms, none, one_more}
 use Rattle.tab_term.specs.declared.term.Term.TheVariants as is
 use Rattle.tab_model.specs.declared.data.Operation.TheVariants as op
-use Rattle.tab_model.specs.declared.data.Reply.{Reply}
 use Rattle.tab_model.specs.declared.data.Reply.TheVariants as reply
-use Rattle.tab_model.specs.declared.data.Kind.TheVariants.{Set, Bag}
-use Rattle.tab_model.specs.declared.data.Schema.TheVariants.{Create, Remove, AddIndex, DelIndex}
+use Rattle.tab_model.specs.declared.data.Kind.TheVariants.{Set}
+use Rattle.tab_model.specs.declared.data.Schema.TheVariants.{Remove, AddIndex, DelIndex}
 use Rattle.tab_model.specs.declared.data.Command.TheVariants as command
 use Rattle.tab_model.specs.declared.data.Level.TheVariants.{Simple, Detailed}
 use Rattle.tab_model.specs.declared.data.Item.TheVariants.{Began, Batch, Ended}
 use Rattle.tab_term.specs.Canon.{canon, int_contents}
 use Rattle.tab_model.specs.Names.{less, plain_terms, pair, triple}
-use Rattle.tab_model.specs.Shapes.{tid, five}
-use Rattle.tab_model.specs.Outcome.{outcome, Retry, DoCommand}
-use Rattle.tab_model.specs.Run.{Call}
+use Rattle.tab_model.specs.declared.data.Ending.TheVariants as ending
+use Rattle.tab_model.specs.declared.data.InfoItem.TheVariants as item
+use Rattle.tab_model.specs.declared.data.TableInfo.TheVariants as info
+use Rattle.tab_model.specs.declared.data.Limit.TheVariants as limit
+use Rattle.tab_model.specs.declared.data.Limits.{Limits}
+use Rattle.tab_model.specs.State.{new}
+use Rattle.tab_model.specs.Shapes.{tid, five, held}
+use Rattle.tab_model.specs.Outcome.{outcome, Retry, Leave, DoCommand}
+use Rattle.tab_model.specs.Run.{Call, replies_of}
 use Rattle.tab_model.specs.Rows.{num, record_of, rec, joins, joins_with, creates, call, call_over, does, begins, commits, writes, reads, subscribes, takes, told_in, bag}
 
 abbrev event : PlainTerm → PlainTerm
@@ -93,9 +98,124 @@ unfolding outcome canon int_contents
 row_order = refl
 
 pub row_dump : told_in (joins 1 ∷ creates 1 (codes "t") none ∷ begins 1 ∷ writes 1 (codes "t") 2 (codes "b") ∷ writes 1 (codes "t") 1 (codes "a") ∷ commits 1
-      ∷ call 1 (DoCommand (command.Subscribe (codes "t") Simple true)) ∷ takes 1 ∷ begins 1 ∷ does 1 (op.Delete (codes "t") (is.Int (pos 1))) ∷ writes 1 (codes "t") 3 (codes "c") ∷ commits 1 ∷ takes 1 ∷ [])
+    ∷ call 1 (DoCommand (command.Subscribe (codes "t") Simple true)) ∷ takes 1 ∷ begins 1 ∷ does 1 (op.Delete (codes "t") (is.Int (pos 1))) ∷ writes 1 (codes "t") 3 (codes "c") ∷ commits 1 ∷ takes 1 ∷ [])
     ≡ reply.Done ∷ reply.AtomicOk ∷ reply.Tid 1 ∷ reply.Done ∷ reply.Done ∷ reply.Atomic 1 ∷ reply.SubscribedHere
-      ∷ reply.Taken (Began (codes "t") Simple (Some (plain_terms (rec (codes "t") 1 (codes "a") ∷ rec (codes "t") 2 (codes "b") ∷ [])))) ∷ reply.Tid 2 ∷ reply.Done ∷ reply.Done ∷ reply.Atomic 2
-      ∷ reply.Taken (Batch 2 (plain_terms (event (triple (atom (codes "delete")) (pair (atom (codes "t")) (num 1)) (tid 2)) ∷ event (write_by 2 (codes "t") 3 (codes "c")) ∷ []))) ∷ []
+    ∷ reply.Taken (Began (codes "t") Simple (Some (plain_terms (rec (codes "t") 1 (codes "a") ∷ rec (codes "t") 2 (codes "b") ∷ [])))) ∷ reply.Tid 2 ∷ reply.Done ∷ reply.Done ∷ reply.Atomic 2
+    ∷ reply.Taken (Batch 2 (plain_terms (event (triple (atom (codes "delete")) (pair (atom (codes "t")) (num 1)) (tid 2)) ∷ event (write_by 2 (codes "t") 3 (codes "c")) ∷ []))) ∷ []
 unfolding outcome canon int_contents
 row_dump = refl
+
+-- x: attributes k and v, an index on v
+abbrev indexed_table : PlainTerms
+indexed_table = one_more (pair (atom (codes "attributes")) (list (one_more (atom (codes "k")) (one_more (atom (codes "v")) none)))) (one_more (pair (atom (codes "index")) (list (one_more (atom (codes "v")) none))) none)
+
+abbrev reads_by_v : ℕ → Call
+reads_by_v n = does n (op.IndexRead (codes "x") (is.Atom (codes "q")) (is.Atom (codes "v")))
+
+-- a phantom: what an index_read didn't find is locked too; the younger writer dies, the older waits
+pub row_phantom : told_in (joins 1 ∷ joins 2 ∷ creates 1 (codes "x") indexed_table ∷ begins 1 ∷ begins 2 ∷ reads_by_v 1 ∷ writes 2 (codes "x") 9 (codes "q") ∷ commits 1 ∷ writes 2 (codes "x") 9 (codes "q") ∷ begins 1 ∷ commits 2 ∷ [])
+    ≡ reply.Done ∷ reply.Done ∷ reply.AtomicOk ∷ reply.Tid 1 ∷ reply.Tid 2 ∷ reply.Found none ∷ reply.Restart ∷ reply.Atomic 1 ∷ reply.Done ∷ reply.Tid 3 ∷ reply.Atomic 2 ∷ []
+unfolding outcome canon int_contents
+row_phantom = refl
+
+pub row_phantom_older : told_in (joins 1 ∷ joins 2 ∷ creates 1 (codes "x") indexed_table ∷ begins 1 ∷ begins 2 ∷ reads_by_v 2 ∷ writes 1 (codes "x") 9 (codes "q") ∷ commits 2 ∷ call 1 Retry ∷ commits 1 ∷ [])
+    ≡ reply.Done ∷ reply.Done ∷ reply.AtomicOk ∷ reply.Tid 1 ∷ reply.Tid 2 ∷ reply.Found none ∷ reply.Waiting ∷ reply.Atomic 1 ∷ reply.Done ∷ reply.Atomic 2 ∷ []
+unfolding outcome canon int_contents
+row_phantom_older = refl
+
+-- two that read one record and then write it
+pub row_two_upgrades : told_in (joins 1 ∷ joins 2 ∷ creates 1 (codes "t") none ∷ begins 1 ∷ begins 2 ∷ reads 1 (codes "t") 5 ∷ reads 2 (codes "t") 5 ∷ writes 1 (codes "t") 5 (codes "a") ∷ writes 2 (codes "t") 5 (codes "b") ∷ call 1 Retry ∷ commits 1 ∷ reads 2 (codes "t") 5 ∷ [])
+    ≡ reply.Done ∷ reply.Done ∷ reply.AtomicOk ∷ reply.Tid 1 ∷ reply.Tid 2 ∷ reply.Found none ∷ reply.Found none ∷ reply.Waiting ∷ reply.Restart ∷ reply.Done ∷ reply.Atomic 1 ∷ reply.Found (plain_terms (rec (codes "t") 5 (codes "a") ∷ [])) ∷ []
+unfolding outcome canon int_contents
+row_two_upgrades = refl
+
+-- the younger dies and keeps its age: its event has it, and the next begin is of age 3
+pub row_younger_dies : told_in (joins 1 ∷ joins 2 ∷ joins 3 ∷ creates 1 (codes "t") none ∷ subscribes 3 (codes "t") ∷ takes 3 ∷ begins 1 ∷ begins 2 ∷ writes 1 (codes "t") 5 (codes "a") ∷ reads 2 (codes "t") 5 ∷ commits 1 ∷ writes 2 (codes "t") 6 (codes "c") ∷ begins 3 ∷ commits 2 ∷ takes 3 ∷ takes 3 ∷ [])
+    ≡ reply.Done ∷ reply.Done ∷ reply.Done ∷ reply.AtomicOk ∷ reply.SubscribedHere ∷ reply.Taken (Began (codes "t") Simple None) ∷ reply.Tid 1 ∷ reply.Tid 2 ∷ reply.Done ∷ reply.Restart ∷ reply.Atomic 1 ∷ reply.Done ∷ reply.Tid 3 ∷ reply.Atomic 2
+    ∷ reply.Taken (Batch 1 (plain_terms (event (write_by 1 (codes "t") 5 (codes "a")) ∷ []))) ∷ reply.Taken (Batch 2 (plain_terms (event (write_by 2 (codes "t") 6 (codes "c")) ∷ []))) ∷ []
+unfolding outcome canon int_contents
+row_younger_dies = refl
+
+-- subscribing inside a transaction: what stands at the commit counts, so its own earlier write is told
+pub row_own_commit : told_in (joins 1 ∷ creates 1 (codes "t") none ∷ begins 1 ∷ writes 1 (codes "t") 1 (codes "a") ∷ subscribes 1 (codes "t") ∷ subscribes 1 (codes "t") ∷ commits 1 ∷ takes 1 ∷ takes 1 ∷ takes 1 ∷ [])
+    ≡ reply.Done ∷ reply.AtomicOk ∷ reply.Tid 1 ∷ reply.Done ∷ reply.SubscribedHere ∷ reply.AlreadySubscribed (codes "t") ∷ reply.Atomic 1 ∷ reply.Taken (Began (codes "t") Simple None) ∷ reply.Taken (Batch 1 (plain_terms (event (write1 (codes "t") 1 (codes "a")) ∷ []))) ∷ reply.Empty ∷ []
+unfolding outcome canon int_contents
+row_own_commit = refl
+
+-- two tables: a batch has the events of both in the order of the updates; a deletion ends the one, and the other goes on
+pub row_two_tables : told_in (joins 1 ∷ creates 1 (codes "t") none ∷ creates 1 (codes "u") none ∷ subscribes 1 (codes "t") ∷ subscribes 1 (codes "u") ∷ takes 1 ∷ takes 1 ∷ begins 1 ∷ writes 1 (codes "t") 1 (codes "a") ∷ writes 1 (codes "u") 1 (codes "b") ∷ writes 1 (codes "t") 2 (codes "c") ∷ commits 1
+    ∷ call 1 (DoCommand (command.Schema (Remove (codes "u")))) ∷ begins 1 ∷ writes 1 (codes "t") 3 (codes "d") ∷ commits 1 ∷ call 1 (DoCommand (command.Unsubscribe (codes "t") Simple)) ∷ takes 1 ∷ takes 1 ∷ takes 1 ∷ takes 1 ∷ takes 1 ∷ [])
+    ≡ reply.Done ∷ reply.AtomicOk ∷ reply.AtomicOk ∷ reply.SubscribedHere ∷ reply.SubscribedHere ∷ reply.Taken (Began (codes "t") Simple None) ∷ reply.Taken (Began (codes "u") Simple None) ∷ reply.Tid 1 ∷ reply.Done ∷ reply.Done ∷ reply.Done ∷ reply.Atomic 1
+    ∷ reply.AtomicOk ∷ reply.Tid 2 ∷ reply.Done ∷ reply.Atomic 2 ∷ reply.SubscribedHere
+    ∷ reply.Taken (Batch 1 (plain_terms (event (write1 (codes "t") 1 (codes "a")) ∷ event (write1 (codes "u") 1 (codes "b")) ∷ event (write1 (codes "t") 2 (codes "c")) ∷ [])))
+    ∷ reply.Taken (Ended (codes "u") ending.Deleted) ∷ reply.Taken (Batch 2 (plain_terms (event (write_by 2 (codes "t") 3 (codes "d")) ∷ []))) ∷ reply.Taken (Ended (codes "t") ending.Unsubscribed) ∷ reply.Empty ∷ []
+unfolding outcome canon int_contents
+row_two_tables = refl
+
+-- options: a bad one goes before all else, then the attributes, then the indexes; a repeated index entry is one index
+abbrev attributes_are : PlainTerm → PlainTerm
+attributes_are x = pair (atom (codes "attributes")) x
+
+abbrev indexes_are : PlainTerm → PlainTerm
+indexes_are x = pair (atom (codes "index")) x
+
+abbrev kind_is : List ℕ → PlainTerm
+kind_is k = pair (atom (codes "type")) (atom k)
+
+abbrev options : List PlainTerm → PlainTerms
+options os = plain_terms os
+
+abbrev word : List ℕ → PlainTerm
+word n = atom n
+
+abbrev words : List PlainTerm → PlainTerm
+words ts = list (plain_terms ts)
+
+pub row_options : told_in (joins 1
+    ∷ creates 1 (codes "v") (options (attributes_are (num 1) ∷ indexes_are (num 1) ∷ kind_is (codes "bag") ∷ kind_is (codes "set") ∷ []))
+    ∷ creates 1 (codes "v") (options (indexes_are (num 1) ∷ attributes_are (words (word (codes "k") ∷ word (codes "k") ∷ [])) ∷ []))
+    ∷ creates 1 (codes "v") (options (indexes_are (num 1) ∷ []))
+    ∷ creates 1 (codes "v") (options (indexes_are (words (word (codes "val") ∷ word (codes "key") ∷ [])) ∷ []))
+    ∷ creates 1 (codes "v") (options (indexes_are (words (num 2 ∷ [])) ∷ []))
+    ∷ creates 1 (codes "v") (options (pair (atom (codes "record_name")) (atom (codes "w")) ∷ []))
+    ∷ creates 1 (codes "v") (options (indexes_are (words (num 3 ∷ word (codes "val") ∷ [])) ∷ pair (atom (codes "record_name")) (atom (codes "v")) ∷ pair (atom (codes "ram_copies")) (words []) ∷ []))
+    ∷ call 1 (DoCommand (command.TableInfo (codes "v") item.Index)) ∷ call 1 (DoCommand (command.TableInfo (codes "v") item.Attributes)) ∷ call 1 (DoCommand (command.TableInfo (codes "v") item.Kind)) ∷ call 1 (DoCommand (command.TableInfo (codes "v") item.Size)) ∷ call 1 (DoCommand (command.TableInfo (codes "w") item.Size)) ∷ [])
+    ≡ reply.Done
+    ∷ reply.BadDefinition (codes "v") (held (kind_is (codes "set")))
+    ∷ reply.BadDefinition (codes "v") (held (word (codes "attributes")))
+    ∷ reply.BadDefinition (codes "v") (held (indexes_are (num 1)))
+    ∷ reply.BadDefinition (codes "v") (held (indexes_are (word (codes "key"))))
+    ∷ reply.BadDefinition (codes "v") (held (indexes_are (num 2)))
+    ∷ reply.BadDefinition (codes "v") (held (pair (atom (codes "record_name")) (atom (codes "w"))))
+    ∷ reply.AtomicOk
+    ∷ reply.Told (info.Index (3 ∷ [])) ∷ reply.Told (info.Attributes (codes "key" ∷ codes "val" ∷ [])) ∷ reply.Told (info.Kind Set) ∷ reply.Told (info.Size 0) ∷ reply.SubNoTable (codes "w") ∷ []
+unfolding outcome canon int_contents
+row_options = refl
+
+-- limits: three operations and child begins, two levels, one table, one age, two sessions
+abbrev small : Limits
+small = record { sessions = 2; nesting = 2; operations = 3; tables = 1; ages = 2; journal = 16 }
+
+pub row_limits : replies_of (new small) (joins 1 ∷ joins 2 ∷ joins 3 ∷ creates 1 (codes "t") none ∷ creates 1 (codes "u") none ∷ begins 1 ∷ begins 1 ∷ begins 1 ∷ commits 1 ∷ reads 1 (codes "t") 1 ∷ reads 1 (codes "t") 2 ∷ begins 1 ∷ reads 1 (codes "t") 3 ∷ commits 1 ∷ begins 2 ∷ begins 1 ∷ [])
+    ≡ reply.Done ∷ reply.Done ∷ reply.SystemLimit limit.Sessions ∷ reply.AtomicOk ∷ reply.SystemLimit limit.Tables ∷ reply.Tid 1 ∷ reply.Tid 1 ∷ reply.SystemLimit limit.Nesting ∷ reply.AtomicOk ∷ reply.Found none ∷ reply.Found none ∷ reply.SystemLimit limit.Operations ∷ reply.SystemLimit limit.Operations ∷ reply.Atomic 1 ∷ reply.Tid 2 ∷ reply.SystemLimit limit.Ages ∷ []
+unfolding outcome canon int_contents
+row_limits = refl
+
+-- refusals outside a transaction, and of sessions that have not joined or join again
+pub row_refusals : told_in (joins 2 ∷ creates 2 (codes "t") none ∷ reads 2 (codes "t") 1 ∷ commits 2 ∷ call 2 Retry ∷ begins 9 ∷ joins 2 ∷ joins 1 ∷ call 2 Leave ∷ call 2 Leave ∷ joins 2 ∷ joins 3 ∷ begins 3 ∷ creates 3 (codes "u") none ∷ call 3 (DoCommand (command.Unsubscribe (codes "t") Simple)) ∷ subscribes 3 (codes "v") ∷ [])
+    ≡ reply.Done ∷ reply.AtomicOk ∷ reply.NoTransaction ∷ reply.NoTransaction ∷ reply.NotWaiting ∷ reply.BadSession ∷ reply.BadSession ∷ reply.BadSession ∷ reply.Done ∷ reply.BadSession ∷ reply.BadSession ∷ reply.Done ∷ reply.Tid 1 ∷ reply.InTransaction ∷ reply.NotSubscribed (codes "t") ∷ reply.SubNoTable (codes "v") ∷ []
+unfolding outcome canon int_contents
+row_refusals = refl
+
+-- an index is added and taken away; writes of another table's form end the level
+pub row_schema : told_in (joins 1 ∷ creates 1 (codes "t") none
+    ∷ call 1 (DoCommand (command.Schema (AddIndex (codes "t") (is.Atom (codes "key"))))) ∷ call 1 (DoCommand (command.Schema (DelIndex (codes "t") (is.Atom (codes "val")))))
+    ∷ call 1 (DoCommand (command.Schema (AddIndex (codes "t") (is.Atom (codes "val"))))) ∷ call 1 (DoCommand (command.Schema (AddIndex (codes "t") (is.Int (pos 3)))))
+    ∷ begins 1 ∷ writes 1 (codes "t") 1 (codes "a") ∷ does 1 (op.IndexRead (codes "t") (is.Atom (codes "a")) (is.Int (pos 3)))
+    ∷ begins 1 ∷ does 1 (op.Write (is.Tuple (one_more (atom (codes "t")) (one_more (num 1) none)))) ∷ reads 1 (codes "t") 1 ∷ does 1 (op.ReadForWrite (codes "t") (is.Int (pos 2))) ∷ does 1 (op.ReadLockTable (codes "t")) ∷ commits 1
+    ∷ call 1 (DoCommand (command.Schema (DelIndex (codes "t") (is.Atom (codes "val"))))) ∷ [])
+    ≡ reply.Done ∷ reply.AtomicOk ∷ reply.BadDefinition (codes "t") (held (indexes_are (word (codes "key")))) ∷ reply.NoIndex (codes "t") (is.Atom (codes "val")) ∷ reply.AtomicOk ∷ reply.BadDefinition (codes "t") (held (indexes_are (num 3)))
+    ∷ reply.Tid 1 ∷ reply.Done ∷ reply.Found (plain_terms (rec (codes "t") 1 (codes "a") ∷ [])) ∷ reply.Tid 1 ∷ reply.BadType (codes "t") (is.Tuple (one_more (atom (codes "t")) (one_more (num 1) none)))
+    ∷ reply.Found (plain_terms (rec (codes "t") 1 (codes "a") ∷ [])) ∷ reply.Found none ∷ reply.Done ∷ reply.Atomic 1 ∷ reply.AtomicOk ∷ []
+unfolding outcome canon int_contents
+row_schema = refl

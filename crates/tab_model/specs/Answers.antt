@@ -1,11 +1,10 @@
 -- What whole-table reads answer on rows in canonical order.
-use Rattle.std.specs.Prelude.{ℕ, suc, zero, ◌-◌, List, [], ◌∷◌, Bool, true, false, ◌&&◌, ◌||◌}
+use Rattle.std.specs.Prelude.{ℕ, suc, zero, ◌-◌}
 use Rattle.std.specs.List.{filter}
-use Rattle.std.specs.Str.{bytes_eq}
 use Rattle.tab_term.specs.Data.{PlainTerm, int, atom, tuple, list, bin, map, PlainTerms, none, one_more}
 use Rattle.tab_term.specs.Same.{same}
 use Rattle.tab_term.specs.Pattern.{matches}
-use Rattle.tab_model.specs.Tables.{Rows, key}
+use Rattle.tab_model.specs.Tables.{Rows}
 
 abbrev pub nth : ℕ → PlainTerms → PlainTerm
 nth n none = list none

@@ -4,14 +4,11 @@ use Rattle.std.specs.List.{list_any}
 use Rattle.std.specs.Str.{bytes_eq}
 use Rattle.tab_term.specs.Same.{same}
 use Rattle.tab_term.specs.View.{term}
-use Rattle.tab_term.specs.Code.{first}
-use Rattle.tab_term.specs.Data.{PlainTerm, int, atom, tuple, list, bin, map, PlainTerms, none, one_more}
+use Rattle.tab_term.specs.Data.{PlainTerm}
 use Rattle.tab_model.specs.declared.data.Operation.{Operation}
 use Rattle.tab_model.specs.declared.data.Operation.TheVariants as op
 use Rattle.tab_model.specs.declared.data.Move.{Move}
 use Rattle.tab_model.specs.declared.data.Move.TheVariants.{Do, Open, Close, Undo}
-use Rattle.tab_model.specs.declared.data.Mode.{Mode}
-use Rattle.tab_model.specs.declared.data.Mode.TheVariants as mode
 use Rattle.tab_model.specs.Tables.{key}
 use Rattle.tab_term.specs.Pattern.{has_wildcard}
 use Rattle.tab_model.specs.Operations.{table_of}

@@ -1,10 +1,10 @@
 -- Words of terms, as bytes; their order and equality.
-use Rattle.std.specs.Prelude.{ℕ, List, [], ◌∷◌, Bool, true, false, ◌&&◌, ◌||◌, ◌==◌, nat_lt, codes}
+use Rattle.std.specs.Prelude.{ℕ, List, [], ◌∷◌, Bool}
 use Rattle.std.specs.List.{list_any}
 use Rattle.std.specs.Ordering.{nat_cmp, is_lt}
 use Rattle.std.specs.Cmp.Lexicographic.{slice_cmp}
 use Rattle.std.specs.Str.{bytes_eq}
-use Rattle.tab_term.specs.Data.{PlainTerm, int, atom, tuple, list, bin, map, PlainTerms, none, one_more}
+use Rattle.tab_term.specs.Data.{PlainTerm, tuple, PlainTerms, none, one_more}
 use Rattle.tab_term.specs.Canon.{canon}
 
 -- byte lists in their order

@@ -1,5 +1,5 @@
 -- What each operation asks of one table, alone.
-use Rattle.std.specs.Prelude.{◌≡◌, ℕ, List, [], ◌∷◌, Bool, true, false, not, if◌then◌else◌, Option, Some, None}
+use Rattle.std.specs.Prelude.{ℕ, List, [], if◌then◌else◌, Option, Some, None}
 use Rattle.tab_term.specs.Data.{PlainTerm, int, atom, tuple, list, bin, map, PlainTerms, none, one_more}
 use Rattle.tab_term.specs.View.{term}
 use Rattle.tab_term.specs.declared.term.Term.{Term}

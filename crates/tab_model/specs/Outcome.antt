@@ -1,7 +1,5 @@
 -- What a step does: the next state, the reply, and the entry of the log.
-use Rattle.std.specs.Prelude.{◌≡◌, ℕ, suc, ◌+◌, ◌-◌, ◌^◌, min, List, [], ◌∷◌, ◌++◌, Bool, true, false, not, ◌&&◌, ◌||◌, ◌==◌, nat_lt, nat_le, if◌then◌else◌, Option, Some, None, is_some, map, length, IfSome}
-use Rattle.std.specs.List.{filter, list_any}
-use Rattle.tab_term.specs.Data.{PlainTerm, PlainTerms}
+use Rattle.std.specs.Prelude.{ℕ, suc, ◌+◌, ◌-◌, ◌^◌, min, List, [], ◌∷◌, ◌++◌, Bool, true, false, not, ◌&&◌, ◌==◌, nat_lt, nat_le, if◌then◌else◌, Option, Some, None, is_some, map, length}
 use Rattle.tab_term.specs.declared.term.Term.{Term}
 use Rattle.tab_model.specs.declared.data.Operation.{Operation}
 use Rattle.tab_model.specs.declared.data.Move.{Move}
@@ -10,7 +8,7 @@ use Rattle.tab_model.specs.declared.data.Reply.{Reply}
 use Rattle.tab_model.specs.declared.data.Reply.TheVariants as reply
 use Rattle.tab_model.specs.declared.data.Limit.TheVariants as limit
 use Rattle.tab_model.specs.declared.data.Item.{Item}
-use Rattle.tab_model.specs.declared.data.Item.TheVariants.{Began, Batch, Ended}
+use Rattle.tab_model.specs.declared.data.Item.TheVariants.{Began, Ended}
 use Rattle.tab_model.specs.declared.data.Ending.TheVariants as ending
 use Rattle.tab_model.specs.declared.data.Level.{Level}
 use Rattle.tab_model.specs.declared.data.Level.TheVariants.{Simple, Detailed}
@@ -24,12 +22,12 @@ use Rattle.tab_model.specs.declared.data.Command.TheVariants as command
 use Rattle.tab_model.specs.declared.data.Entry.{Entry}
 use Rattle.tab_model.specs.declared.data.Entry.TheVariants.{Committed, Changed, Subscribed, Unsubscribed}
 use Rattle.tab_model.specs.declared.data.Event.{Event}
-use Rattle.tab_model.specs.Worlds.{World, Table, find}
+use Rattle.tab_model.specs.Worlds.{Table, find}
 use Rattle.tab_model.specs.Alone.{Mid, told}
 use Rattle.tab_model.specs.Operations.{failure}
 use Rattle.tab_model.specs.Events.{events, surviving}
 use Rattle.tab_model.specs.Locks.{needs}
-use Rattle.tab_model.specs.Ages.{Owned, Answer, Granted, Wait, Die, decide, can_retry}
+use Rattle.tab_model.specs.Ages.{Answer, Granted, Wait, Die, decide, can_retry}
 use Rattle.tab_model.specs.Schemas.{table_of_schema, schema_refusal, schema_effect, removed}
 use Rattle.tab_model.specs.Log.{has_session}
 use Rattle.tab_model.specs.Slices.{batch_for, end_for, dump_of}
@@ -173,7 +171,11 @@ commit_now σ over s transaction es =
       state = record {
         tables = (mid_of σ transaction).now;
         seats = map (λ x. given (σ.commits + 1) over (batch_to (σ.commits + 1) es x) x) (change σ.seats (with_transaction s None));
-        queue = σ.queue; next_age = σ.next_age; commits = σ.commits + 1; greatest = σ.greatest; limits = σ.limits;
+        queue = σ.queue;
+        next_age = σ.next_age;
+        commits = σ.commits + 1;
+        greatest = σ.greatest;
+        limits = σ.limits;
       };
       reply = reply.Atomic (σ.commits + 1);
       entry = Some (Committed (σ.commits + 1) s.number transaction.age transaction.moves transaction.told over);
@@ -204,7 +206,11 @@ schema_now σ over c =
       state = record {
         tables = schema_effect σ.tables c;
         seats = map (λ x. given (σ.commits + 1) over (end_to (removed c) x) (unwatched (removed c) x)) σ.seats;
-        queue = σ.queue; next_age = σ.next_age; commits = σ.commits; greatest = σ.greatest; limits = σ.limits;
+        queue = σ.queue;
+        next_age = σ.next_age;
+        commits = σ.commits;
+        greatest = σ.greatest;
+        limits = σ.limits;
       };
       reply = reply.AtomicOk;
       entry = Some (Changed c over);

@@ -1,17 +1,16 @@
 -- Worked rows: small runs.
-use Rattle.std.specs.Prelude.{ℕ, List, [], ◌∷◌, ◌++◌, Option, Some, None, pos, negsuc, codes, true, false}
-use Rattle.tab_term.specs.Data.{PlainTerm, int, atom, tuple, list, bin, map, PlainTerms, none, one_more}
-use Rattle.tab_term.specs.declared.term.Term.{Term}
+use Rattle.std.specs.Prelude.{ℕ, List, [], Some, pos, codes, false}
+use Rattle.tab_term.specs.Data.{PlainTerm, int, atom, tuple, PlainTerms, none, one_more}
 use Rattle.tab_term.specs.declared.term.Term.TheVariants as is
 use Rattle.tab_model.specs.declared.data.Operation.{Operation}
 use Rattle.tab_model.specs.declared.data.Operation.TheVariants as op
-use Rattle.tab_model.specs.declared.data.Level.TheVariants.{Simple, Detailed}
-use Rattle.tab_model.specs.declared.data.Schema.TheVariants.{Create, Remove, AddIndex, DelIndex}
+use Rattle.tab_model.specs.declared.data.Level.TheVariants.{Simple}
+use Rattle.tab_model.specs.declared.data.Schema.TheVariants.{Create}
 use Rattle.tab_model.specs.declared.data.Command.TheVariants as command
 use Rattle.tab_model.specs.declared.data.Limits.{Limits}
 use Rattle.tab_model.specs.declared.data.Reply.{Reply}
-use Rattle.tab_model.specs.State.{State, new, Outbox}
-use Rattle.tab_model.specs.Outcome.{Ask, Join, Leave, Retry, Take, DoCommand}
+use Rattle.tab_model.specs.State.{new, Outbox}
+use Rattle.tab_model.specs.Outcome.{Ask, Join, Take, DoCommand}
 use Rattle.tab_model.specs.Run.{Call, replies_of}
 
 abbrev pub num : ℕ → PlainTerm

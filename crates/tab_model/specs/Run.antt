@@ -1,21 +1,18 @@
 -- Which posts refuse, runs, and what a run says of the last state.
-use Rattle.std.specs.Prelude.{◌≡◌, ◌≢◌, ℕ, ◌+◌, ◌<◌, ◌≤◌, List, [], ◌∷◌, ◌++◌, Bool, true, false, not, ◌||◌, ◌&&◌, ◌==◌, nat_le, if◌then◌else◌, Option, Some, None, is_some, length, IfSome}
+use Rattle.std.specs.Prelude.{◌≡◌, ℕ, ◌+◌, ◌<◌, List, [], ◌∷◌, ◌++◌, Bool, not, ◌||◌, ◌==◌, nat_le, if◌then◌else◌, Option, Some, None, is_some, length, IfSome}
 use Rattle.std.specs.List.{filter}
 use Rattle.tab_model.specs.declared.data.Reply.{Reply}
 use Rattle.tab_model.specs.declared.data.Reply.TheVariants as reply
 use Rattle.tab_model.specs.declared.data.Item.{Item}
-use Rattle.tab_model.specs.declared.data.Level.{Level}
 use Rattle.tab_model.specs.declared.data.Schema.{Schema}
 use Rattle.tab_model.specs.declared.data.Command.{Command}
 use Rattle.tab_model.specs.declared.data.Command.TheVariants as command
 use Rattle.tab_model.specs.declared.data.Entry.{Entry}
-use Rattle.tab_model.specs.declared.data.Limits.{Limits}
-use Rattle.tab_model.specs.Worlds.{World}
 use Rattle.tab_model.specs.Schemas.{table_of_schema, schema_refusal, removed}
 use Rattle.tab_model.specs.Log.{serial, in_force, commits_from, IsLegal}
 use Rattle.tab_model.specs.Slices.{slice}
-use Rattle.tab_model.specs.State.{Transaction, Outbox, Seat, State, new, seat_at, is_waiting, is_busy, level_in, mid_of}
-use Rattle.tab_model.specs.Outcome.{Ask, Join, Leave, Retry, Take, DoCommand, Outcome, outcome, is_empty, batch_to, end_to, events_now, has_room, subscribe_refusal, is_at}
+use Rattle.tab_model.specs.State.{Transaction, Seat, State, seat_at, is_waiting, is_busy, level_in, mid_of}
+use Rattle.tab_model.specs.Outcome.{Ask, Join, Leave, Retry, Take, DoCommand, Outcome, outcome, is_empty, batch_to, end_to, events_now, subscribe_refusal, is_at}
 
 -- those whose posts are handed an item in a step
 abbrev pub put_commit : State → Option Transaction → List Seat
@@ -113,3 +110,11 @@ pub record IsTied (σ : State) (log : List Entry) (taken : ℕ → List Item) : 
   pub commits : σ.commits ≡ commits_from 0 log
   pub seats : (n : ℕ) (s : Seat) → seat_at σ.seats n ≡ Some s → IsSeatTied n s log (taken n)
   pub fresh : (n : ℕ) → σ.greatest < n → IsNew n log (taken n)
+
+-- a list is a beginning of another
+pub record Begins (xs ys : List Item) : Type 0 where
+  pub rest : List Item
+  pub is : xs ++ rest ≡ ys
+
+abbrev pub leaves : ℕ → Call
+leaves n = record { session = n; ask = Leave; over = [] }

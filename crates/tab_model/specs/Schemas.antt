@@ -1,6 +1,6 @@
 -- Schema commands on whole tables.
-use Rattle.std.specs.Prelude.{ℕ, List, [], ◌∷◌, Bool, true, false, ◌||◌, not, if◌then◌else◌, Option, Some, None, codes}
-use Rattle.tab_term.specs.Data.{PlainTerm, int, atom, tuple, list, bin, map, PlainTerms, none, one_more}
+use Rattle.std.specs.Prelude.{ℕ, List, [], Bool, true, false, ◌||◌, not, if◌then◌else◌, Option, Some, None, codes}
+use Rattle.tab_term.specs.Data.{atom, PlainTerms}
 use Rattle.tab_term.specs.View.{term}
 use Rattle.tab_term.specs.declared.term.Term.{Term}
 use Rattle.tab_model.specs.declared.data.TableDef.{TableDef}

@@ -1,5 +1,5 @@
 -- Events as terms, and back.
-use Rattle.std.specs.Prelude.{ℕ, List, [], ◌∷◌, Bool, true, false, ◌&&◌, ◌||◌, if◌then◌else◌, Option, Some, None, pos, codes}
+use Rattle.std.specs.Prelude.{◌≡◌, ◌<◌, ℕ, suc, List, Bool, true, false, if◌then◌else◌, Option, Some, None, pos, codes}
 use Rattle.std.specs.Str.{bytes_eq}
 use Rattle.tab_term.specs.Data.{PlainTerm, int, atom, tuple, list, bin, map, PlainTerms, none, one_more}
 use Rattle.tab_term.specs.View.{term}
@@ -11,6 +11,7 @@ use Rattle.tab_model.specs.declared.data.Change.{Change}
 use Rattle.tab_model.specs.declared.data.Change.TheVariants as change
 use Rattle.tab_model.specs.declared.data.Event.{Event}
 use Rattle.tab_model.specs.Names.{pair, triple}
+use Rattle.tab_model.specs.Operations.{table_of_change}
 
 -- the value of the program that a term is
 abbrev pub held : PlainTerm → Term
@@ -20,6 +21,7 @@ held (tuple ts) = is.Tuple ts
 held (list ts) = is.List ts
 held (bin b) = is.Bin b
 held (map ps) = is.Map ps
+
 abbrev pub tid : ℕ → PlainTerm
 tid age = pair (atom (codes "tid")) (int (pos age))
 
@@ -43,24 +45,93 @@ body Detailed e = detailed e.change e.tab e.old e.age
 abbrev pub shape : Level → Event → PlainTerm
 shape l e = pair (atom (codes "mnesia_table_event")) (body l e)
 
+-- ---- the change of a shaped event, and of no other term (Mnesia User's Guide, "Mnesia Event Handling"; where it is
+-- silent, this project's own rule: a detailed event of delete_object has the tag delete, the record and its old records)
+
+-- a record: a tuple of arity 3 or more whose first element is an atom
+abbrev pub is_record : PlainTerm → Bool
+is_record (tuple (one_more (atom t) (one_more k (one_more v vs)))) = true
+is_record x = false
+
+-- `{tid, Age}`, Age from 1 on
+abbrev pub is_id : PlainTerm → Bool
+is_id (tuple (one_more (atom n) (one_more (int (pos (suc a))) none))) = bytes_eq n (codes "tid")
+is_id x = false
+
+abbrev pub written : PlainTerm → Option Change
+written x = if is_record x then Some (change.Write (held x)) else None
+
+abbrev pub object_deleted : PlainTerm → Option Change
+object_deleted x = if is_record x then Some (change.DeleteObject (held x)) else None
+
+-- `{Tab, Key}`
+abbrev pub key_deleted : PlainTerm → Option Change
+key_deleted (tuple (one_more (atom t) (one_more k none))) = Some (change.Delete t (held k))
+key_deleted x = None
+
 -- a deletion of a key has arity 2, a record 3 or more
-abbrev pub deletion : PlainTerm → Option Change
-deletion (tuple (one_more (atom t) (one_more k none))) = Some (change.Delete t (held k))
-deletion x = Some (change.DeleteObject (held x))
+abbrev pub deleted : PlainTerm → Option Change
+deleted (tuple (one_more (atom t) (one_more k none))) = Some (change.Delete t (held k))
+deleted x = object_deleted x
 
-abbrev pub worded : List ℕ → PlainTerm → Option Change
-worded n x = if bytes_eq n (codes "write") then Some (change.Write (held x)) else deletion x
+abbrev pub in_table : List ℕ → Option Change → Option Change
+in_table t None = None
+in_table t (Some c) = if bytes_eq (table_of_change c) t then Some c else None
 
--- the change of a shaped event (the caller's condition: it is one)
+abbrev pub simple_change : List ℕ → PlainTerm → Option Change
+simple_change n x =
+    if bytes_eq n (codes "write") then written x
+    else (if bytes_eq n (codes "delete") then key_deleted x
+    else (if bytes_eq n (codes "delete_object") then object_deleted x else None))
+
+abbrev pub detailed_change : List ℕ → List ℕ → PlainTerm → Option Change
+detailed_change n t x =
+    if bytes_eq n (codes "write") then in_table t (written x)
+    else (if bytes_eq n (codes "delete") then in_table t (deleted x) else None)
+
+abbrev pub simple_body : List ℕ → PlainTerm → PlainTerm → Option Change
+simple_body n x i = if is_id i then simple_change n x else None
+
+abbrev pub detailed_body : List ℕ → PlainTerm → PlainTerm → PlainTerm → PlainTerm → Option Change
+detailed_body n (atom t) x (list old) i = if is_id i then detailed_change n t x else None
+detailed_body n t x old i = None
+
+abbrev pub by_rest : List ℕ → PlainTerm → PlainTerm → PlainTerms → Option Change
+by_rest n x y none = simple_body n x y
+by_rest n x y (one_more old none) = None
+by_rest n x y (one_more old (one_more i none)) = detailed_body n x y old i
+by_rest n x y (one_more old (one_more i (one_more z zs))) = None
+
 abbrev pub change_in_body : PlainTerms → Option Change
-change_in_body (one_more (atom n) (one_more x (one_more i none))) = worded n x
-change_in_body (one_more (atom n) (one_more t (one_more x (one_more old (one_more i none))))) = worded n x
+change_in_body (one_more (atom n) (one_more x (one_more y rest))) = by_rest n x y rest
 change_in_body ts = None
 
 abbrev pub change_in : PlainTerms → Option Change
-change_in (one_more e (one_more (tuple ts) none)) = change_in_body ts
+change_in (one_more (atom n) (one_more (tuple ts) none)) = if bytes_eq n (codes "mnesia_table_event") then change_in_body ts else None
 change_in ts = None
 
 abbrev pub change_of : PlainTerm → Option Change
 change_of (tuple ts) = change_in ts
 change_of t = None
+
+-- ---- which events have a shape
+
+abbrev pub is_whole : Change → Bool
+is_whole (change.Write r) = is_record (term r)
+is_whole (change.Delete t k) = true
+is_whole (change.DeleteObject r) = is_record (term r)
+
+-- an event whose record, if it has one, has arity 3 or more and an atom first; of that record's or key's table; its age
+-- from 1 on
+pub record IsShaped (e : Event) : Type 0 where
+  pub whole : is_whole e.change ≡ true
+  pub table : table_of_change e.change ≡ e.tab
+  pub age : 0 < e.age
+
+-- a term is the shape, at some level, of an event with this change
+pub record ShapesChange (x : PlainTerm) (c : Change) : Type 0 where
+  pub level : Level
+  pub event : Event
+  pub is : shape level event ≡ x
+  pub change_is : event.change ≡ c
+  pub shaped : IsShaped event

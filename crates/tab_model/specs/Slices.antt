@@ -1,5 +1,5 @@
 -- The items that a log owes to each session.
-use Rattle.std.specs.Prelude.{ℕ, List, [], ◌∷◌, ◌++◌, Bool, true, false, ◌==◌, if◌then◌else◌, Option, Some, None, is_some, filter_map}
+use Rattle.std.specs.Prelude.{ℕ, List, [], ◌∷◌, ◌++◌, Bool, true, false, ◌==◌, if◌then◌else◌, Option, Some, None, filter_map}
 use Rattle.tab_term.specs.Data.{PlainTerm, PlainTerms}
 use Rattle.tab_model.specs.declared.data.Level.{Level}
 use Rattle.tab_model.specs.declared.data.Event.{Event}

@@ -1,6 +1,6 @@
 -- What a core is, as plain data.
-use Rattle.std.specs.Prelude.{◌≡◌, ◌≢◌, ◌<◌, ◌≤◌, ℕ, suc, ◌+◌, List, [], ◌∷◌, ◌++◌, Bool, true, false, not, ◌&&◌, ◌||◌, ◌==◌, if◌then◌else◌, Option, Some, None, is_some, map, length, flat_map}
-use Rattle.std.specs.List.{list_any, filter}
+use Rattle.std.specs.Prelude.{◌≡◌, ◌≢◌, ◌<◌, ◌≤◌, ℕ, suc, List, [], ◌∷◌, ◌++◌, Bool, ◌==◌, if◌then◌else◌, Option, Some, None, is_some}
+use Rattle.std.specs.List.{list_any}
 use Rattle.std.specs.Str.{bytes_eq}
 use Rattle.tab_model.specs.declared.data.Operation.{Operation}
 use Rattle.tab_model.specs.declared.data.Move.{Move}
@@ -12,7 +12,7 @@ use Rattle.tab_model.specs.declared.data.Limits.{Limits}
 use Rattle.tab_model.specs.Worlds.{World, IsOrderedWorld}
 use Rattle.tab_model.specs.Alone.{Mid, start, after, replies}
 use Rattle.tab_model.specs.Locks.{Lock, needs, locks_of, Apart}
-use Rattle.tab_model.specs.Ages.{Ages, Owned, Rises}
+use Rattle.tab_model.specs.Ages.{Ages, Owned}
 
 -- an open transaction: what it did since its begin or its last restart, and what it was told
 pub record Transaction : Type 0 where

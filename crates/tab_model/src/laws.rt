@@ -1,36 +1,53 @@
 //! Laws of the definitions. Each is the contract of a function that does nothing.
 
-ghost use Rattle.std.specs.Prelude.{◌≡◌, ◌<◌, ℕ, List, [], ◌∷◌, ◌++◌, true, if◌then◌else◌, Some};
-ghost use Rattle.tab_term.specs.Data.{PlainTerm};
+ghost use Rattle.std.specs.Prelude.{◌≡◌, ◌≢◌, ◌<◌, ◌↔◌, ◌⊎◌, ℕ, List, [], ◌∷◌, ◌++◌, true, false, if◌then◌else◌, Some, None, map};
+ghost use Rattle.std.specs.List.{list_any};
+ghost use Rattle.tab_term.specs.Data.{PlainTerm, PlainTerms};
 ghost use Rattle.tab_term.specs.Same.{same};
+ghost use Rattle.tab_term.specs.declared.term.Term.{Term};
 ghost use Rattle.tab_model.specs.declared.data.Change.{Change};
 ghost use Rattle.tab_model.specs.declared.data.Entry.{Entry};
+ghost use Rattle.tab_model.specs.declared.data.Event.{Event};
 ghost use Rattle.tab_model.specs.declared.data.Item.{Item};
 ghost use Rattle.tab_model.specs.declared.data.Kind.{Kind};
+ghost use Rattle.tab_model.specs.declared.data.Level.{Level};
 ghost use Rattle.tab_model.specs.declared.data.Limits.{Limits};
 ghost use Rattle.tab_model.specs.declared.data.Move.{Move};
-ghost use Rattle.tab_model.specs.Tables.{Rows, at, apply, is_ordered, SameTable};
+ghost use Rattle.tab_model.specs.declared.data.Move.TheVariants.{Do, Undo};
+ghost use Rattle.tab_model.specs.declared.data.Operation.{Operation};
+ghost use Rattle.tab_model.specs.declared.data.Reply.TheVariants as reply;
+ghost use Rattle.tab_model.specs.declared.data.Schema.{Schema};
+ghost use Rattle.tab_model.specs.declared.data.Command.TheVariants as command;
+ghost use Rattle.tab_model.specs.Names.{terms_list};
+ghost use Rattle.tab_model.specs.Tables.{Rows, at, apply, applied, is_ordered, SameTable};
 ghost use Rattle.tab_model.specs.Operations.{key_of_change};
-ghost use Rattle.tab_model.specs.Worlds.{World, IsOrderedWorld};
+ghost use Rattle.tab_model.specs.Worlds.{World, Table, find, rows_of, IsOrderedWorld};
 ghost use Rattle.tab_model.specs.Alone.{start, after, replies};
+ghost use Rattle.tab_model.specs.Events.{is_failure, surviving, events, change_all};
 ghost use Rattle.tab_model.specs.Locks.{locks_of, Apart};
-ghost use Rattle.tab_model.specs.Ages.{Ages, Owned, Rises, decide, after_request, can_retry, after_retry, request_of, forget, Chain, last_of};
-ghost use Rattle.tab_model.specs.Log.{serial, IsLegal};
-ghost use Rattle.tab_model.specs.Slices.{slice};
-ghost use Rattle.tab_model.specs.State.{State, Seat, new, seat_at, age_at, moves_at, told_at, IsSound};
-ghost use Rattle.tab_model.specs.Outcome.{Ask, outcome};
-ghost use Rattle.tab_model.specs.Run.{Call, AllJoinEmpty, JoinsEmpty, IsTied, after_all, log_of, taken_of, entries, taken_now};
+ghost use Rattle.tab_model.specs.Shapes.{shape, change_of, IsShaped, ShapesChange};
+ghost use Rattle.tab_model.specs.Ages.{Ages, Owned, Granted, Wait, Die, Covered, Opposed, OpposedByOlder, OpposedBefore, Rises, decide, after_request, can_retry, after_retry, request_of, forget, Chain, last_of};
+ghost use Rattle.tab_model.specs.Log.{entered, serial, serial_from, stands, in_force, IsRight, IsLegal, commits_from};
+ghost use Rattle.tab_model.specs.Since.{changes_on, deletes, StandsSince, AllStood, RowsSince};
+ghost use Rattle.tab_model.specs.Slices.{dump_of, owed, slice};
+ghost use Rattle.tab_model.specs.State.{State, Seat, Transaction, Queued, new, seat_at, transaction_at, request_in, age_at, moves_at, told_at, level_in, IsSound};
+ghost use Rattle.tab_model.specs.Outcome.{Ask, Retry, DoCommand, outcome};
+ghost use Rattle.tab_model.specs.Refusals.{AsBefore, standing, counted, requested, queued, empty_again, restarted, Restarts, EndsLevel};
+ghost use Rattle.tab_model.specs.Run.{Call, AllJoinEmpty, Begins, leaves, JoinsEmpty, IsTied, after_all, log_of, taken_of, entries, taken_now};
 
 /// For every schedule of steps: commits are numbered in order and were told what they are told alone in that order;
 /// the tables are those of running them so; each open transaction was told what it is told alone on the tables as they
 /// are now; and what a joined session has taken, followed by its outbox, is what the log owes it, each item once, in
-/// order.
-#[tactic(auto, using(crate::proofs::Schedules::schedule_legal, crate::proofs::Schedules::schedule_tables, crate::proofs::Schedules::schedule_told, crate::proofs::Schedules::schedule_rows))]
+/// order. Each subscription was made on a table that stood then; and where one stands now, the changes of the commits
+/// since, applied to the table's rows at its beginning, give the table's rows now.
+#[tactic(auto, using(crate::proofs::Schedules::schedule_legal, crate::proofs::Schedules::schedule_tables, crate::proofs::Schedules::schedule_told, crate::proofs::Schedules::schedule_rows, crate::proofs::Stood::schedule_stood, crate::proofs::Stood::schedule_applied))]
 pub fn every_schedule()
     ensures legal { (limits : Limits) (calls : List Call) → AllJoinEmpty calls → IsLegal [] 0 (log_of (new limits) calls) }
     ensures tables { (limits : Limits) (calls : List Call) → AllJoinEmpty calls → (after_all (new limits) calls).tables ≡ serial (log_of (new limits) calls) }
     ensures told { (limits : Limits) (calls : List Call) (n : ℕ) → let σ = after_all (new limits) calls in replies (start σ.tables (age_at σ n)) (moves_at σ n) ≡ told_at σ n }
     ensures rows { (limits : Limits) (calls : List Call) (n : ℕ) (s : Seat) → AllJoinEmpty calls → seat_at (after_all (new limits) calls).seats n ≡ Some s → taken_of n (new limits) calls ++ s.outbox.items ≡ slice n (log_of (new limits) calls) }
+    ensures stood { (limits : Limits) (calls : List Call) → AllJoinEmpty calls → AllStood [] (log_of (new limits) calls) }
+    ensures applied { (limits : Limits) (calls : List Call) (n : ℕ) (s : Seat) (t : List ℕ) (l : Level) → AllJoinEmpty calls → seat_at (after_all (new limits) calls).seats n ≡ Some s → level_in s.watching t ≡ Some l → RowsSince n t l (log_of (new limits) calls) (rows_of (after_all (new limits) calls).tables t) }
 {}
 
 /// A new core has no history and keeps what every reached core has; and each step keeps it, and keeps the state tied to
@@ -64,4 +81,90 @@ pub fn waits_have_no_cycle()
     ensures retry { (g : Ages) (r : Owned) → request_of r.0 g.queue ≡ Some r → Rises g → Rises (after_retry g r (can_retry g r)) }
     ensures forget { (g : Ages) (a : ℕ) → Rises g → Rises (forget g a) }
     ensures chain { (g : Ages) (a b : ℕ) (bs : List ℕ) → Rises g → Chain g a (b ∷ bs) → a < last_of b bs }
+{}
+
+/// The updates that no abort and no failure undid, read off a transaction's replies and made one after another, give the
+/// tables that the transaction leaves.
+#[tactic(auto, using(crate::proofs::Survive::survivors_are))]
+pub fn survivors_right()
+    ensures { (w : World) (age : ℕ) (xs : List Move) → change_all w (surviving xs (replies (start w age) xs)) ≡ (after (start w age) xs).now }
+{}
+
+/// The changes that a legal log made to a table that stood before it and that it doesn't delete, applied to the table's
+/// rows before it, give the rows after it: so the changes since a subscription that stands give the table now, from the
+/// rows at its beginning or from the dump of its begin mark. The changes are those that the events of the commits carry.
+#[tactic(auto, using(crate::proofs::Given::log_applies, crate::proofs::Given::events_carry))]
+pub fn events_give_the_rows()
+    ensures log { (w : World) (n : ℕ) (x : Table) (t : List ℕ) (log : List Entry) → IsLegal w n log → find w t ≡ Some x → list_any (deletes t) log ≡ false → rows_of (serial_from w log) t ≡ applied x.def.kind (rows_of w t) (changes_on t log) }
+    ensures since { (s : ℕ) (t : List ℕ) (l : Level) (log : List Entry) (x : Table) → IsLegal [] 0 log → (i : StandsSince s t l log) → find (serial i.earlier) t ≡ Some x → rows_of (serial log) t ≡ applied x.def.kind (rows_of (serial i.earlier) t) (changes_on t i.since) }
+    ensures dump { (s : ℕ) (t : List ℕ) (l : Level) (log : List Entry) (x : Table) (records : PlainTerms) → IsLegal [] 0 log → (i : StandsSince s t l log) → find (serial i.earlier) t ≡ Some x → dump_of (serial i.earlier) t i.dump ≡ Some records → rows_of (serial log) t ≡ applied x.def.kind (terms_list records) (changes_on t i.since) }
+    ensures carried { (w : World) (age : ℕ) (cs : List Change) → map (λ (e : Event). e.change) (events w age cs) ≡ cs }
+{}
+
+/// What a log with one entry more says: its tables are that entry's on the tables before; a subscription's level is what
+/// the entry leaves of it; a session's items are those before and then those that the entry owes it.
+#[tactic(auto, using(crate::proofs::Seats::serial_more, crate::proofs::Seats::in_force_more, crate::proofs::Seats::slice_more, crate::proofs::Seats::legal_more))]
+pub fn a_log_with_one_entry_more()
+    ensures tables { (log : List Entry) (e : Entry) → serial (log ++ e ∷ []) ≡ entered (serial log) e }
+    ensures levels { (s : ℕ) (log : List Entry) (e : Entry) (t : List ℕ) → in_force s (log ++ e ∷ []) t ≡ stands s t (in_force s log t) e }
+    ensures items { (s : ℕ) (log : List Entry) (e : Entry) → slice s (log ++ e ∷ []) ≡ slice s log ++ owed s log e }
+    ensures legal { (log : List Entry) (e : Entry) → IsLegal [] 0 log → IsRight (serial log) (commits_from 0 log) e → IsLegal [] 0 (log ++ e ∷ []) }
+{}
+
+/// A subscription is in force exactly where the log has its Subscribed entry and after it no unsubscribing of it, no
+/// deletion of its table, no overflow of its session, and no further Subscribed entry.
+#[tactic(auto, using(crate::proofs::InForce::in_force_stands))]
+pub fn subscriptions_stand_in_the_log()
+    ensures stands { (s : ℕ) (t : List ℕ) (l : Level) (log : List Entry) → in_force s log t ≡ Some l → StandsSince s t l log }
+    ensures in_force { (s : ℕ) (t : List ℕ) (l : Level) (log : List Entry) → StandsSince s t l log → in_force s log t ≡ Some l }
+{}
+
+/// An event's term, at either level, tells the event's change; and a term that tells a change is the term of an event
+/// with that change. An event has a term where its record has arity 3 or more and its table's atom first.
+#[tactic(auto, using(crate::proofs::ShapeLaws::shape_tells, crate::proofs::ShapeLaws::change_shapes))]
+pub fn events_tell_their_changes()
+    ensures shaped { (l : Level) (e : Event) → IsShaped e → change_of (shape l e) ≡ Some e.change }
+    ensures no_other { (x : PlainTerm) (c : Change) → change_of x ≡ Some c → ShapesChange x c }
+{}
+
+/// A refusal leaves the state as it was, and so does a schema command that isn't done. A mark that the post refuses leaves
+/// only that post's count one higher; a wait queues the operation and nothing else; a restart leaves level 1 open, empty
+/// and of the same age, and all else as it was.
+#[tactic(auto, using(crate::proofs::RefusalLaws::as_before, crate::proofs::RefusalLaws::schema_refused, crate::proofs::RefusalLaws::refusal_counted, crate::proofs::RefusalLaws::waits_queued, crate::proofs::RefusalLaws::restarts_empty, crate::proofs::RefusalLaws::restarted_open))]
+pub fn refusals_change_nothing()
+    ensures refused { (σ : State) (over : List ℕ) (n : ℕ) (a : Ask) → standing (outcome σ over n a).reply ≡ AsBefore → (outcome σ over n a).state ≡ σ }
+    ensures schema { (σ : State) (over : List ℕ) (n : ℕ) (c : Schema) → (outcome σ over n (DoCommand (command.Schema c))).reply ≢ reply.AtomicOk → (outcome σ over n (DoCommand (command.Schema c))).state ≡ σ }
+    ensures outbox_full { (σ : State) (over : List ℕ) (n : ℕ) (a : Ask) → (outcome σ over n a).reply ≡ reply.OutboxFull → (outcome σ over n a).state ≡ counted σ (seat_at σ.seats n) }
+    ensures waiting { (σ : State) (over : List ℕ) (n : ℕ) (a : Ask) → (outcome σ over n a).reply ≡ reply.Waiting → (outcome σ over n a).state ≡ queued σ (requested (seat_at σ.seats n) a) }
+    ensures restart { (σ : State) (over : List ℕ) (n : ℕ) (a : Ask) → (outcome σ over n a).reply ≡ reply.Restart → Restarts σ (seat_at σ.seats n) (outcome σ over n a).state }
+    ensures restarted { (σ : State) (n : ℕ) → transaction_at (restarted σ (seat_at σ.seats n)) n ≡ empty_again (transaction_at σ n) }
+{}
+
+/// An operation that fails, at once or when it is retried, and an abort end the innermost level alone: the transaction is
+/// over where that is level 1; else it stays open with its locks, at most the operation's more, on the tables that the
+/// level began with.
+#[tactic(auto)]
+pub fn levels_end_alone()
+    ensures failed { (σ : State) (over : List ℕ) (n : ℕ) (t : Transaction) (o : Operation) → transaction_at σ n ≡ Some t → is_failure (Some (outcome σ over n (DoCommand (command.Do o))).reply) ≡ true → EndsLevel σ n t (Do o) (Some (outcome σ over n (DoCommand (command.Do o))).reply) (outcome σ over n (DoCommand (command.Do o))).state }
+    ensures retried { (σ : State) (over : List ℕ) (n : ℕ) (t : Transaction) (q : Queued) → transaction_at σ n ≡ Some t → request_in σ.queue n ≡ Some q → is_failure (Some (outcome σ over n Retry).reply) ≡ true → EndsLevel σ n t (Do q.operation) (Some (outcome σ over n Retry).reply) (outcome σ over n Retry).state }
+    ensures aborted { (σ : State) (over : List ℕ) (n : ℕ) (t : Transaction) (r : Term) → transaction_at σ n ≡ Some t → EndsLevel σ n t Undo None (outcome σ over n (DoCommand (command.Abort r))).state }
+{}
+
+/// Wait-die in its own words. A request is granted exactly where an own lock covers it or no other owner's lock, held or
+/// queued, conflicts; it waits where all owners in conflict are younger; it dies where one of them is older. A retry is
+/// granted exactly where no other owner's lock, held or queued before it, conflicts.
+#[tactic(auto, using(crate::proofs::Deciding::granted_where, crate::proofs::Deciding::waits_where, crate::proofs::Deciding::dies_where, crate::proofs::Deciding::retries_where))]
+pub fn older_wait_and_younger_die()
+    ensures granted { (g : Ages) (r : Owned) → (decide g r ≡ Granted) ↔ (Covered g r ⊎ (Opposed g r → ⊥)) }
+    ensures waits { (g : Ages) (r : Owned) → (decide g r ≡ Wait) ↔ ((Covered g r → ⊥) × Opposed g r × (OpposedByOlder g r → ⊥)) }
+    ensures dies { (g : Ages) (r : Owned) → (decide g r ≡ Die) ↔ ((Covered g r → ⊥) × OpposedByOlder g r) }
+    ensures retried { (g : Ages) (r : Owned) → (can_retry g r ≡ true) ↔ (OpposedBefore g r → ⊥) }
+{}
+
+/// For every schedule: a joined session has taken a beginning of its slice, and one that left has taken, whatever came
+/// after its Leave, a beginning of its slice at that moment.
+#[tactic(auto, using(crate::proofs::Gone::joined_begins, crate::proofs::Gone::left_begins))]
+pub fn who_leaves_has_taken_a_beginning()
+    ensures joined { (limits : Limits) (calls : List Call) (n : ℕ) (s : Seat) → AllJoinEmpty calls → seat_at (after_all (new limits) calls).seats n ≡ Some s → Begins (taken_of n (new limits) calls) (slice n (log_of (new limits) calls)) }
+    ensures left { (limits : Limits) (calls later : List Call) (n : ℕ) (s : Seat) → AllJoinEmpty calls → seat_at (after_all (new limits) calls).seats n ≡ Some s → Begins (taken_of n (new limits) (calls ++ leaves n ∷ later)) (slice n (log_of (new limits) calls)) }
 {}

@@ -40,7 +40,6 @@ pub struct Moves {
 impl Model for Moves {
     ghost use Rattle.std.specs.Prelude.{List};
     ghost use Rattle.tab_model.specs.declared.data.Move.{Move};
-
     ghost use Rattle.std.specs.Coded.{codes};
     ghost use Rattle.tab_term.specs.Code.{terms_code, pairs_code};
 
@@ -60,7 +59,6 @@ pub struct Replies {
 impl Model for Replies {
     ghost use Rattle.std.specs.Prelude.{List, Option};
     ghost use Rattle.tab_model.specs.declared.data.Reply.{Reply};
-
     ghost use Rattle.std.specs.Coded.{codes};
     ghost use Rattle.tab_term.specs.Code.{terms_code, pairs_code};
 
@@ -80,7 +78,6 @@ pub struct Parts {
 impl Model for Parts {
     ghost use Rattle.std.specs.Prelude.{List};
     ghost use Rattle.tab_model.specs.declared.data.Part.{Part};
-
     ghost use Rattle.std.specs.Coded.{codes};
     ghost use Rattle.tab_term.specs.Code.{terms_code, pairs_code};
 

@@ -1,0 +1,421 @@
+-- What each reply says of the state after it.
+use Rattle.std.proofs.Common.{◌≡◌, ℕ, List, [], ◌∷◌, ◌++◌, Bool, true, false, ◌||◌, ◌&&◌, not, refl, sym, ap, ◌∙◌, subst, append-nil, Option, Some, None}
+use Rattle.std.specs.Prelude.{if◌then◌else◌, is_some, ◌==◌}
+use Rattle.tab_term.specs.View.{term}
+use Rattle.tab_term.specs.declared.term.Term.{Term}
+use Rattle.tab_model.specs.declared.data.Operation.{Operation}
+use Rattle.tab_model.specs.declared.data.Operation.TheVariants as op
+use Rattle.tab_model.specs.declared.data.Move.{Move}
+use Rattle.tab_model.specs.declared.data.Move.TheVariants.{Do, Open, Close, Undo}
+use Rattle.tab_model.specs.declared.data.Reply.{Reply}
+use Rattle.tab_model.specs.declared.data.Reply.TheVariants as reply
+use Rattle.tab_model.specs.declared.data.Item.{Item}
+use Rattle.tab_model.specs.declared.data.Level.{Level}
+use Rattle.tab_model.specs.declared.data.Entry.{Entry}
+use Rattle.tab_model.specs.declared.data.Schema.{Schema}
+use Rattle.tab_model.specs.declared.data.Schema.TheVariants.{Create, Remove, AddIndex, DelIndex}
+use Rattle.tab_model.specs.declared.data.InfoItem.{InfoItem}
+use Rattle.tab_model.specs.declared.data.InfoItem.TheVariants as item
+use Rattle.tab_model.specs.declared.data.Command.{Command}
+use Rattle.tab_model.specs.declared.data.Command.TheVariants as command
+use Rattle.tab_model.specs.Definitions.{Parsed, Good, Bad, parse_options, fits_def, is_indexed, position}
+use Rattle.tab_model.specs.Worlds.{World, Table, find}
+use Rattle.tab_model.specs.Operations.{table_of, failure_in, failure, answer_at, answer_or, answer}
+use Rattle.tab_model.specs.Alone.{Mid, start, after, back, next, told}
+use Rattle.tab_model.specs.Locks.{locks_of}
+use Rattle.tab_model.specs.Events.{is_failure}
+use Rattle.tab_model.proofs.Seats.{found, seat_at-change, itself}
+use Rattle.tab_model.proofs.Seated.{locks-more}
+use Rattle.tab_model.proofs.Survive.{reply_tells}
+use Rattle.tab_model.specs.Schemas.{is_some_position, bad_parse, create_refusal, remove_refusal, add_refusal, del_refusal, schema_refusal}
+use Rattle.tab_model.specs.Ages.{Answer, Granted, Wait, Die}
+use Rattle.tab_model.specs.State.{Transaction, Outbox, Watch, Seat, Queued, State, seat_at, mid_of, level_in, without_request, request_in, is_waiting, transaction_at, transaction_in}
+use Rattle.tab_model.specs.Outcome.{Ask, Join, Leave, Retry, Take, DoCommand, Outcome, outcome, nothing, with_queue, with_transaction, change, ends, after_move, is_empty, made, said, decided, within, operate, retried, retry_in, retry, opened, nested, begin, one_shot, abort, commit_at, commit, schema_if, schema, table_info, marked, subscribe_refusal, subscribe, unsubscribe, do_command, command_if, give, seated, join, unseated, by_seat}
+use Rattle.tab_model.specs.Refusals.{Standing, AsBefore, Counted, Queues, Emptied, Changes, standing, counted, queued_for, requested, queued, empty_again, restarted, Restarts, EndsLevel}
+
+-- the state after a step, by what its reply says; q is what a wait queues
+abbrev Stands : Standing → State → Option Seat → List Queued → State → Type 0
+Stands AsBefore σ s q τ = τ ≡ σ
+Stands Counted σ s q τ = τ ≡ counted σ s
+Stands Queues σ s q τ = τ ≡ queued σ q
+Stands Emptied σ s q τ = Restarts σ s τ
+Stands Changes σ s q τ = Unit {0}
+
+abbrev Fair : State → Option Seat → List Queued → Outcome → Type 0
+Fair σ s q o = Stands (standing o.reply) σ s q o.state
+
+-- the reply to a move is no refusal
+either : (b : Bool) (r : Reply) (t : Table) (o : Operation) → standing r ≡ Changes → standing (answer_at t o) ≡ Changes → standing (answer_or (if b then None else Some r) (Some t) o) ≡ Changes
+either true r t o f g = g
+either false r t o f g = f
+
+answers : (x : Option Table) (o : Operation) → standing (answer_or (failure_in x o) x o) ≡ Changes
+answers None o = refl
+answers (Some t) (op.Read n k) = refl
+answers (Some t) (op.ReadForWrite n k) = refl
+answers (Some t) (op.Write r) = either (fits_def t.def (term r)) (reply.BadType (t.def).name r) t (op.Write r) refl refl
+answers (Some t) (op.Delete n k) = refl
+answers (Some t) (op.DeleteObject r) = either (fits_def t.def (term r)) (reply.BadType (t.def).name r) t (op.DeleteObject r) refl refl
+answers (Some t) (op.IndexRead n x a) = either (is_indexed t.def (position t.def (term a))) (reply.NoIndex n a) t (op.IndexRead n x a) refl refl
+answers (Some t) (op.MatchObject p) = either (fits_def t.def (term p)) (reply.BadType (t.def).name p) t (op.MatchObject p) refl refl
+answers (Some t) (op.AllKeys n) = refl
+answers (Some t) (op.ReadLockTable n) = refl
+answers (Some t) (op.WriteLockTable n) = refl
+
+move_answers : (m : Mid) (x : Move) (r : Reply) → standing r ≡ Changes → standing (said (told m x) r) ≡ Changes
+move_answers m (Do o) r h = answers (find m.now (table_of o)) o
+move_answers m Open r h = refl
+move_answers m Close r h = refl
+move_answers m Undo r h = h
+
+free : (x : Standing) (σ : State) (s : Option Seat) (q : List Queued) (τ : State) → x ≡ Changes → Stands x σ s q τ
+free x σ s q τ e = subst (λ (z : Standing). Stands z σ s q τ) (sym e) tt
+
+abbrev FairRefusal : State → Option Seat → List Queued → Option Reply → Type 0
+FairRefusal σ s q None = Unit {0}
+FairRefusal σ s q (Some r) = Fair σ s q (nothing σ r)
+
+parsed_fair : (σ : State) (s : Option Seat) (q : List Queued) (t : List ℕ) (p : Parsed) → FairRefusal σ s q (bad_parse t p)
+parsed_fair σ s q t (Good d) = tt
+parsed_fair σ s q t (Bad x) = refl
+
+refusal_fair : (σ : State) (s : Option Seat) (q : List Queued) (c : Schema) → FairRefusal σ s q (schema_refusal σ.tables c)
+refusal_fair σ s q (Create t os) = cases (find σ.tables t)
+  where
+    cases : (x : Option Table) → FairRefusal σ s q (create_refusal t os x)
+    cases (Some x) = refl
+    cases None = parsed_fair σ s q t (parse_options t os)
+refusal_fair σ s q (Remove t) = cases (find σ.tables t)
+  where
+    cases : (x : Option Table) → FairRefusal σ s q (remove_refusal t x)
+    cases (Some x) = tt
+    cases None = tt
+refusal_fair σ s q (AddIndex t a) = cases (find σ.tables t)
+  where
+    either_way : (b : Bool) (r : Reply) → Fair σ s q (nothing σ r) → FairRefusal σ s q (if b then Some r else None)
+    either_way true r h = h
+    either_way false r h = tt
+
+    cases : (x : Option Table) → FairRefusal σ s q (add_refusal t a x)
+    cases None = tt
+    cases (Some x) = either_way (not (is_some_position (position x.def (term a))) || is_indexed x.def (position x.def (term a))) _ refl
+refusal_fair σ s q (DelIndex t a) = cases (find σ.tables t)
+  where
+    either_way : (b : Bool) → FairRefusal σ s q (if b then None else Some (reply.NoIndex t a))
+    either_way true = tt
+    either_way false = tt
+
+    cases : (x : Option Table) → FairRefusal σ s q (del_refusal t a x)
+    cases None = tt
+    cases (Some x) = either_way (is_indexed x.def (position x.def (term a)))
+
+module _ (σ : State) (s : Seat) where
+  made_fair : (τ : State) (q : List Queued) (t : Transaction) (x : Move) (r : Reply) → standing r ≡ Changes → Fair σ (Some s) q (made τ s t x r)
+  made_fair τ q t x r h = free (standing (said (told (mid_of τ t) x) r)) σ (Some s) q (made τ s t x r).state (move_answers (mid_of τ t) x r h)
+
+  decided_fair : (t : Transaction) (o : Operation) (a : Answer) → s.transaction ≡ Some t → Fair σ (Some s) (queued_for s.number (Some t) o) (decided σ s t o a)
+  decided_fair t o Granted e = made_fair σ _ t (Do o) reply.Done refl
+  decided_fair t o Wait e = refl
+  decided_fair t o Die e = record { transaction = t; open_before = e; is = same }
+    where
+      same : (decided σ s t o Die).state ≡ restarted σ (Some s)
+      same = ap (λ (y : Option Transaction). restarted σ (Some (record { number = s.number; transaction = y; watching = s.watching; outbox = s.outbox; overflow = s.overflow }))) (sym e)
+
+  within_fair : (t : Transaction) (o : Operation) (b : Bool) → s.transaction ≡ Some t → Fair σ (Some s) (queued_for s.number (Some t) o) (within σ s t o b)
+  within_fair t o false e = refl
+  within_fair t o true e = decided_fair t o _ e
+
+  operate_fair : (o : Operation) (x : Option Transaction) → s.transaction ≡ x → Fair σ (Some s) (queued_for s.number x o) (operate σ s o x)
+  operate_fair o None e = refl
+  operate_fair o (Some t) e = within_fair t o _ e
+
+  retried_fair : (t : Transaction) (o : Operation) (b : Bool) → Fair σ (Some s) [] (retried σ s t o b)
+  retried_fair t o false = ap (λ q. record { tables = σ.tables; seats = σ.seats; queue = q; next_age = σ.next_age; commits = σ.commits; greatest = σ.greatest; limits = σ.limits }) (sym (append-nil σ.queue))
+  retried_fair t o true = made_fair (with_queue σ (without_request σ.queue s.number)) [] t (Do o) reply.Done refl
+
+  retry_in_fair : (o : Operation) (x : Option Transaction) → Fair σ (Some s) [] (retry_in σ s o x)
+  retry_in_fair o None = refl
+  retry_in_fair o (Some t) = retried_fair t o _
+
+  retry_fair : (q : Option Queued) → Fair σ (Some s) [] (retry σ s q)
+  retry_fair None = refl
+  retry_fair (Some q) = retry_in_fair q.operation s.transaction
+
+  open_fair : (b : Bool) → Fair σ (Some s) [] (opened σ s b)
+  open_fair false = refl
+  open_fair true = tt
+
+  nested_fair : (t : Transaction) (a b : Bool) → Fair σ (Some s) [] (nested σ s t a b)
+  nested_fair t false b = refl
+  nested_fair t true false = refl
+  nested_fair t true true = made_fair σ [] t Open reply.Done refl
+
+  begin_fair : (x : Option Transaction) → Fair σ (Some s) [] (begin σ s x)
+  begin_fair None = open_fair _
+  begin_fair (Some t) = nested_fair t _ _
+
+  one_shot_fair : (x : Option Transaction) → Fair σ (Some s) [] (one_shot σ s x)
+  one_shot_fair None = open_fair _
+  one_shot_fair (Some t) = refl
+
+  abort_fair : (r : Term) (x : Option Transaction) → Fair σ (Some s) [] (abort σ s r x)
+  abort_fair r None = refl
+  abort_fair r (Some t) = made_fair (with_queue σ (without_request σ.queue s.number)) [] t Undo (reply.UserAbort r) refl
+
+  commit_at_fair : (over : List ℕ) (t : Transaction) (b : Bool) → Fair σ (Some s) [] (commit_at σ over s t b)
+  commit_at_fair over t false = made_fair σ [] t Close reply.Done refl
+  commit_at_fair over t true = tt
+
+  commit_fair : (over : List ℕ) (x : Option Transaction) → Fair σ (Some s) [] (commit σ over s x)
+  commit_fair over None = refl
+  commit_fair over (Some t) = commit_at_fair over t _
+
+  schema_if_fair : (over : List ℕ) (c : Schema) (r : Option Reply) (busy room : Bool) → FairRefusal σ (Some s) [] r → Fair σ (Some s) [] (schema_if σ over c r busy room)
+  schema_if_fair over c (Some r) busy room h = h
+  schema_if_fair over c None true room h = refl
+  schema_if_fair over c None false false h = refl
+  schema_if_fair over c None false true h = tt
+
+  schema_fair : (over : List ℕ) (c : Schema) (x : Option Transaction) → Fair σ (Some s) [] (schema σ over c x)
+  schema_fair over c (Some t) = refl
+  schema_fair over c None = schema_if_fair over c (schema_refusal σ.tables c) _ _ (refusal_fair σ (Some s) [] c)
+
+  info_fair : (t : List ℕ) (i : InfoItem) (x : Option Table) → Fair σ (Some s) [] (nothing σ (table_info t i x))
+  info_fair t i None = refl
+  info_fair t item.Kind (Some x) = tt
+  info_fair t item.Attributes (Some x) = tt
+  info_fair t item.Index (Some x) = tt
+  info_fair t item.Size (Some x) = tt
+
+  marked_fair : (full : Bool) (ws : List Watch) (x : Item) (e : Entry) → Fair σ (Some s) [] (marked σ full s ws x e)
+  marked_fair true ws x e = refl
+  marked_fair false ws x e = tt
+
+  subscribe_fair : (over : List ℕ) (t : List ℕ) (l : Level) (dump : Bool) (r : Option Reply) → FairRefusal σ (Some s) [] r → Fair σ (Some s) [] (subscribe σ over s t l dump r)
+  subscribe_fair over t l dump (Some r) h = h
+  subscribe_fair over t l dump None h = marked_fair _ _ _ _
+
+  subscribe_refused : (t : List ℕ) → FairRefusal σ (Some s) [] (subscribe_refusal σ s t)
+  subscribe_refused t = cases (is_some s.overflow) (not (is_some (find σ.tables t))) (is_some (level_in s.watching t))
+    where
+      cases : (a b c : Bool) → FairRefusal σ (Some s) [] (if a then Some reply.OverflowUntold else (if b then Some (reply.SubNoTable t) else (if c then Some (reply.AlreadySubscribed t) else None)))
+      cases true b c = refl
+      cases false true c = refl
+      cases false false true = refl
+      cases false false false = tt
+
+  unsubscribe_fair : (over : List ℕ) (t : List ℕ) (b : Bool) → Fair σ (Some s) [] (unsubscribe σ over s t b)
+  unsubscribe_fair over t false = refl
+  unsubscribe_fair over t true = marked_fair _ _ _ _
+
+  do_fair : (over : List ℕ) (c : Command) → Fair σ (Some s) (requested (Some s) (DoCommand c)) (do_command σ over s c)
+  do_fair over (command.Schema c) = schema_fair over c s.transaction
+  do_fair over (command.TableInfo t i) = info_fair t i (find σ.tables t)
+  do_fair over command.Begin = begin_fair s.transaction
+  do_fair over command.Commit = commit_fair over s.transaction
+  do_fair over (command.Abort r) = abort_fair r s.transaction
+  do_fair over (command.Do o) = operate_fair o s.transaction refl
+  do_fair over (command.Subscribe t l dump) = subscribe_fair over t l dump (subscribe_refusal σ s t) (subscribe_refused t)
+  do_fair over (command.Unsubscribe t l) = unsubscribe_fair over t _
+  do_fair over (command.OneShot parts retries) = one_shot_fair s.transaction
+
+  command_fair : (over : List ℕ) (c : Command) (b : Bool) → Fair σ (Some s) (requested (Some s) (DoCommand c)) (command_if σ over s c b)
+  command_fair over c true = refl
+  command_fair over c false = do_fair over c
+
+  give_fair : (xs : List Item) (l : Option ℕ) → Fair σ (Some s) [] (give σ s xs l)
+  give_fair (x ∷ xs) l = tt
+  give_fair [] None = tt
+  give_fair [] (Some n) = tt
+
+  seated_fair : (over : List ℕ) (a : Ask) → Fair σ (Some s) (requested (Some s) a) (seated σ over s a)
+  seated_fair over (Join b) = refl
+  seated_fair over Leave = tt
+  seated_fair over Retry = retry_fair _
+  seated_fair over Take = give_fair _ _
+  seated_fair over (DoCommand c) = command_fair over c _
+
+join_fair : (σ : State) (n : ℕ) (b : Outbox) (above room : Bool) → Fair σ None [] (join σ n b above room)
+join_fair σ n b false room = refl
+join_fair σ n b true false = refl
+join_fair σ n b true true = tt
+
+unseated_fair : (σ : State) (n : ℕ) (a : Ask) → Fair σ None (requested None a) (unseated σ n a)
+unseated_fair σ n (Join b) = join_fair σ n b _ _
+unseated_fair σ n Leave = refl
+unseated_fair σ n Retry = refl
+unseated_fair σ n Take = refl
+unseated_fair σ n (DoCommand c) = refl
+
+by_seat_fair : (σ : State) (over : List ℕ) (n : ℕ) (a : Ask) (o : Option Seat) → Fair σ o (requested o a) (by_seat σ over n a o)
+by_seat_fair σ over n a None = unseated_fair σ n a
+by_seat_fair σ over n a (Some s) = seated_fair σ s over a
+
+outcome_fair : (σ : State) (over : List ℕ) (n : ℕ) (a : Ask) → Fair σ (seat_at σ.seats n) (requested (seat_at σ.seats n) a) (outcome σ over n a)
+unfolding outcome
+outcome_fair σ over n a = by_seat_fair σ over n a (seat_at σ.seats n)
+
+at_standing : (σ : State) (over : List ℕ) (n : ℕ) (a : Ask) (x : Standing) → standing (outcome σ over n a).reply ≡ x → Stands x σ (seat_at σ.seats n) (requested (seat_at σ.seats n) a) (outcome σ over n a).state
+at_standing σ over n a x e = subst (λ (z : Standing). Stands z σ (seat_at σ.seats n) (requested (seat_at σ.seats n) a) (outcome σ over n a).state) e (outcome_fair σ over n a)
+
+pub as_before : (σ : State) (over : List ℕ) (n : ℕ) (a : Ask) → standing (outcome σ over n a).reply ≡ AsBefore → (outcome σ over n a).state ≡ σ
+as_before σ over n a e = at_standing σ over n a AsBefore e
+
+pub refusal_counted : (σ : State) (over : List ℕ) (n : ℕ) (a : Ask) → (outcome σ over n a).reply ≡ reply.OutboxFull → (outcome σ over n a).state ≡ counted σ (seat_at σ.seats n)
+refusal_counted σ over n a e = at_standing σ over n a Counted (ap standing e)
+
+pub waits_queued : (σ : State) (over : List ℕ) (n : ℕ) (a : Ask) → (outcome σ over n a).reply ≡ reply.Waiting → (outcome σ over n a).state ≡ queued σ (requested (seat_at σ.seats n) a)
+waits_queued σ over n a e = at_standing σ over n a Queues (ap standing e)
+
+pub restarts_empty : (σ : State) (over : List ℕ) (n : ℕ) (a : Ask) → (outcome σ over n a).reply ≡ reply.Restart → Restarts σ (seat_at σ.seats n) (outcome σ over n a).state
+restarts_empty σ over n a e = at_standing σ over n a Emptied (ap standing e)
+
+changed_here : (σ : State) (n : ℕ) (s : Seat) → seat_at σ.seats n ≡ Some s → (o : Option Transaction) → seat_at (change σ.seats (with_transaction s o)) n ≡ Some (with_transaction s o)
+changed_here σ n s e o =
+    seat_at-change σ.seats (with_transaction s o) s n (ap (seat_at σ.seats) (found σ.seats s n e) ∙ e)
+    ∙ ap (λ b. if b then Some (with_transaction s o) else seat_at σ.seats n) (ap (λ m. n == m) (found σ.seats s n e) ∙ itself n)
+
+-- level 1 after a restart
+pub restarted_open : (σ : State) (n : ℕ) → transaction_at (restarted σ (seat_at σ.seats n)) n ≡ empty_again (transaction_at σ n)
+restarted_open σ n = cases (seat_at σ.seats n) refl
+  where
+    cases : (o : Option Seat) → seat_at σ.seats n ≡ o → transaction_at (restarted σ o) n ≡ empty_again (transaction_in o)
+    cases None e = ap transaction_in e
+    cases (Some s) e = ap transaction_in (changed_here σ n s e (empty_again s.transaction))
+
+-- a schema command that isn't answered `{atomic, ok}` changes nothing
+schema_if_quiet : (σ : State) (over : List ℕ) (c : Schema) (r : Option Reply) (busy room : Bool) → ((schema_if σ over c r busy room).reply ≡ reply.AtomicOk → ⊥) → (schema_if σ over c r busy room).state ≡ σ
+schema_if_quiet σ over c (Some r) busy room h = refl
+schema_if_quiet σ over c None true room h = refl
+schema_if_quiet σ over c None false false h = refl
+schema_if_quiet σ over c None false true h = absurd (h refl)
+
+schema_quiet : (σ : State) (over : List ℕ) (c : Schema) (x : Option Transaction) → ((schema σ over c x).reply ≡ reply.AtomicOk → ⊥) → (schema σ over c x).state ≡ σ
+schema_quiet σ over c (Some t) h = refl
+schema_quiet σ over c None h = schema_if_quiet σ over c _ _ _ h
+
+pub schema_refused : (σ : State) (over : List ℕ) (n : ℕ) (c : Schema) → ((outcome σ over n (DoCommand (command.Schema c))).reply ≡ reply.AtomicOk → ⊥) → (outcome σ over n (DoCommand (command.Schema c))).state ≡ σ
+unfolding outcome
+schema_refused σ over n c h = cases (seat_at σ.seats n) h
+  where
+    by_wait : (s : Seat) (b : Bool) → ((command_if σ over s (command.Schema c) b).reply ≡ reply.AtomicOk → ⊥) → (command_if σ over s (command.Schema c) b).state ≡ σ
+    by_wait s true h = refl
+    by_wait s false h = schema_quiet σ over c s.transaction h
+
+    cases : (o : Option Seat) → ((by_seat σ over n (DoCommand (command.Schema c)) o).reply ≡ reply.AtomicOk → ⊥) → (by_seat σ over n (DoCommand (command.Schema c)) o).state ≡ σ
+    cases None h = refl
+    cases (Some s) h = by_wait s _ h
+
+-- ---- ends of levels
+
+after-more : (m : Mid) (xs : List Move) (x : Move) → after m (xs ++ x ∷ []) ≡ next (after m xs) x
+after-more m [] x = refl
+after-more m (y ∷ xs) x = after-more (next m y) xs x
+
+-- a move that goes back has ended its level
+level_ended : (σ τ : State) (n : ℕ) (s : Seat) (t : Transaction) (x : Move) (r : Reply) → seat_at σ.seats n ≡ Some s → τ.tables ≡ σ.tables → τ.seats ≡ σ.seats
+    → next (mid_of σ t) x ≡ back (mid_of σ t) → ends (mid_of σ t) x ≡ is_empty (mid_of σ t).saved
+    → EndsLevel σ n t x (told (mid_of σ t) x) (record { tables = τ.tables; seats = change τ.seats (with_transaction s (after_move t x (told (mid_of σ t) x) (ends (mid_of σ t) x))); queue = τ.queue; next_age = τ.next_age; commits = τ.commits; greatest = τ.greatest; limits = τ.limits })
+level_ended σ τ n s t x r here tables seats gone ended = record {
+  tables = tables;
+  first = λ e. now ∙ ap (after_move t x (told (mid_of σ t) x)) (ended ∙ e);
+  nested = λ e. now ∙ ap (after_move t x (told (mid_of σ t) x)) (ended ∙ e);
+  back = after-more (start σ.tables t.age) t.moves x ∙ gone;
+  locks = locks-more t.moves x ∙ ap (λ ls. locks_of t.moves ++ ls) (sym (locks-more [] x));
+}
+  where
+    then_is : Option Transaction
+    then_is = after_move t x (told (mid_of σ t) x) (ends (mid_of σ t) x)
+
+    now : transaction_in (seat_at (change τ.seats (with_transaction s then_is)) n) ≡ then_is
+    now = ap (λ (xs : List Seat). transaction_in (seat_at (change xs (with_transaction s then_is)) n)) seats ∙ ap transaction_in (changed_here σ n s here then_is)
+
+if_back : (b : Bool) (m n : Mid) → b ≡ true → (if b then m else n) ≡ m
+if_back true m n h = refl
+if_back false m n h = cc
+
+-- a failing operation's move
+failed_made : (σ τ : State) (n : ℕ) (s : Seat) (t : Transaction) (o : Operation) → seat_at σ.seats n ≡ Some s → τ.tables ≡ σ.tables → τ.seats ≡ σ.seats → is_failure (Some (made τ s t (Do o) reply.Done).reply) ≡ true
+    → EndsLevel σ n t (Do o) (Some (made τ s t (Do o) reply.Done).reply) (made τ s t (Do o) reply.Done).state
+failed_made σ τ n s t o here tables seats failed =
+    subst (λ (w : World). EndsLevel σ n t (Do o) (Some (answer (after (start w t.age) t.moves).now o)) (record { tables = τ.tables; seats = change τ.seats (with_transaction s (after_move t (Do o) (told (after (start w t.age) t.moves) (Do o)) (ends (after (start w t.age) t.moves) (Do o)))); queue = τ.queue; next_age = τ.next_age; commits = τ.commits; greatest = τ.greatest; limits = τ.limits }))
+    (sym tables)
+    (level_ended σ τ n s t (Do o) reply.Done here tables seats (if_back (is_some (failure (mid_of σ t).now o)) (back (mid_of σ t)) _ fails) (ap (λ b. b && is_empty (mid_of σ t).saved) fails))
+  where
+    fails : is_some (failure (mid_of σ t).now o) ≡ true
+    fails = ap (λ (w : World). is_some (failure (after (start w t.age) t.moves).now o)) (sym tables) ∙ sym (reply_tells (find (mid_of τ t).now (table_of o)) o) ∙ failed
+
+-- what an operation that fails leaves
+pub operation_failed : (σ : State) (over : List ℕ) (n : ℕ) (t : Transaction) (o : Operation) → transaction_at σ n ≡ Some t → is_failure (Some (outcome σ over n (DoCommand (command.Do o))).reply) ≡ true
+    → EndsLevel σ n t (Do o) (Some (outcome σ over n (DoCommand (command.Do o))).reply) (outcome σ over n (DoCommand (command.Do o))).state
+unfolding outcome
+operation_failed σ over n t o mine failed = cases (seat_at σ.seats n) refl mine failed
+  where
+    by_answer : (s : Seat) (a : Answer) → seat_at σ.seats n ≡ Some s → is_failure (Some (decided σ s t o a).reply) ≡ true → EndsLevel σ n t (Do o) (Some (decided σ s t o a).reply) (decided σ s t o a).state
+    by_answer s Granted here f = failed_made σ σ n s t o here refl refl f
+    by_answer s Wait here f = cc
+    by_answer s Die here f = cc
+
+    by_room : (s : Seat) (b : Bool) → seat_at σ.seats n ≡ Some s → is_failure (Some (within σ s t o b).reply) ≡ true → EndsLevel σ n t (Do o) (Some (within σ s t o b).reply) (within σ s t o b).state
+    by_room s false here f = cc
+    by_room s true here f = by_answer s _ here f
+
+    by_transaction : (s : Seat) (x : Option Transaction) → seat_at σ.seats n ≡ Some s → x ≡ Some t → is_failure (Some (operate σ s o x).reply) ≡ true → EndsLevel σ n t (Do o) (Some (operate σ s o x).reply) (operate σ s o x).state
+    by_transaction s None here e f = cc
+    by_transaction s (Some u) here e f = let same : t ≡ u = cc in
+        subst (λ (v : Transaction). is_failure (Some (operate σ s o (Some v)).reply) ≡ true → EndsLevel σ n t (Do o) (Some (operate σ s o (Some v)).reply) (operate σ s o (Some v)).state) same (λ g. by_room s _ here g) f
+
+    by_wait : (s : Seat) (b : Bool) → seat_at σ.seats n ≡ Some s → s.transaction ≡ Some t → is_failure (Some (command_if σ over s (command.Do o) b).reply) ≡ true → EndsLevel σ n t (Do o) (Some (command_if σ over s (command.Do o) b).reply) (command_if σ over s (command.Do o) b).state
+    by_wait s true here e f = cc
+    by_wait s false here e f = by_transaction s s.transaction here e f
+
+    cases : (x : Option Seat) → seat_at σ.seats n ≡ x → transaction_in x ≡ Some t → is_failure (Some (by_seat σ over n (DoCommand (command.Do o)) x).reply) ≡ true → EndsLevel σ n t (Do o) (Some (by_seat σ over n (DoCommand (command.Do o)) x).reply) (by_seat σ over n (DoCommand (command.Do o)) x).state
+    cases None here e f = cc
+    cases (Some s) here e f = by_wait s _ here e f
+
+-- what a queued operation that fails leaves
+pub retry_failed : (σ : State) (over : List ℕ) (n : ℕ) (t : Transaction) (q : Queued) → transaction_at σ n ≡ Some t → request_in σ.queue n ≡ Some q → is_failure (Some (outcome σ over n Retry).reply) ≡ true
+    → EndsLevel σ n t (Do q.operation) (Some (outcome σ over n Retry).reply) (outcome σ over n Retry).state
+unfolding outcome
+retry_failed σ over n t q mine asked failed = cases (seat_at σ.seats n) refl mine failed
+  where
+    by_turn : (s : Seat) (b : Bool) → seat_at σ.seats n ≡ Some s → is_failure (Some (retried σ s t q.operation b).reply) ≡ true → EndsLevel σ n t (Do q.operation) (Some (retried σ s t q.operation b).reply) (retried σ s t q.operation b).state
+    by_turn s false here f = cc
+    by_turn s true here f = failed_made σ (with_queue σ (without_request σ.queue s.number)) n s t q.operation here refl refl f
+
+    by_transaction : (s : Seat) (x : Option Transaction) → seat_at σ.seats n ≡ Some s → x ≡ Some t → is_failure (Some (retry_in σ s q.operation x).reply) ≡ true → EndsLevel σ n t (Do q.operation) (Some (retry_in σ s q.operation x).reply) (retry_in σ s q.operation x).state
+    by_transaction s None here e f = cc
+    by_transaction s (Some u) here e f = let same : t ≡ u = cc in
+        subst (λ (v : Transaction). is_failure (Some (retry_in σ s q.operation (Some v)).reply) ≡ true → EndsLevel σ n t (Do q.operation) (Some (retry_in σ s q.operation (Some v)).reply) (retry_in σ s q.operation (Some v)).state) same (λ g. by_turn s _ here g) f
+
+    by_request : (s : Seat) (x : Option Queued) → seat_at σ.seats n ≡ Some s → s.transaction ≡ Some t → x ≡ Some q → is_failure (Some (retry σ s x).reply) ≡ true → EndsLevel σ n t (Do q.operation) (Some (retry σ s x).reply) (retry σ s x).state
+    by_request s None here e g f = cc
+    by_request s (Some p) here e g f = let same : q ≡ p = cc in
+        subst (λ (v : Queued). is_failure (Some (retry σ s (Some v)).reply) ≡ true → EndsLevel σ n t (Do q.operation) (Some (retry σ s (Some v)).reply) (retry σ s (Some v)).state) same (λ h. by_transaction s s.transaction here e h) f
+
+    cases : (x : Option Seat) → seat_at σ.seats n ≡ x → transaction_in x ≡ Some t → is_failure (Some (by_seat σ over n Retry x).reply) ≡ true → EndsLevel σ n t (Do q.operation) (Some (by_seat σ over n Retry x).reply) (by_seat σ over n Retry x).state
+    cases None here e f = cc
+    cases (Some s) here e f = by_request s (request_in σ.queue s.number) here e (ap (request_in σ.queue) (found σ.seats s n here) ∙ asked) f
+
+-- what an abort leaves
+pub aborted : (σ : State) (over : List ℕ) (n : ℕ) (t : Transaction) (r : Term) → transaction_at σ n ≡ Some t → EndsLevel σ n t Undo None (outcome σ over n (DoCommand (command.Abort r))).state
+unfolding outcome
+aborted σ over n t r mine = cases (seat_at σ.seats n) refl mine
+  where
+    and_no : (b : Bool) → (b && false) ≡ false
+    and_no true = refl
+    and_no false = refl
+
+    by_transaction : (s : Seat) (x : Option Transaction) → seat_at σ.seats n ≡ Some s → x ≡ Some t → EndsLevel σ n t Undo None (abort σ s r x).state
+    by_transaction s None here e = cc
+    by_transaction s (Some u) here e = let same : t ≡ u = cc in
+        subst (λ (v : Transaction). EndsLevel σ n t Undo None (abort σ s r (Some v)).state) same
+        (level_ended σ (with_queue σ (without_request σ.queue s.number)) n s t Undo (reply.UserAbort r) here refl refl refl refl)
+
+    by_wait : (s : Seat) (b : Bool) → b ≡ false → seat_at σ.seats n ≡ Some s → s.transaction ≡ Some t → EndsLevel σ n t Undo None (command_if σ over s (command.Abort r) b).state
+    by_wait s true g here e = cc
+    by_wait s false g here e = by_transaction s s.transaction here e
+
+    cases : (x : Option Seat) → seat_at σ.seats n ≡ x → transaction_in x ≡ Some t → EndsLevel σ n t Undo None (by_seat σ over n (DoCommand (command.Abort r)) x).state
+    cases None here e = cc
+    cases (Some s) here e = by_wait s _ (and_no (is_waiting σ s.number)) here e

@@ -1,0 +1,213 @@
+-- Each subscription of a schedule was made on a table that stood; so the changes since give the table now.
+use Rattle.std.proofs.Common.{◌≡◌, ℕ, List, [], ◌∷◌, ◌++◌, Bool, true, false, not, refl, sym, ap, ◌∙◌, subst, Option, Some, None}
+use Rattle.std.specs.Prelude.{if◌then◌else◌, is_some}
+use Rattle.tab_term.specs.declared.term.Term.{Term}
+use Rattle.tab_model.specs.declared.data.Operation.{Operation}
+use Rattle.tab_model.specs.declared.data.Item.{Item}
+use Rattle.tab_model.specs.declared.data.Reply.{Reply}
+use Rattle.tab_model.specs.declared.data.Reply.TheVariants as reply
+use Rattle.tab_model.specs.declared.data.Level.{Level}
+use Rattle.tab_model.specs.declared.data.Limits.{Limits}
+use Rattle.tab_model.specs.declared.data.Schema.{Schema}
+use Rattle.tab_model.specs.declared.data.Entry.{Entry}
+use Rattle.tab_model.specs.declared.data.Entry.TheVariants.{Subscribed, Unsubscribed}
+use Rattle.tab_model.specs.declared.data.Command.{Command}
+use Rattle.tab_model.specs.declared.data.Command.TheVariants as command
+use Rattle.tab_model.specs.Tables.{applied}
+use Rattle.tab_model.specs.Worlds.{World, Table, find, rows_in, rows_of}
+use Rattle.tab_model.specs.Ages.{Answer, Granted, Wait, Die}
+use Rattle.tab_model.specs.Log.{entered, serial, serial_from}
+use Rattle.tab_model.specs.Since.{changes_on, StandsSince, StoodFor, AllStood, RowsSince}
+use Rattle.tab_model.specs.State.{Transaction, Watch, Seat, Queued, State, new, seat_at, level_in, IsSound}
+use Rattle.tab_model.specs.Outcome.{Ask, Join, Leave, Retry, Take, DoCommand, Outcome, outcome, decided, within, operate, retried, retry_in, retry, opened, nested, begin, one_shot, abort, commit_at, commit, schema_if, schema, marked, subscribe_refusal, subscribe, unsubscribe, command_if, give, seated, join, unseated, by_seat}
+use Rattle.tab_model.specs.Run.{Call, outcome_of, after_all, entries, log_of, taken_now, AllJoinEmpty, IsTied}
+use Rattle.tab_model.proofs.Given.{since_applies, serial-append}
+use Rattle.tab_model.proofs.InForce.{in_force_stands}
+use Rattle.tab_model.proofs.SoundSteps.{step_sound}
+use Rattle.tab_model.proofs.TiedSteps.{step_tied}
+use Rattle.tab_model.proofs.Schedules.{new_sound, new_tied, tied}
+
+abbrev Stood : World → Option Entry → Type 0
+Stood w None = Unit {0}
+Stood w (Some e) = StoodFor w e
+
+module _ (σ : State) (s : Seat) where
+  operate_stood : (o : Operation) (x : Option Transaction) → Stood σ.tables (operate σ s o x).entry
+  operate_stood o None = tt
+  operate_stood o (Some t) = by_room _
+    where
+      by_answer : (a : Answer) → Stood σ.tables (decided σ s t o a).entry
+      by_answer Granted = tt
+      by_answer Wait = tt
+      by_answer Die = tt
+
+      by_room : (b : Bool) → Stood σ.tables (within σ s t o b).entry
+      by_room false = tt
+      by_room true = by_answer _
+
+  retry_stood : (q : Option Queued) → Stood σ.tables (retry σ s q).entry
+  retry_stood None = tt
+  retry_stood (Some q) = by_transaction s.transaction
+    where
+      by_turn : (t : Transaction) (b : Bool) → Stood σ.tables (retried σ s t q.operation b).entry
+      by_turn t false = tt
+      by_turn t true = tt
+
+      by_transaction : (x : Option Transaction) → Stood σ.tables (retry_in σ s q.operation x).entry
+      by_transaction None = tt
+      by_transaction (Some t) = by_turn t _
+
+  opened_stood : (b : Bool) → Stood σ.tables (opened σ s b).entry
+  opened_stood false = tt
+  opened_stood true = tt
+
+  begin_stood : (x : Option Transaction) → Stood σ.tables (begin σ s x).entry
+  begin_stood None = opened_stood _
+  begin_stood (Some t) = by_limits _ _
+    where
+      by_limits : (a b : Bool) → Stood σ.tables (nested σ s t a b).entry
+      by_limits false b = tt
+      by_limits true false = tt
+      by_limits true true = tt
+
+  one_shot_stood : (x : Option Transaction) → Stood σ.tables (one_shot σ s x).entry
+  one_shot_stood None = opened_stood _
+  one_shot_stood (Some t) = tt
+
+  abort_stood : (r : Term) (x : Option Transaction) → Stood σ.tables (abort σ s r x).entry
+  abort_stood r None = tt
+  abort_stood r (Some t) = tt
+
+  commit_stood : (over : List ℕ) (x : Option Transaction) → Stood σ.tables (commit σ over s x).entry
+  commit_stood over None = tt
+  commit_stood over (Some t) = by_level _
+    where
+      by_level : (b : Bool) → Stood σ.tables (commit_at σ over s t b).entry
+      by_level false = tt
+      by_level true = tt
+
+  schema_stood : (over : List ℕ) (c : Schema) (x : Option Transaction) → Stood σ.tables (schema σ over c x).entry
+  schema_stood over c (Some t) = tt
+  schema_stood over c None = by_refusal _ _ _
+    where
+      by_refusal : (r : Option Reply) (busy room : Bool) → Stood σ.tables (schema_if σ over c r busy room).entry
+      by_refusal (Some r) busy room = tt
+      by_refusal None true room = tt
+      by_refusal None false false = tt
+      by_refusal None false true = tt
+
+  -- who isn't refused subscribes to a table that stands
+  unrefused : (t : List ℕ) → subscribe_refusal σ s t ≡ None → is_some (find σ.tables t) ≡ true
+  unrefused t h = cases (is_some s.overflow) (is_some (find σ.tables t)) (is_some (level_in s.watching t)) h
+    where
+      cases : (a b c : Bool) → (if a then Some reply.OverflowUntold else (if not b then Some (reply.SubNoTable t) else (if c then Some (reply.AlreadySubscribed t) else None))) ≡ None → b ≡ true
+      cases a true c h = refl
+      cases true false c h = cc
+      cases false false c h = cc
+
+  subscribe_stood : (over : List ℕ) (t : List ℕ) (l : Level) (dump : Bool) (r : Option Reply) → subscribe_refusal σ s t ≡ r → Stood σ.tables (subscribe σ over s t l dump r).entry
+  subscribe_stood over t l dump (Some r) h = tt
+  subscribe_stood over t l dump None h = by_room _
+    where
+      by_room : (full : Bool) → Stood σ.tables (marked σ full s (record { table = t; level = l } ∷ s.watching) (Rattle.tab_model.specs.declared.data.Item.TheVariants.Began t l (Rattle.tab_model.specs.Slices.dump_of σ.tables t dump)) (Subscribed s.number t l dump)).entry
+      by_room true = tt
+      by_room false = unrefused t h
+
+  unsubscribe_stood : (over : List ℕ) (t : List ℕ) (b : Bool) → Stood σ.tables (unsubscribe σ over s t b).entry
+  unsubscribe_stood over t false = tt
+  unsubscribe_stood over t true = by_room _ _ _
+    where
+      by_room : (full : Bool) (ws : List Watch) (x : Item) → Stood σ.tables (marked σ full s ws x (Unsubscribed s.number t)).entry
+      by_room true ws x = tt
+      by_room false ws x = tt
+
+  command_stood : (over : List ℕ) (c : Command) (b : Bool) → Stood σ.tables (command_if σ over s c b).entry
+  command_stood over c true = tt
+  command_stood over (command.Schema c) false = schema_stood over c s.transaction
+  command_stood over (command.TableInfo t i) false = tt
+  command_stood over command.Begin false = begin_stood s.transaction
+  command_stood over command.Commit false = commit_stood over s.transaction
+  command_stood over (command.Abort r) false = abort_stood r s.transaction
+  command_stood over (command.Do o) false = operate_stood o s.transaction
+  command_stood over (command.Subscribe t l dump) false = subscribe_stood over t l dump (subscribe_refusal σ s t) refl
+  command_stood over (command.Unsubscribe t l) false = unsubscribe_stood over t _
+  command_stood over (command.OneShot parts retries) false = one_shot_stood s.transaction
+
+  give_stood : (xs : List Item) (l : Option ℕ) → Stood σ.tables (give σ s xs l).entry
+  give_stood (x ∷ xs) l = tt
+  give_stood [] None = tt
+  give_stood [] (Some n) = tt
+
+  seated_stood : (over : List ℕ) (a : Ask) → Stood σ.tables (seated σ over s a).entry
+  seated_stood over (Join b) = tt
+  seated_stood over Leave = tt
+  seated_stood over Retry = retry_stood _
+  seated_stood over Take = give_stood _ _
+  seated_stood over (DoCommand c) = command_stood over c _
+
+unseated_stood : (σ : State) (n : ℕ) (a : Ask) → Stood σ.tables (unseated σ n a).entry
+unseated_stood σ n (Join b) = cases _ _
+  where
+    cases : (x y : Bool) → Stood σ.tables (join σ n b x y).entry
+    cases false y = tt
+    cases true false = tt
+    cases true true = tt
+unseated_stood σ n Leave = tt
+unseated_stood σ n Retry = tt
+unseated_stood σ n Take = tt
+unseated_stood σ n (DoCommand c) = tt
+
+step_stood : (σ : State) (over : List ℕ) (n : ℕ) (a : Ask) → Stood σ.tables (outcome σ over n a).entry
+unfolding outcome
+step_stood σ over n a = cases (seat_at σ.seats n)
+  where
+    cases : (o : Option Seat) → Stood σ.tables (by_seat σ over n a o).entry
+    cases None = unseated_stood σ n a
+    cases (Some s) = seated_stood σ s over a
+
+stood_on : (w : World) (o : Option Entry) (es : List Entry) → Stood w o → AllStood (serial_from w (entries o)) es → AllStood w (entries o ++ es)
+stood_on w None es h r = r
+stood_on w (Some e) es h r = (h, r)
+
+run_stood : (σ : State) (log : List Entry) (taken : ℕ → List Item) (calls : List Call) → IsSound σ → AllJoinEmpty calls → IsTied σ log taken → AllStood σ.tables (log_of σ calls)
+run_stood σ log taken [] sound empty t = tt
+run_stood σ log taken (c ∷ calls) sound empty t =
+    let o : Outcome = outcome_of σ c in
+    let after = step_tied σ log taken c.over c.session c.ask sound empty.0 t in
+    let rest = run_stood o.state (log ++ entries o.entry) (λ m. taken m ++ taken_now m c.session o.reply) calls (step_sound σ c.over c.session c.ask sound) empty.1 after in
+    stood_on σ.tables o.entry (log_of o.state calls) (step_stood σ c.over c.session c.ask)
+    (subst (λ (w : World). AllStood w (log_of o.state calls)) (after.tables ∙ serial-append [] log (entries o.entry) ∙ ap (λ w. serial_from w (entries o.entry)) (sym t.tables)) rest)
+
+stood-rest : (w : World) (xs ys : List Entry) → AllStood w (xs ++ ys) → AllStood (serial_from w xs) ys
+stood-rest w [] ys h = h
+stood-rest w (x ∷ xs) ys h = stood-rest (entered w x) xs ys h.1
+
+-- the changes since a subscription that stands give the table now, in every schedule
+pub schedule_applied : (limits : Limits) (calls : List Call) (n : ℕ) (s : Seat) (t : List ℕ) (l : Level) → AllJoinEmpty calls → seat_at (after_all (new limits) calls).seats n ≡ Some s → level_in s.watching t ≡ Some l
+    → RowsSince n t l (log_of (new limits) calls) (rows_of (after_all (new limits) calls).tables t)
+schedule_applied limits calls n s t l empty here watched = by_table (find (serial sub.earlier) t) refl stood
+  where
+    log : List Entry
+    log = log_of (new limits) calls
+
+    sub : StandsSince n t l log
+    sub = in_force_stands n t l log (sym (((tied limits calls empty).seats n s here).watching t) ∙ watched)
+
+    all : AllStood [] (sub.earlier ++ Subscribed n t l sub.dump ∷ sub.since)
+    all = subst (λ (es : List Entry). AllStood [] es) sub.is (run_stood (new limits) [] (λ m. []) calls (new_sound limits) empty (new_tied limits))
+
+    stood : is_some (find (serial sub.earlier) t) ≡ true
+    stood = (stood-rest [] sub.earlier (Subscribed n t l sub.dump ∷ sub.since) all).0
+
+    by_table : (o : Option Table) → find (serial sub.earlier) t ≡ o → is_some o ≡ true → RowsSince n t l log (rows_of (after_all (new limits) calls).tables t)
+    by_table None e h = cc
+    by_table (Some x) e h = record {
+      subscription = sub;
+      table = x;
+      stood = e;
+      now = ap (λ w. rows_of w t) (tied limits calls empty).tables ∙ since_applies n t l log x (tied limits calls empty).legal sub e
+          ∙ ap (λ (o : Option Table). applied x.def.kind (rows_in o) (changes_on t sub.since)) e;
+    }
+
+pub schedule_stood : (limits : Limits) (calls : List Call) → AllJoinEmpty calls → AllStood [] (log_of (new limits) calls)
+schedule_stood limits calls empty = run_stood (new limits) [] (λ m. []) calls (new_sound limits) empty (new_tied limits)

@@ -1,0 +1,83 @@
+-- The surviving updates of a transaction, one after another, give the tables that it leaves; and what they leave of one table.
+use Rattle.std.proofs.Common.{◌≡◌, ℕ, List, [], ◌∷◌, ◌++◌, Bool, true, false, refl, ap, ◌∙◌, subst, Option, Some, None}
+use Rattle.std.specs.Prelude.{if◌then◌else◌, is_some, map}
+use Rattle.tab_term.specs.View.{term}
+use Rattle.tab_model.specs.declared.data.Operation.{Operation}
+use Rattle.tab_model.specs.declared.data.Operation.TheVariants as op
+use Rattle.tab_model.specs.declared.data.Move.{Move}
+use Rattle.tab_model.specs.declared.data.Move.TheVariants.{Do, Open, Close, Undo}
+use Rattle.tab_model.specs.declared.data.Reply.{Reply}
+use Rattle.tab_model.specs.declared.data.Reply.TheVariants as reply
+use Rattle.tab_model.specs.declared.data.Change.{Change}
+use Rattle.tab_model.specs.Definitions.{fits_def, is_indexed, position}
+use Rattle.tab_model.specs.Worlds.{World, Table, find}
+use Rattle.tab_model.specs.Operations.{table_of, failure_in, failure, answer_at, answer_or, answer, change_of_op, change_by, change_world, effect}
+use Rattle.tab_model.specs.Alone.{Mid, start, forgotten, back_to, back, next, after, replies}
+use Rattle.tab_model.specs.Events.{drop_level, top_level, is_failure, with_change, survivors, surviving, change_all}
+
+either : (b : Bool) (r : Reply) (t : Table) (o : Operation) → is_failure (Some r) ≡ true → is_failure (Some (answer_at t o)) ≡ false → is_failure (Some (answer_or (if b then None else Some r) (Some t) o)) ≡ is_some (if b then None else Some r)
+either true r t o f g = g
+either false r t o f g = f
+
+-- a reply tells whether the operation failed
+pub reply_tells : (x : Option Table) (o : Operation) → is_failure (Some (answer_or (failure_in x o) x o)) ≡ is_some (failure_in x o)
+reply_tells None o = refl
+reply_tells (Some t) (op.Read n k) = refl
+reply_tells (Some t) (op.ReadForWrite n k) = refl
+reply_tells (Some t) (op.Write r) = either (fits_def t.def (term r)) (reply.BadType (t.def).name r) t (op.Write r) refl refl
+reply_tells (Some t) (op.Delete n k) = refl
+reply_tells (Some t) (op.DeleteObject r) = either (fits_def t.def (term r)) (reply.BadType (t.def).name r) t (op.DeleteObject r) refl refl
+reply_tells (Some t) (op.IndexRead n x a) = either (is_indexed t.def (position t.def (term a))) (reply.NoIndex n a) t (op.IndexRead n x a) refl refl
+reply_tells (Some t) (op.MatchObject p) = either (fits_def t.def (term p)) (reply.BadType (t.def).name p) t (op.MatchObject p) refl refl
+reply_tells (Some t) (op.AllKeys n) = refl
+reply_tells (Some t) (op.ReadLockTable n) = refl
+reply_tells (Some t) (op.WriteLockTable n) = refl
+
+change_all-push : (w : World) (cs : List Change) (c : Change) → change_all w (cs ++ c ∷ []) ≡ change_world (change_all w cs) c
+change_all-push w [] c = refl
+change_all-push w (x ∷ cs) c = change_all-push (change_world w x) cs c
+
+-- the updates so far, and those at each open level's begin, give the tables now and then
+record Kept (w : World) (now : List Change) (saved : List (List Change)) (m : Mid) : Type 0 where
+  now_is : change_all w now ≡ m.now
+  saved_are : map (change_all w) saved ≡ m.saved
+  base_is : w ≡ m.base
+
+kept_back : (w : World) (now : List Change) (saved : List (List Change)) (m : Mid) → Kept w now saved m → Kept w (top_level saved) (drop_level saved) (back m)
+kept_back w now [] m k = subst (λ (ws : List World). Kept w [] [] (back_to m ws)) k.saved_are (record { now_is = k.base_is; saved_are = refl; base_is = k.base_is })
+kept_back w now (x ∷ saved) m k = subst (λ (ws : List World). Kept w x saved (back_to m ws)) k.saved_are (record { now_is = refl; saved_are = refl; base_is = k.base_is })
+
+kept_closed : (w : World) (now : List Change) (saved : List (List Change)) (m : Mid) → Kept w now saved m → map (change_all w) (drop_level saved) ≡ forgotten m.saved
+kept_closed w now [] m k = ap forgotten k.saved_are
+kept_closed w now (x ∷ saved) m k = ap forgotten k.saved_are
+
+kept_change : (w : World) (cs : List Change) (c : Option Change) → change_all w (with_change cs c) ≡ change_by (change_all w cs) c
+kept_change w cs None = refl
+kept_change w cs (Some c) = change_all-push w cs c
+
+survives : (w : World) (now : List Change) (saved : List (List Change)) (m : Mid) (xs : List Move) → Kept w now saved m → change_all w (survivors now saved xs (replies m xs)) ≡ (after m xs).now
+survives w now saved m [] k = k.now_is
+survives w now saved m (Do o ∷ xs) k =
+    by_case (is_failure (Some (answer m.now o))) (is_some (failure m.now o)) (reply_tells (find m.now (table_of o)) o)
+    (survives w (top_level saved) (drop_level saved) (back m) xs (kept_back w now saved m k))
+    (survives w (with_change now (change_of_op o)) saved on xs (record { now_is = kept_change w now (change_of_op o) ∙ ap (λ v. effect v o) k.now_is; saved_are = k.saved_are; base_is = k.base_is }))
+  where
+    on : Mid
+    on = record { age = m.age; now = effect m.now o; saved = m.saved; base = m.base }
+
+    by_case : (a b : Bool) → a ≡ b
+        → change_all w (survivors (top_level saved) (drop_level saved) xs (replies (back m) xs)) ≡ (after (back m) xs).now
+        → change_all w (survivors (with_change now (change_of_op o)) saved xs (replies on xs)) ≡ (after on xs).now
+        → change_all w (if a then survivors (top_level saved) (drop_level saved) xs (replies (if b then back m else on) xs) else survivors (with_change now (change_of_op o)) saved xs (replies (if b then back m else on) xs))
+        ≡ (after (if b then back m else on) xs).now
+    by_case true true e p q = p
+    by_case false false e p q = q
+    by_case true false e p q = cc
+    by_case false true e p q = cc
+survives w now saved m (Open ∷ xs) k = survives w now (now ∷ saved) (next m Open) xs (record { now_is = k.now_is; saved_are = λ i. k.now_is i ∷ k.saved_are i; base_is = k.base_is })
+survives w now saved m (Close ∷ xs) k = survives w now (drop_level saved) (next m Close) xs (record { now_is = k.now_is; saved_are = kept_closed w now saved m k; base_is = k.base_is })
+survives w now saved m (Undo ∷ xs) k = survives w (top_level saved) (drop_level saved) (next m Undo) xs (kept_back w now saved m k)
+
+-- the surviving updates, read off the replies, give the tables after the transaction
+pub survivors_are : (w : World) (age : ℕ) (xs : List Move) → change_all w (surviving xs (replies (start w age) xs)) ≡ (after (start w age) xs).now
+survivors_are w age xs = survives w [] [] (start w age) xs (record { now_is = refl; saved_are = refl; base_is = refl })

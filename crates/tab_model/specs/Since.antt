@@ -1,0 +1,88 @@
+-- What a log says of one table: its changes, its deletion, and the subscriptions that stand.
+use Rattle.std.specs.Prelude.{◌≡◌, ℕ, List, [], ◌∷◌, ◌++◌, Bool, true, false, ◌&&◌, ◌||◌, ◌==◌, Some, is_some}
+use Rattle.std.specs.List.{filter, list_any}
+use Rattle.std.specs.Str.{bytes_eq}
+use Rattle.tab_model.specs.declared.data.Change.{Change}
+use Rattle.tab_model.specs.declared.data.Level.{Level}
+use Rattle.tab_model.specs.declared.data.Entry.{Entry}
+use Rattle.tab_model.specs.declared.data.Entry.TheVariants.{Committed, Changed, Subscribed, Unsubscribed}
+use Rattle.tab_model.specs.Operations.{table_of_change}
+use Rattle.tab_model.specs.Events.{surviving}
+use Rattle.tab_model.specs.Schemas.{removed}
+use Rattle.tab_model.specs.Tables.{Rows, applied}
+use Rattle.tab_model.specs.Worlds.{World, Table, find}
+use Rattle.tab_model.specs.Log.{has_session, is_removed, entered, serial}
+
+abbrev pub is_of : List ℕ → Change → Bool
+is_of t c = bytes_eq (table_of_change c) t
+
+-- the changes that a log's commits made to a table, in order (this project's own rule: one for each update that survived)
+abbrev pub changes_in : List ℕ → Entry → List Change
+changes_in t (Committed n s age xs rs over) = filter (is_of t) (surviving xs rs)
+changes_in t (Changed c over) = []
+changes_in t (Subscribed s u l dump) = []
+changes_in t (Unsubscribed s u) = []
+
+abbrev pub changes_on : List ℕ → List Entry → List Change
+changes_on t [] = []
+changes_on t (e ∷ es) = changes_in t e ++ changes_on t es
+
+-- whether an entry deletes a table
+abbrev pub deletes : List ℕ → Entry → Bool
+deletes t (Committed n s age xs rs over) = false
+deletes t (Changed c over) = is_removed t (removed c)
+deletes t (Subscribed s u l dump) = false
+deletes t (Unsubscribed s u) = false
+
+-- whether a session overflowed in an entry
+abbrev pub overflows : ℕ → Entry → Bool
+overflows s (Committed n x age xs rs over) = has_session over s
+overflows s (Changed c over) = has_session over s
+overflows s (Subscribed x u l dump) = false
+overflows s (Unsubscribed x u) = false
+
+-- whether an entry is a session's unsubscribing of a table
+abbrev pub unsubscribes : ℕ → List ℕ → Entry → Bool
+unsubscribes s t (Committed n x age xs rs over) = false
+unsubscribes s t (Changed c over) = false
+unsubscribes s t (Subscribed x u l dump) = false
+unsubscribes s t (Unsubscribed x u) = (x == s) && bytes_eq u t
+
+-- what ends a session's subscription to a table
+abbrev pub ends_it : ℕ → List ℕ → Entry → Bool
+ends_it s t e = unsubscribes s t e || (deletes t e || overflows s e)
+
+-- whether an entry begins a session's subscription to a table
+abbrev pub subscribes : ℕ → List ℕ → Entry → Bool
+subscribes s t (Committed n x age xs rs over) = false
+subscribes s t (Changed c over) = false
+subscribes s t (Subscribed x u l dump) = (x == s) && bytes_eq u t
+subscribes s t (Unsubscribed x u) = false
+
+-- a subscription that stands at a log's end: a Subscribed entry of the session for the table, and nothing after it that
+-- ends it (an unsubscribing, the table's deletion, the session's overflow) or begins it anew
+pub record StandsSince (s : ℕ) (t : List ℕ) (l : Level) (log : List Entry) : Type 0 where
+  pub earlier : List Entry
+  pub dump : Bool
+  pub since : List Entry
+  pub is : log ≡ earlier ++ Subscribed s t l dump ∷ since
+  pub not_ended : list_any (ends_it s t) since ≡ false
+  pub not_anew : list_any (subscribes s t) since ≡ false
+
+-- a subscription was made on a table that stood then
+abbrev pub StoodFor : World → Entry → Type 0
+StoodFor w (Committed n s age xs rs over) = Unit {0}
+StoodFor w (Changed c over) = Unit {0}
+StoodFor w (Subscribed s t l dump) = is_some (find w t) ≡ true
+StoodFor w (Unsubscribed s t) = Unit {0}
+
+abbrev pub AllStood : World → List Entry → Type 0
+AllStood w [] = Unit {0}
+AllStood w (e ∷ es) = StoodFor w e × AllStood (entered w e) es
+
+-- a table's rows are those of it at the beginning of a subscription that stands, with the changes since applied
+pub record RowsSince (s : ℕ) (t : List ℕ) (l : Level) (log : List Entry) (rows : Rows) : Type 0 where
+  pub subscription : StandsSince s t l log
+  pub table : Table
+  pub stood : find (serial subscription.earlier) t ≡ Some table
+  pub now : rows ≡ applied table.def.kind table.rows (changes_on t subscription.since)
