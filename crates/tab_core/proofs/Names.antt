@@ -47,8 +47,10 @@ placed (x ∷ es) t n e k = cases (placed es t n e k.1) (name_cmp n x.0) refl
   where
     other : (o : Ordering) → name_cmp n x.0 ≡ o → bytes_eq (name_of x.1) (name_of t) ≡ is_eq (ordering_reverse o)
     other o h = ap (λ m. bytes_eq m (name_of t)) k.0 ∙ ap (bytes_eq x.0) (sym e) ∙ matches_bytes x.0 n ∙ ap is_eq (flipped n x.0 o h)
+
     less : (o : Ordering) → name_cmp n x.0 ≡ o → before (name_of t) (name_of x.1) ≡ is_lt o
     less o h = ap (λ m. before m (name_of x.1)) (sym e) ∙ ap (before n) k.0 ∙ ap is_lt h
+
     cases : world_of (insert_entry name_cmp (n, t) es) ≡ place (world_of es) t → (o : Ordering) → name_cmp n x.0 ≡ o
         → world_of (match_ordering o ((n, t) ∷ x ∷ es) ((n, t) ∷ es) (x ∷ insert_entry name_cmp (n, t) es)) ≡ (if bytes_eq (name_of x.1) (name_of t) then t ∷ world_of es else (if before (name_of t) (name_of x.1) then t ∷ x.1 ∷ world_of es else x.1 ∷ place (world_of es) t))
     cases ih Less h = sym (ap (λ b. if b then t ∷ world_of es else (if before (name_of t) (name_of x.1) then t ∷ x.1 ∷ world_of es else x.1 ∷ place (world_of es) t)) (other Less h) ∙ ap (λ b. if b then t ∷ x.1 ∷ world_of es else x.1 ∷ place (world_of es) t) (less Less h))

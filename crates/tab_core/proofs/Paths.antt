@@ -38,6 +38,7 @@ saved_from m (Do o ∷ xs) a h = saved_from (next m (Do o)) xs a (cases (is_some
     back_saved : (ws : List World) → ws ≡ [] → (back_to m ws).saved ≡ []
     back_saved [] e = refl
     back_saved (w ∷ ws) e = cc
+
     cases : (b : Bool) → Mid.saved (if b then back m else record { age = m.age; now = effect m.now o; saved = m.saved; base = m.base }) ≡ []
     cases true = back_saved m.saved h
     cases false = h
@@ -94,15 +95,19 @@ granted w n t na cm gr lim o = granted_if _ _ _ (any_nil (opposes (t.age, needs 
 
 pub made_is : (w : World) (n : ℕ) (t : Transaction) (na cm gr : ℕ) (lim : Limits) (x : Move) (r : Reply) (b : Bool) → ends (after (start w t.age) t.moves) x ≡ b
     → made (state_of w (Some n) (Some t) na cm gr lim) (seat_of n (Some t)) t x r
-      ≡ nothing (state_of w (Some n) (after_move t x (told (after (start w t.age) t.moves) x) b) na cm gr lim) (said (told (after (start w t.age) t.moves) x) r)
+    ≡ nothing (state_of w (Some n) (after_move t x (told (after (start w t.age) t.moves) x) b) na cm gr lim) (said (told (after (start w t.age) t.moves) x) r)
 made_is w n t na cm gr lim x r b e = ap₂ outcome_if (itself n) e
   where
     outcome_if : Bool → Bool → Outcome
     outcome_if h c = nothing (record {
-        tables = w;
-        seats = if h then seat_of n (after_move t x (told (after (start w t.age) t.moves) x) c) ∷ [] else seat_of n (Some t) ∷ change [] (seat_of n (after_move t x (told (after (start w t.age) t.moves) x) c));
-        queue = []; next_age = na; commits = cm; greatest = gr; limits = lim;
-      }) (said (told (after (start w t.age) t.moves) x) r)
+      tables = w;
+      seats = if h then seat_of n (after_move t x (told (after (start w t.age) t.moves) x) c) ∷ [] else seat_of n (Some t) ∷ change [] (seat_of n (after_move t x (told (after (start w t.age) t.moves) x) c));
+      queue = [];
+      next_age = na;
+      commits = cm;
+      greatest = gr;
+      limits = lim;
+    }) (said (told (after (start w t.age) t.moves) x) r)
 
 pub aborts : (w : World) (n : ℕ) (t : Transaction) (na cm gr : ℕ) (lim : Limits) (r : Term) → AllOperations t.moves
     → asked (state_of w (Some n) (Some t) na cm gr lim) (command.Abort r) ≡ nothing (state_of w (Some n) None na cm gr lim) (reply.UserAbort r)
@@ -145,7 +150,7 @@ does w work n t na cm gr lim o a h is e =
 -- the outermost commit
 pub commits_now : (w work : World) (n : ℕ) (t : Transaction) (na cm gr : ℕ) (lim : Limits) → AllOperations t.moves → work ≡ (after (start w t.age) t.moves).now
     → asked (state_of w (Some n) (Some t) na cm gr lim) command.Commit
-      ≡ record { state = state_of work (Some n) None na (cm + 1) gr lim; reply = reply.Atomic (cm + 1); entry = Some (Committed (cm + 1) n t.age t.moves t.told []) }
+    ≡ record { state = state_of work (Some n) None na (cm + 1) gr lim; reply = reply.Atomic (cm + 1); entry = Some (Committed (cm + 1) n t.age t.moves t.told []) }
 commits_now w work n t na cm gr lim a is =
     ap (Rattle.tab_model.specs.Outcome.commit_at (state_of w (Some n) (Some t) na cm gr lim) [] (seat_of n (Some t)) t) (ap is_empty (saved_none w t.age t.moves a))
     ∙ ap₂ outcome_if (itself n) (sym is) ∙ ap (λ items. whole items) (batch_none (cm + 1) (events_now (state_of w (Some n) (Some t) na cm gr lim) t))
@@ -156,12 +161,17 @@ commits_now w work n t na cm gr lim a is =
       reply = reply.Atomic (cm + 1);
       entry = Some (Committed (cm + 1) n t.age t.moves t.told []);
     }
+
     outcome_if : Bool → World → Outcome
     outcome_if h v = record {
       state = record {
         tables = v;
         seats = Rattle.std.specs.Prelude.map (λ x. Rattle.tab_model.specs.Outcome.given (cm + 1) [] (batch_to (cm + 1) (events_now (state_of w (Some n) (Some t) na cm gr lim) t) x) x) (if h then seat_of n None ∷ [] else seat_of n (Some t) ∷ change [] (seat_of n None));
-        queue = []; next_age = na; commits = cm + 1; greatest = gr; limits = lim;
+        queue = [];
+        next_age = na;
+        commits = cm + 1;
+        greatest = gr;
+        limits = lim;
       };
       reply = reply.Atomic (cm + 1);
       entry = Some (Committed (cm + 1) n t.age t.moves t.told []);
@@ -209,6 +219,7 @@ module _ (w work : World) (session age : Option ℕ) (moves : List Move) (told :
     where
       replies : told ++ Some (answer work o) ∷ [] ≡ told'
       replies = ap (λ r. told ++ Some r ∷ []) (sym h.told) ∙ sym ts
+
       cases : (s a : Option ℕ) → is_some s ≡ true → is_some a ≡ true → IsOpenIn w s a moves work
           → asked (state_of w s (transaction_of a moves told) na cm gr lim) (command.Do o) ≡ nothing (state_of w s (transaction_of a (moves ++ Do o ∷ []) (told ++ Some (answer work o) ∷ [])) na cm gr lim) (answer work o)
       cases None a h k i = cc
@@ -227,7 +238,7 @@ module _ (w work : World) (session age : Option ℕ) (moves : List Move) (told :
 pub commit_if : (w work w' : World) (session age : Option ℕ) (moves moves' : List Move) (told told' : List (Option Reply)) (over : List ℕ) (na cm gr : ℕ) (lim : Limits) (n a : ℕ) → session ≡ Some n → age ≡ Some a → IsOpenIn w session age moves work
     → w' ≡ work → moves' ≡ moves → told' ≡ told → over ≡ []
     → asked (state_of w session (transaction_of age moves told) na cm gr lim) command.Commit
-      ≡ record { state = state_of w' session None na (cm + 1) gr lim; reply = reply.Atomic (cm + 1); entry = Some (Committed (cm + 1) n a moves' told' over) }
+    ≡ record { state = state_of w' session None na (cm + 1) gr lim; reply = reply.Atomic (cm + 1); entry = Some (Committed (cm + 1) n a moves' told' over) }
 commit_if w work w' session age moves moves' told told' over na cm gr lim n a e f i ws ms ts os = cases session age e f i
   where
     cases : (s b : Option ℕ) → s ≡ Some n → b ≡ Some a → IsOpenIn w s b moves work
@@ -255,6 +266,7 @@ alone w (Some m) t na cm gr lim n e = record {
   where
     same : (m == n) ≡ true
     same = let p : m ≡ n = cc in ap (λ k. k == n) p ∙ itself n
+
     seat_found : (a : Ask) → by_seat (state_of w (Some m) t na cm gr lim) [] n a (if m == n then Some (seat_of m t) else None) ≡ seated (state_of w (Some m) t na cm gr lim) [] (seat_of m t) a
     seat_found a = ap (λ b. by_seat (state_of w (Some m) t na cm gr lim) [] n a (if b then Some (seat_of m t) else None)) same
 

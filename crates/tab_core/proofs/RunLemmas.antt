@@ -39,9 +39,11 @@ goes_on first σ μ all rest s told r es t h = record {
 }
 
 pub ends_with : (first σ : State) (all : List (ℕ × Step)) (told : List Reply) → IsRunning first σ all [] told → (log : List Entry) × Ran first (asks_of all) told log σ
-ends_with first σ all told h =
-    (h.log, subst (λ (xs : List Reply). Ran first (asks_of all) xs h.log σ) (append-nil told)
-      (subst (λ (l : List Entry). Ran first (asks_of all) (told ++ []) l σ) (append-nil h.log) (h.onward [] [] σ (refl, refl))))
+ends_with first σ all told h = (
+  h.log,
+  subst (λ (xs : List Reply). Ran first (asks_of all) xs h.log σ) (append-nil told)
+      (subst (λ (l : List Entry). Ran first (asks_of all) (told ++ []) l σ) (append-nil h.log) (h.onward [] [] σ (refl, refl))),
+)
 
 joins_empty : (s : Step) → JoinsEmpty (ask_of s)
 joins_empty step.Join = refl
@@ -55,40 +57,43 @@ no_item m n = cases (m == n)
   where
     none : List Item
     none = []
+
     cases : (b : Bool) → none ≡ (if b then none else none)
     cases true = refl
     cases false = refl
 
 -- what one step leaves
 step_takes : (σ μ : State) (s : ℕ × Step) (r : Reply) (es log : List Entry) (taken : ℕ → List Item) → Takes σ (s.0, ask_of s.1) r es μ → IsSound σ → IsTied σ log taken → IsSound μ × IsTied μ (log ++ es) (λ m. taken m ++ taken_now m s.0 r)
-step_takes σ μ s r es log taken (inl (st, rp, en)) sound tied =
-    (subst IsSound st (step_sound σ [] s.0 (ask_of s.1) sound),
-      subst (λ (x : State). IsTied x (log ++ es) (λ m. taken m ++ taken_now m s.0 r)) st
-        (subst (λ (l : List Entry). IsTied (outcome σ [] s.0 (ask_of s.1)).state (log ++ l) (λ m. taken m ++ taken_now m s.0 r)) en
-          (subst (λ (q : Reply). IsTied (outcome σ [] s.0 (ask_of s.1)).state (log ++ entries (outcome σ [] s.0 (ask_of s.1)).entry) (λ m. taken m ++ taken_now m s.0 q)) rp
-            (step_tied σ log taken [] s.0 (ask_of s.1) sound (joins_empty s.1) tied))))
-step_takes σ μ s r es log taken (inr (rp, en, st)) sound tied =
-    (subst IsSound (sym st) sound,
-      subst (λ (x : State). IsTied x (log ++ es) (λ m. taken m ++ taken_now m s.0 r)) (sym st)
-        (subst (λ (l : List Entry). IsTied σ (log ++ l) (λ m. taken m ++ taken_now m s.0 r)) (sym en)
-          (subst (λ (q : Reply). IsTied σ (log ++ []) (λ m. taken m ++ taken_now m s.0 q)) (sym rp)
-            (subst (λ (l : List Entry). IsTied σ l (λ m. taken m ++ taken_now m s.0 reply.NoMemory)) (sym (append-nil log))
-              (subst (λ (f : ℕ → List Item). IsTied σ log f) (λ i m. (sym (append-nil (taken m)) ∙ ap (λ xs. taken m ++ xs) (no_item m s.0)) i) tied)))))
+step_takes σ μ s r es log taken (inl (st, rp, en)) sound tied = (
+  subst IsSound st (step_sound σ [] s.0 (ask_of s.1) sound),
+  subst (λ (x : State). IsTied x (log ++ es) (λ m. taken m ++ taken_now m s.0 r)) st
+      (subst (λ (l : List Entry). IsTied (outcome σ [] s.0 (ask_of s.1)).state (log ++ l) (λ m. taken m ++ taken_now m s.0 r)) en
+      (subst (λ (q : Reply). IsTied (outcome σ [] s.0 (ask_of s.1)).state (log ++ entries (outcome σ [] s.0 (ask_of s.1)).entry) (λ m. taken m ++ taken_now m s.0 q)) rp
+      (step_tied σ log taken [] s.0 (ask_of s.1) sound (joins_empty s.1) tied))),
+)
+step_takes σ μ s r es log taken (inr (rp, en, st)) sound tied = (
+  subst IsSound (sym st) sound,
+  subst (λ (x : State). IsTied x (log ++ es) (λ m. taken m ++ taken_now m s.0 r)) (sym st)
+      (subst (λ (l : List Entry). IsTied σ (log ++ l) (λ m. taken m ++ taken_now m s.0 r)) (sym en)
+      (subst (λ (q : Reply). IsTied σ (log ++ []) (λ m. taken m ++ taken_now m s.0 q)) (sym rp)
+      (subst (λ (l : List Entry). IsTied σ l (λ m. taken m ++ taken_now m s.0 reply.NoMemory)) (sym (append-nil log))
+      (subst (λ (f : ℕ → List Item). IsTied σ log f) (λ i m. (sym (append-nil (taken m)) ∙ ap (λ xs. taken m ++ xs) (no_item m s.0)) i) tied)))),
+)
 
 -- whatever history led to the first state goes on to the last
 pub history_goes_on : (σ τ : State) (steps : List (ℕ × Step)) (rs : List Reply) (run : List Entry) → Ran σ (asks_of steps) rs run τ → IsSound σ → (log : List Entry) (taken : ℕ → List Item) → IsTied σ log taken
     → IsTied τ (log ++ run) (λ m. taken m ++ taken_in m (asks_of steps) rs)
 history_goes_on σ τ [] [] run ran sound log taken tied =
     subst (λ (x : State). IsTied x (log ++ run) (λ m. taken m ++ [])) ran.1
-      (subst (λ (l : List Entry). IsTied σ (log ++ l) (λ m. taken m ++ [])) (sym ran.0)
-        (subst (λ (l : List Entry). IsTied σ l (λ m. taken m ++ [])) (sym (append-nil log)) (subst (λ (f : ℕ → List Item). IsTied σ log f) (λ i m. sym (append-nil (taken m)) i) tied)))
+    (subst (λ (l : List Entry). IsTied σ (log ++ l) (λ m. taken m ++ [])) (sym ran.0)
+    (subst (λ (l : List Entry). IsTied σ l (λ m. taken m ++ [])) (sym (append-nil log)) (subst (λ (f : ℕ → List Item). IsTied σ log f) (λ i m. sym (append-nil (taken m)) i) tied)))
 history_goes_on σ τ (s ∷ steps) [] run ran sound log taken tied = absurd ran
 history_goes_on σ τ [] (r ∷ rs) run ran sound log taken tied = absurd ran
 history_goes_on σ τ (s ∷ steps) (r ∷ rs) run (μ, es, rest, t, ran, is) sound log taken tied =
     let one = step_takes σ μ s r es log taken t sound tied in
     let all = history_goes_on μ τ steps rs rest ran one.0 (log ++ es) (λ m. taken m ++ taken_now m s.0 r) one.1 in
     subst (λ (l : List Entry). IsTied τ l (λ m. taken m ++ taken_in m (asks_of (s ∷ steps)) (r ∷ rs))) (append_assoc log es rest ∙ ap (λ l. log ++ l) (sym is))
-      (subst (λ (f : ℕ → List Item). IsTied τ ((log ++ es) ++ rest) f) (λ i m. append_assoc (taken m) (taken_now m s.0 r) (taken_in m (asks_of steps) rs) i) all)
+    (subst (λ (f : ℕ → List Item). IsTied τ ((log ++ es) ++ rest) f) (λ i m. append_assoc (taken m) (taken_now m s.0 r) (taken_in m (asks_of steps) rs) i) all)
 
 -- a step, made or refused, keeps what every reached state has
 pub step_keeps : {E : Type 0} (σ μ : State) (n : ℕ) (a : Ask) (r : Result Stepped E) → IsSound σ → IfOk r (λ s. Makes σ n a s μ) → OnErr r (μ ≡ σ) → IsSound μ

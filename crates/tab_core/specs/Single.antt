@@ -29,7 +29,13 @@ seats_of (Some n) t = seat_of n t ∷ []
 
 abbrev pub state_of : World → Option ℕ → Option Transaction → ℕ → ℕ → ℕ → Limits → State
 state_of w session t next_age commits greatest limits = record {
-  tables = w; seats = seats_of session t; queue = []; next_age = next_age; commits = commits; greatest = greatest; limits = limits;
+  tables = w;
+  seats = seats_of session t;
+  queue = [];
+  next_age = next_age;
+  commits = commits;
+  greatest = greatest;
+  limits = limits;
 }
 
 -- a transaction whose moves are operations alone

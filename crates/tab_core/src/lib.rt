@@ -13,10 +13,9 @@ mod stepped;
 mod steps;
 mod table;
 mod tables;
-mod transaction;
-
 #[cfg(test)]
 mod tests;
+mod transaction;
 
 pub use running::Core;
 pub use served::is_served;

@@ -11,20 +11,20 @@ ghost use Rattle.tab_model.specs.Outcome.{Ask, Join, Leave, Retry, Take, DoComma
 ghost use Rattle.tab_core.specs.Served.{serves, serves_operation};
 ghost use Rattle.tab_core.specs.Single.{asked, no_outbox, IsAlone};
 
-use std::alloc::{AllocError, Global};
-use std::marker::Model;
-use std::mem;
-use tab_model::{
-    Atoms, Command, Entry, Kind, Limit, Limits, Move, Moves, Numbers, Replies, Reply, Schema, TableDef,
-};
-use tab_term::{Atom, Term, Terms};
-
 use crate::operate::{Effect, Performed, perform};
 use crate::stepped::Stepped;
 use crate::steps::Step;
 use crate::table::Table;
 use crate::tables::Tables;
 use crate::transaction::{Pending, Request, push_move, push_told};
+use std::alloc::{AllocError, Global};
+use std::marker::Model;
+use std::mem;
+use tab_model::{
+    Atoms, Command, Entry, Kind, Limit, Limits, Move, Moves, Numbers, Replies, Reply, Schema,
+    TableDef,
+};
+use tab_term::{Atom, Term, Terms};
 
 /// At most one session, and one level of its transaction.
 pub struct Machine {
@@ -281,7 +281,9 @@ impl Machine {
             Command::Begin => Ok(Stepped::without_entry(self.begin()?)),
             Command::Commit => Ok(self.commit()),
             Command::Abort(reason) => Ok(Stepped::without_entry(self.abort(reason))),
-            Command::Do(operation) => Ok(Stepped::without_entry(self.operate(Pending { operation })?)),
+            Command::Do(operation) => Ok(Stepped::without_entry(self.operate(Pending {
+                operation,
+            })?)),
             Command::Schema(Schema::Create(name, _)) => self.create(name),
             _ => unreachable!(),
         }
@@ -314,14 +316,22 @@ impl Machine {
     fn retry(&self, session: u32) -> Reply
         ensures { outcome self.now [] session Retry ≡ nothing self.now result }
     {
-        if self.is_seated(session) { Reply::NotWaiting } else { Reply::BadSession }
+        if self.is_seated(session) {
+            Reply::NotWaiting
+        } else {
+            Reply::BadSession
+        }
     }
 
     /// No one has an item, since no one subscribes.
     fn take(&self, session: u32) -> Reply
         ensures { outcome self.now [] session Take ≡ nothing self.now result }
     {
-        if self.is_seated(session) { Reply::Empty } else { Reply::BadSession }
+        if self.is_seated(session) {
+            Reply::Empty
+        } else {
+            Reply::BadSession
+        }
     }
 }
 

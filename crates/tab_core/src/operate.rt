@@ -1,8 +1,7 @@
 //! Operations of a transaction, on tables as the transaction sees them.
 
-use tab_model::Reply;
-
 use crate::tables::Tables;
+use tab_model::Reply;
 
 mod served;
 

@@ -5,13 +5,12 @@ ghost use Rattle.tab_model.specs.State.{new, IsSound};
 ghost use Rattle.tab_model.specs.Run.{IsTied};
 ghost use Rattle.tab_core.specs.Runs.{ask_of, asks_of, serves_step, AllServed, Makes, Takes, Ran, taken_in};
 
-use std::alloc::{AllocError, Global};
-use std::marker::Model;
-use tab_model::{Limits, Reply};
-
 use crate::machine::Machine;
 use crate::stepped::Stepped;
 use crate::steps::Step;
+use std::alloc::{AllocError, Global};
+use std::marker::Model;
+use tab_model::{Limits, Reply};
 
 /// A core: tables, sessions, and what each of them is told.
 ///

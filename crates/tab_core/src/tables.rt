@@ -2,12 +2,11 @@ ghost use Rattle.std.specs.Prelude.{◌≡◌, [], IfOk, nat_lt, length};
 ghost use Rattle.std.specs.Option.{option_copied};
 ghost use Rattle.tab_model.specs.Worlds.{find, place};
 
+use crate::table::Table;
 use std::alloc::{AllocError, Global};
 use std::marker::Model;
 use tab_map::Map;
 use tab_term::Atom;
-
-use crate::table::Table;
 
 /// All tables, by name. Sharing them takes constant time.
 pub struct Tables {
@@ -40,7 +39,9 @@ impl Tables {
     pub fn new() -> Tables
         ensures { result ≡ [] }
     {
-        Tables { by_name: Map::new() }
+        Tables {
+            by_name: Map::new(),
+        }
     }
 
     /// The same tables, in constant time.

@@ -1,9 +1,7 @@
+use crate::{Core, Step, is_served};
 use std::alloc::{AllocError, Global};
-
 use tab_model::{Command, Limit, Limits, Operation, Reply, Schema};
 use tab_term::{Atom, Term, Terms};
-
-use crate::{Core, Step, is_served};
 
 /// A step, in few words. Records are `{Table, Key, Value}`.
 enum Asks {
@@ -145,8 +143,13 @@ fn command(alloc: Global, asks: &Asks) -> Result<Option<Command>, AllocError> {
         Asks::Write(table, key, value) => {
             Command::Do(Operation::Write(row(alloc, table, *key, Some(value))?))
         }
-        Asks::WriteShort(table, key) => Command::Do(Operation::Write(row(alloc, table, *key, None)?)),
-        Asks::Read(table, key) => Command::Do(Operation::Read(short(alloc, table)?, Term::Int(*key))),
+        Asks::WriteShort(table, key) => Command::Do(Operation::Write(row(
+            alloc, table, *key, None,
+        )?)),
+        Asks::Read(table, key) => Command::Do(Operation::Read(
+            short(alloc, table)?,
+            Term::Int(*key),
+        )),
         Asks::Commit => Command::Commit,
         Asks::Abort(reason) => Command::Abort(Term::Atom(short(alloc, reason)?)),
     }))
@@ -216,8 +219,17 @@ fn steps_run_in_order(rt: HostRuntime) {
     let mut core = Core::new(alloc, LIMITS);
     let mut steps = Vec::new(alloc);
     steps.push((1, Step::Join)).expect(&rt, "memory");
-    steps.push((1, Step::Do(Command::Begin))).expect(&rt, "memory");
-    steps.push((1, Step::Do(Command::Commit))).expect(&rt, "memory");
+    steps
+        .push((1, Step::Do(Command::Begin)))
+        .expect(&rt, "memory");
+    steps
+        .push((1, Step::Do(Command::Commit)))
+        .expect(&rt, "memory");
     let replies = core.run_steps(alloc, steps).expect(&rt, "memory");
-    assert!(rt; matches!(replies.as_slice(), [Reply::Done, Reply::Tid(1), Reply::Atomic(1)]));
+    assert!(rt;
+        matches!(
+            replies.as_slice(),
+            [Reply::Done, Reply::Tid(1), Reply::Atomic(1)]
+        )
+    );
 }

@@ -86,6 +86,7 @@ unequal a b n = cases (same (term a) (term b)) refl
   where
     itself : (t : PlainTerm) → slice_cmp nat_cmp (canon t) (canon t) ≡ Equal
     itself t = Rattle.std.proofs.lemmas.Cmp.tied_itself nat_list_cmp_total (canon t)
+
     cases : (c : Bool) → same (term a) (term b) ≡ c → c ≡ false
     cases false e = refl
     cases true e = absurd (n (ap (λ t. slice_cmp nat_cmp (canon (term a)) (canon t)) (sym (same_true (term a) (term b) e)) ∙ itself (term a)))
@@ -131,16 +132,16 @@ follows_same k x [] h a = refl
 follows_same k x (y ∷ ys) h a =
     let p = and_parts (has_key k y) (list_all (has_key k) ys) a in
     and_both (follows x y) (list_all (follows x) ys)
-      (ap₂ (λ i j. same i j || less i j) (same_true (key x) k h) (same_true (key y) k p.0) ∙ ap (λ b. b || less k k) (same_refl k))
-      (follows_same k x ys h p.1)
+    (ap₂ (λ i j. same i j || less i j) (same_true (key x) k h) (same_true (key y) k p.0) ∙ ap (λ b. b || less k k) (same_refl k))
+    (follows_same k x ys h p.1)
 
 follows_part : (k j : Term) (x : PlainTerm) (ys : Rows) → term_cmp k j ≡ Less → has_key (term k) x ≡ true → list_all (has_key (term j)) ys ≡ true → list_all (follows x) ys ≡ true
 follows_part k j x [] h e a = refl
 follows_part k j x (y ∷ ys) h e a =
     let p = and_parts (has_key (term j) y) (list_all (has_key (term j)) ys) a in
     and_both (follows x y) (list_all (follows x) ys)
-      (ap₂ (λ u v. same u v || less u v) (same_true (key x) (term k) e) (same_true (key y) (term j) p.0) ∙ or_right (same (term k) (term j)) (less (term k) (term j)) (less_is k j h))
-      (follows_part k j x ys h e p.1)
+    (ap₂ (λ u v. same u v || less u v) (same_true (key x) (term k) e) (same_true (key y) (term j) p.0) ∙ or_right (same (term k) (term j)) (less (term k) (term j)) (less_is k j h))
+    (follows_part k j x ys h e p.1)
   where
     or_right : (a b : Bool) → b ≡ true → (a || b) ≡ true
     or_right true b h = refl
@@ -155,8 +156,8 @@ ordered_part k [] es h a d o = o
 ordered_part k (x ∷ xs) es h a d o =
     let p = and_parts (has_key (term k) x) (list_all (has_key (term k)) xs) h in
     and_both (list_all (follows x) (xs ++ joined es)) (is_ordered (xs ++ joined es))
-      (all_append (follows x) xs (joined es) (follows_same (term k) x xs p.0 p.1) (follows_above k x es p.0 a d))
-      (ordered_part k xs es p.1 a d o)
+    (all_append (follows x) xs (joined es) (follows_same (term k) x xs p.0 p.1) (follows_above k x es p.0 a d))
+    (ordered_part k xs es p.1 a d o)
 
 pub ordered-joined : (es : List Entry) → Ascends term_cmp es → AllKeyed es → is_ordered (joined es) ≡ true
 ordered-joined [] s k = refl
@@ -191,6 +192,7 @@ by_cells kind es fs c k kc s a t b f = same_lists (joined fs) (apply kind (joine
     round : (xs : Rows) → terms_list (plain_terms xs) ≡ xs
     round [] = refl
     round (x ∷ xs) = ap (λ ys. x ∷ ys) (round xs)
+
     at_held : (q : Term) (c' : Ordering) → term_cmp q k ≡ c' → found_in (match_ordering c' (lookup term_cmp q es) (Some (plain_terms (apply kind (found_in (lookup term_cmp k es)) c))) (lookup term_cmp q es))
         ≡ (if same (key_of_change c) (term q) then apply kind (at (joined es) (term q)) c else at (joined es) (term q))
     at_held q Less h = sym (at-joined es q s a) ∙ ap (λ z. if z then apply kind (at (joined es) (term q)) c else at (joined es) (term q)) (sym (ap (λ j. same j (term q)) kc ∙ unequal_from q k Less h (λ g. cc)))
@@ -200,8 +202,10 @@ by_cells kind es fs c k kc s a t b f = same_lists (joined fs) (apply kind (joine
         ∙ ap (λ z. apply kind z c) (sym (at-joined es k s a) ∙ ap (λ j. at (joined es) j) (sym one))
         ∙ ap (λ z. if z then apply kind (at (joined es) (term q)) c else at (joined es) (term q)) (sym (ap₂ (λ i j. same i j) kc one ∙ same_refl (term k)))
     at_held q Greater h = sym (at-joined es q s a) ∙ ap (λ z. if z then apply kind (at (joined es) (term q)) c else at (joined es) (term q)) (sym (ap (λ j. same j (term q)) kc ∙ unequal_from q k Greater h (λ g. cc)))
+
     cells_at : (q : Term) → at (joined fs) (term q) ≡ at (apply kind (joined es) c) (term q)
     cells_at q = at-joined fs q t b ∙ f q ∙ at_held q (term_cmp q k) refl ∙ sym (at-apply kind (joined es) c (term q) (ordered-joined es s a))
+
     cells : (q : PlainTerm) → at (joined fs) q ≡ at (apply kind (joined es) c) q
     cells q = subst (λ (j : PlainTerm). at (joined fs) j ≡ at (apply kind (joined es) c) j) (term_held q) (cells_at (held q))
 
@@ -211,11 +215,12 @@ pub joined-insert : (kind : Kind) (es : List Entry) (c : Change) (k : Term) (ts 
     → joined (insert_entry term_cmp (k, ts) es) ≡ apply kind (joined es) c
 joined-insert kind es c k ts kc s a is keyed =
     by_cells kind es (insert_entry term_cmp (k, ts) es) c k kc s a (ascends_insert term_total (k, ts) es s) (keyed_insert (k, ts) es keyed a)
-      (λ q. ap found_in (lookup_insert term_total (k, ts) es q s) ∙ inside q (term_cmp q k))
+    (λ q. ap found_in (lookup_insert term_total (k, ts) es q s) ∙ inside q (term_cmp q k))
   where
     round : (xs : Rows) → terms_list (plain_terms xs) ≡ xs
     round [] = refl
     round (x ∷ xs) = ap (λ ys. x ∷ ys) (round xs)
+
     inside : (q : Term) (c' : Ordering) → found_in (match_ordering c' (lookup term_cmp q es) (Some ts) (lookup term_cmp q es)) ≡ found_in (match_ordering c' (lookup term_cmp q es) (Some (plain_terms (apply kind (found_in (lookup term_cmp k es)) c))) (lookup term_cmp q es))
     inside q Less = refl
     inside q Equal = is ∙ sym (round (apply kind (found_in (lookup term_cmp k es)) c))
@@ -227,7 +232,7 @@ pub joined-remove : (kind : Kind) (es : List Entry) (c : Change) (k : Term) → 
     → joined (remove_entry term_cmp k es) ≡ apply kind (joined es) c
 joined-remove kind es c k kc s a is =
     by_cells kind es (remove_entry term_cmp k es) c k kc s a (ascends_remove term_cmp k es s) (keyed_remove k es a)
-      (λ q. ap found_in (lookup_remove term_total k es q s) ∙ inside q (term_cmp q k))
+    (λ q. ap found_in (lookup_remove term_total k es q s) ∙ inside q (term_cmp q k))
   where
     inside : (q : Term) (c' : Ordering) → found_in (match_ordering c' (lookup term_cmp q es) None (lookup term_cmp q es)) ≡ found_in (match_ordering c' (lookup term_cmp q es) (Some (plain_terms (apply kind (found_in (lookup term_cmp k es)) c))) (lookup term_cmp q es))
     inside q Less = refl
@@ -265,7 +270,7 @@ pub put_set : (es : List Entry) (k r : Term) (ts : PlainTerms) → term k ≡ ke
 put_set es k r ts rk o is = record {
   order = order_insert k ts es o keyed;
   list = joined-insert Set es (change.Write r) k ts (sym rk) o.ascends o.keyed
-    (is ∙ ap (insert (term r)) (sym (ap₂ (λ xs j. delete xs j) (sym (at-joined es k o.ascends o.keyed)) (sym rk) ∙ none_left (joined es) (term k)))) keyed;
+      (is ∙ ap (insert (term r)) (sym (ap₂ (λ xs j. delete xs j) (sym (at-joined es k o.ascends o.keyed)) (sym rk) ∙ none_left (joined es) (term k)))) keyed;
 }
   where
     keyed : IsKeyed (k, ts)
@@ -287,6 +292,7 @@ found_keyed es k o = ap (list_all (has_key (term k))) (sym (at-joined es k o.asc
     cases : (x : PlainTerm) (rows : Rows) → list_all (has_key (term k)) (at rows (term k)) ≡ true → (b : Bool) → has_key (term k) x ≡ b → list_all (has_key (term k)) (if b then x ∷ at rows (term k) else at rows (term k)) ≡ true
     cases x rows ih true e = and_both (has_key (term k) x) (list_all (has_key (term k)) (at rows (term k))) e ih
     cases x rows ih false e = ih
+
     all_filter : (rows : Rows) → list_all (has_key (term k)) (at rows (term k)) ≡ true
     all_filter [] = refl
     all_filter (x ∷ rows) = cases x rows (all_filter rows) (has_key (term k) x) refl
@@ -297,22 +303,29 @@ pub put_new : (es : List Entry) (k r : Term) (ts us : PlainTerms) → term k ≡
 put_new es k r ts us rk o before absent is = record {
   order = order_insert k us es o keyed;
   list = joined-insert Bag es (change.Write r) k us (sym rk) o.ascends o.keyed
-    (whole ∙ sym (ap (λ b. Rattle.tab_model.specs.Tables.put_bag (found_in (lookup term_cmp k es)) (term r) b) (ap (list_any (same (term r))) (sym found) ∙ sym absent) ∙ ended)) keyed;
+      (whole ∙ sym (ap (λ b. Rattle.tab_model.specs.Tables.put_bag (found_in (lookup term_cmp k es)) (term r) b) (ap (list_any (same (term r))) (sym found) ∙ sym absent) ∙ ended)) keyed;
 }
   where
     round : (xs : Rows) → terms_list (plain_terms xs) ≡ xs
     round [] = refl
     round (x ∷ xs) = ap (λ ys. x ∷ ys) (round xs)
+
     found : terms_list ts ≡ found_in (lookup term_cmp k es)
     found = ap terms_list before ∙ round (at (joined es) (term k)) ∙ at-joined es k o.ascends o.keyed
+
     whole : terms_list us ≡ found_in (lookup term_cmp k es) ++ term r ∷ []
     whole = is ∙ ap (λ xs. xs ++ term r ∷ []) found
+
     not_nil : (xs : Rows) → xs ++ term r ∷ [] ≡ [] → ⊥
     not_nil [] e = cc
     not_nil (x ∷ xs) e = cc
+
     keyed : IsKeyed (k, us)
-    keyed = record { keyed = ap (list_all (has_key (term k))) whole ∙ all_append (has_key (term k)) (found_in (lookup term_cmp k es)) (term r ∷ []) (found_keyed es k o) (row_keyed k r (sym rk));
-      filled = λ e. not_nil (found_in (lookup term_cmp k es)) (sym whole ∙ e) }
+    keyed = record {
+      keyed = ap (list_all (has_key (term k))) whole ∙ all_append (has_key (term k)) (found_in (lookup term_cmp k es)) (term r ∷ []) (found_keyed es k o) (row_keyed k r (sym rk));
+      filled = λ e. not_nil (found_in (lookup term_cmp k es)) (sym whole ∙ e);
+    }
+
     ended : insert (term r) (found_in (lookup term_cmp k es)) ≡ found_in (lookup term_cmp k es) ++ term r ∷ []
     ended = subst (λ (xs : Rows). insert (term r) xs ≡ xs ++ term r ∷ []) (ap (λ j. at (joined es) j) (sym rk) ∙ at-joined es k o.ascends o.keyed) (at_end (joined es) (term r))
 

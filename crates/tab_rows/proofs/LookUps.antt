@@ -38,7 +38,7 @@ module _ {K V : Type 0} {cmp : K → K → Ordering} (o : IsTotalOrder cmp) wher
       cases : lookup cmp q (insert_entry cmp x es) ≡ match_ordering (cmp q x.0) (lookup cmp q es) (Some x.1) (lookup cmp q es)
           → (a : Ordering) → cmp x.0 e.0 ≡ a → (b : Ordering) → cmp q x.0 ≡ b → (c : Ordering) → cmp q e.0 ≡ c
           → lookup cmp q (match_ordering a (x ∷ e ∷ es) (x ∷ es) (e ∷ insert_entry cmp x es)) ≡ match_ordering b (match_ordering c None (Some e.1) (lookup cmp q es)) (Some x.1) (match_ordering c None (Some e.1) (lookup cmp q es))
-      cases ih Less h Less k c g = ap (λ z. match_ordering z None (Some x.1) (lookup cmp q (e ∷ es))) k ∙ ap (λ z. match_ordering z None (Some e.1) (lookup cmp q es)) (sym (sym g ∙ o.trans q x.0 e.0 k h)) 
+      cases ih Less h Less k c g = ap (λ z. match_ordering z None (Some x.1) (lookup cmp q (e ∷ es))) k ∙ ap (λ z. match_ordering z None (Some e.1) (lookup cmp q es)) (sym (sym g ∙ o.trans q x.0 e.0 k h))
       cases ih Less h Equal k c g = ap (λ z. match_ordering z None (Some x.1) (lookup cmp q (e ∷ es))) k
       cases ih Less h Greater k c g = ap (λ z. match_ordering z None (Some x.1) (lookup cmp q (e ∷ es))) k ∙ ap (λ z. match_ordering z None (Some e.1) (lookup cmp q es)) g
       cases ih Equal h Less k c g = ap (λ z. match_ordering z None (Some x.1) (lookup cmp q es)) k ∙ ap (λ z. match_ordering z None (Some e.1) (lookup cmp q es)) (sym (sym g ∙ sym (equal_right o q x.0 e.0 h) ∙ k))

@@ -47,7 +47,10 @@ impl Rows {
     pub fn new(kind: Kind) -> Rows
         ensures { result ≡ (kind, []) }
     {
-        Rows { kind, records: Map::new() }
+        Rows {
+            kind,
+            records: Map::new(),
+        }
     }
 
     /// The same records, in constant time.

@@ -5,12 +5,11 @@ ghost use Rattle.tab_model.specs.declared.data.Operation.TheVariants as op;
 ghost use Rattle.tab_core.specs.Served.{serves_operation};
 ghost use Rattle.tab_core.specs.Performs.{Performs};
 
+use crate::operate::{Effect, Performed};
+use crate::tables::Tables;
 use std::alloc::{AllocError, Global};
 use tab_model::{Operation, Reply};
 use tab_term::{Atom, Term};
-
-use crate::operate::{Effect, Performed};
-use crate::tables::Tables;
 
 /// Performs an operation on tables, which stay as they were.
 pub fn perform(
@@ -28,12 +27,7 @@ pub fn perform(
     }
 }
 
-fn read(
-    alloc: Global,
-    tables: &Tables,
-    name: &Atom,
-    key: &Term,
-) -> Result<Performed, AllocError>
+fn read(alloc: Global, tables: &Tables, name: &Atom, key: &Term) -> Result<Performed, AllocError>
     ensures { IfOk result (Performs tables.now (op.Read name.now key.now)) }
 {
     let Some(table) = tables.get(name) else {

@@ -13,10 +13,11 @@ loop-session-preserved c =
     let inv = c.loop-session.invariant in
     let rest : into_iter_items c.loop-session.session-iterator ≡ (c.in-Some.session, c.in-Some.step) ∷ into_iter_items c.next.new.self = c.in-Some.ensures.steps.0 in
     let before = subst (λ xs. IsRunning c.args.self.now c.loop-session.self c.args.steps.items xs c.loop-session.replies.items) rest inv.0 in
-    let now = goes_on c.args.self.now c.loop-session.self c.step_reply-reply.new.self c.args.steps.items (into_iter_items c.next.new.self) (c.in-Some.session, c.in-Some.step) c.loop-session.replies.items c.step_reply-reply.result c.step_reply-reply.ensures.0 c.step_reply-reply.ensures.1 before in
-    (subst (λ rs. IsRunning c.args.self.now c.step_reply-reply.new.self c.args.steps.items (into_iter_items c.next.new.self) rs) (sym c.push_with_room.ensures.items) now,
+    let now = goes_on c.args.self.now c.loop-session.self c.step_reply-reply.new.self c.args.steps.items (into_iter_items c.next.new.self) (c.in-Some.session, c.in-Some.step) c.loop-session.replies.items c.step_reply-reply.result c.step_reply-reply.ensures.0 c.step_reply-reply.ensures.1 before in (
+      subst (λ rs. IsRunning c.args.self.now c.step_reply-reply.new.self c.args.steps.items (into_iter_items c.next.new.self) rs) (sym c.push_with_room.ensures.items) now,
       omega (arith, inv.1, c.push_with_room.ensures.room, c.push_with_room.ensures.len, ap length rest),
-      omega (arith, inv.2, ap length rest, c.in-Some.ensures.steps.1))
+      omega (arith, inv.2, ap length rest, c.in-Some.ensures.steps.1),
+    )
 
 pub returns-clause-run : goal.returns-clause-run
 returns-clause-run c =

@@ -5,7 +5,8 @@ use Rattle.tab_core.proofs.RunLemmas.{takes_of}
 use Rattle.tab_core.proofs.running.Core.step_reply.Goals as goal
 
 pub returns-in-Ok : goal.returns-in-Ok
-returns-in-Ok c =
-    (entries c.in-Ok.stepped.entry,
-      subst (λ r. Takes c.args.self.now (c.args.session, ask_of c.args.step) r (entries c.in-Ok.stepped.entry) c.step.new.self) (sym c.into_reply.ensures)
-        (takes_of c.args.self.now c.step.new.self c.args.session (ask_of c.args.step) c.in-Ok.stepped c.in-Ok.ensures.done))
+returns-in-Ok c = (
+  entries c.in-Ok.stepped.entry,
+  subst (λ r. Takes c.args.self.now (c.args.session, ask_of c.args.step) r (entries c.in-Ok.stepped.entry) c.step.new.self) (sym c.into_reply.ensures)
+      (takes_of c.args.self.now c.step.new.self c.args.session (ask_of c.args.step) c.in-Ok.stepped c.in-Ok.ensures.done),
+)
