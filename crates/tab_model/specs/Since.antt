@@ -1,4 +1,4 @@
--- What a log says of one table: its changes, its deletion, and the subscriptions that stand.
+-- What a log says of one table: its changes, its deletion, and the subscriptions that stand (this project's own).
 use Rattle.std.specs.Prelude.{◌≡◌, ℕ, List, [], ◌∷◌, ◌++◌, Bool, true, false, ◌&&◌, ◌||◌, ◌==◌, Some, is_some}
 use Rattle.std.specs.List.{filter, list_any}
 use Rattle.std.specs.Str.{bytes_eq}
