@@ -1,11 +1,15 @@
 -- What a log says of one table: its changes, its deletion, and the subscriptions that stand (this project's own).
-use Rattle.std.specs.Prelude.{◌≡◌, ℕ, List, [], ◌∷◌, ◌++◌, Bool, true, false, ◌&&◌, ◌||◌, ◌==◌, Some, is_some}
+use Rattle.std.specs.Prelude.{◌≡◌, ℕ, List, [], ◌∷◌, ◌++◌, Bool, true, false, ◌&&◌, ◌||◌, ◌==◌, Some, is_some, ◌<◌, filter_map}
 use Rattle.std.specs.List.{filter, list_any}
 use Rattle.std.specs.Str.{bytes_eq}
 use Rattle.tab_model.specs.declared.data.Change.{Change}
 use Rattle.tab_model.specs.declared.data.Level.{Level}
 use Rattle.tab_model.specs.declared.data.Entry.{Entry}
 use Rattle.tab_model.specs.declared.data.Entry.TheVariants.{Committed, Changed, Subscribed, Unsubscribed}
+use Rattle.tab_model.specs.declared.data.Item.{Item}
+use Rattle.tab_model.specs.declared.data.Item.TheVariants.{Began, Batch, Ended}
+use Rattle.tab_model.specs.Names.{terms_list}
+use Rattle.tab_model.specs.Shapes.{change_of}
 use Rattle.tab_model.specs.Operations.{table_of_change}
 use Rattle.tab_model.specs.Events.{surviving}
 use Rattle.tab_model.specs.Schemas.{removed}
@@ -86,3 +90,21 @@ pub record RowsSince (s : ℕ) (t : List ℕ) (l : Level) (log : List Entry) (ro
   pub table : Table
   pub stood : find (serial subscription.earlier) t ≡ Some table
   pub now : rows ≡ applied table.def.kind table.rows (changes_on t subscription.since)
+
+-- the changes of a table that items tell, read off the terms of their events
+abbrev pub changes_told : List ℕ → List Item → List Change
+changes_told t [] = []
+changes_told t (Began u l dump ∷ items) = changes_told t items
+changes_told t (Batch n es ∷ items) = filter (is_of t) (filter_map change_of (terms_list es)) ++ changes_told t items
+changes_told t (Ended u ending ∷ items) = changes_told t items
+
+-- the age of each commit is from 1 on
+abbrev pub HasAge : Entry → Type 0
+HasAge (Committed n s age xs rs over) = 0 < age
+HasAge (Changed c over) = Unit {0}
+HasAge (Subscribed s t l dump) = Unit {0}
+HasAge (Unsubscribed s t) = Unit {0}
+
+abbrev pub AllAged : List Entry → Type 0
+AllAged [] = Unit {0}
+AllAged (e ∷ es) = HasAge e × AllAged es
