@@ -16,6 +16,7 @@ use Rattle.tab_model.specs.Schemas.{removed}
 use Rattle.tab_model.specs.Tables.{Rows, applied}
 use Rattle.tab_model.specs.Worlds.{World, Table, find}
 use Rattle.tab_model.specs.Log.{has_session, is_removed, entered, serial}
+use Rattle.tab_model.specs.Slices.{slice_after}
 
 abbrev pub is_of : List ℕ → Change → Bool
 is_of t c = bytes_eq (table_of_change c) t
@@ -84,13 +85,6 @@ abbrev pub AllStood : World → List Entry → Type 0
 AllStood w [] = Unit {0}
 AllStood w (e ∷ es) = StoodFor w e × AllStood (entered w e) es
 
--- a table's rows are those of it at the beginning of a subscription that stands, with the changes since applied
-pub record RowsSince (s : ℕ) (t : List ℕ) (l : Level) (log : List Entry) (rows : Rows) : Type 0 where
-  pub subscription : StandsSince s t l log
-  pub table : Table
-  pub stood : find (serial subscription.earlier) t ≡ Some table
-  pub now : rows ≡ applied table.def.kind table.rows (changes_on t subscription.since)
-
 -- the changes of a table that items tell, read off the terms of their events
 abbrev pub changes_told : List ℕ → List Item → List Change
 changes_told t [] = []
@@ -108,3 +102,12 @@ HasAge (Unsubscribed s t) = Unit {0}
 abbrev pub AllAged : List Entry → Type 0
 AllAged [] = Unit {0}
 AllAged (e ∷ es) = HasAge e × AllAged es
+
+-- a table's rows are those of it at the beginning of a subscription that stands, with the changes since applied: those of
+-- the log, and those that the items owed since the begin mark tell
+pub record RowsSince (s : ℕ) (t : List ℕ) (l : Level) (log : List Entry) (rows : Rows) : Type 0 where
+  pub subscription : StandsSince s t l log
+  pub table : Table
+  pub stood : find (serial subscription.earlier) t ≡ Some table
+  pub now : rows ≡ applied table.def.kind table.rows (changes_on t subscription.since)
+  pub told : rows ≡ applied table.def.kind table.rows (changes_told t (slice_after s (subscription.earlier ++ Subscribed s t l subscription.dump ∷ []) subscription.since))

@@ -39,15 +39,17 @@ ghost use Rattle.tab_model.specs.Run.{Call, AllJoinEmpty, Begins, leaves, JoinsE
 /// For every schedule of steps: commits are numbered in order and were told what they are told alone in that order;
 /// the tables are those of running them so; each open transaction was told what it is told alone on the tables as they
 /// are now; and what a joined session has taken, followed by its outbox, is what the log owes it, each item once, in
-/// order. Each subscription was made on a table that stood then; and where one stands now, the changes of the commits
-/// since, applied to the table's rows at its beginning, give the table's rows now.
-#[tactic(auto, using(crate::proofs::Schedules::schedule_legal, crate::proofs::Schedules::schedule_tables, crate::proofs::Schedules::schedule_told, crate::proofs::Schedules::schedule_rows, crate::proofs::Stood::schedule_stood, crate::proofs::Stood::schedule_applied))]
+/// order. Each subscription was made on a table that stood then, and each commit's age is from 1 on. Where a subscription
+/// stands now, the changes of the commits since, and so those that the session's items since its begin mark tell, applied
+/// to the table's rows at its beginning, give the table's rows now.
+#[tactic(auto, using(crate::proofs::Schedules::schedule_legal, crate::proofs::Schedules::schedule_tables, crate::proofs::Schedules::schedule_told, crate::proofs::Schedules::schedule_rows, crate::proofs::Stood::schedule_stood, crate::proofs::Aged::schedule_aged, crate::proofs::Stood::schedule_applied))]
 pub fn every_schedule()
     ensures legal { (limits : Limits) (calls : List Call) → AllJoinEmpty calls → IsLegal [] 0 (log_of (new limits) calls) }
     ensures tables { (limits : Limits) (calls : List Call) → AllJoinEmpty calls → (after_all (new limits) calls).tables ≡ serial (log_of (new limits) calls) }
     ensures told { (limits : Limits) (calls : List Call) (n : ℕ) → let σ = after_all (new limits) calls in replies (start σ.tables (age_at σ n)) (moves_at σ n) ≡ told_at σ n }
     ensures rows { (limits : Limits) (calls : List Call) (n : ℕ) (s : Seat) → AllJoinEmpty calls → seat_at (after_all (new limits) calls).seats n ≡ Some s → taken_of n (new limits) calls ++ s.outbox.items ≡ slice n (log_of (new limits) calls) }
     ensures stood { (limits : Limits) (calls : List Call) → AllJoinEmpty calls → AllStood [] (log_of (new limits) calls) }
+    ensures aged { (limits : Limits) (calls : List Call) → AllAged (log_of (new limits) calls) }
     ensures applied { (limits : Limits) (calls : List Call) (n : ℕ) (s : Seat) (t : List ℕ) (l : Level) → AllJoinEmpty calls → seat_at (after_all (new limits) calls).seats n ≡ Some s → level_in s.watching t ≡ Some l → RowsSince n t l (log_of (new limits) calls) (rows_of (after_all (new limits) calls).tables t) }
 {}
 
