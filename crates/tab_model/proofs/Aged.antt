@@ -1,5 +1,5 @@
 -- Ages are from 1 on: of open transactions, and of each commit in the log of a schedule.
-use Rattle.std.proofs.Common.{◌≡◌, ℕ, ◌+◌, ◌<◌, List, [], ◌∷◌, ◌++◌, Bool, true, false, not, ◌&&◌, refl, sym, ap, ◌∙◌, subst, arith, length, Option, Some, None}
+use Rattle.std.proofs.Common.{◌≡◌, ℕ, ◌+◌, ◌<◌, List, [], ◌∷◌, ◌++◌, Bool, true, false, refl, sym, ◌∙◌, subst, arith, Option, Some, None}
 use Rattle.std.specs.Prelude.{◌==◌, if◌then◌else◌, map}
 use Rattle.tab_term.specs.declared.term.Term.{Term}
 use Rattle.tab_model.specs.declared.data.Operation.{Operation}
@@ -12,15 +12,15 @@ use Rattle.tab_model.specs.declared.data.Level.{Level}
 use Rattle.tab_model.specs.declared.data.Limits.{Limits}
 use Rattle.tab_model.specs.declared.data.Schema.{Schema}
 use Rattle.tab_model.specs.declared.data.Entry.{Entry}
-use Rattle.tab_model.specs.declared.data.Entry.TheVariants.{Committed, Changed, Subscribed, Unsubscribed}
+use Rattle.tab_model.specs.declared.data.Entry.TheVariants.{Subscribed, Unsubscribed}
 use Rattle.tab_model.specs.declared.data.Command.{Command}
 use Rattle.tab_model.specs.declared.data.Command.TheVariants as command
 use Rattle.tab_model.specs.Ages.{Answer, Granted, Wait, Die}
 use Rattle.tab_model.specs.Schemas.{removed}
 use Rattle.tab_model.specs.Alone.{told}
 use Rattle.tab_model.specs.Since.{HasAge, AllAged}
-use Rattle.tab_model.specs.State.{Transaction, Outbox, Watch, Seat, Queued, State, new, seat_at, mid_of}
-use Rattle.tab_model.specs.Outcome.{Ask, Join, Leave, Retry, Take, DoCommand, Outcome, outcome, with_transaction, change, without_seat, more, after_move, ends, made, decided, within, operate, retried, retry_in, retry, opened, nested, begin, one_shot, abort, given, batch_to, end_to, unwatched, commit_at, commit, events_now, schema_if, schema, marked, subscribe, unsubscribe, do_command, command_if, give, seated, fresh, join, unseated, by_seat}
+use Rattle.tab_model.specs.State.{Transaction, Watch, Seat, Queued, State, new, seat_at, mid_of}
+use Rattle.tab_model.specs.Outcome.{Ask, Join, Leave, Retry, Take, DoCommand, Outcome, outcome, with_transaction, change, without_seat, after_move, ends, decided, within, operate, retried, retry_in, retry, opened, nested, begin, one_shot, abort, given, batch_to, end_to, unwatched, commit_at, commit, events_now, schema_if, schema, marked, subscribe, unsubscribe, command_if, give, seated, fresh, join, unseated, by_seat}
 use Rattle.tab_model.specs.Run.{Call, outcome_of, entries, log_of}
 use Rattle.tab_model.proofs.SoundSteps.{given_same, unwatched_same}
 
@@ -102,6 +102,7 @@ module _ (σ : State) (ripe : Ripe σ) (s : Seat) where
       by_answer Granted = made_ripe (decided σ s t o Granted) t (Do o) _ _ a refl refl tt
       by_answer Wait = record { state = record { next = ripe.next; seats = ripe.seats }; entry = tt }
       by_answer Die = seat_is (decided σ s t o Die) _ a refl refl tt
+
       by_room : (b : Bool) → Ripens (within σ s t o b)
       by_room false = same _
       by_room true = by_answer _
@@ -113,6 +114,7 @@ module _ (σ : State) (ripe : Ripe σ) (s : Seat) where
       by_turn : (t : Transaction) (b : Bool) → 0 < t.age → Ripens (retried σ s t q.operation b)
       by_turn t false a = same reply.Waiting
       by_turn t true a = made_ripe (retried σ s t q.operation true) t (Do q.operation) _ _ a refl refl tt
+
       by_transaction : (x : Option Transaction) → Aged x → Ripens (retry_in σ s q.operation x)
       by_transaction None a = same reply.NotWaiting
       by_transaction (Some t) a = by_turn t _ a
@@ -151,7 +153,7 @@ module _ (σ : State) (ripe : Ripe σ) (s : Seat) where
         state = record {
           next = ripe.next;
           seats = aged_map (λ x. given (σ.commits + 1) over (batch_to (σ.commits + 1) (events_now σ t) x) x) (λ x. (given_same (σ.commits + 1) over (batch_to (σ.commits + 1) (events_now σ t) x) x).1)
-            (change σ.seats (with_transaction s None)) (aged_change σ.seats (with_transaction s None) ripe.seats tt);
+              (change σ.seats (with_transaction s None)) (aged_change σ.seats (with_transaction s None) ripe.seats tt);
         };
         entry = a;
       }
@@ -168,7 +170,7 @@ module _ (σ : State) (ripe : Ripe σ) (s : Seat) where
         state = record {
           next = ripe.next;
           seats = aged_map (λ x. given (σ.commits + 1) over (end_to (removed c) x) (unwatched (removed c) x))
-            (λ x. (given_same (σ.commits + 1) over (end_to (removed c) x) (unwatched (removed c) x)).1 ∙ (unwatched_same (removed c) x).1) σ.seats ripe.seats;
+              (λ x. (given_same (σ.commits + 1) over (end_to (removed c) x) (unwatched (removed c) x)).1 ∙ (unwatched_same (removed c) x).1) σ.seats ripe.seats;
         };
         entry = tt;
       }

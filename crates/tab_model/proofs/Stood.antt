@@ -203,7 +203,8 @@ schedule_applied limits calls n s t l empty here watched = by_table (find (seria
 
     now : (x : Table) → find (serial sub.earlier) t ≡ Some x → rows_of (after_all (new limits) calls).tables t ≡ applied x.def.kind x.rows (changes_on t sub.since)
     now x e = ap (λ w. rows_of w t) (tied limits calls empty).tables ∙ since_applies n t l log x (tied limits calls empty).legal sub e
-      ∙ ap (λ (o : Option Table). applied x.def.kind (rows_in o) (changes_on t sub.since)) e
+        ∙ ap (λ (o : Option Table). applied x.def.kind (rows_in o) (changes_on t sub.since)) e
+
     by_table : (o : Option Table) → find (serial sub.earlier) t ≡ o → is_some o ≡ true → RowsSince n t l log (rows_of (after_all (new limits) calls).tables t)
     by_table None e h = cc
     by_table (Some x) e h = record {

@@ -1,10 +1,8 @@
 -- The items since a subscription tell the changes since.
-use Rattle.std.proofs.Common.{◌≡◌, ℕ, ◌+◌, ◌<◌, List, [], ◌∷◌, ◌++◌, Bool, true, false, ◌||◌, ◌&&◌, not, refl, sym, ap, ◌∙◌, subst, append-nil, append_assoc, Option, Some, None}
+use Rattle.std.proofs.Common.{◌≡◌, ℕ, ◌<◌, List, [], ◌∷◌, ◌++◌, Bool, true, false, ◌||◌, refl, sym, ap, ◌∙◌, subst, append-nil, append_assoc, Option, Some, None}
 use Rattle.std.specs.Prelude.{if◌then◌else◌, ◌==◌}
 use Rattle.std.specs.Str.{bytes_eq}
 use Rattle.std.specs.List.{filter, list_any, filter_map, cons_option}
-use Rattle.std.proofs.lemmas.Bool.{false≢true}
-use Rattle.std.proofs.lemmas.Slice.Eq.{bytes_eq-Decides}
 use Rattle.tab_term.specs.Data.{PlainTerm}
 use Rattle.tab_model.specs.declared.data.Level.{Level}
 use Rattle.tab_model.specs.declared.data.Change.{Change}
@@ -16,15 +14,14 @@ use Rattle.tab_model.specs.declared.data.Entry.TheVariants.{Committed, Changed, 
 use Rattle.tab_model.specs.Names.{plain_terms, terms_list}
 use Rattle.tab_model.specs.Worlds.{World}
 use Rattle.tab_model.specs.Operations.{table_of_change, change_world}
-use Rattle.tab_model.specs.Alone.{start, replies}
 use Rattle.tab_model.specs.Events.{surviving, event_of, events}
 use Rattle.tab_model.specs.Schemas.{removed}
 use Rattle.tab_model.specs.Shapes.{shape, change_of}
-use Rattle.tab_model.specs.Log.{has_session, stands, in_force, in_force_from, entered, serial, serial_from, IsRight, IsLegal, count_after, commits_from}
+use Rattle.tab_model.specs.Log.{has_session, stands, in_force, in_force_from, entered, serial, IsRight, IsLegal, count_after, commits_from}
 use Rattle.tab_model.specs.Slices.{as_batch, shape_at, batch_for, ended_item, end_for, unless_over, owed, slice_after, slice, dump_of}
-use Rattle.tab_model.specs.Since.{is_of, changes_in, changes_on, deletes, overflows, unsubscribes, ends_it, subscribes, StandsSince, changes_told, HasAge, AllAged}
-use Rattle.tab_model.proofs.Seats.{in_force-push, serial-push, itself}
-use Rattle.tab_model.proofs.Given.{legal-rest, serial-append}
+use Rattle.tab_model.specs.Since.{is_of, changes_in, changes_on, ends_it, subscribes, StandsSince, changes_told, HasAge, AllAged}
+use Rattle.tab_model.proofs.Seats.{in_force-push, serial-push}
+use Rattle.tab_model.proofs.Given.{legal-rest}
 use Rattle.tab_model.proofs.InForce.{stands_on, own_entry}
 use Rattle.tab_model.proofs.ShapeLaws.{shape_tells}
 use Rattle.tab_model.proofs.Stay.{eq_names}
@@ -57,8 +54,10 @@ events_tell levels t l w age (c ∷ cs) h a k = cases (events_tell levels t l (c
   where
     rest : List PlainTerm
     rest = filter_map (λ (e : Event). shape_at (levels e.tab) e) (events (change_world w c) age cs)
+
     told_one : (m : Level) → change_of (shape m (event_of w age c)) ≡ Some c
     told_one m = shape_tells m (event_of w age c) (record { whole = k.0; table = refl; age = a })
+
     cases : filter (is_of t) (filter_map change_of rest) ≡ filter (is_of t) cs
         → (o : Option Level) → levels (table_of_change c) ≡ o → (b : Bool) → bytes_eq (table_of_change c) t ≡ b
         → filter (is_of t) (filter_map change_of (cons_option (shape_at o (event_of w age c)) rest)) ≡ (if b then c ∷ filter (is_of t) cs else filter (is_of t) cs)
@@ -76,12 +75,13 @@ entry_tells s t l before n (Committed m x age xs rs over) g r a h q =
     ap (λ b. changes_told t (unless_over b (batch_for (in_force s before) m (events (serial before) age (surviving xs rs))))) q
     ∙ batch_tells t m (filter_map (λ (e : Event). shape_at (in_force s before e.tab) e) (events (serial before) age (surviving xs rs)))
     ∙ events_tell (in_force s before) t l (serial before) age (surviving xs rs) h a
-        (subst (λ q. WholeAll (surviving xs q)) r.1 (surviving_whole (serial before) age xs g))
+    (subst (λ q. WholeAll (surviving xs q)) r.1 (surviving_whole (serial before) age xs g))
 entry_tells s t l before n (Changed c over) g r a h q = by_over (has_session over s) (removed c)
   where
     by_level : (u : List ℕ) (o : Option Level) → changes_told t (ended_item u o) ≡ []
     by_level u None = refl
     by_level u (Some m) = refl
+
     by_over : (b : Bool) (o : Option (List ℕ)) → changes_told t (unless_over b (end_for (in_force s before) o)) ≡ []
     by_over true o = refl
     by_over false None = refl
@@ -107,8 +107,8 @@ since_tells s t l before (e ∷ since) n g r a h q p =
     let next : serial (before ++ e ∷ []) ≡ entered (serial before) e = serial-push [] before e in
     told-append t (owed s before e) (slice_after s (before ++ e ∷ []) since)
     ∙ (λ i. entry_tells s t l before n e g r.0 a.0 h ended.0 i
-        ++ since_tells s t l (before ++ e ∷ []) since (count_after n e) (good_serial [] (before ++ e ∷ []) (λ m x f. cc)) (subst (λ (w : World). IsLegal w (count_after n e) since) (sym next) r.1) a.1
-             (in_force-push s t None before e ∙ ap (λ b. stands s t b e) h ∙ stands_on s t (Some l) e ended.0 anew.0) ended.1 anew.1 i)
+    ++ since_tells s t l (before ++ e ∷ []) since (count_after n e) (good_serial [] (before ++ e ∷ []) (λ m x f. cc)) (subst (λ (w : World). IsLegal w (count_after n e) since) (sym next) r.1) a.1
+    (in_force-push s t None before e ∙ ap (λ b. stands s t b e) h ∙ stands_on s t (Some l) e ended.0 anew.0) ended.1 anew.1 i)
 
 aged-rest : (xs ys : List Entry) → AllAged (xs ++ ys) → AllAged ys
 aged-rest [] ys a = a
@@ -122,10 +122,10 @@ items_tell s t l log legal aged i =
     let ages : AllAged (i.earlier ++ first ∷ i.since) = subst (λ (es : List Entry). AllAged es) i.is aged in
     let rest = legal-rest [] 0 i.earlier (first ∷ i.since) whole in
     since_tells s t l (i.earlier ++ first ∷ []) i.since (commits_from 0 i.earlier) (good_serial [] (i.earlier ++ first ∷ []) (λ m x f. cc))
-      (subst (λ (w : World). IsLegal w (commits_from 0 i.earlier) i.since) (sym (serial-push [] i.earlier first)) rest.1)
-      (aged-rest i.earlier (first ∷ i.since) ages).1
-      (in_force-push s t None i.earlier first ∙ own_entry s t (in_force_from s t None i.earlier) l i.dump)
-      i.not_ended i.not_anew
+    (subst (λ (w : World). IsLegal w (commits_from 0 i.earlier) i.since) (sym (serial-push [] i.earlier first)) rest.1)
+    (aged-rest i.earlier (first ∷ i.since) ages).1
+    (in_force-push s t None i.earlier first ∙ own_entry s t (in_force_from s t None i.earlier) l i.dump)
+    i.not_ended i.not_anew
 
 slice_after-append : (s : ℕ) (before xs ys : List Entry) → slice_after s before (xs ++ ys) ≡ slice_after s before xs ++ slice_after s (before ++ xs) ys
 slice_after-append s before [] ys = ap (λ (zs : List Entry). slice_after s zs ys) (sym (append-nil before))

@@ -1,9 +1,7 @@
 -- What survives a transaction is whole: its records have arity 3 or more and an atom first.
-use Rattle.std.proofs.Common.{◌≡◌, ℕ, ◌<◌, List, [], ◌∷◌, ◌++◌, Bool, true, false, ◌||◌, ◌&&◌, not, refl, sym, ap, ◌∙◌, subst, arith, length, Option, Some, None}
+use Rattle.std.proofs.Common.{◌≡◌, ℕ, ◌<◌, List, [], ◌∷◌, ◌++◌, Bool, true, false, ◌&&◌, refl, sym, ap, ◌∙◌, subst, arith, length, Option, Some, None}
 use Rattle.std.specs.Prelude.{◌==◌, if◌then◌else◌, is_some, nat_lt}
 use Rattle.std.specs.Str.{bytes_eq}
-use Rattle.std.specs.List.{list_all}
-use Rattle.std.proofs.lemmas.Bool.{false≢true}
 use Rattle.std.proofs.lemmas.Bool.Decides.{nat_tests}
 use Rattle.tab_term.specs.Data.{PlainTerm, int, atom, tuple, list, bin, map, PlainTerms, none, one_more, count}
 use Rattle.tab_term.specs.Same.{same}
@@ -14,18 +12,17 @@ use Rattle.tab_model.specs.declared.data.Operation.TheVariants as op
 use Rattle.tab_model.specs.declared.data.Move.{Move}
 use Rattle.tab_model.specs.declared.data.Move.TheVariants.{Do, Open, Close, Undo}
 use Rattle.tab_model.specs.declared.data.Change.{Change}
-use Rattle.tab_model.specs.declared.data.Change.TheVariants as change
 use Rattle.tab_model.specs.declared.data.Reply.{Reply}
 use Rattle.tab_model.specs.declared.data.Reply.TheVariants as reply
 use Rattle.tab_model.specs.declared.data.Schema.{Schema}
 use Rattle.tab_model.specs.declared.data.Schema.TheVariants.{Create, Remove, AddIndex, DelIndex}
 use Rattle.tab_model.specs.declared.data.Entry.{Entry}
 use Rattle.tab_model.specs.declared.data.Entry.TheVariants.{Committed, Changed, Subscribed, Unsubscribed}
-use Rattle.tab_model.specs.Definitions.{Parsed, Good, Bad, fits_def, fits_head, are_different, good_names, atoms_in, attributes_in, kind_in, value_of, default_names, first_fault, bad_option, indexed, with_index, with_names, without_fault, parse_options, position}
+use Rattle.tab_model.specs.Definitions.{Parsed, Good, Bad, fits_def, are_different, good_names, atoms_in, attributes_in, kind_in, value_of, default_names, first_fault, bad_option, indexed, with_index, with_names, without_fault, parse_options, position}
 use Rattle.tab_model.specs.Tables.{apply}
 use Rattle.tab_model.specs.Worlds.{World, Table, name_of, find, place, without, with_rows, with_def}
-use Rattle.tab_model.specs.Operations.{table_of, failure_in, failure, change_of_op, table_of_change, change_table, change_world, change_by, effect, answer}
-use Rattle.tab_model.specs.Alone.{Mid, start, forgotten, back_to, back, next, told, after, replies}
+use Rattle.tab_model.specs.Operations.{table_of, failure_in, failure, change_of_op, table_of_change, change_table, change_world, change_by, answer}
+use Rattle.tab_model.specs.Alone.{Mid, start, forgotten, back_to, back, next, after, replies}
 use Rattle.tab_model.specs.Events.{drop_level, top_level, is_failure, with_change, survivors, surviving}
 use Rattle.tab_model.specs.Schemas.{schema_effect, create_parsed, add_at, del_at, add_effect, del_effect}
 use Rattle.tab_model.specs.Log.{entered, serial_from}
@@ -71,6 +68,7 @@ names_good (Some ms) names h = cases (nat_lt 1 (length ms)) refl (nat_lt (length
   where
     more : (k : ℕ) → nat_lt 1 k ≡ true → 1 < k
     more k e = grind (arith, nat_tests)
+
     cases : (a : Bool) → nat_lt 1 (length ms) ≡ a → (b : Bool) → (if a && b then Some ms else None) ≡ Some names → 1 < length names
     cases true e true f = let same : ms ≡ names = cc in subst (λ (z : List (List ℕ)). 1 < length z) same (more (length ms) e)
     cases true e false f = cc
@@ -239,8 +237,8 @@ wholes : (cur : List Change) (saved : List (List Change)) (m : Mid) (xs : List M
 wholes cur saved m [] g h k = h
 wholes cur saved m (Do o ∷ xs) g h k =
     by_case (is_failure (Some (answer m.now o))) (reply_tells (find m.now (table_of o)) o)
-      (wholes (top_level saved) (drop_level saved) (next m (Do o)) xs (good_next m (Do o) g) (whole_top saved k) (whole_drop saved k))
-      (λ e. wholes (with_change cur (change_of_op o)) saved (next m (Do o)) xs (good_next m (Do o) g) (whole_with cur (change_of_op o) h (op_whole (find m.now (table_of o)) o (λ t f. g.now (table_of o) t f) e)) k)
+    (wholes (top_level saved) (drop_level saved) (next m (Do o)) xs (good_next m (Do o) g) (whole_top saved k) (whole_drop saved k))
+    (λ e. wholes (with_change cur (change_of_op o)) saved (next m (Do o)) xs (good_next m (Do o) g) (whole_with cur (change_of_op o) h (op_whole (find m.now (table_of o)) o (λ t f. g.now (table_of o) t f) e)) k)
   where
     by_case : (a : Bool) → a ≡ is_some (failure m.now o)
         → WholeAll (survivors (top_level saved) (drop_level saved) xs (replies (next m (Do o)) xs))
