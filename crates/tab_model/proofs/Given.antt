@@ -170,7 +170,7 @@ pub serial-append : (w : World) (xs ys : List Entry) → serial_from w (xs ++ ys
 serial-append w [] ys = refl
 serial-append w (x ∷ xs) ys = serial-append (entered w x) xs ys
 
-legal-rest : (w : World) (n : ℕ) (xs ys : List Entry) → IsLegal w n (xs ++ ys) → IsLegal (serial_from w xs) (commits_from n xs) ys
+pub legal-rest : (w : World) (n : ℕ) (xs ys : List Entry) → IsLegal w n (xs ++ ys) → IsLegal (serial_from w xs) (commits_from n xs) ys
 legal-rest w n [] ys l = l
 legal-rest w n (x ∷ xs) ys l = legal-rest (entered w x) (count_after n x) xs ys l.1
 

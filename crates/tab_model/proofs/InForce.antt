@@ -22,7 +22,7 @@ and_parts true b h = (refl, h)
 and_parts false b h = cc
 
 -- an entry that neither ends nor begins it leaves it
-stands_on : (s : ℕ) (t : List ℕ) (b : Option Level) (e : Entry) → ends_it s t e ≡ false → subscribes s t e ≡ false → stands s t b e ≡ b
+pub stands_on : (s : ℕ) (t : List ℕ) (b : Option Level) (e : Entry) → ends_it s t e ≡ false → subscribes s t e ≡ false → stands s t b e ≡ b
 stands_on s t b (Committed n x age xs rs over) h g = ap (λ c. kept_if (not c) b) h
 stands_on s t b (Changed c over) h g = ap (λ z. kept_if (not z) b) h
 stands_on s t b (Subscribed x u l dump) h g = ap (λ z. if z then Some l else b) g
@@ -39,7 +39,7 @@ in_force-append : (s : ℕ) (t : List ℕ) (b : Option Level) (xs ys : List Entr
 in_force-append s t b [] ys = refl
 in_force-append s t b (x ∷ xs) ys = in_force-append s t (stands s t b x) xs ys
 
-own_entry : (s : ℕ) (t : List ℕ) (b : Option Level) (l : Level) (dump : Bool) → stands s t b (Subscribed s t l dump) ≡ Some l
+pub own_entry : (s : ℕ) (t : List ℕ) (b : Option Level) (l : Level) (dump : Bool) → stands s t b (Subscribed s t l dump) ≡ Some l
 own_entry s t b l dump = λ i. if (itself s i) && ((bytes_eq-Decides t t).1 refl i) then Some l else b
 
 pub stands_in_force : (s : ℕ) (t : List ℕ) (l : Level) (log : List Entry) → StandsSince s t l log → in_force s log t ≡ Some l

@@ -23,6 +23,8 @@ use Rattle.tab_model.specs.Outcome.{Ask, Join, Leave, Retry, Take, DoCommand, Ou
 use Rattle.tab_model.specs.Run.{Call, outcome_of, after_all, entries, log_of, taken_now, AllJoinEmpty, IsTied}
 use Rattle.tab_model.proofs.Given.{since_applies, serial-append}
 use Rattle.tab_model.proofs.InForce.{in_force_stands}
+use Rattle.tab_model.proofs.Told.{items_tell}
+use Rattle.tab_model.proofs.Aged.{schedule_aged}
 use Rattle.tab_model.proofs.SoundSteps.{step_sound}
 use Rattle.tab_model.proofs.TiedSteps.{step_tied}
 use Rattle.tab_model.proofs.Schedules.{new_sound, new_tied, tied}
@@ -199,14 +201,18 @@ schedule_applied limits calls n s t l empty here watched = by_table (find (seria
     stood : is_some (find (serial sub.earlier) t) ≡ true
     stood = (stood-rest [] sub.earlier (Subscribed n t l sub.dump ∷ sub.since) all).0
 
+    now : (x : Table) → find (serial sub.earlier) t ≡ Some x → rows_of (after_all (new limits) calls).tables t ≡ applied x.def.kind x.rows (changes_on t sub.since)
+    now x e = ap (λ w. rows_of w t) (tied limits calls empty).tables ∙ since_applies n t l log x (tied limits calls empty).legal sub e
+        ∙ ap (λ (o : Option Table). applied x.def.kind (rows_in o) (changes_on t sub.since)) e
+
     by_table : (o : Option Table) → find (serial sub.earlier) t ≡ o → is_some o ≡ true → RowsSince n t l log (rows_of (after_all (new limits) calls).tables t)
     by_table None e h = cc
     by_table (Some x) e h = record {
       subscription = sub;
       table = x;
       stood = e;
-      now = ap (λ w. rows_of w t) (tied limits calls empty).tables ∙ since_applies n t l log x (tied limits calls empty).legal sub e
-          ∙ ap (λ (o : Option Table). applied x.def.kind (rows_in o) (changes_on t sub.since)) e;
+      now = now x e;
+      told = now x e ∙ ap (applied x.def.kind x.rows) (sym (items_tell n t l log (tied limits calls empty).legal (schedule_aged limits calls) sub));
     }
 
 pub schedule_stood : (limits : Limits) (calls : List Call) → AllJoinEmpty calls → AllStood [] (log_of (new limits) calls)

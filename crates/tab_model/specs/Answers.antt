@@ -1,4 +1,5 @@
--- What whole-table reads answer on rows in canonical order.
+-- What whole-table reads answer on rows in canonical order (Mnesia Reference Manual, index_read/3 and match_object/1; their
+-- order is this project's own rule).
 use Rattle.std.specs.Prelude.{ℕ, suc, zero, ◌-◌}
 use Rattle.std.specs.List.{filter}
 use Rattle.tab_term.specs.Data.{PlainTerm, int, atom, tuple, list, bin, map, PlainTerms, none, one_more}
@@ -20,8 +21,10 @@ element p (list ts) = list none
 element p (bin b) = list none
 element p (map ps) = list none
 
+-- the records with a value at an indexed position (index_read/3)
 abbrev pub index_read : Rows → ℕ → PlainTerm → Rows
 index_read rows p x = filter (λ r. same (element p r) x) rows
 
+-- the records that match a pattern (match_object/1)
 abbrev pub match_object : Rows → PlainTerm → Rows
 match_object rows p = filter (matches p) rows

@@ -1,4 +1,5 @@
--- Definitions of tables: options of create_table and their faults, positions, which records fit.
+-- Definitions of tables: options of create_table and their faults, positions, which records fit (Mnesia Reference Manual,
+-- create_table/2; that other options are refused, and the order of faults: this project's own rule).
 use Rattle.std.specs.Prelude.{ℕ, ◌+◌, List, [], ◌∷◌, Bool, true, false, not, ◌&&◌, ◌||◌, ◌==◌, nat_lt, length, if◌then◌else◌, Option, Some, None, pos, codes, is_some}
 use Rattle.std.specs.List.{list_any}
 use Rattle.std.specs.Str.{bytes_eq}
@@ -18,12 +19,14 @@ abbrev pub after_key : List (List ℕ) → List (List ℕ)
 after_key [] = []
 after_key (k ∷ names) = names
 
+-- the position, 3 or more, that a term names
 abbrev pub position : TableDef → PlainTerm → Option ℕ
 position def t = position_from 3 (after_key def.attributes) t
 
 abbrev pub has_number : List ℕ → ℕ → Bool
 has_number ps p = list_any (λ q. q == p) ps
 
+-- whether there is an index at a position
 abbrev pub is_indexed : TableDef → Option ℕ → Bool
 is_indexed def None = false
 is_indexed def (Some p) = has_number def.indexes p
@@ -32,6 +35,7 @@ abbrev pub fits_head : TableDef → PlainTerms → Bool
 fits_head def none = false
 fits_head def (one_more t ts) = same t (atom def.name) && (count ts == length def.attributes)
 
+-- a record fits: its first element is the table's name, its arity one more than the attributes
 abbrev pub fits_def : TableDef → PlainTerm → Bool
 fits_def def (tuple ts) = fits_head def ts
 fits_def def (int z) = false
@@ -138,6 +142,7 @@ abbrev pub are_different : List (List ℕ) → Bool
 are_different [] = true
 are_different (n ∷ names) = not (has_name names n) && are_different names
 
+-- 2 to 255 different names
 abbrev pub good_names : Option (List (List ℕ)) → Option (List (List ℕ))
 good_names None = None
 good_names (Some names) = if nat_lt 1 (length names) && (nat_lt (length names) 256 && are_different names) then Some names else None
@@ -201,5 +206,6 @@ abbrev pub without_fault : List ℕ → PlainTerms → Option PlainTerm → Pars
 without_fault tab os (Some o) = Bad o
 without_fault tab os None = with_names tab os (attributes_in (value_of tab (codes "attributes") default_names os))
 
+-- the definition that the options of create_table give, or the first fault
 abbrev pub parse_options : List ℕ → PlainTerms → Parsed
 parse_options tab os = without_fault tab os (bad_option tab [] os)

@@ -1,4 +1,5 @@
--- The updates that survive a transaction, and their events.
+-- The updates that survive a transaction, and their events (Mnesia User's Guide, "Mnesia Event Handling"; one event for each
+-- update, in order, none merged: this project's own rule).
 use Rattle.std.specs.Prelude.{ℕ, List, [], ◌∷◌, ◌++◌, Bool, true, false, if◌then◌else◌, Option, Some, None}
 use Rattle.tab_model.specs.declared.data.Move.{Move}
 use Rattle.tab_model.specs.declared.data.Move.TheVariants.{Do, Open, Close, Undo}
@@ -19,6 +20,7 @@ abbrev pub top_level : List (List Change) → List Change
 top_level [] = []
 top_level (x ∷ xs) = x
 
+-- the replies of an operation that ends its level
 abbrev pub is_failure : Option Reply → Bool
 is_failure (Some (reply.NoTable t)) = true
 is_failure (Some (reply.BadType t r)) = true
@@ -39,16 +41,20 @@ survivors cur saved (Open ∷ xs) (r ∷ rs) = survivors cur (cur ∷ saved) xs 
 survivors cur saved (Close ∷ xs) (r ∷ rs) = survivors cur (drop_level saved) xs rs
 survivors cur saved (Undo ∷ xs) (r ∷ rs) = survivors (top_level saved) (drop_level saved) xs rs
 
+-- those of a whole transaction
 abbrev pub surviving : List Move → List (Option Reply) → List Change
 surviving xs rs = survivors [] [] xs rs
 
+-- the event of a change, with the records of its key just before
 abbrev pub event_of : World → ℕ → Change → Event
 event_of w age c = record { tab = table_of_change c; change = c; old = plain_terms (cell w (table_of_change c) (key_of_change c)); age = age }
 
+-- the events of changes, made in turn
 abbrev pub events : World → ℕ → List Change → List Event
 events w age [] = []
 events w age (c ∷ cs) = event_of w age c ∷ events (change_world w c) age cs
 
+-- the tables after changes, in turn
 abbrev pub change_all : World → List Change → World
 change_all w [] = w
 change_all w (c ∷ cs) = change_all (change_world w c) cs

@@ -1,4 +1,5 @@
--- Locks: what an operation needs, which conflict, which cover.
+-- Locks: what an operation needs, which conflict, which cover (Mnesia User's Guide, "Locking"; that an index_read locks the
+-- table, and a pattern its key: Mnesia Reference Manual, index_read/3 and match_object/1).
 use Rattle.std.specs.Prelude.{◌≡◌, ℕ, List, [], ◌∷◌, Bool, true, false, not, ◌&&◌, ◌||◌, if◌then◌else◌}
 use Rattle.std.specs.List.{list_any}
 use Rattle.std.specs.Str.{bytes_eq}
@@ -26,6 +27,7 @@ pub record Lock : Type 0 where
 abbrev pub lock : List ℕ → Part → Bool → Lock
 lock t p w = record { table = t; part = p; write = w }
 
+-- the lock that an operation asks for, before it looks at the table
 abbrev pub needs : Operation → Lock
 needs (op.Read t k) = lock t (Key (term k)) false
 needs (op.ReadForWrite t k) = lock t (Key (term k)) true
@@ -38,6 +40,7 @@ needs (op.AllKeys t) = lock t All false
 needs (op.ReadLockTable t) = lock t All false
 needs (op.WriteLockTable t) = lock t All true
 
+-- the locks of a transaction: those of all its operations, also of failed and undone ones
 abbrev pub locks_of : List Move → List Lock
 locks_of [] = []
 locks_of (Do o ∷ xs) = needs o ∷ locks_of xs
@@ -45,6 +48,7 @@ locks_of (Open ∷ xs) = locks_of xs
 locks_of (Close ∷ xs) = locks_of xs
 locks_of (Undo ∷ xs) = locks_of xs
 
+-- two parts of one table have a key in common
 abbrev pub meets : Part → Part → Bool
 meets All b = true
 meets (Key j) All = true
@@ -54,6 +58,7 @@ meets (Key j) (Key k) = same j k
 abbrev pub conflict : Lock → Lock → Bool
 conflict a b = bytes_eq a.table b.table && ((a.write || b.write) && meets a.part b.part)
 
+-- a part has all of another
 abbrev pub contains : Part → Part → Bool
 contains All b = true
 contains (Key j) All = false

@@ -1,4 +1,4 @@
--- Words of terms, as bytes; their order and equality.
+-- Words of terms, as bytes; their order and equality (this project's own rule: names and terms are ordered by their bytes).
 use Rattle.std.specs.Prelude.{ℕ, List, [], ◌∷◌, Bool}
 use Rattle.std.specs.List.{list_any}
 use Rattle.std.specs.Ordering.{nat_cmp, is_lt}

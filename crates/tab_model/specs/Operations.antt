@@ -1,4 +1,5 @@
--- What each operation asks of one table, alone.
+-- What each operation asks of one table, alone (Mnesia Reference Manual, the functions of those names; no_exists, bad_type
+-- and no_index as failures of the operation: this project's own profile of the manual's aborts).
 use Rattle.std.specs.Prelude.{ℕ, List, [], if◌then◌else◌, Option, Some, None}
 use Rattle.tab_term.specs.Data.{PlainTerm, int, atom, tuple, list, bin, map, PlainTerms, none, one_more}
 use Rattle.tab_term.specs.View.{term}
@@ -34,6 +35,7 @@ tag (list ts) = []
 tag (bin b) = []
 tag (map ps) = []
 
+-- the table that an operation speaks of
 abbrev pub table_of : Operation → List ℕ
 table_of (op.Read t k) = t
 table_of (op.ReadForWrite t k) = t
@@ -46,6 +48,7 @@ table_of (op.AllKeys t) = t
 table_of (op.ReadLockTable t) = t
 table_of (op.WriteLockTable t) = t
 
+-- the update that an operation makes, if it makes one
 abbrev pub change_of_op : Operation → Option Change
 change_of_op (op.Read t k) = None
 change_of_op (op.ReadForWrite t k) = None
@@ -58,6 +61,7 @@ change_of_op (op.AllKeys t) = None
 change_of_op (op.ReadLockTable t) = None
 change_of_op (op.WriteLockTable t) = None
 
+-- a record or pattern that does not fit the definition
 abbrev pub bad_type : TableDef → Term → Option Reply
 bad_type def r = if fits_def def (term r) then None else Some (reply.BadType def.name r)
 
@@ -95,14 +99,17 @@ abbrev pub failure_in : Option Table → Operation → Option Reply
 failure_in None o = Some (reply.NoTable (table_of o))
 failure_in (Some t) o = failure_at t o
 
+-- the failure of an operation on all tables
 abbrev pub failure : World → Operation → Option Reply
 failure w o = failure_in (find w (table_of o)) o
 
+-- the table that a change is made in
 abbrev pub table_of_change : Change → List ℕ
 table_of_change (change.Write r) = tag (term r)
 table_of_change (change.Delete t k) = t
 table_of_change (change.DeleteObject r) = tag (term r)
 
+-- the key that a change is made at
 abbrev pub key_of_change : Change → PlainTerm
 key_of_change (change.Write r) = key (term r)
 key_of_change (change.Delete t k) = term k
@@ -120,6 +127,7 @@ abbrev pub change_by : World → Option Change → World
 change_by w None = w
 change_by w (Some c) = change_world w c
 
+-- the tables after an operation that does not fail
 abbrev pub effect : World → Operation → World
 effect w o = change_by w (change_of_op o)
 
@@ -131,5 +139,6 @@ abbrev pub answer_or : Option Reply → Option Table → Operation → Reply
 answer_or (Some r) t o = r
 answer_or None t o = answer_in t o
 
+-- the reply of an operation, failures too
 abbrev pub answer : World → Operation → Reply
 answer w o = answer_or (failure w o) (find w (table_of o)) o

@@ -1,4 +1,6 @@
--- What a step does: the next state, the reply, and the entry of the log.
+-- What a step does: the next state, the reply, and the entry of the log. The order of the checks, the refusals, the numbers
+-- of commits, the posts and their overflow are this project's own rules; transactions, locks and subscriptions follow the
+-- Mnesia User's Guide, "Transactions and Other Access Contexts" and "Mnesia Event Handling".
 use Rattle.std.specs.Prelude.{ℕ, suc, ◌+◌, ◌-◌, ◌^◌, min, List, [], ◌∷◌, ◌++◌, Bool, true, false, not, ◌&&◌, ◌==◌, nat_lt, nat_le, if◌then◌else◌, Option, Some, None, is_some, map, length}
 use Rattle.tab_term.specs.declared.term.Term.{Term}
 use Rattle.tab_model.specs.declared.data.Operation.{Operation}
@@ -72,6 +74,7 @@ with_queue σ q = record { tables = σ.tables; seats = σ.seats; queue = q; next
 abbrev pub pushed : Outbox → List Item → Outbox
 pushed b items = record { items = b.items ++ items; refusals = b.refusals; capacity = b.capacity }
 
+-- a post refuses: its count rises, up to the greatest 64 bit number
 abbrev pub refused : Outbox → Outbox
 refused b = record { items = b.items; refusals = min (b.refusals + 1) (2 ^ 64 - 1); capacity = b.capacity }
 
@@ -99,9 +102,11 @@ abbrev pub made : State → Seat → Transaction → Move → Reply → Outcome
 made σ s transaction x r =
     nothing (with_seat σ (with_transaction s (after_move transaction x (told (mid_of σ transaction) x) (ends (mid_of σ transaction) x)))) (said (told (mid_of σ transaction) x) r)
 
+-- a restart: the transaction's operations are gone, its age stays
 abbrev pub emptied : Transaction → Transaction
 emptied transaction = record { age = transaction.age; moves = []; told = [] }
 
+-- an operation after its lock is decided
 abbrev pub decided : State → Seat → Transaction → Operation → Answer → Outcome
 decided σ s transaction o Granted = made σ s transaction (Do o) reply.Done
 decided σ s transaction o Wait = nothing (with_queue σ (σ.queue ++ record { session = s.number; age = transaction.age; operation = o } ∷ [])) reply.Waiting
@@ -111,6 +116,7 @@ abbrev pub within : State → Seat → Transaction → Operation → Bool → Ou
 within σ s transaction o false = nothing σ (reply.SystemLimit limit.Operations)
 within σ s transaction o true = decided σ s transaction o (decide (ages_of σ) (transaction.age, needs o))
 
+-- an operation
 abbrev pub operate : State → Seat → Operation → Option Transaction → Outcome
 operate σ s o None = nothing σ reply.NoTransaction
 operate σ s o (Some transaction) = within σ s transaction o (nat_lt (count_moves transaction.moves) σ.limits.operations)
@@ -123,6 +129,7 @@ abbrev pub retry_in : State → Seat → Operation → Option Transaction → Ou
 retry_in σ s o None = nothing σ reply.NotWaiting
 retry_in σ s o (Some transaction) = retried σ s transaction o (can_retry (ages_of σ) (transaction.age, needs o))
 
+-- a Retry answers the queued operation
 abbrev pub retry : State → Seat → Option Queued → Outcome
 retry σ s None = nothing σ reply.NotWaiting
 retry σ s (Some q) = retry_in σ s q.operation s.transaction
@@ -141,6 +148,7 @@ nested σ s transaction false b = nothing σ (reply.SystemLimit limit.Nesting)
 nested σ s transaction true false = nothing σ (reply.SystemLimit limit.Operations)
 nested σ s transaction true true = made σ s transaction Open reply.Done
 
+-- level 1 with the next age, or a child level
 abbrev pub begin : State → Seat → Option Transaction → Outcome
 begin σ s None = open_first σ s
 begin σ s (Some transaction) = nested σ s transaction (nat_lt (suc (length (mid_of σ transaction).saved)) σ.limits.nesting) (nat_lt (count_moves transaction.moves) σ.limits.operations)
@@ -149,6 +157,7 @@ abbrev pub one_shot : State → Seat → Option Transaction → Outcome
 one_shot σ s None = open_first σ s
 one_shot σ s (Some transaction) = nothing σ reply.InTransaction
 
+-- the one command that is taken while a request is queued: it drops it
 abbrev pub abort : State → Seat → Term → Option Transaction → Outcome
 abort σ s r None = nothing σ reply.NoTransaction
 abort σ s r (Some transaction) = made (with_queue σ (without_request σ.queue s.number)) s transaction Undo (reply.UserAbort r)
@@ -157,6 +166,7 @@ abort σ s r (Some transaction) = made (with_queue σ (without_request σ.queue 
 abbrev pub overflowed : ℕ → Seat → Seat
 overflowed n s = record { number = s.number; transaction = s.transaction; watching = []; outbox = refused s.outbox; overflow = Some n }
 
+-- an item of a commit or a deletion: who refuses overflows, and its subscriptions end
 abbrev pub given : ℕ → List ℕ → List Item → Seat → Seat
 given n over items s =
     if has_session over s.number then overflowed n s
@@ -165,6 +175,7 @@ given n over items s =
 abbrev pub batch_to : ℕ → List Event → Seat → List Item
 batch_to n es s = batch_for (level_in s.watching) n es
 
+-- an outermost commit: the number, the tables, the batches, and the locks gone
 abbrev pub commit_now : State → List ℕ → Seat → Transaction → List Event → Outcome
 commit_now σ over s transaction es =
     record {
@@ -181,9 +192,11 @@ commit_now σ over s transaction es =
       entry = Some (Committed (σ.commits + 1) s.number transaction.age transaction.moves transaction.told over);
     }
 
+-- the events that a commit would give
 abbrev pub events_now : State → Transaction → List Event
 events_now σ transaction = events σ.tables transaction.age (surviving transaction.moves transaction.told)
 
+-- a child's commit, or the outermost
 abbrev pub commit_at : State → List ℕ → Seat → Transaction → Bool → Outcome
 commit_at σ over s transaction false = made σ s transaction Close reply.Done
 commit_at σ over s transaction true = commit_now σ over s transaction (events_now σ transaction)
@@ -200,6 +213,7 @@ unwatched (Some t) s = record { number = s.number; transaction = s.transaction; 
 abbrev pub end_to : Option (List ℕ) → Seat → List Item
 end_to t s = end_for (level_in s.watching) t
 
+-- a schema command that is done
 abbrev pub schema_now : State → List ℕ → Schema → Outcome
 schema_now σ over c =
     record {
@@ -216,6 +230,7 @@ schema_now σ over c =
       entry = Some (Changed c over);
     }
 
+-- the limit of tables
 abbrev pub has_room : State → Schema → Bool
 has_room σ (Create t os) = nat_lt (length σ.tables) σ.limits.tables
 has_room σ (Remove t) = true
@@ -263,6 +278,7 @@ marked σ false s ws x e =
       entry = Some e;
     }
 
+-- what refuses a subscription but its post: an untold overflow, no such table, subscribed already
 abbrev pub subscribe_refusal : State → Seat → List ℕ → Option Reply
 subscribe_refusal σ s t =
     if is_some s.overflow then Some reply.OverflowUntold
@@ -299,6 +315,7 @@ abbrev pub command_if : State → List ℕ → Seat → Command → Bool → Out
 command_if σ over s c true = nothing σ reply.WaitingNow
 command_if σ over s c false = do_command σ over s c
 
+-- a Take: the next item, else an overflow, which is told once, else empty
 abbrev pub give : State → Seat → List Item → Option ℕ → Outcome
 give σ s (x ∷ xs) l =
     nothing (with_seat σ (record { number = s.number; transaction = s.transaction; watching = s.watching; outbox = record { items = xs; refusals = s.outbox.refusals; capacity = s.outbox.capacity }; overflow = s.overflow })) (reply.Taken x)
@@ -310,6 +327,7 @@ abbrev pub takable : Outbox → Option ℕ → List Item
 takable b None = []
 takable b (Some c) = b.items
 
+-- a session leaves: its transaction, locks, request, subscriptions and items are gone
 abbrev pub leave : State → Seat → Outcome
 leave σ s = nothing (record { tables = σ.tables; seats = without_seat σ.seats s.number; queue = without_request σ.queue s.number; next_age = σ.next_age; commits = σ.commits; greatest = σ.greatest; limits = σ.limits }) reply.Done
 
@@ -323,6 +341,7 @@ seated σ over s (DoCommand c) = command_if σ over s c (is_waiting σ s.number 
 abbrev pub fresh : ℕ → Outbox → Seat
 fresh n b = record { number = n; transaction = None; watching = []; outbox = b; overflow = None }
 
+-- a session joins with a number above all before
 abbrev pub join : State → ℕ → Outbox → Bool → Bool → Outcome
 join σ n b false room = nothing σ reply.BadSession
 join σ n b true false = nothing σ (reply.SystemLimit limit.Sessions)

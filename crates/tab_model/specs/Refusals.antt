@@ -10,8 +10,8 @@ use Rattle.tab_model.specs.Locks.{locks_of}
 use Rattle.tab_model.specs.State.{Transaction, Seat, Queued, State, transaction_in, transaction_at, mid_of}
 use Rattle.tab_model.specs.Outcome.{Ask, DoCommand, with_transaction, with_seat, with_queue, refused, emptied, more, is_empty}
 
--- what a reply says of the state after it (this project's own rule, but for a restart: Mnesia User's Guide, "Deadlock
--- Prevention"): as before; as before but for the post's count of refusals; one request more in the queue; the
+-- what a reply says of the state after it (this project's own rule, but for a restart: Mnesia User's Guide,
+-- "Locking"): as before; as before but for the post's count of refusals; one request more in the queue; the
 -- transaction empty again; or anything else
 pub data Standing : Type 0 where
   AsBefore Counted Queues Emptied Changes : Standing

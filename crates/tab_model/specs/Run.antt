@@ -1,4 +1,4 @@
--- Which posts refuse, runs, and what a run says of the last state.
+-- Which posts refuse, runs, and what a run says of the last state (this project's own).
 use Rattle.std.specs.Prelude.{◌≡◌, ℕ, ◌+◌, ◌<◌, List, [], ◌∷◌, ◌++◌, Bool, not, ◌||◌, ◌==◌, nat_le, if◌then◌else◌, Option, Some, None, is_some, length, IfSome}
 use Rattle.std.specs.List.{filter}
 use Rattle.tab_model.specs.declared.data.Reply.{Reply}
@@ -42,6 +42,7 @@ Pinned (s ∷ seats) over =
     (b : Bool) × (rest : List ℕ) × (over ≡ (if b then s.number ∷ rest else rest))
     × IfSome s.outbox.capacity (λ c. b ≡ nat_le c (length s.outbox.items)) × Pinned seats rest
 
+-- the sessions whose posts may refuse in a step
 abbrev pub Allowed : State → List ℕ → ℕ → Ask → Type 0
 Allowed σ over n a = Pinned (put_ask σ a (seat_at σ.seats n)) over
 
@@ -66,6 +67,7 @@ AllJoinEmpty (c ∷ cs) = JoinsEmpty c.ask × AllJoinEmpty cs
 abbrev pub outcome_of : State → Call → Outcome
 outcome_of σ c = outcome σ c.over c.session c.ask
 
+-- the state after calls, in turn
 abbrev pub after_all : State → List Call → State
 after_all σ [] = σ
 after_all σ (c ∷ cs) = after_all (outcome_of σ c).state cs
@@ -74,10 +76,12 @@ abbrev pub entries : Option Entry → List Entry
 entries None = []
 entries (Some e) = e ∷ []
 
+-- the log of a run
 abbrev pub log_of : State → List Call → List Entry
 log_of σ [] = []
 log_of σ (c ∷ cs) = entries (outcome_of σ c).entry ++ log_of (outcome_of σ c).state cs
 
+-- the replies of a run
 abbrev pub replies_of : State → List Call → List Reply
 replies_of σ [] = []
 replies_of σ (c ∷ cs) = (outcome_of σ c).reply ∷ replies_of (outcome_of σ c).state cs
@@ -89,6 +93,7 @@ item_of r = []
 abbrev pub taken_now : ℕ → ℕ → Reply → List Item
 taken_now m n r = if m == n then item_of r else []
 
+-- the items that a session took in a run
 abbrev pub taken_of : ℕ → State → List Call → List Item
 taken_of m σ [] = []
 taken_of m σ (c ∷ cs) = taken_now m c.session (outcome_of σ c).reply ++ taken_of m (outcome_of σ c).state cs

@@ -1,4 +1,5 @@
--- Schema commands on whole tables.
+-- Schema commands on whole tables (Mnesia Reference Manual, create_table/2, delete_table/1, add_table_index/2,
+-- del_table_index/2; the terms of the refusals, but for already_exists and no_exists, are this project's own).
 use Rattle.std.specs.Prelude.{ℕ, List, [], Bool, true, false, ◌||◌, not, if◌then◌else◌, Option, Some, None, codes}
 use Rattle.tab_term.specs.Data.{atom, PlainTerms}
 use Rattle.tab_term.specs.View.{term}
@@ -46,6 +47,7 @@ abbrev pub del_refusal : List ℕ → Term → Option Table → Option Reply
 del_refusal t a None = Some (reply.NoTable t)
 del_refusal t a (Some x) = if is_indexed x.def (position x.def (term a)) then None else Some (reply.NoIndex t a)
 
+-- what refuses a schema command on these tables
 abbrev pub schema_refusal : World → Schema → Option Reply
 schema_refusal w (Create t os) = create_refusal t os (find w t)
 schema_refusal w (Remove t) = remove_refusal t (find w t)
@@ -72,6 +74,7 @@ abbrev pub del_effect : World → Term → Option Table → World
 del_effect w a None = w
 del_effect w a (Some x) = place w (with_def x (del_at x.def (position x.def (term a))))
 
+-- the tables after a schema command that is done
 abbrev pub schema_effect : World → Schema → World
 schema_effect w (Create t os) = create_parsed w (parse_options t os)
 schema_effect w (Remove t) = without w t

@@ -1,4 +1,5 @@
--- Events as terms, and back.
+-- Events as terms, and back (Mnesia User's Guide, "Mnesia Event Handling", table events; the detailed term of delete_object
+-- and the activity id {tid, Age} are this project's own).
 use Rattle.std.specs.Prelude.{◌≡◌, ◌<◌, ℕ, suc, List, Bool, true, false, if◌then◌else◌, Option, Some, None, pos, codes}
 use Rattle.std.specs.Str.{bytes_eq}
 use Rattle.tab_term.specs.Data.{PlainTerm, int, atom, tuple, list, bin, map, PlainTerms, none, one_more}
@@ -22,17 +23,20 @@ held (list ts) = is.List ts
 held (bin b) = is.Bin b
 held (map ps) = is.Map ps
 
+-- the activity id
 abbrev pub tid : ℕ → PlainTerm
 tid age = pair (atom (codes "tid")) (int (pos age))
 
 abbrev pub five : PlainTerm → PlainTerm → PlainTerm → PlainTerm → PlainTerm → PlainTerm
 five a b c d e = tuple (one_more a (one_more b (one_more c (one_more d (one_more e none)))))
 
+-- the simple terms
 abbrev pub simple : Change → ℕ → PlainTerm
 simple (change.Write r) age = triple (atom (codes "write")) (term r) (tid age)
 simple (change.Delete t k) age = triple (atom (codes "delete")) (pair (atom t) (term k)) (tid age)
 simple (change.DeleteObject r) age = triple (atom (codes "delete_object")) (term r) (tid age)
 
+-- the detailed terms
 abbrev pub detailed : Change → List ℕ → PlainTerms → ℕ → PlainTerm
 detailed (change.Write r) t old age = five (atom (codes "write")) (atom t) (term r) (list old) (tid age)
 detailed (change.Delete t' k) t old age = five (atom (codes "delete")) (atom t) (pair (atom t') (term k)) (list old) (tid age)
@@ -42,6 +46,7 @@ abbrev pub body : Level → Event → PlainTerm
 body Simple e = simple e.change e.age
 body Detailed e = detailed e.change e.tab e.old e.age
 
+-- an event's term at a level
 abbrev pub shape : Level → Event → PlainTerm
 shape l e = pair (atom (codes "mnesia_table_event")) (body l e)
 

@@ -1,17 +1,22 @@
--- What a log says of one table: its changes, its deletion, and the subscriptions that stand.
-use Rattle.std.specs.Prelude.{◌≡◌, ℕ, List, [], ◌∷◌, ◌++◌, Bool, true, false, ◌&&◌, ◌||◌, ◌==◌, Some, is_some}
+-- What a log says of one table: its changes, its deletion, and the subscriptions that stand (this project's own).
+use Rattle.std.specs.Prelude.{◌≡◌, ℕ, List, [], ◌∷◌, ◌++◌, Bool, true, false, ◌&&◌, ◌||◌, ◌==◌, Some, is_some, ◌<◌, filter_map}
 use Rattle.std.specs.List.{filter, list_any}
 use Rattle.std.specs.Str.{bytes_eq}
 use Rattle.tab_model.specs.declared.data.Change.{Change}
 use Rattle.tab_model.specs.declared.data.Level.{Level}
 use Rattle.tab_model.specs.declared.data.Entry.{Entry}
 use Rattle.tab_model.specs.declared.data.Entry.TheVariants.{Committed, Changed, Subscribed, Unsubscribed}
+use Rattle.tab_model.specs.declared.data.Item.{Item}
+use Rattle.tab_model.specs.declared.data.Item.TheVariants.{Began, Batch, Ended}
+use Rattle.tab_model.specs.Names.{terms_list}
+use Rattle.tab_model.specs.Shapes.{change_of}
 use Rattle.tab_model.specs.Operations.{table_of_change}
 use Rattle.tab_model.specs.Events.{surviving}
 use Rattle.tab_model.specs.Schemas.{removed}
 use Rattle.tab_model.specs.Tables.{Rows, applied}
 use Rattle.tab_model.specs.Worlds.{World, Table, find}
 use Rattle.tab_model.specs.Log.{has_session, is_removed, entered, serial}
+use Rattle.tab_model.specs.Slices.{slice_after}
 
 abbrev pub is_of : List ℕ → Change → Bool
 is_of t c = bytes_eq (table_of_change c) t
@@ -80,9 +85,29 @@ abbrev pub AllStood : World → List Entry → Type 0
 AllStood w [] = Unit {0}
 AllStood w (e ∷ es) = StoodFor w e × AllStood (entered w e) es
 
--- a table's rows are those of it at the beginning of a subscription that stands, with the changes since applied
+-- the changes of a table that items tell, read off the terms of their events
+abbrev pub changes_told : List ℕ → List Item → List Change
+changes_told t [] = []
+changes_told t (Began u l dump ∷ items) = changes_told t items
+changes_told t (Batch n es ∷ items) = filter (is_of t) (filter_map change_of (terms_list es)) ++ changes_told t items
+changes_told t (Ended u ending ∷ items) = changes_told t items
+
+-- the age of each commit is from 1 on
+abbrev pub HasAge : Entry → Type 0
+HasAge (Committed n s age xs rs over) = 0 < age
+HasAge (Changed c over) = Unit {0}
+HasAge (Subscribed s t l dump) = Unit {0}
+HasAge (Unsubscribed s t) = Unit {0}
+
+abbrev pub AllAged : List Entry → Type 0
+AllAged [] = Unit {0}
+AllAged (e ∷ es) = HasAge e × AllAged es
+
+-- a table's rows are those of it at the beginning of a subscription that stands, with the changes since applied: those of
+-- the log, and those that the items owed since the begin mark tell
 pub record RowsSince (s : ℕ) (t : List ℕ) (l : Level) (log : List Entry) (rows : Rows) : Type 0 where
   pub subscription : StandsSince s t l log
   pub table : Table
   pub stood : find (serial subscription.earlier) t ≡ Some table
   pub now : rows ≡ applied table.def.kind table.rows (changes_on t subscription.since)
+  pub told : rows ≡ applied table.def.kind table.rows (changes_told t (slice_after s (subscription.earlier ++ Subscribed s t l subscription.dump ∷ []) subscription.since))

@@ -1,4 +1,4 @@
--- The items that a log owes to each session.
+-- The items that a log owes to each session (this project's own: batches, marks and overflow).
 use Rattle.std.specs.Prelude.{ℕ, List, [], ◌∷◌, ◌++◌, Bool, true, false, ◌==◌, if◌then◌else◌, Option, Some, None, filter_map}
 use Rattle.tab_term.specs.Data.{PlainTerm, PlainTerms}
 use Rattle.tab_model.specs.declared.data.Level.{Level}
@@ -24,9 +24,11 @@ abbrev pub shape_at : Option Level → Event → Option PlainTerm
 shape_at None e = None
 shape_at (Some l) e = Some (shape l e)
 
+-- the item of a commit for who is subscribed at these levels
 abbrev pub batch_for : (List ℕ → Option Level) → ℕ → List Event → List Item
 batch_for levels n es = as_batch n (filter_map (λ e. shape_at (levels e.tab) e) es)
 
+-- the records that a begin mark carries, where a dump was asked for
 abbrev pub dump_of : World → List ℕ → Bool → Option PlainTerms
 dump_of w t true = Some (plain_terms (rows_of w t))
 dump_of w t false = None
@@ -35,10 +37,12 @@ abbrev pub ended_item : List ℕ → Option Level → List Item
 ended_item t None = []
 ended_item t (Some l) = Ended t ending.Deleted ∷ []
 
+-- the item of a table's deletion for who is subscribed to it
 abbrev pub end_for : (List ℕ → Option Level) → Option (List ℕ) → List Item
 end_for levels None = []
 end_for levels (Some t) = ended_item t (levels t)
 
+-- who overflowed in an entry is owed nothing of it
 abbrev pub unless_over : Bool → List Item → List Item
 unless_over true items = []
 unless_over false items = items
@@ -54,5 +58,6 @@ abbrev pub slice_after : ℕ → List Entry → List Entry → List Item
 slice_after s log [] = []
 slice_after s log (e ∷ es) = owed s log e ++ slice_after s (log ++ e ∷ []) es
 
+-- all that a log owes to a session, in order
 abbrev pub slice : ℕ → List Entry → List Item
 slice s log = slice_after s [] log

@@ -1,4 +1,4 @@
--- What a core is, as plain data.
+-- What a core is, as plain data (this project's own).
 use Rattle.std.specs.Prelude.{◌≡◌, ◌≢◌, ◌<◌, ◌≤◌, ℕ, suc, List, [], ◌∷◌, ◌++◌, Bool, ◌==◌, if◌then◌else◌, Option, Some, None, is_some}
 use Rattle.std.specs.List.{list_any}
 use Rattle.std.specs.Str.{bytes_eq}
@@ -51,6 +51,7 @@ pub record State : Type 0 where
   pub greatest : ℕ
   pub limits : Limits
 
+-- a core that has just been made
 abbrev pub new : Limits → State
 new limits = record { tables = []; seats = []; queue = []; next_age = 1; commits = 0; greatest = 0; limits = limits }
 
@@ -95,6 +96,7 @@ abbrev pub without_request : List Queued → ℕ → List Queued
 without_request [] n = []
 without_request (q ∷ qs) n = if q.session == n then without_request qs n else q ∷ without_request qs n
 
+-- whether a session has a request queued
 abbrev pub is_waiting : State → ℕ → Bool
 is_waiting σ n = is_some (request_in σ.queue n)
 
@@ -115,6 +117,7 @@ abbrev pub queued_in : List Queued → List Owned
 queued_in [] = []
 queued_in (q ∷ qs) = (q.age, needs q.operation) ∷ queued_in qs
 
+-- who holds and who waits, read off the open transactions and the queue
 abbrev pub ages_of : State → Ages
 ages_of σ = record { held = held_in σ.seats; queue = queued_in σ.queue }
 
@@ -125,6 +128,7 @@ is_in t x = bytes_eq (x.1).table t
 abbrev pub is_busy : State → List ℕ → Bool
 is_busy σ t = list_any (is_in t) (held_in σ.seats ++ queued_in σ.queue)
 
+-- the level at which a session watches a table
 abbrev pub level_in : List Watch → List ℕ → Option Level
 level_in [] t = None
 level_in (x ∷ xs) t = if bytes_eq x.table t then Some x.level else level_in xs t
@@ -141,6 +145,7 @@ count_moves (Open ∷ xs) = suc (count_moves xs)
 count_moves (Close ∷ xs) = count_moves xs
 count_moves (Undo ∷ xs) = count_moves xs
 
+-- where a transaction stands, on the tables as they are
 abbrev pub mid_of : State → Transaction → Mid
 mid_of σ transaction = after (start σ.tables transaction.age) transaction.moves
 

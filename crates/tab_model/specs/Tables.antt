@@ -1,4 +1,5 @@
--- A table's records, as one list in canonical order: by key, then by insertion.
+-- A table's records, as one list in canonical order: by key, then by insertion (the order is this project's own rule; what
+-- a write and the deletions do to a set and a bag: Mnesia Reference Manual, write/3, delete/3, delete_object/3).
 use Rattle.std.specs.Prelude.{◌≡◌, List, [], ◌∷◌, Bool, true, false, not, ◌&&◌, ◌||◌, if◌then◌else◌}
 use Rattle.std.specs.List.{filter, list_any, list_all}
 use Rattle.tab_term.specs.Data.{PlainTerm, int, atom, tuple, list, bin, map, PlainTerms, none, one_more}
@@ -19,6 +20,7 @@ second none = list none
 second (one_more t none) = list none
 second (one_more t (one_more u us)) = u
 
+-- the key of a record: its second element (Mnesia Reference Manual, "Definition": the attribute list)
 abbrev pub key : PlainTerm → PlainTerm
 key (tuple ts) = second ts
 key (int z) = list none
@@ -34,9 +36,11 @@ has_key k r = same (key r) k
 abbrev pub at : Rows → PlainTerm → Rows
 at rows k = filter (has_key k) rows
 
+-- all records of a key go (delete/3)
 abbrev pub delete : Rows → PlainTerm → Rows
 delete rows k = filter (λ r. not (has_key k r)) rows
 
+-- the equal record goes (delete_object/3)
 abbrev pub delete_object : Rows → PlainTerm → Rows
 delete_object rows r = filter (λ x. not (same r x)) rows
 
@@ -45,6 +49,7 @@ abbrev pub insert : PlainTerm → Rows → Rows
 insert r [] = r ∷ []
 insert r (x ∷ rows) = if less (key r) (key x) then r ∷ x ∷ rows else x ∷ insert r rows
 
+-- a bag's equal record that is there already stays where it is (this project's own rule)
 abbrev pub put_bag : Rows → PlainTerm → Bool → Rows
 put_bag rows r true = rows
 put_bag rows r false = insert r rows
@@ -54,11 +59,13 @@ abbrev pub put : Kind → Rows → PlainTerm → Rows
 put Set rows r = insert r (delete rows (key r))
 put Bag rows r = put_bag rows r (list_any (same r) rows)
 
+-- the rows after one change
 abbrev pub apply : Kind → Rows → Change → Rows
 apply kind rows (change.Write r) = put kind rows (term r)
 apply kind rows (change.Delete t k) = delete rows (term k)
 apply kind rows (change.DeleteObject r) = delete_object rows (term r)
 
+-- the rows after changes, in turn
 abbrev pub applied : Kind → Rows → List Change → Rows
 applied kind rows [] = rows
 applied kind rows (c ∷ cs) = applied kind (apply kind rows c) cs
@@ -68,6 +75,7 @@ abbrev pub whole_onto : Rows → Rows → Rows
 whole_onto [] done = done
 whole_onto (r ∷ rs) done = whole_onto rs (insert r done)
 
+-- any list of records in canonical order
 abbrev pub whole : Rows → Rows
 whole rows = whole_onto rows []
 
@@ -79,6 +87,7 @@ abbrev pub is_ordered : Rows → Bool
 is_ordered [] = true
 is_ordered (r ∷ rows) = list_all (follows r) rows && is_ordered rows
 
+-- the same records at every key: the same table
 abbrev pub SameTable : Rows → Rows → Type 0
 SameTable a b = (k : PlainTerm) → at a k ≡ at b k
 

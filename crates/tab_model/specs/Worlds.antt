@@ -1,4 +1,4 @@
--- All tables, in the order of their names' bytes.
+-- All tables, in the order of their names' bytes (the order is this project's own rule).
 use Rattle.std.specs.Prelude.{◌≡◌, ℕ, List, [], ◌∷◌, Bool, true, if◌then◌else◌, Option, Some, None, is_some}
 use Rattle.std.specs.Str.{bytes_eq}
 use Rattle.tab_term.specs.Data.{PlainTerm}
@@ -16,10 +16,12 @@ World = List Table
 abbrev pub name_of : Table → List ℕ
 name_of t = t.def.name
 
+-- the table of a name
 abbrev pub find : World → List ℕ → Option Table
 find [] n = None
 find (t ∷ w) n = if bytes_eq (name_of t) n then Some t else find w n
 
+-- whether a table of that name stands
 abbrev pub there : World → List ℕ → Bool
 there w n = is_some (find w n)
 
@@ -28,6 +30,7 @@ abbrev pub place : World → Table → World
 place [] t = t ∷ []
 place (u ∷ w) t = if bytes_eq (name_of u) (name_of t) then t ∷ w else (if before (name_of t) (name_of u) then t ∷ u ∷ w else u ∷ place w t)
 
+-- all but the table of that name
 abbrev pub without : World → List ℕ → World
 without [] n = []
 without (t ∷ w) n = if bytes_eq (name_of t) n then without w n else t ∷ without w n
@@ -36,9 +39,11 @@ abbrev pub rows_in : Option Table → Rows
 rows_in None = []
 rows_in (Some t) = t.rows
 
+-- the records of a table; none where it does not stand
 abbrev pub rows_of : World → List ℕ → Rows
 rows_of w n = rows_in (find w n)
 
+-- the records of a table at a key
 abbrev pub cell : World → List ℕ → PlainTerm → Rows
 cell w n k = at (rows_of w n) k
 

@@ -1,7 +1,9 @@
-//! Data that code and definitions share.
+//! Data that code and definitions share. Ages, numbers of sessions and commits, and positions are from 1 on.
 use crate::lists::{Atoms, Moves, Numbers, Parts, Replies};
 use tab_term::{Atom, Term, Terms};
 
+/// The type of a table: a set keeps one record for each key, a bag several different ones (Mnesia Reference Manual,
+/// `create_table/2`).
 #[derive(Clone, Copy, Debug, PartialEq, Eq)]
 pub enum Kind {
     Set,
@@ -17,6 +19,8 @@ pub struct TableDef {
     pub indexes: Numbers,
 }
 
+/// An operation of a transaction (Mnesia Reference Manual, the functions of these names). A record or pattern carries its
+/// table as its first element.
 #[derive(Drop)]
 pub enum Operation {
     Read(Atom, Term),
@@ -31,6 +35,7 @@ pub enum Operation {
     WriteLockTable(Atom),
 }
 
+/// A step of a transaction: an operation, a child's begin, a child's commit, an abort of the innermost level.
 #[derive(Drop)]
 pub enum Move {
     Do(Operation),
@@ -39,18 +44,21 @@ pub enum Move {
     Undo,
 }
 
+/// What a lock is for (Mnesia User's Guide, "Locking").
 #[derive(Clone, Copy, Debug, PartialEq, Eq)]
 pub enum Mode {
     Read,
     Write,
 }
 
+/// What of a table a lock is on.
 #[derive(Drop)]
 pub enum What {
     All,
     Key(Term),
 }
 
+/// A lock that an operation asks for.
 #[derive(Drop)]
 pub struct Lock {
     pub table: Atom,
@@ -58,12 +66,14 @@ pub struct Lock {
     pub mode: Mode,
 }
 
+/// The level of a subscription (Mnesia User's Guide, "Mnesia Event Handling").
 #[derive(Clone, Copy, Debug, PartialEq, Eq)]
 pub enum Level {
     Simple,
     Detailed,
 }
 
+/// An update: a write of a record, a deletion of a key, a deletion of a record.
 #[derive(Drop)]
 pub enum Change {
     Write(Term),
@@ -71,7 +81,7 @@ pub enum Change {
     DeleteObject(Term),
 }
 
-/// An update with the records of its key just before.
+/// An update with its table, its transaction's age, and the records of its key just before it, in the key's order.
 #[derive(Drop)]
 pub struct Event {
     pub tab: Atom,
@@ -80,12 +90,15 @@ pub struct Event {
     pub age: u64,
 }
 
+/// Why a subscription ended, as its end mark says.
 #[derive(Clone, Copy, Debug, PartialEq, Eq)]
 pub enum Ending {
     Unsubscribed,
     Deleted,
 }
 
+/// An item of an outbox: a begin mark (with the table's records where a dump was asked for), the events of one commit, an
+/// end mark.
 #[derive(Drop)]
 pub enum Item {
     Began(Atom, Level, Option<Terms>),
@@ -93,6 +106,8 @@ pub enum Item {
     Ended(Atom, Ending),
 }
 
+/// A schema command (Mnesia Reference Manual, `create_table/2`, `delete_table/1`, `add_table_index/2`,
+/// `del_table_index/2`).
 #[derive(Drop)]
 pub enum Schema {
     Create(Atom, Terms),
@@ -101,6 +116,7 @@ pub enum Schema {
     DelIndex(Atom, Term),
 }
 
+/// What `table_info` is asked for.
 #[derive(Clone, Copy, Debug, PartialEq, Eq)]
 pub enum InfoItem {
     Kind,
@@ -118,6 +134,7 @@ pub enum Part {
     Close,
 }
 
+/// Which limit a SystemLimit names.
 #[derive(Clone, Copy, Debug, PartialEq, Eq)]
 pub enum Limit {
     Sessions,
@@ -128,6 +145,8 @@ pub enum Limit {
     Journal,
 }
 
+/// The limits of a core: how many sessions may be joined at once, levels of a transaction, operations and child begins of
+/// one attempt, tables, outermost begins, and entries of the journal.
 #[derive(Clone, Copy, Debug, PartialEq, Eq)]
 pub struct Limits {
     pub sessions: u64,
@@ -138,6 +157,7 @@ pub struct Limits {
     pub journal: u64,
 }
 
+/// What `table_info` answers.
 #[derive(Drop)]
 pub enum TableInfo {
     Kind(Kind),
@@ -187,6 +207,7 @@ pub enum Reply {
     Empty,
 }
 
+/// A command of a session. A subscription may ask for a dump; a one-shot carries how many restarts it may make.
 #[derive(Drop)]
 pub enum Command {
     Schema(Schema),
@@ -200,7 +221,9 @@ pub enum Command {
     OneShot(Parts, u64),
 }
 
-/// What a step adds to the log. `over` are the sessions that overflowed in it.
+/// What a step adds to the log: a commit (its number, its session, its age, its moves, what they were told, and the
+/// sessions that overflowed in it), a schema command that is done (and who overflowed), a subscribing (its session, table,
+/// level, and whether with a dump), an unsubscribing.
 #[derive(Drop)]
 pub enum Entry {
     Committed(u64, u64, u64, Moves, Replies, Numbers),

@@ -7,6 +7,7 @@ ghost use Rattle.tab_term.specs.Same.{same};
 ghost use Rattle.tab_term.specs.declared.term.Term.{Term};
 ghost use Rattle.tab_model.specs.declared.data.Change.{Change};
 ghost use Rattle.tab_model.specs.declared.data.Entry.{Entry};
+ghost use Rattle.tab_model.specs.declared.data.Entry.TheVariants.{Subscribed};
 ghost use Rattle.tab_model.specs.declared.data.Event.{Event};
 ghost use Rattle.tab_model.specs.declared.data.Item.{Item};
 ghost use Rattle.tab_model.specs.declared.data.Kind.{Kind};
@@ -28,8 +29,8 @@ ghost use Rattle.tab_model.specs.Locks.{locks_of, Apart};
 ghost use Rattle.tab_model.specs.Shapes.{shape, change_of, IsShaped, ShapesChange};
 ghost use Rattle.tab_model.specs.Ages.{Ages, Owned, Granted, Wait, Die, Covered, Opposed, OpposedByOlder, OpposedBefore, Rises, decide, after_request, can_retry, after_retry, request_of, forget, Chain, last_of};
 ghost use Rattle.tab_model.specs.Log.{entered, serial, serial_from, stands, in_force, IsRight, IsLegal, commits_from};
-ghost use Rattle.tab_model.specs.Since.{changes_on, deletes, StandsSince, AllStood, RowsSince};
-ghost use Rattle.tab_model.specs.Slices.{dump_of, owed, slice};
+ghost use Rattle.tab_model.specs.Since.{changes_on, changes_told, deletes, StandsSince, AllStood, AllAged, RowsSince};
+ghost use Rattle.tab_model.specs.Slices.{dump_of, owed, slice, slice_after};
 ghost use Rattle.tab_model.specs.State.{State, Seat, Transaction, Queued, new, seat_at, transaction_at, request_in, age_at, moves_at, told_at, level_in, IsSound};
 ghost use Rattle.tab_model.specs.Outcome.{Ask, Retry, DoCommand, outcome};
 ghost use Rattle.tab_model.specs.Refusals.{AsBefore, standing, counted, requested, queued, empty_again, restarted, Restarts, EndsLevel};
@@ -38,15 +39,17 @@ ghost use Rattle.tab_model.specs.Run.{Call, AllJoinEmpty, Begins, leaves, JoinsE
 /// For every schedule of steps: commits are numbered in order and were told what they are told alone in that order;
 /// the tables are those of running them so; each open transaction was told what it is told alone on the tables as they
 /// are now; and what a joined session has taken, followed by its outbox, is what the log owes it, each item once, in
-/// order. Each subscription was made on a table that stood then; and where one stands now, the changes of the commits
-/// since, applied to the table's rows at its beginning, give the table's rows now.
-#[tactic(auto, using(crate::proofs::Schedules::schedule_legal, crate::proofs::Schedules::schedule_tables, crate::proofs::Schedules::schedule_told, crate::proofs::Schedules::schedule_rows, crate::proofs::Stood::schedule_stood, crate::proofs::Stood::schedule_applied))]
+/// order. Each subscription was made on a table that stood then, and each commit's age is from 1 on. Where a subscription
+/// stands now, the changes of the commits since, and so those that the session's items since its begin mark tell, applied
+/// to the table's rows at its beginning, give the table's rows now.
+#[tactic(auto, using(crate::proofs::Schedules::schedule_legal, crate::proofs::Schedules::schedule_tables, crate::proofs::Schedules::schedule_told, crate::proofs::Schedules::schedule_rows, crate::proofs::Stood::schedule_stood, crate::proofs::Aged::schedule_aged, crate::proofs::Stood::schedule_applied))]
 pub fn every_schedule()
     ensures legal { (limits : Limits) (calls : List Call) → AllJoinEmpty calls → IsLegal [] 0 (log_of (new limits) calls) }
     ensures tables { (limits : Limits) (calls : List Call) → AllJoinEmpty calls → (after_all (new limits) calls).tables ≡ serial (log_of (new limits) calls) }
     ensures told { (limits : Limits) (calls : List Call) (n : ℕ) → let σ = after_all (new limits) calls in replies (start σ.tables (age_at σ n)) (moves_at σ n) ≡ told_at σ n }
     ensures rows { (limits : Limits) (calls : List Call) (n : ℕ) (s : Seat) → AllJoinEmpty calls → seat_at (after_all (new limits) calls).seats n ≡ Some s → taken_of n (new limits) calls ++ s.outbox.items ≡ slice n (log_of (new limits) calls) }
     ensures stood { (limits : Limits) (calls : List Call) → AllJoinEmpty calls → AllStood [] (log_of (new limits) calls) }
+    ensures aged { (limits : Limits) (calls : List Call) → AllAged (log_of (new limits) calls) }
     ensures applied { (limits : Limits) (calls : List Call) (n : ℕ) (s : Seat) (t : List ℕ) (l : Level) → AllJoinEmpty calls → seat_at (after_all (new limits) calls).seats n ≡ Some s → level_in s.watching t ≡ Some l → RowsSince n t l (log_of (new limits) calls) (rows_of (after_all (new limits) calls).tables t) }
 {}
 
@@ -167,4 +170,13 @@ pub fn older_wait_and_younger_die()
 pub fn who_leaves_has_taken_a_beginning()
     ensures joined { (limits : Limits) (calls : List Call) (n : ℕ) (s : Seat) → AllJoinEmpty calls → seat_at (after_all (new limits) calls).seats n ≡ Some s → Begins (taken_of n (new limits) calls) (slice n (log_of (new limits) calls)) }
     ensures left { (limits : Limits) (calls later : List Call) (n : ℕ) (s : Seat) → AllJoinEmpty calls → seat_at (after_all (new limits) calls).seats n ≡ Some s → Begins (taken_of n (new limits) (calls ++ leaves n ∷ later)) (slice n (log_of (new limits) calls)) }
+{}
+
+/// The items that a session is owed since a subscription that stands, which follow those owed before in its slice, tell
+/// exactly the changes that the log's commits made to that table since: read off the terms of their events, at either
+/// level, whatever else the session watches.
+#[tactic(auto, using(crate::proofs::Told::slice_parts))]
+pub fn items_tell_the_changes()
+    ensures told { (s : ℕ) (t : List ℕ) (l : Level) (log : List Entry) → IsLegal [] 0 log → AllAged log → (i : StandsSince s t l log) → changes_told t (slice_after s (i.earlier ++ Subscribed s t l i.dump ∷ []) i.since) ≡ changes_on t i.since }
+    ensures parts { (s : ℕ) (xs ys : List Entry) → slice s (xs ++ ys) ≡ slice s xs ++ slice_after s xs ys }
 {}
