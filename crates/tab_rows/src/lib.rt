@@ -6,6 +6,8 @@
 #![tactic(auto)]
 
 mod rows;
+#[cfg(test)]
+mod tests;
 
 pub use rows::Rows;
 pub use tab_model::Kind;
