@@ -18,7 +18,8 @@ use Rattle.tab_model.specs.declared.data.TableInfo.TheVariants as info
 use Rattle.tab_model.specs.declared.data.Limit.TheVariants as limit
 use Rattle.tab_model.specs.declared.data.Limits.{Limits}
 use Rattle.tab_model.specs.State.{new}
-use Rattle.tab_model.specs.Shapes.{tid, five, held}
+use Rattle.tab_model.specs.declared.data.Change.TheVariants as change
+use Rattle.tab_model.specs.Shapes.{tid, five, held, change_of}
 use Rattle.tab_model.specs.Outcome.{outcome, Retry, Leave, DoCommand}
 use Rattle.tab_model.specs.Run.{Call, replies_of}
 use Rattle.tab_model.specs.Rows.{num, record_of, rec, joins, joins_with, creates, call, call_over, does, begins, commits, writes, reads, subscribes, takes, told_in, bag}
@@ -219,3 +220,25 @@ pub row_schema : told_in (joins 1 ∷ creates 1 (codes "t") none
     ∷ reply.Found (plain_terms (rec (codes "t") 1 (codes "a") ∷ [])) ∷ reply.Found none ∷ reply.Done ∷ reply.Atomic 1 ∷ reply.AtomicOk ∷ []
 unfolding outcome canon int_contents
 row_schema = refl
+
+-- terms that are no events: age 0, another table, a record of arity 2, another tag, a detailed delete_object's own tag
+pub no_age : change_of (event (triple (atom (codes "write")) (rec (codes "t") 1 (codes "a")) (tid 0))) ≡ None
+no_age = refl
+
+pub other_table : change_of (event (five (atom (codes "write")) (atom (codes "u")) (rec (codes "t") 1 (codes "a")) (list none) (tid 1))) ≡ None
+other_table = refl
+
+pub short_record : change_of (event (triple (atom (codes "write")) (pair (atom (codes "t")) (num 1)) (tid 1))) ≡ None
+short_record = refl
+
+pub other_tag : change_of (pair (atom (codes "mnesia_system_event")) (triple (atom (codes "write")) (rec (codes "t") 1 (codes "a")) (tid 1))) ≡ None
+other_tag = refl
+
+pub detailed_tag : change_of (event (five (atom (codes "delete_object")) (atom (codes "t")) (rec (codes "t") 1 (codes "a")) (list none) (tid 1))) ≡ None
+detailed_tag = refl
+
+pub record_deleted : change_of (event (five (atom (codes "delete")) (atom (codes "t")) (rec (codes "t") 1 (codes "a")) (list none) (tid 7))) ≡ Some (change.DeleteObject (held (rec (codes "t") 1 (codes "a"))))
+record_deleted = refl
+
+pub key_deleted : change_of (event (triple (atom (codes "delete")) (pair (atom (codes "t")) (num 2)) (tid 1))) ≡ Some (change.Delete (codes "t") (is.Int (pos 2)))
+key_deleted = refl
