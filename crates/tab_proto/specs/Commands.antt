@@ -113,7 +113,7 @@ abbrev pub is_part : Part → Bool
 is_part (part.Do o) = is_operation o
 is_part p = true
 
--- each Close ends a transaction that an Open began, and none is left open; `depth` are open before these parts
+-- each Close ends a transaction that an Open began, and none is left open
 abbrev pub is_nested : List ℕ → List Part → Bool
 is_nested [] [] = true
 is_nested (n ∷ ns) [] = false

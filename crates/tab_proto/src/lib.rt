@@ -3,7 +3,9 @@
 #![tactic(auto)]
 
 mod requests;
+mod asked;
 mod fault;
 
-pub use requests::command;
+pub use requests::{command, request};
+pub use asked::Asked;
 pub use fault::ProtoFault;

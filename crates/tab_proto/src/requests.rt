@@ -1,12 +1,14 @@
 //! Commands from terms.
 
-ghost use Rattle.std.specs.Prelude.{◌≡◌, ◌≢◌, IfOk, IfErr, Bool, true, Err, codes};
-ghost use Rattle.tab_term.specs.Data.{atom, tuple, list, none};
+ghost use Rattle.std.specs.Prelude.{◌≡◌, ◌≢◌, ◌≤◌, ◌<◌, ℕ, pos, IfOk, IfErr, IfSome, IfNone, Bool, true, Err, codes};
+ghost use Rattle.tab_term.specs.Data.{int, atom, tuple, list, none};
 ghost use Rattle.tab_term.specs.View.{term, terms};
 ghost use Rattle.tab_core.specs.Served.{serves};
 ghost use Rattle.tab_model.specs.Names.{pair, triple};
 ghost use Rattle.tab_proto.specs.Commands.{term_of, is_command, is_row as is_row_of, abort_term};
 ghost use Rattle.tab_proto.specs.Reading.{is_read, is_one_word, is_pair, is_triple, is_call, is_empty_list as is_empty_list_of, Reads};
+ghost use Rattle.tab_proto.specs.Asks.{request_term, IsAsked, is_asked, is_asked_word, ReadsAsked};
+ghost use Rattle.tab_proto.specs.declared.asked.Asked.{Asked as AskedOf};
 ghost use Rattle.tab_model.specs.declared.data.Command.{Command as CommandOf};
 ghost use Rattle.tab_proto.specs.declared.fault.ProtoFault.TheVariants.{BadCommand, NoMemory};
 
@@ -14,6 +16,7 @@ use std::alloc::{AllocError, Global};
 use tab_model::{Command, Operation, Schema};
 use tab_term::{Atom, Term, Terms};
 
+use crate::asked::Asked;
 use crate::fault::ProtoFault;
 
 /// The command that a term is. So far the commands are those that the core serves: `create_table` with no options,
@@ -156,4 +159,70 @@ fn is_empty_list(held: &Term) -> bool
         Term::List(elements) => elements.as_slice().is_empty(),
         _ => false,
     }
+}
+
+/// A session's number and what it asks, from `{Session, X}`. Session numbers are 1 to 4,294,967,295. Every other term is
+/// BadCommand.
+pub fn request(alloc: Global, asked: &Term) -> Result<(u32, Asked), ProtoFault>
+    ensures ok { IfOk result (λ r. (request_term r.0 r.1 ≡ term asked.now) × (1 ≤ r.0) × IsAsked r.1) }
+    ensures only { (session : ℕ) (a : AskedOf) → 1 ≤ session → session < 4294967296 → IsAsked a → request_term session a ≡ term asked.now → result ≢ Err BadCommand }
+{
+    let Term::Tuple(parts) = asked else {
+        return Err(ProtoFault::BadCommand);
+    };
+    match parts.as_slice() {
+        [Term::Int(number), ask] => numbered(alloc, *number, ask),
+        _ => Err(ProtoFault::BadCommand),
+    }
+}
+
+fn numbered(alloc: Global, number: i128, ask: &Term) -> Result<(u32, Asked), ProtoFault>
+    ensures ok { IfOk result (λ r. (request_term r.0 r.1 ≡ pair (int number) (term ask.now)) × (1 ≤ r.0) × IsAsked r.1) }
+    ensures only { (session : ℕ) (a : AskedOf) → 1 ≤ session → session < 4294967296 → IsAsked a → request_term session a ≡ pair (int number) (term ask.now) → result ≢ Err BadCommand }
+{
+    let Some(session) = session_number(number) else {
+        return Err(ProtoFault::BadCommand);
+    };
+    match asked_of(alloc, ask) {
+        Ok(ask) => Ok((session, ask)),
+        Err(fault) => Err(fault),
+    }
+}
+
+fn session_number(number: i128) -> Option<u32>
+    ensures some { IfSome result (λ n. (number ≡ pos n) × (1 ≤ n)) }
+    ensures none { IfNone result ((n : ℕ) → 1 ≤ n → n < 4294967296 → number ≢ pos n) }
+{
+    if number < 1 || number > 4_294_967_295 {
+        return None;
+    }
+    Some(number as u32)
+}
+
+fn asked_of(alloc: Global, ask: &Term) -> Result<Asked, ProtoFault>
+    ensures { ReadsAsked (term ask.now) (is_asked (term ask.now)) result }
+{
+    match ask {
+        Term::Atom(word) => asked_word(word),
+        Term::Tuple(parts) => Ok(Asked::Do(call(alloc, parts)?)),
+        _ => Err(ProtoFault::BadCommand),
+    }
+}
+
+fn asked_word(word: &Atom) -> Result<Asked, ProtoFault>
+    ensures { ReadsAsked (atom word.now) (is_asked_word word.now) result }
+{
+    if word.as_str() == "join" {
+        return Ok(Asked::Join);
+    }
+    if word.as_str() == "leave" {
+        return Ok(Asked::Leave);
+    }
+    if word.as_str() == "retry" {
+        return Ok(Asked::Retry);
+    }
+    if word.as_str() == "take" {
+        return Ok(Asked::Take);
+    }
+    Ok(Asked::Do(one_word(word)?))
 }
