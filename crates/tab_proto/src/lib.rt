@@ -2,10 +2,12 @@
 
 #![tactic(auto)]
 
+mod replying;
 mod requests;
 mod asked;
 mod fault;
 
+pub use replying::reply_term;
 pub use requests::{command, request};
 pub use asked::Asked;
 pub use fault::ProtoFault;
