@@ -1,0 +1,3 @@
+pub mod Words
+pub mod Known
+pub mod Counted

@@ -1,0 +1,16 @@
+use tab_model::Command;
+
+/// What a session asks.
+#[derive(Drop)]
+pub enum Asked {
+    /// `join`.
+    Join,
+    /// `leave`.
+    Leave,
+    /// `retry`.
+    Retry,
+    /// `take`.
+    Take,
+    /// A command.
+    Do(Command),
+}
