@@ -1,7 +1,7 @@
 -- The terms of what a session asks (this project's own rule): a command, or a word for what isn't one.
-use Rattle.std.specs.Prelude.{◌≡◌, ◌≤◌, ◌<◌, ℕ, List, Bool, true, false, ◌||◌, codes, pos, Result, Ok, Err}
+use Rattle.std.specs.Prelude.{◌≡◌, ℕ, List, Bool, true, false, ◌||◌, codes, pos, Result, Ok, Err}
 use Rattle.std.specs.Str.{bytes_eq}
-use Rattle.tab_term.specs.Data.{PlainTerm, int, atom, tuple, list, bin, map, PlainTerms, none, one_more}
+use Rattle.tab_term.specs.Data.{PlainTerm, int, atom, tuple}
 use Rattle.tab_model.specs.Names.{pair}
 use Rattle.tab_core.specs.Served.{serves}
 use Rattle.tab_proto.specs.declared.asked.Asked.{Asked}

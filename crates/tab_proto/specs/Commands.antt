@@ -1,6 +1,6 @@
 -- The terms of commands: each is a call of the Mnesia Reference Manual with the function's name as its first word.
 -- (That begin and commit are calls of their own, and the parts of a one-shot, are this project's own rules.)
-use Rattle.std.specs.Prelude.{ℕ, List, [], ◌∷◌, Bool, true, false, not, ◌&&◌, nat_le, codes, pos}
+use Rattle.std.specs.Prelude.{ℕ, zero, suc, List, [], ◌∷◌, Bool, true, false, not, ◌&&◌, nat_le, codes, pos}
 use Rattle.std.specs.List.{list_all}
 use Rattle.tab_term.specs.Data.{PlainTerm, int, atom, tuple, list, PlainTerms, none, one_more}
 use Rattle.tab_term.specs.View.{term}
@@ -113,20 +113,20 @@ abbrev pub is_part : Part → Bool
 is_part (part.Do o) = is_operation o
 is_part p = true
 
--- each Close ends a transaction that an Open began, and none is left open
-abbrev pub is_nested : List ℕ → List Part → Bool
-is_nested [] [] = true
-is_nested (n ∷ ns) [] = false
-is_nested open_before (part.Open ∷ parts) = is_nested (0 ∷ open_before) parts
-is_nested [] (part.Close ∷ parts) = false
-is_nested (n ∷ ns) (part.Close ∷ parts) = is_nested ns parts
-is_nested open_before (part.Do o ∷ parts) = is_nested open_before parts
-is_nested open_before (part.Abort r ∷ parts) = is_nested open_before parts
+-- each Close ends a transaction that an Open began, and none is left open; so many are open before these parts
+abbrev pub is_nested : ℕ → List Part → Bool
+is_nested zero [] = true
+is_nested (suc n) [] = false
+is_nested n (part.Open ∷ parts) = is_nested (suc n) parts
+is_nested zero (part.Close ∷ parts) = false
+is_nested (suc n) (part.Close ∷ parts) = is_nested n parts
+is_nested n (part.Do o ∷ parts) = is_nested n parts
+is_nested n (part.Abort r ∷ parts) = is_nested n parts
 
 -- what a command has to be to have one of these forms
 abbrev pub is_command : Command → Bool
 is_command (command.Schema c) = is_schema c
 is_command (command.Do o) = is_operation o
-is_command (command.Subscribe t l dump) = not dump  -- what the records were is no part of the form
-is_command (command.OneShot parts retries) = nat_le retries 1000 && (is_nested [] parts && list_all is_part parts)
+is_command (command.Subscribe t l dump) = not dump  -- a term asks for no copy of the records with its mark
+is_command (command.OneShot parts retries) = nat_le retries 1000 && (is_nested 0 parts && list_all is_part parts)
 is_command c = true

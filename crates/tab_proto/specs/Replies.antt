@@ -1,7 +1,7 @@
 -- The terms of replies. An aborted transaction's reason and {already_exists, Tab}, {no_exists, Tab} are those of the
 -- Mnesia Reference Manual; the other refusals are this project's own.
 use Rattle.std.specs.Prelude.{ℕ, List, [], ◌∷◌, codes, pos}
-use Rattle.tab_term.specs.Data.{PlainTerm, int, atom, tuple, list, bin, map, PlainTerms, none, one_more}
+use Rattle.tab_term.specs.Data.{PlainTerm, int, atom, list, PlainTerms, none, one_more}
 use Rattle.tab_term.specs.View.{term}
 use Rattle.tab_model.specs.declared.data.Limit.{Limit}
 use Rattle.tab_model.specs.declared.data.Limit.TheVariants as limit

@@ -2,12 +2,14 @@
 
 #![tactic(auto)]
 
-mod replying;
-mod requests;
 mod asked;
 mod fault;
+mod replying;
+mod requests;
+#[cfg(test)]
+mod tests;
 
-pub use replying::reply_term;
-pub use requests::{command, request};
 pub use asked::Asked;
 pub use fault::ProtoFault;
+pub use replying::reply_term;
+pub use requests::{command, request};

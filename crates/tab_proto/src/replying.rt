@@ -43,7 +43,11 @@ pub fn reply_term(alloc: Global, reply: &Reply) -> Result<Term, AllocError>
         Reply::Tid(age) => worded(alloc, "tid", number(*age)),
         Reply::Atomic(commits) => worded(alloc, "atomic", number(*commits)),
         Reply::AtomicOk => worded(alloc, "atomic", word(alloc, "ok")?),
-        Reply::AtomicTerms(replies) => worded(alloc, "atomic", Term::List(replies.try_clone(alloc)?)),
+        Reply::AtomicTerms(replies) => worded(
+            alloc,
+            "atomic",
+            Term::List(replies.try_clone(alloc)?),
+        ),
         Reply::NoMore => aborted(alloc, word(alloc, "nomore")?),
         Reply::NoWait => aborted(alloc, word(alloc, "nowait")?),
         Reply::Found(rows) => Ok(Term::List(rows.try_clone(alloc)?)),
@@ -114,12 +118,7 @@ fn aborted_at(alloc: Global, fault: &str, table: &Atom) -> Result<Term, AllocErr
     aborted(alloc, worded(alloc, fault, name(alloc, table)?)?)
 }
 
-fn aborted_for(
-    alloc: Global,
-    fault: &str,
-    table: &Atom,
-    value: &Term,
-) -> Result<Term, AllocError>
+fn aborted_for(alloc: Global, fault: &str, table: &Atom, value: &Term) -> Result<Term, AllocError>
     requires { length fault.now ≤ 255 }
     ensures { IfOk result (λ t. term t ≡ aborted_of (triple_of (atom fault.now) (atom table.now) (term value.now))) }
 {
@@ -145,7 +144,11 @@ fn error_at(alloc: Global, fault: &str, table: &Atom) -> Result<Term, AllocError
 fn system_limit(alloc: Global, limit: Limit) -> Result<Term, AllocError>
     ensures { IfOk result (λ t. term t ≡ error_of (pair_of (atom (codes "system_limit")) (atom (limit_word_of limit)))) }
 {
-    worded(alloc, "error", worded(alloc, "system_limit", word(alloc, limit_word(limit))?)?)
+    worded(
+        alloc,
+        "error",
+        worded(alloc, "system_limit", word(alloc, limit_word(limit))?)?,
+    )
 }
 
 fn limit_word(limit: Limit) -> &'static str

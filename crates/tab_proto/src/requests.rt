@@ -12,12 +12,11 @@ ghost use Rattle.tab_proto.specs.declared.asked.Asked.{Asked as AskedOf};
 ghost use Rattle.tab_model.specs.declared.data.Command.{Command as CommandOf};
 ghost use Rattle.tab_proto.specs.declared.fault.ProtoFault.TheVariants.{BadCommand, NoMemory};
 
+use crate::asked::Asked;
+use crate::fault::ProtoFault;
 use std::alloc::{AllocError, Global};
 use tab_model::{Command, Operation, Schema};
 use tab_term::{Atom, Term, Terms};
-
-use crate::asked::Asked;
-use crate::fault::ProtoFault;
 
 /// The command that a term is. So far the commands are those that the core serves: `create_table` with no options,
 /// `begin`, `commit`, `abort`, `read` and `write`. Every other term is BadCommand.

@@ -1,0 +1,217 @@
+use crate::{Asked, ProtoFault, command, reply_term, request};
+use std::alloc::{AllocError, Global};
+use tab_etf::{decode, encode};
+use tab_model::{
+    Atoms, Command, Ending, Item, Level, Limit, Numbers, Operation, Reply, Schema, TableInfo,
+};
+use tab_term::{Atom, Term, Terms};
+
+/// What a request is to be read as. Terms stand as payloads of the external term format.
+enum Wanted {
+    Join,
+    Leave,
+    Retry,
+    Take,
+    Create(&'static str),
+    Begin,
+    Commit,
+    Abort(&'static [u8]),
+    Read(&'static str, i128),
+    Write(&'static [u8]),
+    Bad,
+}
+
+/// Payloads, the session of each, and what it asks.
+const REQUESTS: [(&[u8], u32, Wanted); 26] = [
+    (b"\x83h\x02a\x01w\x04join", 1, Wanted::Join),
+    (b"\x83h\x02a\x02w\x05leave", 2, Wanted::Leave),
+    (b"\x83h\x02a\x03w\x05retry", 3, Wanted::Retry),
+    (b"\x83h\x02a\x04w\x04take", 4, Wanted::Take),
+    (
+        b"\x83h\x02n\x04\x00\xff\xff\xff\xffw\x05begin",
+        4294967295,
+        Wanted::Begin,
+    ),
+    (b"\x83h\x02a\x01w\x06commit", 1, Wanted::Commit),
+    (
+        b"\x83h\x02a\x01h\x03w\x0ccreate_tablew\x01tj",
+        1,
+        Wanted::Create("t"),
+    ),
+    (
+        b"\x83h\x02a\x01h\x02w\x05aborta\x05",
+        1,
+        Wanted::Abort(b"\x83a\x05"),
+    ),
+    (
+        b"\x83h\x02a\x01h\x03w\x04readw\x01ta\x07",
+        1,
+        Wanted::Read("t", 7),
+    ),
+    (
+        b"\x83h\x02a\x01h\x02w\x05writeh\x03w\x01ta\x01a\x02",
+        1,
+        Wanted::Write(b"\x83h\x03w\x01ta\x01a\x02"),
+    ),
+    (
+        b"\x83h\x02a\x01h\x02w\x05writeh\x02w\x01ta\x01",
+        1,
+        Wanted::Write(b"\x83h\x02w\x01ta\x01"),
+    ),
+    // Session numbers are 1 to 4,294,967,295.
+    (b"\x83h\x02a\x00w\x05begin", 0, Wanted::Bad),
+    (
+        b"\x83h\x02n\x05\x00\x00\x00\x00\x00\x01w\x05begin",
+        0,
+        Wanted::Bad,
+    ),
+    (b"\x83h\x02b\xff\xff\xff\xffw\x05begin", 0, Wanted::Bad),
+    (b"\x83h\x02w\x01aw\x05begin", 0, Wanted::Bad),
+    (b"\x83w\x05begin", 0, Wanted::Bad),
+    (b"\x83h\x03a\x01w\x05begina\x01", 0, Wanted::Bad),
+    // No commands: a word in a tuple, another word, a record of arity 1, one without a table's name, options that are no
+    // list, a table that is no atom, too few and too many words, a number.
+    (b"\x83h\x02a\x01h\x01w\x05begin", 0, Wanted::Bad),
+    (b"\x83h\x02a\x01w\x05began", 0, Wanted::Bad),
+    (b"\x83h\x02a\x01h\x02w\x05writeh\x01w\x01t", 0, Wanted::Bad),
+    (
+        b"\x83h\x02a\x01h\x02w\x05writeh\x02a\x01a\x02",
+        0,
+        Wanted::Bad,
+    ),
+    (
+        b"\x83h\x02a\x01h\x03w\x0ccreate_tablew\x01tw\x01u",
+        0,
+        Wanted::Bad,
+    ),
+    (b"\x83h\x02a\x01h\x03w\x04reada\x01a\x07", 0, Wanted::Bad),
+    (b"\x83h\x02a\x01h\x02w\x04readw\x01t", 0, Wanted::Bad),
+    (b"\x83h\x02a\x01h\x03w\x05aborta\x01a\x02", 0, Wanted::Bad),
+    (b"\x83h\x02a\x01a\x01", 0, Wanted::Bad),
+];
+
+fn is_held(alloc: Global, held: &Term, payload: &[u8]) -> bool {
+    match decode(alloc, payload) {
+        Ok(wanted) => *held == wanted,
+        Err(_) => false,
+    }
+}
+
+fn is_command(alloc: Global, command: &Command, wanted: &Wanted) -> bool {
+    match (command, wanted) {
+        (Command::Begin, Wanted::Begin) | (Command::Commit, Wanted::Commit) => true,
+        (Command::Schema(Schema::Create(table, options)), Wanted::Create(name)) => {
+            table.as_str() == *name && options.as_slice().is_empty()
+        }
+        (Command::Abort(reason), Wanted::Abort(payload)) => is_held(alloc, reason, payload),
+        (Command::Do(Operation::Read(table, Term::Int(key))), Wanted::Read(name, number)) => {
+            table.as_str() == *name && key == number
+        }
+        (Command::Do(Operation::Write(row)), Wanted::Write(payload)) => is_held(
+            alloc, row, payload,
+        ),
+        _ => false,
+    }
+}
+
+fn is_asked(alloc: Global, asked: &Asked, wanted: &Wanted) -> bool {
+    match (asked, wanted) {
+        (Asked::Join, Wanted::Join)
+        | (Asked::Leave, Wanted::Leave)
+        | (Asked::Retry, Wanted::Retry)
+        | (Asked::Take, Wanted::Take) => true,
+        (Asked::Do(command), wanted) => is_command(alloc, command, wanted),
+        _ => false,
+    }
+}
+
+#[test]
+fn requests_are_read(rt: HostRuntime) {
+    let alloc = rt.alloc();
+    for (line, (payload, number, wanted)) in REQUESTS.iter().enumerate() {
+        let asked = decode(alloc, payload).expect(&rt, "a term");
+        let right = match request(alloc, &asked) {
+            Ok((session, asked)) => session == *number && is_asked(alloc, &asked, wanted),
+            Err(fault) => fault == ProtoFault::BadCommand && matches!(wanted, Wanted::Bad),
+        };
+        assert!(rt; right, "line {line}");
+    }
+}
+
+#[test]
+fn a_command_is_read_alone(rt: HostRuntime) {
+    let alloc = rt.alloc();
+    let asked = decode(alloc, b"\x83h\x02w\x05aborta\x05").expect(&rt, "a term");
+    let read = command(alloc, &asked).expect(&rt, "a command");
+    assert!(rt; matches!(read, Command::Abort(Term::Int(5))));
+}
+
+/// Payloads of replies: the one of each line is that of `sample` at its number.
+const PAYLOADS: [&[u8]; 15] = [
+    b"\x83w\x02ok",
+    b"\x83h\x02w\x03tida\x01",
+    b"\x83h\x02w\x06atomica\x02",
+    b"\x83h\x02w\x06atomicw\x02ok",
+    b"\x83l\x00\x00\x00\x01w\x01aj",
+    b"\x83h\x02w\x05errorw\x0abadcommand",
+    b"\x83h\x02w\x05errorh\x02w\x0csystem_limitw\x06tables",
+    b"\x83h\x02w\x07abortedh\x02w\x09no_existsw\x01t",
+    b"\x83h\x02w\x07abortedh\x03w\x08bad_typew\x01ta\x05",
+    b"\x83h\x02w\x07aborteda\x05",
+    b"\x83h\x02w\x05errorh\x02w\x0enot_subscribedw\x01t",
+    b"\x83k\x00\x01\x03",
+    b"\x83l\x00\x00\x00\x01w\x01aj",
+    b"\x83h\x03w\x10mnesia_table_endw\x01tw\x07deleted",
+    b"\x83h\x03w\x12mnesia_table_beginw\x01tw\x08detailed",
+];
+
+fn name(alloc: Global, text: &'static str) -> Result<Atom, AllocError> {
+    match Atom::new(String::from_str(alloc, text)?) {
+        Ok(atom) => Ok(atom),
+        Err(_) => Atom::from_short_text(alloc, ""),
+    }
+}
+
+fn sample(alloc: Global, line: usize) -> Result<Reply, AllocError> {
+    Ok(match line {
+        0 => Reply::Done,
+        1 => Reply::Tid(1),
+        2 => Reply::Atomic(2),
+        3 => Reply::AtomicOk,
+        4 => {
+            let mut rows = Vec::new(alloc);
+            rows.push(Term::Atom(name(alloc, "a")?))?;
+            Reply::Found(Terms::from_vec(rows))
+        }
+        5 => Reply::BadCommand,
+        6 => Reply::SystemLimit(Limit::Tables),
+        7 => Reply::NoTable(name(alloc, "t")?),
+        8 => Reply::BadType(name(alloc, "t")?, Term::Int(5)),
+        9 => Reply::UserAbort(Term::Int(5)),
+        10 => Reply::NotSubscribed(name(alloc, "t")?),
+        11 => {
+            let mut items = Vec::new(alloc);
+            items.push(3)?;
+            Reply::Told(TableInfo::Index(Numbers { items }))
+        }
+        12 => {
+            let mut items = Vec::new(alloc);
+            items.push(name(alloc, "a")?)?;
+            Reply::Told(TableInfo::Attributes(Atoms { items }))
+        }
+        13 => Reply::Taken(Item::Ended(name(alloc, "t")?, Ending::Deleted)),
+        _ => Reply::Taken(Item::Began(name(alloc, "t")?, Level::Detailed, None)),
+    })
+}
+
+#[test]
+fn replies_are_spelled(rt: HostRuntime) {
+    let alloc = rt.alloc();
+    for (line, wanted) in PAYLOADS.iter().enumerate() {
+        let reply = sample(alloc, line).expect(&rt, "memory");
+        let answer = reply_term(alloc, &reply).expect(&rt, "memory");
+        let mut payload = Vec::new(alloc);
+        encode(&answer, &mut payload).expect(&rt, "memory");
+        assert!(rt; payload.as_slice() == *wanted, "line {line}");
+    }
+}
