@@ -1,0 +1,4 @@
+pub mod Made
+pub mod Runs
+pub mod Served
+pub mod Replayed

@@ -1,0 +1,69 @@
+-- Runs of the machine, and what a writer holds.
+use Rattle.std.proofs.Common.{◌≡◌, ℕ, zero, suc, ◌+◌, List, [], ◌∷◌, ◌++◌, length, take, Option, Some, None, refl, sym, ap, subst, ◌∙◌, append_assoc, inl, inr}
+use Rattle.std.specs.Io.KnownBytes.{Appends, Keeps}
+use Rattle.std.proofs.lemmas.List.{append-nil}
+use Rattle.std.proofs.lemmas.List.Concat.{flat_map-append}
+use Rattle.std.proofs.Math.Seq.{take-append-add}
+use Rattle.tab_session.specs.declared.answered.Answer.{Answer}
+use Rattle.tab_model.specs.State.{State}
+use Rattle.tab_session.specs.Answers.{Answered, IsUnderRead, Ran, answer_frame}
+use Rattle.std.proofs.Common.{Result, Ok, Err}
+use Rattle.tab_term.specs.Data.{PlainTerm}
+use Rattle.tab_etf.specs.Reading.{whole}
+use Rattle.tab_etf.specs.declared.fault.Stop.{Stop}
+use Rattle.tab_model.specs.declared.data.Reply.TheVariants.{NoMemory}
+use Rattle.tab_session.specs.Replays.{frames_of, Said}
+
+abbrev unasked : Answer
+unasked = record { session = 0; reply = NoMemory }
+
+under : (read : Result PlainTerm Stop) → IsUnderRead read 0
+under (Ok t) = inl refl
+under (Err f) = refl
+
+refused : (σ : State) (p : List ℕ) → Answered σ p unasked σ
+refused σ p = inr (record { reply = refl; same = refl; under = under (whole p) })
+
+-- any payloads can be answered
+pub total : (σ : State) (ps : List (List ℕ)) → (rs : List Answer) × Said σ ps rs
+total σ [] = ([], record { last = σ; ran = refl })
+total σ (p ∷ ps) =
+    let t = total σ ps in
+    (unasked ∷ t.0, record { last = t.1.last; ran = (σ, refused σ p, t.1.ran) })
+
+pub ran_join : (σ μ τ : State) (ps qs : List (List ℕ)) (rs ss : List Answer) → Ran σ ps rs μ → Ran μ qs ss τ → Ran σ (ps ++ qs) (rs ++ ss) τ
+ran_join σ μ τ [] qs [] ss p q = subst (λ (s : State). Ran s qs ss τ) p q
+ran_join σ μ τ [] qs (r ∷ rs) ss p q = absurd p
+ran_join σ μ τ (x ∷ ps) qs [] ss p q = absurd p
+ran_join σ μ τ (x ∷ ps) qs (r ∷ rs) ss p q = (p.0, p.1, ran_join p.0 μ τ ps qs rs ss p.2 q)
+
+pub frames_join : (rs ss : List Answer) → frames_of (rs ++ ss) ≡ frames_of rs ++ frames_of ss
+frames_join rs ss = flat_map-append answer_frame rs ss
+
+pub frames_one : (rs : List Answer) (r : Answer) → frames_of (rs ++ r ∷ []) ≡ frames_of rs ++ answer_frame r
+frames_one rs r = frames_join rs (r ∷ []) ∙ ap (λ (x : List ℕ). frames_of rs ++ x) (append-nil (answer_frame r))
+
+-- a beginning of the first part is one of the whole
+pub beginning : (n : ℕ) (b rest : List ℕ) → (k : ℕ) × (take k (b ++ rest) ≡ take n b)
+beginning zero b rest = (0, refl)
+beginning (suc n) [] rest = (0, refl)
+beginning (suc n) (x ∷ b) rest = let i = beginning n b rest in (suc i.0, ap (λ (xs : List ℕ). x ∷ xs) i.1)
+
+pub beginning_after : (a : List ℕ) (n : ℕ) (b rest : List ℕ) → (k : ℕ) × (take k (a ++ (b ++ rest)) ≡ a ++ take n b)
+beginning_after a n b rest = let i = beginning n b rest in (length a + i.0, take-append-add a (b ++ rest) i.0 ∙ ap (λ (x : List ℕ). a ++ x) i.1)
+
+pub Appends-none : (a : Option (List ℕ)) → Appends a a []
+Appends-none None = tt
+Appends-none (Some xs) = sym (append-nil xs)
+
+pub Appends-then : (a b c : Option (List ℕ)) (x y z : List ℕ) → Appends a b x → Appends b c y → x ++ y ≡ z → Appends a c z
+Appends-then None b c x y z p q e = tt
+Appends-then (Some xs) None c x y z p q e = absurd p
+Appends-then (Some xs) (Some ys) None x y z p q e = absurd q
+Appends-then (Some xs) (Some ys) (Some zs) x y z p q e = q ∙ ap (λ (r : List ℕ). r ++ y) p ∙ append_assoc xs x y ∙ ap (λ (r : List ℕ). xs ++ r) e
+
+pub Appends-keeps : (a b c : Option (List ℕ)) (x : List ℕ) → Appends a b x → Keeps b c → Appends a c x
+Appends-keeps None b c x p q = tt
+Appends-keeps (Some xs) None c x p q = absurd p
+Appends-keeps (Some xs) (Some ys) None x p q = absurd q
+Appends-keeps (Some xs) (Some ys) (Some zs) x p q = q ∙ p

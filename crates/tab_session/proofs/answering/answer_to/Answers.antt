@@ -1,0 +1,6 @@
+use Rattle.std.proofs.Common.{Err, ap, inl, refl}
+use Rattle.tab_session.proofs.answering.answer_to.Goals as goal
+
+pub returns-in-Err-BadCommand : goal.returns-in-Err-BadCommand
+returns-in-Err-BadCommand c =
+    inl (inl (λ session a low high asked same. c.in-Err-BadCommand.ensures.only session a low high asked same (ap Err c.in-Err-BadCommand.field-0-is), c.unasked.ensures, refl))

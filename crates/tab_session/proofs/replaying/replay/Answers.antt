@@ -1,0 +1,5 @@
+use Rattle.tab_session.proofs.Replayed.{nothing_if}
+use Rattle.tab_session.proofs.replaying.replay.Goals as goal
+
+pub returns-in_default-clause-bytes : goal.returns-in_default-clause-bytes
+returns-in_default-clause-bytes g c = nothing_if _ _

@@ -1,0 +1,13 @@
+use Rattle.std.proofs.Common.{◌≡◌, drop}
+use Rattle.tab_etf.specs.Frames.{contents}
+use Rattle.tab_session.specs.Replays.{IsServing}
+use Rattle.tab_session.proofs.serving.serve_all.Given as goal
+
+pub record Kept (A B : Type 0) : Type 0 where
+  pub serving : A
+  pub faults : B
+
+abbrev pub invariant-frames : goal.invariant-frames
+invariant-frames g l = Kept
+    (IsServing l.initial.core l.core (contents l.frames) (contents (drop l.frame-index l.frames)) (g.W.Write.contents l.initial.output.inner) (g.W.Write.contents l.output.inner) l.buffer.items)
+    (l.output.faults ≡ l.initial.output.faults)

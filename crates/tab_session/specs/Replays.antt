@@ -1,0 +1,150 @@
+-- What a replay writes of what it reads.
+use Rattle.std.specs.Prelude.{◌≡◌, ◌≢◌, ℕ, ◌+◌, ◌<◌, ◌≤◌, ◌-◌, ◌^◌, min, List, [], ◌∷◌, ◌++◌, length, take, drop, Option, Some, None, Result, Ok, Err, ◌⊎◌}
+use Rattle.std.specs.List.{flat_map}
+use Rattle.std.specs.Io.KnownBytes.{Appends}
+use Rattle.tab_etf.specs.Streams.{payloads, rest_of}
+use Rattle.tab_session.specs.declared.answered.Answer.{Answer}
+use Rattle.tab_model.specs.State.{State, new}
+use Rattle.tab_model.specs.declared.data.Limits.{Limits}
+use Rattle.tab_session.specs.Answers.{Answered, NotPut, Ran, answer_payload, answer_frame}
+use Rattle.tab_etf.specs.declared.encoding.EncodeFault.{EncodeFault}
+use Rattle.tab_etf.specs.declared.encoding.EncodeFault.TheVariants as puts
+use Rattle.tab_session.specs.declared.ended.Ended.{Ended}
+use Rattle.tab_session.specs.declared.ended.Ended.TheVariants.{Damaged, Device, TooLong, NoMemory}
+
+-- so far there is one session, with one level of its transaction
+abbrev pub limits : Limits
+limits = record { sessions = 1; nesting = 1; operations = 1000; tables = 256; ages = 9223372036854775807; journal = 1024 }
+
+-- a core without tables and sessions
+abbrev pub fresh : State
+fresh = new limits
+
+abbrev pub frames_of : List Answer → List ℕ
+frames_of rs = flat_map answer_frame rs
+
+-- a run over all these payloads says these replies
+pub record Said (σ : State) (ps : List (List ℕ)) (rs : List Answer) : Type 0 where
+  pub last : State
+  pub ran : Ran σ ps rs last
+
+-- the frames of all replies were written
+pub record WroteAll (σ : State) (ps : List (List ℕ)) (old new : Option (List ℕ)) : Type 0 where
+  pub replies : List Answer
+  pub said : Said σ ps replies
+  pub text : Appends old new (frames_of replies)
+
+-- a beginning of the text was written
+pub record WroteSome (σ : State) (ps : List (List ℕ)) (old new : Option (List ℕ)) : Type 0 where
+  pub replies : List Answer
+  pub said : Said σ ps replies
+  pub count : ℕ
+  pub text : Appends old new (take count (frames_of replies))
+
+-- the frames of the first replies were written
+pub record WroteFirst (σ : State) (ps : List (List ℕ)) (old new : Option (List ℕ)) : Type 0 where
+  pub first : List Answer
+  pub others : List Answer
+  pub said : Said σ ps (first ++ others)
+  pub text : Appends old new (frames_of first)
+
+abbrev pub BeginsTooLong : List Answer → Type 0
+BeginsTooLong [] = ⊥
+BeginsTooLong (r ∷ rs) = 4294967295 < length (answer_payload r)
+
+-- the frames of the replies before one that is too long were written
+pub record WroteBefore (σ : State) (ps : List (List ℕ)) (old new : Option (List ℕ)) : Type 0 where
+  pub first : List Answer
+  pub others : List Answer
+  pub said : Said σ ps (first ++ others)
+  pub text : Appends old new (frames_of first)
+  pub next : BeginsTooLong others
+
+pub record Passed (σ τ : State) (ps : List (List ℕ)) (old new : Option (List ℕ)) : Type 0 where
+  pub replies : List Answer
+  pub ran : Ran σ ps replies τ
+  pub text : Appends old new (frames_of replies)
+
+-- one payload was answered, and its frame added
+pub record Put (σ μ : State) (p : List ℕ) (old new : List ℕ) : Type 0 where
+  pub answer : Answer
+  pub answered : Answered σ p answer μ
+  pub text : new ≡ old ++ answer_frame answer
+
+-- one payload was answered, and its frame could not be added
+pub record Unput (σ μ : State) (p : List ℕ) (old new : List ℕ) (e : EncodeFault) : Type 0 where
+  pub answer : Answer
+  pub answered : Answered σ p answer μ
+  pub why : NotPut answer e
+  pub same : new ≡ old
+
+abbrev pub ServedOne : State → List ℕ → State → List ℕ → List ℕ → Result (Unit {0}) EncodeFault → Type 0
+ServedOne σ p μ old new (Ok u) = Put σ μ p old new
+ServedOne σ p μ old new (Err e) = Unput σ μ p old new e
+
+-- these payloads were served
+abbrev pub Served : State → State → List (List ℕ) → Option (List ℕ) → Option (List ℕ) → Result (Unit {0}) Ended → Type 0
+Served σ τ ps old new (Ok u) = Passed σ τ ps old new
+Served σ τ ps old new (Err Damaged) = ⊥
+Served σ τ ps old new (Err Device) = WroteSome σ ps old new
+Served σ τ ps old new (Err TooLong) = WroteBefore σ ps old new
+Served σ τ ps old new (Err NoMemory) = WroteFirst σ ps old new
+
+-- the whole stream was replayed by a new core
+abbrev pub Replayed : List ℕ → Option (List ℕ) → Option (List ℕ) → Result (Unit {0}) Ended → Type 0
+Replayed stream old new (Ok u) = (rest_of stream ≡ []) × WroteAll fresh (payloads stream) old new
+Replayed stream old new (Err Damaged) = (rest_of stream ≢ []) × WroteAll fresh (payloads stream) old new
+Replayed stream old new (Err Device) = WroteSome fresh (payloads stream) old new
+Replayed stream old new (Err TooLong) = WroteBefore fresh (payloads stream) old new
+Replayed stream old new (Err NoMemory) = WroteFirst fresh (payloads stream) old new
+
+abbrev pub ended_of : EncodeFault → Ended
+ended_of puts.TooLong = TooLong
+ended_of puts.NoMemory = NoMemory
+
+abbrev pub Rises : ℕ → ℕ → Type 0
+Rises old new = new ≡ min (old + 1) (2 ^ 64 - 1)
+
+-- how often a writer failed
+abbrev pub OneFault : ℕ → ℕ → Result (Unit {0}) Ended → Type 0
+OneFault old new (Ok u) = new ≡ old
+OneFault old new (Err Damaged) = new ≡ old
+OneFault old new (Err Device) = Rises old new
+OneFault old new (Err TooLong) = new ≡ old
+OneFault old new (Err NoMemory) = new ≡ old
+
+abbrev pub Sound : ℕ → ℕ → ℕ → ℕ → Type 0
+Sound a b c d = (b ≡ a) × (d ≡ c)
+
+-- how often a reader and a writer failed
+abbrev pub Faults : ℕ → ℕ → ℕ → ℕ → Result (Unit {0}) Ended → Type 0
+Faults a b c d (Ok u) = Sound a b c d
+Faults a b c d (Err Damaged) = Sound a b c d
+Faults a b c d (Err Device) = (Rises a b × (d ≡ c)) ⊎ ((b ≡ a) × Rises c d)
+Faults a b c d (Err TooLong) = Sound a b c d
+Faults a b c d (Err NoMemory) = Sound a b c d
+
+-- the loop over the payloads of a piece: what was said, and how a run goes on
+pub record IsServing (σ now : State) (all left : List (List ℕ)) (old new : Option (List ℕ)) (buffer : List ℕ) : Type 0 where
+  pub said : List Answer
+  pub goes : (ss : List Answer) (τ : State) → Ran now left ss τ → Ran σ all (said ++ ss) τ
+  pub written : List ℕ
+  pub text : Appends old new written
+  pub whole : written ++ buffer ≡ frames_of said
+
+-- the loop over the reader
+pub record IsReplaying (stream : List ℕ) (left : Option (List ℕ)) (held : List ℕ) (rounds : ℕ) (now : State) (old new : Option (List ℕ)) : Type 0 where
+  pub more : List ℕ
+  pub has : left ≡ Some more
+  pub done : List (List ℕ)
+  pub said : List Answer
+  pub found : payloads stream ≡ done ++ payloads (held ++ more)
+  pub ends : rest_of stream ≡ rest_of (held ++ more)
+  pub goes : (qs : List (List ℕ)) (ss : List Answer) (τ : State) → Ran now qs ss τ → Ran fresh (done ++ qs) (said ++ ss) τ
+  pub text : Appends old new (frames_of said)
+  pub count : rounds + length more ≤ length stream
+
+-- after a piece the loop goes on, or the whole is said
+abbrev pub Advances : Result (Unit {0}) Ended → List ℕ → Option (List ℕ) → List ℕ → ℕ → State → Option (List ℕ) → Option (List ℕ) → Type 0
+Advances (Ok u) stream left held rounds now old new = IsReplaying stream left held rounds now old new
+Advances (Err e) stream left held rounds now old new = Replayed stream old new (Err e)

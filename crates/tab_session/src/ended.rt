@@ -1,0 +1,17 @@
+use thiserror::Error;
+
+/// Why a replay ended before its stream did, or inside a frame.
+#[derive(Clone, Copy, Debug, PartialEq, Eq, Error)]
+pub enum Ended {
+    /// The stream ends inside a frame, or a length over 1,048,576 stands in it.
+    #[error("damaged input")]
+    Damaged,
+    /// A read, a write or a flush failed.
+    #[error("device")]
+    Device,
+    /// A reply has over 4,294,967,295 bytes.
+    #[error("too long")]
+    TooLong,
+    #[error("no memory")]
+    NoMemory,
+}

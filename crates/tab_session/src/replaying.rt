@@ -1,0 +1,82 @@
+//! A whole stream of requests.
+
+ghost use Rattle.std.specs.Prelude.{◌≡◌, [], None, ◌<◌, ◌-◌, ◌^◌, length, IfSome};
+ghost use Rattle.tab_session.specs.Replays.{Replayed, Faults, fresh};
+
+use crate::Ended;
+use crate::serving::serve_piece;
+use std::alloc::Global;
+use std::io::{Read, Write};
+use tab_core::Core;
+use tab_etf::{Counted, Splitter};
+use tab_model::Limits;
+
+/// The largest piece that is read at once.
+const PIECE: usize = 65_536;
+
+/// So far there is one session, with one level of its transaction.
+const LIMITS: Limits = Limits {
+    sessions: 1,
+    nesting: 1,
+    operations: 1000,
+    tables: 256,
+    ages: 9_223_372_036_854_775_807,
+    journal: 1024,
+};
+
+fn run_all<R: Read, W: Write>(
+    alloc: Global,
+    core: &mut Core,
+    splitter: &mut Splitter,
+    piece: &mut [u8],
+    input: &mut Counted<R>,
+    output: &mut Counted<W>,
+) -> Result<(), Ended>
+    requires core { core.old ≡ fresh }
+    requires splitter { splitter.old ≡ record { rest = []; over = None; before = [] } }
+    requires room { 0 < length piece.old }
+    ensures bytes { IfSome (R.remaining input.old.inner) (λ stream. length stream < 2 ^ 64 - 1 →
+        Replayed stream (W.contents output.old.inner) (W.contents output.new.inner) result) }
+    ensures faults { Faults input.old.faults input.new.faults output.old.faults output.new.faults result }
+{
+    'rounds: for round in 0..u64::MAX {
+        match input.get(piece) {
+            Ok(0) => {
+                return match splitter.finish() {
+                    Ok(()) => Ok(()),
+                    Err(_) => Err(Ended::Damaged),
+                };
+            }
+            Ok(count) => match serve_piece(alloc, core, splitter, &piece[..count], output) {
+                Ok(()) => {}
+                Err(ended) => return Err(ended),
+            },
+            Err(_) => return Err(Ended::Device),
+        }
+    }
+    match splitter.finish() {
+        Ok(()) => Ok(()),
+        Err(_) => Err(Ended::Damaged),
+    }
+}
+
+/// Reads the frames of a stream, and writes the frames of their replies, in order, with a flush after each piece.
+///
+/// The replies to all whole frames are written before it ends as `Damaged`; before `TooLong` and `NoMemory`, those to
+/// the first frames, whole; before `Device`, a beginning of them.
+pub fn replay<R: Read, W: Write>(
+    alloc: Global,
+    input: &mut Counted<R>,
+    output: &mut Counted<W>,
+) -> Result<(), Ended>
+    ensures bytes { IfSome (R.remaining input.old.inner) (λ stream. length stream < 2 ^ 64 - 1 →
+        Replayed stream (W.contents output.old.inner) (W.contents output.new.inner) result) }
+    ensures faults { Faults input.old.faults input.new.faults output.old.faults output.new.faults result }
+{
+    let mut core = Core::new(alloc, LIMITS);
+    let mut splitter = Splitter::new(alloc);
+    let Ok(mut piece) = vec![in alloc; 0u8; PIECE] else {
+        return Err(Ended::NoMemory);
+    };
+    run_all(alloc, &mut core, &mut splitter, &mut piece, input, output)
+}

@@ -1,0 +1,111 @@
+//! The frames of one piece of the stream, and what is written for them.
+
+ghost use Rattle.std.specs.Prelude.{◌≡◌, ◌+◌, ◌<◌, ℕ, List, Option, None, length, OnOk};
+ghost use Rattle.std.specs.Io.KnownBytes.{Consumes};
+ghost use Rattle.tab_etf.specs.Frames.{contents, payload_of};
+ghost use Rattle.tab_session.specs.Replays.{IsReplaying, Advances, Served, ServedOne, OneFault, ended_of};
+
+use crate::Ended;
+use crate::answering::{answer, put_answer};
+use std::alloc::Global;
+use std::io::Write;
+use tab_core::Core;
+use tab_etf::{Counted, EncodeFault, Frame, FrameFault, Splitter};
+
+/// So many bytes of replies are kept before they are written.
+const KEPT: usize = 65_536;
+
+fn ended_by(fault: EncodeFault) -> Ended
+    ensures { result ≡ ended_of fault }
+{
+    match fault {
+        EncodeFault::TooLong => Ended::TooLong,
+        EncodeFault::NoMemory => Ended::NoMemory,
+    }
+}
+
+fn payload_in(frame: &Frame) -> &[u8]
+    ensures { result.now ≡ payload_of frame.now }
+{
+    match frame {
+        Frame::Empty => &[],
+        Frame::Payload(payload) => payload,
+    }
+}
+
+/// Answers one payload, and adds the frame of its reply. On an error the bytes are as before.
+fn serve_one(
+    alloc: Global,
+    core: &mut Core,
+    frame: &Frame,
+    buffer: &mut Vec<u8>,
+) -> Result<(), EncodeFault>
+    ensures { ServedOne core.old (payload_of frame.now) core.new buffer.old.items buffer.new.items result }
+{
+    let answer = answer(core, alloc, payload_in(frame));
+    put_answer(alloc, &answer, buffer)
+}
+
+/// Answers the payloads of these frames, and writes the replies.
+fn serve_all<W: Write>(
+    alloc: Global,
+    core: &mut Core,
+    frames: &[Frame],
+    output: &mut Counted<W>,
+) -> Result<(), Ended>
+    ensures served { Served core.old core.new (contents frames.now) (W.contents output.old.inner) (W.contents output.new.inner) result }
+    ensures faults { OneFault output.old.faults output.new.faults result }
+{
+    let mut buffer = Vec::new(alloc);
+    'frames: for frame in frames {
+        match serve_one(alloc, core, frame, &mut buffer) {
+            Ok(()) => {}
+            Err(fault) => match output.put(&buffer) {
+                Ok(()) => return Err(ended_by(fault)),
+                Err(_) => return Err(Ended::Device),
+            },
+        }
+        if buffer.len() >= KEPT {
+            match output.put(&buffer) {
+                Ok(()) => buffer.clear(),
+                Err(_) => return Err(Ended::Device),
+            }
+        }
+    }
+    match output.put(&buffer) {
+        Ok(()) => {}
+        Err(_) => return Err(Ended::Device),
+    }
+    match output.flush() {
+        Ok(()) => Ok(()),
+        Err(_) => Err(Ended::Device),
+    }
+}
+
+/// Serves the frames that are whole with this piece.
+pub fn serve_piece<W: Write>(
+    alloc: Global,
+    core: &mut Core,
+    splitter: &mut Splitter,
+    piece: &[u8],
+    output: &mut Counted<W>,
+) -> Result<(), Ended>
+    requires { splitter.old.over ≡ None }
+    ensures piece { (stream : List ℕ) (old left new_left : Option (List ℕ)) (i : ℕ) →
+        IsReplaying stream left splitter.old.rest i core.old old (W.contents output.old.inner) →
+        Consumes left new_left piece.now → 0 < length piece.now →
+        Advances result stream new_left splitter.new.rest (i + 1) core.new old (W.contents output.new.inner) }
+    ensures going { OnOk result (splitter.new.over ≡ None) }
+    ensures faults { OneFault output.old.faults output.new.faults result }
+{
+    match splitter.feed(piece) {
+        Ok(frames) => serve_all(alloc, core, &frames, output),
+        Err(FrameFault::FrameTooLong(_)) => {
+            match serve_all(alloc, core, splitter.before_fault(), output) {
+                Ok(()) => Err(Ended::Damaged),
+                Err(ended) => Err(ended),
+            }
+        }
+        Err(_) => Err(Ended::NoMemory),
+    }
+}
