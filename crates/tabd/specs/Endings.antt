@@ -1,8 +1,7 @@
 -- The exit statuses and the lines on standard error. Source: this project's own rule.
-use Rattle.std.specs.Prelude.{ℕ, List, Option, Some, None, Result, Ok, Err, codes}
+use Rattle.std.specs.Prelude.{◌≡◌, ℕ, List, Option, Some, None, codes, ◌⊎◌}
 use Rattle.clap.specs.declared.error.kind.ErrorKind.{ErrorKind}
 use Rattle.clap.specs.declared.error.kind.ErrorKind.TheVariants as kind
-use Rattle.tabd.specs.declared.engine.Ended.{Ended}
 use Rattle.tabd.specs.declared.engine.Ended.TheVariants.{Damaged, Device, TooLong, NoMemory}
 use Rattle.tabd.specs.declared.ending.End.{End}
 use Rattle.tabd.specs.declared.ending.End.TheVariants.{Done, WrongWords, Stopped}
@@ -32,3 +31,8 @@ end_of_words kind.DisplayHelp = Done
 end_of_words kind.DisplayVersion = Done
 end_of_words kind.OutOfMemory = Stopped NoMemory
 end_of_words k = WrongWords
+
+-- how the program ends once the parser's text is shown: help that can't be written is a device fault
+abbrev pub IsShown : End → End → Type 0
+IsShown Done end = (end ≡ Done) ⊎ (end ≡ Stopped Device)
+IsShown end shown = shown ≡ end

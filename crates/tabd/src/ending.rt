@@ -1,6 +1,6 @@
 //! How a run of the program ends: its status, and its line on standard error.
 
-ghost use Rattle.std.specs.Prelude.{◌≡◌, IfErr, OnOk, option_map};
+ghost use Rattle.std.specs.Prelude.{◌≡◌, ◌≤◌, IfErr, OnOk, option_map};
 ghost use Rattle.tabd.specs.Endings.{end_of_words, message_of, status_of};
 
 use crate::Ended;
@@ -41,7 +41,8 @@ pub fn end_of_words(kind: ErrorKind) -> End
 
 /// The program's exit status.
 pub fn status_of(end: &End) -> u8
-    ensures { result ≡ status_of end.now }
+    ensures status { result ≡ status_of end.now }
+    ensures bound { result ≤ 3 }
 {
     match end {
         End::Done => 0,

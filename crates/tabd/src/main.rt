@@ -4,6 +4,8 @@
 mod ending;
 mod engine;
 mod running;
+#[cfg(test)]
+mod tests;
 mod words;
 
 use engine::{Ended, replay};
@@ -11,5 +13,5 @@ use running::run;
 use std::process::ExitCode;
 
 fn main(rt: HostRuntime) -> ExitCode {
-    ExitCode::from(run(&rt, rt.stdin(), rt.stdout()))
+    run(&rt, rt.stdin(), rt.stdout())
 }

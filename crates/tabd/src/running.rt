@@ -1,14 +1,16 @@
 //! A run of the program between its words and its status.
 
-ghost use Rattle.std.specs.Prelude.{◌≡◌, ◌⊎◌};
+ghost use Rattle.std.specs.Prelude.{◌≡◌, ◌≤◌};
+ghost use Rattle.std.specs.Process.{exit_status};
 ghost use Rattle.clap.specs.Words.{kind_of};
-ghost use Rattle.tabd.specs.Endings.{end_of_words, status_of};
+ghost use Rattle.tabd.specs.Endings.{IsShown, end_of_words, status_of};
 
 use crate::ending::{End, end_of_replay, end_of_words, message_of, status_of};
 use crate::words::{Run, asked};
 use crate::{Ended, replay};
 use clap::Error;
 use std::io::{Read, Write};
+use std::process::ExitCode;
 use std::rt::Env;
 use tab_etf::Counted;
 
@@ -17,7 +19,9 @@ pub fn run<H: Env + AllocGlobal + Print + Eprint, R: Read + Drop, W: Write + Dro
     rt: &H,
     input: R,
     output: W,
-) -> u8 {
+) -> ExitCode
+    ensures { exit_status result ≤ 3 }
+{
     let end = match asked(rt) {
         Ok(Run::Replay) => end_of_replay(replay(
             rt.alloc(),
@@ -26,12 +30,12 @@ pub fn run<H: Env + AllocGlobal + Print + Eprint, R: Read + Drop, W: Write + Dro
         )),
         Err(error) => show(rt, &error),
     };
-    tell(rt, &end)
+    ExitCode::from(tell(rt, &end))
 }
 
 /// Shows the parser's text. Out of memory has none of its own.
 fn show<H: Print + Eprint>(rt: &H, error: &Error) -> End
-    ensures { (result ≡ end_of_words (kind_of error.now)) ⊎ (result ≡ End.Stopped Ended.Device) }
+    ensures { IsShown (end_of_words (kind_of error.now)) result }
 {
     match end_of_words(error.kind()) {
         End::Done => match error.print(rt) {
@@ -48,7 +52,8 @@ fn show<H: Print + Eprint>(rt: &H, error: &Error) -> End
 
 /// Writes the line of this end, and gives its status. No one is left to hear that the line failed.
 fn tell<H: Eprint>(rt: &H, end: &End) -> u8
-    ensures { result ≡ status_of end.now }
+    ensures status { result ≡ status_of end.now }
+    ensures bound { result ≤ 3 }
 {
     if let Some(line) = message_of(end) {
         let _ = rt.eprintln(line);

@@ -3,6 +3,7 @@
 use clap::error::ErrorKind;
 use clap::{Command, Error};
 use std::alloc::{AllocError, Global};
+use std::convert::AsStr;
 use std::io;
 use std::rt::Env;
 
@@ -24,7 +25,7 @@ fn command<'a>(alloc: Global) -> Result<Command<'a>, AllocError> {
 }
 
 /// What these words ask for. The first is the program's name.
-pub fn read_words<'a>(alloc: Global, words: &'a [String]) -> Result<Run, Error> {
+pub fn read_words<'a, S: AsStr>(alloc: Global, words: &'a [S]) -> Result<Run, Error> {
     command(alloc)?.try_get_matches_from(words)?;
     Ok(Run::Replay)
 }
