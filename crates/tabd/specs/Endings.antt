@@ -1,0 +1,38 @@
+-- The exit statuses and the lines on standard error. Source: this project's own rule.
+use Rattle.std.specs.Prelude.{◌≡◌, ℕ, List, Option, Some, None, codes, ◌⊎◌}
+use Rattle.clap.specs.declared.error.kind.ErrorKind.{ErrorKind}
+use Rattle.clap.specs.declared.error.kind.ErrorKind.TheVariants as kind
+use Rattle.tabd.specs.declared.engine.Ended.TheVariants.{Damaged, Device, TooLong, NoMemory}
+use Rattle.tabd.specs.declared.ending.End.{End}
+use Rattle.tabd.specs.declared.ending.End.TheVariants.{Done, WrongWords, Stopped}
+
+-- 0: done, or help was asked for; 1: device, too long or no memory; 2: wrong words; 3: damaged input
+abbrev pub status_of : End → ℕ
+status_of Done = 0
+status_of WrongWords = 2
+status_of (Stopped Damaged) = 3
+status_of (Stopped Device) = 1
+status_of (Stopped TooLong) = 1
+status_of (Stopped NoMemory) = 1
+
+-- the line on standard error; the text of wrong words is the parser's
+abbrev pub message_of : End → Option (List ℕ)
+message_of Done = None
+message_of WrongWords = None
+message_of (Stopped Damaged) = Some (codes "tabd: damaged input")
+message_of (Stopped Device) = Some (codes "tabd: device")
+message_of (Stopped TooLong) = Some (codes "tabd: too long")
+message_of (Stopped NoMemory) = Some (codes "tabd: no memory")
+
+-- how words that ask for no run end the program: help and the version are shown, memory can run out
+-- at the start, and else the words are wrong
+abbrev pub end_of_words : ErrorKind → End
+end_of_words kind.DisplayHelp = Done
+end_of_words kind.DisplayVersion = Done
+end_of_words kind.OutOfMemory = Stopped NoMemory
+end_of_words k = WrongWords
+
+-- how the program ends once the parser's text is shown: help that can't be written is a device fault
+abbrev pub IsShown : End → End → Type 0
+IsShown Done end = (end ≡ Done) ⊎ (end ≡ Stopped Device)
+IsShown end shown = shown ≡ end

@@ -1,0 +1,67 @@
+//! How a run of the program ends: its status, and its line on standard error.
+
+ghost use Rattle.std.specs.Prelude.{◌≡◌, ◌≤◌, IfErr, OnOk, option_map};
+ghost use Rattle.tabd.specs.Endings.{end_of_words, message_of, status_of};
+
+use crate::Ended;
+use clap::error::ErrorKind;
+
+/// How a run ended.
+#[derive(Debug, Drop)]
+pub enum End {
+    /// What was asked for is done or shown.
+    Done,
+    /// The words were wrong.
+    WrongWords,
+    /// The run could not go on.
+    Stopped(Ended),
+}
+
+/// How a replay ends the program.
+pub fn end_of_replay(replayed: Result<(), Ended>) -> End
+    ensures ok { OnOk replayed (result ≡ End.Done) }
+    ensures err { IfErr replayed (λ ended. result ≡ End.Stopped ended) }
+{
+    match replayed {
+        Ok(()) => End::Done,
+        Err(ended) => End::Stopped(ended),
+    }
+}
+
+/// How words that ask for no run end the program, once the parser's text is shown.
+pub fn end_of_words(kind: ErrorKind) -> End
+    ensures { result ≡ end_of_words kind }
+{
+    match kind {
+        ErrorKind::DisplayHelp | ErrorKind::DisplayVersion => End::Done,
+        ErrorKind::OutOfMemory => End::Stopped(Ended::NoMemory),
+        _ => End::WrongWords,
+    }
+}
+
+/// The program's exit status.
+pub fn status_of(end: &End) -> u8
+    ensures status { result ≡ status_of end.now }
+    ensures bound { result ≤ 3 }
+{
+    match end {
+        End::Done => 0,
+        End::WrongWords => 2,
+        End::Stopped(Ended::Damaged) => 3,
+        End::Stopped(_) => 1,
+    }
+}
+
+/// The program's own line on standard error, with no line feed. Wrong words have the parser's text
+/// in its place.
+pub fn message_of(end: &End) -> Option<&'static str>
+    ensures { option_map (λ line. line.now) result ≡ message_of end.now }
+{
+    match end {
+        End::Done | End::WrongWords => None,
+        End::Stopped(Ended::Damaged) => Some("tabd: damaged input"),
+        End::Stopped(Ended::Device) => Some("tabd: device"),
+        End::Stopped(Ended::TooLong) => Some("tabd: too long"),
+        End::Stopped(Ended::NoMemory) => Some("tabd: no memory"),
+    }
+}

@@ -1,0 +1,62 @@
+//! A run of the program between its words and its status.
+
+ghost use Rattle.std.specs.Prelude.{◌≡◌, ◌≤◌};
+ghost use Rattle.std.specs.Process.{exit_status};
+ghost use Rattle.clap.specs.Words.{kind_of};
+ghost use Rattle.tabd.specs.Endings.{IsShown, end_of_words, status_of};
+
+use crate::ending::{End, end_of_replay, end_of_words, message_of, status_of};
+use crate::words::{Run, asked};
+use crate::{Ended, replay};
+use clap::Error;
+use std::io::{Read, Write};
+use std::process::ExitCode;
+use std::rt::Env;
+use tab_etf::Counted;
+
+/// Does what the words of this process ask for, and gives its exit status.
+pub fn run<H: Env + AllocGlobal + Print + Eprint, R: Read + Drop, W: Write + Drop>(
+    rt: &H,
+    input: R,
+    output: W,
+) -> ExitCode
+    ensures { exit_status result ≤ 3 }
+{
+    let end = match asked(rt) {
+        Ok(Run::Replay) => end_of_replay(replay(
+            rt.alloc(),
+            &mut Counted::new(input),
+            &mut Counted::new(output),
+        )),
+        Err(error) => show(rt, &error),
+    };
+    ExitCode::from(tell(rt, &end))
+}
+
+/// Shows the parser's text. Out of memory has none of its own.
+fn show<H: Print + Eprint>(rt: &H, error: &Error) -> End
+    ensures { IsShown (end_of_words (kind_of error.now)) result }
+{
+    match end_of_words(error.kind()) {
+        End::Done => match error.print(rt) {
+            Ok(()) => End::Done,
+            Err(_) => End::Stopped(Ended::Device),
+        },
+        End::WrongWords => {
+            let _ = error.print(rt);
+            End::WrongWords
+        }
+        stopped => stopped,
+    }
+}
+
+/// Writes the line of this end, and gives its status. No one is left to hear that the line failed.
+fn tell<H: Eprint>(rt: &H, end: &End) -> u8
+    ensures status { result ≡ status_of end.now }
+    ensures bound { result ≤ 3 }
+{
+    if let Some(line) = message_of(end) {
+        let _ = rt.eprintln(line);
+    }
+    status_of(end)
+}
