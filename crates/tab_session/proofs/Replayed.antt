@@ -1,6 +1,6 @@
 -- The loop over the reader.
-use Rattle.std.proofs.Common.{◌≡◌, ◌≢◌, ℕ, ◌+◌, ◌<◌, ◌≤◌, ◌-◌, ◌^◌, List, [], ◌∷◌, ◌++◌, length, take, drop, Option, Some, None, Result, Ok, Err, refl, sym, ap, subst, ◌∙◌, append_assoc, arith, length-append}
-use Rattle.std.specs.Io.KnownBytes.{Appends, Keeps, Consumes, IsAtEnd}
+use Rattle.std.proofs.Common.{◌≡◌, ◌≢◌, ℕ, ◌+◌, ◌<◌, ◌-◌, ◌^◌, List, [], ◌∷◌, ◌++◌, length, take, Option, Some, None, Result, Ok, Err, refl, sym, ap, subst, ◌∙◌, append_assoc, arith, length-append}
+use Rattle.std.specs.Io.KnownBytes.{Appends, Consumes, IsAtEnd}
 use Rattle.std.proofs.lemmas.List.{append-nil}
 use Rattle.std.proofs.Common.{inl, inr, IfSome}
 use Rattle.tab_etf.specs.Feeding.{Held}
@@ -10,12 +10,11 @@ use Rattle.tab_etf.specs.declared.framing.FrameFault.TheVariants as faults
 use Rattle.tab_etf.specs.Streams.{payloads, rest_of, GoesOn, Stops}
 use Rattle.tab_session.specs.declared.answered.Answer.{Answer}
 use Rattle.tab_model.specs.State.{State}
-use Rattle.tab_session.specs.Answers.{Answered, Ran}
+use Rattle.tab_session.specs.Answers.{Ran}
 use Rattle.tab_session.specs.declared.ended.Ended.{Ended}
 use Rattle.tab_session.specs.declared.ended.Ended.TheVariants.{Damaged, Device, TooLong, NoMemory}
-use Rattle.tab_session.specs.Replays.{fresh, frames_of, Said, IsReplaying, Passed, WroteAll, WroteSome, WroteFirst, WroteBefore, BeginsTooLong, Served, Replayed, Advances}
-use Rattle.tab_session.proofs.Runs.{total, ran_join, frames_join, beginning_after, Appends-none, Appends-then, Appends-keeps}
-use Rattle.tab_session.proofs.Served.{all_taken}
+use Rattle.tab_session.specs.Replays.{fresh, frames_of, Said, IsReplaying, Passed, WroteAll, WroteSome, WroteFirst, BeginsTooLong, Served, Replayed, Advances}
+use Rattle.tab_session.proofs.Runs.{total, ran_join, frames_join, beginning_after, Appends-none, Appends-then}
 
 pub replaying_init : (stream : List ℕ) (old : Option (List ℕ)) → IsReplaying stream (Some stream) [] 0 fresh old old
 replaying_init stream old = record {
@@ -99,16 +98,18 @@ pub replaying_over : {n : ℕ} (stream : List ℕ) (left new_left : Option (List
     → Replayed stream old new (Err Damaged)
 replaying_over stream left new_left held piece i now μ old mid new given s read g p =
     let k = consumed left s.more new_left piece s.has read in
-    let whole = again held piece k.next s.more k.parts in
-    (λ e. g.ends k.next (sym (s.ends ∙ ap rest_of whole) ∙ e), record {
-      replies = s.said ++ p.replies;
-      said = record {
-        last = μ;
-        ran = subst (λ (ps : List (List ℕ)). Ran fresh ps (s.said ++ p.replies) μ) (ap (λ (x : List (List ℕ)). s.done ++ x) (sym (g.found k.next)) ∙ ap (λ (x : List ℕ). s.done ++ payloads x) (sym whole) ∙ sym s.found)
-            (s.goes given p.replies μ p.ran);
-      };
-      text = Appends-then old mid new _ _ _ s.text p.text (sym (frames_join s.said p.replies));
-    })
+    let whole = again held piece k.next s.more k.parts in (
+      λ e. g.ends k.next (sym (s.ends ∙ ap rest_of whole) ∙ e),
+      record {
+        replies = s.said ++ p.replies;
+        said = record {
+          last = μ;
+          ran = subst (λ (ps : List (List ℕ)). Ran fresh ps (s.said ++ p.replies) μ) (ap (λ (x : List (List ℕ)). s.done ++ x) (sym (g.found k.next)) ∙ ap (λ (x : List ℕ). s.done ++ payloads x) (sym whole) ∙ sym s.found)
+              (s.goes given p.replies μ p.ran);
+        };
+        text = Appends-then old mid new _ _ _ s.text p.text (sym (frames_join s.said p.replies));
+      },
+    )
 
 -- ---- errors
 
@@ -150,7 +151,7 @@ replaying_err stream left held i now μ old mid new given Device s n h =
     let u = said_on stream left held i now old mid given h.replies s n h.said in
     let k = beginning_after (frames_of s.said) h.count (frames_of h.replies) (frames_of u.0) in
     let whole : frames_of s.said ++ (frames_of h.replies ++ frames_of u.0) ≡ frames_of (s.said ++ (h.replies ++ u.0)) =
-        ap (λ (x : List ℕ). frames_of s.said ++ x) (sym (frames_join h.replies u.0)) ∙ sym (frames_join s.said (h.replies ++ u.0)) in
+    ap (λ (x : List ℕ). frames_of s.said ++ x) (sym (frames_join h.replies u.0)) ∙ sym (frames_join s.said (h.replies ++ u.0)) in
     record {
       replies = s.said ++ (h.replies ++ u.0);
       said = u.1;
@@ -217,7 +218,7 @@ not_both None n e f = absurd cc
 not_both (Some m) n e f = absurd cc
 
 stopped_by : (n : ℕ) (was new : Held) (piece : List ℕ) → was.over ≡ None → IsStopped (faults.FrameTooLong n) was new piece → Stops (was.rest ++ piece) new.before n
-stopped_by n was new piece e h = elim h [ | inl p ↦ absurd (not_both was.over n e p.0) | inr p ↦ p.2 ]
+stopped_by n was new piece e h = elim h [ inl p ↦ absurd (not_both was.over n e p.0) | inr p ↦ p.2 ]
 
 pub stopped : (f : FrameFault) (n : ℕ) (was new : Held) (piece : List ℕ) → f ≡ faults.FrameTooLong n → was.over ≡ None → IsStopped f was new piece → Stops (was.rest ++ piece) new.before n
 stopped f n was new piece k e h = stopped_by n was new piece e (subst (λ (x : FrameFault). IsStopped x was new piece) k h)

@@ -1,6 +1,6 @@
 -- The loop over the payloads of a piece.
-use Rattle.std.proofs.Common.{◌≡◌, ℕ, ◌+◌, ◌<◌, List, [], ◌∷◌, ◌++◌, length, take, Option, Some, None, Result, Ok, Err, refl, sym, ap, subst, ◌∙◌, append_assoc}
-use Rattle.std.proofs.Common.{drop, get_or, add-one, drop-cons, arith, ◌≤◌, length-drop}
+use Rattle.std.proofs.Common.{◌≡◌, ℕ, ◌+◌, ◌<◌, List, [], ◌∷◌, ◌++◌, length, take, Option, Err, refl, sym, ap, subst, ◌∙◌, append_assoc}
+use Rattle.std.proofs.Common.{drop, get_or, add-one, drop-cons, ◌≤◌}
 use Rattle.tab_etf.specs.declared.framing.Frame.{Frame}
 use Rattle.tab_etf.specs.Frames.{payload_of}
 use Rattle.tab_etf.specs.Frames.{contents}
@@ -12,7 +12,7 @@ use Rattle.tab_etf.specs.declared.encoding.EncodeFault.{EncodeFault}
 use Rattle.tab_etf.specs.declared.encoding.EncodeFault.TheVariants as puts
 use Rattle.tab_model.specs.State.{State}
 use Rattle.tab_session.specs.Answers.{Answered, Ran, answer_frame, answer_payload, NotPut}
-use Rattle.tab_session.specs.Replays.{frames_of, Said, IsServing, Passed, WroteSome, WroteFirst, WroteBefore, Served, ended_of}
+use Rattle.tab_session.specs.Replays.{frames_of, IsServing, Passed, WroteSome, WroteFirst, WroteBefore, Served, ended_of}
 use Rattle.tab_session.proofs.Runs.{total, frames_join, frames_one, beginning_after, Appends-none, Appends-then, Appends-keeps}
 
 pub serving_init : (σ : State) (all : List (List ℕ)) (old : Option (List ℕ)) → IsServing σ σ all all old old []
@@ -55,7 +55,7 @@ serving_device σ now all left old mid new b n s w =
     let t = total now left in
     let k = beginning_after s.written n b (frames_of t.0) in
     let e : s.written ++ (b ++ frames_of t.0) ≡ frames_of (s.said ++ t.0) =
-        sym (append_assoc s.written b (frames_of t.0)) ∙ ap (λ (x : List ℕ). x ++ frames_of t.0) s.whole ∙ sym (frames_join s.said t.0) in
+    sym (append_assoc s.written b (frames_of t.0)) ∙ ap (λ (x : List ℕ). x ++ frames_of t.0) s.whole ∙ sym (frames_join s.said t.0) in
     record {
       replies = s.said ++ t.0;
       said = record { last = t.1.last; ran = s.goes t.0 t.1.last t.1.ran };

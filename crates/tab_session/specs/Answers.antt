@@ -47,8 +47,26 @@ pub record IsStep (σ : State) (t : PlainTerm) (x : Answer) (μ : State) : Type 
   pub formed : IsAsked asked
   pub made : IsMade σ x.session asked x.reply μ
 
+-- {Session, X}, whatever X is
+abbrev pub IsNumbered : PlainTerm → ℕ → Type 0
+IsNumbered t n = (1 ≤ n) × (x : PlainTerm) × (t ≡ pair (int (pos n)) x)
+
+abbrev pub HasNoNumber : PlainTerm → Type 0
+HasNoNumber t = (n : ℕ) (x : PlainTerm) → 1 ≤ n → n < 4294967296 → t ≢ pair (int (pos n)) x
+
+-- the number under which a term is refused
+abbrev pub IsNumberOf : PlainTerm → ℕ → Type 0
+IsNumberOf t n = (n ≡ 0) × HasNoNumber t ⊎ IsNumbered t n
+
+-- no command: refused, with nothing changed
+pub record IsNoCommand (σ : State) (t : PlainTerm) (x : Answer) (μ : State) : Type 0 where
+  pub nothing : AsksNothing t
+  pub reply : x.reply ≡ BadCommand
+  pub same : μ ≡ σ
+  pub under : IsNumberOf t x.session
+
 abbrev pub AnsweredTerm : State → PlainTerm → Answer → State → Type 0
-AnsweredTerm σ t x μ = AsksNothing t × (x ≡ record { session = 0; reply = BadCommand }) × (μ ≡ σ) ⊎ IsStep σ t x μ
+AnsweredTerm σ t x μ = IsNoCommand σ t x μ ⊎ IsStep σ t x μ
 
 abbrev pub AnsweredRead : State → Result PlainTerm Stop → Answer → State → Type 0
 AnsweredRead σ (Err f) x μ = (x ≡ record { session = 0; reply = BadTerm }) × (μ ≡ σ)

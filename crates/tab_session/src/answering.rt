@@ -1,10 +1,13 @@
 //! One payload, and how it is answered.
 
-ghost use Rattle.std.specs.Prelude.{◌≡◌, ◌++◌, ◌⊎◌, true, IfOk, IfErr, OnOk, OnErr};
+ghost use Rattle.std.specs.Prelude.{◌≡◌, ◌≢◌, ◌≤◌, ◌<◌, ◌++◌, ◌⊎◌, ℕ, pos, true, IfSome, IfNone, IfOk, IfErr, OnOk, OnErr};
+ghost use Rattle.tab_term.specs.Data.{int};
 ghost use Rattle.tab_term.specs.View.{term};
+ghost use Rattle.tab_model.specs.Names.{pair};
 ghost use Rattle.tab_core.specs.Runs.{ask_of, serves_step};
 ghost use Rattle.tab_proto.specs.Asks.{IsAsked};
-ghost use Rattle.tab_session.specs.Answers.{Answered, AnsweredTerm, RefusedTerm, Made, ask_for, response, answer_frame, NotPut};
+ghost use Rattle.tab_model.specs.declared.data.Reply.TheVariants.{BadCommand};
+ghost use Rattle.tab_session.specs.Answers.{IsNumbered, HasNoNumber, IsNumberOf, Answered, AnsweredTerm, RefusedTerm, Made, ask_for, response, answer_frame, NotPut};
 
 use crate::Answer;
 use std::alloc::{AllocError, Global};
@@ -14,8 +17,8 @@ use tab_model::Reply;
 use tab_proto::{Asked, ProtoFault, reply_term, request};
 use tab_term::{Term, Terms};
 
-/// Answers a payload: what is no term is BadTerm, and a term that asks nothing is BadCommand, both under 0. A step
-/// that is refused for memory is answered NoMemory, and has changed nothing.
+/// Answers a payload: what is no term is BadTerm under 0, and a term that asks nothing is BadCommand, under the number in
+/// `{Session, X}` or else under 0. A step that is refused for memory is answered NoMemory, and has changed nothing.
 pub fn answer(core: &mut Core, alloc: Global, payload: &[u8]) -> Answer
     ensures { Answered core.old payload.now result core.new }
 {
@@ -34,7 +37,7 @@ fn answer_to(core: &mut Core, alloc: Global, asked: &Term) -> Answer
             session,
             reply: make(core, session, asked),
         },
-        Err(ProtoFault::BadCommand) => unasked(Reply::BadCommand),
+        Err(ProtoFault::BadCommand) => no_command(asked),
         Err(ProtoFault::NoMemory) => unasked(Reply::NoMemory),
     }
 }
@@ -43,6 +46,52 @@ fn unasked(reply: Reply) -> Answer
     ensures { result ≡ record { session = 0; reply = reply } }
 {
     Answer { session: 0, reply }
+}
+
+/// BadCommand, under the number in `{Session, X}`.
+fn no_command(asked: &Term) -> Answer
+    ensures reply { result.reply ≡ BadCommand }
+    ensures under { IsNumberOf (term asked.now) result.session }
+{
+    match session_of(asked) {
+        Some(session) => Answer {
+            session,
+            reply: Reply::BadCommand,
+        },
+        None => unasked(Reply::BadCommand),
+    }
+}
+
+fn session_of(asked: &Term) -> Option<u32>
+    ensures some { IfSome result (λ n. IsNumbered (term asked.now) n) }
+    ensures none { IfNone result (HasNoNumber (term asked.now)) }
+{
+    let Term::Tuple(parts) = asked else {
+        return None;
+    };
+    match parts.as_slice() {
+        [Term::Int(number), ask] => number_before(*number, ask),
+        _ => None,
+    }
+}
+
+/// The number as a session's. What stands behind it is told to contracts alone.
+#[tactic(auto, using(crate::proofs::Made::numbered))]
+fn number_before(number: i128, _ask: &Term) -> Option<u32>
+    ensures some { IfSome result (λ n. IsNumbered (pair (int number) (term _ask.now)) n) }
+    ensures none { IfNone result (HasNoNumber (pair (int number) (term _ask.now))) }
+{
+    session_number(number)
+}
+
+fn session_number(number: i128) -> Option<u32>
+    ensures some { IfSome result (λ n. (number ≡ pos n) × (1 ≤ n)) }
+    ensures none { IfNone result ((n : ℕ) → 1 ≤ n → n < 4294967296 → number ≢ pos n) }
+{
+    if number < 1 || number > 4_294_967_295 {
+        return None;
+    }
+    Some(number as u32)
 }
 
 fn make(core: &mut Core, session: u32, asked: Asked) -> Reply

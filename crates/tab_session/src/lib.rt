@@ -6,6 +6,8 @@ mod answering;
 mod ended;
 mod replaying;
 mod serving;
+#[cfg(test)]
+mod tests;
 
 pub use answered::Answer;
 pub use answering::answer;

@@ -2,7 +2,7 @@
 use Rattle.std.specs.Prelude.{◌≡◌, ℕ, List, Option, Some, None, codes, ◌⊎◌}
 use Rattle.clap.specs.declared.error.kind.ErrorKind.{ErrorKind}
 use Rattle.clap.specs.declared.error.kind.ErrorKind.TheVariants as kind
-use Rattle.tabd.specs.declared.engine.Ended.TheVariants.{Damaged, Device, TooLong, NoMemory}
+use Rattle.tab_session.specs.declared.ended.Ended.TheVariants.{Damaged, Device, TooLong, NoMemory}
 use Rattle.tabd.specs.declared.ending.End.{End}
 use Rattle.tabd.specs.declared.ending.End.TheVariants.{Done, WrongWords, Stopped}
 

@@ -2,15 +2,15 @@
 #![tactic(auto)]
 
 mod ending;
-mod engine;
 mod running;
 #[cfg(test)]
 mod tests;
 mod words;
 
-use engine::{Ended, replay};
+
 use running::run;
 use std::process::ExitCode;
+use tab_session::{Ended, replay};
 
 fn main(rt: HostRuntime) -> ExitCode {
     run(&rt, rt.stdin(), rt.stdout())

@@ -1,9 +1,7 @@
-use Rattle.std.proofs.Common.{◌≡◌, ℕ, ◌<◌, List, [], length, refl, ap, arith, take}
+use Rattle.std.proofs.Common.{refl, ap, arith}
 use Rattle.std.proofs.lemmas.List.{length-take}
 use Rattle.tab_etf.specs.Feeding.{Held}
-use Rattle.tab_session.specs.Replays.{IsReplaying, Replayed}
 use Rattle.tab_session.proofs.Replayed.{init_if, device_if, ok_if, cut_if, piece_if}
-use Rattle.tab_session.proofs.replaying.run_all.Invariants.{Kept}
 use Rattle.tab_session.proofs.replaying.run_all.Goals as goal
 
 pub rounds-init : goal.rounds-init

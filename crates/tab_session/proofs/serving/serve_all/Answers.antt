@@ -1,8 +1,5 @@
-use Rattle.std.proofs.Common.{◌≡◌, ℕ, ◌+◌, ◌<◌, List, [], ◌∷◌, ◌++◌, length, take, drop, refl, sym, ap, subst, ◌∙◌, arith}
-use Rattle.tab_etf.specs.Frames.{contents}
-use Rattle.tab_session.specs.Replays.{Served, IsServing, OneFault, ended_of}
+use Rattle.std.proofs.Common.{refl, ◌∙◌}
 use Rattle.tab_session.proofs.Served.{serving_init, serving_kept, serving_written, serving_done, serving_device, serving_fault, passed_keeps, passed_device, serving_at, serving_end, serving_buffer, ended_is}
-use Rattle.tab_session.proofs.serving.serve_all.Invariants.{Kept}
 use Rattle.tab_session.proofs.serving.serve_all.Goals as goal
 use Rattle.tab_session.proofs.serving.serve_all.Goals.{then-len-ge-KEPT+in-Ok-put-2, else-len-ge-KEPT}
 
@@ -13,8 +10,8 @@ pub returns-in-Ok-put-clause-served : goal.returns-in-Ok-put-clause-served
 returns-in-Ok-put-clause-served g c =
     let here = serving_at _ _ _ _ _ _ _ _ _ c.frames.invariant.serving c.frames-test.true c.frame-item.is refl in
     ended_is _ c.serve_one.new.core _ _ _ _ _
-        (serving_fault _ _ c.serve_one.new.core _ _ _ _ _ _ _ _ _ _ here c.in-Err.ensures.answered c.in-Err.ensures.why (c.deref.ensures.value ∙ c.in-Err.ensures.same) c.in-Ok-put.ensures.ok)
-        c.ended_by.ensures
+    (serving_fault _ _ c.serve_one.new.core _ _ _ _ _ _ _ _ _ _ here c.in-Err.ensures.answered c.in-Err.ensures.why (c.deref.ensures.value ∙ c.in-Err.ensures.same) c.in-Ok-put.ensures.ok)
+    c.ended_by.ensures
 
 pub returns-in-Err-put-clause-served : goal.returns-in-Err-put-clause-served
 returns-in-Err-put-clause-served g c =
@@ -31,14 +28,14 @@ frames-preserved g c =
     let here = serving_at _ _ _ _ _ _ _ _ _ c.frames.invariant.serving c.frames-test.true c.frame-item.is refl in
     elim c.if-len-ge-KEPT.branch [
       | then-len-ge-KEPT+in-Ok-put-2 w ↦
-        let next = serving_kept _ _ _ _ _ _ _ _ _ _ _ here c.in-Ok.ensures.answered (w.deref-then-len-ge-KEPT.ensures.value ∙ c.in-Ok.ensures.text) in
-        record {
-          serving = rw (w.output-is, w.buffer-is, w.clear.ensures.items) (serving_written _ _ _ _ _ _ _ _ next w.in-Ok-put-2.ensures.ok);
-          faults = rw w.output-is (w.in-Ok-put-2.ensures.same ∙ c.frames.invariant.faults);
-        }
+          let next = serving_kept _ _ _ _ _ _ _ _ _ _ _ here c.in-Ok.ensures.answered (w.deref-then-len-ge-KEPT.ensures.value ∙ c.in-Ok.ensures.text) in
+          record {
+            serving = rw (w.output-is, w.buffer-is, w.clear.ensures.items) (serving_written _ _ _ _ _ _ _ _ next w.in-Ok-put-2.ensures.ok);
+            faults = rw w.output-is (w.in-Ok-put-2.ensures.same ∙ c.frames.invariant.faults);
+          }
       | else-len-ge-KEPT w ↦
-        let next = serving_kept _ _ _ _ _ _ _ _ _ _ _ here c.in-Ok.ensures.answered c.in-Ok.ensures.text in
-        record { serving = rw (w.output-is, w.buffer-is) next; faults = rw w.output-is c.frames.invariant.faults }
+          let next = serving_kept _ _ _ _ _ _ _ _ _ _ _ here c.in-Ok.ensures.answered c.in-Ok.ensures.text in
+          record { serving = rw (w.output-is, w.buffer-is) next; faults = rw w.output-is c.frames.invariant.faults }
     ]
 
 pub returns-in-Err-put-3-clause-served : goal.returns-in-Err-put-3-clause-served
