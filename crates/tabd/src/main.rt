@@ -7,7 +7,6 @@ mod running;
 mod tests;
 mod words;
 
-
 use running::run;
 use std::process::ExitCode;
 use tab_session::{Ended, replay};
