@@ -61,12 +61,11 @@ count_open None = 0
 count_open (Some age) = 1
 
 -- what keeps the numbers from passing a machine word, and the sessions and levels at one
-pub record IsSingle (w : World) (session open_age : Option ℕ) (moves : List Move) (work : World) (next_age commits : ℕ) (limits : Limits) : Type 0 where
+pub record IsSingle (w : World) (session open_age : Option ℕ) (moves : List Move) (work : World) (begun commits : ℕ) (limits : Limits) : Type 0 where
   pub sessions : limits.sessions ≤ 1
   pub nesting : limits.nesting ≤ 1
-  pub ages : limits.ages < 18446744073709551615
-  pub next : next_age ≤ limits.ages + 1
-  pub counted : commits + count_open open_age < next_age
+  pub ages : begun ≤ limits.ages
+  pub counted : commits + count_open open_age ≤ begun
   pub within : IsOpenIn w session open_age moves work
 
 -- what the state's session, if any, is answered to a command

@@ -1,6 +1,6 @@
 //! The machine of one session: each step, command by command.
 
-ghost use Rattle.std.specs.Prelude.{◌≡◌, ◌≤◌, ◌<◌, [], IfOk, OnErr, true, false};
+ghost use Rattle.std.specs.Prelude.{◌≡◌, ◌+◌, ◌≤◌, [], IfOk, OnErr, true, false};
 ghost use Rattle.tab_model.specs.declared.data.Command.TheVariants as command;
 ghost use Rattle.tab_model.specs.declared.data.Schema.TheVariants as schema;
 ghost use Rattle.tab_term.specs.Data.{none};
@@ -36,13 +36,15 @@ pub struct Machine {
     moves: Vec<Move>,
     told: Vec<Option<Reply>>,
     work: Tables,
-    next_age: u64,
+    /// How many outermost transactions have begun.
+    begun: u64,
     commits: u64,
     greatest: u32,
     limits: Limits,
 }
 
 impl Model for Machine {
+    ghost use Rattle.std.specs.Prelude.{◌+◌};
     ghost use Rattle.std.specs.Coded.{codes};
     ghost use Rattle.tab_term.specs.Code.{term_code, terms_code, pairs_code};
     ghost use Rattle.tab_model.specs.State.{State};
@@ -52,9 +54,9 @@ impl Model for Machine {
 
     ghost coded = { Prim.hlevel (codes, term_code, terms_code, pairs_code) };
 
-    ghost view = { λ a. state_of a.tables a.session (transaction_of a.open a.moves.items a.told.items) a.next_age a.commits a.greatest a.limits };
+    ghost view = { λ a. state_of a.tables a.session (transaction_of a.open a.moves.items a.told.items) (a.begun + 1) a.commits a.greatest a.limits };
 
-    ghost invariant = { λ a. IsSingle a.tables a.session a.open a.moves.items a.work a.next_age a.commits a.limits };
+    ghost invariant = { λ a. IsSingle a.tables a.session a.open a.moves.items a.work a.begun a.commits a.limits };
 }
 
 impl Drop for Machine {
@@ -67,7 +69,7 @@ impl Drop for Machine {
             moves,
             told,
             work,
-            next_age: _,
+            begun: _,
             commits: _,
             greatest: _,
             limits: _,
@@ -82,7 +84,6 @@ impl Drop for Machine {
 impl Machine {
     pub fn new(alloc: Global, limits: Limits) -> Machine
         requires one { (limits.sessions ≤ 1) × (limits.nesting ≤ 1) }
-        requires ages { limits.ages < 18446744073709551615 }
         ensures { result ≡ new limits }
     {
         Machine {
@@ -93,7 +94,7 @@ impl Machine {
             moves: Vec::new(alloc),
             told: Vec::new(alloc),
             work: Tables::new(),
-            next_age: 1,
+            begun: 0,
             commits: 0,
             greatest: 0,
             limits,
@@ -110,15 +111,15 @@ impl Machine {
         if self.open.is_some() {
             return Ok(Reply::SystemLimit(Limit::Nesting));
         }
-        if self.next_age > self.limits.ages {
+        if self.begun >= self.limits.ages {
             return Ok(Reply::SystemLimit(Limit::Ages));
         }
-        let age = self.next_age;
+        let age = self.begun + 1;
         self.work = self.tables.share()?;
         self.moves = Vec::new(self.alloc);
         self.told = Vec::new(self.alloc);
         self.open = Some(age);
-        self.next_age += 1;
+        self.begun = age;
         Ok(Reply::Tid(age))
     }
 

@@ -46,7 +46,6 @@ impl Core {
     #[tactic(auto, using(tab_model::proofs::Schedules::new_sound))]
     pub fn new(alloc: Global, limits: Limits) -> Core
         requires one { (limits.sessions ≤ 1) × (limits.nesting ≤ 1) }
-        requires ages { limits.ages < 18446744073709551615 }
         ensures { result ≡ new limits }
     {
         Core {

@@ -1,7 +1,7 @@
 -- The terms of what a session asks (this project's own rule): a command, or a word for what isn't one.
-use Rattle.std.specs.Prelude.{◌≡◌, ℕ, List, Bool, true, false, ◌||◌, codes, pos, Result, Ok, Err}
+use Rattle.std.specs.Prelude.{◌≡◌, ◌≢◌, ◌≤◌, ◌<◌, ℤ, Option, Some, None, ℕ, List, Bool, true, false, ◌||◌, codes, pos, Result, Ok, Err}
 use Rattle.std.specs.Str.{bytes_eq}
-use Rattle.tab_term.specs.Data.{PlainTerm, int, atom, tuple}
+use Rattle.tab_term.specs.Data.{PlainTerm, int, atom, tuple, none, one_more}
 use Rattle.tab_model.specs.Names.{pair}
 use Rattle.tab_core.specs.Served.{serves}
 use Rattle.tab_proto.specs.declared.asked.Asked.{Asked}
@@ -21,6 +21,17 @@ ask_term (asked.Do c) = term_of c
 -- {Session, X}
 abbrev pub request_term : ℕ → Asked → PlainTerm
 request_term session a = pair (int (pos session)) (ask_term a)
+
+abbrev pub number_in : PlainTerm → Option ℤ
+number_in (tuple (one_more (int z) (one_more x none))) = Some z
+number_in t = None
+
+-- {Session, X}, whatever X is
+abbrev pub IsNumbered : PlainTerm → ℕ → Type 0
+IsNumbered t n = (1 ≤ n) × (number_in t ≡ Some (pos n))
+
+abbrev pub HasNoNumber : PlainTerm → Type 0
+HasNoNumber t = (n : ℕ) → 1 ≤ n → n < 4294967296 → number_in t ≢ Some (pos n)
 
 -- a command that is asked is one that is served
 abbrev pub IsAsked : Asked → Type 0

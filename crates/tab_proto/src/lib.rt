@@ -12,4 +12,4 @@ mod tests;
 pub use asked::Asked;
 pub use fault::ProtoFault;
 pub use replying::reply_term;
-pub use requests::{command, request};
+pub use requests::{command, request, session_of};

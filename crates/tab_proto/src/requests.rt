@@ -7,7 +7,7 @@ ghost use Rattle.tab_core.specs.Served.{serves};
 ghost use Rattle.tab_model.specs.Names.{pair, triple};
 ghost use Rattle.tab_proto.specs.Commands.{term_of, is_command, is_row as is_row_of, abort_term};
 ghost use Rattle.tab_proto.specs.Reading.{is_read, is_one_word, is_pair, is_triple, is_call, is_empty_list as is_empty_list_of, Reads};
-ghost use Rattle.tab_proto.specs.Asks.{request_term, IsAsked, is_asked, is_asked_word, ReadsAsked};
+ghost use Rattle.tab_proto.specs.Asks.{request_term, IsNumbered, HasNoNumber, IsAsked, is_asked, is_asked_word, ReadsAsked};
 ghost use Rattle.tab_proto.specs.declared.asked.Asked.{Asked as AskedOf};
 ghost use Rattle.tab_model.specs.declared.data.Command.{Command as CommandOf};
 ghost use Rattle.tab_proto.specs.declared.fault.ProtoFault.TheVariants.{BadCommand, NoMemory};
@@ -172,6 +172,20 @@ pub fn request(alloc: Global, asked: &Term) -> Result<(u32, Asked), ProtoFault>
     match parts.as_slice() {
         [Term::Int(number), ask] => numbered(alloc, *number, ask),
         _ => Err(ProtoFault::BadCommand),
+    }
+}
+
+/// The number in `{Session, X}`, whatever X is. None where the term is no such pair, or the number is none of a session.
+pub fn session_of(asked: &Term) -> Option<u32>
+    ensures some { IfSome result (λ n. IsNumbered (term asked.now) n) }
+    ensures none { IfNone result (HasNoNumber (term asked.now)) }
+{
+    let Term::Tuple(parts) = asked else {
+        return None;
+    };
+    match parts.as_slice() {
+        [Term::Int(number), _] => session_number(*number),
+        _ => None,
     }
 }
 

@@ -1,4 +1,4 @@
-use Rattle.std.proofs.Common.{◌≡◌, ◌∷◌, [], ◌++◌, ap, sym, ◌∙◌, subst, arith, Some}
+use Rattle.std.proofs.Common.{◌+◌, ◌≡◌, ◌∷◌, [], ◌++◌, ap, sym, ◌∙◌, subst, arith, Some}
 use Rattle.tab_model.specs.declared.data.Command.TheVariants as command
 use Rattle.tab_model.specs.declared.data.Move.TheVariants as move
 use Rattle.tab_core.specs.Performs.{Performs}
@@ -9,14 +9,14 @@ use Rattle.tab_core.proofs.machine.Machine.operate.Goals as goal
 pub returns-then-len-self-clause-ok : goal.returns-then-len-self-clause-ok
 returns-then-len-self-clause-ok c =
     ap (λ σ. asked σ (command.Do c.args.pending.operation)) (sym c.self.view_is)
-    ∙ too_many_if c.self.inside.tables c.self.inside.work c.self.inside.session c.self.inside.open c.self.inside.moves.items c.self.inside.told.items c.self.inside.next_age c.self.inside.commits c.self.inside.greatest c.self.inside.limits
+    ∙ too_many_if c.self.inside.tables c.self.inside.work c.self.inside.session c.self.inside.open c.self.inside.moves.items c.self.inside.told.items (c.self.inside.begun + 1) c.self.inside.commits c.self.inside.greatest c.self.inside.limits
     (c.if-is_none.ensures) (c.if-is_none-2.ensures) c.self.invariant.within c.args.pending.operation (omega (arith, c.if-len-self.true, c.len.ensures))
     ∙ ap (λ σ. Rattle.tab_model.specs.Outcome.nothing σ (Rattle.tab_model.specs.declared.data.Reply.TheVariants.SystemLimit Rattle.tab_model.specs.declared.data.Limit.TheVariants.Operations)) c.self.view_is
 
 pub returns-in-Failed-clause-ok : goal.returns-in-Failed-clause-ok
 returns-in-Failed-clause-ok c =
     ap (λ σ. asked σ (command.Do c.args.pending.operation)) (sym c.self.view_is)
-    ∙ fails_if c.self.inside.tables c.self.inside.work c.self.inside.session c.self.inside.open c.self.inside.moves.items c.self.inside.told.items c.self.inside.next_age c.self.inside.commits c.self.inside.greatest c.self.inside.limits
+    ∙ fails_if c.self.inside.tables c.self.inside.work c.self.inside.session c.self.inside.open c.self.inside.moves.items c.self.inside.told.items (c.self.inside.begun + 1) c.self.inside.commits c.self.inside.greatest c.self.inside.limits
     (c.if-is_none.ensures) (c.if-is_none-2.ensures) c.self.invariant.within c.args.pending.operation c.in-Failed.reply (omega (arith, c.if-len-self.false, c.len.ensures))
     (subst (Performs c.self.inside.work c.args.pending.operation) c.in-Failed.is (c.in_ok-reply.ensures))
 
@@ -28,9 +28,8 @@ invariant_of-self-in-Done c =
       sessions = i.sessions;
       nesting = i.nesting;
       ages = i.ages;
-      next = i.next;
       counted = i.counted;
-      within = open_after c.self.inside.tables c.self.inside.work c.self.inside.session c.self.inside.open c.self.inside.moves.items c.self.inside.told.items c.self.inside.next_age c.self.inside.commits c.self.inside.greatest c.self.inside.limits
+      within = open_after c.self.inside.tables c.self.inside.work c.self.inside.session c.self.inside.open c.self.inside.moves.items c.self.inside.told.items (c.self.inside.begun + 1) c.self.inside.commits c.self.inside.greatest c.self.inside.limits
           (c.if-is_none.ensures) (c.if-is_none-2.ensures) c.self.invariant.within c.args.pending.operation c.in-Done.effect c.push_move.new.moves.items (subst (Performs c.self.inside.work c.args.pending.operation) c.in-Done.is (c.in_ok-reply.ensures)) moves;
     }
 
@@ -39,6 +38,6 @@ returns-in-Done-clause-ok c =
     let moves = c.push_move.ensures ∙ ap (λ xs. xs ++ move.Do c.into_operation.result ∷ []) (c.in_ok-reserve.ensures.items) ∙ ap (λ o. c.self.inside.moves.items ++ move.Do o ∷ []) c.into_operation.ensures in
     let told = c.push_told.ensures ∙ ap (λ xs. xs ++ Some c.in-Done.effect.told ∷ []) (c.in_ok-reserve-2.ensures.items) in
     ap (λ σ. asked σ (command.Do c.args.pending.operation)) (sym c.self.view_is)
-    ∙ does_if c.self.inside.tables c.self.inside.work c.self.inside.session c.self.inside.open c.self.inside.moves.items c.self.inside.told.items c.self.inside.next_age c.self.inside.commits c.self.inside.greatest c.self.inside.limits
+    ∙ does_if c.self.inside.tables c.self.inside.work c.self.inside.session c.self.inside.open c.self.inside.moves.items c.self.inside.told.items (c.self.inside.begun + 1) c.self.inside.commits c.self.inside.greatest c.self.inside.limits
     (c.if-is_none.ensures) (c.if-is_none-2.ensures) c.self.invariant.within c.args.pending.operation c.in-Done.effect c.push_move.new.moves.items c.push_told.new.told.items (omega (arith, c.if-len-self.false, c.len.ensures))
     (subst (Performs c.self.inside.work c.args.pending.operation) c.in-Done.is (c.in_ok-reply.ensures)) moves told
