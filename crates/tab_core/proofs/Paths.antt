@@ -22,6 +22,7 @@ use Rattle.tab_model.specs.Slices.{as_batch, batch_for}
 use Rattle.tab_model.specs.State.{Transaction, Seat, State, with_age, ages_of, count_moves}
 use Rattle.tab_model.specs.Outcome.{Ask, Join, Leave, Retry, Take, DoCommand, outcome, by_seat, seated, unseated, Outcome, nothing, is_empty, change, ends, after_move, said, made, more, decided, within, operate, nested, batch_to, events_now}
 use Rattle.tab_model.proofs.TiedSteps.{batch_none}
+use Rattle.tab_model.proofs.Sole.{own_unopposed, any_nil, granted_if}
 use Rattle.tab_core.specs.declared.operate.Effect.{Effect}
 use Rattle.tab_core.specs.Performs.{HasEffect}
 use Rattle.tab_core.specs.Single.{IsAlone, no_outbox, transaction_of, seat_of, state_of, AllOperations, IsOpenIn, asked}
@@ -74,19 +75,6 @@ work_after w work age xs o is works =
     ∙ sym (ap (λ m. m.now) (after-more (start w age) xs (Do o)) ∙ ap (λ f. Mid.now (if is_some f then back (after (start w age) xs) else record { age = (after (start w age) xs).age; now = effect (after (start w age) xs).now o; saved = (after (start w age) xs).saved; base = (after (start w age) xs).base })) (ap (λ v. failure v o) (sym is) ∙ works))
 
 -- ---- one owner is granted whatever it asks
-
-own_unopposed : (a : ℕ) (l : Lock) (ls : List Lock) → list_any (opposes (a, l)) (with_age a ls) ≡ false
-own_unopposed a l [] = refl
-own_unopposed a l (k ∷ ls) = grind (arith, nat_tests, own_unopposed a l ls)
-
-any_nil : (p : Owned → Bool) (xs : List Owned) → list_any p ((xs ++ []) ++ []) ≡ list_any p xs
-any_nil p [] = refl
-any_nil p (x ∷ xs) = ap (λ b. p x || b) (any_nil p xs)
-
-granted_if : (c b d : Bool) → b ≡ false → (if c || not b then Granted else if d then Die else Wait) ≡ Granted
-granted_if true b d e = refl
-granted_if false true d e = cc
-granted_if false false d e = refl
 
 pub granted : (w : World) (n : ℕ) (t : Transaction) (na cm gr : ℕ) (lim : Limits) (o : Operation) → decide (ages_of (state_of w (Some n) (Some t) na cm gr lim)) (t.age, needs o) ≡ Granted
 granted w n t na cm gr lim o = granted_if _ _ _ (any_nil (opposes (t.age, needs o)) (with_age t.age (locks_of t.moves)) ∙ own_unopposed t.age (needs o) (locks_of t.moves))

@@ -62,7 +62,7 @@ answers (Some t) (op.AllKeys n) = refl
 answers (Some t) (op.ReadLockTable n) = refl
 answers (Some t) (op.WriteLockTable n) = refl
 
-move_answers : (m : Mid) (x : Move) (r : Reply) → standing r ≡ Changes → standing (said (told m x) r) ≡ Changes
+pub move_answers : (m : Mid) (x : Move) (r : Reply) → standing r ≡ Changes → standing (said (told m x) r) ≡ Changes
 move_answers m (Do o) r h = answers (find m.now (table_of o)) o
 move_answers m Open r h = refl
 move_answers m Close r h = refl

@@ -76,3 +76,12 @@ pub record EndsLevel (σ : State) (n : ℕ) (t : Transaction) (x : Move) (r : Op
   pub nested : is_empty (mid_of σ t).saved ≡ false → transaction_at τ n ≡ Some (more t x r)
   pub back : after (start σ.tables t.age) (t.moves ++ x ∷ []) ≡ back (mid_of σ t)
   pub locks : locks_of (t.moves ++ x ∷ []) ≡ locks_of t.moves ++ locks_of (x ∷ [])
+
+-- no session but this one, and no request of it waits
+abbrev pub IsSeatOf : ℕ → List Seat → Type 0
+IsSeatOf n [] = Unit {0}
+IsSeatOf n (s ∷ []) = s.number ≡ n
+IsSeatOf n (s ∷ t ∷ seats) = ⊥
+
+abbrev pub IsSole : ℕ → State → Type 0
+IsSole n σ = IsSeatOf n σ.seats × (σ.queue ≡ [])

@@ -33,7 +33,7 @@ ghost use Rattle.tab_model.specs.Since.{changes_on, changes_told, deletes, Stand
 ghost use Rattle.tab_model.specs.Slices.{dump_of, owed, slice, slice_after};
 ghost use Rattle.tab_model.specs.State.{State, Seat, Transaction, Queued, new, seat_at, transaction_at, request_in, age_at, moves_at, told_at, level_in, IsSound};
 ghost use Rattle.tab_model.specs.Outcome.{Ask, Retry, DoCommand, outcome};
-ghost use Rattle.tab_model.specs.Refusals.{AsBefore, standing, counted, requested, queued, empty_again, restarted, Restarts, EndsLevel};
+ghost use Rattle.tab_model.specs.Refusals.{AsBefore, standing, counted, requested, queued, empty_again, restarted, Restarts, EndsLevel, IsSole};
 ghost use Rattle.tab_model.specs.Run.{Call, AllJoinEmpty, Begins, leaves, JoinsEmpty, IsTied, after_all, log_of, taken_of, entries, taken_now};
 
 /// For every schedule of steps: commits are numbered in order and were told what they are told alone in that order;
@@ -179,4 +179,13 @@ pub fn who_leaves_has_taken_a_beginning()
 pub fn items_tell_the_changes()
     ensures told { (s : ℕ) (t : List ℕ) (l : Level) (log : List Entry) → IsLegal [] 0 log → AllAged log → (i : StandsSince s t l log) → changes_told t (slice_after s (i.earlier ++ Subscribed s t l i.dump ∷ []) i.since) ≡ changes_on t i.since }
     ensures parts { (s : ℕ) (xs ys : List Entry) → slice s (xs ++ ys) ≡ slice s xs ++ slice_after s xs ys }
+{}
+
+/// A session that is alone stays so while no other asks; it is never told to wait, and never restarted: no one opposes its
+/// requests.
+#[tactic(auto, using(crate::proofs::Sole::stays_sole, crate::proofs::Sole::no_wait, crate::proofs::Sole::no_restart))]
+pub fn a_session_alone_never_waits()
+    ensures alone { (σ : State) (over : List ℕ) (n : ℕ) (a : Ask) → IsSole n σ → IsSole n (outcome σ over n a).state }
+    ensures waiting { (σ : State) (over : List ℕ) (n : ℕ) (a : Ask) → IsSole n σ → (outcome σ over n a).reply ≢ reply.Waiting }
+    ensures restart { (σ : State) (over : List ℕ) (n : ℕ) (a : Ask) → IsSole n σ → (outcome σ over n a).reply ≢ reply.Restart }
 {}

@@ -22,16 +22,21 @@ ask_term (asked.Do c) = term_of c
 abbrev pub request_term : ℕ → Asked → PlainTerm
 request_term session a = pair (int (pos session)) (ask_term a)
 
+-- the number in {Number, X}
 abbrev pub number_in : PlainTerm → Option ℤ
 number_in (tuple (one_more (int z) (one_more x none))) = Some z
 number_in t = None
 
+-- a session's number
+abbrev pub IsSession : ℕ → Type 0
+IsSession n = (1 ≤ n) × (n < 4294967296)
+
 -- {Session, X}, whatever X is
 abbrev pub IsNumbered : PlainTerm → ℕ → Type 0
-IsNumbered t n = (1 ≤ n) × (number_in t ≡ Some (pos n))
+IsNumbered t n = IsSession n × (number_in t ≡ Some (pos n))
 
 abbrev pub HasNoNumber : PlainTerm → Type 0
-HasNoNumber t = (n : ℕ) → 1 ≤ n → n < 4294967296 → number_in t ≢ Some (pos n)
+HasNoNumber t = (n : ℕ) → IsSession n → number_in t ≢ Some (pos n)
 
 -- a command that is asked is one that is served
 abbrev pub IsAsked : Asked → Type 0

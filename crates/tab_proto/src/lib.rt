@@ -12,4 +12,4 @@ mod tests;
 pub use asked::Asked;
 pub use fault::ProtoFault;
 pub use replying::reply_term;
-pub use requests::{command, request, session_of};
+pub use requests::{command, request, requests_are_apart, session_of};

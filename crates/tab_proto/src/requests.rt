@@ -7,7 +7,7 @@ ghost use Rattle.tab_core.specs.Served.{serves};
 ghost use Rattle.tab_model.specs.Names.{pair, triple};
 ghost use Rattle.tab_proto.specs.Commands.{term_of, is_command, is_row as is_row_of, abort_term};
 ghost use Rattle.tab_proto.specs.Reading.{is_read, is_one_word, is_pair, is_triple, is_call, is_empty_list as is_empty_list_of, Reads};
-ghost use Rattle.tab_proto.specs.Asks.{request_term, IsNumbered, HasNoNumber, IsAsked, is_asked, is_asked_word, ReadsAsked};
+ghost use Rattle.tab_proto.specs.Asks.{request_term, IsSession, IsNumbered, HasNoNumber, IsAsked, is_asked, is_asked_word, ReadsAsked};
 ghost use Rattle.tab_proto.specs.declared.asked.Asked.{Asked as AskedOf};
 ghost use Rattle.tab_model.specs.declared.data.Command.{Command as CommandOf};
 ghost use Rattle.tab_proto.specs.declared.fault.ProtoFault.TheVariants.{BadCommand, NoMemory};
@@ -163,8 +163,8 @@ fn is_empty_list(held: &Term) -> bool
 /// A session's number and what it asks, from `{Session, X}`. Session numbers are 1 to 4,294,967,295. Every other term is
 /// BadCommand.
 pub fn request(alloc: Global, asked: &Term) -> Result<(u32, Asked), ProtoFault>
-    ensures ok { IfOk result (λ r. (request_term r.0 r.1 ≡ term asked.now) × (1 ≤ r.0) × IsAsked r.1) }
-    ensures only { (session : ℕ) (a : AskedOf) → 1 ≤ session → session < 4294967296 → IsAsked a → request_term session a ≡ term asked.now → result ≢ Err BadCommand }
+    ensures ok { IfOk result (λ r. (request_term r.0 r.1 ≡ term asked.now) × IsSession r.0 × IsAsked r.1) }
+    ensures only { (session : ℕ) (a : AskedOf) → IsSession session → IsAsked a → request_term session a ≡ term asked.now → result ≢ Err BadCommand }
 {
     let Term::Tuple(parts) = asked else {
         return Err(ProtoFault::BadCommand);
@@ -190,8 +190,8 @@ pub fn session_of(asked: &Term) -> Option<u32>
 }
 
 fn numbered(alloc: Global, number: i128, ask: &Term) -> Result<(u32, Asked), ProtoFault>
-    ensures ok { IfOk result (λ r. (request_term r.0 r.1 ≡ pair (int number) (term ask.now)) × (1 ≤ r.0) × IsAsked r.1) }
-    ensures only { (session : ℕ) (a : AskedOf) → 1 ≤ session → session < 4294967296 → IsAsked a → request_term session a ≡ pair (int number) (term ask.now) → result ≢ Err BadCommand }
+    ensures ok { IfOk result (λ r. (request_term r.0 r.1 ≡ pair (int number) (term ask.now)) × IsSession r.0 × IsAsked r.1) }
+    ensures only { (session : ℕ) (a : AskedOf) → IsSession session → IsAsked a → request_term session a ≡ pair (int number) (term ask.now) → result ≢ Err BadCommand }
 {
     let Some(session) = session_number(number) else {
         return Err(ProtoFault::BadCommand);
@@ -203,8 +203,8 @@ fn numbered(alloc: Global, number: i128, ask: &Term) -> Result<(u32, Asked), Pro
 }
 
 fn session_number(number: i128) -> Option<u32>
-    ensures some { IfSome result (λ n. (number ≡ pos n) × (1 ≤ n)) }
-    ensures none { IfNone result ((n : ℕ) → 1 ≤ n → n < 4294967296 → number ≢ pos n) }
+    ensures some { IfSome result (λ n. (number ≡ pos n) × IsSession n) }
+    ensures none { IfNone result ((n : ℕ) → IsSession n → number ≢ pos n) }
 {
     if number < 1 || number > 4_294_967_295 {
         return None;
@@ -239,3 +239,9 @@ fn asked_word(word: &Atom) -> Result<Asked, ProtoFault>
     }
     Ok(Asked::Do(one_word(word)?))
 }
+
+/// Two requests with one term are one: the same session asks the same.
+#[tactic(auto, using(crate::proofs::Apart::requests_apart))]
+pub fn requests_are_apart()
+    ensures { (m n : ℕ) (a b : AskedOf) → IsAsked a → IsAsked b → request_term m a ≡ request_term n b → (m ≡ n) × (a ≡ b) }
+{}

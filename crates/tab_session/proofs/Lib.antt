@@ -2,3 +2,4 @@ pub mod Made
 pub mod Runs
 pub mod Served
 pub mod Replayed
+mod Histories

@@ -1,8 +1,5 @@
--- The step of the model that a call of the core makes, and the session's number in a request.
-use Rattle.std.proofs.Common.{◌≡◌, ◌≤◌, ℤ, pos, Some, None, IfSome, ℕ, [], sym, ap, ◌∙◌, Option}
-use Rattle.tab_term.specs.Data.{PlainTerm, int}
-use Rattle.tab_model.specs.Names.{pair}
-use Rattle.tab_session.specs.Answers.{IsNumbered}
+-- The step of the model that a call of the core makes.
+use Rattle.std.proofs.Common.{◌≡◌, ℕ, [], sym, ap, ◌∙◌, Option}
 use Rattle.tab_model.specs.State.{State}
 use Rattle.tab_model.specs.Outcome.{Ask, outcome, Outcome}
 use Rattle.tab_model.specs.declared.data.Entry.{Entry}
@@ -16,7 +13,3 @@ made_of μ r e = record { state = μ; reply = r; entry = e }
 pub makes : (σ μ : State) (n : ℕ) (a b : Ask) (r : Reply) (s : Stepped)
     → b ≡ a → r ≡ s.reply → Makes σ n b s μ → outcome σ [] n a ≡ record { state = μ; reply = r; entry = s.entry }
 makes σ μ n a b r s e f h = ap (λ (x : Ask). outcome σ [] n x) (sym e) ∙ h ∙ ap (λ (x : Reply). made_of μ x s.entry) (sym f)
-
-pub numbered : (o : Option ℕ) (z : ℤ) (x : PlainTerm) → IfSome o (λ n. (z ≡ pos n) × (1 ≤ n)) → IfSome o (λ n. IsNumbered (pair (int z) x) n)
-numbered None z x h = tt
-numbered (Some n) z x h = (h.1, x, ap (λ (y : ℤ). pair (int y) x) h.0)

@@ -51,19 +51,3 @@ beginning (suc n) (x ∷ b) rest = let i = beginning n b rest in (suc i.0, ap (�
 
 pub beginning_after : (a : List ℕ) (n : ℕ) (b rest : List ℕ) → (k : ℕ) × (take k (a ++ (b ++ rest)) ≡ a ++ take n b)
 beginning_after a n b rest = let i = beginning n b rest in (length a + i.0, take-append-add a (b ++ rest) i.0 ∙ ap (λ (x : List ℕ). a ++ x) i.1)
-
-pub Appends-none : (a : Option (List ℕ)) → Appends a a []
-Appends-none None = tt
-Appends-none (Some xs) = sym (append-nil xs)
-
-pub Appends-then : (a b c : Option (List ℕ)) (x y z : List ℕ) → Appends a b x → Appends b c y → x ++ y ≡ z → Appends a c z
-Appends-then None b c x y z p q e = tt
-Appends-then (Some xs) None c x y z p q e = absurd p
-Appends-then (Some xs) (Some ys) None x y z p q e = absurd q
-Appends-then (Some xs) (Some ys) (Some zs) x y z p q e = q ∙ ap (λ (r : List ℕ). r ++ y) p ∙ append_assoc xs x y ∙ ap (λ (r : List ℕ). xs ++ r) e
-
-pub Appends-keeps : (a b c : Option (List ℕ)) (x : List ℕ) → Appends a b x → Keeps b c → Appends a c x
-Appends-keeps None b c x p q = tt
-Appends-keeps (Some xs) None c x p q = absurd p
-Appends-keeps (Some xs) (Some ys) None x p q = absurd q
-Appends-keeps (Some xs) (Some ys) (Some zs) x p q = q ∙ p

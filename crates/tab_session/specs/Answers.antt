@@ -1,5 +1,6 @@
 -- How a payload is answered, and the bytes of an answer (this project's own rules).
 use Rattle.std.specs.Prelude.{◌≡◌, ◌≢◌, ℕ, ◌≤◌, ◌<◌, pos, List, [], ◌∷◌, length, Option, Result, Ok, Err, ◌⊎◌}
+use Rattle.std.specs.List.{flat_map}
 use Rattle.tab_term.specs.Data.{PlainTerm, int}
 use Rattle.tab_term.specs.Canon.{canon}
 use Rattle.tab_etf.specs.Frames.{frame}
@@ -12,11 +13,13 @@ use Rattle.tab_model.specs.State.{State}
 use Rattle.tab_model.specs.Outcome.{Ask, Join, Leave, Retry, Take, DoCommand, outcome}
 use Rattle.tab_model.specs.declared.data.Entry.{Entry}
 use Rattle.tab_model.specs.declared.data.Reply.{Reply}
-use Rattle.tab_model.specs.declared.data.Reply.TheVariants.{BadTerm, BadCommand, NoMemory}
+use Rattle.tab_model.specs.declared.data.Reply.TheVariants.{BadTerm, BadCommand, NoMemory, Waiting, Restart}
+use Rattle.tab_model.specs.declared.data.Item.{Item}
+use Rattle.tab_model.specs.Run.{taken_now}
 use Rattle.tab_core.specs.Single.{no_outbox}
 use Rattle.tab_proto.specs.declared.asked.Asked.{Asked}
 use Rattle.tab_proto.specs.declared.asked.Asked.TheVariants as asked
-use Rattle.tab_proto.specs.Asks.{request_term, IsAsked}
+use Rattle.tab_proto.specs.Asks.{request_term, IsSession, IsAsked, IsNumbered, HasNoNumber}
 use Rattle.tab_proto.specs.Replies.{reply_term}
 use Rattle.tab_session.specs.declared.answered.Answer.{Answer}
 
@@ -30,7 +33,7 @@ ask_for (asked.Do c) = DoCommand c
 
 -- the term is no request of a session
 abbrev pub AsksNothing : PlainTerm → Type 0
-AsksNothing t = (session : ℕ) (a : Asked) → 1 ≤ session → session < 4294967296 → IsAsked a → request_term session a ≢ t
+AsksNothing t = (session : ℕ) (a : Asked) → IsSession session → IsAsked a → request_term session a ≢ t
 
 -- the step that was asked was made
 pub record IsMade (σ : State) (session : ℕ) (a : Asked) (r : Reply) (μ : State) : Type 0 where
@@ -44,15 +47,9 @@ Made σ session a r μ = IsMade σ session a r μ ⊎ (r ≡ NoMemory) × (μ �
 pub record IsStep (σ : State) (t : PlainTerm) (x : Answer) (μ : State) : Type 0 where
   pub asked : Asked
   pub request : request_term x.session asked ≡ t
+  pub session : IsSession x.session
   pub formed : IsAsked asked
   pub made : IsMade σ x.session asked x.reply μ
-
--- {Session, X}, whatever X is
-abbrev pub IsNumbered : PlainTerm → ℕ → Type 0
-IsNumbered t n = (1 ≤ n) × (x : PlainTerm) × (t ≡ pair (int (pos n)) x)
-
-abbrev pub HasNoNumber : PlainTerm → Type 0
-HasNoNumber t = (n : ℕ) (x : PlainTerm) → 1 ≤ n → n < 4294967296 → t ≢ pair (int (pos n)) x
 
 -- the number under which a term is refused
 abbrev pub IsNumberOf : PlainTerm → ℕ → Type 0
@@ -98,6 +95,25 @@ Ran σ [] [] τ = τ ≡ σ
 Ran σ (p ∷ ps) [] τ = ⊥
 Ran σ [] (x ∷ xs) τ = ⊥
 Ran σ (p ∷ ps) (x ∷ xs) τ = (μ : State) × Answered σ p x μ × Ran μ ps xs τ
+
+-- no answer of a run is a want of memory
+abbrev pub NoneRefused : List Answer → Type 0
+NoneRefused [] = Unit {0}
+NoneRefused (x ∷ xs) = (x.reply ≢ NoMemory) × NoneRefused xs
+
+-- no answer of a run is a wait or a restart
+abbrev pub NoneWaits : List Answer → Type 0
+NoneWaits [] = Unit {0}
+NoneWaits (x ∷ xs) = (x.reply ≢ Waiting) × (x.reply ≢ Restart) × NoneWaits xs
+
+-- where a number stands in one of these payloads, it is this session's
+abbrev pub AreOf : ℕ → List (List ℕ) → Type 0
+AreOf n [] = Unit {0}
+AreOf n (p ∷ ps) = ((t : PlainTerm) (m : ℕ) → whole p ≡ Ok t → IsNumbered t m → m ≡ n) × AreOf n ps
+
+-- the items that a session took in a run
+abbrev pub taken_by : ℕ → List Answer → List Item
+taken_by m xs = flat_map (λ x. taken_now m x.session x.reply) xs
 
 -- ---- the bytes of an answer
 

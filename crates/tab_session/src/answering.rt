@@ -1,20 +1,18 @@
 //! One payload, and how it is answered.
 
-ghost use Rattle.std.specs.Prelude.{◌≡◌, ◌≢◌, ◌≤◌, ◌<◌, ◌++◌, ◌⊎◌, ℕ, pos, true, IfSome, IfNone, IfOk, IfErr, OnOk, OnErr};
-ghost use Rattle.tab_term.specs.Data.{int};
+ghost use Rattle.std.specs.Prelude.{◌≡◌, ◌++◌, ◌⊎◌, true, IfOk, IfErr, OnOk, OnErr};
 ghost use Rattle.tab_term.specs.View.{term};
-ghost use Rattle.tab_model.specs.Names.{pair};
 ghost use Rattle.tab_core.specs.Runs.{ask_of, serves_step};
 ghost use Rattle.tab_proto.specs.Asks.{IsAsked};
 ghost use Rattle.tab_model.specs.declared.data.Reply.TheVariants.{BadCommand};
-ghost use Rattle.tab_session.specs.Answers.{IsNumbered, HasNoNumber, IsNumberOf, Answered, AnsweredTerm, RefusedTerm, Made, ask_for, response, answer_frame, NotPut};
+ghost use Rattle.tab_session.specs.Answers.{IsNumberOf, Answered, AnsweredTerm, RefusedTerm, Made, ask_for, response, answer_frame, NotPut};
 
 use crate::Answer;
 use std::alloc::{AllocError, Global};
 use tab_core::{Core, Step};
 use tab_etf::{EncodeFault, EtfFault, append_frame, decode};
 use tab_model::Reply;
-use tab_proto::{Asked, ProtoFault, reply_term, request};
+use tab_proto::{Asked, ProtoFault, reply_term, request, session_of};
 use tab_term::{Term, Terms};
 
 /// Answers a payload: what is no term is BadTerm under 0, and a term that asks nothing is BadCommand, under the number in
@@ -60,38 +58,6 @@ fn no_command(asked: &Term) -> Answer
         },
         None => unasked(Reply::BadCommand),
     }
-}
-
-fn session_of(asked: &Term) -> Option<u32>
-    ensures some { IfSome result (λ n. IsNumbered (term asked.now) n) }
-    ensures none { IfNone result (HasNoNumber (term asked.now)) }
-{
-    let Term::Tuple(parts) = asked else {
-        return None;
-    };
-    match parts.as_slice() {
-        [Term::Int(number), ask] => number_before(*number, ask),
-        _ => None,
-    }
-}
-
-/// The number as a session's. What stands behind it is told to contracts alone.
-#[tactic(auto, using(crate::proofs::Made::numbered))]
-fn number_before(number: i128, _ask: &Term) -> Option<u32>
-    ensures some { IfSome result (λ n. IsNumbered (pair (int number) (term _ask.now)) n) }
-    ensures none { IfNone result (HasNoNumber (pair (int number) (term _ask.now))) }
-{
-    session_number(number)
-}
-
-fn session_number(number: i128) -> Option<u32>
-    ensures some { IfSome result (λ n. (number ≡ pos n) × (1 ≤ n)) }
-    ensures none { IfNone result ((n : ℕ) → 1 ≤ n → n < 4294967296 → number ≢ pos n) }
-{
-    if number < 1 || number > 4_294_967_295 {
-        return None;
-    }
-    Some(number as u32)
 }
 
 fn make(core: &mut Core, session: u32, asked: Asked) -> Reply

@@ -4,6 +4,7 @@
 mod answered;
 mod answering;
 mod ended;
+mod laws;
 mod replaying;
 mod serving;
 #[cfg(test)]
@@ -12,4 +13,5 @@ mod tests;
 pub use answered::Answer;
 pub use answering::answer;
 pub use ended::Ended;
+pub use laws::{an_answer_follows, one_session_never_waits, runs_have_a_history};
 pub use replaying::replay;

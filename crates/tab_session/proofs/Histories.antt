@@ -1,0 +1,222 @@
+-- What a run over payloads leaves: the history goes on, an answer follows from its payload, and a session alone never waits.
+use Rattle.std.proofs.Common.{◌≡◌, ◌≢◌, ℕ, ℤ, pos, suc, List, [], ◌∷◌, ◌++◌, length, Bool, true, false, refl, sym, ap, subst, ◌∙◌, inl, inr, append_assoc, append-nil, Option, Some, None, Result, Ok, Err}
+use Rattle.std.specs.Prelude.{◌==◌, if◌then◌else◌}
+use Rattle.tab_term.specs.Data.{PlainTerm, int, tuple, one_more, none}
+use Rattle.tab_etf.specs.Reading.{whole}
+use Rattle.tab_etf.specs.declared.fault.Stop.{Stop}
+use Rattle.tab_model.specs.declared.data.Entry.{Entry}
+use Rattle.tab_model.specs.declared.data.Item.{Item}
+use Rattle.tab_model.specs.declared.data.Reply.{Reply}
+use Rattle.tab_model.specs.declared.data.Reply.TheVariants as reply
+use Rattle.tab_model.specs.State.{State, IsSound}
+use Rattle.tab_model.specs.Outcome.{Ask, Join, Outcome, outcome}
+use Rattle.tab_model.specs.Refusals.{IsSole}
+use Rattle.tab_model.specs.Run.{item_of, entries, taken_now, JoinsEmpty, IsTied}
+use Rattle.tab_model.proofs.SoundSteps.{step_sound}
+use Rattle.tab_model.proofs.TiedSteps.{step_tied}
+use Rattle.tab_model.proofs.Sole.{stays_sole, no_wait, no_restart}
+use Rattle.tab_proto.specs.declared.asked.Asked.{Asked}
+use Rattle.tab_proto.specs.declared.asked.Asked.TheVariants as asked
+use Rattle.tab_proto.specs.Asks.{request_term, number_in, IsSession, IsNumbered, IsAsked}
+use Rattle.tab_proto.proofs.Apart.{requests_apart}
+use Rattle.tab_session.specs.declared.answered.Answer.{Answer}
+use Rattle.tab_session.specs.Answers.{ask_for, IsMade, Made, IsStep, IsNumberOf, IsNoCommand, AnsweredTerm, AnsweredRead, Refused, Answered, Ran, NoneRefused, NoneWaits, AreOf, taken_by}
+use Rattle.tab_session.specs.Replays.{Said}
+
+-- ---- a step that was made
+
+joins_empty : (a : Asked) → JoinsEmpty (ask_for a)
+joins_empty asked.Join = refl
+joins_empty asked.Leave = tt
+joins_empty asked.Retry = tt
+joins_empty asked.Take = tt
+joins_empty (asked.Do c) = tt
+
+-- the history of a state after an answer under a session
+record Onward (μ : State) (log : List Entry) (taken : ℕ → List Item) : Type 0 where
+  pub sound : IsSound μ
+  pub more : List Entry
+  pub tied : IsTied μ (log ++ more) taken
+
+made_onward : (σ μ : State) (n : ℕ) (a : Asked) (r : Reply) (log : List Entry) (taken : ℕ → List Item) → IsMade σ n a r μ → IsSound σ → IsTied σ log taken → Onward μ log (λ m. taken m ++ taken_now m n r)
+made_onward σ μ n a r log taken made sound tied =
+    let o = made.made in
+    record {
+      sound = subst IsSound (ap (λ x. Outcome.state x) o) (step_sound σ [] n (ask_for a) sound);
+      more = entries (outcome σ [] n (ask_for a)).entry;
+      tied = subst (λ (x : Outcome). IsTied x.state (log ++ entries (outcome σ [] n (ask_for a)).entry) (λ m. taken m ++ taken_now m n x.reply)) o
+          (step_tied σ log taken [] n (ask_for a) sound (joins_empty a) tied);
+    }
+
+no_item : (m n : ℕ) (r : Reply) → item_of r ≡ [] → [] ≡ taken_now m n r
+no_item m n r e = cases (m == n)
+  where
+    cases : (b : Bool) → [] ≡ (if b then item_of r else [])
+    cases true = sym e
+    cases false = refl
+
+-- nothing has changed, and nothing was taken
+quiet_onward : (σ μ : State) (n : ℕ) (r : Reply) (log : List Entry) (taken : ℕ → List Item) → μ ≡ σ → item_of r ≡ [] → IsSound σ → IsTied σ log taken → Onward μ log (λ m. taken m ++ taken_now m n r)
+quiet_onward σ μ n r log taken same e sound tied = record {
+  sound = subst IsSound (sym same) sound;
+  more = [];
+  tied = subst (λ (x : State). IsTied x (log ++ []) (λ m. taken m ++ taken_now m n r)) (sym same)
+      (subst (λ (l : List Entry). IsTied σ l (λ m. taken m ++ taken_now m n r)) (sym (append-nil log))
+      (subst (λ (f : ℕ → List Item). IsTied σ log f) (λ i m. (sym (append-nil (taken m)) ∙ ap (λ xs. taken m ++ xs) (no_item m n r e)) i) tied));
+}
+
+read_onward : (σ μ : State) (read : Result PlainTerm Stop) (x : Answer) (log : List Entry) (taken : ℕ → List Item) → AnsweredRead σ read x μ → IsSound σ → IsTied σ log taken
+    → Onward μ log (λ m. taken m ++ taken_now m x.session x.reply)
+read_onward σ μ (Err f) x log taken h sound tied = quiet_onward σ μ x.session x.reply log taken h.1 (ap (λ y. item_of (Answer.reply y)) h.0) sound tied
+read_onward σ μ (Ok t) x log taken (inl h) sound tied = quiet_onward σ μ x.session x.reply log taken h.same (ap item_of h.reply) sound tied
+read_onward σ μ (Ok t) x log taken (inr h) sound tied = made_onward σ μ x.session h.asked x.reply log taken h.made sound tied
+
+answer_onward : (σ μ : State) (p : List ℕ) (x : Answer) (log : List Entry) (taken : ℕ → List Item) → Answered σ p x μ → IsSound σ → IsTied σ log taken
+    → Onward μ log (λ m. taken m ++ taken_now m x.session x.reply)
+answer_onward σ μ p x log taken (inl h) sound tied = read_onward σ μ (whole p) x log taken h sound tied
+answer_onward σ μ p x log taken (inr h) sound tied = quiet_onward σ μ x.session x.reply log taken h.same (ap item_of h.reply) sound tied
+
+ran_onward : (σ τ : State) (ps : List (List ℕ)) (xs : List Answer) (log : List Entry) (taken : ℕ → List Item) → Ran σ ps xs τ → IsSound σ → IsTied σ log taken → Onward τ log (λ m. taken m ++ taken_by m xs)
+ran_onward σ τ [] [] log taken ran sound tied = record {
+  sound = subst IsSound (sym ran) sound;
+  more = [];
+  tied = subst (λ (x : State). IsTied x (log ++ []) (λ m. taken m ++ [])) (sym ran)
+      (subst (λ (l : List Entry). IsTied σ l (λ m. taken m ++ [])) (sym (append-nil log)) (subst (λ (f : ℕ → List Item). IsTied σ log f) (λ i m. sym (append-nil (taken m)) i) tied));
+}
+ran_onward σ τ (p ∷ ps) [] log taken ran sound tied = absurd ran
+ran_onward σ τ [] (x ∷ xs) log taken ran sound tied = absurd ran
+ran_onward σ τ (p ∷ ps) (x ∷ xs) log taken (μ, one, rest) sound tied =
+    let first = answer_onward σ μ p x log taken one sound tied in
+    let all = ran_onward μ τ ps xs (log ++ first.more) (λ m. taken m ++ taken_now m x.session x.reply) rest first.sound first.tied in
+    record {
+      sound = all.sound;
+      more = first.more ++ all.more;
+      tied = subst (λ (l : List Entry). IsTied τ l (λ m. taken m ++ taken_by m (x ∷ xs))) (append_assoc log first.more all.more)
+          (subst (λ (f : ℕ → List Item). IsTied τ ((log ++ first.more) ++ all.more) f) (λ i m. append_assoc (taken m) (taken_now m x.session x.reply) (taken_by m xs) i) all.tied);
+    }
+
+pub said_sound : (σ : State) (ps : List (List ℕ)) (xs : List Answer) (s : Said σ ps xs) (log : List Entry) (taken : ℕ → List Item) → IsSound σ → IsTied σ log taken → IsSound s.last
+said_sound σ ps xs s log taken sound tied = (ran_onward σ s.last ps xs log taken s.ran sound tied).sound
+
+pub said_tied : (σ : State) (ps : List (List ℕ)) (xs : List Answer) (s : Said σ ps xs) (log : List Entry) (taken : ℕ → List Item) → IsSound σ → IsTied σ log taken → (more : List Entry) × IsTied s.last (log ++ more) (λ m. taken m ++ taken_by m xs)
+said_tied σ ps xs s log taken sound tied = let all = ran_onward σ s.last ps xs log taken s.ran sound tied in (all.more, all.tied)
+
+-- ---- one answer to each payload
+
+ran_length : (σ τ : State) (ps : List (List ℕ)) (xs : List Answer) → Ran σ ps xs τ → length xs ≡ length ps
+ran_length σ τ [] [] ran = refl
+ran_length σ τ (p ∷ ps) [] ran = absurd ran
+ran_length σ τ [] (x ∷ xs) ran = absurd ran
+ran_length σ τ (p ∷ ps) (x ∷ xs) (μ, one, rest) = ap suc (ran_length μ τ ps xs rest)
+
+pub said_each : (σ : State) (ps : List (List ℕ)) (xs : List Answer) → Said σ ps xs → length xs ≡ length ps
+said_each σ ps xs s = ran_length σ s.last ps xs s.ran
+
+-- ---- an answer follows from its payload and the state
+
+abbrev value_of : Option ℤ → ℕ
+value_of (Some (pos n)) = n
+value_of z = 0
+
+number_once : (t : PlainTerm) (m n : ℕ) → IsNumberOf t m → IsNumberOf t n → m ≡ n
+number_once t m n (inl h) (inl k) = h.0 ∙ sym k.0
+number_once t m n (inl h) (inr k) = absurd (h.1 n k.0 k.1)
+number_once t m n (inr h) (inl k) = absurd (k.1 m h.0 h.1)
+number_once t m n (inr h) (inr k) = ap value_of (sym h.1 ∙ k.1)
+
+answer_of : (x y : Answer) → x.session ≡ y.session → x.reply ≡ y.reply → x ≡ y
+answer_of x y e f = λ i. record { session = e i; reply = f i }
+
+made_once : (σ μ ν : State) (n m : ℕ) (a b : Asked) (r q : Reply) → n ≡ m → a ≡ b → IsMade σ n a r μ → IsMade σ m b q ν → (r ≡ q) × (μ ≡ ν)
+made_once σ μ ν n m a b r q e f h k =
+    let both = sym h.made ∙ (λ i. outcome σ [] (e i) (ask_for (f i))) ∙ k.made in
+    (ap (λ o. Outcome.reply o) both, ap (λ o. Outcome.state o) both)
+
+term_once : (σ μ ν : State) (t : PlainTerm) (x y : Answer) → AnsweredTerm σ t x μ → AnsweredTerm σ t y ν → (x ≡ y) × (μ ≡ ν)
+term_once σ μ ν t x y (inl h) (inl k) = (answer_of x y (number_once t x.session y.session h.under k.under) (h.reply ∙ sym k.reply), h.same ∙ sym k.same)
+term_once σ μ ν t x y (inl h) (inr k) = absurd (h.nothing y.session k.asked k.session k.formed k.request)
+term_once σ μ ν t x y (inr h) (inl k) = absurd (k.nothing x.session h.asked h.session h.formed h.request)
+term_once σ μ ν t x y (inr h) (inr k) =
+    let same = requests_apart x.session y.session h.asked k.asked h.formed k.formed (h.request ∙ sym k.request) in
+    let once = made_once σ μ ν x.session y.session h.asked k.asked x.reply y.reply same.0 same.1 h.made k.made in
+    (answer_of x y same.0 once.0, once.1)
+
+read_once : (σ μ ν : State) (read : Result PlainTerm Stop) (x y : Answer) → AnsweredRead σ read x μ → AnsweredRead σ read y ν → (x ≡ y) × (μ ≡ ν)
+read_once σ μ ν (Err f) x y h k = (h.0 ∙ sym k.0, h.1 ∙ sym k.1)
+read_once σ μ ν (Ok t) x y h k = term_once σ μ ν t x y h k
+
+answer_once : (σ μ ν : State) (p : List ℕ) (x y : Answer) → x.reply ≢ reply.NoMemory → y.reply ≢ reply.NoMemory → Answered σ p x μ → Answered σ p y ν → (x ≡ y) × (μ ≡ ν)
+answer_once σ μ ν p x y e f (inl h) (inl k) = read_once σ μ ν (whole p) x y h k
+answer_once σ μ ν p x y e f (inr h) k = absurd (e h.reply)
+answer_once σ μ ν p x y e f (inl h) (inr k) = absurd (f k.reply)
+
+ran_once : (σ τ ω : State) (ps : List (List ℕ)) (xs ys : List Answer) → NoneRefused xs → NoneRefused ys → Ran σ ps xs τ → Ran σ ps ys ω → (xs ≡ ys) × (τ ≡ ω)
+ran_once σ τ ω [] [] [] e f h k = (refl, h ∙ sym k)
+ran_once σ τ ω [] (x ∷ xs) ys e f h k = absurd h
+ran_once σ τ ω [] [] (y ∷ ys) e f h k = absurd k
+ran_once σ τ ω (p ∷ ps) [] ys e f h k = absurd h
+ran_once σ τ ω (p ∷ ps) (x ∷ xs) [] e f h k = absurd k
+ran_once σ τ ω (p ∷ ps) (x ∷ xs) (y ∷ ys) e f (μ, h, hs) (ν, k, ks) =
+    let one = answer_once σ μ ν p x y e.0 f.0 h k in
+    let all = ran_once μ τ ω ps xs ys e.1 f.1 hs (subst (λ (s : State). Ran s ps ys ω) (sym one.1) ks) in
+    (λ i. one.0 i ∷ all.0 i, all.1)
+
+pub said_once : (σ : State) (ps : List (List ℕ)) (xs ys : List Answer) → NoneRefused xs → NoneRefused ys → Said σ ps xs → Said σ ps ys → xs ≡ ys
+said_once σ ps xs ys e f s t = (ran_once σ s.last t.last ps xs ys e f s.ran t.ran).0
+
+-- ---- a session that is alone
+
+record Alone (n : ℕ) (μ : State) (x : Answer) : Type 0 where
+  pub sole : IsSole n μ
+  pub wait : x.reply ≢ reply.Waiting
+  pub restart : x.reply ≢ reply.Restart
+
+stays_alone : (n : ℕ) (σ μ : State) (x : Answer) → μ ≡ σ → x.reply ≢ reply.Waiting → x.reply ≢ reply.Restart → IsSole n σ → Alone n μ x
+stays_alone n σ μ x same w r sole = record { sole = subst (IsSole n) (sym same) sole; wait = w; restart = r }
+
+made_alone : (n : ℕ) (σ μ : State) (x : Answer) (a : Asked) → x.session ≡ n → IsMade σ x.session a x.reply μ → IsSole n σ → Alone n μ x
+made_alone n σ μ x a mine made sole =
+    let here = (λ i. outcome σ [] (sym mine i) (ask_for a)) ∙ made.made in
+    record {
+      sole = subst (IsSole n) (ap (λ o. Outcome.state o) here) (stays_sole σ [] n (ask_for a) sole);
+      wait = λ e. no_wait σ [] n (ask_for a) sole (ap (λ o. Outcome.reply o) here ∙ e);
+      restart = λ e. no_restart σ [] n (ask_for a) sole (ap (λ o. Outcome.reply o) here ∙ e);
+    }
+
+read_alone : (n : ℕ) (σ μ : State) (read : Result PlainTerm Stop) (x : Answer) → ((t : PlainTerm) (m : ℕ) → read ≡ Ok t → IsNumbered t m → m ≡ n) → AnsweredRead σ read x μ → IsSole n σ → Alone n μ x
+read_alone n σ μ (Err f) x of h sole = stays_alone n σ μ x h.1 (λ e. waits (sym (ap (λ y. Answer.reply y) h.0) ∙ e)) (λ e. restarts (sym (ap (λ y. Answer.reply y) h.0) ∙ e)) sole
+  where
+    waits : reply.BadTerm ≡ reply.Waiting → ⊥
+    waits e = cc
+
+    restarts : reply.BadTerm ≡ reply.Restart → ⊥
+    restarts e = cc
+read_alone n σ μ (Ok t) x of (inl h) sole = stays_alone n σ μ x h.same (λ e. waits (sym h.reply ∙ e)) (λ e. restarts (sym h.reply ∙ e)) sole
+  where
+    waits : reply.BadCommand ≡ reply.Waiting → ⊥
+    waits e = cc
+
+    restarts : reply.BadCommand ≡ reply.Restart → ⊥
+    restarts e = cc
+read_alone n σ μ (Ok t) x of (inr h) sole = made_alone n σ μ x h.asked (of t x.session refl (h.session, ap number_in (sym h.request))) h.made sole
+
+answer_alone : (n : ℕ) (σ μ : State) (p : List ℕ) (x : Answer) → ((t : PlainTerm) (m : ℕ) → whole p ≡ Ok t → IsNumbered t m → m ≡ n) → Answered σ p x μ → IsSole n σ → Alone n μ x
+answer_alone n σ μ p x of (inl h) sole = read_alone n σ μ (whole p) x of h sole
+answer_alone n σ μ p x of (inr h) sole = stays_alone n σ μ x h.same (λ e. waits (sym h.reply ∙ e)) (λ e. restarts (sym h.reply ∙ e)) sole
+  where
+    waits : reply.NoMemory ≡ reply.Waiting → ⊥
+    waits e = cc
+
+    restarts : reply.NoMemory ≡ reply.Restart → ⊥
+    restarts e = cc
+
+ran_alone : (n : ℕ) (σ τ : State) (ps : List (List ℕ)) (xs : List Answer) → AreOf n ps → Ran σ ps xs τ → IsSole n σ → NoneWaits xs
+ran_alone n σ τ [] [] of ran sole = tt
+ran_alone n σ τ (p ∷ ps) [] of ran sole = absurd ran
+ran_alone n σ τ [] (x ∷ xs) of ran sole = absurd ran
+ran_alone n σ τ (p ∷ ps) (x ∷ xs) of (μ, one, rest) sole =
+    let first = answer_alone n σ μ p x of.0 one sole in
+    (first.wait, first.restart, ran_alone n μ τ ps xs of.1 rest first.sole)
+
+pub said_alone : (n : ℕ) (σ : State) (ps : List (List ℕ)) (xs : List Answer) → AreOf n ps → IsSole n σ → Said σ ps xs → NoneWaits xs
+said_alone n σ ps xs of sole s = ran_alone n σ s.last ps xs of s.ran sole

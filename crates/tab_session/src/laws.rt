@@ -1,0 +1,34 @@
+//! What a run over a stream's payloads says. Each law is the contract of a function that does nothing.
+
+ghost use Rattle.std.specs.Prelude.{◌≡◌, ◌++◌, ℕ, List, length};
+ghost use Rattle.tab_model.specs.declared.data.Entry.{Entry};
+ghost use Rattle.tab_model.specs.declared.data.Item.{Item};
+ghost use Rattle.tab_model.specs.State.{State, IsSound};
+ghost use Rattle.tab_model.specs.Refusals.{IsSole};
+ghost use Rattle.tab_model.specs.Run.{IsTied};
+ghost use Rattle.tab_session.specs.declared.answered.Answer.{Answer as AnswerOf};
+ghost use Rattle.tab_session.specs.Answers.{NoneRefused, NoneWaits, AreOf, taken_by};
+ghost use Rattle.tab_session.specs.Replays.{Said};
+
+/// A run is one of the model: whatever log and taken items led to its first state, they go on with it. So from a new core
+/// the log of a run is legal, the tables are those of the log's commits run alone in order, open transactions were told
+/// what they are told alone, and what each session has taken is a beginning of what the log owes it.
+#[tactic(auto, using(crate::proofs::Histories::said_sound, crate::proofs::Histories::said_tied))]
+pub fn runs_have_a_history()
+    ensures sound { (σ : State) (ps : List (List ℕ)) (xs : List AnswerOf) (s : Said σ ps xs) (log : List Entry) (taken : ℕ → List Item) → IsSound σ → IsTied σ log taken → IsSound s.last }
+    ensures tied { (σ : State) (ps : List (List ℕ)) (xs : List AnswerOf) (s : Said σ ps xs) (log : List Entry) (taken : ℕ → List Item) → IsSound σ → IsTied σ log taken → (more : List Entry) × IsTied s.last (log ++ more) (λ m. taken m ++ taken_by m xs) }
+{}
+
+/// There is one answer to each payload; and where no memory was refused, the payloads alone say which: two runs over the
+/// same payloads say the same.
+#[tactic(auto, using(crate::proofs::Histories::said_each, crate::proofs::Histories::said_once))]
+pub fn an_answer_follows()
+    ensures each { (σ : State) (ps : List (List ℕ)) (xs : List AnswerOf) → Said σ ps xs → length xs ≡ length ps }
+    ensures once { (σ : State) (ps : List (List ℕ)) (xs ys : List AnswerOf) → NoneRefused xs → NoneRefused ys → Said σ ps xs → Said σ ps ys → xs ≡ ys }
+{}
+
+/// Where all payloads are of one session, and no other sits, no answer is a wait or a restart.
+#[tactic(auto, using(crate::proofs::Histories::said_alone))]
+pub fn one_session_never_waits()
+    ensures { (n : ℕ) (σ : State) (ps : List (List ℕ)) (xs : List AnswerOf) → AreOf n ps → IsSole n σ → Said σ ps xs → NoneWaits xs }
+{}
