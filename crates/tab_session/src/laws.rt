@@ -13,7 +13,6 @@ ghost use Rattle.tab_session.specs.Replays.{Said};
 /// A run is one of the model: whatever log and taken items led to its first state, they go on with it. So from a new core
 /// the log of a run is legal, the tables are those of the log's commits run alone in order, open transactions were told
 /// what they are told alone, and what each session has taken is a beginning of what the log owes it.
-#[tactic(auto, using(crate::proofs::Histories::said_sound, crate::proofs::Histories::said_tied))]
 pub fn runs_have_a_history()
     ensures sound { (σ : State) (ps : List (List ℕ)) (xs : List AnswerOf) (s : Said σ ps xs) (log : List Entry) (taken : ℕ → List Item) → IsSound σ → IsTied σ log taken → IsSound s.last }
     ensures tied { (σ : State) (ps : List (List ℕ)) (xs : List AnswerOf) (s : Said σ ps xs) (log : List Entry) (taken : ℕ → List Item) → IsSound σ → IsTied σ log taken → (more : List Entry) × IsTied s.last (log ++ more) (λ m. taken m ++ taken_by m xs) }
@@ -21,14 +20,12 @@ pub fn runs_have_a_history()
 
 /// There is one answer to each payload; and where no memory was refused, the payloads alone say which: two runs over the
 /// same payloads say the same.
-#[tactic(auto, using(crate::proofs::Histories::said_each, crate::proofs::Histories::said_once))]
 pub fn an_answer_follows()
     ensures each { (σ : State) (ps : List (List ℕ)) (xs : List AnswerOf) → Said σ ps xs → length xs ≡ length ps }
     ensures once { (σ : State) (ps : List (List ℕ)) (xs ys : List AnswerOf) → NoneRefused xs → NoneRefused ys → Said σ ps xs → Said σ ps ys → xs ≡ ys }
 {}
 
 /// Where all payloads are of one session, and no other sits, no answer is a wait or a restart.
-#[tactic(auto, using(crate::proofs::Histories::said_alone))]
 pub fn one_session_never_waits()
     ensures { (n : ℕ) (σ : State) (ps : List (List ℕ)) (xs : List AnswerOf) → AreOf n ps → IsSole n σ → Said σ ps xs → NoneWaits xs }
 {}
