@@ -1,7 +1,9 @@
 -- The exit statuses and the lines on standard error. Source: this project's own rule.
-use Rattle.std.specs.Prelude.{◌≡◌, ℕ, List, Option, Some, None, codes, ◌⊎◌}
+use Rattle.std.specs.Prelude.{◌≡◌, ℕ, ◌<◌, ◌-◌, ◌^◌, List, Option, Some, None, codes, ◌⊎◌, Result, Ok, Err, IfSome, length}
 use Rattle.clap.specs.declared.error.kind.ErrorKind.{ErrorKind}
 use Rattle.clap.specs.declared.error.kind.ErrorKind.TheVariants as kind
+use Rattle.tab_session.specs.Replays.{Replayed}
+use Rattle.tab_session.specs.declared.ended.Ended.{Ended}
 use Rattle.tab_session.specs.declared.ended.Ended.TheVariants.{Damaged, Device, TooLong, NoMemory}
 use Rattle.tabd.specs.declared.ending.End.{End}
 use Rattle.tabd.specs.declared.ending.End.TheVariants.{Done, WrongWords, Stopped}
@@ -36,3 +38,12 @@ end_of_words k = WrongWords
 abbrev pub IsShown : End → End → Type 0
 IsShown Done end = (end ≡ Done) ⊎ (end ≡ Stopped Device)
 IsShown end shown = shown ≡ end
+
+-- how a replay ends the program
+abbrev pub end_of : Result (Unit {0}) Ended → End
+end_of (Ok u) = Done
+end_of (Err e) = Stopped e
+
+-- the program replayed its input, where that is known, onto its output
+abbrev pub Plays : Option (List ℕ) → Option (List ℕ) → Option (List ℕ) → End → Type 0
+Plays input old new end = (r : Result (Unit {0}) Ended) × (end ≡ end_of r) × IfSome input (λ stream. length stream < 2 ^ 64 - 1 → Replayed stream old new r)

@@ -1,7 +1,7 @@
 //! How a run of the program ends: its status, and its line on standard error.
 
-ghost use Rattle.std.specs.Prelude.{◌≡◌, ◌≤◌, IfErr, OnOk, option_map};
-ghost use Rattle.tabd.specs.Endings.{end_of_words, message_of, status_of};
+ghost use Rattle.std.specs.Prelude.{◌≡◌, ◌≤◌, option_map};
+ghost use Rattle.tabd.specs.Endings.{end_of, end_of_words, message_of, status_of};
 
 use crate::Ended;
 use clap::error::ErrorKind;
@@ -19,8 +19,7 @@ pub enum End {
 
 /// How a replay ends the program.
 pub fn end_of_replay(replayed: Result<(), Ended>) -> End
-    ensures ok { OnOk replayed (result ≡ End.Done) }
-    ensures err { IfErr replayed (λ ended. result ≡ End.Stopped ended) }
+    ensures { result ≡ end_of replayed }
 {
     match replayed {
         Ok(()) => End::Done,

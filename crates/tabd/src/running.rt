@@ -1,14 +1,15 @@
 //! A run of the program between its words and its status.
 
-ghost use Rattle.std.specs.Prelude.{◌≡◌, ◌≤◌};
+ghost use Rattle.std.specs.Prelude.{◌≡◌, ◌≤◌, OnOk, OnErr, IfErr};
 ghost use Rattle.std.specs.Process.{exit_status};
 ghost use Rattle.clap.specs.Words.{kind_of};
-ghost use Rattle.tabd.specs.Endings.{IsShown, end_of_words, status_of};
+ghost use Rattle.tabd.specs.Endings.{IsShown, Plays, end_of_words, status_of};
 
 use crate::ending::{End, end_of_replay, end_of_words, message_of, status_of};
 use crate::words::{Run, asked};
 use crate::{Ended, replay};
 use clap::Error;
+use std::alloc::Global;
 use std::io::{Read, Write};
 use std::process::ExitCode;
 use std::rt::Env;
@@ -22,15 +23,34 @@ pub fn run<H: Env + AllocGlobal + Print + Eprint, R: Read + Drop, W: Write + Dro
 ) -> ExitCode
     ensures { exit_status result ≤ 3 }
 {
-    let end = match asked(rt) {
-        Ok(Run::Replay) => end_of_replay(replay(
-            rt.alloc(),
-            &mut Counted::new(input),
-            &mut Counted::new(output),
-        )),
-        Err(error) => show(rt, &error),
-    };
+    let mut input = Counted::new(input);
+    let mut output = Counted::new(output);
+    let end = perform(rt, asked(rt), &mut input, &mut output);
     ExitCode::from(tell(rt, &end))
+}
+
+/// Does what the words ask for: a replay of the input. Words that ask for none leave input and output as they are.
+pub fn perform<H: AllocGlobal + Print + Eprint, R: Read, W: Write>(
+    rt: &H,
+    asked: Result<Run, Error>,
+    input: &mut Counted<R>,
+    output: &mut Counted<W>,
+) -> End
+    ensures replayed { OnOk asked (Plays (R.remaining input.old.inner) (W.contents output.old.inner) (W.contents output.new.inner) result) }
+    ensures shown { IfErr asked (λ error. IsShown (end_of_words (kind_of error)) result) }
+    ensures input { OnErr asked (input.new ≡ input.old) }
+    ensures output { OnErr asked (output.new ≡ output.old) }
+{
+    match asked {
+        Ok(Run::Replay) => play(rt.alloc(), input, output),
+        Err(error) => show(rt, &error),
+    }
+}
+
+fn play<R: Read, W: Write>(alloc: Global, input: &mut Counted<R>, output: &mut Counted<W>) -> End
+    ensures { Plays (R.remaining input.old.inner) (W.contents output.old.inner) (W.contents output.new.inner) result }
+{
+    end_of_replay(replay(alloc, input, output))
 }
 
 /// Shows the parser's text. Out of memory has none of its own.
