@@ -1,4 +1,4 @@
-pub mod Words
 pub mod Known
 pub mod Counted
 pub mod Apart
+mod Members

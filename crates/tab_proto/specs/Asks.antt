@@ -1,5 +1,5 @@
 -- The terms of what a session asks (this project's own rule): a command, or a word for what isn't one.
-use Rattle.std.specs.Prelude.{◌≡◌, ◌≢◌, ◌≤◌, ◌<◌, ℤ, Option, Some, None, ℕ, List, Bool, true, false, ◌||◌, codes, pos, Result, Ok, Err}
+use Rattle.std.specs.Prelude.{◌≡◌, ◌≢◌, ◌≤◌, ◌<◌, ℤ, Option, Some, None, ℕ, List, Bool, true, false, ◌||◌, ◌&&◌, codes, pos, Result, Ok, Err}
 use Rattle.std.specs.Str.{bytes_eq}
 use Rattle.tab_term.specs.Data.{PlainTerm, int, atom, tuple, none, one_more}
 use Rattle.tab_model.specs.Names.{pair}
@@ -9,7 +9,7 @@ use Rattle.tab_proto.specs.declared.asked.Asked.TheVariants as asked
 use Rattle.tab_proto.specs.declared.fault.ProtoFault.{ProtoFault}
 use Rattle.tab_proto.specs.declared.fault.ProtoFault.TheVariants.{BadCommand, NoMemory}
 use Rattle.tab_proto.specs.Commands.{term_of, is_command}
-use Rattle.tab_proto.specs.Reading.{is_one_word, is_call}
+use Rattle.tab_proto.specs.Reading.{is_one_word, is_call, serves_call}
 
 abbrev pub ask_term : Asked → PlainTerm
 ask_term asked.Join = atom (codes "join")
@@ -48,7 +48,7 @@ is_asked_word w = bytes_eq w (codes "join") || (bytes_eq w (codes "leave") || (b
 
 abbrev pub is_asked : PlainTerm → Bool
 is_asked (atom w) = is_asked_word w
-is_asked (tuple ts) = is_call ts
+is_asked (tuple ts) = serves_call ts && is_call ts
 is_asked t = false
 
 -- what this term asks, refused only where `known` is false

@@ -1,33 +1,116 @@
--- Terms of the commands that are served: which they are, by word and arity.
-use Rattle.std.specs.Prelude.{◌≡◌, ℕ, List, Bool, true, false, ◌&&◌, ◌||◌, codes, Result, Ok, Err}
+-- Terms of commands: which they are, by word and arity.
+use Rattle.std.specs.Prelude.{◌≡◌, ℕ, ℤ, pos, List, ◌++◌, Bool, true, false, ◌&&◌, ◌||◌, nat_le, codes, Option, Some, None, Result, Ok, Err}
 use Rattle.std.specs.Str.{bytes_eq}
-use Rattle.tab_term.specs.Data.{PlainTerm, atom, tuple, list, PlainTerms, none, one_more}
+use Rattle.std.specs.List.{list_all}
+use Rattle.tab_term.specs.Data.{PlainTerm, int, atom, tuple, list, PlainTerms, none, one_more}
+use Rattle.tab_model.specs.declared.data.Operation.{Operation}
 use Rattle.tab_model.specs.declared.data.Command.{Command}
+use Rattle.tab_model.specs.declared.data.Part.{Part}
 use Rattle.tab_core.specs.Served.{serves}
 use Rattle.tab_proto.specs.declared.fault.ProtoFault.{ProtoFault}
 use Rattle.tab_proto.specs.declared.fault.ProtoFault.TheVariants.{BadCommand, NoMemory}
-use Rattle.tab_proto.specs.Commands.{term_of, is_command, is_row}
+use Rattle.tab_proto.specs.declared.first_words.Unary.{Unary}
+use Rattle.tab_proto.specs.declared.first_words.Unary.TheVariants as unary
+use Rattle.tab_proto.specs.declared.first_words.Binary.{Binary}
+use Rattle.tab_proto.specs.declared.first_words.Binary.TheVariants as binary
+use Rattle.tab_proto.specs.FirstWords.{unary_in, binary_in}
+use Rattle.tab_proto.specs.Commands.{term_of, operation_term, levels, with_first, is_nested, is_command, is_operation, is_part, is_row, is_attribute}
 
 abbrev pub is_atom : PlainTerm → Bool
 is_atom (atom s) = true
 is_atom t = false
 
-abbrev pub is_empty_list : PlainTerm → Bool
-is_empty_list (list none) = true
-is_empty_list t = false
+abbrev pub is_list : PlainTerm → Bool
+is_list (list ts) = true
+is_list t = false
+
+-- {Tab, Key}
+abbrev pub is_place : PlainTerm → Bool
+is_place (tuple (one_more (atom t) (one_more k none))) = true
+is_place t = false
+
+abbrev pub is_level : PlainTerm → Bool
+is_level (atom w) = bytes_eq w (codes "simple") || bytes_eq w (codes "detailed")
+is_level t = false
+
+-- {table, Tab, Level}
+abbrev pub is_watch : PlainTerm → Bool
+is_watch (tuple (one_more (atom w) (one_more (atom t) (one_more l none)))) = bytes_eq w (codes "table") && is_level l
+is_watch t = false
+
+abbrev pub is_item : PlainTerm → Bool
+is_item (atom w) = bytes_eq w (codes "type") || (bytes_eq w (codes "attributes") || (bytes_eq w (codes "index") || bytes_eq w (codes "size")))
+is_item t = false
+
+-- how often a one-shot may restart
+abbrev pub is_retries : PlainTerm → Bool
+is_retries (int (pos n)) = nat_le n 1000
+is_retries t = false
+
+abbrev pub is_unary_operation : Unary → PlainTerm → Bool
+is_unary_operation unary.Write x = is_row x
+is_unary_operation unary.DeleteObject x = is_row x
+is_unary_operation unary.MatchObject x = is_row x
+is_unary_operation unary.ReadForWrite x = is_place x
+is_unary_operation unary.Delete x = is_place x
+is_unary_operation unary.AllKeys x = is_atom x
+is_unary_operation unary.ReadLockTable x = is_atom x
+is_unary_operation unary.WriteLockTable x = is_atom x
+is_unary_operation u x = false
+
+abbrev pub is_read_of : List ℕ → PlainTerm → Bool
+is_read_of w x = bytes_eq w (codes "read") && is_atom x
+
+abbrev pub is_ternary : List ℕ → PlainTerm → PlainTerm → Bool
+is_ternary w x a = bytes_eq w (codes "index_read") && (is_atom x && is_attribute a)
+
+-- whether the argument is a list of parts matters to an inner transaction alone
+abbrev pub is_unary_part : Option Unary → Bool → PlainTerm → Bool
+is_unary_part None parts x = false
+is_unary_part (Some unary.Abort) parts x = true
+is_unary_part (Some unary.Transaction) parts x = parts
+is_unary_part (Some u) parts x = is_unary_operation u x
+
+-- the members of a one-shot's list: operations, aborts, and inner transactions
+abbrev mutual
+  pub is_part_term : PlainTerm → Bool
+  is_part_term (tuple (one_more (atom w) (one_more x none))) = is_unary_part (unary_in w) (is_parts_list x) x
+  is_part_term (tuple (one_more (atom w) (one_more x (one_more y none)))) = is_read_of w x
+  is_part_term (tuple (one_more (atom w) (one_more x (one_more y (one_more z none))))) = is_ternary w x z
+  is_part_term t = false
+
+  pub is_parts_list : PlainTerm → Bool
+  is_parts_list (list ts) = are_parts ts
+  is_parts_list t = false
+
+  pub are_parts : PlainTerms → Bool
+  are_parts none = true
+  are_parts (one_more t ts) = is_part_term t && are_parts ts
+
+abbrev pub is_unary : Option Unary → PlainTerm → Bool
+is_unary None x = false
+is_unary (Some unary.Abort) x = true
+is_unary (Some unary.DeleteTable) x = is_atom x
+is_unary (Some unary.Subscribe) x = is_watch x
+is_unary (Some unary.Unsubscribe) x = is_watch x
+is_unary (Some u) x = is_unary_operation u x
+
+abbrev pub is_binary : Option Binary → PlainTerm → PlainTerm → Bool
+is_binary None x y = false
+is_binary (Some binary.AddTableIndex) x y = is_atom x && is_attribute y
+is_binary (Some binary.CreateTable) x y = is_atom x && is_list y
+is_binary (Some binary.DelTableIndex) x y = is_atom x && is_attribute y
+is_binary (Some binary.Read) x y = is_atom x
+is_binary (Some binary.TableInfo) x y = is_atom x && is_item y
+is_binary (Some binary.Transaction) x y = is_parts_list x && is_retries y
 
 abbrev pub is_one_word : List ℕ → Bool
 is_one_word w = bytes_eq w (codes "begin") || bytes_eq w (codes "commit")
 
-abbrev pub is_pair : List ℕ → PlainTerm → Bool
-is_pair w x = bytes_eq w (codes "abort") || (bytes_eq w (codes "write") && is_row x)
-
-abbrev pub is_triple : List ℕ → PlainTerm → PlainTerm → Bool
-is_triple w x y = is_atom x && (bytes_eq w (codes "read") || (bytes_eq w (codes "create_table") && is_empty_list y))
-
 abbrev pub is_call : PlainTerms → Bool
-is_call (one_more (atom w) (one_more x none)) = is_pair w x
-is_call (one_more (atom w) (one_more x (one_more y none))) = is_triple w x y
+is_call (one_more (atom w) (one_more x none)) = is_unary (unary_in w) x
+is_call (one_more (atom w) (one_more x (one_more y none))) = is_binary (binary_in w) x y
+is_call (one_more (atom w) (one_more x (one_more y (one_more z none)))) = is_ternary w x z
 is_call ts = false
 
 abbrev pub is_read : PlainTerm → Bool
@@ -35,14 +118,44 @@ is_read (atom w) = is_one_word w
 is_read (tuple ts) = is_call ts
 is_read t = false
 
--- this command is spelled by this term
-pub record Spells (c : Command) (t : PlainTerm) : Type 0 where
-  pub spelled : term_of c ≡ t
-  pub served : serves c ≡ true
-  pub formed : is_command c ≡ true
+abbrev pub is_empty_list : PlainTerm → Bool
+is_empty_list (list none) = true
+is_empty_list t = false
 
--- the command of this term, which is refused only where `known` is false
-abbrev pub Reads : PlainTerm → Bool → Result Command ProtoFault → Type 0
-Reads t known (Ok c) = Spells c t
-Reads t known (Err BadCommand) = known ≡ false
-Reads t known (Err NoMemory) = Unit {0}
+abbrev pub serves_call : PlainTerms → Bool
+serves_call (one_more (atom w) (one_more x none)) = bytes_eq w (codes "abort") || bytes_eq w (codes "write")
+serves_call (one_more (atom w) (one_more x (one_more y none))) = bytes_eq w (codes "read") || (bytes_eq w (codes "create_table") && is_empty_list y)
+serves_call ts = false
+
+-- which of these terms the core serves so far
+abbrev pub serves_term : PlainTerm → Bool
+serves_term (atom w) = true
+serves_term (tuple ts) = serves_call ts
+serves_term t = false
+
+abbrev pub SpellsOperation : Operation → PlainTerm → Type 0
+SpellsOperation o t = (operation_term o ≡ t) × (is_operation o ≡ true)
+
+abbrev pub Spells : Command → PlainTerm → Type 0
+Spells c t = (term_of c ≡ t) × (is_command c ≡ true)
+
+-- BadCommand comes only where `known` is false
+abbrev pub Refuses : {A : Type 0} → Bool → Result A ProtoFault → Type 0
+Refuses known (Ok a) = Unit {0}
+Refuses known (Err BadCommand) = known ≡ false
+Refuses known (Err NoMemory) = Unit {0}
+
+-- these operations stand first in the innermost transaction that is open before
+abbrev pub with_all : PlainTerms → List PlainTerms → List PlainTerms
+with_all none outer = outer
+with_all (one_more t ts) outer = with_first t (with_all ts outer)
+
+-- parts that say these operations, whatever follows
+pub record Says (parts : List Part) (ts : PlainTerms) : Type 0 where
+  pub levels : (rest : List Part) → levels (parts ++ rest) ≡ with_all ts (levels rest)
+  pub nested : (n : ℕ) (rest : List Part) → is_nested n (parts ++ rest) ≡ is_nested n rest
+  pub formed : list_all is_part parts ≡ true
+
+-- parts that say these operations were added
+abbrev pub Adds : List Part → List Part → PlainTerms → Type 0
+Adds old new ts = (parts : List Part) × (new ≡ old ++ parts) × Says parts ts

@@ -3,13 +3,19 @@
 #![tactic(auto)]
 
 mod asked;
+mod commands;
+mod copies;
 mod fault;
+mod first_words;
+mod operations;
+mod parts;
 mod replying;
 mod requests;
 #[cfg(test)]
 mod tests;
 
 pub use asked::Asked;
+pub use commands::command;
 pub use fault::ProtoFault;
 pub use replying::reply_term;
-pub use requests::{command, request, requests_are_apart, session_of};
+pub use requests::{request, requests_are_apart, session_of};

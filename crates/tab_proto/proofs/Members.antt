@@ -1,0 +1,132 @@
+-- Parts one after another, and the operations that they say.
+use Rattle.std.proofs.Common.{◌≡◌, ℕ, suc, zero, ◌+◌, ◌<◌, List, [], ◌∷◌, ◌++◌, Bool, true, false, ◌&&◌, refl, sym, ap, ◌∙◌, subst, append-nil, append_assoc, take, length, get_or, Option, Some, None}
+use Rattle.std.proofs.Common.{arith, Result, Ok, Err, OnOk}
+use Rattle.tab_proto.specs.declared.fault.ProtoFault.{ProtoFault}
+use Rattle.tab_proto.specs.declared.fault.ProtoFault.TheVariants.{BadCommand, NoMemory}
+use Rattle.std.specs.Prelude.{codes, pos, nat_le}
+use Rattle.tab_model.specs.declared.data.Command.TheVariants as command
+use Rattle.std.specs.List.{list_all}
+use Rattle.std.proofs.lemmas.List.{take_more}
+use Rattle.tab_term.specs.Data.{PlainTerm, int, atom, list, PlainTerms, none, one_more}
+use Rattle.tab_term.specs.View.{term, terms}
+use Rattle.tab_term.specs.declared.term.Term.{Term}
+use Rattle.tab_term.proofs.Lists.{push, terms-push}
+use Rattle.tab_model.specs.Names.{pair, triple}
+use Rattle.tab_model.specs.declared.data.Operation.{Operation}
+use Rattle.tab_model.specs.declared.data.Part.{Part}
+use Rattle.tab_model.specs.declared.data.Part.TheVariants as part
+use Rattle.tab_proto.specs.Commands.{operation_term, abort_term, with_first, enclosed, levels, outermost, is_nested, is_part, is_operation}
+use Rattle.tab_proto.specs.Reading.{is_part_term, are_parts, with_all, Spells, Refuses, Says, Adds}
+
+all-append : (xs ys : List Part) → list_all is_part xs ≡ true → list_all is_part ys ≡ true → list_all is_part (xs ++ ys) ≡ true
+all-append [] ys h k = k
+all-append (x ∷ xs) ys h k = and_both (is_part x) (list_all is_part xs) (list_all is_part (xs ++ ys)) h (λ e. all-append xs ys e k)
+  where
+    and_both : (a b c : Bool) → (a && b) ≡ true → (b ≡ true → c ≡ true) → (a && c) ≡ true
+    and_both true b c e f = f e
+    and_both false b c e f = cc
+
+with_all-push : (ts : PlainTerms) (t : PlainTerm) (outer : List PlainTerms) → with_all (push ts t) outer ≡ with_all ts (with_first t outer)
+with_all-push none t outer = refl
+with_all-push (one_more u ts) t outer = ap (with_first u) (with_all-push ts t outer)
+
+pub says_none : Says [] none
+says_none = record { levels = λ rest. refl; nested = λ n rest. refl; formed = refl }
+
+pub adds_none : (old : List Part) → Adds old old none
+adds_none old = ([], sym (append-nil old), says_none)
+
+says_then : (xs ys : List Part) (ts : PlainTerms) (t : PlainTerm) → Says xs ts → Says ys (one_more t none) → Says (xs ++ ys) (push ts t)
+says_then xs ys ts t h k = record {
+  levels = λ rest. ap levels (append_assoc xs ys rest) ∙ h.levels (ys ++ rest) ∙ ap (with_all ts) (k.levels rest) ∙ sym (with_all-push ts t (levels rest));
+  nested = λ n rest. ap (is_nested n) (append_assoc xs ys rest) ∙ h.nested n (ys ++ rest) ∙ k.nested n rest;
+  formed = all-append xs ys h.formed k.formed;
+}
+
+-- a member more
+pub adds_member : (old mid new : List Part) (ms : List Term) (i : ℕ) (m : Term) → i < length ms → m ≡ get_or ms i m → Adds old mid (terms (take i ms)) → Adds mid new (one_more (term m) none) → Adds old new (terms (take (i + 1) ms))
+adds_member old mid new ms i m within same (xs, e, h) (ys, f, k) = (
+  xs ++ ys,
+  f ∙ ap (λ z. z ++ ys) e ∙ append_assoc old xs ys,
+  subst (Says (xs ++ ys)) (sym (terms-push (take i ms) m) ∙ ap terms (sym (take_more ms i m within ∙ ap (λ x. take i ms ++ x ∷ []) (sym same)))) (says_then xs ys (terms (take i ms)) (term m) h k),
+)
+
+-- one part
+pub adds_operation : (old new : List Part) (o : Operation) (t : PlainTerm) → new ≡ old ++ part.Do o ∷ [] → operation_term o ≡ t → is_operation o ≡ true → Adds old new (one_more t none)
+adds_operation old new o t e spelled formed = (
+  part.Do o ∷ [],
+  e,
+  record { levels = λ rest. ap (λ u. with_first u (levels rest)) spelled; nested = does; formed = ap (λ b. b && true) formed },
+)
+  where
+    does : (n : ℕ) (rest : List Part) → is_nested n (part.Do o ∷ rest) ≡ is_nested n rest
+    does zero rest = refl
+    does (suc n) rest = refl
+
+pub adds_abort : (old new : List Part) (r : Term) → new ≡ old ++ part.Abort r ∷ [] → Adds old new (one_more (abort_term (term r)) none)
+adds_abort old new r e = (part.Abort r ∷ [], e, record { levels = λ rest. refl; nested = aborts; formed = refl })
+  where
+    aborts : (n : ℕ) (rest : List Part) → is_nested n (part.Abort r ∷ rest) ≡ is_nested n rest
+    aborts zero rest = refl
+    aborts (suc n) rest = refl
+
+-- an inner transaction
+inner_first : (ts : PlainTerms) (outer : List PlainTerms) → with_all ts (none ∷ outer) ≡ ts ∷ outer
+inner_first none outer = refl
+inner_first (one_more t ts) outer = ap (with_first t) (inner_first ts outer)
+
+pub adds_inner : (old opened inside new : List Part) (ts : PlainTerms) → opened ≡ old ++ part.Open ∷ [] → Adds opened inside ts → new ≡ inside ++ part.Close ∷ []
+    → Adds old new (one_more (pair (atom (codes "transaction")) (list ts)) none)
+adds_inner old opened inside new ts e (xs, f, h) g = (
+  part.Open ∷ (xs ++ part.Close ∷ []),
+  g ∙ ap (λ z. z ++ part.Close ∷ []) (f ∙ ap (λ z. z ++ xs) e ∙ append_assoc old (part.Open ∷ []) xs) ∙ append_assoc old (part.Open ∷ xs) (part.Close ∷ []),
+  record {
+    levels = λ rest. ap enclosed (ap levels (append_assoc xs (part.Close ∷ []) rest) ∙ h.levels (part.Close ∷ rest) ∙ inner_first ts (levels rest));
+    nested = encloses;
+    formed = all-append xs (part.Close ∷ []) h.formed refl;
+  },
+)
+  where
+    closes : (n : ℕ) (rest : List Part) → is_nested (suc n) ((xs ++ part.Close ∷ []) ++ rest) ≡ is_nested n rest
+    closes n rest = ap (is_nested (suc n)) (append_assoc xs (part.Close ∷ []) rest) ∙ h.nested (suc n) (part.Close ∷ rest)
+
+    encloses : (n : ℕ) (rest : List Part) → is_nested n ((part.Open ∷ (xs ++ part.Close ∷ [])) ++ rest) ≡ is_nested n rest
+    encloses zero rest = closes zero rest
+    encloses (suc n) rest = closes (suc n) rest
+
+-- a member that is no part
+pub no_parts : (ms : List Term) (i : ℕ) (m : Term) → i < length ms → m ≡ get_or ms i m → is_part_term (term m) ≡ false → are_parts (terms ms) ≡ false
+no_parts [] i m lt e h = absurd (omega arith)
+no_parts (x ∷ ms) zero m lt e h = ap (λ y. is_part_term (term y) && are_parts (terms ms)) (sym e) ∙ ap (λ b. b && are_parts (terms ms)) h
+no_parts (x ∷ ms) (suc i) m lt e h = ap (λ b. is_part_term (term x) && b) (no_parts ms i m (omega arith) e h) ∙ none_of (is_part_term (term x))
+  where
+    none_of : (b : Bool) → (b && false) ≡ false
+    none_of true = refl
+    none_of false = refl
+
+-- a member that is refused refuses the list
+pub refuses_list : (ms : List Term) (i : ℕ) (m : Term) (e : ProtoFault) → i < length ms → m ≡ get_or ms i m → Refuses {A = Unit {0}} (is_part_term (term m)) (Err e) → Refuses {A = Unit {0}} (are_parts (terms ms)) (Err e)
+refuses_list ms i m BadCommand lt same h = no_parts ms i m lt same h
+refuses_list ms i m NoMemory lt same h = tt
+
+pub on_ok : {E : Type 0} (r : Result (Unit {0}) E) (A B : Type 0) → (A → B) → OnOk r A → OnOk r B
+on_ok (Ok u) A B f h = f h
+on_ok (Err e) A B f h = tt
+
+-- a one-shot of these parts
+pub one_shot_is : (old parts : List Part) (ts us : PlainTerms) (m r : PlainTerm) (n : ℕ) → old ≡ [] → Adds old parts us → us ≡ ts → m ≡ list ts → r ≡ int (pos n) → nat_le n 1000 ≡ true
+    → Spells (command.OneShot parts n) (triple (atom (codes "transaction")) m r)
+one_shot_is old parts ts us m r n none_before (xs, e, h) same first second few = (
+  ap (λ z. triple (atom (codes "transaction")) (list (outermost (levels z))) (int (pos n))) whole
+      ∙ ap (λ z. triple (atom (codes "transaction")) (list z) (int (pos n))) (ap outermost (h.levels [] ∙ inner_first us []) ∙ same)
+      ∙ (λ i. triple (atom (codes "transaction")) (sym first i) (sym second i)),
+  both (nat_le n 1000) (is_nested 0 parts) (list_all is_part parts) few (ap (is_nested 0) whole ∙ h.nested 0 []) (ap (list_all is_part) (e ∙ ap (λ z. z ++ xs) none_before) ∙ h.formed),
+)
+  where
+    whole : parts ≡ xs ++ []
+    whole = e ∙ ap (λ z. z ++ xs) none_before ∙ sym (append-nil xs)
+
+    both : (a b c : Bool) → a ≡ true → b ≡ true → c ≡ true → (a && (b && c)) ≡ true
+    both true true c h k l = l
+    both true false c h k l = cc
+    both false b c h k l = cc
