@@ -52,7 +52,7 @@ fn if_served(command: Command) -> Result<Command, ProtoFault>
 }
 
 /// The command that a term is, of all commands.
-fn read_command(alloc: Global, asked: &Term) -> Result<Command, ProtoFault>
+pub fn read_command(alloc: Global, asked: &Term) -> Result<Command, ProtoFault>
     ensures ok { IfOk result (λ c. Spells c (term asked.now)) }
     ensures bad { Refuses (is_read (term asked.now)) result }
 {

@@ -3,10 +3,12 @@
 #![tactic(auto)]
 
 mod asked;
+mod command_terms;
 mod commands;
 mod copies;
 mod fault;
 mod first_words;
+mod levels;
 mod operations;
 mod parts;
 mod replying;
@@ -15,6 +17,7 @@ mod requests;
 mod tests;
 
 pub use asked::Asked;
+pub use command_terms::term_of;
 pub use commands::command;
 pub use fault::ProtoFault;
 pub use replying::reply_term;

@@ -59,26 +59,26 @@ pub fn reply_term(alloc: Global, reply: &Reply) -> Result<Term, AllocError>
     }
 }
 
-fn word(alloc: Global, text: &str) -> Result<Term, AllocError>
+pub fn word(alloc: Global, text: &str) -> Result<Term, AllocError>
     requires { length text.now ≤ 255 }
     ensures { IfOk result (λ t. term t ≡ atom text.now) }
 {
     Ok(Term::Atom(Atom::from_short_text(alloc, text)?))
 }
 
-fn number(n: u64) -> Term
+pub fn number(n: u64) -> Term
     ensures { term result ≡ number_of n }
 {
     Term::Int(i128::from(n))
 }
 
-fn name(alloc: Global, table: &Atom) -> Result<Term, AllocError>
+pub fn name(alloc: Global, table: &Atom) -> Result<Term, AllocError>
     ensures { IfOk result (λ t. term t ≡ atom table.now) }
 {
     Ok(Term::Atom(table.try_clone(alloc)?))
 }
 
-fn pair(alloc: Global, first: Term, second: Term) -> Result<Term, AllocError>
+pub fn pair(alloc: Global, first: Term, second: Term) -> Result<Term, AllocError>
     ensures { IfOk result (λ t. term t ≡ pair_of (term first) (term second)) }
 {
     let mut parts = Vec::with_capacity(alloc, 2)?;
@@ -87,7 +87,7 @@ fn pair(alloc: Global, first: Term, second: Term) -> Result<Term, AllocError>
     Ok(Term::Tuple(Terms::from_vec(parts)))
 }
 
-fn triple(alloc: Global, first: Term, second: Term, third: Term) -> Result<Term, AllocError>
+pub fn triple(alloc: Global, first: Term, second: Term, third: Term) -> Result<Term, AllocError>
     ensures { IfOk result (λ t. term t ≡ triple_of (term first) (term second) (term third)) }
 {
     let mut parts = Vec::with_capacity(alloc, 3)?;
@@ -98,7 +98,7 @@ fn triple(alloc: Global, first: Term, second: Term, third: Term) -> Result<Term,
 }
 
 /// `{Text, Value}`.
-fn worded(alloc: Global, text: &str, value: Term) -> Result<Term, AllocError>
+pub fn worded(alloc: Global, text: &str, value: Term) -> Result<Term, AllocError>
     requires { length text.now ≤ 255 }
     ensures { IfOk result (λ t. term t ≡ pair_of (atom text.now) (term value)) }
 {
@@ -228,7 +228,7 @@ fn item_term(alloc: Global, item: &Item) -> Result<Term, AllocError>
     }
 }
 
-fn level_word(level: Level) -> &'static str
+pub fn level_word(level: Level) -> &'static str
     ensures word { atom result.now ≡ level_word_of level }
     ensures short { length result.now ≤ 255 }
 {

@@ -1,4 +1,5 @@
-use crate::{Asked, ProtoFault, command, reply_term, request};
+use crate::commands::read_command;
+use crate::{Asked, ProtoFault, command, reply_term, request, term_of};
 use std::alloc::{AllocError, Global};
 use tab_etf::{decode, encode};
 use tab_model::{
@@ -213,5 +214,57 @@ fn replies_are_spelled(rt: HostRuntime) {
         let mut payload = Vec::new(alloc);
         encode(&answer, &mut payload).expect(&rt, "memory");
         assert!(rt; payload.as_slice() == *wanted, "line {line}");
+    }
+}
+
+/// Payloads of every command.
+const COMMANDS: [&[u8]; 21] = [
+    b"\x83h\x03w\x0ccreate_tablew\x01tl\x00\x00\x00\x01h\x02w\x04typew\x03bagj",
+    b"\x83h\x02w\x0cdelete_tablew\x01t",
+    b"\x83h\x03w\x0fadd_table_indexw\x01tw\x01a",
+    b"\x83h\x03w\x0fdel_table_indexw\x01ta\x03",
+    b"\x83h\x03w\x0atable_infow\x01tw\x04size",
+    b"\x83w\x05begin",
+    b"\x83w\x06commit",
+    b"\x83h\x02w\x05abortw\x03why",
+    b"\x83h\x03w\x04readw\x01ta\x01",
+    b"\x83h\x02w\x05wreadh\x02w\x01ta\x01",
+    b"\x83h\x02w\x05writeh\x03w\x01ta\x01w\x01a",
+    b"\x83h\x02w\x06deleteh\x02w\x01ta\x01",
+    b"\x83h\x02w\x0ddelete_objecth\x02w\x01ta\x01",
+    b"\x83h\x04w\x0aindex_readw\x01tw\x01vw\x01a",
+    b"\x83h\x02w\x0cmatch_objecth\x02w\x01tw\x01_",
+    b"\x83h\x02w\x08all_keysw\x01t",
+    b"\x83h\x02w\x0fread_lock_tablew\x01t",
+    b"\x83h\x02w\x10write_lock_tablew\x01t",
+    b"\x83h\x02w\x09subscribeh\x03w\x05tablew\x01tw\x06simple",
+    b"\x83h\x02w\x0bunsubscribeh\x03w\x05tablew\x01tw\x08detailed",
+    b"\x83h\x03w\x0btransactionl\x00\x00\x00\x03h\x02w\x05writeh\x02w\x01ta\x01h\x02w\x0btransactionl\x00\x00\x00\x01h\x02w\x05abortw\x02nojh\x03w\x04readw\x01ta\x01jb\x00\x00\x03\xe8",
+];
+
+/// Payloads of terms that are near to commands: too many restarts, an inner transaction with restarts, a word in a tuple, a
+/// level, an item and an attribute that are none, a key without its table.
+const NO_COMMANDS: [&[u8]; 7] = [
+    b"\x83h\x03w\x0btransactionjb\x00\x00\x03\xe9",
+    b"\x83h\x03w\x0btransactionl\x00\x00\x00\x01h\x03w\x0btransactionja\x00ja\x00",
+    b"\x83h\x03w\x0btransactionl\x00\x00\x00\x01h\x01w\x05beginja\x00",
+    b"\x83h\x02w\x09subscribeh\x03w\x05tablew\x01tw\x04loud",
+    b"\x83h\x03w\x0atable_infow\x01tw\x04cost",
+    b"\x83h\x04w\x0aindex_readw\x01tw\x01vm\x00\x00\x00\x01a",
+    b"\x83h\x03w\x05wreadw\x01ta\x01",
+];
+
+#[test]
+fn commands_are_read_and_told(rt: HostRuntime) {
+    let alloc = rt.alloc();
+    for payload in COMMANDS {
+        let asked = decode(alloc, payload).expect(&rt, "a term");
+        let command = read_command(alloc, &asked).expect(&rt, "a command");
+        let told = term_of(alloc, &command).expect(&rt, "memory");
+        assert!(rt; told == asked);
+    }
+    for payload in NO_COMMANDS {
+        let asked = decode(alloc, payload).expect(&rt, "a term");
+        assert!(rt; read_command(alloc, &asked).is_err());
     }
 }
