@@ -6,3 +6,4 @@ pub mod Streams
 pub mod Feeding
 pub mod Fronts
 pub mod Arrivals
+pub mod Outlines

@@ -6,13 +6,14 @@ ghost use Rattle.std.specs.Io.KnownBytes.{Appends, Keeps};
 ghost use Rattle.tab_term.specs.Canon.{canon};
 ghost use Rattle.tab_term.specs.View.{term};
 ghost use Rattle.tab_etf.specs.Frames.{frame};
+ghost use Rattle.tab_etf.specs.Outlines.{outline_term, IsShortOutline};
 ghost use Rattle.tab_etf.specs.Writing.{IsUnwritten};
 
 use crate::counted::{Broken, Counted};
 use crate::framing::FrameFault;
 use crate::measuring::encoded_len;
+use crate::outline::{Body, Leaf, Outline, outline_len, put_outline};
 use crate::pending::Pending;
-use crate::spelling::put;
 use std::alloc::AllocError;
 use std::io::Write;
 use tab_term::Term;
@@ -28,16 +29,29 @@ pub enum EncodeFault {
     NoMemory,
 }
 
+/// A term that stands as it is.
+fn held(value: &Term) -> Outline<'_>
+    ensures term { outline_term result ≡ term value.now }
+    ensures short { IsShortOutline result }
+{
+    Outline {
+        first: None,
+        second: None,
+        body: Body::One(Leaf::Held(value)),
+    }
+}
+
 /// Writes these bytes and the spelling behind them; where that fails, a beginning of them.
-fn spell<W: Write>(device: &mut Counted<W>, head: &[u8], value: &Term) -> Result<(), Broken>
-    ensures ok { OnOk result (Appends (W.contents device.old.inner) (W.contents device.new.inner) (head.now ++ canon (term value.now))) }
+fn spell<W: Write>(device: &mut Counted<W>, head: &[u8], outline: &Outline) -> Result<(), Broken>
+    requires { IsShortOutline outline.now }
+    ensures ok { OnOk result (Appends (W.contents device.old.inner) (W.contents device.new.inner) (head.now ++ canon (outline_term outline.now))) }
     ensures same { OnOk result (device.new.faults ≡ device.old.faults) }
-    ensures part { OnErr result ((n : ℕ) × Appends (W.contents device.old.inner) (W.contents device.new.inner) (take n (head.now ++ canon (term value.now)))) }
+    ensures part { OnErr result ((n : ℕ) × Appends (W.contents device.old.inner) (W.contents device.new.inner) (take n (head.now ++ canon (outline_term outline.now)))) }
     ensures rose { OnErr result (device.new.faults ≡ min (device.old.faults + 1) u64.MAX) }
 {
     let mut pending = Pending::new();
     pending.put(device, head);
-    put(device, &mut pending, value);
+    put_outline(device, &mut pending, outline);
     pending.write_out(device);
     if pending.has_failed() {
         return Err(Broken);
@@ -62,25 +76,36 @@ pub fn write_frame<W: Write>(device: &mut Counted<W>, value: &Term) -> Result<()
     ensures same { OnOk result (device.new.faults ≡ device.old.faults) }
     ensures err { IfErr result (λ e. IsUnwritten e (131 ∷ canon (term value.now)) (W.contents device.old.inner) (W.contents device.new.inner) device.old.faults device.new.faults) }
 {
-    let Some(len) = encoded_len(value) else {
+    write_outline(device, &held(value))
+}
+
+/// Writes the frame of a term that is given by its parts, as `write_frame` writes one that was built.
+pub fn write_outline<W: Write>(device: &mut Counted<W>, outline: &Outline) -> Result<(), FrameFault>
+    requires { IsShortOutline outline.now }
+    ensures ok { OnOk result (Appends (W.contents device.old.inner) (W.contents device.new.inner) (frame (131 ∷ canon (outline_term outline.now)))) }
+    ensures same { OnOk result (device.new.faults ≡ device.old.faults) }
+    ensures err { IfErr result (λ e. IsUnwritten e (131 ∷ canon (outline_term outline.now)) (W.contents device.old.inner) (W.contents device.new.inner) device.old.faults device.new.faults) }
+{
+    let Some(len) = outline_len(outline) else {
         return Err(FrameFault::FrameTooLong(u32::MAX));
     };
-    match spell(device, &frame_head(len as u32), value) {
+    match spell(device, &frame_head(len as u32), outline) {
         Ok(()) => Ok(()),
         Err(_) => Err(FrameFault::Device),
     }
 }
 
 /// Adds bytes and the spelling behind them, so many bytes together. On an error the bytes are as before.
-fn append(value: &Term, head: &[u8], len: usize, out: &mut Vec<u8>) -> Result<(), AllocError>
-    ensures ok { OnOk result (out.new.items ≡ out.old.items ++ (head.now ++ canon (term value.now))) }
+fn append(outline: &Outline, head: &[u8], len: usize, out: &mut Vec<u8>) -> Result<(), AllocError>
+    requires { IsShortOutline outline.now }
+    ensures ok { OnOk result (out.new.items ≡ out.old.items ++ (head.now ++ canon (outline_term outline.now))) }
     ensures err { OnErr result (out.new.items ≡ out.old.items) }
 {
     let start = out.len();
     out.reserve(len)?;
     let alloc = *out.allocator();
     let mut device = Counted::new(std::mem::replace(out, Vec::new(alloc)));
-    let spelled = spell(&mut device, head, value);
+    let spelled = spell(&mut device, head, outline);
     *out = device.into_inner();
     if spelled.is_err() {
         out.truncate(start);
@@ -100,7 +125,7 @@ pub fn encode(value: &Term, out: &mut Vec<u8>) -> Result<(), EncodeFault>
     let Some(len) = encoded_len(value) else {
         return Err(EncodeFault::TooLong);
     };
-    match append(value, &[131], len as usize, out) {
+    match append(&held(value), &[131], len as usize, out) {
         Ok(()) => Ok(()),
         Err(_) => Err(EncodeFault::NoMemory),
     }
@@ -114,10 +139,20 @@ pub fn append_frame(value: &Term, out: &mut Vec<u8>) -> Result<(), EncodeFault>
     ensures too_long { (result ≡ Err EncodeFault.TooLong) ↔ (4294967295 < length (131 ∷ canon (term value.now))) }
     ensures err { OnErr result (out.new.items ≡ out.old.items) }
 {
-    let Some(len) = encoded_len(value) else {
+    append_outline(&held(value), out)
+}
+
+/// Adds the frame of a term that is given by its parts, as `append_frame` adds that of one that was built.
+pub fn append_outline(outline: &Outline, out: &mut Vec<u8>) -> Result<(), EncodeFault>
+    requires { IsShortOutline outline.now }
+    ensures ok { OnOk result (out.new.items ≡ out.old.items ++ frame (131 ∷ canon (outline_term outline.now))) }
+    ensures too_long { (result ≡ Err EncodeFault.TooLong) ↔ (4294967295 < length (131 ∷ canon (outline_term outline.now))) }
+    ensures err { OnErr result (out.new.items ≡ out.old.items) }
+{
+    let Some(len) = outline_len(outline) else {
         return Err(EncodeFault::TooLong);
     };
-    match append(value, &frame_head(len as u32), len as usize + 4, out) {
+    match append(outline, &frame_head(len as u32), len as usize + 4, out) {
         Ok(()) => Ok(()),
         Err(_) => Err(EncodeFault::NoMemory),
     }

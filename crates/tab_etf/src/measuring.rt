@@ -9,10 +9,10 @@ use crate::spelling::{are_bytes, is_in_byte, is_in_four, low_first, significant_
 use tab_term::{Term, Terms};
 
 /// The longest payload that a length of four bytes can tell.
-const LONGEST: u64 = 0xffff_ffff;
+pub const LONGEST: u64 = 0xffff_ffff;
 
 #[tactic(auto, using(crate::proofs::Lengths::one_long, crate::proofs::Lengths::four_long, crate::proofs::Lengths::big_long))]
-fn int_len(z: i128) -> u64
+pub fn int_len(z: i128) -> u64
     ensures { result ≡ length (int_tag z ∷ int_contents z) }
 {
     if is_in_byte(z) {
@@ -40,7 +40,7 @@ fn field_len(n: usize) -> u64
 }
 
 #[tactic(auto, using(crate::proofs::Lengths::atom_short, crate::proofs::Lengths::atom_long))]
-fn atom_len(n: usize) -> u64
+pub fn atom_len(n: usize) -> u64
     requires { n < 2 ^ 16 }
     ensures { result ≡ length (atom_tag n ∷ atom_length_field n) + n }
 {
@@ -58,7 +58,7 @@ fn arity_len(n: usize) -> u64
 /// How long the canonical spelling is; `u64::MAX` stands for more.
 #[cycle(len)]
 #[tactic(auto, using(crate::proofs::Lengths::int_length, crate::proofs::Lengths::atom_length, crate::proofs::Lengths::tuple_length, crate::proofs::Lengths::bin_length, crate::proofs::Lengths::map_length))]
-fn spelled_len(t: &Term) -> u64
+pub fn spelled_len(t: &Term) -> u64
     ensures { result ≡ min (length (canon (term t.now))) u64.MAX }
 {
     match t {
@@ -82,7 +82,7 @@ fn spelled_len(t: &Term) -> u64
 
 #[cycle(len)]
 #[tactic(auto, using(crate::proofs::Lengths::empty_length, crate::proofs::Lengths::bytes_length, crate::proofs::Lengths::many_length, crate::proofs::Lengths::others_length))]
-fn list_len(ts: &Terms) -> u64
+pub fn list_len(ts: &Terms) -> u64
     ensures { result ≡ min (length (canon (list ts.now))) u64.MAX }
 {
     let items = ts.as_slice();

@@ -84,7 +84,7 @@ fn put_big<W: Write>(device: &mut Counted<W>, pending: &mut Pending, z: i128)
 }
 
 #[tactic(auto, using(crate::proofs::Output::puts_then))]
-fn put_int<W: Write>(device: &mut Counted<W>, pending: &mut Pending, z: i128)
+pub fn put_int<W: Write>(device: &mut Counted<W>, pending: &mut Pending, z: i128)
     ensures { Puts (output W.contents device.old pending.old) (output W.contents device.new pending.new) (int_tag z ∷ int_contents z) }
 {
     if is_in_byte(z) {
@@ -125,7 +125,7 @@ fn put_atom_head<W: Write>(device: &mut Counted<W>, pending: &mut Pending, n: us
 }
 
 #[tactic(auto, using(crate::proofs::Output::puts_then))]
-fn put_tuple_head<W: Write>(device: &mut Counted<W>, pending: &mut Pending, n: usize)
+pub fn put_tuple_head<W: Write>(device: &mut Counted<W>, pending: &mut Pending, n: usize)
     ensures { Puts (output W.contents device.old pending.old) (output W.contents device.new pending.new) (tuple_tag n ∷ arity_field n) }
 {
     if n < 256 {
@@ -146,7 +146,7 @@ fn put_tagged<W: Write>(device: &mut Counted<W>, pending: &mut Pending, tag: u8,
 }
 
 #[tactic(auto, using(crate::proofs::Output::puts_then))]
-fn put_atom<W: Write>(device: &mut Counted<W>, pending: &mut Pending, text: &str)
+pub fn put_atom<W: Write>(device: &mut Counted<W>, pending: &mut Pending, text: &str)
     requires { length text.now < 2 ^ 16 }
     ensures { Puts (output W.contents device.old pending.old) (output W.contents device.new pending.new) (atom_tag (length text.now) ∷ atom_length_field (length text.now) ++ text.now) }
 {
@@ -243,7 +243,7 @@ fn put_tuple<W: Write>(device: &mut Counted<W>, pending: &mut Pending, ts: &Term
 
 #[cycle(put)]
 #[tactic(auto, using(crate::proofs::Output::puts_then))]
-fn put_list<W: Write>(device: &mut Counted<W>, pending: &mut Pending, ts: &Terms)
+pub fn put_list<W: Write>(device: &mut Counted<W>, pending: &mut Pending, ts: &Terms)
     ensures { Puts (output W.contents device.old pending.old) (output W.contents device.new pending.new) (list_tag ts.now ∷ list_contents ts.now (canons ts.now)) }
 {
     let items = ts.as_slice();

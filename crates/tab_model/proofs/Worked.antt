@@ -11,7 +11,7 @@ use Rattle.tab_model.specs.declared.data.Command.TheVariants as command
 use Rattle.tab_model.specs.declared.data.Level.TheVariants.{Simple, Detailed}
 use Rattle.tab_model.specs.declared.data.Item.TheVariants.{Began, Batch, Ended}
 use Rattle.tab_term.specs.Canon.{canon, int_contents}
-use Rattle.tab_model.specs.Names.{less, plain_terms, pair, triple}
+use Rattle.tab_model.specs.Names.{less, plain_terms, pair, triple, names, numbers}
 use Rattle.tab_model.specs.declared.data.Ending.TheVariants as ending
 use Rattle.tab_model.specs.declared.data.InfoItem.TheVariants as item
 use Rattle.tab_model.specs.declared.data.TableInfo.TheVariants as info
@@ -189,7 +189,7 @@ pub row_options : told_in (joins 1
     ∷ reply.BadDefinition (codes "v") (held (indexes_are (num 2)))
     ∷ reply.BadDefinition (codes "v") (held (pair (atom (codes "record_name")) (atom (codes "w"))))
     ∷ reply.AtomicOk
-    ∷ reply.Told (info.Index (3 ∷ [])) ∷ reply.Told (info.Attributes (codes "key" ∷ codes "val" ∷ [])) ∷ reply.Told (info.Kind Set) ∷ reply.Told (info.Size 0) ∷ reply.SubNoTable (codes "w") ∷ []
+    ∷ reply.Told (info.Index (numbers (3 ∷ []))) ∷ reply.Told (info.Attributes (names (codes "key" ∷ codes "val" ∷ []))) ∷ reply.Told (info.Kind Set) ∷ reply.Told (info.Size 0) ∷ reply.SubNoTable (codes "w") ∷ []
 unfolding outcome canon int_contents
 row_options = refl
 

@@ -1,10 +1,10 @@
 -- Words of terms, as bytes; their order and equality (this project's own rule: names and terms are ordered by their bytes).
-use Rattle.std.specs.Prelude.{ℕ, List, [], ◌∷◌, Bool}
+use Rattle.std.specs.Prelude.{ℕ, pos, List, [], ◌∷◌, Bool}
 use Rattle.std.specs.List.{list_any}
 use Rattle.std.specs.Ordering.{nat_cmp, is_lt}
 use Rattle.std.specs.Cmp.Lexicographic.{slice_cmp}
 use Rattle.std.specs.Str.{bytes_eq}
-use Rattle.tab_term.specs.Data.{PlainTerm, tuple, PlainTerms, none, one_more}
+use Rattle.tab_term.specs.Data.{PlainTerm, int, atom, tuple, PlainTerms, none, one_more}
 use Rattle.tab_term.specs.Canon.{canon}
 
 -- byte lists in their order
@@ -34,3 +34,14 @@ pair a b = tuple (one_more a (one_more b none))
 
 abbrev pub triple : PlainTerm → PlainTerm → PlainTerm → PlainTerm
 triple a b c = tuple (one_more a (one_more b (one_more c none)))
+
+abbrev pub number : ℕ → PlainTerm
+number n = int (pos n)
+
+abbrev pub names : List (List ℕ) → PlainTerms
+names [] = none
+names (n ∷ ns) = one_more (atom n) (names ns)
+
+abbrev pub numbers : List ℕ → PlainTerms
+numbers [] = none
+numbers (n ∷ ns) = one_more (number n) (numbers ns)

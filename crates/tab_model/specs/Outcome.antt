@@ -24,6 +24,7 @@ use Rattle.tab_model.specs.declared.data.Command.TheVariants as command
 use Rattle.tab_model.specs.declared.data.Entry.{Entry}
 use Rattle.tab_model.specs.declared.data.Entry.TheVariants.{Committed, Changed, Subscribed, Unsubscribed}
 use Rattle.tab_model.specs.declared.data.Event.{Event}
+use Rattle.tab_model.specs.Names.{names, numbers}
 use Rattle.tab_model.specs.Worlds.{Table, find}
 use Rattle.tab_model.specs.Alone.{Mid, told}
 use Rattle.tab_model.specs.Operations.{failure}
@@ -249,8 +250,8 @@ schema σ over c None = schema_if σ over c (schema_refusal σ.tables c) (is_bus
 
 abbrev pub info_at : Table → InfoItem → Reply
 info_at t item.Kind = reply.Told (info.Kind t.def.kind)
-info_at t item.Attributes = reply.Told (info.Attributes t.def.attributes)
-info_at t item.Index = reply.Told (info.Index t.def.indexes)
+info_at t item.Attributes = reply.Told (info.Attributes (names t.def.attributes))
+info_at t item.Index = reply.Told (info.Index (numbers t.def.indexes))
 info_at t item.Size = reply.Told (info.Size (length t.rows))
 
 abbrev pub table_info : List ℕ → InfoItem → Option Table → Reply

@@ -157,12 +157,12 @@ pub struct Limits {
     pub journal: u64,
 }
 
-/// What `table_info` answers.
+/// What `table_info` answers: a type, the names of attributes, the positions of indexes, how many records.
 #[derive(Drop)]
 pub enum TableInfo {
     Kind(Kind),
-    Attributes(Atoms),
-    Index(Numbers),
+    Attributes(Terms),
+    Index(Terms),
     Size(u64),
 }
 

@@ -1,0 +1,58 @@
+-- Terms that are given by their parts: an atom's text, a number, a term, the elements of a list; a tuple of two or three of
+-- these; and pairs around it.
+use Rattle.std.specs.Prelude.{ℕ, pos, ◌<◌, ◌^◌, List, [], ◌∷◌, Option, Some, None, length}
+use Rattle.tab_term.specs.Data.{PlainTerm, int, atom, tuple, list, none, one_more}
+use Rattle.tab_term.specs.Canon.{canon}
+use Rattle.tab_term.specs.View.{term}
+use Rattle.tab_etf.specs.declared.outline.Leaf.{Leaf}
+use Rattle.tab_etf.specs.declared.outline.Leaf.TheVariants as leaf
+use Rattle.tab_etf.specs.declared.outline.Body.{Body}
+use Rattle.tab_etf.specs.declared.outline.Body.TheVariants as body
+use Rattle.tab_etf.specs.declared.outline.Outline.{Outline}
+
+abbrev pub leaf_term : Leaf → PlainTerm
+leaf_term (leaf.Word text) = atom text.now
+leaf_term (leaf.Number n) = int (pos n)
+leaf_term (leaf.Held t) = term t.now
+leaf_term (leaf.List ts) = list ts.now
+
+abbrev pub pair_of : PlainTerm → PlainTerm → PlainTerm
+pair_of a b = tuple (one_more a (one_more b none))
+
+abbrev pub triple_of : PlainTerm → PlainTerm → PlainTerm → PlainTerm
+triple_of a b c = tuple (one_more a (one_more b (one_more c none)))
+
+abbrev pub body_term : Body → PlainTerm
+body_term (body.One a) = leaf_term a
+body_term (body.Two a b) = pair_of (leaf_term a) (leaf_term b)
+body_term (body.Three a b c) = triple_of (leaf_term a) (leaf_term b) (leaf_term c)
+
+-- {Leaf, Term}, or the term alone
+abbrev pub under : Option Leaf → PlainTerm → PlainTerm
+under None t = t
+under (Some l) t = pair_of (leaf_term l) t
+
+abbrev pub outline_term : Outline → PlainTerm
+outline_term o = under o.first (under o.second (body_term o.body))
+
+-- what stands before the rest of a pair: a tuple's tag, its arity, and the first part
+abbrev pub head_canon : Option Leaf → List ℕ
+head_canon None = []
+head_canon (Some l) = 104 ∷ 2 ∷ canon (leaf_term l)
+
+-- an atom's text has a length of two bytes
+abbrev pub IsShort : Leaf → Type 0
+IsShort (leaf.Word text) = length text.now < 2 ^ 16
+IsShort l = Unit {0}
+
+abbrev pub IsShortBody : Body → Type 0
+IsShortBody (body.One a) = IsShort a
+IsShortBody (body.Two a b) = IsShort a × IsShort b
+IsShortBody (body.Three a b c) = IsShort a × IsShort b × IsShort c
+
+abbrev pub IsShortHead : Option Leaf → Type 0
+IsShortHead None = Unit {0}
+IsShortHead (Some l) = IsShort l
+
+abbrev pub IsShortOutline : Outline → Type 0
+IsShortOutline o = IsShortHead o.first × IsShortHead o.second × IsShortBody o.body

@@ -1,0 +1,149 @@
+//! Terms that are given by their parts, and are written without being built.
+
+ghost use Rattle.std.specs.Prelude.{◌≡◌, ◌<◌, ◌≤◌, ◌∷◌, min, length, MatchOption};
+ghost use Rattle.tab_term.specs.Canon.{canon};
+ghost use Rattle.tab_etf.specs.Outlines.{leaf_term, body_term, outline_term, head_canon, IsShort, IsShortBody, IsShortHead, IsShortOutline};
+ghost use Rattle.tab_etf.specs.Writing.{Puts, output};
+
+use crate::counted::Counted;
+use crate::measuring::{LONGEST, atom_len, int_len, list_len, spelled_len};
+use crate::pending::Pending;
+use crate::spelling::{put, put_atom, put_int, put_list};
+use std::io::Write;
+use tab_term::{Term, Terms};
+
+/// A part of a term.
+#[derive(Clone, Copy)]
+pub enum Leaf<'a> {
+    /// An atom of this text.
+    Word(&'a str),
+    Number(u64),
+    Held(&'a Term),
+    /// A list of these elements.
+    List(&'a Terms),
+}
+
+/// One part alone, or a tuple of parts.
+#[derive(Clone, Copy)]
+pub enum Body<'a> {
+    One(Leaf<'a>),
+    Two(Leaf<'a>, Leaf<'a>),
+    Three(Leaf<'a>, Leaf<'a>, Leaf<'a>),
+}
+
+/// A body, where it is named in a pair with the second part, and that in a pair with the first: `{first, {second, body}}`.
+#[derive(Clone, Copy)]
+pub struct Outline<'a> {
+    pub first: Option<Leaf<'a>>,
+    pub second: Option<Leaf<'a>>,
+    pub body: Body<'a>,
+}
+
+#[tactic(auto, unfolding(tab_term::specs::Canon::canon))]
+fn put_leaf<W: Write>(device: &mut Counted<W>, pending: &mut Pending, leaf: &Leaf)
+    requires { IsShort leaf.now }
+    ensures { Puts (output W.contents device.old pending.old) (output W.contents device.new pending.new) (canon (leaf_term leaf.now)) }
+{
+    match leaf {
+        Leaf::Word(text) => put_atom(device, pending, text),
+        Leaf::Number(number) => put_int(device, pending, i128::from(*number)),
+        Leaf::Held(held) => put(device, pending, held),
+        Leaf::List(elements) => put_list(device, pending, elements),
+    }
+}
+
+#[tactic(auto, using(crate::proofs::Output::puts_then, crate::proofs::Output::puts_none))]
+fn put_head<W: Write>(device: &mut Counted<W>, pending: &mut Pending, head: &Option<Leaf>)
+    requires { IsShortHead head.now }
+    ensures { Puts (output W.contents device.old pending.old) (output W.contents device.new pending.new) (head_canon head.now) }
+{
+    if let Some(leaf) = head {
+        pending.put(device, &[104, 2]);
+        put_leaf(device, pending, leaf);
+    }
+}
+
+#[tactic(auto, using(crate::proofs::Outlined::puts_pair, crate::proofs::Outlined::puts_triple))]
+fn put_body<W: Write>(device: &mut Counted<W>, pending: &mut Pending, body: &Body)
+    requires { IsShortBody body.now }
+    ensures { Puts (output W.contents device.old pending.old) (output W.contents device.new pending.new) (canon (body_term body.now)) }
+{
+    match body {
+        Body::One(only) => put_leaf(device, pending, only),
+        Body::Two(first, second) => {
+            pending.put(device, &[104, 2]);
+            put_leaf(device, pending, first);
+            put_leaf(device, pending, second);
+        }
+        Body::Three(first, second, third) => {
+            pending.put(device, &[104, 3]);
+            put_leaf(device, pending, first);
+            put_leaf(device, pending, second);
+            put_leaf(device, pending, third);
+        }
+    }
+}
+
+/// Writes the canonical spelling.
+#[tactic(auto, using(crate::proofs::Outlined::puts_outline))]
+pub fn put_outline<W: Write>(device: &mut Counted<W>, pending: &mut Pending, outline: &Outline)
+    requires { IsShortOutline outline.now }
+    ensures { Puts (output W.contents device.old pending.old) (output W.contents device.new pending.new) (canon (outline_term outline.now)) }
+{
+    put_head(device, pending, &outline.first);
+    put_head(device, pending, &outline.second);
+    put_body(device, pending, &outline.body);
+}
+
+#[tactic(auto, using(crate::proofs::Lengths::int_length, crate::proofs::Lengths::atom_length))]
+fn leaf_len(leaf: &Leaf) -> u64
+    requires { IsShort leaf.now }
+    ensures { result ≡ min (length (canon (leaf_term leaf.now))) u64.MAX }
+{
+    match leaf {
+        Leaf::Word(text) => atom_len(text.len()),
+        Leaf::Number(number) => int_len(i128::from(*number)),
+        Leaf::Held(held) => spelled_len(held),
+        Leaf::List(elements) => list_len(elements),
+    }
+}
+
+fn head_len(head: &Option<Leaf>) -> u64
+    requires { IsShortHead head.now }
+    ensures { result ≡ min (length (head_canon head.now)) u64.MAX }
+{
+    match head {
+        Some(leaf) => leaf_len(leaf).saturating_add(2),
+        None => 0,
+    }
+}
+
+#[tactic(auto, using(crate::proofs::Outlined::pair_length, crate::proofs::Outlined::triple_length))]
+fn body_len(body: &Body) -> u64
+    requires { IsShortBody body.now }
+    ensures { result ≡ min (length (canon (body_term body.now))) u64.MAX }
+{
+    match body {
+        Body::One(only) => leaf_len(only),
+        Body::Two(first, second) => leaf_len(first)
+            .saturating_add(leaf_len(second))
+            .saturating_add(2),
+        Body::Three(first, second, third) => leaf_len(first)
+            .saturating_add(leaf_len(second))
+            .saturating_add(leaf_len(third))
+            .saturating_add(2),
+    }
+}
+
+/// How long the payload is: the byte 131 and the canonical spelling. None where it passes 4,294,967,295 bytes.
+#[tactic(auto, using(crate::proofs::Outlined::outline_length))]
+pub fn outline_len(outline: &Outline) -> Option<u64>
+    requires { IsShortOutline outline.now }
+    ensures { MatchOption result (4294967295 < length (131 ∷ canon (outline_term outline.now))) (λ n. (n ≡ length (131 ∷ canon (outline_term outline.now))) × (n ≤ 4294967295)) }
+{
+    let len = head_len(&outline.first)
+        .saturating_add(head_len(&outline.second))
+        .saturating_add(body_len(&outline.body))
+        .saturating_add(1);
+    if len <= LONGEST { Some(len) } else { None }
+}
