@@ -1,5 +1,4 @@
 pub mod Known
-pub mod Counted
 pub mod Apart
 mod Members
 mod Outermost

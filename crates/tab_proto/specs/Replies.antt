@@ -1,7 +1,7 @@
 -- The terms of replies. An aborted transaction's reason and {already_exists, Tab}, {no_exists, Tab} are those of the
 -- Mnesia Reference Manual; the other refusals are this project's own.
-use Rattle.std.specs.Prelude.{ℕ, List, [], ◌∷◌, codes, pos}
-use Rattle.tab_term.specs.Data.{PlainTerm, int, atom, list, PlainTerms, none, one_more}
+use Rattle.std.specs.Prelude.{◌≡◌, ℕ, List, Option, Some, None, Bool, true, false, codes}
+use Rattle.tab_term.specs.Data.{PlainTerm, atom, list}
 use Rattle.tab_term.specs.View.{term}
 use Rattle.tab_model.specs.declared.data.Limit.{Limit}
 use Rattle.tab_model.specs.declared.data.Limit.TheVariants as limit
@@ -15,7 +15,9 @@ use Rattle.tab_model.specs.declared.data.TableInfo.{TableInfo}
 use Rattle.tab_model.specs.declared.data.TableInfo.TheVariants as info
 use Rattle.tab_model.specs.declared.data.Reply.{Reply}
 use Rattle.tab_model.specs.declared.data.Reply.TheVariants as reply
-use Rattle.tab_model.specs.Names.{pair, triple}
+use Rattle.tab_model.specs.Names.{pair, triple, number}
+use Rattle.tab_etf.specs.declared.outline.Outline.{Outline}
+use Rattle.tab_etf.specs.Outlines.{outline_term, IsShortOutline}
 use Rattle.tab_proto.specs.Commands.{level_word}
 
 abbrev pub error : PlainTerm → PlainTerm
@@ -23,17 +25,6 @@ error reason = pair (atom (codes "error")) reason
 
 abbrev pub aborted : PlainTerm → PlainTerm
 aborted reason = pair (atom (codes "aborted")) reason
-
-abbrev pub number : ℕ → PlainTerm
-number n = int (pos n)
-
-abbrev pub names : List (List ℕ) → PlainTerms
-names [] = none
-names (n ∷ ns) = one_more (atom n) (names ns)
-
-abbrev pub numbers : List ℕ → PlainTerms
-numbers [] = none
-numbers (n ∷ ns) = one_more (number n) (numbers ns)
 
 abbrev pub limit_word : Limit → List ℕ
 limit_word limit.Sessions = codes "sessions"
@@ -53,8 +44,8 @@ ending_word Deleted = codes "deleted"
 
 abbrev pub info_term : TableInfo → PlainTerm
 info_term (info.Kind k) = atom (kind_word k)
-info_term (info.Attributes ns) = list (names ns)
-info_term (info.Index ns) = list (numbers ns)
+info_term (info.Attributes ns) = list ns
+info_term (info.Index ns) = list ns
 info_term (info.Size n) = number n
 
 -- the records that a mark may carry are no part of its term
@@ -100,3 +91,42 @@ reply_term (reply.Told i) = info_term i
 reply_term (reply.Taken i) = item_term i
 reply_term (reply.Overflow n) = pair (atom (codes "mnesia_overflow")) (number n)
 reply_term reply.Empty = atom (codes "empty")
+
+-- {Session, Reply}, or {reply, Reply} where no session is named
+abbrev pub response : Option ℕ → Reply → PlainTerm
+response (Some session) r = pair (number session) (reply_term r)
+response None r = pair (atom (codes "reply")) (reply_term r)
+
+-- a term by its parts, with room for a part before it
+pub record IsOutlineOf (o : Outline) (t : PlainTerm) : Type 0 where
+  pub alone : o.first ≡ None
+  pub is : outline_term o ≡ t
+  pub short : IsShortOutline o
+
+abbrev pub holds_number : Reply → Bool
+holds_number (reply.SystemLimit l) = true
+holds_number (reply.Tid age) = true
+holds_number (reply.Atomic n) = true
+holds_number (reply.Overflow n) = true
+holds_number r = false
+
+abbrev pub holds_nothing : Reply → Bool
+holds_nothing reply.BadTerm = true
+holds_nothing reply.BadCommand = true
+holds_nothing reply.NoTransaction = true
+holds_nothing reply.WaitingNow = true
+holds_nothing reply.InTransaction = true
+holds_nothing reply.NotWaiting = true
+holds_nothing reply.NoMemory = true
+holds_nothing reply.BadSession = true
+holds_nothing reply.OutboxFull = true
+holds_nothing reply.OverflowUntold = true
+holds_nothing reply.Waiting = true
+holds_nothing reply.Restart = true
+holds_nothing reply.Done = true
+holds_nothing reply.AtomicOk = true
+holds_nothing reply.NoMore = true
+holds_nothing reply.NoWait = true
+holds_nothing reply.SubscribedHere = true
+holds_nothing reply.Empty = true
+holds_nothing r = false

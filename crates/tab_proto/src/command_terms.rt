@@ -6,8 +6,9 @@ ghost use Rattle.tab_term.specs.View.{term};
 ghost use Rattle.tab_model.specs.Names.{pair as pair_of, triple as triple_of};
 ghost use Rattle.tab_proto.specs.Commands.{term_of as term_of_command, schema_term as schema_term_of, operation_term as operation_term_of, level_word as level_word_of, item_word as item_word_of, four as four_of};
 
+use crate::building::{name, number, pair, triple, word, worded};
 use crate::levels::operations_of;
-use crate::replying::{level_word, name, number, pair, triple, word, worded};
+use crate::replying::level_word;
 use std::alloc::{AllocError, Global};
 use tab_model::{Command, InfoItem, Level, Operation, Schema};
 use tab_term::{Atom, Term, Terms};

@@ -6,8 +6,8 @@ ghost use Rattle.tab_term.specs.View.{term};
 ghost use Rattle.tab_model.specs.declared.data.Part.{Part as PartOf};
 ghost use Rattle.tab_proto.specs.Commands.{with_first, enclosed, levels, outermost};
 
+use crate::building::worded;
 use crate::command_terms::operation_term;
-use crate::replying::worded;
 use std::alloc::{AllocError, Global};
 use std::marker::Model;
 use tab_model::Part;

@@ -3,6 +3,7 @@
 #![tactic(auto)]
 
 mod asked;
+mod building;
 mod command_terms;
 mod commands;
 mod copies;
@@ -20,5 +21,5 @@ pub use asked::Asked;
 pub use command_terms::term_of;
 pub use commands::command;
 pub use fault::ProtoFault;
-pub use replying::reply_term;
+pub use replying::{append_reply, write_reply};
 pub use requests::{request, requests_are_apart, session_of};

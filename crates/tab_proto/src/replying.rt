@@ -1,154 +1,263 @@
-//! Replies as terms.
+//! Replies, written without a term being built.
 
-ghost use Rattle.std.specs.Prelude.{◌≡◌, ◌≤◌, length, IfOk, codes};
+ghost use Rattle.std.specs.Prelude.{codes, true, ◌≡◌, ◌≤◌, ◌<◌, ◌++◌, ◌∷◌, ◌↔◌, length, OnOk, OnErr, IfErr, Err, Option, ℕ};
+ghost use Rattle.std.specs.Io.KnownBytes.{Appends};
+ghost use Rattle.tab_term.specs.Canon.{canon};
 ghost use Rattle.tab_term.specs.Data.{atom, list};
 ghost use Rattle.tab_term.specs.View.{term};
+ghost use Rattle.tab_etf.specs.Frames.{frame};
+ghost use Rattle.tab_etf.specs.Outlines.{leaf_term, outline_term, IsShort, IsShortOutline};
+ghost use Rattle.tab_etf.specs.Writing.{IsUnwritten};
 ghost use Rattle.tab_model.specs.Names.{pair as pair_of, triple as triple_of};
 ghost use Rattle.tab_proto.specs.Commands.{level_word as level_word_of};
-ghost use Rattle.tab_proto.specs.Replies.{reply_term as reply_term_of, item_term as item_term_of, info_term as info_term_of, limit_word as limit_word_of, kind_word as kind_word_of, ending_word as ending_word_of, error as error_of, aborted as aborted_of, number as number_of, names as names_of, numbers as numbers_of};
+ghost use Rattle.tab_proto.specs.Replies.{reply_term as reply_term_of, item_term as item_term_of, info_term as info_term_of, limit_word as limit_word_of, kind_word as kind_word_of, ending_word as ending_word_of, response, holds_nothing, holds_number, IsOutlineOf};
 
-use std::alloc::{AllocError, Global};
+use std::io::Write;
+use tab_etf::{
+    Body, Counted, EncodeFault, FrameFault, Leaf, Outline, append_outline, write_outline,
+};
 use tab_model::{Ending, Item, Kind, Level, Limit, Reply, TableInfo};
-use tab_term::{Atom, Term, Terms};
+use tab_term::{Atom, Term};
 
-/// The term of a reply.
-pub fn reply_term(alloc: Global, reply: &Reply) -> Result<Term, AllocError>
-    ensures { IfOk result (λ t. term t ≡ reply_term_of reply.now) }
+/// Writes the frame of `{Session, Reply}`, or of `{reply, Reply}` where no session is named.
+///
+/// It takes no memory. At `Device` a beginning of the frame is written; at `FrameTooLong` nothing is.
+pub fn write_reply<W: Write>(
+    device: &mut Counted<W>,
+    session: Option<u32>,
+    reply: &Reply,
+) -> Result<(), FrameFault>
+    ensures ok { OnOk result (Appends (W.contents device.old.inner) (W.contents device.new.inner) (frame (131 ∷ canon (response session reply.now)))) }
+    ensures same { OnOk result (device.new.faults ≡ device.old.faults) }
+    ensures err { IfErr result (λ e. IsUnwritten e (131 ∷ canon (response session reply.now)) (W.contents device.old.inner) (W.contents device.new.inner) device.old.faults device.new.faults) }
 {
-    match reply {
-        Reply::BadTerm => error_word(alloc, "badterm"),
-        Reply::BadCommand => error_word(alloc, "badcommand"),
-        Reply::NoTransaction => error_word(alloc, "no_transaction"),
-        Reply::WaitingNow => error_word(alloc, "waiting"),
-        Reply::InTransaction => error_word(alloc, "in_transaction"),
-        Reply::NotWaiting => error_word(alloc, "not_waiting"),
-        Reply::NoMemory => error_word(alloc, "no_memory"),
-        Reply::SystemLimit(limit) => system_limit(alloc, *limit),
-        Reply::BadSession => error_word(alloc, "badsession"),
-        Reply::NoTable(table) => aborted_at(alloc, "no_exists", table),
-        Reply::BadType(table, row) => aborted_for(alloc, "bad_type", table, row),
-        Reply::NoIndex(table, attribute) => aborted_for(alloc, "no_index", table, attribute),
-        Reply::UserAbort(reason) => aborted(alloc, reason.try_clone(alloc)?),
-        Reply::AlreadyExists(table) => aborted_at(alloc, "already_exists", table),
-        Reply::Locked(table) => aborted_at(alloc, "locked", table),
-        Reply::BadDefinition(table, what) => aborted_for(alloc, "bad_def", table, what),
-        Reply::SubNoTable(table) => error_at(alloc, "no_exists", table),
-        Reply::AlreadySubscribed(table) => error_at(alloc, "already_subscribed", table),
-        Reply::NotSubscribed(table) => error_at(alloc, "not_subscribed", table),
-        Reply::OutboxFull => error_word(alloc, "outbox_full"),
-        Reply::OverflowUntold => error_word(alloc, "overflow"),
-        Reply::Waiting => word(alloc, "waiting"),
-        Reply::Restart => word(alloc, "restart"),
-        Reply::Done => word(alloc, "ok"),
-        Reply::Tid(age) => worded(alloc, "tid", number(*age)),
-        Reply::Atomic(commits) => worded(alloc, "atomic", number(*commits)),
-        Reply::AtomicOk => worded(alloc, "atomic", word(alloc, "ok")?),
-        Reply::AtomicTerms(replies) => worded(
-            alloc,
-            "atomic",
-            Term::List(replies.try_clone(alloc)?),
-        ),
-        Reply::NoMore => aborted(alloc, word(alloc, "nomore")?),
-        Reply::NoWait => aborted(alloc, word(alloc, "nowait")?),
-        Reply::Found(rows) => Ok(Term::List(rows.try_clone(alloc)?)),
-        Reply::SubscribedHere => worded(alloc, "ok", word(alloc, "nonode@nohost")?),
-        Reply::Told(info) => info_term(alloc, info),
-        Reply::Taken(item) => item_term(alloc, item),
-        Reply::Overflow(commits) => worded(alloc, "mnesia_overflow", number(*commits)),
-        Reply::Empty => word(alloc, "empty"),
+    write_outline(device, &response_of(session, reply))
+}
+
+/// Adds the frame that `write_reply` writes. On an error the bytes are as before.
+pub fn append_reply(
+    session: Option<u32>,
+    reply: &Reply,
+    out: &mut Vec<u8>,
+) -> Result<(), EncodeFault>
+    ensures ok { OnOk result (out.new.items ≡ out.old.items ++ frame (131 ∷ canon (response session reply.now))) }
+    ensures too_long { (result ≡ Err EncodeFault.TooLong) ↔ (4294967295 < length (131 ∷ canon (response session reply.now))) }
+    ensures err { OnErr result (out.new.items ≡ out.old.items) }
+{
+    append_outline(&response_of(session, reply), out)
+}
+
+fn response_of(session: Option<u32>, reply: &Reply) -> Outline<'_>
+    ensures term { outline_term result ≡ response session reply.now }
+    ensures short { IsShortOutline result }
+{
+    let first = match session {
+        Some(session) => Leaf::Number(u64::from(session)),
+        None => Leaf::Word("reply"),
+    };
+    let told = outline_of(reply);
+    Outline {
+        first: Some(first),
+        second: told.second,
+        body: told.body,
     }
 }
 
-pub fn word(alloc: Global, text: &str) -> Result<Term, AllocError>
-    requires { length text.now ≤ 255 }
-    ensures { IfOk result (λ t. term t ≡ atom text.now) }
+fn outline_of(reply: &Reply) -> Outline<'_>
+    ensures { IsOutlineOf result (reply_term_of reply.now) }
 {
-    Ok(Term::Atom(Atom::from_short_text(alloc, text)?))
+    match reply {
+        Reply::NoTable(table) => told_in("aborted", "no_exists", named(table)),
+        Reply::BadType(table, row) => aborted_for("bad_type", table, row),
+        Reply::NoIndex(table, attribute) => aborted_for("no_index", table, attribute),
+        Reply::UserAbort(reason) => worded("aborted", Leaf::Held(reason)),
+        Reply::AlreadyExists(table) => told_in("aborted", "already_exists", named(table)),
+        Reply::Locked(table) => told_in("aborted", "locked", named(table)),
+        Reply::BadDefinition(table, what) => aborted_for("bad_def", table, what),
+        Reply::SubNoTable(table) => told_in("error", "no_exists", named(table)),
+        Reply::AlreadySubscribed(table) => told_in("error", "already_subscribed", named(table)),
+        Reply::NotSubscribed(table) => told_in("error", "not_subscribed", named(table)),
+        Reply::AtomicTerms(replies) => worded("atomic", Leaf::List(replies)),
+        Reply::Found(rows) => alone(Leaf::List(rows)),
+        Reply::Told(info) => info_outline(info),
+        Reply::Taken(item) => item_outline(item),
+        Reply::SystemLimit(_) | Reply::Tid(_) | Reply::Atomic(_) | Reply::Overflow(_) => {
+            number_outline(reply)
+        }
+        Reply::BadTerm
+        | Reply::BadCommand
+        | Reply::NoTransaction
+        | Reply::WaitingNow
+        | Reply::InTransaction
+        | Reply::NotWaiting
+        | Reply::NoMemory
+        | Reply::BadSession
+        | Reply::OutboxFull
+        | Reply::OverflowUntold
+        | Reply::Waiting
+        | Reply::Restart
+        | Reply::Done
+        | Reply::AtomicOk
+        | Reply::NoMore
+        | Reply::NoWait
+        | Reply::SubscribedHere
+        | Reply::Empty => plain_outline(reply),
+    }
 }
 
-pub fn number(n: u64) -> Term
-    ensures { term result ≡ number_of n }
+/// A reply that holds a limit or a number.
+fn number_outline(reply: &Reply) -> Outline<'_>
+    ensures { holds_number reply.now ≡ true → IsOutlineOf result (reply_term_of reply.now) }
 {
-    Term::Int(i128::from(n))
+    match reply {
+        Reply::SystemLimit(limit) => {
+            told_in("error", "system_limit", Leaf::Word(limit_word(*limit)))
+        }
+        Reply::Tid(age) => worded("tid", Leaf::Number(*age)),
+        Reply::Atomic(commits) => worded("atomic", Leaf::Number(*commits)),
+        Reply::Overflow(commits) => worded("mnesia_overflow", Leaf::Number(*commits)),
+        _ => alone(Leaf::Word("empty")),
+    }
 }
 
-pub fn name(alloc: Global, table: &Atom) -> Result<Term, AllocError>
-    ensures { IfOk result (λ t. term t ≡ atom table.now) }
+/// A reply that holds nothing.
+fn plain_outline(reply: &Reply) -> Outline<'_>
+    ensures { holds_nothing reply.now ≡ true → IsOutlineOf result (reply_term_of reply.now) }
 {
-    Ok(Term::Atom(table.try_clone(alloc)?))
+    match reply {
+        Reply::BadTerm => error("badterm"),
+        Reply::BadCommand => error("badcommand"),
+        Reply::NoTransaction => error("no_transaction"),
+        Reply::WaitingNow => error("waiting"),
+        Reply::InTransaction => error("in_transaction"),
+        Reply::NotWaiting => error("not_waiting"),
+        Reply::NoMemory => error("no_memory"),
+        Reply::BadSession => error("badsession"),
+        Reply::OutboxFull => error("outbox_full"),
+        Reply::OverflowUntold => error("overflow"),
+        Reply::Waiting => alone(Leaf::Word("waiting")),
+        Reply::Restart => alone(Leaf::Word("restart")),
+        Reply::Done => alone(Leaf::Word("ok")),
+        Reply::AtomicOk => worded("atomic", Leaf::Word("ok")),
+        Reply::NoMore => worded("aborted", Leaf::Word("nomore")),
+        Reply::NoWait => worded("aborted", Leaf::Word("nowait")),
+        Reply::SubscribedHere => worded("ok", Leaf::Word("nonode@nohost")),
+        _ => alone(Leaf::Word("empty")),
+    }
 }
 
-pub fn pair(alloc: Global, first: Term, second: Term) -> Result<Term, AllocError>
-    ensures { IfOk result (λ t. term t ≡ pair_of (term first) (term second)) }
+fn named(table: &Atom) -> Leaf<'_>
+    ensures term { leaf_term result ≡ atom table.now }
+    ensures short { IsShort result }
 {
-    let mut parts = Vec::with_capacity(alloc, 2)?;
-    parts.push(first)?;
-    parts.push(second)?;
-    Ok(Term::Tuple(Terms::from_vec(parts)))
+    Leaf::Word(table.as_str())
 }
 
-pub fn triple(alloc: Global, first: Term, second: Term, third: Term) -> Result<Term, AllocError>
-    ensures { IfOk result (λ t. term t ≡ triple_of (term first) (term second) (term third)) }
+fn alone<'a>(leaf: Leaf<'a>) -> Outline<'a>
+    requires { IsShort leaf }
+    ensures { IsOutlineOf result (leaf_term leaf.entry) }
 {
-    let mut parts = Vec::with_capacity(alloc, 3)?;
-    parts.push(first)?;
-    parts.push(second)?;
-    parts.push(third)?;
-    Ok(Term::Tuple(Terms::from_vec(parts)))
+    Outline {
+        first: None,
+        second: None,
+        body: Body::One(leaf),
+    }
 }
 
 /// `{Text, Value}`.
-pub fn worded(alloc: Global, text: &str, value: Term) -> Result<Term, AllocError>
-    requires { length text.now ≤ 255 }
-    ensures { IfOk result (λ t. term t ≡ pair_of (atom text.now) (term value)) }
+fn worded<'a>(text: &'a str, value: Leaf<'a>) -> Outline<'a>
+    requires text { length text.now ≤ 255 }
+    requires value { IsShort value }
+    ensures { IsOutlineOf result (pair_of (atom text.now) (leaf_term value.entry)) }
 {
-    pair(alloc, word(alloc, text)?, value)
+    Outline {
+        first: None,
+        second: None,
+        body: Body::Two(Leaf::Word(text), value),
+    }
 }
 
-fn aborted(alloc: Global, reason: Term) -> Result<Term, AllocError>
-    ensures { IfOk result (λ t. term t ≡ aborted_of (term reason)) }
-{
-    worded(alloc, "aborted", reason)
-}
-
-fn aborted_at(alloc: Global, fault: &str, table: &Atom) -> Result<Term, AllocError>
+/// `{error, Fault}`.
+fn error<'a>(fault: &'a str) -> Outline<'a>
     requires { length fault.now ≤ 255 }
-    ensures { IfOk result (λ t. term t ≡ aborted_of (pair_of (atom fault.now) (atom table.now))) }
+    ensures { IsOutlineOf result (pair_of (atom (codes "error")) (atom fault.now)) }
 {
-    aborted(alloc, worded(alloc, fault, name(alloc, table)?)?)
+    worded("error", Leaf::Word(fault))
 }
 
-fn aborted_for(alloc: Global, fault: &str, table: &Atom, value: &Term) -> Result<Term, AllocError>
+/// `{Text, {Fault, Value}}`.
+fn told_in<'a>(text: &'a str, fault: &'a str, value: Leaf<'a>) -> Outline<'a>
+    requires text { length text.now ≤ 255 }
+    requires fault { length fault.now ≤ 255 }
+    requires value { IsShort value }
+    ensures { IsOutlineOf result (pair_of (atom text.now) (pair_of (atom fault.now) (leaf_term value.entry))) }
+{
+    Outline {
+        first: None,
+        second: Some(Leaf::Word(text)),
+        body: Body::Two(Leaf::Word(fault), value),
+    }
+}
+
+/// `{aborted, {Fault, Tab, Value}}`.
+fn aborted_for<'a>(fault: &'a str, table: &'a Atom, value: &'a Term) -> Outline<'a>
     requires { length fault.now ≤ 255 }
-    ensures { IfOk result (λ t. term t ≡ aborted_of (triple_of (atom fault.now) (atom table.now) (term value.now))) }
+    ensures { IsOutlineOf result (pair_of (atom (codes "aborted")) (triple_of (atom fault.now) (atom table.now) (term value.now))) }
 {
-    let fault = word(alloc, fault)?;
-    let table = name(alloc, table)?;
-    aborted(alloc, triple(alloc, fault, table, value.try_clone(alloc)?)?)
+    Outline {
+        first: None,
+        second: Some(Leaf::Word("aborted")),
+        body: Body::Three(Leaf::Word(fault), named(table), Leaf::Held(value)),
+    }
 }
 
-fn error_word(alloc: Global, fault: &str) -> Result<Term, AllocError>
-    requires { length fault.now ≤ 255 }
-    ensures { IfOk result (λ t. term t ≡ error_of (atom fault.now)) }
+fn info_outline(info: &TableInfo) -> Outline<'_>
+    ensures { IsOutlineOf result (info_term_of info.now) }
 {
-    worded(alloc, "error", word(alloc, fault)?)
+    match info {
+        TableInfo::Kind(kind) => alone(Leaf::Word(kind_word(*kind))),
+        TableInfo::Attributes(names) => alone(Leaf::List(names)),
+        TableInfo::Index(positions) => alone(Leaf::List(positions)),
+        TableInfo::Size(rows) => alone(Leaf::Number(*rows)),
+    }
 }
 
-fn error_at(alloc: Global, fault: &str, table: &Atom) -> Result<Term, AllocError>
-    requires { length fault.now ≤ 255 }
-    ensures { IfOk result (λ t. term t ≡ error_of (pair_of (atom fault.now) (atom table.now))) }
+/// `{Text, A, B}`.
+fn told_of<'a>(text: &'a str, first: Leaf<'a>, second: Leaf<'a>) -> Outline<'a>
+    requires text { length text.now ≤ 255 }
+    requires first { IsShort first }
+    requires second { IsShort second }
+    ensures { IsOutlineOf result (triple_of (atom text.now) (leaf_term first.entry) (leaf_term second.entry)) }
 {
-    worded(alloc, "error", worded(alloc, fault, name(alloc, table)?)?)
+    Outline {
+        first: None,
+        second: None,
+        body: Body::Three(Leaf::Word(text), first, second),
+    }
 }
 
-fn system_limit(alloc: Global, limit: Limit) -> Result<Term, AllocError>
-    ensures { IfOk result (λ t. term t ≡ error_of (pair_of (atom (codes "system_limit")) (atom (limit_word_of limit)))) }
+fn item_outline(item: &Item) -> Outline<'_>
+    ensures { IsOutlineOf result (item_term_of item.now) }
 {
-    worded(
-        alloc,
-        "error",
-        worded(alloc, "system_limit", word(alloc, limit_word(limit))?)?,
-    )
+    match item {
+        Item::Began(table, level, _) => {
+            told_of(
+                "mnesia_table_begin",
+                named(table),
+                Leaf::Word(level_word(*level)),
+            )
+        }
+        Item::Batch(commits, events) => {
+            told_of("batch", Leaf::Number(*commits), Leaf::List(events))
+        }
+        Item::Ended(table, ending) => {
+            told_of(
+                "mnesia_table_end",
+                named(table),
+                Leaf::Word(ending_word(*ending)),
+            )
+        }
+    }
 }
 
 fn limit_word(limit: Limit) -> &'static str
@@ -165,17 +274,6 @@ fn limit_word(limit: Limit) -> &'static str
     }
 }
 
-fn info_term(alloc: Global, info: &TableInfo) -> Result<Term, AllocError>
-    ensures { IfOk result (λ t. term t ≡ info_term_of info.now) }
-{
-    match info {
-        TableInfo::Kind(kind) => word(alloc, kind_word(*kind)),
-        TableInfo::Attributes(attributes) => names(alloc, &attributes.items),
-        TableInfo::Index(positions) => numbers(alloc, &positions.items),
-        TableInfo::Size(rows) => Ok(number(*rows)),
-    }
-}
-
 fn kind_word(kind: Kind) -> &'static str
     ensures word { result.now ≡ kind_word_of kind }
     ensures short { length result.now ≤ 255 }
@@ -183,48 +281,6 @@ fn kind_word(kind: Kind) -> &'static str
     match kind {
         Kind::Set => "set",
         Kind::Bag => "bag",
-    }
-}
-
-fn names(alloc: Global, atoms: &[Atom]) -> Result<Term, AllocError>
-    ensures { IfOk result (λ t. term t ≡ list (names_of atoms.now)) }
-{
-    let mut items = Vec::with_capacity(alloc, atoms.len())?;
-    for atom in atoms {
-        items.push(name(alloc, atom)?)?;
-    }
-    Ok(Term::List(Terms::from_vec(items)))
-}
-
-fn numbers(alloc: Global, values: &[u64]) -> Result<Term, AllocError>
-    ensures { IfOk result (λ t. term t ≡ list (numbers_of values.now)) }
-{
-    let mut items = Vec::with_capacity(alloc, values.len())?;
-    for value in values {
-        items.push(number(*value))?;
-    }
-    Ok(Term::List(Terms::from_vec(items)))
-}
-
-fn item_term(alloc: Global, item: &Item) -> Result<Term, AllocError>
-    ensures { IfOk result (λ t. term t ≡ item_term_of item.now) }
-{
-    match item {
-        Item::Began(table, level, _) => {
-            let first = word(alloc, "mnesia_table_begin")?;
-            let table = name(alloc, table)?;
-            triple(alloc, first, table, word(alloc, level_word(*level))?)
-        }
-        Item::Batch(commits, events) => {
-            let first = word(alloc, "batch")?;
-            let events = events.try_clone(alloc)?;
-            triple(alloc, first, number(*commits), Term::List(events))
-        }
-        Item::Ended(table, ending) => {
-            let first = word(alloc, "mnesia_table_end")?;
-            let table = name(alloc, table)?;
-            triple(alloc, first, table, word(alloc, ending_word(*ending))?)
-        }
     }
 }
 

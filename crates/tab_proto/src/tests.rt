@@ -1,10 +1,8 @@
 use crate::commands::read_command;
-use crate::{Asked, ProtoFault, command, reply_term, request, term_of};
+use crate::{Asked, ProtoFault, append_reply, command, request, term_of, write_reply};
 use std::alloc::{AllocError, Global};
-use tab_etf::{decode, encode};
-use tab_model::{
-    Atoms, Command, Ending, Item, Level, Limit, Numbers, Operation, Reply, Schema, TableInfo,
-};
+use tab_etf::{Counted, decode};
+use tab_model::{Command, Ending, Item, Level, Limit, Operation, Reply, Schema, TableInfo};
 use tab_term::{Atom, Term, Terms};
 
 /// What a request is to be read as. Terms stand as payloads of the external term format.
@@ -191,18 +189,35 @@ fn sample(alloc: Global, line: usize) -> Result<Reply, AllocError> {
         9 => Reply::UserAbort(Term::Int(5)),
         10 => Reply::NotSubscribed(name(alloc, "t")?),
         11 => {
-            let mut items = Vec::new(alloc);
-            items.push(3)?;
-            Reply::Told(TableInfo::Index(Numbers { items }))
+            let mut positions = Vec::new(alloc);
+            positions.push(Term::Int(3))?;
+            Reply::Told(TableInfo::Index(Terms::from_vec(positions)))
         }
         12 => {
-            let mut items = Vec::new(alloc);
-            items.push(name(alloc, "a")?)?;
-            Reply::Told(TableInfo::Attributes(Atoms { items }))
+            let mut names = Vec::new(alloc);
+            names.push(Term::Atom(name(alloc, "a")?))?;
+            Reply::Told(TableInfo::Attributes(Terms::from_vec(names)))
         }
         13 => Reply::Taken(Item::Ended(name(alloc, "t")?, Ending::Deleted)),
         _ => Reply::Taken(Item::Began(name(alloc, "t")?, Level::Detailed, None)),
     })
+}
+
+/// Whether these bytes are the frame of a pair of these first bytes and this payload's term.
+fn is_frame(frame: &[u8], first: &[u8], payload: &[u8]) -> bool {
+    let Some(term) = payload.get(1..) else {
+        return false;
+    };
+    let Some((head, told)) = frame.split_at_checked(first.len() + 7) else {
+        return false;
+    };
+    let Some((length, pair)) = head.split_at_checked(4) else {
+        return false;
+    };
+    told == term
+        && pair.starts_with(b"\x83h\x02")
+        && pair.ends_with(first)
+        && length == ((pair.len() + term.len()) as u32).to_be_bytes().as_slice()
 }
 
 #[test]
@@ -210,10 +225,15 @@ fn replies_are_spelled(rt: HostRuntime) {
     let alloc = rt.alloc();
     for (line, wanted) in PAYLOADS.iter().enumerate() {
         let reply = sample(alloc, line).expect(&rt, "memory");
-        let answer = reply_term(alloc, &reply).expect(&rt, "memory");
-        let mut payload = Vec::new(alloc);
-        encode(&answer, &mut payload).expect(&rt, "memory");
-        assert!(rt; payload.as_slice() == *wanted, "line {line}");
+        let mut frame = Vec::new(alloc);
+        append_reply(Some(7), &reply, &mut frame).expect(&rt, "memory");
+        assert!(rt; is_frame(&frame, b"a\x07", wanted), "line {line}");
+        let mut device = Counted::new(Vec::new(alloc));
+        write_reply(&mut device, None, &reply).expect(&rt, "memory");
+        assert!(rt;
+            is_frame(&device.into_inner(), b"w\x05reply", wanted),
+            "line {line}"
+        );
     }
 }
 

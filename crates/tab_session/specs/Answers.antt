@@ -1,14 +1,13 @@
 -- How a payload is answered, and the bytes of an answer (this project's own rules).
-use Rattle.std.specs.Prelude.{◌≡◌, ◌≢◌, ℕ, ◌≤◌, ◌<◌, pos, List, [], ◌∷◌, length, Option, Result, Ok, Err, ◌⊎◌}
+use Rattle.std.specs.Prelude.{◌≡◌, ◌≢◌, ℕ, ◌≤◌, ◌<◌, List, [], ◌∷◌, length, Option, Some, Result, Ok, Err, ◌⊎◌}
 use Rattle.std.specs.List.{flat_map}
-use Rattle.tab_term.specs.Data.{PlainTerm, int}
+use Rattle.tab_term.specs.Data.{PlainTerm}
 use Rattle.tab_term.specs.Canon.{canon}
 use Rattle.tab_etf.specs.Frames.{frame}
 use Rattle.tab_etf.specs.Reading.{whole}
 use Rattle.tab_etf.specs.declared.fault.Stop.{Stop}
 use Rattle.tab_etf.specs.declared.encoding.EncodeFault.{EncodeFault}
 use Rattle.tab_etf.specs.declared.encoding.EncodeFault.TheVariants as puts
-use Rattle.tab_model.specs.Names.{pair}
 use Rattle.tab_model.specs.State.{State}
 use Rattle.tab_model.specs.Outcome.{Ask, Join, Leave, Retry, Take, DoCommand, outcome}
 use Rattle.tab_model.specs.declared.data.Entry.{Entry}
@@ -20,7 +19,7 @@ use Rattle.tab_core.specs.Single.{no_outbox}
 use Rattle.tab_proto.specs.declared.asked.Asked.{Asked}
 use Rattle.tab_proto.specs.declared.asked.Asked.TheVariants as asked
 use Rattle.tab_proto.specs.Asks.{request_term, IsSession, IsAsked, IsNumbered, HasNoNumber}
-use Rattle.tab_proto.specs.Replies.{reply_term}
+use Rattle.tab_proto.specs.Replies.{response}
 use Rattle.tab_session.specs.declared.answered.Answer.{Answer}
 
 -- what the core is asked for it
@@ -117,13 +116,9 @@ taken_by m xs = flat_map (λ x. taken_now m x.session x.reply) xs
 
 -- ---- the bytes of an answer
 
--- {Session, Reply}
-abbrev pub response : Answer → PlainTerm
-response x = pair (int (pos x.session)) (reply_term x.reply)
-
 -- one payload, whose first byte is the version of the external term format
 abbrev pub answer_payload : Answer → List ℕ
-answer_payload x = 131 ∷ canon (response x)
+answer_payload x = 131 ∷ canon (response (Some x.session) x.reply)
 
 unfoldable pub answer_frame : Answer → List ℕ
 answer_frame x = frame (answer_payload x)

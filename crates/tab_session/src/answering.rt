@@ -1,19 +1,19 @@
 //! One payload, and how it is answered.
 
-ghost use Rattle.std.specs.Prelude.{◌≡◌, ◌++◌, ◌⊎◌, true, IfOk, IfErr, OnOk, OnErr};
+ghost use Rattle.std.specs.Prelude.{◌≡◌, ◌++◌, ◌⊎◌, true, IfErr, OnOk, OnErr};
 ghost use Rattle.tab_term.specs.View.{term};
 ghost use Rattle.tab_core.specs.Runs.{ask_of, serves_step};
 ghost use Rattle.tab_proto.specs.Asks.{IsAsked};
 ghost use Rattle.tab_model.specs.declared.data.Reply.TheVariants.{BadCommand};
-ghost use Rattle.tab_session.specs.Answers.{IsNumberOf, Answered, AnsweredTerm, RefusedTerm, Made, ask_for, response, answer_frame, NotPut};
+ghost use Rattle.tab_session.specs.Answers.{IsNumberOf, Answered, AnsweredTerm, RefusedTerm, Made, ask_for, answer_frame, NotPut};
 
 use crate::Answer;
-use std::alloc::{AllocError, Global};
+use std::alloc::Global;
 use tab_core::{Core, Step};
-use tab_etf::{EncodeFault, EtfFault, append_frame, decode};
+use tab_etf::{EncodeFault, EtfFault, decode};
 use tab_model::Reply;
-use tab_proto::{Asked, ProtoFault, reply_term, request, session_of};
-use tab_term::{Term, Terms};
+use tab_proto::{Asked, ProtoFault, append_reply, request, session_of};
+use tab_term::Term;
 
 /// Answers a payload: what is no term is BadTerm under 0, and a term that asks nothing is BadCommand, under the number in
 /// `{Session, X}` or else under 0. A step that is refused for memory is answered NoMemory, and has changed nothing.
@@ -86,22 +86,10 @@ fn step_of(asked: Asked) -> Step
 
 /// Adds the frame of `{Session, Reply}`. On an error the bytes are as before.
 #[tactic(auto, unfolding(crate::specs::Answers::answer_frame))]
-pub fn put_answer(alloc: Global, answer: &Answer, out: &mut Vec<u8>) -> Result<(), EncodeFault>
+pub fn put_answer(answer: &Answer, out: &mut Vec<u8>) -> Result<(), EncodeFault>
     ensures ok { OnOk result (out.new.items ≡ out.old.items ++ answer_frame answer.now) }
     ensures err { IfErr result (λ e. NotPut answer.now e) }
     ensures same { OnErr result (out.new.items ≡ out.old.items) }
 {
-    let Ok(told) = response_of(alloc, answer) else {
-        return Err(EncodeFault::NoMemory);
-    };
-    append_frame(&told, out)
-}
-
-fn response_of(alloc: Global, answer: &Answer) -> Result<Term, AllocError>
-    ensures { IfOk result (λ t. term t ≡ response answer.now) }
-{
-    let mut parts = Vec::with_capacity(alloc, 2)?;
-    parts.push(Term::Int(answer.session as i128))?;
-    parts.push(reply_term(alloc, &answer.reply)?)?;
-    Ok(Term::Tuple(Terms::from_vec(parts)))
+    append_reply(Some(answer.session), &answer.reply, out)
 }

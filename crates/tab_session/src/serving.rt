@@ -43,7 +43,7 @@ fn serve_one(
     ensures { ServedOne core.old (payload_of frame.now) core.new buffer.old.items buffer.new.items result }
 {
     let answer = answer(core, alloc, payload_in(frame));
-    put_answer(alloc, &answer, buffer)
+    put_answer(&answer, buffer)
 }
 
 /// Answers the payloads of these frames, and writes the replies.
