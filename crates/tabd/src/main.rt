@@ -9,8 +9,12 @@ mod words;
 
 use running::run;
 use std::process::ExitCode;
+use tab_etf::Counted;
 use tab_session::{Ended, replay};
+use words::asked;
 
 fn main(rt: HostRuntime) -> ExitCode {
-    run(&rt, rt.stdin(), rt.stdout())
+    let mut input = Counted::new(rt.stdin());
+    let mut output = Counted::new(rt.stdout());
+    run(&rt, asked(&rt), &mut input, &mut output)
 }

@@ -3,34 +3,36 @@
 ghost use Rattle.std.specs.Prelude.{◌≡◌, ◌≤◌, OnOk, OnErr, IfErr};
 ghost use Rattle.std.specs.Process.{exit_status};
 ghost use Rattle.clap.specs.Words.{kind_of};
+ghost use Rattle.tabd.specs.declared.ending.End.{End as EndOf};
 ghost use Rattle.tabd.specs.Endings.{IsShown, Plays, end_of_words, status_of};
 
 use crate::ending::{End, end_of_replay, end_of_words, message_of, status_of};
-use crate::words::{Run, asked};
+use crate::words::Run;
 use crate::{Ended, replay};
 use clap::Error;
 use std::alloc::Global;
 use std::io::{Read, Write};
 use std::process::ExitCode;
-use std::rt::Env;
 use tab_etf::Counted;
 
-/// Does what the words of this process ask for, and gives its exit status.
-pub fn run<H: Env + AllocGlobal + Print + Eprint, R: Read + Drop, W: Write + Drop>(
+/// Does what the words ask for, and gives the program's exit status. Words that ask for no run leave input and output as
+/// they are.
+pub fn run<H: AllocGlobal + Print + Eprint, R: Read, W: Write>(
     rt: &H,
-    input: R,
-    output: W,
+    asked: Result<Run, Error>,
+    input: &mut Counted<R>,
+    output: &mut Counted<W>,
 ) -> ExitCode
-    ensures { exit_status result ≤ 3 }
+    ensures replayed { OnOk asked ((end : EndOf) × (exit_status result ≡ status_of end) × Plays (R.remaining input.old.inner) (W.contents output.old.inner) (W.contents output.new.inner) end) }
+    ensures shown { IfErr asked (λ error. (end : EndOf) × (exit_status result ≡ status_of end) × IsShown (end_of_words (kind_of error)) end) }
+    ensures input { OnErr asked (input.new ≡ input.old) }
+    ensures output { OnErr asked (output.new ≡ output.old) }
 {
-    let mut input = Counted::new(input);
-    let mut output = Counted::new(output);
-    let end = perform(rt, asked(rt), &mut input, &mut output);
+    let end = perform(rt, asked, input, output);
     ExitCode::from(tell(rt, &end))
 }
 
-/// Does what the words ask for: a replay of the input. Words that ask for none leave input and output as they are.
-pub fn perform<H: AllocGlobal + Print + Eprint, R: Read, W: Write>(
+fn perform<H: AllocGlobal + Print + Eprint, R: Read, W: Write>(
     rt: &H,
     asked: Result<Run, Error>,
     input: &mut Counted<R>,
