@@ -1,0 +1,4 @@
+pub mod Plain
+pub mod Questions
+pub mod Members
+pub mod Spots

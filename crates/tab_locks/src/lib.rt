@@ -1,0 +1,12 @@
+//! The locks that transactions hold, by owner, and by table and key.
+//!
+//! Contracts see them as one list: the owners by ascending age, each owner's locks in the order of granting. A question
+//! looks at the locks of its table and key and at that table's locks on all; a release at its owner's.
+
+#![tactic(auto)]
+
+mod holders;
+mod index;
+mod keys;
+mod on_table;
+mod question;
