@@ -6,3 +6,5 @@ pub mod Spelled
 pub mod KeySpots
 pub mod TableSpots
 pub mod TableLocks
+pub mod Listing
+pub mod Kept

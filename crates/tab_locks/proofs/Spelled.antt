@@ -73,7 +73,7 @@ module _ {K V X : Type 0} (cmp : K → K → Ordering) (o : IsTotalOrder cmp) (s
   spelled_dropped gone v w es new s l is there others = λ p.
       any_spelled p new ∙ ap (list_any (λ e. list_any p (spell e.0 e.1))) is
       ∙ any_set (eq_by_cmp cmp) (eq_by_cmp_equiv o) q (λ e. list_any p (spell e.0 e.1)) (λ e. list_any (λ x. p x && not (gone x)) (spell e.0 e.1)) v w es (IsDistinct-from_sorted cmp (keys_of es) s) l
-          (λ e n. others e n p) (λ k t. there k t p)
+      (λ e n. others e n p) (λ k t. there k t p)
       ∙ sym (any_spelled (λ x. p x && not (gone x)) es)
 
   pub spelled_kept : (gone : X → Bool) (es : List (K × V)) → lookup (is_at (cmp q)) es ≡ None

@@ -63,9 +63,9 @@ pub asked_at : (r : Relation) (age : ℕ) (write : Bool) (t : List ℕ) (part : 
     → list_any (asked r (age, lock t part write)) (locks_in es) ≡ found_any (list_any (λ s. reaches r part s.0 && fits r (age, write) s.1)) (lookup (is_at (name_cmp t)) es)
 asked_at r age write t part es s = spelled_found name_cmp nat_list_cmp_total locks_on t (asked r (age, lock t part write)) (list_any (λ s. reaches r part s.0 && fits r (age, write) s.1)) es s
     (λ e. any_map (asked r (age, lock t part write)) (λ (z : Spot). (z.1.0, lock e.0 z.0 z.1.1)) e.1
-        ∙ any_same (λ z. asked r (age, lock t part write) (z.1.0, lock e.0 z.0 z.1.1)) (λ z. bytes_eq t e.0 && (reaches r part z.0 && fits r (age, write) z.1)) e.1 (asked_by_parts r age write t e.0 part)
-        ∙ any_and (bytes_eq t e.0) (λ z. reaches r part z.0 && fits r (age, write) z.1) e.1
-        ∙ ap (λ b. b && list_any (λ z. reaches r part z.0 && fits r (age, write) z.1) e.1) (sym (is_table t e.0)))
+    ∙ any_same (λ z. asked r (age, lock t part write) (z.1.0, lock e.0 z.0 z.1.1)) (λ z. bytes_eq t e.0 && (reaches r part z.0 && fits r (age, write) z.1)) e.1 (asked_by_parts r age write t e.0 part)
+    ∙ any_and (bytes_eq t e.0) (λ z. reaches r part z.0 && fits r (age, write) z.1) e.1
+    ∙ ap (λ b. b && list_any (λ z. reaches r part z.0 && fits r (age, write) z.1) e.1) (sym (is_table t e.0)))
 
 pub more_in : (t : List ℕ) (x : Spot) (v w : List Spot) (es new : Entries) → lookup (is_at (name_cmp t)) es ≡ Some v → new ≡ set_value (is_at (name_cmp t)) es w
     → HasMore x v w → HasMore (x.1.0, lock t x.0 x.1.1) (locks_in es) (locks_in new)

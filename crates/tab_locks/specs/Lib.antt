@@ -2,3 +2,4 @@ pub mod Plain
 pub mod Questions
 pub mod Members
 pub mod Spots
+pub mod Placed

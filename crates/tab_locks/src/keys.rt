@@ -69,7 +69,13 @@ impl Keys {
         }
     }
 
-    pub fn add(&mut self, alloc: Global, key: &Term, age: u64, write: bool) -> Result<(), AllocError>
+    pub fn add(
+        &mut self,
+        alloc: Global,
+        key: &Term,
+        age: u64,
+        write: bool,
+    ) -> Result<(), AllocError>
         ensures ok { OnOk result (HasMore (term key.now, (age, write)) self.old self.new) }
         ensures err { OnErr result (SameMembers self.old self.new) }
     {

@@ -8,5 +8,10 @@
 mod holders;
 mod index;
 mod keys;
+mod lock_table;
 mod on_table;
 mod question;
+#[cfg(test)]
+mod tests;
+
+pub use lock_table::{Conflict, LockTable};

@@ -63,7 +63,13 @@ impl OnTable {
         }
     }
 
-    pub fn add(&mut self, alloc: Global, what: &What, age: u64, write: bool) -> Result<(), AllocError>
+    pub fn add(
+        &mut self,
+        alloc: Global,
+        what: &What,
+        age: u64,
+        write: bool,
+    ) -> Result<(), AllocError>
         ensures ok { OnOk result (HasMore (part_of what.now, (age, write)) self.old self.new) }
         ensures err { OnErr result (SameMembers self.old self.new) }
     {

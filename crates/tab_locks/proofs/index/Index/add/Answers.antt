@@ -19,9 +19,9 @@ returns-in-Some-clause-ok c =
     let found = sym (ap option_copied_mut (sym c.in-Some.is) ∙ c.get_mut.ensures.value) in
     let before = λ (v : List Owned) (b : Bool). HasMore (c.args.age, lock l.table (part_of l.what) b) v (locks_in new) in
     on_ok_weaker c.add.result
-        (λ h. let more = more_in l.table (part_of l.what, (c.args.age, c.is_write-write.result)) c.in-Some.spots.now w es new found (c.get_mut.follows.holds w).0 h in
-            subst (λ (b : Bool). before c.args.self.now b) c.is_write-write.ensures (subst (λ (v : List Owned). before v c.is_write-write.result) c.self.view_is more))
-        c.add.ensures.ok
+    (λ h. let more = more_in l.table (part_of l.what, (c.args.age, c.is_write-write.result)) c.in-Some.spots.now w es new found (c.get_mut.follows.holds w).0 h in
+    subst (λ (b : Bool). before c.args.self.now b) c.is_write-write.ensures (subst (λ (v : List Owned). before v c.is_write-write.result) c.self.view_is more))
+    c.add.ensures.ok
 
 pub returns-in-Some-clause-err : goal.returns-in-Some-clause-err
 returns-in-Some-clause-err c =
@@ -42,5 +42,5 @@ returns-in_ok-insert-in-None-clause-ok c =
     let before = λ (v : List Owned) (b : Bool). HasMore (c.args.age, lock l.table (part_of l.what) b) v (locks_in new) in
     let at_none = ap (λ (m : BTreeMap (List ℕ) (List Spot)). insert_entry name_cmp m.entries c.in_ok-try_clone-in-None.field-0 only) c.get_mut.follows.holds-at-none in
     let more = new_in l.table c.in_ok-try_clone-in-None.field-0 (part_of l.what, (c.args.age, c.is_write-write.result)) only es new c.in_ok-try_clone-in-None.ensures missing
-        (c.in_ok-insert-in-None.ensures.entries ∙ at_none) c.in_ok-only-in-None.ensures in
+    (c.in_ok-insert-in-None.ensures.entries ∙ at_none) c.in_ok-only-in-None.ensures in
     subst (λ (b : Bool). before c.args.self.now b) c.is_write-write.ensures (subst (λ (v : List Owned). before v c.is_write-write.result) c.self.view_is more)

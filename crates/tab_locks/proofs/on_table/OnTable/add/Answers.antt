@@ -21,8 +21,8 @@ returns-in-Key-clause-ok c =
     let before = λ (v : List Spot). HasMore (part_of c.args.what.now, (c.args.age, c.args.write)) v new in
     let at = λ (w : What). HasMore (part_of w, (c.args.age, c.args.write)) (spots_of c.self.inside.all c.self.inside.keys) new in
     on_ok_weaker c.add-in-Key.result
-        (λ h. subst before c.self.view_is (subst at (sym c.in-Key.is) (more_on_key (term c.in-Key.key) (c.args.age, c.args.write) c.self.inside.all c.self.inside.keys c.add-in-Key.new.self h)))
-        c.add-in-Key.ensures.ok
+    (λ h. subst before c.self.view_is (subst at (sym c.in-Key.is) (more_on_key (term c.in-Key.key) (c.args.age, c.args.write) c.self.inside.all c.self.inside.keys c.add-in-Key.new.self h)))
+    c.add-in-Key.ensures.ok
 
 pub returns-in-Key-clause-err : goal.returns-in-Key-clause-err
 returns-in-Key-clause-err c =
