@@ -35,6 +35,7 @@ one_gone p age readers writers readers' writers' s t r w =
     ∙ (λ i. (ap (list_any (λ a. p (a, false))) r ∙ any_remove_key (λ a. p (a, false)) age readers s) i || (ap (list_any (λ a. p (a, true))) w ∙ any_remove_key (λ a. p (a, true)) age writers t) i)
     ∙ sym (any_holdings (λ h. p h && not (h.0 == age)) readers writers)
 
-pub some_held : (readers writers : List ℕ) (value : List Holding) (b : Bool) → (length readers ≡ 0 → IsTrue b) → b ≡ false → holdings readers writers ≡ value → IsTrue b ↔ (value ≡ [])
-some_held [] writers value b r f is = let t = r refl in absurd cc
-some_held (x ∷ readers) writers value b r f is = ((λ t. absurd cc), (λ e. absurd cc))
+pub some_age : (ages : List ℕ) (b : Bool) → IsTrue b ↔ (length ages ≡ 0) → not b ≡ list_any (λ a. true) ages
+some_age [] b h = ap not (h.1 refl)
+some_age (x ∷ ages) true h = let e = h.0 refl in absurd cc
+some_age (x ∷ ages) false h = refl

@@ -54,6 +54,11 @@ module _ {X : Type 0} where
   any_more p [] x = refl
   any_more p (y ∷ xs) x = (λ i. p y || any_more p xs x i) ∙ or_swap (p y) (p x) (list_any p xs)
 
+  -- what has no member
+  pub none_there : (xs : List X) (b : Bool) → not b ≡ true → b ≡ list_any (λ x. true) xs → [] ≡ xs
+  none_there [] b h e = refl
+  none_there (x ∷ xs) b h e = absurd cc
+
 module _ {X Y : Type 0} where
   pub any_map : (p : Y → Bool) (f : X → Y) (xs : List X) → list_any p (map f xs) ≡ list_any (λ x. p (f x)) xs
   any_map p f [] = refl

@@ -18,7 +18,7 @@ use Rattle.tab_locks.specs.declared.question.Relation.TheVariants.{Opposing, Blo
 use Rattle.tab_locks.specs.Questions.{asked, fits, reaches}
 use Rattle.tab_locks.specs.Members.{HasMore, SameMembers, Drops}
 use Rattle.tab_locks.specs.Spots.{Spot, locks_on, locks_in, name_cmp, same_part, stands_on, stands_at}
-use Rattle.tab_locks.proofs.Passing.{any_same, any_map, any_and}
+use Rattle.tab_locks.proofs.Passing.{any_same, any_map, any_and, and_true}
 use Rattle.tab_locks.proofs.Lookups.{found_any}
 use Rattle.tab_locks.proofs.Spelled.{more_mapped, same_mapped, dropped_mapped, kept_mapped, spelled_found, spelled_more, spelled_same, spelled_new, spelled_dropped, spelled_kept, spelled_pruned}
 
@@ -66,6 +66,12 @@ asked_at r age write t part es s = spelled_found name_cmp nat_list_cmp_total loc
     ∙ any_same (λ z. asked r (age, lock t part write) (z.1.0, lock e.0 z.0 z.1.1)) (λ z. bytes_eq t e.0 && (reaches r part z.0 && fits r (age, write) z.1)) e.1 (asked_by_parts r age write t e.0 part)
     ∙ any_and (bytes_eq t e.0) (λ z. reaches r part z.0 && fits r (age, write) z.1) e.1
     ∙ ap (λ b. b && list_any (λ z. reaches r part z.0 && fits r (age, write) z.1) e.1) (sym (is_table t e.0)))
+
+pub locked_at : (t : List ℕ) (es : Entries) → IsStrictlySortedBy name_cmp (keys_of es) → list_any (λ x. bytes_eq t (x.1).table) (locks_in es) ≡ found_any (list_any (λ s. true)) (lookup (is_at (name_cmp t)) es)
+locked_at t es s = spelled_found name_cmp nat_list_cmp_total locks_on t (λ x. bytes_eq t (x.1).table) (list_any (λ s. true)) es s
+    (λ e. any_map (λ x. bytes_eq t (x.1).table) (λ (z : Spot). (z.1.0, lock e.0 z.0 z.1.1)) e.1
+    ∙ any_same (λ z. bytes_eq t e.0) (λ z. bytes_eq t e.0 && true) e.1 (λ z. sym (and_true (bytes_eq t e.0)))
+    ∙ any_and (bytes_eq t e.0) (λ z. true) e.1 ∙ ap (λ b. b && list_any (λ z. true) e.1) (sym (is_table t e.0)))
 
 pub more_in : (t : List ℕ) (x : Spot) (v w : List Spot) (es new : Entries) → lookup (is_at (name_cmp t)) es ≡ Some v → new ≡ set_value (is_at (name_cmp t)) es w
     → HasMore x v w → HasMore (x.1.0, lock t x.0 x.1.1) (locks_in es) (locks_in new)

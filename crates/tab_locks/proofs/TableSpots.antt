@@ -14,7 +14,7 @@ use Rattle.tab_locks.proofs.Passing.{or_assoc, or_swap, any_same, any_append, an
 use Rattle.tab_locks.proofs.Spelled.{more_mapped, same_mapped, dropped_mapped, kept_mapped}
 use Rattle.std.specs.Cmp.{IsEquivalence}
 
-any_spots : (p : Spot → Bool) (all : List Holding) (keys : List KeySpot) → list_any p (spots_of all keys) ≡ (list_any (λ h. p (All, h)) all || list_any (λ s. p (Key s.0, s.1)) keys)
+pub any_spots : (p : Spot → Bool) (all : List Holding) (keys : List KeySpot) → list_any p (spots_of all keys) ≡ (list_any (λ h. p (All, h)) all || list_any (λ s. p (Key s.0, s.1)) keys)
 any_spots p all keys = any_append p (map (λ h. (All, h)) all) (map (λ s. (Key s.0, s.1)) keys) ∙ (λ i. any_map p (λ (h : Holding). (All, h)) all i || any_map p (λ (s : KeySpot). (Key s.0, s.1)) keys i)
 
 reaches_all : (r : Relation) (part : Part) → reaches r part All ≡ true

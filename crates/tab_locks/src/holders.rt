@@ -1,4 +1,4 @@
-ghost use Rattle.std.specs.Prelude.{◌≡◌, ◌==◌, ◌↔◌, [], OnOk, OnErr, IfOk, IsTrue};
+ghost use Rattle.std.specs.Prelude.{◌≡◌, ◌==◌, [], OnOk, OnErr, IfOk, true};
 ghost use Rattle.std.specs.List.{list_any};
 ghost use Rattle.tab_locks.specs.Questions.{fits};
 ghost use Rattle.tab_locks.specs.Members.{HasMore, Drops};
@@ -46,10 +46,10 @@ impl Holders {
         Ok(holders)
     }
 
-    pub fn is_empty(&self) -> bool
-        ensures { IsTrue result ↔ (self.now ≡ []) }
+    pub fn is_occupied(&self) -> bool
+        ensures { result ≡ list_any (λ _. true) self.now }
     {
-        self.readers.is_empty() && self.writers.is_empty()
+        is_filled(&self.readers) || is_filled(&self.writers)
     }
 
     pub fn any(&self, question: Question) -> bool
@@ -82,4 +82,10 @@ fn any_of(ages: &BTreeSet<u64>, question: Question, write: bool) -> bool
     ensures { result ≡ list_any (λ a. fits question.relation (question.age, question.write) (a, write)) ages.now.keys }
 {
     ages.iter().any(|age| question.fits(*age, write))
+}
+
+fn is_filled(ages: &BTreeSet<u64>) -> bool
+    ensures { result ≡ list_any (λ _. true) ages.now.keys }
+{
+    !ages.is_empty()
 }

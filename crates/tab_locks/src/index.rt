@@ -2,6 +2,7 @@ ghost use Rattle.std.specs.Prelude.{◌≡◌, [], OnOk, OnErr, IsTrue, Some};
 ghost use Rattle.std.specs.BTreeMap.{get_by, is_at, IsOrdered};
 ghost use Rattle.std.specs.List.{list_any};
 ghost use Rattle.std.specs.Map.{remove_entry};
+ghost use Rattle.std.specs.Str.{bytes_eq};
 ghost use Rattle.tab_locks.specs.Plain.{is_write as is_write_of, lock_of};
 ghost use Rattle.tab_locks.specs.Questions.{asked};
 ghost use Rattle.tab_locks.specs.Members.{HasMore, SameMembers, Drops};
@@ -61,6 +62,15 @@ impl Index {
         }
     }
 
+    pub fn is_locked(&self, table: &Atom) -> bool
+        ensures { result ≡ list_any (λ x. bytes_eq table.now (x.1).table) self.now }
+    {
+        match self.tables.get(table) {
+            Some(spots) => spots.is_occupied(),
+            None => false,
+        }
+    }
+
     pub fn add(&mut self, alloc: Global, age: u64, lock: &Lock) -> Result<(), AllocError>
         ensures ok { OnOk result (HasMore (age, lock_of lock.now) self.old self.new) }
         ensures err { OnErr result (SameMembers self.old self.new) }
@@ -106,7 +116,7 @@ fn is_bare(tables: &BTreeMap<Atom, OnTable>, table: &Atom) -> bool
     ensures { IsTrue result → get_by (name_cmp table.now) tables.now ≡ Some [] }
 {
     match tables.get(table) {
-        Some(spots) => spots.is_empty(),
+        Some(spots) => !spots.is_occupied(),
         None => false,
     }
 }

@@ -1,4 +1,4 @@
-ghost use Rattle.std.specs.Prelude.{◌≡◌, ◌&&◌, [], OnOk, OnErr, IfOk, IsTrue, Some};
+ghost use Rattle.std.specs.Prelude.{◌≡◌, ◌&&◌, [], OnOk, OnErr, IsTrue, Some, true};
 ghost use Rattle.std.specs.BTreeMap.{get_by, is_at, values, IsOrdered};
 ghost use Rattle.std.specs.List.{list_any};
 ghost use Rattle.std.specs.Map.{remove_entry};
@@ -46,10 +46,10 @@ impl Keys {
         }
     }
 
-    pub fn is_empty(&self) -> bool
-        ensures { IsTrue result → self.now ≡ [] }
+    pub fn is_occupied(&self) -> bool
+        ensures { result ≡ list_any (λ _. true) self.now }
     {
-        self.holders.is_empty()
+        is_any_occupied(&self.holders)
     }
 
     /// Looks at every key that is locked.
@@ -120,11 +120,17 @@ fn any_of(holders: &BTreeMap<Term, Holders>, question: Question) -> bool
     holders.values().any(|at_key| at_key.any(question))
 }
 
+fn is_any_occupied(holders: &BTreeMap<Term, Holders>) -> bool
+    ensures { result ≡ list_any (λ v. list_any (λ _. true) v) (values holders.now) }
+{
+    holders.values().any(|at_key| at_key.is_occupied())
+}
+
 fn is_bare(holders: &BTreeMap<Term, Holders>, key: &Term) -> bool
     ensures { IsTrue result → get_by (term_cmp key.now) holders.now ≡ Some [] }
 {
     match holders.get(key) {
-        Some(at_key) => at_key.is_empty(),
+        Some(at_key) => !at_key.is_occupied(),
         None => false,
     }
 }

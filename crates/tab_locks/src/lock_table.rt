@@ -2,6 +2,7 @@ ghost use Rattle.std.specs.Prelude.{◌≡◌, [], ◌∷◌, ◌++◌, is_ok, i
 ghost use Rattle.std.specs.List.{list_any};
 ghost use Rattle.std.specs.BTreeMap.{get, IsOrdered};
 ghost use Rattle.std.specs.Ordering.{nat_cmp};
+ghost use Rattle.std.specs.Str.{bytes_eq};
 ghost use Rattle.tab_model.specs.Ages.{covers_own, without};
 ghost use Rattle.tab_locks.specs.Plain.{lock_of};
 ghost use Rattle.tab_locks.specs.Members.{HasMore, SameMembers, Drops};
@@ -13,6 +14,7 @@ use std::alloc::{AllocError, Global};
 use std::collections::BTreeMap;
 use std::marker::Model;
 use tab_model::Lock;
+use tab_term::Atom;
 
 /// Whose locks a request conflicts with.
 #[derive(Clone, Copy, Debug, PartialEq, Eq)]
@@ -75,6 +77,13 @@ impl LockTable {
         } else {
             Conflict::WithYounger
         }
+    }
+
+    /// Whether some lock is on this table, or on a key of it.
+    pub fn is_locked(&self, table: &Atom) -> bool
+        ensures { result ≡ list_any (λ x. bytes_eq table.now (x.1).table) self.now }
+    {
+        self.index.is_locked(table)
     }
 
     /// Holds a lock once more, also one that is held already.

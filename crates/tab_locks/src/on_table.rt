@@ -1,4 +1,4 @@
-ghost use Rattle.std.specs.Prelude.{◌≡◌, ◌&&◌, [], OnOk, OnErr, IfOk, IsTrue};
+ghost use Rattle.std.specs.Prelude.{◌≡◌, ◌&&◌, [], OnOk, OnErr, IfOk, true};
 ghost use Rattle.std.specs.List.{list_any};
 ghost use Rattle.tab_locks.specs.Plain.{part_of};
 ghost use Rattle.tab_locks.specs.Questions.{fits, reaches};
@@ -44,10 +44,10 @@ impl OnTable {
         Ok(spots)
     }
 
-    pub fn is_empty(&self) -> bool
-        ensures { IsTrue result → self.now ≡ [] }
+    pub fn is_occupied(&self) -> bool
+        ensures { result ≡ list_any (λ _. true) self.now }
     {
-        self.all.is_empty() && self.keys.is_empty()
+        self.all.is_occupied() || self.keys.is_occupied()
     }
 
     /// Looks at the locks on all of the table, and at those on the key, or on every key where the question is about all.
