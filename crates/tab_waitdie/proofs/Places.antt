@@ -1,6 +1,6 @@
 -- Where a request stands in the queue, and the queue without it.
 use Rattle.std.proofs.Common.{◌≡◌, ℕ, zero, suc, ◌<◌, ◌≤◌, List, [], ◌∷◌, ◌++◌, Bool, true, false, ◌||◌, not, refl, sym, ap, ◌∙◌, subst, Some, take, length, get_or, arith}
-use Rattle.std.specs.Prelude.{◌==◌, if◌then◌else◌, map, IsSome}
+use Rattle.std.specs.Prelude.{◌==◌, if◌then◌else◌, map, IsSome, is_some}
 use Rattle.std.specs.List.{list_any, filter}
 use Rattle.std.proofs.lemmas.Bool.Decides.{nat_tests}
 use Rattle.tab_model.specs.Ages.{Owned, before, request_of, without}
@@ -58,3 +58,11 @@ none_asked age (x ∷ ws) none some =
 
 pub none_placed : (age : ℕ) (ws : List Waiting) (i : ℕ) → length ws ≤ i → list_any (λ v. v.age == age) (take i ws) ≡ false → IsSome (request_of age (queued ws)) → ⊥
 none_placed age ws i le none some = none_asked age ws (ap (list_any (λ v. v.age == age)) (sym (all_taken ws i le)) ∙ none) some
+
+pub any_asked : (age : ℕ) (ws : List Waiting) → list_any (λ v. v.age == age) ws ≡ is_some (request_of age (queued ws))
+any_asked age [] = refl
+any_asked age (x ∷ ws) = by (x.age == age) (any_asked age ws)
+  where
+    by : (b : Bool) → list_any (λ v. v.age == age) ws ≡ is_some (request_of age (queued ws)) → (b || list_any (λ v. v.age == age) ws) ≡ is_some (if b then Some (owned x) else request_of age (queued ws))
+    by true ih = refl
+    by false ih = ih

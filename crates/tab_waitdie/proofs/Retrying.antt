@@ -51,7 +51,6 @@ module _ (age at : ℕ) (held : List Owned) (ws : List Waiting) (place : IsPlace
 
     pub moved_rises : (b : Bool) → TellsFree b held at ws → b ≡ true → Rises (ages_of held ws) → Rises (ages (placed (age, lock_of l) held) (without age (queued ws)))
     moved_rises b free is h =
-
         let P : Owned → Type 0 = λ x. Rises (ages (placed x held) (without age (queued ws))) in
         subst P (sym moves) (retried_rises (ages_of held ws) age (owned w) is_request (ap (λ v. can_retry (ages_of held ws) (owned v)) item ∙ sym (told_at b w free) ∙ is) h)
 

@@ -1,4 +1,4 @@
-ghost use Rattle.std.specs.Prelude.{◌≡◌, ◌<◌, ◌∷◌, ◌++◌, ℕ, List, [], None, IfOk, IfSome, IsSome, OnErr, length, not, slice_index_or, take};
+ghost use Rattle.std.specs.Prelude.{◌≡◌, ◌<◌, ◌∷◌, ◌++◌, ℕ, List, [], None, IfOk, IfSome, IsSome, OnErr, is_some, length, not, slice_index_or, take};
 ghost use Rattle.std.specs.List.{list_any};
 ghost use Rattle.tab_model.specs.Ages.{Ages as ages_record, Chain, all_of, can_retry, decide as decision, forget as forgotten, last_of, opposes, request_of, without};
 ghost use Rattle.tab_locks.specs.Plain.{lock_of};
@@ -6,7 +6,7 @@ ghost use Rattle.tab_waitdie.specs.Queue.{is_on, owned, queued};
 ghost use Rattle.tab_waitdie.specs.Answers.{answer_of, after_answer, is_granted, after_retried, ages, answer_to as answer_by};
 
 use crate::waiting::{
-    Waiting, any_opposing, conflicts_in, copy_of, drop_requests, is_awaited, place_of,
+    Waiting, any_opposing, conflicts_in, copy_of, drop_requests, is_awaited, is_queued, place_of,
 };
 use std::alloc::{AllocError, Global};
 use std::marker::Model;
@@ -61,6 +61,13 @@ impl Ages {
             locks: LockTable::new(alloc),
             queue: Vec::new(alloc),
         }
+    }
+
+    /// Whether a request of this age is queued.
+    pub fn waits(&self, age: u64) -> bool
+        ensures { result ≡ is_some (request_of age self.now.queue) }
+    {
+        is_queued(&self.queue, age)
     }
 
     /// A granted lock is held once more, also where one of its own covers it; a request that waits is queued; who dies

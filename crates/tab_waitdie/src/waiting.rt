@@ -1,4 +1,4 @@
-ghost use Rattle.std.specs.Prelude.{◌≡◌, ◌<◌, IfOk, IsSome, Some, length, slice_index_or, take, true};
+ghost use Rattle.std.specs.Prelude.{◌≡◌, ◌==◌, ◌<◌, IfOk, IsSome, Some, length, slice_index_or, take, true};
 ghost use Rattle.std.specs.List.{list_any};
 ghost use Rattle.tab_model.specs.Locks.{conflict as conflict_of, meets as meets_of};
 ghost use Rattle.tab_model.specs.Ages.{opposes as opposes_of, blocks as blocks_of, before, request_of, without};
@@ -77,6 +77,12 @@ fn is_write(mode: Mode) -> bool
         Mode::Read => false,
         Mode::Write => true,
     }
+}
+
+pub(crate) fn is_queued(queue: &[Waiting], age: u64) -> bool
+    ensures { result ≡ list_any (λ w. w.age == age) queue.now }
+{
+    queue.iter().any(|waiting| waiting.age == age)
 }
 
 /// Where the request of this age stands.

@@ -51,4 +51,4 @@ returns-clause-after c =
     let new = ages_of c.hold.new.self c.drop_requests.new.queue.items in
     let right = λ (g : Ages). IfSome (request_of c.args.age g.queue) (λ r. new ≡ ages (placed r g.held) (without r.0 g.queue)) in
     subst right c.self.view_is (subst left (λ i. ages (sym c.in_ok-hold.ensures.ok i) (sym c.drop_requests.ensures i))
-        (moved c.args.age at held ws place c.index.result.now c.index.ensures c.in_ok-lock.lock c.in_ok-lock.ensures))
+    (moved c.args.age at held ws place c.index.result.now c.index.ensures c.in_ok-lock.lock c.in_ok-lock.ensures))
