@@ -106,13 +106,14 @@ impl Ages {
         ensures after { IfSome (request_of age self.old.queue) (λ r. IfOk result (λ a. self.new ≡ after_retried self.old r a)) }
         ensures err { OnErr result (self.new ≡ self.old) }
     {
-        let at = place_of(&self.queue, age);
-        if !is_free(&self.locks, &self.queue, at) {
+        let queue = &mut self.queue;
+        let at = place_of(queue, age);
+        if !is_free(&self.locks, queue, at) {
             return Ok(Retried::Wait);
         }
-        let lock = copy_of(self.alloc, &self.queue[at].lock)?;
+        let lock = copy_of(self.alloc, &queue[at].lock)?;
         self.locks.hold(age, lock)?;
-        drop_requests(&mut self.queue, age);
+        drop_requests(queue, age);
         Ok(Retried::Granted)
     }
 
@@ -124,11 +125,11 @@ impl Ages {
     }
 
     /// Takes an owner's locks and its queued request away.
-    pub fn forget(&mut self, age: u64)
-        ensures { self.new ≡ forgotten self.old age }
+    pub fn forget(&mut self, owner: u64)
+        ensures { self.new ≡ forgotten self.old owner }
     {
-        self.locks.release_all(age);
-        drop_requests(&mut self.queue, age);
+        self.locks.release_all(owner);
+        drop_requests(&mut self.queue, owner);
     }
 
     /// Whether some held or queued lock is on this table.

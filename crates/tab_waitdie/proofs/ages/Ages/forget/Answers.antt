@@ -8,4 +8,4 @@ use Rattle.tab_waitdie.proofs.ages.Ages.forget.Goals as goal
 pub invariant_of-self : goal.invariant_of-self
 invariant_of-self c =
     let P = λ (g : Ages). Rises g in
-    subst P (λ i. ages (sym c.release_all.ensures i) (sym c.drop_requests.ensures i)) (forget_rises (ages_of c.self.inside.locks c.self.inside.queue.items) c.args.age c.self.invariant)
+    subst P (λ i. ages (sym c.release_all.ensures i) (sym c.drop_requests.ensures i)) (forget_rises (ages_of c.self.inside.locks c.self.inside.queue.items) c.args.owner c.self.invariant)
