@@ -1,14 +1,10 @@
 -- What is asked of the locks that are held, and the same question in parts: by table, by part of it, by owner and mode.
-use Rattle.std.specs.Prelude.{ℕ, Bool, true, false, not, ◌&&◌, ◌||◌, ◌==◌, nat_lt}
-use Rattle.tab_term.specs.Same.{same}
-use Rattle.tab_model.specs.Locks.{Part, All, Key, meets, contains}
+use Rattle.std.specs.Prelude.{Bool, not, ◌&&◌, ◌||◌, ◌==◌, nat_lt}
+use Rattle.tab_model.specs.Locks.{Part, meets, contains}
 use Rattle.tab_model.specs.Ages.{Owned, opposes, blocks, covers_own}
+use Rattle.tab_locks.specs.Spots.{Holding}
 use Rattle.tab_locks.specs.declared.question.Relation.{Relation}
 use Rattle.tab_locks.specs.declared.question.Relation.TheVariants.{Opposing, Blocking, Covering}
-
--- an owner's age, and whether it holds for writing
-abbrev pub Holding : Type 0
-Holding = ℕ × Bool
 
 abbrev pub asked : Relation → Owned → Owned → Bool
 asked Opposing r x = opposes r x

@@ -55,17 +55,19 @@ fn blocks(age: u64, lock: &Lock, waiting: &Waiting) -> bool
     opposes(age, lock, waiting) && !(age < waiting.age)
 }
 
-fn conflict(a: &Lock, b: &Lock) -> bool
-    ensures { result ≡ conflict_of (lock_of a.now) (lock_of b.now) }
+fn conflict(asked: &Lock, other: &Lock) -> bool
+    ensures { result ≡ conflict_of (lock_of asked.now) (lock_of other.now) }
 {
-    a.table == b.table && (is_write(a.mode) || is_write(b.mode)) && meets(&a.what, &b.what)
+    asked.table == other.table
+        && (is_write(asked.mode) || is_write(other.mode))
+        && meets(&asked.what, &other.what)
 }
 
-fn meets(a: &What, b: &What) -> bool
-    ensures { result ≡ meets_of (part_of a.now) (part_of b.now) }
+fn meets(asked: &What, other: &What) -> bool
+    ensures { result ≡ meets_of (part_of asked.now) (part_of other.now) }
 {
-    match (a, b) {
-        (What::Key(j), What::Key(k)) => j == k,
+    match (asked, other) {
+        (What::Key(key), What::Key(other)) => key == other,
         _ => true,
     }
 }
@@ -92,9 +94,9 @@ pub(crate) fn place_of(queue: &[Waiting], age: u64) -> usize
     ensures before { before age (queued queue.now) ≡ queued (take result queue.now) }
     ensures request { (d : Waiting) → request_of age (queued queue.now) ≡ Some (owned (slice_index_or queue.now result d)) }
 {
-    for (i, waiting) in queue.iter().enumerate() {
+    for (place, waiting) in queue.iter().enumerate() {
         if waiting.age == age {
-            return i;
+            return place;
         }
     }
     unreachable!()
