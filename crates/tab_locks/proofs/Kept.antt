@@ -1,5 +1,5 @@
 -- What a table of locks keeps over a lock more and over the release of an owner.
-use Rattle.std.proofs.Common.{◌≡◌, ℕ, ◌+◌, ◌<◌, List, [], ◌∷◌, ◌++◌, Bool, true, false, ◌||◌, ◌&&◌, not, refl, sym, ap, ◌∙◌, Option, Some, None, Result, Ok, Err, is_ok, OnOk, OnErr, take, length, get_or, nat_cmp}
+use Rattle.std.proofs.Common.{◌≡◌, ℕ, ◌+◌, ◌<◌, List, [], ◌∷◌, ◌++◌, Bool, true, false, ◌||◌, ◌&&◌, not, refl, sym, ap, ◌∙◌, Some, Result, Ok, Err, is_ok, OnOk, OnErr, take, length, get_or, nat_cmp}
 use Rattle.std.specs.Prelude.{if◌then◌else◌}
 use Rattle.std.specs.Global.{Vec}
 use Rattle.std.specs.List.{list_any}

@@ -1,5 +1,5 @@
 -- The locks on the keys of one table, as one list.
-use Rattle.std.proofs.Common.{◌≡◌, ℕ, List, [], ◌∷◌, Bool, true, false, ◌&&◌, refl, sym, ap, subst, ◌∙◌, Option, Some, None}
+use Rattle.std.proofs.Common.{◌≡◌, ℕ, List, [], Bool, true, false, ◌&&◌, refl, sym, ap, subst, ◌∙◌, Some, None}
 use Rattle.std.specs.Prelude.{map, ◌==◌}
 use Rattle.std.specs.List.{list_any}
 use Rattle.std.specs.List.Sorted.{IsStrictlySortedBy}
@@ -16,7 +16,7 @@ use Rattle.tab_locks.specs.Members.{HasMore, SameMembers, Drops}
 use Rattle.tab_locks.specs.Spots.{Holding, KeySpot, key_spots, term_cmp, stands_on_key}
 use Rattle.tab_locks.proofs.Passing.{any_same, any_map, any_and, any_flat_map}
 use Rattle.tab_locks.proofs.Lookups.{found_any}
-use Rattle.tab_locks.proofs.Spelled.{more_mapped, same_mapped, dropped_mapped, kept_mapped, spelled_found, spelled_more, spelled_same, spelled_new, spelled_dropped, spelled_kept, spelled_pruned}
+use Rattle.tab_locks.proofs.Spelled.{more_mapped, dropped_mapped, kept_mapped, spelled_found, spelled_more, spelled_same, spelled_new, spelled_dropped, spelled_kept, spelled_pruned}
 
 term_total : IsTotalOrder term_cmp
 term_total = on_total (λ t. canon (term t)) nat_list_cmp_total

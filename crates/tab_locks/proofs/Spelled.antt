@@ -1,5 +1,5 @@
 -- A map whose entries are spelled out as one list, compared by its members: after a write, an insertion or a removal.
-use Rattle.std.proofs.Common.{◌≡◌, List, [], ◌∷◌, ◌++◌, Bool, true, false, ◌||◌, ◌&&◌, not, refl, sym, ap, ◌∙◌, Option, Some, None, Ordering}
+use Rattle.std.proofs.Common.{◌≡◌, List, [], Bool, true, false, ◌||◌, ◌&&◌, not, refl, sym, ap, ◌∙◌, Some, None, Ordering}
 use Rattle.std.specs.Prelude.{map}
 use Rattle.std.specs.List.{list_any, flat_map}
 use Rattle.std.specs.List.Sorted.{IsStrictlySortedBy}

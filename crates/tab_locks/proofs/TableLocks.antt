@@ -1,10 +1,9 @@
 -- The locks of all tables, as one list.
-use Rattle.std.proofs.Common.{◌≡◌, ℕ, List, [], Bool, true, false, ◌||◌, ◌&&◌, not, refl, sym, ap, subst, ◌∙◌, Option, Some, None}
-use Rattle.std.specs.Prelude.{map, ◌==◌, nat_lt}
+use Rattle.std.proofs.Common.{◌≡◌, ℕ, List, [], Bool, true, false, ◌||◌, ◌&&◌, not, refl, sym, ap, subst, ◌∙◌, Some, None}
+use Rattle.std.specs.Prelude.{◌==◌, nat_lt}
 use Rattle.std.specs.List.{list_any}
 use Rattle.std.specs.List.Sorted.{IsStrictlySortedBy}
 use Rattle.std.specs.Str.{bytes_eq}
-use Rattle.std.specs.Cmp.{IsTotalOrder, IsEquivalence}
 use Rattle.std.specs.BTreeMap.{is_at, insert_entry}
 use Rattle.std.specs.Map.{keys_of, lookup, set_value, remove_entry}
 use Rattle.std.proofs.lemmas.Cmp.{nat_list_cmp_total}
@@ -17,7 +16,7 @@ use Rattle.tab_locks.specs.declared.question.Relation.{Relation}
 use Rattle.tab_locks.specs.declared.question.Relation.TheVariants.{Opposing, Blocking, Covering}
 use Rattle.tab_locks.specs.Questions.{asked, fits, reaches}
 use Rattle.tab_locks.specs.Members.{HasMore, SameMembers, Drops}
-use Rattle.tab_locks.specs.Spots.{Spot, locks_on, locks_in, name_cmp, same_part, stands_on, stands_at}
+use Rattle.tab_locks.specs.Spots.{Spot, locks_on, locks_in, name_cmp, stands_on, stands_at}
 use Rattle.tab_locks.proofs.Passing.{any_same, any_map, any_and, and_true}
 use Rattle.tab_locks.proofs.Lookups.{found_any}
 use Rattle.tab_locks.proofs.Spelled.{more_mapped, same_mapped, dropped_mapped, kept_mapped, spelled_found, spelled_more, spelled_same, spelled_new, spelled_dropped, spelled_kept, spelled_pruned}

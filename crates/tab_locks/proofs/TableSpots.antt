@@ -1,5 +1,5 @@
 -- The locks on one table, as one list.
-use Rattle.std.proofs.Common.{◌≡◌, ℕ, List, [], ◌++◌, Bool, true, false, ◌||◌, ◌&&◌, not, refl, sym, ap, ◌∙◌}
+use Rattle.std.proofs.Common.{◌≡◌, ℕ, List, Bool, true, ◌||◌, ◌&&◌, not, refl, sym, ap, ◌∙◌}
 use Rattle.std.specs.Prelude.{map, ◌==◌}
 use Rattle.std.specs.List.{list_any}
 use Rattle.tab_term.specs.Data.{PlainTerm}
@@ -11,8 +11,6 @@ use Rattle.tab_locks.specs.Questions.{reaches}
 use Rattle.tab_locks.specs.Members.{HasMore, SameMembers, Drops}
 use Rattle.tab_locks.specs.Spots.{Holding, Spot, KeySpot, spots_of, stands_on, stands_on_key}
 use Rattle.tab_locks.proofs.Passing.{or_assoc, or_swap, any_same, any_append, any_map, any_and, and_true}
-use Rattle.tab_locks.proofs.Spelled.{more_mapped, same_mapped, dropped_mapped, kept_mapped}
-use Rattle.std.specs.Cmp.{IsEquivalence}
 
 pub any_spots : (p : Spot → Bool) (all : List Holding) (keys : List KeySpot) → list_any p (spots_of all keys) ≡ (list_any (λ h. p (All, h)) all || list_any (λ s. p (Key s.0, s.1)) keys)
 any_spots p all keys = any_append p (map (λ h. (All, h)) all) (map (λ s. (Key s.0, s.1)) keys) ∙ (λ i. any_map p (λ (h : Holding). (All, h)) all i || any_map p (λ (s : KeySpot). (Key s.0, s.1)) keys i)

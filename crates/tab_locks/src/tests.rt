@@ -11,9 +11,10 @@ enum Step {
     Release(u64),
     Covered(u64, Asked, bool),
     Conflicts(u64, Asked, Conflict),
+    Locked(&'static str, bool),
 }
 
-const STEPS: [Step; 22] = [
+const STEPS: [Step; 25] = [
     Step::Conflicts(2, ("t", Some(5), Mode::Write), Conflict::Free),
     Step::Hold(3, ("t", Some(5), Mode::Read)),
     Step::Hold(3, ("t", Some(5), Mode::Read)),
@@ -27,7 +28,9 @@ const STEPS: [Step; 22] = [
     Step::Conflicts(4, ("u", Some(5), Mode::Write), Conflict::Free),
     Step::Conflicts(4, ("t", None, Mode::Write), Conflict::WithOlder),
     Step::Conflicts(3, ("t", None, Mode::Write), Conflict::Free),
+    Step::Locked("u", false),
     Step::Hold(2, ("u", None, Mode::Write)),
+    Step::Locked("u", true),
     Step::Covered(2, ("u", Some(7), Mode::Read), true),
     Step::Conflicts(3, ("u", Some(7), Mode::Read), Conflict::WithOlder),
     Step::Hold(3, ("t", None, Mode::Read)),
@@ -35,14 +38,19 @@ const STEPS: [Step; 22] = [
     Step::Release(3),
     Step::Conflicts(2, ("t", None, Mode::Write), Conflict::Free),
     Step::Release(2),
+    Step::Locked("u", false),
     Step::Conflicts(3, ("u", None, Mode::Write), Conflict::Free),
 ];
 
+fn name_of(alloc: Global, table: &str) -> Result<Atom, AllocError> {
+    let name = String::from_str(alloc, table)?;
+    Atom::new(name).map_err(|_| AllocError)
+}
+
 fn lock_of(alloc: Global, asked: &Asked) -> Result<Lock, AllocError> {
     let (table, key, mode) = asked;
-    let name = String::from_str(alloc, *table)?;
     Ok(Lock {
-        table: Atom::new(name).map_err(|_| AllocError)?,
+        table: name_of(alloc, *table)?,
         what: match key {
             Some(key) => What::Key(Term::Int(*key)),
             None => What::All,
@@ -67,6 +75,7 @@ fn goes(alloc: Global, locks: &mut LockTable, step: &Step) -> Result<bool, Alloc
         Step::Conflicts(age, asked, answer) => {
             Ok(locks.conflicts(*age, &lock_of(alloc, asked)?) == *answer)
         }
+        Step::Locked(table, answer) => { Ok(locks.is_locked(&name_of(alloc, *table)?) == *answer) }
     }
 }
 

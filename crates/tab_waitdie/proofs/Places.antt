@@ -1,9 +1,8 @@
 -- Where a request stands in the queue, and the queue without it.
 use Rattle.std.proofs.Common.{◌≡◌, ℕ, zero, suc, ◌<◌, ◌≤◌, List, [], ◌∷◌, ◌++◌, Bool, true, false, ◌||◌, not, refl, sym, ap, ◌∙◌, subst, Some, take, length, get_or, arith}
-use Rattle.std.specs.Prelude.{◌==◌, if◌then◌else◌, map, IsSome, is_some}
+use Rattle.std.specs.Prelude.{◌==◌, if◌then◌else◌, IsSome, is_some}
 use Rattle.std.specs.List.{list_any, filter}
-use Rattle.std.proofs.lemmas.Bool.Decides.{nat_tests}
-use Rattle.tab_model.specs.Ages.{Owned, before, request_of, without}
+use Rattle.tab_model.specs.Ages.{before, request_of, without}
 use Rattle.tab_waitdie.specs.declared.waiting.Waiting.{Waiting}
 use Rattle.tab_waitdie.specs.Queue.{owned, queued}
 

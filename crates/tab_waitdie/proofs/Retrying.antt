@@ -1,15 +1,14 @@
 -- A retry: the request that it is about, whether it is free, and what moving it leaves.
-use Rattle.std.proofs.Common.{◌≡◌, ℕ, zero, suc, ◌<◌, List, [], ◌∷◌, ◌++◌, Bool, true, false, not, refl, sym, ap, ◌∙◌, subst, Option, Some, take, length, get_or, arith}
+use Rattle.std.proofs.Common.{◌≡◌, ℕ, ◌<◌, List, [], ◌∷◌, ◌++◌, Bool, true, not, sym, ap, ◌∙◌, subst, Option, Some, take, length, get_or, arith}
 use Rattle.std.specs.Prelude.{IfSome}
 use Rattle.std.specs.List.{list_any}
 use Rattle.tab_model.specs.declared.data.Lock as code
-use Rattle.tab_model.specs.Ages.{Owned, Ages, opposes, before, request_of, without, can_retry, Rises}
+use Rattle.tab_model.specs.Ages.{Owned, opposes, before, request_of, without, can_retry, Rises}
 use Rattle.tab_locks.specs.Placed.{placed}
 use Rattle.tab_locks.specs.Plain.{lock_of}
 use Rattle.tab_waitdie.specs.declared.waiting.Waiting.{Waiting}
 use Rattle.tab_waitdie.specs.Queue.{owned, queued, ages_of}
 use Rattle.tab_waitdie.specs.Answers.{ages}
-use Rattle.tab_waitdie.proofs.Places.{same_item}
 use Rattle.tab_waitdie.proofs.Rising.{found_age, retried_rises}
 
 -- at this place stands the first request of this age

@@ -1,6 +1,5 @@
 -- Ages rise along every wait after each call. Where a lock stands in the held list doesn't matter.
-use Rattle.std.proofs.Common.{◌≡◌, ℕ, ◌<◌, List, [], ◌∷◌, ◌++◌, Bool, true, false, refl, sym, ap, ◌∙◌, subst, Some, arith}
-use Rattle.std.specs.Prelude.{◌==◌}
+use Rattle.std.proofs.Common.{◌≡◌, ℕ, ◌<◌, List, [], ◌∷◌, ◌++◌, Bool, true, refl, sym, ap, ◌∙◌, subst, Some, arith}
 use Rattle.std.proofs.lemmas.Bool.Decides.{nat_tests}
 use Rattle.tab_model.specs.Ages as plain
 use Rattle.tab_model.specs.Ages.{Owned, Ages, blocks, decide, request_of, without, after_request, can_retry, after_retry, RisesAfter, Rises, Chain, last_of}

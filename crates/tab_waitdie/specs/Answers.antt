@@ -3,7 +3,7 @@ use Rattle.std.specs.Prelude.{List, [], ◌∷◌, ◌++◌, Bool, true, false}
 use Rattle.tab_model.specs.Ages as plain
 use Rattle.tab_model.specs.Ages.{Owned, Ages, without}
 use Rattle.tab_locks.specs.declared.lock_table.Conflict.{Conflict}
-use Rattle.tab_locks.specs.declared.lock_table.Conflict.TheVariants.{Free, WithYounger, WithOlder}
+use Rattle.tab_locks.specs.declared.lock_table.Conflict.TheVariants.{Free, WithOlder}
 use Rattle.tab_locks.specs.Placed.{placed}
 use Rattle.tab_waitdie.specs.declared.ages.Answer.{Answer}
 use Rattle.tab_waitdie.specs.declared.ages.Answer.TheVariants.{Granted, Wait, Die}

@@ -162,8 +162,8 @@ fn is_free(locks: &LockTable, queue: &[Waiting], at: usize) -> bool
     }
 }
 
-/// A law: no chain of waits leads back to where it began, since the age rises along each.
-
+/// A law: no chain of waits leads back to where it began, since the age rises along each. The body names a field, for that
+/// is what lets a proof know the type's invariant.
 pub fn no_chain_of_waits_leads_back(ages: &Ages)
     ensures { (a b : ℕ) (bs : List ℕ) → Chain ages.now a (b ∷ bs) → a < last_of b bs }
 {

@@ -1,7 +1,6 @@
 use Rattle.std.proofs.Common.{sym, ap, ◌∙◌, ◌++◌, not, take}
 use Rattle.std.specs.List.{list_any}
 use Rattle.tab_model.specs.Ages.{opposes}
-use Rattle.tab_locks.specs.Placed.{conflict_with}
 use Rattle.tab_waitdie.specs.Queue.{owned, queued}
 use Rattle.tab_waitdie.proofs.Deciding.{any_queued, free_where}
 use Rattle.tab_waitdie.proofs.Places.{same_item}

@@ -1,4 +1,4 @@
-use Rattle.std.proofs.Common.{sym, ap, ◌∙◌, ◌||◌}
+use Rattle.std.proofs.Common.{sym, ◌∙◌, ◌||◌}
 use Rattle.std.specs.List.{list_any}
 use Rattle.tab_locks.proofs.Holdings.{one_more_reader, one_more_writer}
 use Rattle.tab_locks.proofs.holders.Holders.add.Goals as goal

@@ -1,4 +1,4 @@
-use Rattle.std.proofs.Common.{sym, ap, ◌∙◌, ◌&&◌, not}
+use Rattle.std.proofs.Common.{ap, ◌∙◌, ◌&&◌, not}
 use Rattle.std.specs.Prelude.{◌==◌}
 use Rattle.std.specs.List.{list_any}
 use Rattle.tab_locks.proofs.Holdings.{one_gone}

@@ -1,6 +1,5 @@
-use Rattle.std.proofs.Common.{sym, ap, ◌∙◌, ◌||◌, ◌&&◌, true}
+use Rattle.std.proofs.Common.{sym, ap, ◌∙◌, ◌||◌, ◌&&◌}
 use Rattle.std.specs.List.{list_any}
-use Rattle.tab_model.specs.declared.data.What.{What}
 use Rattle.tab_term.specs.View.{term}
 use Rattle.tab_locks.specs.Plain.{part_of}
 use Rattle.tab_locks.specs.Questions.{fits, reaches}

@@ -1,6 +1,6 @@
-use Rattle.std.proofs.Common.{◌≡◌, sym, ap, ◌∙◌, subst, false, true, Bool, List}
+use Rattle.std.proofs.Common.{◌≡◌, sym, subst, false, true, Bool, List}
 use Rattle.std.specs.Prelude.{IfSome}
-use Rattle.tab_model.specs.Ages.{Owned, Ages, Rises, request_of, can_retry, without}
+use Rattle.tab_model.specs.Ages.{Ages, Rises, request_of, can_retry, without}
 use Rattle.tab_locks.specs.Placed.{placed}
 use Rattle.tab_waitdie.specs.declared.waiting.Waiting.{Waiting}
 use Rattle.tab_waitdie.specs.Queue.{ages_of, queued}
