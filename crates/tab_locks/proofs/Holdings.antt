@@ -1,0 +1,41 @@
+-- Who reads and who writes one part of a table, as one list.
+use Rattle.std.proofs.Common.{◌≡◌, ℕ, List, [], ◌∷◌, Bool, true, false, ◌||◌, ◌&&◌, not, refl, sym, ap, ◌∙◌, length, nat_cmp}
+use Rattle.std.specs.Prelude.{map, ◌==◌, ◌↔◌, IsTrue}
+use Rattle.std.specs.List.{list_any}
+use Rattle.std.specs.List.Sorted.{IsStrictlySortedBy}
+use Rattle.std.specs.BTreeMap.{is_at}
+use Rattle.std.specs.BTreeSet.{insert_key}
+use Rattle.std.specs.Set.{remove_key}
+use Rattle.tab_locks.specs.Spots.{Holding, holdings}
+use Rattle.tab_locks.proofs.Passing.{any_append, any_map, or_assoc, or_swap}
+use Rattle.tab_locks.proofs.Inserted.{any_insert_key, any_remove_key}
+
+pub any_holdings : (p : Holding → Bool) (readers writers : List ℕ) → list_any p (holdings readers writers) ≡ (list_any (λ a. p (a, false)) readers || list_any (λ a. p (a, true)) writers)
+any_holdings p readers writers = any_append p (map (λ a. (a, false)) readers) (map (λ a. (a, true)) writers) ∙ (λ i. any_map p (λ a. (a, false)) readers i || any_map p (λ a. (a, true)) writers i)
+
+pub one_more_reader : (p : Holding → Bool) (age : ℕ) (readers writers new : List ℕ) → new ≡ insert_key nat_cmp readers age → list_any p (holdings new writers) ≡ (p (age, false) || list_any p (holdings readers writers))
+one_more_reader p age readers writers new is =
+    any_holdings p new writers
+    ∙ (λ i. (ap (list_any (λ a. p (a, false))) is ∙ any_insert_key (λ a. p (a, false)) readers age) i || list_any (λ a. p (a, true)) writers)
+    ∙ or_assoc (p (age, false)) (list_any (λ a. p (a, false)) readers) (list_any (λ a. p (a, true)) writers)
+    ∙ ap (λ b. p (age, false) || b) (sym (any_holdings p readers writers))
+
+pub one_more_writer : (p : Holding → Bool) (age : ℕ) (readers writers new : List ℕ) → new ≡ insert_key nat_cmp writers age → list_any p (holdings readers new) ≡ (p (age, true) || list_any p (holdings readers writers))
+one_more_writer p age readers writers new is =
+    any_holdings p readers new
+    ∙ (λ i. list_any (λ a. p (a, false)) readers || (ap (list_any (λ a. p (a, true))) is ∙ any_insert_key (λ a. p (a, true)) writers age) i)
+    ∙ or_swap (list_any (λ a. p (a, false)) readers) (p (age, true)) (list_any (λ a. p (a, true)) writers)
+    ∙ ap (λ b. p (age, true) || b) (sym (any_holdings p readers writers))
+
+pub one_gone : (p : Holding → Bool) (age : ℕ) (readers writers readers' writers' : List ℕ) → IsStrictlySortedBy nat_cmp readers → IsStrictlySortedBy nat_cmp writers
+    → readers' ≡ remove_key (is_at (nat_cmp age)) readers → writers' ≡ remove_key (is_at (nat_cmp age)) writers
+    → list_any p (holdings readers' writers') ≡ list_any (λ h. p h && not (h.0 == age)) (holdings readers writers)
+one_gone p age readers writers readers' writers' s t r w =
+    any_holdings p readers' writers'
+    ∙ (λ i. (ap (list_any (λ a. p (a, false))) r ∙ any_remove_key (λ a. p (a, false)) age readers s) i || (ap (list_any (λ a. p (a, true))) w ∙ any_remove_key (λ a. p (a, true)) age writers t) i)
+    ∙ sym (any_holdings (λ h. p h && not (h.0 == age)) readers writers)
+
+pub some_age : (ages : List ℕ) (b : Bool) → IsTrue b ↔ (length ages ≡ 0) → not b ≡ list_any (λ a. true) ages
+some_age [] b h = ap not (h.1 refl)
+some_age (x ∷ ages) true h = let e = h.0 refl in absurd cc
+some_age (x ∷ ages) false h = refl

@@ -1,0 +1,68 @@
+-- The locks on the keys of one table, as one list.
+use Rattle.std.proofs.Common.{◌≡◌, ℕ, List, [], Bool, true, false, ◌&&◌, refl, sym, ap, subst, ◌∙◌, Some, None}
+use Rattle.std.specs.Prelude.{map, ◌==◌}
+use Rattle.std.specs.List.{list_any}
+use Rattle.std.specs.List.Sorted.{IsStrictlySortedBy}
+use Rattle.std.specs.Cmp.{IsTotalOrder}
+use Rattle.std.specs.BTreeMap.{is_at, insert_entry}
+use Rattle.std.specs.Map.{keys_of, values_of, lookup, set_value, remove_entry}
+use Rattle.std.proofs.lemmas.Cmp.{on_total, nat_list_cmp_total}
+use Rattle.tab_term.specs.declared.term.Term.{Term}
+use Rattle.tab_term.specs.Canon.{canon}
+use Rattle.tab_term.specs.View.{term}
+use Rattle.tab_term.specs.Same.{same, same-Decides}
+use Rattle.tab_term.specs.OrderLaws.{matches_same}
+use Rattle.tab_locks.specs.Members.{HasMore, SameMembers, Drops}
+use Rattle.tab_locks.specs.Spots.{Holding, KeySpot, key_spots, term_cmp, stands_on_key}
+use Rattle.tab_locks.proofs.Passing.{any_same, any_map, any_and, any_flat_map}
+use Rattle.tab_locks.proofs.Lookups.{found_any}
+use Rattle.tab_locks.proofs.Spelled.{more_mapped, dropped_mapped, kept_mapped, spelled_found, spelled_more, spelled_same, spelled_new, spelled_dropped, spelled_kept, spelled_pruned}
+
+term_total : IsTotalOrder term_cmp
+term_total = on_total (λ t. canon (term t)) nat_list_cmp_total
+
+abbrev spell : Term → List Holding → List KeySpot
+spell k hs = map (λ h. (term k, h)) hs
+
+abbrev Entries : Type 0
+Entries = List (Term × List Holding)
+
+is_key : (k j : Term) → is_at (term_cmp k) j ≡ same (term k) (term j)
+is_key k j = sym (matches_same (term k) (term j))
+
+one_key : (k j : Term) → is_at (term_cmp k) j ≡ true → term k ≡ term j
+one_key k j t = (same-Decides (term k) (term j)).0 (sym (is_key k j) ∙ t)
+
+pub any_held : (p : Holding → Bool) (es : Entries) → list_any (λ v. list_any p v) (values_of es) ≡ list_any (λ s. p s.1) (key_spots es)
+any_held p es =
+    any_map (λ v. list_any p v) (λ (e : Term × List Holding). e.1) es
+    ∙ sym (any_flat_map (λ s. p s.1) (λ e. spell e.0 e.1) es ∙ any_same (λ e. list_any (λ s. p s.1) (spell e.0 e.1)) (λ e. list_any p e.1) es (λ e. any_map (λ s. p s.1) (λ h. (term e.0, h)) e.1))
+
+pub held_at : (p : Holding → Bool) (k : Term) (es : Entries) → IsStrictlySortedBy term_cmp (keys_of es) → list_any (λ s. same (term k) s.0 && p s.1) (key_spots es) ≡ found_any (list_any p) (lookup (is_at (term_cmp k)) es)
+held_at p k es s = spelled_found term_cmp term_total spell k (λ x. same (term k) x.0 && p x.1) (list_any p) es s
+    (λ e. any_map (λ x. same (term k) x.0 && p x.1) (λ h. (term e.0, h)) e.1 ∙ any_and (same (term k) (term e.0)) p e.1 ∙ ap (λ b. b && list_any p e.1) (sym (is_key k e.0)))
+
+pub more_at : (k : Term) (x : Holding) (v w : List Holding) (es new : Entries) → lookup (is_at (term_cmp k)) es ≡ Some v → new ≡ set_value (is_at (term_cmp k)) es w → HasMore x v w → HasMore (term k, x) (key_spots es) (key_spots new)
+more_at k x v w es new l is h = spelled_more term_cmp term_total spell k (term k, x) v w es new l is
+    (λ j t. let P = λ (y : KeySpot). HasMore y (spell j v) (spell j w) in subst P (λ i. (sym (one_key k j t) i, x)) (more_mapped (λ (h : Holding). (term j, h)) x v w h))
+
+pub same_at : (k : Term) (v w : List Holding) (es new : Entries) → lookup (is_at (term_cmp k)) es ≡ Some v → new ≡ set_value (is_at (term_cmp k)) es w → w ≡ v → SameMembers (key_spots es) (key_spots new)
+same_at k v w es new l is e = spelled_same term_cmp term_total spell k v w es new l is (λ j p. ap (λ hs. list_any p (spell j hs)) e)
+
+pub new_at : (k j : Term) (x : Holding) (v : List Holding) (es new : Entries) → j ≡ k → lookup (is_at (term_cmp k)) es ≡ None → new ≡ insert_entry term_cmp es j v → HasMore x [] v → HasMore (term k, x) (key_spots es) (key_spots new)
+new_at k j x v es new e l is h = spelled_new term_cmp term_total spell k (term k, x) v es new l (is ∙ ap (λ z. insert_entry term_cmp es z v) e) (more_mapped (λ (h : Holding). (term k, h)) x [] v h)
+
+others_stay : (k : Term) (age : ℕ) (e : Term × List Holding) → is_at (term_cmp k) e.0 ≡ false → Drops (stands_on_key (term k) age) (spell e.0 e.1) (spell e.0 e.1)
+others_stay k age e n = kept_mapped (λ (h : Holding). (term e.0, h)) (stands_on_key (term k) age) e.1 (λ h. ap (λ b. b && (h.0 == age)) (sym (is_key k e.0) ∙ n))
+
+pub dropped_at : (k : Term) (age : ℕ) (v w : List Holding) (es new : Entries) → IsStrictlySortedBy term_cmp (keys_of es) → lookup (is_at (term_cmp k)) es ≡ Some v → new ≡ set_value (is_at (term_cmp k)) es w
+    → Drops (λ h. h.0 == age) v w → Drops (stands_on_key (term k) age) (key_spots es) (key_spots new)
+dropped_at k age v w es new s l is h = spelled_dropped term_cmp term_total spell k (stands_on_key (term k) age) v w es new s l is
+    (λ j t. dropped_mapped (λ (h : Holding). (term j, h)) (stands_on_key (term k) age) (λ h. h.0 == age) v w h (λ x. ap (λ b. b && (x.0 == age)) (sym (is_key k j) ∙ t)))
+    (others_stay k age)
+
+pub none_at : (k : Term) (age : ℕ) (es : Entries) → lookup (is_at (term_cmp k)) es ≡ None → Drops (stands_on_key (term k) age) (key_spots es) (key_spots es)
+none_at k age es l = spelled_kept term_cmp term_total spell k (stands_on_key (term k) age) es l (others_stay k age)
+
+pub pruned_at : (k : Term) (es new : Entries) → lookup (is_at (term_cmp k)) es ≡ Some [] → new ≡ remove_entry (is_at (term_cmp k)) es → SameMembers (key_spots es) (key_spots new)
+pruned_at k es new l is = spelled_pruned term_cmp term_total spell k [] es new l is (λ j. refl)

@@ -1,0 +1,5 @@
+pub mod Plain
+pub mod Questions
+pub mod Members
+pub mod Spots
+pub mod Placed

@@ -1,0 +1,37 @@
+-- The held locks as one list: owners by ascending age, each owner's locks in the order of granting.
+use Rattle.std.specs.Prelude.{ℕ, List, [], ◌∷◌, Bool, nat_lt, if◌then◌else◌, map}
+use Rattle.std.specs.Global.{Vec}
+use Rattle.std.specs.List.{flat_map, list_any}
+use Rattle.std.specs.Ordering.{nat_cmp}
+use Rattle.std.specs.BTreeMap.{BTreeMap, IsOrdered}
+use Rattle.tab_model.specs.declared.data.Lock as code
+use Rattle.tab_model.specs.Ages.{Owned, opposes, blocks}
+use Rattle.tab_locks.specs.Members.{SameMembers}
+use Rattle.tab_locks.specs.Plain.{lock_of}
+use Rattle.tab_locks.specs.Spots.{stands_at}
+use Rattle.tab_locks.specs.declared.lock_table.Conflict.{Conflict}
+use Rattle.tab_locks.specs.declared.lock_table.Conflict.TheVariants.{Free, WithYounger, WithOlder}
+
+-- one lock more, at the end of its owner's own
+abbrev pub placed : Owned → List Owned → List Owned
+placed x [] = x ∷ []
+placed x (y ∷ ys) = if nat_lt x.0 y.0 then x ∷ y ∷ ys else y ∷ placed x ys
+
+abbrev pub owned_by : ℕ → List code.Lock → List Owned
+owned_by age locks = map (λ l. (age, lock_of l)) locks
+
+abbrev pub listed : List (ℕ × Vec code.Lock) → List Owned
+listed owners = flat_map (λ e. owned_by e.0 (e.1).items) owners
+
+-- the index has the members of the owners' lists, and no others
+pub record IsIndexed (owners : BTreeMap ℕ (Vec code.Lock)) (index : List Owned) : Type 0 where
+  pub ordered : IsOrdered nat_cmp owners
+  pub indexed : SameMembers (listed owners.entries) index
+
+-- of this owner, on the table and part of one of these locks
+abbrev pub is_of : ℕ → List code.Lock → Owned → Bool
+is_of age locks x = list_any (λ l. stands_at age (lock_of l) x) locks
+
+-- whether a request conflicts with a held lock of another owner, and if so, whether with one of an older owner
+abbrev pub conflict_with : Owned → List Owned → Conflict
+conflict_with r held = if list_any (opposes r) held then (if list_any (blocks r) held then WithOlder else WithYounger) else Free

@@ -1,0 +1,62 @@
+-- The locks that an index has, spelled out with their places.
+use Rattle.std.specs.Prelude.{ℕ, List, ◌++◌, Bool, true, false, ◌&&◌, ◌==◌, map}
+use Rattle.std.specs.List.{flat_map}
+use Rattle.std.specs.Str.{bytes_eq}
+use Rattle.std.specs.Ordering.{on, nat_cmp}
+use Rattle.std.specs.declared.cmp.Ordering.{Ordering}
+use Rattle.std.specs.Cmp.Lexicographic.{slice_cmp}
+use Rattle.tab_term.specs.declared.term.Term.{Term}
+use Rattle.tab_term.specs.Data.{PlainTerm}
+use Rattle.tab_term.specs.View.{term}
+use Rattle.tab_term.specs.Canon.{canon}
+use Rattle.tab_term.specs.Same.{same}
+use Rattle.tab_model.specs.Locks.{Part, All, Key, Lock, lock}
+use Rattle.tab_model.specs.Ages.{Owned}
+
+-- an owner's age, and whether it holds for writing
+abbrev pub Holding : Type 0
+Holding = ℕ × Bool
+
+-- the same with the part of the table, or with the key
+abbrev pub Spot : Type 0
+Spot = Part × Holding
+
+abbrev pub KeySpot : Type 0
+KeySpot = PlainTerm × Holding
+
+abbrev pub term_cmp : Term → Term → Ordering
+term_cmp = on (λ t. canon (term t)) (slice_cmp nat_cmp)
+
+abbrev pub name_cmp : List ℕ → List ℕ → Ordering
+name_cmp = slice_cmp nat_cmp
+
+-- who reads and who writes one part of a table
+abbrev pub holdings : List ℕ → List ℕ → List Holding
+holdings readers writers = map (λ a. (a, false)) readers ++ map (λ a. (a, true)) writers
+
+abbrev pub key_spots : List (Term × List Holding) → List KeySpot
+key_spots keys = flat_map (λ e. map (λ h. (term e.0, h)) e.1) keys
+
+abbrev pub spots_of : List Holding → List KeySpot → List Spot
+spots_of all keys = map (λ h. (All, h)) all ++ map (λ s. (Key s.0, s.1)) keys
+
+abbrev pub locks_on : List ℕ → List Spot → List Owned
+locks_on table spots = map (λ s. (s.1.0, lock table s.0 s.1.1)) spots
+
+abbrev pub locks_in : List (List ℕ × List Spot) → List Owned
+locks_in tables = flat_map (λ e. locks_on e.0 e.1) tables
+
+abbrev pub same_part : Part → Part → Bool
+same_part All All = true
+same_part (Key j) (Key k) = same j k
+same_part a b = false
+
+-- of this owner, on this key; on this part; on the table and part of this lock
+abbrev pub stands_on_key : PlainTerm → ℕ → KeySpot → Bool
+stands_on_key key age s = same key s.0 && (s.1.0 == age)
+
+abbrev pub stands_on : Part → ℕ → Spot → Bool
+stands_on part age s = same_part part s.0 && (s.1.0 == age)
+
+abbrev pub stands_at : ℕ → Lock → Owned → Bool
+stands_at age l x = bytes_eq l.table x.1.table && (same_part l.part x.1.part && (x.0 == age))

@@ -1,0 +1,91 @@
+ghost use Rattle.std.specs.Prelude.{◌≡◌, ◌==◌, [], OnOk, OnErr, IfOk, true};
+ghost use Rattle.std.specs.List.{list_any};
+ghost use Rattle.tab_locks.specs.Questions.{fits};
+ghost use Rattle.tab_locks.specs.Members.{HasMore, Drops};
+
+use crate::question::Question;
+use std::alloc::{AllocError, Global};
+use std::collections::BTreeSet;
+use std::marker::Model;
+
+/// The owners of locks on one part of a table, by their ages.
+#[derive(Drop)]
+pub(crate) struct Holders {
+    readers: BTreeSet<u64>,
+    writers: BTreeSet<u64>,
+}
+
+impl Model for Holders {
+    ghost use Rattle.std.specs.Prelude.{List};
+    ghost use Rattle.std.specs.Ordering.{nat_cmp};
+    ghost use Rattle.std.specs.BTreeSet.{IsOrdered};
+    ghost use Rattle.tab_locks.specs.Spots.{Holding, holdings};
+
+    ghost Value = { List Holding };
+
+    ghost view = { λ a. holdings a.readers.keys a.writers.keys };
+
+    ghost invariant = { λ a. IsOrdered nat_cmp a.readers × IsOrdered nat_cmp a.writers };
+}
+
+impl Holders {
+    pub fn new(alloc: Global) -> Holders
+        ensures { result ≡ [] }
+    {
+        Holders {
+            readers: BTreeSet::new(alloc),
+            writers: BTreeSet::new(alloc),
+        }
+    }
+
+    pub fn only(alloc: Global, age: u64, write: bool) -> Result<Holders, AllocError>
+        ensures { IfOk result (λ holders. HasMore (age, write) [] holders) }
+    {
+        let mut holders = Holders::new(alloc);
+        holders.add(age, write)?;
+        Ok(holders)
+    }
+
+    pub fn is_occupied(&self) -> bool
+        ensures { result ≡ list_any (λ _. true) self.now }
+    {
+        is_filled(&self.readers) || is_filled(&self.writers)
+    }
+
+    pub fn any(&self, question: Question) -> bool
+        ensures { result ≡ list_any (fits question.relation (question.age, question.write)) self.now }
+    {
+        any_of(&self.readers, question, false) || any_of(&self.writers, question, true)
+    }
+
+    pub fn add(&mut self, age: u64, write: bool) -> Result<(), AllocError>
+        ensures ok { OnOk result (HasMore (age, write) self.old self.new) }
+        ensures err { OnErr result (self.new ≡ self.old) }
+    {
+        if write {
+            self.writers.insert(age)?;
+        } else {
+            self.readers.insert(age)?;
+        }
+        Ok(())
+    }
+
+    pub fn remove(&mut self, age: u64)
+        ensures { Drops (λ h. h.0 == age) self.old self.new }
+    {
+        self.readers.remove(&age);
+        self.writers.remove(&age);
+    }
+}
+
+fn any_of(ages: &BTreeSet<u64>, question: Question, write: bool) -> bool
+    ensures { result ≡ list_any (λ a. fits question.relation (question.age, question.write) (a, write)) ages.now.keys }
+{
+    ages.iter().any(|age| question.fits(*age, write))
+}
+
+fn is_filled(ages: &BTreeSet<u64>) -> bool
+    ensures { result ≡ list_any (λ _. true) ages.now.keys }
+{
+    !ages.is_empty()
+}

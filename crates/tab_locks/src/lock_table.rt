@@ -1,0 +1,148 @@
+ghost use Rattle.std.specs.Prelude.{◌≡◌, [], ◌∷◌, ◌++◌, is_ok, if◌then◌else◌, OnOk, OnErr, IsSome};
+ghost use Rattle.std.specs.List.{list_any};
+ghost use Rattle.std.specs.BTreeMap.{get, IsOrdered};
+ghost use Rattle.std.specs.Ordering.{nat_cmp};
+ghost use Rattle.std.specs.Str.{bytes_eq};
+ghost use Rattle.tab_model.specs.Ages.{covers_own, without};
+ghost use Rattle.tab_locks.specs.Plain.{lock_of};
+ghost use Rattle.tab_locks.specs.Members.{HasMore, SameMembers, Drops};
+ghost use Rattle.tab_locks.specs.Placed.{placed, listed, is_of, conflict_with};
+
+use crate::index::Index;
+use crate::question::Relation;
+use std::alloc::{AllocError, Global};
+use std::collections::BTreeMap;
+use std::marker::Model;
+use tab_model::Lock;
+use tab_term::Atom;
+
+/// Whose locks a request conflicts with.
+#[derive(Clone, Copy, Debug, PartialEq, Eq)]
+pub enum Conflict {
+    Free,
+    WithYounger,
+    WithOlder,
+}
+
+/// The locks that are held, each under the age of its owner.
+#[derive(Drop)]
+pub struct LockTable {
+    alloc: Global,
+    owners: BTreeMap<u64, Vec<Lock>>,
+    index: Index,
+}
+
+impl Model for LockTable {
+    ghost use Rattle.std.specs.Prelude.{List};
+    ghost use Rattle.std.specs.Coded.{codes};
+    ghost use Rattle.tab_term.specs.Code.{term_code};
+    ghost use Rattle.tab_model.specs.Ages.{Owned};
+    ghost use Rattle.tab_locks.specs.Placed.{listed, IsIndexed};
+
+    ghost Value = { List Owned };
+
+    ghost coded = { Prim.hlevel (codes, term_code) };
+
+    ghost view = { λ a. listed a.owners.entries };
+
+    ghost invariant = { λ a. IsIndexed a.owners a.index };
+}
+
+impl LockTable {
+    pub fn new(alloc: Global) -> LockTable
+        ensures { result ≡ [] }
+    {
+        LockTable {
+            alloc,
+            owners: BTreeMap::new(alloc),
+            index: Index::new(alloc),
+        }
+    }
+
+    /// Whether a lock that this owner holds serves for this one. It takes no memory.
+    pub fn covered(&self, age: u64, lock: &Lock) -> bool
+        ensures { result ≡ list_any (covers_own (age, lock_of lock.now)) self.now }
+    {
+        self.index.any(Relation::Covering, age, lock)
+    }
+
+    /// Whether this lock conflicts with one of another owner, and if so, whether with an older one's. It takes no memory.
+    pub fn conflicts(&self, age: u64, lock: &Lock) -> Conflict
+        ensures { result ≡ conflict_with (age, lock_of lock.now) self.now }
+    {
+        if !self.index.any(Relation::Opposing, age, lock) {
+            Conflict::Free
+        } else if self.index.any(Relation::Blocking, age, lock) {
+            Conflict::WithOlder
+        } else {
+            Conflict::WithYounger
+        }
+    }
+
+    /// Whether some lock is on this table, or on a key of it.
+    pub fn is_locked(&self, table: &Atom) -> bool
+        ensures { result ≡ list_any (λ x. bytes_eq table.now (x.1).table) self.now }
+    {
+        self.index.is_locked(table)
+    }
+
+    /// Holds a lock once more, also one that is held already.
+    pub fn hold(&mut self, age: u64, lock: Lock) -> Result<(), AllocError>
+        ensures ok { OnOk result (self.new ≡ placed (age, lock_of lock) self.old) }
+        ensures err { OnErr result (self.new ≡ self.old) }
+    {
+        open(&mut self.owners, self.alloc, age)?;
+        match self.owners.get_mut(&age) {
+            Some(locks) => keep(locks, &mut self.index, self.alloc, age, lock),
+            None => unreachable!(),
+        }
+    }
+
+    /// Gives all locks of an owner back. It takes no memory.
+    pub fn release_all(&mut self, age: u64)
+        ensures { self.new ≡ without age self.old }
+    {
+        if let Some(locks) = self.owners.remove(&age) {
+            release(&mut self.index, age, &locks);
+        }
+    }
+}
+
+/// Sees to it that this owner has a list, if only an empty one.
+fn open(owners: &mut BTreeMap<u64, Vec<Lock>>, alloc: Global, age: u64) -> Result<(), AllocError>
+    requires { IsOrdered nat_cmp owners.old }
+    ensures listed { listed owners.new.entries ≡ listed owners.old.entries }
+    ensures ordered { IsOrdered nat_cmp owners.new }
+    ensures there { OnOk result (IsSome (get nat_cmp owners.new age)) }
+{
+    if !owners.contains_key(&age) {
+        owners.insert(age, Vec::new(alloc))?;
+    }
+    Ok(())
+}
+
+/// Room comes first, so that nothing is to be undone where memory is refused.
+fn keep(
+    locks: &mut Vec<Lock>,
+    index: &mut Index,
+    alloc: Global,
+    age: u64,
+    lock: Lock,
+) -> Result<(), AllocError>
+    ensures locks { locks.new.items ≡ (if is_ok result then locks.old.items ++ lock ∷ [] else locks.old.items) }
+    ensures ok { OnOk result (HasMore (age, lock_of lock) index.old index.new) }
+    ensures err { OnErr result (SameMembers index.old index.new) }
+{
+    locks.reserve(1)?;
+    index.add(alloc, age, &lock)?;
+    locks.push(lock)?;
+    Ok(())
+}
+
+fn release(index: &mut Index, age: u64, locks: &[Lock])
+    ensures { Drops (is_of age locks.now) index.old index.new }
+{
+    for lock in locks {
+        index.remove(age, lock);
+    }
+}

@@ -1,0 +1,4 @@
+pub mod Rising
+pub mod Deciding
+pub mod Places
+pub mod Retrying

@@ -1,0 +1,18 @@
+-- The queued requests as definitions speak of them.
+use Rattle.std.specs.Prelude.{ℕ, List, Bool, map}
+use Rattle.std.specs.Str.{bytes_eq}
+use Rattle.tab_model.specs.Ages.{Owned, Ages}
+use Rattle.tab_locks.specs.Plain.{lock_of}
+use Rattle.tab_waitdie.specs.declared.waiting.Waiting.{Waiting}
+
+abbrev pub owned : Waiting → Owned
+owned w = (w.age, lock_of w.lock)
+
+abbrev pub queued : List Waiting → List Owned
+queued ws = map owned ws
+
+abbrev pub ages_of : List Owned → List Waiting → Ages
+ages_of held ws = record { held = held; queue = queued ws }
+
+abbrev pub is_on : List ℕ → Owned → Bool
+is_on table x = bytes_eq table (x.1).table

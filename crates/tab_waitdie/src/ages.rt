@@ -1,0 +1,171 @@
+ghost use Rattle.std.specs.Prelude.{◌≡◌, ◌<◌, ◌∷◌, ◌++◌, ℕ, List, [], None, IfOk, IfSome, IsSome, OnErr, is_some, length, not, slice_index_or, take};
+ghost use Rattle.std.specs.List.{list_any};
+ghost use Rattle.tab_model.specs.Ages.{Ages as ages_record, Chain, all_of, can_retry, decide as decision, forget as forgotten, last_of, opposes, request_of, without};
+ghost use Rattle.tab_locks.specs.Plain.{lock_of};
+ghost use Rattle.tab_waitdie.specs.Queue.{is_on, owned, queued};
+ghost use Rattle.tab_waitdie.specs.Answers.{answer_of, after_answer, is_granted, after_retried, ages, answer_to as answer_by};
+
+use crate::waiting::{
+    Waiting, any_opposing, conflicts_in, copy_of, drop_requests, is_awaited, is_queued, place_of,
+};
+use std::alloc::{AllocError, Global};
+use std::marker::Model;
+use tab_locks::{Conflict, LockTable};
+use tab_model::Lock;
+use tab_term::Atom;
+
+/// What is answered to a request.
+#[derive(Clone, Copy, Debug, PartialEq, Eq)]
+pub enum Answer {
+    Granted,
+    Wait,
+    Die,
+}
+
+/// What is answered to a retry.
+#[derive(Clone, Copy, Debug, PartialEq, Eq)]
+pub enum Retried {
+    Granted,
+    Wait,
+}
+
+/// Who holds locks, and who waits for one, each by its age.
+#[derive(Drop)]
+pub struct Ages {
+    alloc: Global,
+    locks: LockTable,
+    queue: Vec<Waiting>,
+}
+
+impl Model for Ages {
+    ghost use Rattle.std.specs.Coded.{codes};
+    ghost use Rattle.tab_term.specs.Code.{term_code};
+    ghost use Rattle.tab_model.specs.Ages.{Ages as ages_record, Rises};
+    ghost use Rattle.tab_waitdie.specs.Queue.{ages_of};
+
+    ghost Value = { ages_record };
+
+    ghost coded = { Prim.hlevel (codes, term_code) };
+
+    ghost view = { λ a. ages_of a.locks a.queue.items };
+
+    ghost invariant = { λ a. Rises (ages_of a.locks a.queue.items) };
+}
+
+impl Ages {
+    pub fn new(alloc: Global) -> Ages
+        ensures { result ≡ ages [] [] }
+    {
+        Ages {
+            alloc,
+            locks: LockTable::new(alloc),
+            queue: Vec::new(alloc),
+        }
+    }
+
+    /// Whether a request of this age is queued.
+    pub fn waits(&self, age: u64) -> bool
+        ensures { result ≡ is_some (request_of age self.now.queue) }
+    {
+        is_queued(&self.queue, age)
+    }
+
+    /// A granted lock is held once more, also where one of its own covers it; a request that waits is queued; who dies
+    /// keeps what it holds.
+    pub fn request(&mut self, age: u64, lock: Lock) -> Result<Answer, AllocError>
+        requires { request_of age self.old.queue ≡ None }
+        ensures answer { IfOk result (λ a. answer_of a ≡ decision self.old (age, lock_of lock)) }
+        ensures after { IfOk result (λ a. self.new ≡ after_answer self.old (age, lock_of lock) a) }
+        ensures err { OnErr result (self.new ≡ self.old) }
+    {
+        let answer = self.decide(age, &lock);
+        match answer {
+            Answer::Granted => self.locks.hold(age, lock)?,
+            Answer::Wait => self.queue.push(Waiting { age, lock })?,
+            Answer::Die => drop(lock),
+        }
+        Ok(answer)
+    }
+
+    fn decide(&self, age: u64, lock: &Lock) -> Answer
+        ensures { answer_of result ≡ decision self.now (age, lock_of lock.now) }
+    {
+        if self.locks.covered(age, lock) {
+            return Answer::Granted;
+        }
+        answer_to(
+            self.locks.conflicts(age, lock),
+            conflicts_in(&self.queue, age, lock),
+        )
+    }
+
+    /// Asks again for a queued request. It looks at the held locks and at the requests queued before it.
+    pub fn retry(&mut self, age: u64) -> Result<Retried, AllocError>
+        requires { IsSome (request_of age self.old.queue) }
+        ensures answer { IfSome (request_of age self.old.queue) (λ r. IfOk result (λ a. is_granted a ≡ can_retry self.old r)) }
+        ensures after { IfSome (request_of age self.old.queue) (λ r. IfOk result (λ a. self.new ≡ after_retried self.old r a)) }
+        ensures err { OnErr result (self.new ≡ self.old) }
+    {
+        let queue = &mut self.queue;
+        let at = place_of(queue, age);
+        if !is_free(&self.locks, queue, at) {
+            return Ok(Retried::Wait);
+        }
+        let lock = copy_of(self.alloc, &queue[at].lock)?;
+        self.locks.hold(age, lock)?;
+        drop_requests(queue, age);
+        Ok(Retried::Granted)
+    }
+
+    /// Takes a queued request away, if there is one, and nothing else.
+    pub fn drop_wait(&mut self, age: u64)
+        ensures { self.new ≡ ages self.old.held (without age self.old.queue) }
+    {
+        drop_requests(&mut self.queue, age);
+    }
+
+    /// Takes an owner's locks and its queued request away.
+    pub fn forget(&mut self, owner: u64)
+        ensures { self.new ≡ forgotten self.old owner }
+    {
+        self.locks.release_all(owner);
+        drop_requests(&mut self.queue, owner);
+    }
+
+    /// Whether some held or queued lock is on this table.
+    pub fn busy(&self, table: &Atom) -> bool
+        ensures { result ≡ list_any (is_on table.now) (all_of self.now) }
+    {
+        self.locks.is_locked(table) || is_awaited(&self.queue, table)
+    }
+}
+
+fn answer_to(held: Conflict, queued: Conflict) -> Answer
+    ensures { result ≡ answer_by held queued }
+{
+    match (held, queued) {
+        (Conflict::Free, Conflict::Free) => Answer::Granted,
+        (Conflict::WithOlder, _) | (_, Conflict::WithOlder) => Answer::Die,
+        _ => Answer::Wait,
+    }
+}
+
+/// Whether no other owner holds, or asked before it for, what conflicts with the request at this place.
+fn is_free(locks: &LockTable, queue: &[Waiting], at: usize) -> bool
+    requires { at < length queue.now }
+    ensures { (d : Waiting) → let r = owned (slice_index_or queue.now at d) in result ≡ not (list_any (opposes r) (locks.now ++ queued (take at queue.now))) }
+{
+    let waiting = &queue[at];
+    match locks.conflicts(waiting.age, &waiting.lock) {
+        Conflict::Free => !any_opposing(&queue[..at], waiting.age, &waiting.lock),
+        Conflict::WithYounger | Conflict::WithOlder => false,
+    }
+}
+
+/// A law: no chain of waits leads back to where it began, since the age rises along each. The body names a field, for that
+/// is what lets a proof know the type's invariant.
+pub fn no_chain_of_waits_leads_back(ages: &Ages)
+    ensures { (a b : ℕ) (bs : List ℕ) → Chain ages.now a (b ∷ bs) → a < last_of b bs }
+{
+    let _ = &ages.locks;
+}
