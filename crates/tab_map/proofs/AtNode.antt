@@ -15,7 +15,7 @@ pub record IsNode {K V : Type 0} (cmp : K → K → Ordering) (d l : List (K × 
   pub sorted : Ascends cmp (l ++ e ∷ r)
 
 module _ {K V : Type 0} where
-  pub is_node : (cmp : K → K → Ordering) {root : Tree K V} {d : List (K × V)} {f : _} → entries root ≡ d → Ascends cmp (entries root) → root ≡ Node f → IsNode cmp d f.value.left f.value.entry.value f.value.right
+  pub is_node : (cmp : K → K → Ordering) {root : Tree K V} {d : List (K × V)} {f : _} → entries root ≡ d → Ascends cmp (entries root) → root ≡ Node f → IsNode cmp d f.value.left f.value.entry f.value.right
   is_node cmp {root} {d} {f} view_is sorted is = record { is = sym view_is ∙ ap entries is; sorted = subst (Ascends cmp) (ap entries is) sorted }
 
 module _ {K V : Type 0} {cmp : K → K → Ordering} where

@@ -2,6 +2,7 @@
 ghost use Rattle.std.specs.Prelude.{◌≡◌, ◌∷◌, ◌++◌, [], IfOk, OnOk, OnErr};
 ghost use Rattle.tab_map.specs.Entries.{Ascends, insert_entry, remove_entry};
 
+use crate::entry::Entry;
 use crate::{Map, Node, Tree};
 use std::alloc::{AllocError, Global};
 use std::cmp::Ordering;
@@ -14,7 +15,7 @@ impl<K: Ord + Drop, V: Drop> Map<K, V> {
         ensures ok { OnOk result (self.new ≡ insert_entry K.cmp (key, value) self.old) }
         ensures err { OnErr result (self.new ≡ self.old) }
     {
-        let entry = Arc::new(alloc, (key, value))?;
+        let entry = Entry::new(alloc, (key, value))?;
         self.put(alloc, entry)?;
         Ok(())
     }
@@ -30,8 +31,8 @@ impl<K: Ord + Drop, V: Drop> Map<K, V> {
 
     // The answer is whether the height has changed, as it is of `take`.
     #[cycle(put)]
-    fn put(&mut self, alloc: Global, entry: Arc<(K, V), Global>) -> Result<bool, AllocError>
-        ensures ok { OnOk result (self.new ≡ insert_entry K.cmp entry.value self.old) }
+    fn put(&mut self, alloc: Global, entry: Entry<K, V>) -> Result<bool, AllocError>
+        ensures ok { OnOk result (self.new ≡ insert_entry K.cmp entry self.old) }
         ensures err { OnErr result (self.new ≡ self.old) }
     {
         let before = self.height();
@@ -58,13 +59,13 @@ impl<K: Ord + Drop, V: Drop> Map<K, V> {
     fn put_under(
         alloc: Global,
         node: &mut Node<K, V>,
-        entry: Arc<(K, V), Global>,
+        entry: Entry<K, V>,
     ) -> Result<bool, AllocError>
-        requires { Ascends K.cmp (node.old.left ++ node.old.entry.value ∷ node.old.right) }
-        ensures ok { OnOk result (node.new.left ++ node.new.entry.value ∷ node.new.right ≡ insert_entry K.cmp entry.value (node.old.left ++ node.old.entry.value ∷ node.old.right)) }
-        ensures err { OnErr result (node.new.left ++ node.new.entry.value ∷ node.new.right ≡ node.old.left ++ node.old.entry.value ∷ node.old.right) }
+        requires { Ascends K.cmp (node.old.left ++ node.old.entry ∷ node.old.right) }
+        ensures ok { OnOk result (node.new.left ++ node.new.entry ∷ node.new.right ≡ insert_entry K.cmp entry (node.old.left ++ node.old.entry ∷ node.old.right)) }
+        ensures err { OnErr result (node.new.left ++ node.new.entry ∷ node.new.right ≡ node.old.left ++ node.old.entry ∷ node.old.right) }
     {
-        match entry.0.cmp(&node.entry.0) {
+        match entry.pair().0.cmp(&node.entry.pair().0) {
             Ordering::Less => node.left.put(alloc, entry),
             Ordering::Equal => {
                 node.entry = entry;
@@ -86,7 +87,7 @@ impl<K: Ord + Drop, V: Drop> Map<K, V> {
                 let Some(node) = Arc::get_mut(node) else {
                     return Err(AllocError);
                 };
-                match key.cmp(&node.entry.0) {
+                match key.cmp(&node.entry.pair().0) {
                     Ordering::Less => {
                         if node.left.take(alloc, key)? {
                             self.rebalance(alloc);
@@ -130,7 +131,7 @@ impl<K: Ord + Drop, V: Drop> Map<K, V> {
             Tree::Node(node) => Map::balanced(
                 alloc,
                 node.left.share()?,
-                Arc::try_clone(&node.entry)?,
+                node.entry.try_clone()?,
                 node.right.share()?,
             ),
         }
@@ -139,7 +140,7 @@ impl<K: Ord + Drop, V: Drop> Map<K, V> {
     // The same node, copied where it is shared.
     fn own(alloc: Global, node: &mut Arc<Node<K, V>, Global>) -> Result<(), AllocError>
         ensures left { node.new.value.left ≡ node.old.value.left }
-        ensures entry { node.new.value.entry.value ≡ node.old.value.entry.value }
+        ensures entry { node.new.value.entry ≡ node.old.value.entry }
         ensures right { node.new.value.right ≡ node.old.value.right }
     {
         if Arc::strong_count(node) == 1 {
@@ -147,7 +148,7 @@ impl<K: Ord + Drop, V: Drop> Map<K, V> {
         }
         let copy = Node {
             left: node.left.share()?,
-            entry: Arc::try_clone(&node.entry)?,
+            entry: node.entry.try_clone()?,
             height: node.height,
             right: node.right.share()?,
         };

@@ -12,6 +12,7 @@ ghost use Rattle.std.specs.Prelude.{◌≡◌, ◌↔◌, ◌≤◌, [], ◌∷�
 ghost use Rattle.std.specs.Option.{option_copied};
 ghost use Rattle.tab_map.specs.Entries.{Ascends, lookup, insert_entry, remove_entry, entries_from, entries_above};
 
+mod entry;
 mod in_place;
 mod iter;
 mod set;
@@ -20,6 +21,7 @@ mod tests;
 
 pub use iter::Iter;
 pub use set::{Keys, Set};
+use entry::Entry;
 use std::alloc::{AllocError, Global};
 use std::cmp::Ordering;
 use std::marker::Model;
@@ -38,12 +40,11 @@ enum Tree<K: Ord, V> {
     Node(Arc<Node<K, V>, Global>),
 }
 
-// The entry has an `Arc` of its own, so that a copy of the node copies neither key nor value.
 #[cycle(tree)]
 #[derive(Drop)]
 struct Node<K: Ord, V> {
     left: Map<K, V>,
-    entry: Arc<(K, V), Global>,
+    entry: Entry<K, V>,
     height: u8,
     right: Map<K, V>,
 }
@@ -111,7 +112,7 @@ impl<K: Ord + Drop, V: Drop> Map<K, V> {
             unreachable!()
         };
         let left = Map::from_last(alloc, entries, (count - 1) / 2)?;
-        Map::node(alloc, left, Arc::new(alloc, entry)?, right)
+        Map::node(alloc, left, Entry::new(alloc, entry)?, right)
     }
 
     /// The same map, in constant time. It allocates nothing: the error is a count of owners that is full, at 2^63.
@@ -143,9 +144,9 @@ impl<K: Ord + Drop, V: Drop> Map<K, V> {
     {
         match &self.root {
             Tree::Leaf => None,
-            Tree::Node(node) => match key.cmp(&node.entry.0) {
+            Tree::Node(node) => match key.cmp(&node.entry.pair().0) {
                 Ordering::Less => node.left.get(key),
-                Ordering::Equal => Some(&node.entry.1),
+                Ordering::Equal => Some(&node.entry.pair().1),
                 Ordering::Greater => node.right.get(key),
             },
         }
@@ -166,7 +167,7 @@ impl<K: Ord + Drop, V: Drop> Map<K, V> {
         match &self.root {
             Tree::Leaf => None,
             Tree::Node(node) => match node.left.first() {
-                None => Some(&node.entry),
+                None => Some(node.entry.pair()),
                 found => found,
             },
         }
@@ -179,12 +180,12 @@ impl<K: Ord + Drop, V: Drop> Map<K, V> {
     {
         match &self.root {
             Tree::Leaf => None,
-            Tree::Node(node) => match key.cmp(&node.entry.0) {
+            Tree::Node(node) => match key.cmp(&node.entry.pair().0) {
                 Ordering::Less => match node.left.first_from(key) {
-                    None => Some(&node.entry),
+                    None => Some(node.entry.pair()),
                     found => found,
                 },
-                Ordering::Equal => Some(&node.entry),
+                Ordering::Equal => Some(node.entry.pair()),
                 Ordering::Greater => node.right.first_from(key),
             },
         }
@@ -197,9 +198,9 @@ impl<K: Ord + Drop, V: Drop> Map<K, V> {
     {
         match &self.root {
             Tree::Leaf => None,
-            Tree::Node(node) => match key.cmp(&node.entry.0) {
+            Tree::Node(node) => match key.cmp(&node.entry.pair().0) {
                 Ordering::Less => match node.left.first_above(key) {
-                    None => Some(&node.entry),
+                    None => Some(node.entry.pair()),
                     found => found,
                 },
                 Ordering::Equal => node.right.first(),
@@ -218,11 +219,11 @@ impl<K: Ord + Drop, V: Drop> Map<K, V> {
     fn node(
         alloc: Global,
         left: Map<K, V>,
-        entry: Arc<(K, V), Global>,
+        entry: Entry<K, V>,
         right: Map<K, V>,
     ) -> Result<Map<K, V>, AllocError>
-        requires { Ascends K.cmp (left ++ entry.value ∷ right) }
-        ensures { IfOk result (λ m. m ≡ left ++ entry.value ∷ right) }
+        requires { Ascends K.cmp (left ++ entry ∷ right) }
+        ensures { IfOk result (λ m. m ≡ left ++ entry ∷ right) }
     {
         let height = left.height().max(right.height()).saturating_add(1);
         let node = Arc::new(
@@ -243,11 +244,11 @@ impl<K: Ord + Drop, V: Drop> Map<K, V> {
     fn balanced(
         alloc: Global,
         left: Map<K, V>,
-        entry: Arc<(K, V), Global>,
+        entry: Entry<K, V>,
         right: Map<K, V>,
     ) -> Result<Map<K, V>, AllocError>
-        requires { Ascends K.cmp (left ++ entry.value ∷ right) }
-        ensures { IfOk result (λ m. m ≡ left ++ entry.value ∷ right) }
+        requires { Ascends K.cmp (left ++ entry ∷ right) }
+        ensures { IfOk result (λ m. m ≡ left ++ entry ∷ right) }
     {
         if left.height() > right.height().saturating_add(1) {
             Map::lean_left(alloc, left, entry, right)
@@ -261,11 +262,11 @@ impl<K: Ord + Drop, V: Drop> Map<K, V> {
     fn lean_left(
         alloc: Global,
         left: Map<K, V>,
-        entry: Arc<(K, V), Global>,
+        entry: Entry<K, V>,
         right: Map<K, V>,
     ) -> Result<Map<K, V>, AllocError>
-        requires { Ascends K.cmp (left ++ entry.value ∷ right) }
-        ensures { IfOk result (λ m. m ≡ left ++ entry.value ∷ right) }
+        requires { Ascends K.cmp (left ++ entry ∷ right) }
+        ensures { IfOk result (λ m. m ≡ left ++ entry ∷ right) }
     {
         let Tree::Node(outer) = &left.root else {
             return Map::node(alloc, left, entry, right);
@@ -282,11 +283,11 @@ impl<K: Ord + Drop, V: Drop> Map<K, V> {
     fn lean_right(
         alloc: Global,
         left: Map<K, V>,
-        entry: Arc<(K, V), Global>,
+        entry: Entry<K, V>,
         right: Map<K, V>,
     ) -> Result<Map<K, V>, AllocError>
-        requires { Ascends K.cmp (left ++ entry.value ∷ right) }
-        ensures { IfOk result (λ m. m ≡ left ++ entry.value ∷ right) }
+        requires { Ascends K.cmp (left ++ entry ∷ right) }
+        ensures { IfOk result (λ m. m ≡ left ++ entry ∷ right) }
     {
         let Tree::Node(outer) = &right.root else {
             return Map::node(alloc, left, entry, right);
@@ -303,17 +304,17 @@ impl<K: Ord + Drop, V: Drop> Map<K, V> {
     fn single_right(
         alloc: Global,
         left: Map<K, V>,
-        entry: Arc<(K, V), Global>,
+        entry: Entry<K, V>,
         outer: &Node<K, V>,
     ) -> Result<Map<K, V>, AllocError>
-        requires { Ascends K.cmp (left ++ entry.value ∷ (outer.now.left ++ outer.now.entry.value ∷ outer.now.right)) }
-        ensures { IfOk result (λ m. m ≡ left ++ entry.value ∷ (outer.now.left ++ outer.now.entry.value ∷ outer.now.right)) }
+        requires { Ascends K.cmp (left ++ entry ∷ (outer.now.left ++ outer.now.entry ∷ outer.now.right)) }
+        ensures { IfOk result (λ m. m ≡ left ++ entry ∷ (outer.now.left ++ outer.now.entry ∷ outer.now.right)) }
     {
         let left = Map::node(alloc, left, entry, outer.left.share()?)?;
         Map::node(
             alloc,
             left,
-            Arc::try_clone(&outer.entry)?,
+            outer.entry.try_clone()?,
             outer.right.share()?,
         )
     }
@@ -321,37 +322,37 @@ impl<K: Ord + Drop, V: Drop> Map<K, V> {
     fn double_right(
         alloc: Global,
         left: Map<K, V>,
-        entry: Arc<(K, V), Global>,
+        entry: Entry<K, V>,
         outer: &Node<K, V>,
         middle: &Node<K, V>,
     ) -> Result<Map<K, V>, AllocError>
-        requires { Ascends K.cmp (left ++ entry.value ∷ (middle.now.left ++ middle.now.entry.value ∷ (middle.now.right ++ outer.now.entry.value ∷ outer.now.right))) }
-        ensures { IfOk result (λ m. m ≡ left ++ entry.value ∷ (middle.now.left ++ middle.now.entry.value ∷ (middle.now.right ++ outer.now.entry.value ∷ outer.now.right))) }
+        requires { Ascends K.cmp (left ++ entry ∷ (middle.now.left ++ middle.now.entry ∷ (middle.now.right ++ outer.now.entry ∷ outer.now.right))) }
+        ensures { IfOk result (λ m. m ≡ left ++ entry ∷ (middle.now.left ++ middle.now.entry ∷ (middle.now.right ++ outer.now.entry ∷ outer.now.right))) }
     {
         let right = Map::node(
             alloc,
             middle.right.share()?,
-            Arc::try_clone(&outer.entry)?,
+            outer.entry.try_clone()?,
             outer.right.share()?,
         )?;
         let left = Map::node(alloc, left, entry, middle.left.share()?)?;
-        Map::node(alloc, left, Arc::try_clone(&middle.entry)?, right)
+        Map::node(alloc, left, middle.entry.try_clone()?, right)
     }
 
     fn single_left(
         alloc: Global,
         outer: &Node<K, V>,
-        entry: Arc<(K, V), Global>,
+        entry: Entry<K, V>,
         right: Map<K, V>,
     ) -> Result<Map<K, V>, AllocError>
-        requires { Ascends K.cmp (outer.now.left ++ outer.now.entry.value ∷ (outer.now.right ++ entry.value ∷ right)) }
-        ensures { IfOk result (λ m. m ≡ outer.now.left ++ outer.now.entry.value ∷ (outer.now.right ++ entry.value ∷ right)) }
+        requires { Ascends K.cmp (outer.now.left ++ outer.now.entry ∷ (outer.now.right ++ entry ∷ right)) }
+        ensures { IfOk result (λ m. m ≡ outer.now.left ++ outer.now.entry ∷ (outer.now.right ++ entry ∷ right)) }
     {
         let right = Map::node(alloc, outer.right.share()?, entry, right)?;
         Map::node(
             alloc,
             outer.left.share()?,
-            Arc::try_clone(&outer.entry)?,
+            outer.entry.try_clone()?,
             right,
         )
     }
@@ -360,42 +361,42 @@ impl<K: Ord + Drop, V: Drop> Map<K, V> {
         alloc: Global,
         outer: &Node<K, V>,
         middle: &Node<K, V>,
-        entry: Arc<(K, V), Global>,
+        entry: Entry<K, V>,
         right: Map<K, V>,
     ) -> Result<Map<K, V>, AllocError>
-        requires { Ascends K.cmp (outer.now.left ++ outer.now.entry.value ∷ (middle.now.left ++ middle.now.entry.value ∷ (middle.now.right ++ entry.value ∷ right))) }
-        ensures { IfOk result (λ m. m ≡ outer.now.left ++ outer.now.entry.value ∷ (middle.now.left ++ middle.now.entry.value ∷ (middle.now.right ++ entry.value ∷ right))) }
+        requires { Ascends K.cmp (outer.now.left ++ outer.now.entry ∷ (middle.now.left ++ middle.now.entry ∷ (middle.now.right ++ entry ∷ right))) }
+        ensures { IfOk result (λ m. m ≡ outer.now.left ++ outer.now.entry ∷ (middle.now.left ++ middle.now.entry ∷ (middle.now.right ++ entry ∷ right))) }
     {
         let right = Map::node(alloc, middle.right.share()?, entry, right)?;
         let left = Map::node(
             alloc,
             outer.left.share()?,
-            Arc::try_clone(&outer.entry)?,
+            outer.entry.try_clone()?,
             middle.left.share()?,
         )?;
-        Map::node(alloc, left, Arc::try_clone(&middle.entry)?, right)
+        Map::node(alloc, left, middle.entry.try_clone()?, right)
     }
 
     /// The map with this value at the key: in place of the value there, or as a new entry.
     pub fn inserted(&self, alloc: Global, key: K, value: V) -> Result<Map<K, V>, AllocError>
         ensures { IfOk result (λ m. m ≡ insert_entry K.cmp (key, value) self.now) }
     {
-        let entry = Arc::new(alloc, (key, value))?;
+        let entry = Entry::new(alloc, (key, value))?;
         self.with_entry(alloc, entry)
     }
 
-    fn with_entry(&self, alloc: Global, entry: Arc<(K, V), Global>) -> Result<Map<K, V>, AllocError>
-        ensures { IfOk result (λ m. m ≡ insert_entry K.cmp entry.value self.now) }
+    fn with_entry(&self, alloc: Global, entry: Entry<K, V>) -> Result<Map<K, V>, AllocError>
+        ensures { IfOk result (λ m. m ≡ insert_entry K.cmp entry self.now) }
     {
         match &self.root {
             Tree::Leaf => Map::node(alloc, Map::new(), entry, Map::new()),
-            Tree::Node(node) => match entry.0.cmp(&node.entry.0) {
+            Tree::Node(node) => match entry.pair().0.cmp(&node.entry.pair().0) {
                 Ordering::Less => {
                     let left = node.left.with_entry(alloc, entry)?;
                     Map::balanced(
                         alloc,
                         left,
-                        Arc::try_clone(&node.entry)?,
+                        node.entry.try_clone()?,
                         node.right.share()?,
                     )
                 }
@@ -405,7 +406,7 @@ impl<K: Ord + Drop, V: Drop> Map<K, V> {
                     Map::balanced(
                         alloc,
                         node.left.share()?,
-                        Arc::try_clone(&node.entry)?,
+                        node.entry.try_clone()?,
                         right,
                     )
                 }
@@ -419,13 +420,13 @@ impl<K: Ord + Drop, V: Drop> Map<K, V> {
     {
         match &self.root {
             Tree::Leaf => Ok(Map::new()),
-            Tree::Node(node) => match key.cmp(&node.entry.0) {
+            Tree::Node(node) => match key.cmp(&node.entry.pair().0) {
                 Ordering::Less => {
                     let left = node.left.removed(alloc, key)?;
                     Map::balanced(
                         alloc,
                         left,
-                        Arc::try_clone(&node.entry)?,
+                        node.entry.try_clone()?,
                         node.right.share()?,
                     )
                 }
@@ -435,7 +436,7 @@ impl<K: Ord + Drop, V: Drop> Map<K, V> {
                     Map::balanced(
                         alloc,
                         node.left.share()?,
-                        Arc::try_clone(&node.entry)?,
+                        node.entry.try_clone()?,
                         right,
                     )
                 }
@@ -456,18 +457,18 @@ impl<K: Ord + Drop, V: Drop> Map<K, V> {
     fn split_first(
         &self,
         alloc: Global,
-    ) -> Result<Option<(Arc<(K, V), Global>, Map<K, V>)>, AllocError>
-        ensures { IfOk result (λ o. MatchOption o (self.now ≡ []) (λ p. self.now ≡ p.0.value ∷ p.1)) }
+    ) -> Result<Option<(Entry<K, V>, Map<K, V>)>, AllocError>
+        ensures { IfOk result (λ o. MatchOption o (self.now ≡ []) (λ p. self.now ≡ p.0 ∷ p.1)) }
     {
         match &self.root {
             Tree::Leaf => Ok(None),
             Tree::Node(node) => match node.left.split_first(alloc)? {
-                None => Ok(Some((Arc::try_clone(&node.entry)?, node.right.share()?))),
+                None => Ok(Some((node.entry.try_clone()?, node.right.share()?))),
                 Some((first, rest)) => {
                     let rest = Map::balanced(
                         alloc,
                         rest,
-                        Arc::try_clone(&node.entry)?,
+                        node.entry.try_clone()?,
                         node.right.share()?,
                     )?;
                     Ok(Some((first, rest)))
