@@ -45,7 +45,7 @@ module _ {K V : Type 0} (cmp : K → K → Ordering) where
     is = p ∙ ap (λ z. z ++ e ∷ right) f.is ∙ append_assoc f.before f.after (e ∷ right);
     count = f.count;
     past = f.past;
-    up_to = up_to_join k f.after e right f.up_to h
+    up_to = up_to_join k f.after e right f.up_to h;
   }
 
 module _ {K V : Type 0} {cmp : K → K → Ordering} (o : IsTotalOrder cmp) where
@@ -60,7 +60,7 @@ module _ {K V : Type 0} {cmp : K → K → Ordering} (o : IsTotalOrder cmp) wher
     is = p ∙ ap (λ z. left ++ e ∷ z) f.is ∙ sym (append_assoc left (e ∷ f.before) f.after);
     count = omega (arith, length-append left (e ∷ f.before), f.count);
     past = past_join cmp k left (e ∷ f.before) (past_before k left e right (subst (Ascends cmp) p s) (λ q. cc)) (h, f.past);
-    up_to = f.up_to
+    up_to = f.up_to;
   }
 
 -- at the seam of two rows

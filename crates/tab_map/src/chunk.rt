@@ -52,7 +52,7 @@ pub fn get<'a, K: Ord + Drop, V: Drop>(items: &'a [Entry<K, V>], key: &K) -> Opt
     }
 }
 
-fn pair_at<'a, K: Ord + Drop, V: Drop>(items: &'a [Entry<K, V>], n: usize) -> Option<&'a (K, V)>
+pub fn pair_at<'a, K: Ord + Drop, V: Drop>(items: &'a [Entry<K, V>], n: usize) -> Option<&'a (K, V)>
     ensures { option_copied result ≡ slice_get items.now n }
 {
     Some(items.get(n)?.pair())

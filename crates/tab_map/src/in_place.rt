@@ -3,10 +3,13 @@ ghost use Rattle.std.specs.Prelude.{◌≡◌, ◌∷◌, ◌++◌, [], IfOk, On
 ghost use Rattle.tab_map.specs.Entries.{Ascends, insert_entry, remove_entry};
 
 use crate::entry::Entry;
-use crate::{Map, Node, Tree};
+use crate::{Map, Node, Tree, chunk};
 use std::alloc::{AllocError, Global};
 use std::cmp::Ordering;
 use std::sync::Arc;
+
+// The most entries in a row. A search in it touches few lines of memory, and a copy of it is short.
+const FULL: usize = 32;
 
 impl<K: Ord + Drop, V: Drop> Map<K, V> {
     /// Puts this value at the key: in place of the value there, or as a new entry. Maps that share nodes with this
@@ -38,8 +41,15 @@ impl<K: Ord + Drop, V: Drop> Map<K, V> {
         let before = self.height();
         match &mut self.root {
             Tree::Leaf => {
-                *self = Map::node(alloc, Map::new(), entry, Map::new())?;
-                Ok(true)
+                let mut items = Vec::new(alloc);
+                items.push(entry)?;
+                self.root = Tree::Chunk(Arc::new(alloc, items)?);
+                Ok(false)
+            }
+            Tree::Chunk(items) => {
+                Map::put_in_row(alloc, items, entry)?;
+                self.halve(alloc);
+                Ok(self.height() != before)
             }
             Tree::Node(node) => {
                 Map::own(alloc, node)?;
@@ -82,6 +92,10 @@ impl<K: Ord + Drop, V: Drop> Map<K, V> {
         let before = self.height();
         match &mut self.root {
             Tree::Leaf => return Ok(false),
+            Tree::Chunk(items) => {
+                Map::take_in_row(alloc, items, key)?;
+                return Ok(false);
+            }
             Tree::Node(node) => {
                 Map::own(alloc, node)?;
                 let Some(node) = Arc::get_mut(node) else {
@@ -127,7 +141,7 @@ impl<K: Ord + Drop, V: Drop> Map<K, V> {
         ensures { IfOk result (λ m. m ≡ self.now) }
     {
         match &self.root {
-            Tree::Leaf => Ok(Map::new()),
+            Tree::Leaf | Tree::Chunk(_) => self.share(),
             Tree::Node(node) => Map::balanced(
                 alloc,
                 node.left.share()?,
@@ -135,6 +149,98 @@ impl<K: Ord + Drop, V: Drop> Map<K, V> {
                 node.right.share()?,
             ),
         }
+    }
+
+    fn put_in_row(
+        alloc: Global,
+        items: &mut Arc<Vec<Entry<K, V>>, Global>,
+        entry: Entry<K, V>,
+    ) -> Result<(), AllocError>
+        requires { Ascends K.cmp items.old.value.items }
+        ensures ok { OnOk result (items.new.value.items ≡ insert_entry K.cmp entry items.old.value.items) }
+        ensures err { OnErr result (items.new.value.items ≡ items.old.value.items) }
+    {
+        Map::own_items(alloc, items)?;
+        match Arc::get_mut(items) {
+            Some(items) => chunk::put(items, entry),
+            None => Err(AllocError),
+        }
+    }
+
+    fn take_in_row(
+        alloc: Global,
+        items: &mut Arc<Vec<Entry<K, V>>, Global>,
+        key: &K,
+    ) -> Result<(), AllocError>
+        requires { Ascends K.cmp items.old.value.items }
+        ensures ok { OnOk result (items.new.value.items ≡ remove_entry K.cmp key.now items.old.value.items) }
+        ensures err { OnErr result (items.new.value.items ≡ items.old.value.items) }
+    {
+        Map::own_items(alloc, items)?;
+        let Some(items) = Arc::get_mut(items) else {
+            return Err(AllocError);
+        };
+        chunk::take(items, key);
+        Ok(())
+    }
+
+    pub(crate) fn put_in_copy(
+        &self,
+        alloc: Global,
+        entry: Entry<K, V>,
+    ) -> Result<Map<K, V>, AllocError>
+        ensures { IfOk result (λ m. m ≡ insert_entry K.cmp entry self.now) }
+    {
+        let mut map = self.share()?;
+        map.put(alloc, entry)?;
+        Ok(map)
+    }
+
+    pub(crate) fn take_in_copy(&self, alloc: Global, key: &K) -> Result<Map<K, V>, AllocError>
+        ensures { IfOk result (λ m. m ≡ remove_entry K.cmp key.now self.now) }
+    {
+        let mut map = self.share()?;
+        map.take(alloc, key)?;
+        Ok(map)
+    }
+
+    // The same entries, where a row that is too long becomes a node between two rows. It stays long where memory for
+    // that is refused.
+    fn halve(&mut self, alloc: Global)
+        ensures { self.new ≡ self.old }
+    {
+        let Tree::Chunk(items) = &self.root else {
+            return;
+        };
+        if items.len() > FULL {
+            if let Ok(halves) = Map::halves(alloc, items.as_slice()) {
+                *self = halves;
+            }
+        }
+    }
+
+    fn halves(alloc: Global, items: &[Entry<K, V>]) -> Result<Map<K, V>, AllocError>
+        requires { Ascends K.cmp items.now }
+        ensures { IfOk result (λ m. m ≡ items.now) }
+    {
+        let (left, rest) = items.split_at(items.len() / 2);
+        let [middle, right @ ..] = rest else {
+            return Map::row(alloc, items);
+        };
+        let left = Map::row(alloc, left)?;
+        let right = Map::row(alloc, right)?;
+        Map::node(alloc, left, middle.try_clone()?, right)
+    }
+
+    fn own_items(alloc: Global, items: &mut Arc<Vec<Entry<K, V>>, Global>) -> Result<(), AllocError>
+        ensures { items.new.value.items ≡ items.old.value.items }
+    {
+        if Arc::strong_count(items) == 1 {
+            return Ok(());
+        }
+        let copies = chunk::copied(alloc, items.as_slice())?;
+        *items = Arc::new(alloc, copies)?;
+        Ok(())
     }
 
     // The same node, copied where it is shared.

@@ -20,9 +20,9 @@ mod set;
 #[cfg(test)]
 mod tests;
 
+use entry::Entry;
 pub use iter::Iter;
 pub use set::{Keys, Set};
-use entry::Entry;
 use std::alloc::{AllocError, Global};
 use std::cmp::Ordering;
 use std::marker::Model;
@@ -38,6 +38,7 @@ pub struct Map<K: Ord, V> {
 #[derive(Drop)]
 enum Tree<K: Ord, V> {
     Leaf,
+    Chunk(Arc<Vec<Entry<K, V>>, Global>),
     Node(Arc<Node<K, V>, Global>),
 }
 
@@ -122,6 +123,9 @@ impl<K: Ord + Drop, V: Drop> Map<K, V> {
     {
         match &self.root {
             Tree::Leaf => Ok(Map::new()),
+            Tree::Chunk(items) => Ok(Map {
+                root: Tree::Chunk(Arc::try_clone(items)?),
+            }),
             Tree::Node(node) => Ok(Map {
                 root: Tree::Node(Arc::try_clone(node)?),
             }),
@@ -134,6 +138,7 @@ impl<K: Ord + Drop, V: Drop> Map<K, V> {
     {
         match &self.root {
             Tree::Leaf => true,
+            Tree::Chunk(items) => items.is_empty(),
             Tree::Node(_) => false,
         }
     }
@@ -145,6 +150,7 @@ impl<K: Ord + Drop, V: Drop> Map<K, V> {
     {
         match &self.root {
             Tree::Leaf => None,
+            Tree::Chunk(items) => chunk::get(items.as_slice(), key),
             Tree::Node(node) => match key.cmp(&node.entry.pair().0) {
                 Ordering::Less => node.left.get(key),
                 Ordering::Equal => Some(&node.entry.pair().1),
@@ -167,6 +173,7 @@ impl<K: Ord + Drop, V: Drop> Map<K, V> {
     {
         match &self.root {
             Tree::Leaf => None,
+            Tree::Chunk(items) => chunk::pair_at(items.as_slice(), 0),
             Tree::Node(node) => match node.left.first() {
                 None => Some(node.entry.pair()),
                 found => found,
@@ -181,6 +188,7 @@ impl<K: Ord + Drop, V: Drop> Map<K, V> {
     {
         match &self.root {
             Tree::Leaf => None,
+            Tree::Chunk(items) => chunk::first_from(items.as_slice(), key),
             Tree::Node(node) => match key.cmp(&node.entry.pair().0) {
                 Ordering::Less => match node.left.first_from(key) {
                     None => Some(node.entry.pair()),
@@ -199,6 +207,7 @@ impl<K: Ord + Drop, V: Drop> Map<K, V> {
     {
         match &self.root {
             Tree::Leaf => None,
+            Tree::Chunk(items) => chunk::first_above(items.as_slice(), key),
             Tree::Node(node) => match key.cmp(&node.entry.pair().0) {
                 Ordering::Less => match node.left.first_above(key) {
                     None => Some(node.entry.pair()),
@@ -212,7 +221,7 @@ impl<K: Ord + Drop, V: Drop> Map<K, V> {
 
     fn height(&self) -> u8 {
         match &self.root {
-            Tree::Leaf => 0,
+            Tree::Leaf | Tree::Chunk(_) => 0,
             Tree::Node(node) => node.height,
         }
     }
@@ -238,6 +247,17 @@ impl<K: Ord + Drop, V: Drop> Map<K, V> {
         )?;
         Ok(Map {
             root: Tree::Node(node),
+        })
+    }
+
+    // A map without nodes.
+    fn row(alloc: Global, items: &[Entry<K, V>]) -> Result<Map<K, V>, AllocError>
+        requires { Ascends K.cmp items.now }
+        ensures { IfOk result (λ m. m ≡ items.now) }
+    {
+        let copies = chunk::copied(alloc, items)?;
+        Ok(Map {
+            root: Tree::Chunk(Arc::new(alloc, copies)?),
         })
     }
 
@@ -312,12 +332,7 @@ impl<K: Ord + Drop, V: Drop> Map<K, V> {
         ensures { IfOk result (λ m. m ≡ left ++ entry ∷ (outer.now.left ++ outer.now.entry ∷ outer.now.right)) }
     {
         let left = Map::node(alloc, left, entry, outer.left.share()?)?;
-        Map::node(
-            alloc,
-            left,
-            outer.entry.try_clone()?,
-            outer.right.share()?,
-        )
+        Map::node(alloc, left, outer.entry.try_clone()?, outer.right.share()?)
     }
 
     fn double_right(
@@ -350,12 +365,7 @@ impl<K: Ord + Drop, V: Drop> Map<K, V> {
         ensures { IfOk result (λ m. m ≡ outer.now.left ++ outer.now.entry ∷ (outer.now.right ++ entry ∷ right)) }
     {
         let right = Map::node(alloc, outer.right.share()?, entry, right)?;
-        Map::node(
-            alloc,
-            outer.left.share()?,
-            outer.entry.try_clone()?,
-            right,
-        )
+        Map::node(alloc, outer.left.share()?, outer.entry.try_clone()?, right)
     }
 
     fn double_left(
@@ -390,26 +400,16 @@ impl<K: Ord + Drop, V: Drop> Map<K, V> {
         ensures { IfOk result (λ m. m ≡ insert_entry K.cmp entry self.now) }
     {
         match &self.root {
-            Tree::Leaf => Map::node(alloc, Map::new(), entry, Map::new()),
+            Tree::Leaf | Tree::Chunk(_) => self.put_in_copy(alloc, entry),
             Tree::Node(node) => match entry.pair().0.cmp(&node.entry.pair().0) {
                 Ordering::Less => {
                     let left = node.left.with_entry(alloc, entry)?;
-                    Map::balanced(
-                        alloc,
-                        left,
-                        node.entry.try_clone()?,
-                        node.right.share()?,
-                    )
+                    Map::balanced(alloc, left, node.entry.try_clone()?, node.right.share()?)
                 }
                 Ordering::Equal => Map::node(alloc, node.left.share()?, entry, node.right.share()?),
                 Ordering::Greater => {
                     let right = node.right.with_entry(alloc, entry)?;
-                    Map::balanced(
-                        alloc,
-                        node.left.share()?,
-                        node.entry.try_clone()?,
-                        right,
-                    )
+                    Map::balanced(alloc, node.left.share()?, node.entry.try_clone()?, right)
                 }
             },
         }
@@ -420,26 +420,16 @@ impl<K: Ord + Drop, V: Drop> Map<K, V> {
         ensures { IfOk result (λ m. m ≡ remove_entry K.cmp key.now self.now) }
     {
         match &self.root {
-            Tree::Leaf => Ok(Map::new()),
+            Tree::Leaf | Tree::Chunk(_) => self.take_in_copy(alloc, key),
             Tree::Node(node) => match key.cmp(&node.entry.pair().0) {
                 Ordering::Less => {
                     let left = node.left.removed(alloc, key)?;
-                    Map::balanced(
-                        alloc,
-                        left,
-                        node.entry.try_clone()?,
-                        node.right.share()?,
-                    )
+                    Map::balanced(alloc, left, node.entry.try_clone()?, node.right.share()?)
                 }
                 Ordering::Equal => Map::joined(alloc, &node.left, &node.right),
                 Ordering::Greater => {
                     let right = node.right.removed(alloc, key)?;
-                    Map::balanced(
-                        alloc,
-                        node.left.share()?,
-                        node.entry.try_clone()?,
-                        right,
-                    )
+                    Map::balanced(alloc, node.left.share()?, node.entry.try_clone()?, right)
                 }
             },
         }
@@ -455,14 +445,15 @@ impl<K: Ord + Drop, V: Drop> Map<K, V> {
         }
     }
 
-    fn split_first(
-        &self,
-        alloc: Global,
-    ) -> Result<Option<(Entry<K, V>, Map<K, V>)>, AllocError>
+    fn split_first(&self, alloc: Global) -> Result<Option<(Entry<K, V>, Map<K, V>)>, AllocError>
         ensures { IfOk result (λ o. MatchOption o (self.now ≡ []) (λ p. self.now ≡ p.0 ∷ p.1)) }
     {
         match &self.root {
             Tree::Leaf => Ok(None),
+            Tree::Chunk(items) => match items.as_slice() {
+                [] => Ok(None),
+                [first, rest @ ..] => Ok(Some((first.try_clone()?, Map::row(alloc, rest)?))),
+            },
             Tree::Node(node) => match node.left.split_first(alloc)? {
                 None => Ok(Some((node.entry.try_clone()?, node.right.share()?))),
                 Some((first, rest)) => {

@@ -128,7 +128,7 @@ fn is_shared<T: Send + Sync>(_value: &T) -> bool {
 // The levels of the tree.
 fn levels<K: Ord, V>(map: &Map<K, V>) -> u8 {
     match &map.root {
-        Tree::Leaf => 0,
+        Tree::Leaf | Tree::Chunk(_) => 0,
         Tree::Node(node) => levels(&node.left)
             .max(levels(&node.right))
             .saturating_add(1),

@@ -8,15 +8,15 @@ pub returns-in-None-clause-entry : goal.returns-in-None-clause-entry
 returns-in-None-clause-entry g t c =
     let n = is_node g.K.Ord.cmp c.self.view_is c.self.invariant c.in-Node.is in
     let p : g.K.Ord.cmp c.args.key.now c.in-Node.node.value.entry.0 ≡ Less = cc in
-    let h = rw c.deref-in-Less.ensures at c.first_above.ensures.entry in
-    let first = first_of_right c.first_above.result _ c.in-Node.node.value.entry c.in-Node.node.value.right c.in-None.is h in
+    let h = rw c.deref-in-Less.ensures at c.first_above-in-Less.ensures.entry in
+    let first = first_of_right c.first_above-in-Less.result _ c.in-Node.node.value.entry c.in-Node.node.value.right c.in-None.is h in
     rw (above_less c.args.key.now n p, first, c.pair-in-None.ensures, c.deref-in-None.ensures) refl
 
 pub returns-in_default-clause-entry : goal.returns-in_default-clause-entry
 returns-in_default-clause-entry g t c =
     let n = is_node g.K.Ord.cmp c.self.view_is c.self.invariant c.in-Node.is in
     let p : g.K.Ord.cmp c.args.key.now c.in-Node.node.value.entry.0 ≡ Less = cc in
-    rw (above_less c.args.key.now n p) (first_of_left c.first_above.result _ _ c.in_default.not-None (rw c.deref-in-Less.ensures at c.first_above.ensures.entry))
+    rw (above_less c.args.key.now n p) (first_of_left c.first_above-in-Less.result _ _ c.in_default.not-None (rw c.deref-in-Less.ensures at c.first_above-in-Less.ensures.entry))
 
 pub returns-in-Equal-clause-entry : goal.returns-in-Equal-clause-entry
 returns-in-Equal-clause-entry g t c =

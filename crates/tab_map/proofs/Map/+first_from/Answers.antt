@@ -8,15 +8,15 @@ pub returns-in-None-clause-entry : goal.returns-in-None-clause-entry
 returns-in-None-clause-entry g t c =
     let n = is_node g.K.Ord.cmp c.self.view_is c.self.invariant c.in-Node.is in
     let p : g.K.Ord.cmp c.args.key.now c.in-Node.node.value.entry.0 ≡ Less = cc in
-    let h = rw c.deref-in-Less.ensures at c.first_from.ensures.entry in
-    let first = first_of_right c.first_from.result _ c.in-Node.node.value.entry c.in-Node.node.value.right c.in-None.is h in
+    let h = rw c.deref-in-Less.ensures at c.first_from-in-Less.ensures.entry in
+    let first = first_of_right c.first_from-in-Less.result _ c.in-Node.node.value.entry c.in-Node.node.value.right c.in-None.is h in
     rw (from_less c.args.key.now n p, first, c.pair-in-None.ensures, c.deref-in-None.ensures) refl
 
 pub returns-in_default-clause-entry : goal.returns-in_default-clause-entry
 returns-in_default-clause-entry g t c =
     let n = is_node g.K.Ord.cmp c.self.view_is c.self.invariant c.in-Node.is in
     let p : g.K.Ord.cmp c.args.key.now c.in-Node.node.value.entry.0 ≡ Less = cc in
-    rw (from_less c.args.key.now n p) (first_of_left c.first_from.result _ _ c.in_default.not-None (rw c.deref-in-Less.ensures at c.first_from.ensures.entry))
+    rw (from_less c.args.key.now n p) (first_of_left c.first_from-in-Less.result _ _ c.in_default.not-None (rw c.deref-in-Less.ensures at c.first_from-in-Less.ensures.entry))
 
 pub returns-in-Equal-clause-entry : goal.returns-in-Equal-clause-entry
 returns-in-Equal-clause-entry g t c =

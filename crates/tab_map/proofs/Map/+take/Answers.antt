@@ -1,5 +1,8 @@
-use Rattle.std.proofs.Common.{◌≡◌, refl, sym, ap, ◌∙◌}
+use Rattle.std.proofs.Common.{◌≡◌, refl, sym, ap, ◌∙◌, subst}
 use Rattle.std.specs.declared.cmp.Ordering.TheVariants.{Less, Equal, Greater}
+use Rattle.tab_map.specs.Entries.{Ascends}
+use Rattle.tab_map.specs.InOrder.{entries}
+use Rattle.tab_map.proofs.Order.{ascends_remove}
 use Rattle.tab_map.proofs.AtNode.{is_node, same_node, removed_less, removed_equal, removed_greater}
 use Rattle.tab_map.proofs.Map.+take.Goals.{in-Less+in_ok-take-in-Less+then-branch, in-Less+in_ok-take-in-Less+else-branch, in-Equal+in_ok-self-inside-in-Equal, in-Greater+in_ok-take-in-Greater+then-branch-2, in-Greater+in_ok-take-in-Greater+else-branch-2}
 use Rattle.tab_map.proofs.Map.+take.Goals as goal
@@ -17,6 +20,11 @@ invariant_of-self-else-branch g t c =
     let p : g.K.Ord.cmp c.args.key.now c.in-Some.node.now.entry.0 ≡ Less = cc in
     let h = removed_less g.met.K.Ord.total c.args.key.now f p in
     (same_node h c.in_ok-take-in-Less.ensures.ok refl refl).sorted
+
+pub invariant_of-self-in-Chunk : goal.invariant_of-self-in-Chunk
+invariant_of-self-in-Chunk g t c =
+    let s = subst (Ascends g.K.Ord.cmp) (ap entries c.in-Chunk.is) c.self.invariant in
+    subst (Ascends g.K.Ord.cmp) (sym c.in_ok-take_in_row-in-Chunk.ensures.ok) (ascends_remove g.K.Ord.cmp c.args.key.now _ s)
 
 pub joined-requires : goal.joined-requires
 joined-requires g t c =

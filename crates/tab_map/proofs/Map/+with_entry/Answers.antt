@@ -18,8 +18,8 @@ returns-in_ok-share-in-Less g t c =
     let h = inserted_less g.met.K.Ord.total c.args.entry f p in
     if_ok_is _ (cc (c.in_ok-left-in-Less.ensures, c.in_ok-try_clone-in-Less.ensures, c.in_ok-share-in-Less.ensures, h.is)) c.balanced.ensures
 
-pub node-requires-in-Equal : goal.node-requires-in-Equal
-node-requires-in-Equal g t c =
+pub node-requires : goal.node-requires
+node-requires g t c =
     let f = is_node g.K.Ord.cmp c.self.view_is c.self.invariant c.in-Node.is in
     let p : g.K.Ord.cmp c.args.entry.0 c.in-Node.node.value.entry.0 ≡ Equal = cc in
     let h = inserted_equal g.met.K.Ord.total c.args.entry f p in
@@ -30,7 +30,7 @@ returns-in_ok-share-in-Equal-2 g t c =
     let f = is_node g.K.Ord.cmp c.self.view_is c.self.invariant c.in-Node.is in
     let p : g.K.Ord.cmp c.args.entry.0 c.in-Node.node.value.entry.0 ≡ Equal = cc in
     let h = inserted_equal g.met.K.Ord.total c.args.entry f p in
-    if_ok_is _ (cc (c.in_ok-share-in-Equal.ensures, c.in_ok-share-in-Equal-2.ensures, h.is)) c.node-in-Equal.ensures
+    if_ok_is _ (cc (c.in_ok-share-in-Equal.ensures, c.in_ok-share-in-Equal-2.ensures, h.is)) c.node.ensures
 
 pub balanced-requires-in-Greater : goal.balanced-requires-in-Greater
 balanced-requires-in-Greater g t c =
