@@ -1,9 +1,10 @@
-//! A persistent ordered map: each change makes a new map, which shares with the old one all nodes but a path.
+//! An ordered map that shares its nodes with its copies, so that a copy takes constant time.
 //!
-//! A map is an AVL tree (Adelson-Velsky and Landis, 1962) whose nodes stand behind `Arc`, and contracts see it as
-//! the list of its entries in the order of their keys. A change takes O(log n) time and memory and leaves the old
-//! map as it was, also where an allocation is refused. The heights of the tree keep it balanced; no contract
-//! speaks of them.
+//! A map is an AVL tree (Adelson-Velsky and Landis, 1962) whose nodes stand behind `Arc`, and whose leaves hold rows
+//! of a few dozen entries. Contracts see it as the list of its entries in the order of their keys. A change takes
+//! O(log n) time and memory. `inserted` and `removed` leave the old map as it was; `insert` and `remove` write the
+//! nodes that no other map shares, and copy the others. Where an allocation is refused, nothing has changed. The
+//! heights of the tree keep it balanced; no contract speaks of them.
 //!
 //! A map does not count its entries: the type that holds one keeps the number beside it, where it needs one.
 #![tactic(auto)]

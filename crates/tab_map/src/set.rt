@@ -1,4 +1,4 @@
-//! A persistent ordered set: a map whose values say nothing.
+//! An ordered set: a map whose values say nothing.
 ghost use Rattle.std.specs.Prelude.{◌≡◌, ◌↔◌, [], ◌∷◌, IfOk, OnOk, OnErr, IsTrue, slice_get};
 ghost use Rattle.std.specs.Iterator.{YieldsFirstRef, item_count};
 ghost use Rattle.std.specs.Option.{option_copied};
@@ -9,7 +9,7 @@ use std::alloc::{AllocError, Global};
 use std::iter::FusedIterator;
 use std::marker::Model;
 
-/// A set of keys in their order. Each change makes a new set, as with a [`Map`].
+/// A set of keys in their order, which shares its nodes with its copies, as a [`Map`] does.
 #[derive(Drop)]
 pub struct Set<K: Ord> {
     map: Map<K, ()>,
