@@ -1,5 +1,6 @@
 -- What is known of a map's entries d once its root is a node.
-use Rattle.std.proofs.Common.{◌≡◌, List, ◌∷◌, ◌++◌, sym, ap, ◌∙◌, subst, Some, Result, IfOk}
+use Rattle.std.proofs.Common.{◌≡◌, List, ◌∷◌, ◌++◌, refl, sym, ap, ◌∙◌, subst, Some, Result, IfOk, OnOk}
+use Rattle.std.proofs.lemmas.Result.{on_ok_weaker}
 use Rattle.std.specs.declared.cmp.Ordering.{Ordering}
 use Rattle.std.specs.declared.cmp.Ordering.TheVariants.{Less, Equal, Greater}
 use Rattle.std.specs.Cmp.{IsTotalOrder}
@@ -14,10 +15,17 @@ pub record IsNode {K V : Type 0} (cmp : K → K → Ordering) (d l : List (K × 
   pub sorted : Ascends cmp (l ++ e ∷ r)
 
 module _ {K V : Type 0} where
-  pub is_node : (cmp : K → K → Ordering) {root : Tree K V} {d : List (K × V)} {f : _} → entries root ≡ d → Ascends cmp (entries root) → root ≡ Node f → IsNode cmp d f.value.left f.value.entry.value f.value.right
+  pub is_node : (cmp : K → K → Ordering) {root : Tree K V} {d : List (K × V)} {f : _} → entries root ≡ d → Ascends cmp (entries root) → root ≡ Node f → IsNode cmp d f.value.left f.value.entry f.value.right
   is_node cmp {root} {d} {f} view_is sorted is = record { is = sym view_is ∙ ap entries is; sorted = subst (Ascends cmp) (ap entries is) sorted }
 
 module _ {K V : Type 0} {cmp : K → K → Ordering} where
+  -- a copy of the node
+  pub same_node : {d l r l' r' : List (K × V)} {e e' : K × V} → IsNode cmp d l e r → l' ≡ l → e' ≡ e → r' ≡ r → IsNode cmp d l' e' r'
+  same_node {d} {l} {r} {l'} {r'} {e} {e'} f p q s = subst (λ z. IsNode cmp d z e' r') (sym p) (subst (λ z. IsNode cmp d l z r') (sym q) (subst (λ z. IsNode cmp d l e z) (sym s) f))
+
+  pub is_at : (l : List (K × V)) (e : K × V) (r : List (K × V)) → Ascends cmp (l ++ e ∷ r) → IsNode cmp (l ++ e ∷ r) l e r
+  is_at l e r s = record { is = refl; sorted = s }
+
   pub lookup_less : {d l r : List (K × V)} {e : K × V} (k : K) → IsNode cmp d l e r → cmp k e.0 ≡ Less → lookup cmp k d ≡ lookup cmp k l
   lookup_less {d} {l} {r} {e} k f p = rw f.is (lookup_left cmp k e l r p)
 
@@ -83,3 +91,7 @@ module _ {K V : Type 0} {cmp : K → K → Ordering} (o : IsTotalOrder cmp) wher
 -- what an `Ok` is, by an equation
 pub if_ok_is : {A E : Type 0} (r : Result A E) {x y : A} → x ≡ y → IfOk r (λ m. m ≡ x) → IfOk r (λ m. m ≡ y)
 if_ok_is {A} {E} r {x} {y} e h = subst (λ z. IfOk r (λ m. m ≡ z)) e h
+
+-- what a part becomes on `Ok` tells what the whole becomes
+pub on_ok_ap : {A E B C : Type 0} (r : Result A E) (f : B → C) (x y : B) (z : C) → z ≡ f y → OnOk r (x ≡ y) → OnOk r (f x ≡ z)
+on_ok_ap r f x y z e = on_ok_weaker {P = x ≡ y} {Q = f x ≡ z} r (λ h. ap f h ∙ sym e)

@@ -3,3 +3,4 @@ pub mod AtNode
 pub mod Left
 pub mod OfKeys
 pub mod Taken
+pub mod Places

@@ -13,7 +13,7 @@ module _ {K V : Type 0} (cmp : K → K → Ordering) where
   above_front k [] m a = tt
   above_front k (x ∷ l) m a = (a.0, above_front k l m a.1)
 
-  above_back : (k : K) (l m : List (K × V)) → AllAbove cmp k (l ++ m) → AllAbove cmp k m
+  pub above_back : (k : K) (l m : List (K × V)) → AllAbove cmp k (l ++ m) → AllAbove cmp k m
   above_back k [] m a = a
   above_back k (x ∷ l) m a = above_back k l m a.1
 
@@ -91,7 +91,7 @@ module _ {K V : Type 0} (cmp : K → K → Ordering) where
 
 module _ {K : Type 0} {cmp : K → K → Ordering} (o : IsTotalOrder cmp) where
   -- a key that is not below z is above what is
-  above : (x z q : K) → cmp x z ≡ Less → (cmp q z ≡ Less → ⊥) → cmp q x ≡ Greater
+  pub above : (x z q : K) → cmp x z ≡ Less → (cmp q z ≡ Less → ⊥) → cmp q x ≡ Greater
   above x z q p not_below =
       elim (cmp q x) as (λ d. cmp q x ≡ d → d ≡ Greater) [
         | Less ↦ λ h. absurd (not_below (o.trans q x z h p))

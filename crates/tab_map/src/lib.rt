@@ -1,9 +1,10 @@
-//! A persistent ordered map: each change makes a new map, which shares with the old one all nodes but a path.
+//! An ordered map that shares its nodes with its copies, so that a copy takes constant time.
 //!
-//! A map is an AVL tree (Adelson-Velsky and Landis, 1962) whose nodes stand behind `Arc`, and contracts see it as
-//! the list of its entries in the order of their keys. A change takes O(log n) time and memory and leaves the old
-//! map as it was, also where an allocation is refused. The heights of the tree keep it balanced; no contract
-//! speaks of them.
+//! A map is an AVL tree (Adelson-Velsky and Landis, 1962) whose nodes stand behind `Arc`, and whose leaves hold rows
+//! of a few dozen entries. Contracts see it as the list of its entries in the order of their keys. A change takes
+//! O(log n) time and memory. `inserted` and `removed` leave the old map as it was; `insert` and `remove` write the
+//! nodes that no other map shares, and copy the others. Where an allocation is refused, nothing has changed. The
+//! heights of the tree keep it balanced; no contract speaks of them.
 //!
 //! A map does not count its entries: the type that holds one keeps the number beside it, where it needs one.
 #![tactic(auto)]
@@ -12,11 +13,15 @@ ghost use Rattle.std.specs.Prelude.{◌≡◌, ◌↔◌, ◌≤◌, [], ◌∷�
 ghost use Rattle.std.specs.Option.{option_copied};
 ghost use Rattle.tab_map.specs.Entries.{Ascends, lookup, insert_entry, remove_entry, entries_from, entries_above};
 
+mod chunk;
+mod entry;
+mod in_place;
 mod iter;
 mod set;
 #[cfg(test)]
 mod tests;
 
+use entry::Entry;
 pub use iter::Iter;
 pub use set::{Keys, Set};
 use std::alloc::{AllocError, Global};
@@ -34,15 +39,15 @@ pub struct Map<K: Ord, V> {
 #[derive(Drop)]
 enum Tree<K: Ord, V> {
     Leaf,
+    Chunk(Arc<Vec<Entry<K, V>>, Global>),
     Node(Arc<Node<K, V>, Global>),
 }
 
-// The entry has an `Arc` of its own, so that a copy of the node copies neither key nor value.
 #[cycle(tree)]
 #[derive(Drop)]
 struct Node<K: Ord, V> {
     left: Map<K, V>,
-    entry: Arc<(K, V), Global>,
+    entry: Entry<K, V>,
     height: u8,
     right: Map<K, V>,
 }
@@ -110,7 +115,7 @@ impl<K: Ord + Drop, V: Drop> Map<K, V> {
             unreachable!()
         };
         let left = Map::from_last(alloc, entries, (count - 1) / 2)?;
-        Map::node(alloc, left, Arc::new(alloc, entry)?, right)
+        Map::node(alloc, left, Entry::new(alloc, entry)?, right)
     }
 
     /// The same map, in constant time. It allocates nothing: the error is a count of owners that is full, at 2^63.
@@ -119,6 +124,9 @@ impl<K: Ord + Drop, V: Drop> Map<K, V> {
     {
         match &self.root {
             Tree::Leaf => Ok(Map::new()),
+            Tree::Chunk(items) => Ok(Map {
+                root: Tree::Chunk(Arc::try_clone(items)?),
+            }),
             Tree::Node(node) => Ok(Map {
                 root: Tree::Node(Arc::try_clone(node)?),
             }),
@@ -131,6 +139,7 @@ impl<K: Ord + Drop, V: Drop> Map<K, V> {
     {
         match &self.root {
             Tree::Leaf => true,
+            Tree::Chunk(items) => items.is_empty(),
             Tree::Node(_) => false,
         }
     }
@@ -142,9 +151,10 @@ impl<K: Ord + Drop, V: Drop> Map<K, V> {
     {
         match &self.root {
             Tree::Leaf => None,
-            Tree::Node(node) => match key.cmp(&node.entry.0) {
+            Tree::Chunk(items) => chunk::get(items.as_slice(), key),
+            Tree::Node(node) => match key.cmp(&node.entry.pair().0) {
                 Ordering::Less => node.left.get(key),
-                Ordering::Equal => Some(&node.entry.1),
+                Ordering::Equal => Some(&node.entry.pair().1),
                 Ordering::Greater => node.right.get(key),
             },
         }
@@ -164,8 +174,9 @@ impl<K: Ord + Drop, V: Drop> Map<K, V> {
     {
         match &self.root {
             Tree::Leaf => None,
+            Tree::Chunk(items) => chunk::pair_at(items.as_slice(), 0),
             Tree::Node(node) => match node.left.first() {
-                None => Some(&node.entry),
+                None => Some(node.entry.pair()),
                 found => found,
             },
         }
@@ -178,12 +189,13 @@ impl<K: Ord + Drop, V: Drop> Map<K, V> {
     {
         match &self.root {
             Tree::Leaf => None,
-            Tree::Node(node) => match key.cmp(&node.entry.0) {
+            Tree::Chunk(items) => chunk::first_from(items.as_slice(), key),
+            Tree::Node(node) => match key.cmp(&node.entry.pair().0) {
                 Ordering::Less => match node.left.first_from(key) {
-                    None => Some(&node.entry),
+                    None => Some(node.entry.pair()),
                     found => found,
                 },
-                Ordering::Equal => Some(&node.entry),
+                Ordering::Equal => Some(node.entry.pair()),
                 Ordering::Greater => node.right.first_from(key),
             },
         }
@@ -196,9 +208,10 @@ impl<K: Ord + Drop, V: Drop> Map<K, V> {
     {
         match &self.root {
             Tree::Leaf => None,
-            Tree::Node(node) => match key.cmp(&node.entry.0) {
+            Tree::Chunk(items) => chunk::first_above(items.as_slice(), key),
+            Tree::Node(node) => match key.cmp(&node.entry.pair().0) {
                 Ordering::Less => match node.left.first_above(key) {
-                    None => Some(&node.entry),
+                    None => Some(node.entry.pair()),
                     found => found,
                 },
                 Ordering::Equal => node.right.first(),
@@ -209,7 +222,7 @@ impl<K: Ord + Drop, V: Drop> Map<K, V> {
 
     fn height(&self) -> u8 {
         match &self.root {
-            Tree::Leaf => 0,
+            Tree::Leaf | Tree::Chunk(_) => 0,
             Tree::Node(node) => node.height,
         }
     }
@@ -217,11 +230,11 @@ impl<K: Ord + Drop, V: Drop> Map<K, V> {
     fn node(
         alloc: Global,
         left: Map<K, V>,
-        entry: Arc<(K, V), Global>,
+        entry: Entry<K, V>,
         right: Map<K, V>,
     ) -> Result<Map<K, V>, AllocError>
-        requires { Ascends K.cmp (left ++ entry.value ∷ right) }
-        ensures { IfOk result (λ m. m ≡ left ++ entry.value ∷ right) }
+        requires { Ascends K.cmp (left ++ entry ∷ right) }
+        ensures { IfOk result (λ m. m ≡ left ++ entry ∷ right) }
     {
         let height = left.height().max(right.height()).saturating_add(1);
         let node = Arc::new(
@@ -238,15 +251,26 @@ impl<K: Ord + Drop, V: Drop> Map<K, V> {
         })
     }
 
+    // A map without nodes.
+    fn row(alloc: Global, items: &[Entry<K, V>]) -> Result<Map<K, V>, AllocError>
+        requires { Ascends K.cmp items.now }
+        ensures { IfOk result (λ m. m ≡ items.now) }
+    {
+        let copies = chunk::copied(alloc, items)?;
+        Ok(Map {
+            root: Tree::Chunk(Arc::new(alloc, copies)?),
+        })
+    }
+
     // The same entries, where one side may be two levels higher than the other. No clause speaks of heights.
     fn balanced(
         alloc: Global,
         left: Map<K, V>,
-        entry: Arc<(K, V), Global>,
+        entry: Entry<K, V>,
         right: Map<K, V>,
     ) -> Result<Map<K, V>, AllocError>
-        requires { Ascends K.cmp (left ++ entry.value ∷ right) }
-        ensures { IfOk result (λ m. m ≡ left ++ entry.value ∷ right) }
+        requires { Ascends K.cmp (left ++ entry ∷ right) }
+        ensures { IfOk result (λ m. m ≡ left ++ entry ∷ right) }
     {
         if left.height() > right.height().saturating_add(1) {
             Map::lean_left(alloc, left, entry, right)
@@ -260,11 +284,11 @@ impl<K: Ord + Drop, V: Drop> Map<K, V> {
     fn lean_left(
         alloc: Global,
         left: Map<K, V>,
-        entry: Arc<(K, V), Global>,
+        entry: Entry<K, V>,
         right: Map<K, V>,
     ) -> Result<Map<K, V>, AllocError>
-        requires { Ascends K.cmp (left ++ entry.value ∷ right) }
-        ensures { IfOk result (λ m. m ≡ left ++ entry.value ∷ right) }
+        requires { Ascends K.cmp (left ++ entry ∷ right) }
+        ensures { IfOk result (λ m. m ≡ left ++ entry ∷ right) }
     {
         let Tree::Node(outer) = &left.root else {
             return Map::node(alloc, left, entry, right);
@@ -281,11 +305,11 @@ impl<K: Ord + Drop, V: Drop> Map<K, V> {
     fn lean_right(
         alloc: Global,
         left: Map<K, V>,
-        entry: Arc<(K, V), Global>,
+        entry: Entry<K, V>,
         right: Map<K, V>,
     ) -> Result<Map<K, V>, AllocError>
-        requires { Ascends K.cmp (left ++ entry.value ∷ right) }
-        ensures { IfOk result (λ m. m ≡ left ++ entry.value ∷ right) }
+        requires { Ascends K.cmp (left ++ entry ∷ right) }
+        ensures { IfOk result (λ m. m ≡ left ++ entry ∷ right) }
     {
         let Tree::Node(outer) = &right.root else {
             return Map::node(alloc, left, entry, right);
@@ -302,111 +326,91 @@ impl<K: Ord + Drop, V: Drop> Map<K, V> {
     fn single_right(
         alloc: Global,
         left: Map<K, V>,
-        entry: Arc<(K, V), Global>,
+        entry: Entry<K, V>,
         outer: &Node<K, V>,
     ) -> Result<Map<K, V>, AllocError>
-        requires { Ascends K.cmp (left ++ entry.value ∷ (outer.now.left ++ outer.now.entry.value ∷ outer.now.right)) }
-        ensures { IfOk result (λ m. m ≡ left ++ entry.value ∷ (outer.now.left ++ outer.now.entry.value ∷ outer.now.right)) }
+        requires { Ascends K.cmp (left ++ entry ∷ (outer.now.left ++ outer.now.entry ∷ outer.now.right)) }
+        ensures { IfOk result (λ m. m ≡ left ++ entry ∷ (outer.now.left ++ outer.now.entry ∷ outer.now.right)) }
     {
         let left = Map::node(alloc, left, entry, outer.left.share()?)?;
-        Map::node(
-            alloc,
-            left,
-            Arc::try_clone(&outer.entry)?,
-            outer.right.share()?,
-        )
+        Map::node(alloc, left, outer.entry.try_clone()?, outer.right.share()?)
     }
 
     fn double_right(
         alloc: Global,
         left: Map<K, V>,
-        entry: Arc<(K, V), Global>,
+        entry: Entry<K, V>,
         outer: &Node<K, V>,
         middle: &Node<K, V>,
     ) -> Result<Map<K, V>, AllocError>
-        requires { Ascends K.cmp (left ++ entry.value ∷ (middle.now.left ++ middle.now.entry.value ∷ (middle.now.right ++ outer.now.entry.value ∷ outer.now.right))) }
-        ensures { IfOk result (λ m. m ≡ left ++ entry.value ∷ (middle.now.left ++ middle.now.entry.value ∷ (middle.now.right ++ outer.now.entry.value ∷ outer.now.right))) }
+        requires { Ascends K.cmp (left ++ entry ∷ (middle.now.left ++ middle.now.entry ∷ (middle.now.right ++ outer.now.entry ∷ outer.now.right))) }
+        ensures { IfOk result (λ m. m ≡ left ++ entry ∷ (middle.now.left ++ middle.now.entry ∷ (middle.now.right ++ outer.now.entry ∷ outer.now.right))) }
     {
         let right = Map::node(
             alloc,
             middle.right.share()?,
-            Arc::try_clone(&outer.entry)?,
+            outer.entry.try_clone()?,
             outer.right.share()?,
         )?;
         let left = Map::node(alloc, left, entry, middle.left.share()?)?;
-        Map::node(alloc, left, Arc::try_clone(&middle.entry)?, right)
+        Map::node(alloc, left, middle.entry.try_clone()?, right)
     }
 
     fn single_left(
         alloc: Global,
         outer: &Node<K, V>,
-        entry: Arc<(K, V), Global>,
+        entry: Entry<K, V>,
         right: Map<K, V>,
     ) -> Result<Map<K, V>, AllocError>
-        requires { Ascends K.cmp (outer.now.left ++ outer.now.entry.value ∷ (outer.now.right ++ entry.value ∷ right)) }
-        ensures { IfOk result (λ m. m ≡ outer.now.left ++ outer.now.entry.value ∷ (outer.now.right ++ entry.value ∷ right)) }
+        requires { Ascends K.cmp (outer.now.left ++ outer.now.entry ∷ (outer.now.right ++ entry ∷ right)) }
+        ensures { IfOk result (λ m. m ≡ outer.now.left ++ outer.now.entry ∷ (outer.now.right ++ entry ∷ right)) }
     {
         let right = Map::node(alloc, outer.right.share()?, entry, right)?;
-        Map::node(
-            alloc,
-            outer.left.share()?,
-            Arc::try_clone(&outer.entry)?,
-            right,
-        )
+        Map::node(alloc, outer.left.share()?, outer.entry.try_clone()?, right)
     }
 
     fn double_left(
         alloc: Global,
         outer: &Node<K, V>,
         middle: &Node<K, V>,
-        entry: Arc<(K, V), Global>,
+        entry: Entry<K, V>,
         right: Map<K, V>,
     ) -> Result<Map<K, V>, AllocError>
-        requires { Ascends K.cmp (outer.now.left ++ outer.now.entry.value ∷ (middle.now.left ++ middle.now.entry.value ∷ (middle.now.right ++ entry.value ∷ right))) }
-        ensures { IfOk result (λ m. m ≡ outer.now.left ++ outer.now.entry.value ∷ (middle.now.left ++ middle.now.entry.value ∷ (middle.now.right ++ entry.value ∷ right))) }
+        requires { Ascends K.cmp (outer.now.left ++ outer.now.entry ∷ (middle.now.left ++ middle.now.entry ∷ (middle.now.right ++ entry ∷ right))) }
+        ensures { IfOk result (λ m. m ≡ outer.now.left ++ outer.now.entry ∷ (middle.now.left ++ middle.now.entry ∷ (middle.now.right ++ entry ∷ right))) }
     {
         let right = Map::node(alloc, middle.right.share()?, entry, right)?;
         let left = Map::node(
             alloc,
             outer.left.share()?,
-            Arc::try_clone(&outer.entry)?,
+            outer.entry.try_clone()?,
             middle.left.share()?,
         )?;
-        Map::node(alloc, left, Arc::try_clone(&middle.entry)?, right)
+        Map::node(alloc, left, middle.entry.try_clone()?, right)
     }
 
     /// The map with this value at the key: in place of the value there, or as a new entry.
     pub fn inserted(&self, alloc: Global, key: K, value: V) -> Result<Map<K, V>, AllocError>
         ensures { IfOk result (λ m. m ≡ insert_entry K.cmp (key, value) self.now) }
     {
-        let entry = Arc::new(alloc, (key, value))?;
+        let entry = Entry::new(alloc, (key, value))?;
         self.with_entry(alloc, entry)
     }
 
-    fn with_entry(&self, alloc: Global, entry: Arc<(K, V), Global>) -> Result<Map<K, V>, AllocError>
-        ensures { IfOk result (λ m. m ≡ insert_entry K.cmp entry.value self.now) }
+    fn with_entry(&self, alloc: Global, entry: Entry<K, V>) -> Result<Map<K, V>, AllocError>
+        ensures { IfOk result (λ m. m ≡ insert_entry K.cmp entry self.now) }
     {
         match &self.root {
-            Tree::Leaf => Map::node(alloc, Map::new(), entry, Map::new()),
-            Tree::Node(node) => match entry.0.cmp(&node.entry.0) {
+            Tree::Leaf | Tree::Chunk(_) => self.put_in_copy(alloc, entry),
+            Tree::Node(node) => match entry.pair().0.cmp(&node.entry.pair().0) {
                 Ordering::Less => {
                     let left = node.left.with_entry(alloc, entry)?;
-                    Map::balanced(
-                        alloc,
-                        left,
-                        Arc::try_clone(&node.entry)?,
-                        node.right.share()?,
-                    )
+                    Map::balanced(alloc, left, node.entry.try_clone()?, node.right.share()?)
                 }
                 Ordering::Equal => Map::node(alloc, node.left.share()?, entry, node.right.share()?),
                 Ordering::Greater => {
                     let right = node.right.with_entry(alloc, entry)?;
-                    Map::balanced(
-                        alloc,
-                        node.left.share()?,
-                        Arc::try_clone(&node.entry)?,
-                        right,
-                    )
+                    Map::balanced(alloc, node.left.share()?, node.entry.try_clone()?, right)
                 }
             },
         }
@@ -417,26 +421,16 @@ impl<K: Ord + Drop, V: Drop> Map<K, V> {
         ensures { IfOk result (λ m. m ≡ remove_entry K.cmp key.now self.now) }
     {
         match &self.root {
-            Tree::Leaf => Ok(Map::new()),
-            Tree::Node(node) => match key.cmp(&node.entry.0) {
+            Tree::Leaf | Tree::Chunk(_) => self.take_in_copy(alloc, key),
+            Tree::Node(node) => match key.cmp(&node.entry.pair().0) {
                 Ordering::Less => {
                     let left = node.left.removed(alloc, key)?;
-                    Map::balanced(
-                        alloc,
-                        left,
-                        Arc::try_clone(&node.entry)?,
-                        node.right.share()?,
-                    )
+                    Map::balanced(alloc, left, node.entry.try_clone()?, node.right.share()?)
                 }
                 Ordering::Equal => Map::joined(alloc, &node.left, &node.right),
                 Ordering::Greater => {
                     let right = node.right.removed(alloc, key)?;
-                    Map::balanced(
-                        alloc,
-                        node.left.share()?,
-                        Arc::try_clone(&node.entry)?,
-                        right,
-                    )
+                    Map::balanced(alloc, node.left.share()?, node.entry.try_clone()?, right)
                 }
             },
         }
@@ -452,21 +446,22 @@ impl<K: Ord + Drop, V: Drop> Map<K, V> {
         }
     }
 
-    fn split_first(
-        &self,
-        alloc: Global,
-    ) -> Result<Option<(Arc<(K, V), Global>, Map<K, V>)>, AllocError>
-        ensures { IfOk result (λ o. MatchOption o (self.now ≡ []) (λ p. self.now ≡ p.0.value ∷ p.1)) }
+    fn split_first(&self, alloc: Global) -> Result<Option<(Entry<K, V>, Map<K, V>)>, AllocError>
+        ensures { IfOk result (λ o. MatchOption o (self.now ≡ []) (λ p. self.now ≡ p.0 ∷ p.1)) }
     {
         match &self.root {
             Tree::Leaf => Ok(None),
+            Tree::Chunk(items) => match items.as_slice() {
+                [] => Ok(None),
+                [first, rest @ ..] => Ok(Some((first.try_clone()?, Map::row(alloc, rest)?))),
+            },
             Tree::Node(node) => match node.left.split_first(alloc)? {
-                None => Ok(Some((Arc::try_clone(&node.entry)?, node.right.share()?))),
+                None => Ok(Some((node.entry.try_clone()?, node.right.share()?))),
                 Some((first, rest)) => {
                     let rest = Map::balanced(
                         alloc,
                         rest,
-                        Arc::try_clone(&node.entry)?,
+                        node.entry.try_clone()?,
                         node.right.share()?,
                     )?;
                     Ok(Some((first, rest)))

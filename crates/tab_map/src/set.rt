@@ -1,5 +1,5 @@
-//! A persistent ordered set: a map whose values say nothing.
-ghost use Rattle.std.specs.Prelude.{◌≡◌, ◌↔◌, [], ◌∷◌, IfOk, IsTrue, slice_get};
+//! An ordered set: a map whose values say nothing.
+ghost use Rattle.std.specs.Prelude.{◌≡◌, ◌↔◌, [], ◌∷◌, IfOk, OnOk, OnErr, IsTrue, slice_get};
 ghost use Rattle.std.specs.Iterator.{YieldsFirstRef, item_count};
 ghost use Rattle.std.specs.Option.{option_copied};
 ghost use Rattle.tab_map.specs.KeyList.{KeysAscend, contains_key, insert_key, remove_key};
@@ -9,7 +9,7 @@ use std::alloc::{AllocError, Global};
 use std::iter::FusedIterator;
 use std::marker::Model;
 
-/// A set of keys in their order. Each change makes a new set, as with a [`Map`].
+/// A set of keys in their order, which shares its nodes with its copies, as a [`Map`] does.
 #[derive(Drop)]
 pub struct Set<K: Ord> {
     map: Map<K, ()>,
@@ -70,6 +70,22 @@ impl<K: Ord + Drop> Set<K> {
     {
         let without_key = self.map.removed(alloc, key)?;
         Ok(Set { map: without_key })
+    }
+
+    /// Puts the key in. Sets that share nodes with this one keep their keys.
+    pub fn insert(&mut self, alloc: Global, key: K) -> Result<(), AllocError>
+        ensures ok { OnOk result (self.new ≡ insert_key K.cmp key self.old) }
+        ensures err { OnErr result (self.new ≡ self.old) }
+    {
+        self.map.insert(alloc, key, ())
+    }
+
+    /// Takes the key out. It allocates where it copies a shared node.
+    pub fn remove(&mut self, alloc: Global, key: &K) -> Result<(), AllocError>
+        ensures ok { OnOk result (self.new ≡ remove_key K.cmp key.now self.old) }
+        ensures err { OnErr result (self.new ≡ self.old) }
+    {
+        self.map.remove(alloc, key)
     }
 
     /// The keys in their order.

@@ -128,7 +128,7 @@ fn is_shared<T: Send + Sync>(_value: &T) -> bool {
 // The levels of the tree.
 fn levels<K: Ord, V>(map: &Map<K, V>) -> u8 {
     match &map.root {
-        Tree::Leaf => 0,
+        Tree::Leaf | Tree::Chunk(_) => 0,
         Tree::Node(node) => levels(&node.left)
             .max(levels(&node.right))
             .saturating_add(1),
@@ -176,6 +176,25 @@ fn stays_low(rt: HostRuntime) -> Result<(), Fail> {
     Ok(())
 }
 
+#[test]
+fn stays_low_in_place(rt: HostRuntime) -> Result<(), Fail> {
+    let orders: [fn(u32) -> u32; 4] = [|n| n, |n| u32::MAX - n, in_turn, scattered];
+    for order in orders {
+        let mut map = Map::new();
+        for n in 0..100_000u32 {
+            map.insert(rt.alloc(), order(n), ())?;
+            assert!(rt; is_low(&map, n as usize + 1), "after insert {n}");
+        }
+        assert_eq!(rt; levels(&map), map.height());
+        for n in 0..100_000u32 {
+            map.remove(rt.alloc(), &order(n))?;
+            assert!(rt; is_low(&map, 99_999 - n as usize), "after removal {n}");
+        }
+        assert!(rt; map.is_empty());
+    }
+    Ok(())
+}
+
 // Against std's map: 3,000 inserts and removals at 200 keys, each old map standing.
 #[test]
 fn does_as_std(rt: HostRuntime) -> Result<(), Fail> {
@@ -206,6 +225,37 @@ fn does_as_std(rt: HostRuntime) -> Result<(), Fail> {
         map.first().map(|entry| entry.0),
         std_map.first_key_value().map(|e| *e.0)
     );
+    Ok(())
+}
+
+// In place as by new maps: 3,000 inserts and removals at 200 keys, where every eighth map is kept and stays as it was.
+#[test]
+fn changes_in_place(rt: HostRuntime) -> Result<(), Fail> {
+    let alloc = rt.alloc();
+    let mut map = Map::new();
+    let mut copy = Map::new();
+    let mut kept = Vec::new(alloc);
+    for n in 0..3000u32 {
+        let key = scattered(n) % 200;
+        if n % 3 == 2 {
+            map.remove(alloc, &key)?;
+            copy = copy.removed(alloc, &key)?;
+        } else {
+            map.insert(alloc, key, n)?;
+            copy = copy.inserted(alloc, key, n)?;
+        }
+        if n % 8 == 0 {
+            kept.push((map.share()?, copy.share()?))?;
+        }
+    }
+    kept.push((map, copy))?;
+    for (map, copy) in &kept {
+        let mut entries = copy.iter();
+        for entry in map.iter() {
+            assert_eq!(rt; Some(entry), entries.next());
+        }
+        assert_eq!(rt; entries.next(), None);
+    }
     Ok(())
 }
 
@@ -246,6 +296,13 @@ fn sets(rt: HostRuntime) -> Result<(), Fail> {
     let left = two.share()?.removed(alloc, &1)?;
     assert!(rt; empty.is_empty() && !one.is_empty());
     assert!(rt; two.contains(&1) && !one.contains(&1) && !left.contains(&1) && left.contains(&2));
+    let mut changed = two.share()?;
+    changed.insert(alloc, 3)?;
+    changed.remove(alloc, &1)?;
+    for (key, before, after) in [(1, true, false), (2, true, true), (3, false, true)] {
+        assert_eq!(rt; two.contains(&key), before, "{key} before");
+        assert_eq!(rt; changed.contains(&key), after, "{key} after");
+    }
     let mut keys = two.iter();
     assert_eq!(rt; keys.next(), Some(&1));
     assert_eq!(rt; keys.next(), Some(&2));

@@ -101,7 +101,7 @@ impl Rows {
     {
         let mut only = Vec::with_capacity(alloc, 1)?;
         only.push(row)?;
-        self.records = self.records.inserted(alloc, key, Terms::from_vec(only))?;
+        self.records.insert(alloc, key, Terms::from_vec(only))?;
         Ok(())
     }
 
@@ -115,7 +115,7 @@ impl Rows {
             return Ok(());
         }
         let records = copies_and(alloc, self.at(&key), row)?;
-        self.records = self.records.inserted(alloc, key, records)?;
+        self.records.insert(alloc, key, records)?;
         Ok(())
     }
 
@@ -124,7 +124,7 @@ impl Rows {
         ensures ok { OnOk result (self.new ≡ (self.old.0, delete_in self.old.1 (term key.now))) }
         ensures err { OnErr result (self.new ≡ self.old) }
     {
-        self.records = self.records.removed(alloc, key)?;
+        self.records.remove(alloc, key)?;
         Ok(())
     }
 }

@@ -7,41 +7,41 @@ use Rattle.tab_map.proofs.Map.+with_entry.Goals as goal
 pub balanced-requires : goal.balanced-requires
 balanced-requires g t c =
     let f = is_node g.K.Ord.cmp c.self.view_is c.self.invariant c.in-Node.is in
-    let p : g.K.Ord.cmp c.args.entry.value.0 c.in-Node.node.value.entry.value.0 ≡ Less = cc in
-    let h = inserted_less g.met.K.Ord.total c.args.entry.value f p in
+    let p : g.K.Ord.cmp c.args.entry.0 c.in-Node.node.value.entry.0 ≡ Less = cc in
+    let h = inserted_less g.met.K.Ord.total c.args.entry f p in
     subst (Ascends g.K.Ord.cmp) (cc (c.in_ok-left-in-Less.ensures, c.in_ok-try_clone-in-Less.ensures, c.in_ok-share-in-Less.ensures)) h.sorted
 
 pub returns-in_ok-share-in-Less : goal.returns-in_ok-share-in-Less
 returns-in_ok-share-in-Less g t c =
     let f = is_node g.K.Ord.cmp c.self.view_is c.self.invariant c.in-Node.is in
-    let p : g.K.Ord.cmp c.args.entry.value.0 c.in-Node.node.value.entry.value.0 ≡ Less = cc in
-    let h = inserted_less g.met.K.Ord.total c.args.entry.value f p in
+    let p : g.K.Ord.cmp c.args.entry.0 c.in-Node.node.value.entry.0 ≡ Less = cc in
+    let h = inserted_less g.met.K.Ord.total c.args.entry f p in
     if_ok_is _ (cc (c.in_ok-left-in-Less.ensures, c.in_ok-try_clone-in-Less.ensures, c.in_ok-share-in-Less.ensures, h.is)) c.balanced.ensures
 
-pub node-requires-in-Equal : goal.node-requires-in-Equal
-node-requires-in-Equal g t c =
+pub node-requires : goal.node-requires
+node-requires g t c =
     let f = is_node g.K.Ord.cmp c.self.view_is c.self.invariant c.in-Node.is in
-    let p : g.K.Ord.cmp c.args.entry.value.0 c.in-Node.node.value.entry.value.0 ≡ Equal = cc in
-    let h = inserted_equal g.met.K.Ord.total c.args.entry.value f p in
+    let p : g.K.Ord.cmp c.args.entry.0 c.in-Node.node.value.entry.0 ≡ Equal = cc in
+    let h = inserted_equal g.met.K.Ord.total c.args.entry f p in
     subst (Ascends g.K.Ord.cmp) (cc (c.in_ok-share-in-Equal.ensures, c.in_ok-share-in-Equal-2.ensures)) h.sorted
 
 pub returns-in_ok-share-in-Equal-2 : goal.returns-in_ok-share-in-Equal-2
 returns-in_ok-share-in-Equal-2 g t c =
     let f = is_node g.K.Ord.cmp c.self.view_is c.self.invariant c.in-Node.is in
-    let p : g.K.Ord.cmp c.args.entry.value.0 c.in-Node.node.value.entry.value.0 ≡ Equal = cc in
-    let h = inserted_equal g.met.K.Ord.total c.args.entry.value f p in
-    if_ok_is _ (cc (c.in_ok-share-in-Equal.ensures, c.in_ok-share-in-Equal-2.ensures, h.is)) c.node-in-Equal.ensures
+    let p : g.K.Ord.cmp c.args.entry.0 c.in-Node.node.value.entry.0 ≡ Equal = cc in
+    let h = inserted_equal g.met.K.Ord.total c.args.entry f p in
+    if_ok_is _ (cc (c.in_ok-share-in-Equal.ensures, c.in_ok-share-in-Equal-2.ensures, h.is)) c.node.ensures
 
 pub balanced-requires-in-Greater : goal.balanced-requires-in-Greater
 balanced-requires-in-Greater g t c =
     let f = is_node g.K.Ord.cmp c.self.view_is c.self.invariant c.in-Node.is in
-    let p : g.K.Ord.cmp c.args.entry.value.0 c.in-Node.node.value.entry.value.0 ≡ Greater = cc in
-    let h = inserted_greater g.met.K.Ord.total c.args.entry.value f p in
+    let p : g.K.Ord.cmp c.args.entry.0 c.in-Node.node.value.entry.0 ≡ Greater = cc in
+    let h = inserted_greater g.met.K.Ord.total c.args.entry f p in
     subst (Ascends g.K.Ord.cmp) (cc (c.in_ok-right-in-Greater.ensures, c.in_ok-try_clone-in-Greater.ensures, c.in_ok-share-in-Greater.ensures)) h.sorted
 
 pub returns-in_ok-try_clone-in-Greater : goal.returns-in_ok-try_clone-in-Greater
 returns-in_ok-try_clone-in-Greater g t c =
     let f = is_node g.K.Ord.cmp c.self.view_is c.self.invariant c.in-Node.is in
-    let p : g.K.Ord.cmp c.args.entry.value.0 c.in-Node.node.value.entry.value.0 ≡ Greater = cc in
-    let h = inserted_greater g.met.K.Ord.total c.args.entry.value f p in
+    let p : g.K.Ord.cmp c.args.entry.0 c.in-Node.node.value.entry.0 ≡ Greater = cc in
+    let h = inserted_greater g.met.K.Ord.total c.args.entry f p in
     if_ok_is _ (cc (c.in_ok-right-in-Greater.ensures, c.in_ok-try_clone-in-Greater.ensures, c.in_ok-share-in-Greater.ensures, h.is)) c.balanced-in-Greater.ensures

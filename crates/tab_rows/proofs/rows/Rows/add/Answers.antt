@@ -17,13 +17,13 @@ returns-then-contains-clause-ok c =
     ∙ ap (λ k. (c.self.inside.kind, put k (joined es) (term c.args.row))) (sym (ap (λ v. v.0) c.self.view_is ∙ c.requires.kind))
     ∙ ap (λ v. (v.0, put v.0 v.1 (term c.args.row))) c.self.view_is
 
-pub invariant_of-self : goal.invariant_of-self
-invariant_of-self c =
+pub invariant_of-self-2 : goal.invariant_of-self-2
+invariant_of-self-2 c =
     let es = c.self.inside.records in
     let before = c.at-2.ensures ∙ ap (λ v. plain_terms (at v.1 (term c.args.key))) (sym c.self.view_is) in
     let absent = sym c.if-contains.false ∙ c.contains.ensures ∙ ap (λ z. list_any (same (term c.args.row)) (terms_list z)) (c.at.ensures ∙ sym c.at-2.ensures) in
     let written = put_new es c.args.key c.args.row (terms c.at-2.result.now) c.in_ok-records.records c.requires.keyed c.self.invariant before absent (c.in_ok-records.ensures) in
-    subst IsInOrder (sym (c.in_ok-self-inside.ensures)) (Writes.order written)
+    subst IsInOrder (sym (c.in_ok-insert.ensures.ok)) (Writes.order written)
 
 pub returns-clause-ok : goal.returns-clause-ok
 returns-clause-ok c =
@@ -31,6 +31,6 @@ returns-clause-ok c =
     let before = c.at-2.ensures ∙ ap (λ v. plain_terms (at v.1 (term c.args.key))) (sym c.self.view_is) in
     let absent = sym c.if-contains.false ∙ c.contains.ensures ∙ ap (λ z. list_any (same (term c.args.row)) (terms_list z)) (c.at.ensures ∙ sym c.at-2.ensures) in
     let written = put_new es c.args.key c.args.row (terms c.at-2.result.now) c.in_ok-records.records c.requires.keyed c.self.invariant before absent (c.in_ok-records.ensures) in
-    ap (λ rows. (c.self.inside.kind, rows)) (ap joined (c.in_ok-self-inside.ensures) ∙ Writes.list written)
+    ap (λ rows. (c.self.inside.kind, rows)) (ap joined (c.in_ok-insert.ensures.ok) ∙ Writes.list written)
     ∙ ap (λ k. (c.self.inside.kind, put k (joined es) (term c.args.row))) (sym (ap (λ v. v.0) c.self.view_is ∙ c.requires.kind))
     ∙ ap (λ v. (v.0, put v.0 v.1 (term c.args.row))) c.self.view_is

@@ -6,15 +6,15 @@ use Rattle.tab_rows.specs.Joined.{joined, IsInOrder}
 use Rattle.tab_rows.proofs.Cells.{Writes, put_set}
 use Rattle.tab_rows.proofs.rows.Rows.set.Goals as goal
 
-pub invariant_of-self : goal.invariant_of-self
-invariant_of-self c =
+pub invariant_of-self-2 : goal.invariant_of-self-2
+invariant_of-self-2 c =
     let only = ap terms_list (c.from_vec.ensures ∙ ap terms (c.in_ok-push.ensures.items ∙ ap (λ xs. xs ++ c.args.row ∷ []) c.in_ok-only.ensures.items)) in
-    subst IsInOrder (sym (c.in_ok-self-inside.ensures)) (Writes.order (put_set c.self.inside.records c.args.key c.args.row c.from_vec.result c.requires.keyed c.self.invariant only))
+    subst IsInOrder (sym (c.in_ok-insert.ensures.ok)) (Writes.order (put_set c.self.inside.records c.args.key c.args.row c.from_vec.result c.requires.keyed c.self.invariant only))
 
 pub returns-clause-ok : goal.returns-clause-ok
 returns-clause-ok c =
     let only = ap terms_list (c.from_vec.ensures ∙ ap terms (c.in_ok-push.ensures.items ∙ ap (λ xs. xs ++ c.args.row ∷ []) c.in_ok-only.ensures.items)) in
     let written = put_set c.self.inside.records c.args.key c.args.row c.from_vec.result c.requires.keyed c.self.invariant only in
-    ap (λ rows. (c.self.inside.kind, rows)) (ap joined (c.in_ok-self-inside.ensures) ∙ Writes.list written)
+    ap (λ rows. (c.self.inside.kind, rows)) (ap joined (c.in_ok-insert.ensures.ok) ∙ Writes.list written)
     ∙ ap (λ k. (c.self.inside.kind, put k (joined c.self.inside.records) (term c.args.row))) (sym (ap (λ v. v.0) c.self.view_is ∙ c.requires.kind))
     ∙ ap (λ v. (v.0, put v.0 v.1 (term c.args.row))) c.self.view_is

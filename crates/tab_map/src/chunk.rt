@@ -1,0 +1,123 @@
+//! Up to a few dozen entries in a row, which the leaves of a tree hold.
+ghost use Rattle.std.specs.Prelude.{◌≡◌, ◌≤◌, ◌<◌, IfOk, IfErr, OnOk, OnErr, length, slice_get};
+ghost use Rattle.std.specs.Option.{option_copied};
+ghost use Rattle.tab_map.specs.Entries.{Ascends, lookup, insert_entry, remove_entry, entries_from, entries_above};
+ghost use Rattle.tab_map.specs.Places.{IsPlace, HasAt, IsGap};
+
+use crate::entry::Entry;
+use std::alloc::{AllocError, Global};
+use std::cmp::Ordering;
+
+// The number of entries with keys below the key.
+fn count_below<K: Ord + Drop, V: Drop>(items: &[Entry<K, V>], key: &K) -> usize
+    requires { Ascends K.cmp items.now }
+    ensures place { IsPlace K.cmp key.now items.now result }
+    ensures bound { result ≤ length items.now }
+{
+    let (left, rest) = items.split_at(items.len() / 2);
+    let [middle, right @ ..] = rest else {
+        return 0;
+    };
+    match key.cmp(&middle.pair().0) {
+        Ordering::Greater => left.len() + 1 + count_below(right, key),
+        _ => count_below(left, key),
+    }
+}
+
+// The place of the entry at the key, or where one belongs.
+fn place<K: Ord + Drop, V: Drop>(items: &[Entry<K, V>], key: &K) -> Result<usize, usize>
+    requires { Ascends K.cmp items.now }
+    ensures found { IfOk result (λ n. HasAt K.cmp key.now items.now n) }
+    ensures found_in_row { IfOk result (λ n. n < length items.now) }
+    ensures gap { IfErr result (λ n. IsGap K.cmp key.now items.now n) }
+    ensures gap_in_row { IfErr result (λ n. n ≤ length items.now) }
+{
+    let at = count_below(items, key);
+    let Some(entry) = items.get(at) else {
+        return Err(at);
+    };
+    match key.cmp(&entry.pair().0) {
+        Ordering::Equal => Ok(at),
+        _ => Err(at),
+    }
+}
+
+pub fn get<'a, K: Ord + Drop, V: Drop>(items: &'a [Entry<K, V>], key: &K) -> Option<&'a V>
+    requires { Ascends K.cmp items.now }
+    ensures { option_copied result ≡ lookup K.cmp key.now items.now }
+{
+    match place(items, key) {
+        Ok(n) => Some(&items[n].pair().1),
+        Err(_) => None,
+    }
+}
+
+pub fn pair_at<'a, K: Ord + Drop, V: Drop>(items: &'a [Entry<K, V>], n: usize) -> Option<&'a (K, V)>
+    ensures { option_copied result ≡ slice_get items.now n }
+{
+    Some(items.get(n)?.pair())
+}
+
+pub fn first_from<'a, K: Ord + Drop, V: Drop>(
+    items: &'a [Entry<K, V>],
+    key: &K,
+) -> Option<&'a (K, V)>
+    requires { Ascends K.cmp items.now }
+    ensures { option_copied result ≡ slice_get (entries_from K.cmp key.now items.now) 0 }
+{
+    match place(items, key) {
+        Ok(n) => pair_at(items, n),
+        Err(n) => pair_at(items, n),
+    }
+}
+
+pub fn first_above<'a, K: Ord + Drop, V: Drop>(
+    items: &'a [Entry<K, V>],
+    key: &K,
+) -> Option<&'a (K, V)>
+    requires { Ascends K.cmp items.now }
+    ensures { option_copied result ≡ slice_get (entries_above K.cmp key.now items.now) 0 }
+{
+    match place(items, key) {
+        Ok(n) => pair_at(items, n + 1),
+        Err(n) => pair_at(items, n),
+    }
+}
+
+pub fn put<K: Ord + Drop, V: Drop>(
+    items: &mut Vec<Entry<K, V>>,
+    entry: Entry<K, V>,
+) -> Result<(), AllocError>
+    requires { Ascends K.cmp items.old.items }
+    ensures ok { OnOk result (items.new.items ≡ insert_entry K.cmp entry items.old.items) }
+    ensures err { OnErr result (items.new.items ≡ items.old.items) }
+{
+    match place(items, &entry.pair().0) {
+        Ok(n) => items[n] = entry,
+        Err(n) => items.insert(n, entry)?,
+    }
+    Ok(())
+}
+
+pub fn take<K: Ord + Drop, V: Drop>(items: &mut Vec<Entry<K, V>>, key: &K)
+    requires { Ascends K.cmp items.old.items }
+    ensures { items.new.items ≡ remove_entry K.cmp key.now items.old.items }
+{
+    match place(items, key) {
+        Ok(n) => drop(items.remove(n)),
+        Err(_) => (),
+    }
+}
+
+pub fn copied<K: Ord + Drop, V: Drop>(
+    alloc: Global,
+    items: &[Entry<K, V>],
+) -> Result<Vec<Entry<K, V>>, AllocError>
+    ensures { IfOk result (λ copies. copies.items ≡ items.now) }
+{
+    let mut copies = Vec::with_capacity(alloc, items.len())?;
+    for item in items {
+        copies.push(item.try_clone()?)?;
+    }
+    Ok(copies)
+}
