@@ -208,16 +208,20 @@ fn is_frame(frame: &[u8], first: &[u8], payload: &[u8]) -> bool {
     let Some(term) = payload.get(1..) else {
         return false;
     };
-    let Some((head, told)) = frame.split_at_checked(first.len() + 7) else {
+    let Some(pair) = frame.get(4..) else {
         return false;
     };
-    let Some((length, pair)) = head.split_at_checked(4) else {
+    let Some(rest) = pair.get(3..) else {
         return false;
     };
-    told == term
+    let Ok(len) = u32::try_from(pair.len()) else {
+        return false;
+    };
+    frame.starts_with(len.to_be_bytes().as_slice())
         && pair.starts_with(b"\x83h\x02")
-        && pair.ends_with(first)
-        && length == ((pair.len() + term.len()) as u32).to_be_bytes().as_slice()
+        && rest.starts_with(first)
+        && rest.ends_with(term)
+        && rest.len() == first.len().saturating_add(term.len())
 }
 
 #[test]
@@ -274,17 +278,24 @@ const NO_COMMANDS: [&[u8]; 7] = [
     b"\x83h\x03w\x05wreadw\x01ta\x01",
 ];
 
+/// The term of the command that a term is.
+fn told_again(alloc: Global, asked: &Term) -> Option<Term> {
+    match read_command(alloc, asked) {
+        Ok(command) => term_of(alloc, &command).ok(),
+        Err(_) => None,
+    }
+}
+
 #[test]
 fn commands_are_read_and_told(rt: HostRuntime) {
     let alloc = rt.alloc();
     for payload in COMMANDS {
         let asked = decode(alloc, payload).expect(&rt, "a term");
-        let command = read_command(alloc, &asked).expect(&rt, "a command");
-        let told = term_of(alloc, &command).expect(&rt, "memory");
+        let told = told_again(alloc, &asked).expect(&rt, "a command");
         assert!(rt; told == asked);
     }
     for payload in NO_COMMANDS {
         let asked = decode(alloc, payload).expect(&rt, "a term");
-        assert!(rt; read_command(alloc, &asked).is_err());
+        assert!(rt; told_again(alloc, &asked).is_none());
     }
 }
