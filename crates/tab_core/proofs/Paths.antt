@@ -26,9 +26,8 @@ use Rattle.tab_model.proofs.Sole.{own_unopposed, any_nil, granted_if}
 use Rattle.tab_core.specs.declared.operate.Effect.{Effect}
 use Rattle.tab_core.specs.Performs.{HasEffect}
 use Rattle.tab_core.specs.Single.{IsAlone, no_outbox, transaction_of, seat_of, state_of, AllOperations, IsOpenIn, asked}
-
-itself : (n : ℕ) → (n == n) ≡ true
-itself n = grind (arith, nat_tests)
+use Rattle.tab_model.proofs.Seats.{itself}
+use Rattle.tab_model.proofs.RefusalLaws.{after-more}
 
 -- ---- traces of operations alone
 
@@ -63,10 +62,6 @@ operations_push (Do p ∷ xs) o a = operations_push xs o a
 operations_push (Open ∷ xs) o a = absurd a
 operations_push (Close ∷ xs) o a = absurd a
 operations_push (Undo ∷ xs) o a = absurd a
-
-after-more : (m : Mid) (xs : List Move) (x : Move) → after m (xs ++ x ∷ []) ≡ next (after m xs) x
-after-more m [] x = refl
-after-more m (y ∷ xs) x = after-more (next m y) xs x
 
 -- the tables after one operation more
 pub work_after : (w work : World) (age : ℕ) (xs : List Move) (o : Operation) → work ≡ (after (start w age) xs).now → failure work o ≡ None → effect work o ≡ (after (start w age) (xs ++ Do o ∷ [])).now

@@ -7,7 +7,7 @@ use Rattle.tab_model.specs.declared.data.Reply.{Reply}
 use Rattle.tab_model.specs.declared.data.Reply.TheVariants as reply
 use Rattle.tab_model.specs.State.{State, IsSound}
 use Rattle.tab_model.specs.Outcome.{Ask, Join, Leave, Retry, Take, DoCommand, outcome}
-use Rattle.tab_model.specs.Run.{entries, taken_now, JoinsEmpty, IsTied}
+use Rattle.tab_model.specs.Run.{entries, taken_now, JoinsEmpty, IsTied, item_of}
 use Rattle.tab_model.proofs.SoundSteps.{step_sound}
 use Rattle.tab_model.proofs.TiedSteps.{step_tied}
 use Rattle.tab_core.specs.declared.steps.Step.{Step}
@@ -52,15 +52,23 @@ joins_empty (step.Do c) = tt
 joins_empty step.Retry = tt
 joins_empty step.Take = tt
 
-no_item : (m n : ℕ) → [] ≡ taken_now m n reply.NoMemory
-no_item m n = cases (m == n)
+-- a reply without an item gives none to take
+no_item : (m n : ℕ) (r : Reply) → item_of r ≡ [] → [] ≡ taken_now m n r
+no_item m n r e = cases (m == n)
   where
-    none : List Item
-    none = []
-
-    cases : (b : Bool) → none ≡ (if b then none else none)
-    cases true = refl
+    cases : (b : Bool) → [] ≡ (if b then item_of r else [])
+    cases true = sym e
     cases false = refl
+
+-- where nothing more happens, a history stays
+pub rests_tied : (σ τ : State) (log : List Entry) (taken : ℕ → List Item) → τ ≡ σ → IsTied σ log taken → IsTied τ (log ++ []) (λ m. taken m ++ [])
+rests_tied σ τ log taken same tied = subst (λ (x : State). IsTied x (log ++ []) (λ m. taken m ++ [])) (sym same)
+    (subst (λ (l : List Entry). IsTied σ l (λ m. taken m ++ [])) (sym (append-nil log)) (subst (λ (f : ℕ → List Item). IsTied σ log f) (λ i m. sym (append-nil (taken m)) i) tied))
+
+-- and where an answer that changes nothing gives nothing to take
+pub quiet_tied : (σ μ : State) (n : ℕ) (r : Reply) (log : List Entry) (taken : ℕ → List Item) → μ ≡ σ → item_of r ≡ [] → IsTied σ log taken → IsTied μ (log ++ []) (λ m. taken m ++ taken_now m n r)
+quiet_tied σ μ n r log taken same e tied =
+    subst (λ (f : ℕ → List Item). IsTied μ (log ++ []) f) (λ i m. taken m ++ no_item m n r e i) (rests_tied σ μ log taken same tied)
 
 -- what one step leaves
 step_takes : (σ μ : State) (s : ℕ × Step) (r : Reply) (es log : List Entry) (taken : ℕ → List Item) → Takes σ (s.0, ask_of s.1) r es μ → IsSound σ → IsTied σ log taken → IsSound μ × IsTied μ (log ++ es) (λ m. taken m ++ taken_now m s.0 r)
@@ -73,20 +81,14 @@ step_takes σ μ s r es log taken (inl (st, rp, en)) sound tied = (
 )
 step_takes σ μ s r es log taken (inr (rp, en, st)) sound tied = (
   subst IsSound (sym st) sound,
-  subst (λ (x : State). IsTied x (log ++ es) (λ m. taken m ++ taken_now m s.0 r)) (sym st)
-      (subst (λ (l : List Entry). IsTied σ (log ++ l) (λ m. taken m ++ taken_now m s.0 r)) (sym en)
-      (subst (λ (q : Reply). IsTied σ (log ++ []) (λ m. taken m ++ taken_now m s.0 q)) (sym rp)
-      (subst (λ (l : List Entry). IsTied σ l (λ m. taken m ++ taken_now m s.0 reply.NoMemory)) (sym (append-nil log))
-      (subst (λ (f : ℕ → List Item). IsTied σ log f) (λ i m. (sym (append-nil (taken m)) ∙ ap (λ xs. taken m ++ xs) (no_item m s.0)) i) tied)))),
+  subst (λ (l : List Entry). IsTied μ (log ++ l) (λ m. taken m ++ taken_now m s.0 r)) (sym en) (quiet_tied σ μ s.0 r log taken st (ap item_of rp) tied),
 )
 
 -- whatever history led to the first state goes on to the last
 pub history_goes_on : (σ τ : State) (steps : List (ℕ × Step)) (rs : List Reply) (run : List Entry) → Ran σ (asks_of steps) rs run τ → IsSound σ → (log : List Entry) (taken : ℕ → List Item) → IsTied σ log taken
     → IsTied τ (log ++ run) (λ m. taken m ++ taken_in m (asks_of steps) rs)
 history_goes_on σ τ [] [] run ran sound log taken tied =
-    subst (λ (x : State). IsTied x (log ++ run) (λ m. taken m ++ [])) ran.1
-    (subst (λ (l : List Entry). IsTied σ (log ++ l) (λ m. taken m ++ [])) (sym ran.0)
-    (subst (λ (l : List Entry). IsTied σ l (λ m. taken m ++ [])) (sym (append-nil log)) (subst (λ (f : ℕ → List Item). IsTied σ log f) (λ i m. sym (append-nil (taken m)) i) tied)))
+    subst (λ (l : List Entry). IsTied τ (log ++ l) (λ m. taken m ++ [])) (sym ran.0) (rests_tied σ τ log taken (sym ran.1) tied)
 history_goes_on σ τ (s ∷ steps) [] run ran sound log taken tied = absurd ran
 history_goes_on σ τ [] (r ∷ rs) run ran sound log taken tied = absurd ran
 history_goes_on σ τ (s ∷ steps) (r ∷ rs) run (μ, es, rest, t, ran, is) sound log taken tied =

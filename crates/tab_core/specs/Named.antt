@@ -5,10 +5,7 @@ use Rattle.std.specs.declared.cmp.Ordering.{Ordering}
 use Rattle.std.specs.Cmp.Lexicographic.{slice_cmp}
 use Rattle.tab_map.specs.Entries.{Ascends}
 use Rattle.tab_model.specs.Worlds.{World, Table, name_of}
-
--- the order of names: byte by byte
-abbrev pub name_cmp : List ℕ → List ℕ → Ordering
-name_cmp = slice_cmp nat_cmp
+use Rattle.tab_term.specs.Order.{bytes_cmp}
 
 abbrev pub Entry : Type 0
 Entry = List ℕ × Table
@@ -22,5 +19,5 @@ AllNamed (e ∷ es) = (name_of e.1 ≡ e.0) × AllNamed es
 
 -- each table stands at its own name, and the names ascend
 pub record AreNamed (es : List Entry) : Type 0 where
-  pub ascends : Ascends name_cmp es
+  pub ascends : Ascends bytes_cmp es
   pub named : AllNamed es

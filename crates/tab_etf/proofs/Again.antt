@@ -6,6 +6,7 @@ use Rattle.std.specs.Str.{encode_utf8_all}
 use Rattle.std.proofs.Math.Facts.{Fits-of_z}
 use Rattle.std.proofs.lemmas.Bool.{ne_eqb}
 use Rattle.std.proofs.lemmas.Int.{to_z-of_z}
+use Rattle.std.proofs.Math.Bool.{and-false}
 use Rattle.tab_term.specs.Data.{PlainTerm, int, atom, tuple, list, bin, map, PlainTerms, none, one_more, count, depth, depths}
 use Rattle.tab_term.specs.Numbers.{low_value}
 use Rattle.tab_etf.specs.declared.fault.Stop.{Stop}
@@ -14,15 +15,11 @@ use Rattle.tab_etf.specs.Reading.{Reads, text_at, short_text_at, small_integer, 
 use Rattle.tab_etf.proofs.Fields.{wide16, wide32, number_again, bytes_again}
 use Rattle.tab_etf.proofs.Text.{utf8_again, latin1_again}
 
-and_false : (b : Bool) → (b && false) ≡ false
-and_false true = refl
-and_false false = refl
-
 not_deepest : (ns : List ℕ) (l : ℕ) → depths (numbers ns) ≤ l → (ltb 0 (length ns) && eqb l 0) ≡ false
 not_deepest [] l h = refl
 not_deepest (n ∷ ns) l h =
     let e : eqb l 0 ≡ false = ne_eqb l 0 (omega arith) in
-    rw e (and_false (ltb 0 (suc (length ns))))
+    rw e (and-false (ltb 0 (suc (length ns))))
 
 -- ---- one tag at a time
 

@@ -2,6 +2,7 @@
 use Rattle.std.proofs.Common.{◌≡◌, ◌≢◌, ℕ, ◌^◌, ◌<◌, ◌≤◌, ℤ, Bool, true, false, List, [], ◌∷◌, ◌++◌, length, refl, unsigned_abs, arith, ltb, eqb, ◌&&◌, ap, sym, ◌∙◌}
 use Rattle.std.specs.Int.{w16, w32, w64, to_be_bytes, cast_unsigned}
 use Rattle.std.proofs.lemmas.Bool.{le-ltb, lt-ltb, ne_eqb, eq-eqb, eqb-true, eqb-false}
+use Rattle.std.proofs.Math.Bool.{and-false}
 use Rattle.tab_term.specs.Canon.{is_byte, fits_four, int_tag, int_contents, sign_of, magnitude, length_field, atom_tag, atom_length_field, tuple_tag, arity_field, all_bytes, bytes_of, list_tag, list_contents, canons}
 use Rattle.tab_term.specs.Data.{PlainTerms, count}
 
@@ -58,10 +59,6 @@ module _ (z : ℤ) where
 
 -- ---- lists
 
-and_false : (b : Bool) → (b && false) ≡ false
-and_false true = refl
-and_false false = refl
-
 module _ (ts : PlainTerms) where
   abbrev written : List ℕ
   written = list_tag ts ∷ list_contents ts (canons ts)
@@ -88,7 +85,7 @@ module _ (ts : PlainTerms) where
   list_long n le = let u : ltb (count ts) (2 ^ 16) ≡ false = le-ltb _ _ le in list_other false n (ap (λ b. b && all_bytes ts) u) refl
 
   pub list_mixed : count ts ≢ 0 → all_bytes ts ≡ false → written ≡ 108 ∷ length_field (count ts) ++ canons ts ++ 106 ∷ []
-  list_mixed n b = list_other false n (ap (λ c. ltb (count ts) (2 ^ 16) && c) b ∙ and_false (ltb (count ts) (2 ^ 16))) refl
+  list_mixed n b = list_other false n (ap (λ c. ltb (count ts) (2 ^ 16) && c) b ∙ and-false (ltb (count ts) (2 ^ 16))) refl
 
   -- the same of elements us, n of them
   module _ (us : PlainTerms) (n : ℕ) (same : us ≡ ts) (counted : n ≡ count ts) where

@@ -1,20 +1,20 @@
 -- The canonical spelling of a term that is given by its parts.
 use Rattle.std.proofs.Common.{◌≡◌, ℕ, ◌+◌, List, [], ◌∷◌, ◌++◌, length, refl, sym, ap, ◌∙◌, arith, length-append, append_assoc, Option, Some, None}
 use Rattle.std.proofs.lemmas.List.{append-nil}
-use Rattle.tab_term.specs.Data.{PlainTerm, tuple, none, one_more}
+use Rattle.tab_term.specs.Data.{PlainTerm, tuple, none, one_more, pair, triple}
 use Rattle.tab_term.specs.Canon.{canon}
 use Rattle.tab_etf.proofs.Canonical as is
 use Rattle.tab_etf.specs.declared.outline.Leaf.{Leaf}
 use Rattle.tab_etf.specs.declared.outline.Outline.{Outline}
 use Rattle.tab_etf.specs.Writing.{Output, Puts}
 use Rattle.tab_etf.proofs.Output.{puts_as, puts_then}
-use Rattle.tab_etf.specs.Outlines.{leaf_term, body_term, outline_term, pair_of, triple_of, under, head_canon}
+use Rattle.tab_etf.specs.Outlines.{leaf_term, body_term, outline_term, under, head_canon}
 
-pub pair_canon : (a b : PlainTerm) → canon (pair_of a b) ≡ (104 ∷ 2 ∷ []) ++ (canon a ++ canon b)
+pub pair_canon : (a b : PlainTerm) → canon (pair a b) ≡ (104 ∷ 2 ∷ []) ++ (canon a ++ canon b)
 unfolding canon
 pair_canon a b = ap (λ (h : List ℕ). h ++ (canon a ++ (canon b ++ []))) (is.tuple_short 2 (omega arith)) ∙ ap (λ (x : List ℕ). 104 ∷ 2 ∷ (canon a ++ x)) (append-nil (canon b))
 
-pub triple_canon : (a b c : PlainTerm) → canon (triple_of a b c) ≡ (104 ∷ 3 ∷ []) ++ (canon a ++ (canon b ++ canon c))
+pub triple_canon : (a b c : PlainTerm) → canon (triple a b c) ≡ (104 ∷ 3 ∷ []) ++ (canon a ++ (canon b ++ canon c))
 unfolding canon
 triple_canon a b c = ap (λ (h : List ℕ). h ++ (canon a ++ (canon b ++ (canon c ++ [])))) (is.tuple_short 3 (omega arith)) ∙ ap (λ (x : List ℕ). 104 ∷ 3 ∷ (canon a ++ (canon b ++ x))) (append-nil (canon c))
 
@@ -25,10 +25,10 @@ under_canon (Some l) t = pair_canon (leaf_term l) t
 pub outline_canon : (o : Outline) → canon (outline_term o) ≡ head_canon o.first ++ (head_canon o.second ++ canon (body_term o.body))
 outline_canon o = under_canon o.first (under o.second (body_term o.body)) ∙ ap (λ (x : List ℕ). head_canon o.first ++ x) (under_canon o.second (body_term o.body))
 
-pub pair_length : (a b : PlainTerm) → length (canon (pair_of a b)) ≡ 2 + length (canon a) + length (canon b)
+pub pair_length : (a b : PlainTerm) → length (canon (pair a b)) ≡ 2 + length (canon a) + length (canon b)
 pair_length a b = omega (arith, ap length (pair_canon a b), length-append (canon a) (canon b))
 
-pub triple_length : (a b c : PlainTerm) → length (canon (triple_of a b c)) ≡ 2 + length (canon a) + length (canon b) + length (canon c)
+pub triple_length : (a b c : PlainTerm) → length (canon (triple a b c)) ≡ 2 + length (canon a) + length (canon b) + length (canon c)
 triple_length a b c = omega (arith, ap length (triple_canon a b c), length-append (canon a) (canon b ++ canon c), length-append (canon b) (canon c))
 
 pub outline_length : (o : Outline) → length (canon (outline_term o)) ≡ length (head_canon o.first) + length (head_canon o.second) + length (canon (body_term o.body))
@@ -36,10 +36,10 @@ outline_length o = omega (arith, ap length (outline_canon o), length-append (hea
 
 -- ---- what is put, part by part
 
-pub puts_pair : (a b c d : Output) (s t : PlainTerm) → Puts a b (104 ∷ 2 ∷ []) → Puts b c (canon s) → Puts c d (canon t) → Puts a d (canon (pair_of s t))
+pub puts_pair : (a b c d : Output) (s t : PlainTerm) → Puts a b (104 ∷ 2 ∷ []) → Puts b c (canon s) → Puts c d (canon t) → Puts a d (canon (pair s t))
 puts_pair a b c d s t p q r = puts_as _ _ _ _ (puts_then _ _ _ _ _ p (puts_then _ _ _ _ _ q r)) (sym (pair_canon s t))
 
-pub puts_triple : (a b c d e : Output) (s t u : PlainTerm) → Puts a b (104 ∷ 3 ∷ []) → Puts b c (canon s) → Puts c d (canon t) → Puts d e (canon u) → Puts a e (canon (triple_of s t u))
+pub puts_triple : (a b c d e : Output) (s t u : PlainTerm) → Puts a b (104 ∷ 3 ∷ []) → Puts b c (canon s) → Puts c d (canon t) → Puts d e (canon u) → Puts a e (canon (triple s t u))
 puts_triple a b c d e s t u p q r w = puts_as _ _ _ _ (puts_then _ _ _ _ _ p (puts_then _ _ _ _ _ q (puts_then _ _ _ _ _ r w))) (sym (triple_canon s t u))
 
 pub puts_outline : (a b c d : Output) (o : Outline) → Puts a b (head_canon o.first) → Puts b c (head_canon o.second) → Puts c d (canon (body_term o.body)) → Puts a d (canon (outline_term o))

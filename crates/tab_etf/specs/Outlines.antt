@@ -1,7 +1,7 @@
 -- Terms that are given by their parts: an atom's text, a number, a term, the elements of a list; a tuple of two or three of
 -- these; and pairs around it.
 use Rattle.std.specs.Prelude.{ℕ, pos, ◌<◌, ◌^◌, List, [], ◌∷◌, Option, Some, None, length}
-use Rattle.tab_term.specs.Data.{PlainTerm, int, atom, tuple, list, none, one_more}
+use Rattle.tab_term.specs.Data.{PlainTerm, int, atom, tuple, list, none, one_more, pair, triple}
 use Rattle.tab_term.specs.Canon.{canon}
 use Rattle.tab_term.specs.View.{term}
 use Rattle.tab_etf.specs.declared.outline.Leaf.{Leaf}
@@ -16,21 +16,15 @@ leaf_term (leaf.Number n) = int (pos n)
 leaf_term (leaf.Held t) = term t.now
 leaf_term (leaf.List ts) = list ts.now
 
-abbrev pub pair_of : PlainTerm → PlainTerm → PlainTerm
-pair_of a b = tuple (one_more a (one_more b none))
-
-abbrev pub triple_of : PlainTerm → PlainTerm → PlainTerm → PlainTerm
-triple_of a b c = tuple (one_more a (one_more b (one_more c none)))
-
 abbrev pub body_term : Body → PlainTerm
 body_term (body.One a) = leaf_term a
-body_term (body.Two a b) = pair_of (leaf_term a) (leaf_term b)
-body_term (body.Three a b c) = triple_of (leaf_term a) (leaf_term b) (leaf_term c)
+body_term (body.Two a b) = pair (leaf_term a) (leaf_term b)
+body_term (body.Three a b c) = triple (leaf_term a) (leaf_term b) (leaf_term c)
 
 -- {Leaf, Term}, or the term alone
 abbrev pub under : Option Leaf → PlainTerm → PlainTerm
 under None t = t
-under (Some l) t = pair_of (leaf_term l) t
+under (Some l) t = pair (leaf_term l) t
 
 abbrev pub outline_term : Outline → PlainTerm
 outline_term o = under o.first (under o.second (body_term o.body))

@@ -1,5 +1,7 @@
 -- Who reads and who writes one part of a table, as one list.
 use Rattle.std.proofs.Common.{◌≡◌, ℕ, List, [], ◌∷◌, Bool, true, false, ◌||◌, ◌&&◌, not, refl, sym, ap, ◌∙◌, length, nat_cmp}
+use Rattle.std.proofs.lemmas.List.Folds.{list_any-append}
+use Rattle.std.proofs.Math.Bool.{or_assoc}
 use Rattle.std.specs.Prelude.{map, ◌==◌, ◌↔◌, IsTrue}
 use Rattle.std.specs.List.{list_any}
 use Rattle.std.specs.List.Sorted.{IsStrictlySortedBy}
@@ -7,11 +9,11 @@ use Rattle.std.specs.BTreeMap.{is_at}
 use Rattle.std.specs.BTreeSet.{insert_key}
 use Rattle.std.specs.Set.{remove_key}
 use Rattle.tab_locks.specs.Spots.{Holding, holdings}
-use Rattle.tab_locks.proofs.Passing.{any_append, any_map, or_assoc, or_swap}
+use Rattle.tab_locks.proofs.Passing.{any_map, or_swap}
 use Rattle.tab_locks.proofs.Inserted.{any_insert_key, any_remove_key}
 
 pub any_holdings : (p : Holding → Bool) (readers writers : List ℕ) → list_any p (holdings readers writers) ≡ (list_any (λ a. p (a, false)) readers || list_any (λ a. p (a, true)) writers)
-any_holdings p readers writers = any_append p (map (λ a. (a, false)) readers) (map (λ a. (a, true)) writers) ∙ (λ i. any_map p (λ a. (a, false)) readers i || any_map p (λ a. (a, true)) writers i)
+any_holdings p readers writers = list_any-append p (map (λ a. (a, false)) readers) (map (λ a. (a, true)) writers) ∙ (λ i. any_map p (λ a. (a, false)) readers i || any_map p (λ a. (a, true)) writers i)
 
 pub one_more_reader : (p : Holding → Bool) (age : ℕ) (readers writers new : List ℕ) → new ≡ insert_key nat_cmp readers age → list_any p (holdings new writers) ≡ (p (age, false) || list_any p (holdings readers writers))
 one_more_reader p age readers writers new is =

@@ -8,7 +8,8 @@ use Rattle.std.specs.BTreeMap.{is_at}
 use Rattle.std.specs.BTreeSet.{insert_key}
 use Rattle.std.specs.Set.{remove_key}
 use Rattle.std.proofs.lemmas.Bool.Decides.{nat_tests}
-use Rattle.tab_locks.proofs.Passing.{or_swap, or_twice, and_true, and_false}
+use Rattle.std.proofs.Math.Bool.{and-false, and-true}
+use Rattle.tab_locks.proofs.Passing.{or_swap, or_twice}
 
 equal_is : (a b : ℕ) → nat_cmp a b ≡ Equal → a ≡ b
 equal_is a b h = grind (arith, nat_tests)
@@ -33,7 +34,7 @@ any_insert_key p (x ∷ xs) k = by (nat_cmp k x) refl (any_insert_key p xs k)
 
 kept : (p : ℕ → Bool) (k x : ℕ) (xs : List ℕ) → is_eq (nat_cmp k x) ≡ true → AllByRecursion (λ y. nat_cmp x y ≡ Less) xs → list_any p xs ≡ list_any (λ y. p y && not (y == k)) xs
 kept p k x [] t h = refl
-kept p k x (y ∷ xs) t h = λ i. sym (ap (λ b. p y && not b) (above_is k x y t h.0) ∙ and_true (p y)) i || kept p k x xs t h.1 i
+kept p k x (y ∷ xs) t h = λ i. sym (ap (λ b. p y && not b) (above_is k x y t h.0) ∙ and-true (p y)) i || kept p k x xs t h.1 i
 
 pub any_remove_key : (p : ℕ → Bool) (k : ℕ) (ks : List ℕ) → IsStrictlySortedBy nat_cmp ks → list_any p (remove_key (is_at (nat_cmp k)) ks) ≡ list_any (λ y. p y && not (y == k)) ks
 unfolding IsStrictlySortedBy
@@ -41,5 +42,5 @@ any_remove_key p k [] s = refl
 any_remove_key p k (x ∷ xs) s = by (is_eq (nat_cmp k x)) refl (any_remove_key p k xs s.1)
   where
     by : (b : Bool) → is_eq (nat_cmp k x) ≡ b → list_any p (remove_key (is_at (nat_cmp k)) xs) ≡ list_any (λ y. p y && not (y == k)) xs → list_any p (cond b xs (x ∷ remove_key (is_at (nat_cmp k)) xs)) ≡ list_any (λ y. p y && not (y == k)) (x ∷ xs)
-    by true t ih = kept p k x xs t s.0 ∙ (λ i. sym (ap (λ b. p x && not b) (tied_is k x t) ∙ and_false (p x)) i || list_any (λ y. p y && not (y == k)) xs)
-    by false t ih = λ i. sym (ap (λ b. p x && not b) (apart_is k x t) ∙ and_true (p x)) i || ih i
+    by true t ih = kept p k x xs t s.0 ∙ (λ i. sym (ap (λ b. p x && not b) (tied_is k x t) ∙ and-false (p x)) i || list_any (λ y. p y && not (y == k)) xs)
+    by false t ih = λ i. sym (ap (λ b. p x && not b) (apart_is k x t) ∙ and-true (p x)) i || ih i

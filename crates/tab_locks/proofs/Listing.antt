@@ -9,6 +9,8 @@ use Rattle.std.specs.BTreeMap.{is_at, insert_entry}
 use Rattle.std.specs.Map.{keys_of, lookup, set_value, remove_entry}
 use Rattle.std.specs.Str.{bytes_eq}
 use Rattle.std.proofs.lemmas.Bool.Decides.{nat_tests}
+use Rattle.std.proofs.lemmas.List.Folds.{list_any-append}
+use Rattle.std.proofs.Math.Bool.{and-false, and-true}
 use Rattle.tab_term.specs.Same.{bytes_equiv, same_equiv}
 use Rattle.tab_model.specs.declared.data.Lock as code
 use Rattle.tab_model.specs.Locks.{Part, All, Key}
@@ -16,7 +18,8 @@ use Rattle.tab_model.specs.Ages.{Owned, without}
 use Rattle.tab_locks.specs.Plain.{lock_of}
 use Rattle.tab_locks.specs.Spots.{same_part, stands_at}
 use Rattle.tab_locks.specs.Placed.{placed, owned_by, listed, is_of}
-use Rattle.tab_locks.proofs.Passing.{or_swap, any_append, any_never, and_true, and_false}
+use Rattle.tab_locks.proofs.Passing.{or_swap, any_never}
+use Rattle.tab_model.proofs.Seats.{itself}
 
 abbrev Entries : Type 0
 Entries = List (ℕ × Vec code.Lock)
@@ -31,9 +34,6 @@ tied_is a b h = grind (arith, nat_tests)
 
 apart_is : (a b : ℕ) → is_eq (nat_cmp a b) ≡ false → (b == a) ≡ false
 apart_is a b h = grind (arith, nat_tests)
-
-itself : (a : ℕ) → (a == a) ≡ true
-itself a = grind (arith, nat_tests)
 
 less_is : (a b : ℕ) → nat_cmp a b ≡ Less → nat_lt a b ≡ true
 less_is a b h = grind (arith, nat_tests)
@@ -159,9 +159,9 @@ own_gone : (p : Owned → Bool) (age : ℕ) (first ls : List code.Lock) → list
 own_gone p age first [] = refl
 own_gone p age first (l ∷ ls) =
     let x : Owned = (age, lock_of l) in
-    let here : is_of age (first ++ l ∷ ls) x ≡ true = any_append (λ k. stands_at age (lock_of k) x) first (l ∷ ls) ∙ (λ i. is_of age first x || (stands_itself age l i || is_of age ls x)) ∙ or_true (is_of age first x) in
+    let here : is_of age (first ++ l ∷ ls) x ≡ true = list_any-append (λ k. stands_at age (lock_of k) x) first (l ∷ ls) ∙ (λ i. is_of age first x || (stands_itself age l i || is_of age ls x)) ∙ or_true (is_of age first x) in
     let rest = ap (λ ks. list_any (λ y. p y && not (is_of age ks y)) (owned_by age ls)) (sym (append_assoc first (l ∷ []) ls)) ∙ own_gone p age (first ++ l ∷ []) ls in
-    λ i. (ap (λ b. p x && not b) here ∙ and_false (p x)) i || rest i
+    λ i. (ap (λ b. p x && not b) here ∙ and-false (p x)) i || rest i
   where
     or_true : (b : Bool) → (b || true) ≡ true
     or_true true = refl
@@ -170,20 +170,20 @@ own_gone p age first (l ∷ ls) =
 -- no other owner's are
 other_kept : (age : ℕ) (locks : List code.Lock) (x : Owned) → (x.0 == age) ≡ false → is_of age locks x ≡ false
 other_kept age locks x h = any_never (λ l. stands_at age (lock_of l) x) locks
-    (λ l. (λ i. bytes_eq l.table (x.1).table && (same_part (lock_of l).part (x.1).part && h i)) ∙ ap (λ b. bytes_eq l.table (x.1).table && b) (and_false (same_part (lock_of l).part (x.1).part)) ∙ and_false (bytes_eq l.table (x.1).table))
+    (λ l. (λ i. bytes_eq l.table (x.1).table && (same_part (lock_of l).part (x.1).part && h i)) ∙ ap (λ b. bytes_eq l.table (x.1).table && b) (and-false (same_part (lock_of l).part (x.1).part)) ∙ and-false (bytes_eq l.table (x.1).table))
 
 others_kept : (p : Owned → Bool) (age k : ℕ) (locks ls : List code.Lock) → (k == age) ≡ false → list_any (λ x. p x && not (is_of age locks x)) (owned_by k ls) ≡ list_any p (owned_by k ls)
 others_kept p age k locks [] h = refl
 others_kept p age k locks (l ∷ ls) h =
     let x : Owned = (k, lock_of l) in
-    λ i. (ap (λ b. p x && not b) (other_kept age locks x h) ∙ and_true (p x)) i || others_kept p age k locks ls h i
+    λ i. (ap (λ b. p x && not b) (other_kept age locks x h) ∙ and-true (p x)) i || others_kept p age k locks ls h i
 
 all_kept : (p : Owned → Bool) (age : ℕ) (locks : List code.Lock) (es : Entries) → AllByRecursion (λ k. nat_cmp age k ≡ Less) (keys_of es) → list_any (λ x. p x && not (is_of age locks x)) (listed es) ≡ list_any p (listed es)
 all_kept p age locks [] h = refl
 all_kept p age locks (e ∷ es) h =
-    any_append (λ x. p x && not (is_of age locks x)) (owned_by e.0 (e.1).items) (listed es)
+    list_any-append (λ x. p x && not (is_of age locks x)) (owned_by e.0 (e.1).items) (listed es)
     ∙ (λ i. others_kept p age e.0 locks (e.1).items (less_apart age e.0 h.0) i || all_kept p age locks es h.1 i)
-    ∙ sym (any_append p (owned_by e.0 (e.1).items) (listed es))
+    ∙ sym (list_any-append p (owned_by e.0 (e.1).items) (listed es))
 
 pub released : (p : Owned → Bool) (age : ℕ) (v : Vec code.Lock) (es : Entries) → IsStrictlySortedBy nat_cmp (keys_of es) → lookup (is_at (nat_cmp age)) es ≡ Some v
     → list_any (λ x. p x && not (is_of age v.items x)) (listed es) ≡ list_any p (listed (remove_entry (is_at (nat_cmp age)) es))
@@ -198,15 +198,15 @@ released p age v (e ∷ es) s n = by (is_eq (nat_cmp age e.0)) refl n (λ m. rel
         let same : e.1 ≡ v = cc in
         let age_is = tied_is age e.0 t in
         let later = subst (λ (a : ℕ). AllByRecursion (λ k. nat_cmp a k ≡ Less) (keys_of es)) (sym age_is) s.0 in
-        any_append (λ x. p x && not (is_of age v.items x)) (owned_by e.0 (e.1).items) (listed es)
+        list_any-append (λ x. p x && not (is_of age v.items x)) (owned_by e.0 (e.1).items) (listed es)
         ∙ (λ i. (ap (λ (ls : List code.Lock). list_any (λ x. p x && not (is_of age v.items x)) (owned_by e.0 ls)) (ap (λ (u : Vec code.Lock). u.items) same)
         ∙ ap (λ (a : ℕ). list_any (λ x. p x && not (is_of age v.items x)) (owned_by a v.items)) (sym age_is)
         ∙ own_gone p age [] v.items) i
         || all_kept p age v.items es later i)
     by false t m ih =
-        any_append (λ x. p x && not (is_of age v.items x)) (owned_by e.0 (e.1).items) (listed es)
+        list_any-append (λ x. p x && not (is_of age v.items x)) (owned_by e.0 (e.1).items) (listed es)
         ∙ (λ i. others_kept p age e.0 v.items (e.1).items (apart_is age e.0 t) i || ih m i)
-        ∙ sym (any_append p (owned_by e.0 (e.1).items) (listed (remove_entry (is_at (nat_cmp age)) es)))
+        ∙ sym (list_any-append p (owned_by e.0 (e.1).items) (listed (remove_entry (is_at (nat_cmp age)) es)))
 
 pub listed_same : (age : ℕ) (v w : Vec code.Lock) (es : Entries) → lookup (is_at (nat_cmp age)) es ≡ Some v → w.items ≡ v.items → listed (set_value (is_at (nat_cmp age)) es w) ≡ listed es
 listed_same age v w [] n is = refl

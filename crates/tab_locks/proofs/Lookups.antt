@@ -7,7 +7,8 @@ use Rattle.std.specs.BTreeMap.{is_at, insert_entry}
 use Rattle.std.specs.Map.{keys_of, lookup, set_value, remove_entry}
 use Rattle.std.proofs.lemmas.Map.{NonePasses}
 use Rattle.std.proofs.lemmas.Map.Entries.{none_past_head}
-use Rattle.tab_locks.proofs.Passing.{or_false, or_assoc, or_swap}
+use Rattle.std.proofs.Math.Bool.{or-false, or_assoc}
+use Rattle.tab_locks.proofs.Passing.{or_swap}
 
 abbrev pub found_any : {V : Type 0} → (V → Bool) → Option V → Bool
 found_any g None = false
@@ -29,7 +30,7 @@ module _ {K V : Type 0} where
     any_found f g (e ∷ es) d h = by (eq q e.0) refl (any_found f g es d.1 h)
       where
         by : (b : Bool) → eq q e.0 ≡ b → list_any f es ≡ found_any g (lookup (eq q) es) → list_any f (e ∷ es) ≡ found_any g (cond b (Some e.1) (lookup (eq q) es))
-        by true t ih = (λ i. (h e ∙ ap (λ b. b && g e.1) t) i || none_any (eq q) f es (none_past_head laws q e es d t) (λ x n. h x ∙ ap (λ b. b && g x.1) n) i) ∙ or_false (g e.1)
+        by true t ih = (λ i. (h e ∙ ap (λ b. b && g e.1) t) i || none_any (eq q) f es (none_past_head laws q e es d t) (λ x n. h x ∙ ap (λ b. b && g x.1) n) i) ∙ or-false (g e.1)
         by false t ih = λ i. (h e ∙ ap (λ b. b && g e.1) t) i || ih i
 
     pub any_set : (f g : K × V → Bool) (v w : V) (es : List (K × V)) → IsDistinct eq (keys_of es) → lookup (eq q) es ≡ Some v → ((e : K × V) → eq q e.0 ≡ false → f e ≡ g e) → ((k : K) → eq q k ≡ true → f (k, w) ≡ g (k, v)) → list_any f (set_value (eq q) es w) ≡ list_any g es

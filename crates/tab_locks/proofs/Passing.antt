@@ -4,14 +4,6 @@ use Rattle.std.specs.Prelude.{map}
 use Rattle.std.specs.List.{list_any, flat_map}
 use Rattle.std.proofs.lemmas.List.Folds.{list_any-append}
 
-pub or_false : (a : Bool) → (a || false) ≡ a
-or_false true = refl
-or_false false = refl
-
-pub or_assoc : (a b c : Bool) → ((a || b) || c) ≡ (a || (b || c))
-or_assoc true b c = refl
-or_assoc false b c = refl
-
 pub or_swap : (a b c : Bool) → (a || (b || c)) ≡ (b || (a || c))
 or_swap true true c = refl
 or_swap true false c = refl
@@ -20,18 +12,6 @@ or_swap false b c = refl
 pub or_twice : (a b : Bool) → (a || b) ≡ (a || (a || b))
 or_twice true b = refl
 or_twice false b = refl
-
-pub and_false : (a : Bool) → (a && false) ≡ false
-and_false true = refl
-and_false false = refl
-
-pub and_true : (a : Bool) → (a && true) ≡ a
-and_true true = refl
-and_true false = refl
-
-pub and_assoc : (a b c : Bool) → ((a && b) && c) ≡ (a && (b && c))
-and_assoc true b c = refl
-and_assoc false b c = refl
 
 module _ {X : Type 0} where
   pub any_same : (p q : X → Bool) (xs : List X) → ((x : X) → p x ≡ q x) → list_any p xs ≡ list_any q xs
@@ -45,9 +25,6 @@ module _ {X : Type 0} where
   pub any_and : (b : Bool) (p : X → Bool) (xs : List X) → list_any (λ x. b && p x) xs ≡ (b && list_any p xs)
   any_and true p xs = refl
   any_and false p xs = any_never (λ x. false && p x) xs (λ x. refl)
-
-  pub any_append : (p : X → Bool) (xs ys : List X) → list_any p (xs ++ ys) ≡ (list_any p xs || list_any p ys)
-  any_append p xs ys = list_any-append p xs ys
 
   -- one more at the end
   pub any_more : (p : X → Bool) (xs : List X) (x : X) → list_any p (xs ++ x ∷ []) ≡ (p x || list_any p xs)
@@ -66,4 +43,4 @@ module _ {X Y : Type 0} where
 
   pub any_flat_map : (p : Y → Bool) (f : X → List Y) (xs : List X) → list_any p (flat_map f xs) ≡ list_any (λ x. list_any p (f x)) xs
   any_flat_map p f [] = refl
-  any_flat_map p f (x ∷ xs) = any_append p (f x) (flat_map f xs) ∙ (λ i. list_any p (f x) || any_flat_map p f xs i)
+  any_flat_map p f (x ∷ xs) = list_any-append p (f x) (flat_map f xs) ∙ (λ i. list_any p (f x) || any_flat_map p f xs i)

@@ -9,8 +9,9 @@ use Rattle.std.specs.BTreeMap.{is_at, insert_entry}
 use Rattle.std.specs.Map.{keys_of, lookup, set_value, remove_entry}
 use Rattle.std.proofs.lemmas.Map.{none_passes_from_lookup}
 use Rattle.std.proofs.lemmas.Map.Keys.{IsDistinct-from_sorted}
+use Rattle.std.proofs.Math.Bool.{and-true}
 use Rattle.tab_locks.specs.Members.{HasMore, SameMembers, Drops}
-use Rattle.tab_locks.proofs.Passing.{any_same, any_map, any_flat_map, and_true}
+use Rattle.tab_locks.proofs.Passing.{any_same, any_map, any_flat_map}
 use Rattle.tab_locks.proofs.Lookups.{found_any, same_any, any_found, any_set, any_set_more, any_insert, any_remove}
 
 -- each member written in another way
@@ -28,7 +29,7 @@ module _ {X Y : Type 0} (f : X → Y) where
 
   pub kept_mapped : (gone : Y → Bool) (xs : List X) → ((x : X) → gone (f x) ≡ false) → Drops gone (map f xs) (map f xs)
   kept_mapped gone xs is = λ p.
-      any_map p f xs ∙ any_same (λ x. p (f x)) (λ x. p (f x) && not (gone (f x))) xs (λ x. sym (ap (λ b. p (f x) && not b) (is x) ∙ and_true (p (f x))))
+      any_map p f xs ∙ any_same (λ x. p (f x)) (λ x. p (f x) && not (gone (f x))) xs (λ x. sym (ap (λ b. p (f x) && not b) (is x) ∙ and-true (p (f x))))
       ∙ sym (any_map (λ y. p y && not (gone y)) f xs)
 
 module _ {K V X : Type 0} (cmp : K → K → Ordering) (o : IsTotalOrder cmp) (spell : K → V → List X) (q : K) where

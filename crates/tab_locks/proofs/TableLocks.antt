@@ -8,6 +8,7 @@ use Rattle.std.specs.BTreeMap.{is_at, insert_entry}
 use Rattle.std.specs.Map.{keys_of, lookup, set_value, remove_entry}
 use Rattle.std.proofs.lemmas.Cmp.{nat_list_cmp_total}
 use Rattle.std.proofs.lemmas.Slice.Eq.{bytes_eq-Decides}
+use Rattle.std.proofs.Math.Bool.{and-true}
 use Rattle.tab_term.specs.Same.{bytes_equiv}
 use Rattle.tab_term.specs.OrderLaws.{matches_bytes}
 use Rattle.tab_model.specs.Locks.{Part, lock, meets, contains}
@@ -16,18 +17,20 @@ use Rattle.tab_locks.specs.declared.question.Relation.{Relation}
 use Rattle.tab_locks.specs.declared.question.Relation.TheVariants.{Opposing, Blocking, Covering}
 use Rattle.tab_locks.specs.Questions.{asked, fits, reaches}
 use Rattle.tab_locks.specs.Members.{HasMore, SameMembers, Drops}
-use Rattle.tab_locks.specs.Spots.{Spot, locks_on, locks_in, name_cmp, stands_on, stands_at}
-use Rattle.tab_locks.proofs.Passing.{any_same, any_map, any_and, and_true}
+use Rattle.tab_locks.specs.Spots.{Spot, locks_on, locks_in, stands_on, stands_at}
+use Rattle.tab_locks.proofs.Passing.{any_same, any_map, any_and}
 use Rattle.tab_locks.proofs.Lookups.{found_any}
 use Rattle.tab_locks.proofs.Spelled.{more_mapped, same_mapped, dropped_mapped, kept_mapped, spelled_found, spelled_more, spelled_same, spelled_new, spelled_dropped, spelled_kept, spelled_pruned}
+use Rattle.tab_term.specs.Order.{bytes_cmp}
+use Rattle.tab_model.specs.State.{is_in}
 
 abbrev Entries : Type 0
 Entries = List (List ℕ × List Spot)
 
-is_table : (t u : List ℕ) → is_at (name_cmp t) u ≡ bytes_eq t u
+is_table : (t u : List ℕ) → is_at (bytes_cmp t) u ≡ bytes_eq t u
 is_table t u = sym (matches_bytes t u)
 
-one_table : (t u : List ℕ) → is_at (name_cmp t) u ≡ true → t ≡ u
+one_table : (t u : List ℕ) → is_at (bytes_cmp t) u ≡ true → t ≡ u
 one_table t u h = (bytes_eq-Decides t u).0 (sym (is_table t u) ∙ h)
 
 by_parts : (a b c d : Bool) → (a && (b && (c && d))) ≡ (b && (d && (a && c)))
@@ -58,43 +61,44 @@ asked_by_parts Covering age write t u part s =
     by_parts (s.1.0 == age) (bytes_eq u t) (s.1.1 || not write) (contains s.0 part)
     ∙ ap (λ b. b && (contains s.0 part && ((s.1.0 == age) && (s.1.1 || not write)))) (bytes_equiv.symm u t)
 
-pub asked_at : (r : Relation) (age : ℕ) (write : Bool) (t : List ℕ) (part : Part) (es : Entries) → IsStrictlySortedBy name_cmp (keys_of es)
-    → list_any (asked r (age, lock t part write)) (locks_in es) ≡ found_any (list_any (λ s. reaches r part s.0 && fits r (age, write) s.1)) (lookup (is_at (name_cmp t)) es)
-asked_at r age write t part es s = spelled_found name_cmp nat_list_cmp_total locks_on t (asked r (age, lock t part write)) (list_any (λ s. reaches r part s.0 && fits r (age, write) s.1)) es s
+pub asked_at : (r : Relation) (age : ℕ) (write : Bool) (t : List ℕ) (part : Part) (es : Entries) → IsStrictlySortedBy bytes_cmp (keys_of es)
+    → list_any (asked r (age, lock t part write)) (locks_in es) ≡ found_any (list_any (λ s. reaches r part s.0 && fits r (age, write) s.1)) (lookup (is_at (bytes_cmp t)) es)
+asked_at r age write t part es s = spelled_found bytes_cmp nat_list_cmp_total locks_on t (asked r (age, lock t part write)) (list_any (λ s. reaches r part s.0 && fits r (age, write) s.1)) es s
     (λ e. any_map (asked r (age, lock t part write)) (λ (z : Spot). (z.1.0, lock e.0 z.0 z.1.1)) e.1
     ∙ any_same (λ z. asked r (age, lock t part write) (z.1.0, lock e.0 z.0 z.1.1)) (λ z. bytes_eq t e.0 && (reaches r part z.0 && fits r (age, write) z.1)) e.1 (asked_by_parts r age write t e.0 part)
     ∙ any_and (bytes_eq t e.0) (λ z. reaches r part z.0 && fits r (age, write) z.1) e.1
     ∙ ap (λ b. b && list_any (λ z. reaches r part z.0 && fits r (age, write) z.1) e.1) (sym (is_table t e.0)))
 
-pub locked_at : (t : List ℕ) (es : Entries) → IsStrictlySortedBy name_cmp (keys_of es) → list_any (λ x. bytes_eq t (x.1).table) (locks_in es) ≡ found_any (list_any (λ s. true)) (lookup (is_at (name_cmp t)) es)
-locked_at t es s = spelled_found name_cmp nat_list_cmp_total locks_on t (λ x. bytes_eq t (x.1).table) (list_any (λ s. true)) es s
+pub locked_at : (t : List ℕ) (es : Entries) → IsStrictlySortedBy bytes_cmp (keys_of es) → list_any (is_in t) (locks_in es) ≡ found_any (list_any (λ s. true)) (lookup (is_at (bytes_cmp t)) es)
+locked_at t es s = any_same (is_in t) (λ x. bytes_eq t (x.1).table) (locks_in es) (λ x. bytes_equiv.symm (x.1).table t)
+    ∙ spelled_found bytes_cmp nat_list_cmp_total locks_on t (λ x. bytes_eq t (x.1).table) (list_any (λ s. true)) es s
     (λ e. any_map (λ x. bytes_eq t (x.1).table) (λ (z : Spot). (z.1.0, lock e.0 z.0 z.1.1)) e.1
-    ∙ any_same (λ z. bytes_eq t e.0) (λ z. bytes_eq t e.0 && true) e.1 (λ z. sym (and_true (bytes_eq t e.0)))
+    ∙ any_same (λ z. bytes_eq t e.0) (λ z. bytes_eq t e.0 && true) e.1 (λ z. sym (and-true (bytes_eq t e.0)))
     ∙ any_and (bytes_eq t e.0) (λ z. true) e.1 ∙ ap (λ b. b && list_any (λ z. true) e.1) (sym (is_table t e.0)))
 
-pub more_in : (t : List ℕ) (x : Spot) (v w : List Spot) (es new : Entries) → lookup (is_at (name_cmp t)) es ≡ Some v → new ≡ set_value (is_at (name_cmp t)) es w
+pub more_in : (t : List ℕ) (x : Spot) (v w : List Spot) (es new : Entries) → lookup (is_at (bytes_cmp t)) es ≡ Some v → new ≡ set_value (is_at (bytes_cmp t)) es w
     → HasMore x v w → HasMore (x.1.0, lock t x.0 x.1.1) (locks_in es) (locks_in new)
-more_in t x v w es new l is h = spelled_more name_cmp nat_list_cmp_total locks_on t (x.1.0, lock t x.0 x.1.1) v w es new l is
+more_in t x v w es new l is h = spelled_more bytes_cmp nat_list_cmp_total locks_on t (x.1.0, lock t x.0 x.1.1) v w es new l is
     (λ u e. let P = λ (y : Owned). HasMore y (locks_on u v) (locks_on u w) in subst P (λ i. (x.1.0, lock (sym (one_table t u e) i) x.0 x.1.1)) (more_mapped (λ (s : Spot). (s.1.0, lock u s.0 s.1.1)) x v w h))
 
-pub same_in : (t : List ℕ) (v w : List Spot) (es new : Entries) → lookup (is_at (name_cmp t)) es ≡ Some v → new ≡ set_value (is_at (name_cmp t)) es w → SameMembers v w → SameMembers (locks_in es) (locks_in new)
-same_in t v w es new l is h = spelled_same name_cmp nat_list_cmp_total locks_on t v w es new l is (λ u. same_mapped (λ (s : Spot). (s.1.0, lock u s.0 s.1.1)) v w h)
+pub same_in : (t : List ℕ) (v w : List Spot) (es new : Entries) → lookup (is_at (bytes_cmp t)) es ≡ Some v → new ≡ set_value (is_at (bytes_cmp t)) es w → SameMembers v w → SameMembers (locks_in es) (locks_in new)
+same_in t v w es new l is h = spelled_same bytes_cmp nat_list_cmp_total locks_on t v w es new l is (λ u. same_mapped (λ (s : Spot). (s.1.0, lock u s.0 s.1.1)) v w h)
 
-pub new_in : (t u : List ℕ) (x : Spot) (v : List Spot) (es new : Entries) → u ≡ t → lookup (is_at (name_cmp t)) es ≡ None → new ≡ insert_entry name_cmp es u v
+pub new_in : (t u : List ℕ) (x : Spot) (v : List Spot) (es new : Entries) → u ≡ t → lookup (is_at (bytes_cmp t)) es ≡ None → new ≡ insert_entry bytes_cmp es u v
     → HasMore x [] v → HasMore (x.1.0, lock t x.0 x.1.1) (locks_in es) (locks_in new)
-new_in t u x v es new e l is h = spelled_new name_cmp nat_list_cmp_total locks_on t (x.1.0, lock t x.0 x.1.1) v es new l (is ∙ ap (λ z. insert_entry name_cmp es z v) e) (more_mapped (λ (s : Spot). (s.1.0, lock t s.0 s.1.1)) x [] v h)
+new_in t u x v es new e l is h = spelled_new bytes_cmp nat_list_cmp_total locks_on t (x.1.0, lock t x.0 x.1.1) v es new l (is ∙ ap (λ z. insert_entry bytes_cmp es z v) e) (more_mapped (λ (s : Spot). (s.1.0, lock t s.0 s.1.1)) x [] v h)
 
-others_stay : (age : ℕ) (t : List ℕ) (part : Part) (write : Bool) (e : List ℕ × List Spot) → is_at (name_cmp t) e.0 ≡ false → Drops (stands_at age (lock t part write)) (locks_on e.0 e.1) (locks_on e.0 e.1)
+others_stay : (age : ℕ) (t : List ℕ) (part : Part) (write : Bool) (e : List ℕ × List Spot) → is_at (bytes_cmp t) e.0 ≡ false → Drops (stands_at age (lock t part write)) (locks_on e.0 e.1) (locks_on e.0 e.1)
 others_stay age t part write e n = kept_mapped (λ (s : Spot). (s.1.0, lock e.0 s.0 s.1.1)) (stands_at age (lock t part write)) e.1 (λ s. ap (λ b. b && stands_on part age s) (sym (is_table t e.0) ∙ n))
 
-pub dropped_in : (age : ℕ) (t : List ℕ) (part : Part) (write : Bool) (v w : List Spot) (es new : Entries) → IsStrictlySortedBy name_cmp (keys_of es) → lookup (is_at (name_cmp t)) es ≡ Some v → new ≡ set_value (is_at (name_cmp t)) es w
+pub dropped_in : (age : ℕ) (t : List ℕ) (part : Part) (write : Bool) (v w : List Spot) (es new : Entries) → IsStrictlySortedBy bytes_cmp (keys_of es) → lookup (is_at (bytes_cmp t)) es ≡ Some v → new ≡ set_value (is_at (bytes_cmp t)) es w
     → Drops (stands_on part age) v w → Drops (stands_at age (lock t part write)) (locks_in es) (locks_in new)
-dropped_in age t part write v w es new s l is h = spelled_dropped name_cmp nat_list_cmp_total locks_on t (stands_at age (lock t part write)) v w es new s l is
+dropped_in age t part write v w es new s l is h = spelled_dropped bytes_cmp nat_list_cmp_total locks_on t (stands_at age (lock t part write)) v w es new s l is
     (λ u e. dropped_mapped (λ (z : Spot). (z.1.0, lock u z.0 z.1.1)) (stands_at age (lock t part write)) (stands_on part age) v w h (λ z. ap (λ b. b && stands_on part age z) (sym (is_table t u) ∙ e)))
     (others_stay age t part write)
 
-pub none_in : (age : ℕ) (t : List ℕ) (part : Part) (write : Bool) (es : Entries) → lookup (is_at (name_cmp t)) es ≡ None → Drops (stands_at age (lock t part write)) (locks_in es) (locks_in es)
-none_in age t part write es l = spelled_kept name_cmp nat_list_cmp_total locks_on t (stands_at age (lock t part write)) es l (others_stay age t part write)
+pub none_in : (age : ℕ) (t : List ℕ) (part : Part) (write : Bool) (es : Entries) → lookup (is_at (bytes_cmp t)) es ≡ None → Drops (stands_at age (lock t part write)) (locks_in es) (locks_in es)
+none_in age t part write es l = spelled_kept bytes_cmp nat_list_cmp_total locks_on t (stands_at age (lock t part write)) es l (others_stay age t part write)
 
-pub pruned_in : (t : List ℕ) (es new : Entries) → lookup (is_at (name_cmp t)) es ≡ Some [] → new ≡ remove_entry (is_at (name_cmp t)) es → SameMembers (locks_in es) (locks_in new)
-pruned_in t es new l is = spelled_pruned name_cmp nat_list_cmp_total locks_on t [] es new l is (λ u. refl)
+pub pruned_in : (t : List ℕ) (es new : Entries) → lookup (is_at (bytes_cmp t)) es ≡ Some [] → new ≡ remove_entry (is_at (bytes_cmp t)) es → SameMembers (locks_in es) (locks_in new)
+pruned_in t es new l is = spelled_pruned bytes_cmp nat_list_cmp_total locks_on t [] es new l is (λ u. refl)

@@ -1,5 +1,7 @@
 -- The locks on one table, as one list.
 use Rattle.std.proofs.Common.{◌≡◌, ℕ, List, Bool, true, ◌||◌, ◌&&◌, not, refl, sym, ap, ◌∙◌}
+use Rattle.std.proofs.Math.Bool.{and-true, or_assoc}
+use Rattle.std.proofs.lemmas.List.Folds.{list_any-append}
 use Rattle.std.specs.Prelude.{map, ◌==◌}
 use Rattle.std.specs.List.{list_any}
 use Rattle.tab_term.specs.Data.{PlainTerm}
@@ -10,10 +12,10 @@ use Rattle.tab_locks.specs.declared.question.Relation.TheVariants.{Opposing, Blo
 use Rattle.tab_locks.specs.Questions.{reaches}
 use Rattle.tab_locks.specs.Members.{HasMore, SameMembers, Drops}
 use Rattle.tab_locks.specs.Spots.{Holding, Spot, KeySpot, spots_of, stands_on, stands_on_key}
-use Rattle.tab_locks.proofs.Passing.{or_assoc, or_swap, any_same, any_append, any_map, any_and, and_true}
+use Rattle.tab_locks.proofs.Passing.{or_swap, any_same, any_map, any_and}
 
 pub any_spots : (p : Spot → Bool) (all : List Holding) (keys : List KeySpot) → list_any p (spots_of all keys) ≡ (list_any (λ h. p (All, h)) all || list_any (λ s. p (Key s.0, s.1)) keys)
-any_spots p all keys = any_append p (map (λ h. (All, h)) all) (map (λ s. (Key s.0, s.1)) keys) ∙ (λ i. any_map p (λ (h : Holding). (All, h)) all i || any_map p (λ (s : KeySpot). (Key s.0, s.1)) keys i)
+any_spots p all keys = list_any-append p (map (λ h. (All, h)) all) (map (λ s. (Key s.0, s.1)) keys) ∙ (λ i. any_map p (λ (h : Holding). (All, h)) all i || any_map p (λ (s : KeySpot). (Key s.0, s.1)) keys i)
 
 reaches_all : (r : Relation) (part : Part) → reaches r part All ≡ true
 reaches_all Opposing All = refl
@@ -64,11 +66,11 @@ same_on_keys all keys new h = λ p. any_spots p all new ∙ (λ i. list_any (λ 
 pub dropped_on_all : (age : ℕ) (all new : List Holding) (keys : List KeySpot) → Drops (λ h. h.0 == age) all new → Drops (stands_on All age) (spots_of all keys) (spots_of new keys)
 dropped_on_all age all new keys h = λ p.
     any_spots p new keys
-    ∙ (λ i. h (λ y. p (All, y)) i || any_same (λ s. p (Key s.0, s.1)) (λ s. p (Key s.0, s.1) && true) keys (λ s. sym (and_true (p (Key s.0, s.1)))) i)
+    ∙ (λ i. h (λ y. p (All, y)) i || any_same (λ s. p (Key s.0, s.1)) (λ s. p (Key s.0, s.1) && true) keys (λ s. sym (and-true (p (Key s.0, s.1)))) i)
     ∙ sym (any_spots (λ s. p s && not (stands_on All age s)) all keys)
 
 pub dropped_on_key : (key : PlainTerm) (age : ℕ) (all : List Holding) (keys new : List KeySpot) → Drops (stands_on_key key age) keys new → Drops (stands_on (Key key) age) (spots_of all keys) (spots_of all new)
 dropped_on_key key age all keys new h = λ p.
     any_spots p all new
-    ∙ (λ i. any_same (λ y. p (All, y)) (λ y. p (All, y) && true) all (λ y. sym (and_true (p (All, y)))) i || h (λ s. p (Key s.0, s.1)) i)
+    ∙ (λ i. any_same (λ y. p (All, y)) (λ y. p (All, y) && true) all (λ y. sym (and-true (p (All, y)))) i || h (λ s. p (Key s.0, s.1)) i)
     ∙ sym (any_spots (λ s. p s && not (stands_on (Key key) age s)) all keys)

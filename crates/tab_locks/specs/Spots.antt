@@ -24,12 +24,6 @@ Spot = Part × Holding
 abbrev pub KeySpot : Type 0
 KeySpot = PlainTerm × Holding
 
-abbrev pub term_cmp : Term → Term → Ordering
-term_cmp = on (λ t. canon (term t)) (slice_cmp nat_cmp)
-
-abbrev pub name_cmp : List ℕ → List ℕ → Ordering
-name_cmp = slice_cmp nat_cmp
-
 -- who reads and who writes one part of a table
 abbrev pub holdings : List ℕ → List ℕ → List Holding
 holdings readers writers = map (λ a. (a, false)) readers ++ map (λ a. (a, true)) writers

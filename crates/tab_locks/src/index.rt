@@ -3,10 +3,12 @@ ghost use Rattle.std.specs.BTreeMap.{get_by, is_at, IsOrdered};
 ghost use Rattle.std.specs.List.{list_any};
 ghost use Rattle.std.specs.Map.{remove_entry};
 ghost use Rattle.std.specs.Str.{bytes_eq};
+ghost use Rattle.tab_model.specs.State.{is_in};
 ghost use Rattle.tab_locks.specs.Plain.{is_write as is_write_of, lock_of};
 ghost use Rattle.tab_locks.specs.Questions.{asked};
 ghost use Rattle.tab_locks.specs.Members.{HasMore, SameMembers, Drops};
-ghost use Rattle.tab_locks.specs.Spots.{stands_at, name_cmp};
+ghost use Rattle.tab_locks.specs.Spots.{stands_at};
+ghost use Rattle.tab_term.specs.Order.{bytes_cmp};
 
 use crate::on_table::OnTable;
 use crate::question::{Question, Relation};
@@ -28,7 +30,8 @@ impl Model for Index {
     ghost use Rattle.std.specs.Coded.{codes};
     ghost use Rattle.tab_term.specs.Code.{term_code};
     ghost use Rattle.tab_model.specs.Ages.{Owned};
-    ghost use Rattle.tab_locks.specs.Spots.{locks_in, name_cmp};
+    ghost use Rattle.tab_locks.specs.Spots.{locks_in};
+    ghost use Rattle.tab_term.specs.Order.{bytes_cmp};
 
     ghost Value = { List Owned };
 
@@ -36,7 +39,7 @@ impl Model for Index {
 
     ghost view = { λ a. locks_in a.tables.entries };
 
-    ghost invariant = { λ a. IsOrdered name_cmp a.tables };
+    ghost invariant = { λ a. IsOrdered bytes_cmp a.tables };
 }
 
 impl Index {
@@ -63,7 +66,7 @@ impl Index {
     }
 
     pub fn is_locked(&self, table: &Atom) -> bool
-        ensures { result ≡ list_any (λ x. bytes_eq table.now (x.1).table) self.now }
+        ensures { result ≡ list_any (is_in table.now) self.now }
     {
         match self.tables.get(table) {
             Some(spots) => spots.is_occupied(),
@@ -113,7 +116,7 @@ impl Index {
 }
 
 fn is_bare(tables: &BTreeMap<Atom, OnTable>, table: &Atom) -> bool
-    ensures { IsTrue result → get_by (name_cmp table.now) tables.now ≡ Some [] }
+    ensures { IsTrue result → get_by (bytes_cmp table.now) tables.now ≡ Some [] }
 {
     match tables.get(table) {
         Some(spots) => !spots.is_occupied(),
@@ -122,8 +125,8 @@ fn is_bare(tables: &BTreeMap<Atom, OnTable>, table: &Atom) -> bool
 }
 
 fn forget(tables: &mut BTreeMap<Atom, OnTable>, table: &Atom)
-    ensures entries { tables.new.entries ≡ remove_entry (is_at (name_cmp table.now)) tables.old.entries }
-    ensures ordered { IsOrdered name_cmp tables.new }
+    ensures entries { tables.new.entries ≡ remove_entry (is_at (bytes_cmp table.now)) tables.old.entries }
+    ensures ordered { IsOrdered bytes_cmp tables.new }
 {
     tables.remove(table);
 }

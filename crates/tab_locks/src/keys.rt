@@ -6,7 +6,8 @@ ghost use Rattle.tab_term.specs.Same.{same};
 ghost use Rattle.tab_term.specs.View.{term};
 ghost use Rattle.tab_locks.specs.Questions.{fits};
 ghost use Rattle.tab_locks.specs.Members.{HasMore, SameMembers, Drops};
-ghost use Rattle.tab_locks.specs.Spots.{stands_on_key, term_cmp};
+ghost use Rattle.tab_locks.specs.Spots.{stands_on_key};
+ghost use Rattle.tab_term.specs.Order.{term_cmp};
 
 use crate::holders::Holders;
 use crate::question::Question;
@@ -26,7 +27,8 @@ impl Model for Keys {
     ghost use Rattle.std.specs.BTreeMap.{IsOrdered};
     ghost use Rattle.std.specs.Coded.{codes};
     ghost use Rattle.tab_term.specs.Code.{term_code};
-    ghost use Rattle.tab_locks.specs.Spots.{KeySpot, key_spots, term_cmp};
+    ghost use Rattle.tab_locks.specs.Spots.{KeySpot, key_spots};
+    ghost use Rattle.tab_term.specs.Order.{term_cmp};
 
     ghost Value = { List KeySpot };
 

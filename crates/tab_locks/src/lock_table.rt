@@ -4,6 +4,7 @@ ghost use Rattle.std.specs.BTreeMap.{get, IsOrdered};
 ghost use Rattle.std.specs.Ordering.{nat_cmp};
 ghost use Rattle.std.specs.Str.{bytes_eq};
 ghost use Rattle.tab_model.specs.Ages.{covers_own, without};
+ghost use Rattle.tab_model.specs.State.{is_in};
 ghost use Rattle.tab_locks.specs.Plain.{lock_of};
 ghost use Rattle.tab_locks.specs.Members.{HasMore, SameMembers, Drops};
 ghost use Rattle.tab_locks.specs.Placed.{placed, listed, is_of, conflict_with};
@@ -81,7 +82,7 @@ impl LockTable {
 
     /// Whether some lock is on this table, or on a key of it.
     pub fn is_locked(&self, table: &Atom) -> bool
-        ensures { result ≡ list_any (λ x. bytes_eq table.now (x.1).table) self.now }
+        ensures { result ≡ list_any (is_in table.now) self.now }
     {
         self.index.is_locked(table)
     }

@@ -4,14 +4,11 @@ use Rattle.std.specs.Str.{bytes_eq}
 use Rattle.std.specs.List.{list_any}
 use Rattle.std.proofs.lemmas.Bool.Decides.{nat_tests}
 use Rattle.std.proofs.lemmas.Slice.Eq.{bytes_eq-Decides}
+use Rattle.std.proofs.lemmas.Bool.{and_from, and_parts}
 use Rattle.tab_term.specs.Data.{PlainTerm}
 use Rattle.tab_term.specs.Same.{same}
 use Rattle.tab_model.specs.Locks.{Part, All, Key, Lock, meets, conflict, contains, covers}
 use Rattle.tab_model.proofs.TableLaws.{same_true, same_refl}
-
-pub any-append : {A : Type 0} (p : A → Bool) (xs ys : List A) → list_any p (xs ++ ys) ≡ (list_any p xs || list_any p ys)
-any-append p [] ys = refl
-any-append p (x ∷ xs) ys = grind (arith, nat_tests, any-append p xs ys)
 
 both_ways : (p q : Bool) → (p ≡ true → q ≡ true) → (q ≡ true → p ≡ true) → p ≡ q
 both_ways true q f g = sym (f refl)
@@ -42,14 +39,6 @@ meets_sym (Key j) (Key k) = same_sym j k
 pub conflict-sym : (a b : Lock) → conflict a b ≡ conflict b a
 conflict-sym a b = λ i. bytes_sym a.table b.table i && (or_sym a.write b.write i && meets_sym a.part b.part i)
 
-and_parts : (a b : Bool) → (a && b) ≡ true → (a ≡ true) × (b ≡ true)
-and_parts true b h = (refl, h)
-and_parts false b h = cc
-
-and_both : (a b : Bool) → a ≡ true → b ≡ true → (a && b) ≡ true
-and_both true b h k = k
-and_both false b h k = cc
-
 meets_wider : (a l b : Part) → contains a l ≡ true → meets l b ≡ true → meets a b ≡ true
 meets_wider All l b e f = refl
 meets_wider (Key i) All b e f = cc
@@ -72,5 +61,5 @@ served_one l a b e f = not_true (conflict l b) (λ h.
     let d = and_parts (l.write || b.write) (meets l.part b.part) c.1 in
     let g = and_parts (bytes_eq a.table l.table) ((a.write || not l.write) && contains a.part l.part) e in
     let k = and_parts (a.write || not l.write) (contains a.part l.part) g.1 in
-    sym f ∙ and_both (bytes_eq a.table b.table) ((a.write || b.write) && meets a.part b.part) (ap (λ z. bytes_eq z b.table) (bytes_true a.table l.table g.0) ∙ c.0)
-    (and_both (a.write || b.write) (meets a.part b.part) (writes_wider a.write l.write b.write k.0 d.0) (meets_wider a.part l.part b.part k.1 d.1)))
+    sym f ∙ and_from (bytes_eq a.table b.table) ((a.write || b.write) && meets a.part b.part) (ap (λ z. bytes_eq z b.table) (bytes_true a.table l.table g.0) ∙ c.0)
+    (and_from (a.write || b.write) (meets a.part b.part) (writes_wider a.write l.write b.write k.0 d.0) (meets_wider a.part l.part b.part k.1 d.1)))

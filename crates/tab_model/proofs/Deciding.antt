@@ -2,20 +2,12 @@
 use Rattle.std.proofs.Common.{◌≡◌, ◌≢◌, ℕ, ◌<◌, List, ◌++◌, Bool, true, false, ◌||◌, ◌&&◌, not, refl, sym, ap, ◌∙◌, arith, ◌⊎◌, inl, inr}
 use Rattle.std.specs.Prelude.{◌==◌, if◌then◌else◌, nat_lt, ◌↔◌}
 use Rattle.std.specs.List.{list_any, Any}
-use Rattle.std.proofs.lemmas.Bool.{false≢true}
+use Rattle.std.proofs.lemmas.Bool.{false≢true, and_from, and_parts, not-true}
 use Rattle.std.proofs.lemmas.Bool.Decides.{nat_tests}
 use Rattle.std.proofs.lemmas.List.Folds.{Any-from_list_any, list_any-from_Any}
 use Rattle.tab_model.specs.Locks.{conflict, covers}
 use Rattle.tab_model.specs.Ages.{Owned, Ages, opposes, covers_own, blocks, Answer, Granted, Wait, Die, all_of, decide, before, can_retry, Covered, Opposed, OpposedByOlder, OpposedBefore}
 use Rattle.tab_model.proofs.Seats.{eq_true, itself}
-
-and_parts : (a b : Bool) → (a && b) ≡ true → (a ≡ true) × (b ≡ true)
-and_parts true b h = (refl, h)
-and_parts false b h = cc
-
-and_both : (a b : Bool) → a ≡ true → b ≡ true → (a && b) ≡ true
-and_both true b h k = k
-and_both false b h k = cc
 
 some_of : (p : Owned → Bool) (P : Owned → Type 0) (xs : List Owned) → ((x : Owned) → p x ≡ true → P x) → list_any p xs ≡ true → Any P xs
 some_of p P xs f h = let a = Any-from_list_any p xs h in (a.0, a.1, a.2, a.3, f a.1 a.4)
@@ -40,13 +32,13 @@ covered_is : (g : Ages) (r : Owned) → list_any (covers_own r) g.held ≡ true 
 covered_is g r = some_of (covers_own r) _ g.held (λ x h. let p = and_parts (x.0 == r.0) (covers r.1 x.1) h in (eq_true x.0 r.0 p.0, p.1))
 
 is_covered : (g : Ages) (r : Owned) → Covered g r → list_any (covers_own r) g.held ≡ true
-is_covered g r = test_of (covers_own r) _ g.held (λ x h. and_both (x.0 == r.0) (covers r.1 x.1) (ap (λ n. n == r.0) h.0 ∙ itself r.0) h.1)
+is_covered g r = test_of (covers_own r) _ g.held (λ x h. and_from (x.0 == r.0) (covers r.1 x.1) (ap (λ n. n == r.0) h.0 ∙ itself r.0) h.1)
 
 opposed_is : (r : Owned) (xs : List Owned) → list_any (opposes r) xs ≡ true → Any (λ x. (x.0 ≢ r.0) × (conflict r.1 x.1 ≡ true)) xs
 opposed_is r xs = some_of (opposes r) _ xs (λ x h. let p = and_parts (not (x.0 == r.0)) (conflict r.1 x.1) h in (not_same x.0 r.0 p.0, p.1))
 
 is_opposed : (r : Owned) (xs : List Owned) → Any (λ x. (x.0 ≢ r.0) × (conflict r.1 x.1 ≡ true)) xs → list_any (opposes r) xs ≡ true
-is_opposed r xs = test_of (opposes r) _ xs (λ x h. and_both (not (x.0 == r.0)) (conflict r.1 x.1) (differ x.0 r.0 h.0) h.1)
+is_opposed r xs = test_of (opposes r) _ xs (λ x h. and_from (not (x.0 == r.0)) (conflict r.1 x.1) (differ x.0 r.0 h.0) h.1)
 
 blocked_is : (g : Ages) (r : Owned) → list_any (blocks r) (all_of g) ≡ true → OpposedByOlder g r
 blocked_is g r = some_of (blocks r) _ (all_of g) (λ x h.
@@ -57,7 +49,7 @@ blocked_is g r = some_of (blocks r) _ (all_of g) (λ x h.
 is_blocked : (g : Ages) (r : Owned) → OpposedByOlder g r → list_any (blocks r) (all_of g) ≡ true
 is_blocked g r = test_of (blocks r) _ (all_of g) (λ x h.
     let p = older_test x.0 r.0 h.0 in
-    and_both (opposes r x) (not (nat_lt r.0 x.0)) (and_both (not (x.0 == r.0)) (conflict r.1 x.1) p.0 h.1) p.1)
+    and_from (opposes r x) (not (nat_lt r.0 x.0)) (and_from (not (x.0 == r.0)) (conflict r.1 x.1) p.0 h.1) p.1)
 
 -- the answer by its three tests
 answer_by : Bool → Bool → Bool → Answer
@@ -147,10 +139,6 @@ dies_where g r = (
 
 pub retries_where : (g : Ages) (r : Owned) → (can_retry g r ≡ true) ↔ (OpposedBefore g r → ⊥)
 retries_where g r = (
-  (λ h. no_of (OpposedBefore g r) (list_any (opposes r) (g.held ++ before r.0 g.queue)) (is_opposed r (g.held ++ before r.0 g.queue)) (not_true (list_any (opposes r) (g.held ++ before r.0 g.queue)) h)),
+  (λ h. no_of (OpposedBefore g r) (list_any (opposes r) (g.held ++ before r.0 g.queue)) (is_opposed r (g.held ++ before r.0 g.queue)) (not-true (list_any (opposes r) (g.held ++ before r.0 g.queue)) h)),
   (λ n. ap not (false_of (OpposedBefore g r) (list_any (opposes r) (g.held ++ before r.0 g.queue)) (opposed_is r (g.held ++ before r.0 g.queue)) n)),
 )
-  where
-    not_true : (b : Bool) → not b ≡ true → b ≡ false
-    not_true true h = cc
-    not_true false h = refl

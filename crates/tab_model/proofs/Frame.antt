@@ -2,7 +2,8 @@
 use Rattle.std.proofs.Common.{◌≡◌, [], ◌∷◌, Bool, true, false, ◌||◌, ◌&&◌, refl, sym, ap, ap₂, ◌∙◌, Option, Some, None}
 use Rattle.std.specs.Prelude.{if◌then◌else◌}
 use Rattle.std.specs.List.{filter}
-use Rattle.std.proofs.lemmas.Bool.{false≢true}
+use Rattle.std.proofs.lemmas.Bool.{false≢true, and_parts, or_parts}
+use Rattle.std.proofs.Math.Bool.{and-false}
 use Rattle.tab_term.specs.Data.{PlainTerm, int, atom, tuple, list, bin, map, PlainTerms, none, one_more}
 use Rattle.tab_term.specs.Same.{same, all_same}
 use Rattle.tab_term.specs.Pattern.{matches, all_match, has_wildcard, any_wildcard}
@@ -32,21 +33,9 @@ mutual
   fit_plain : (ps ts : PlainTerms) → any_wildcard ps ≡ false → all_match ps ts ≡ all_same ps ts
   fit_plain none none h = refl
   fit_plain (one_more p ps) (one_more t ts) h = ap₂ (λ a b. a && b) (fits_plain p t (or_parts (has_wildcard p) (any_wildcard ps) h).0) (fit_plain ps ts (or_parts (has_wildcard p) (any_wildcard ps) h).1)
-    where
-      or_parts : (a b : Bool) → (a || b) ≡ false → (a ≡ false) × (b ≡ false)
-      or_parts true b h = cc
-      or_parts false b h = (refl, h)
   fit_plain ps ts h = refl
 
 -- what matches a pattern whose key holds no '_' has its key
-and_false : (a : Bool) → (a && false) ≡ false
-and_false true = refl
-and_false false = refl
-
-and_parts : (a b : Bool) → (a && b) ≡ true → (a ≡ true) × (b ≡ true)
-and_parts true b h = (refl, h)
-and_parts false b h = cc
-
 key_fits : (ps : PlainTerms) (r : PlainTerm) → has_wildcard (second ps) ≡ false → matches (tuple ps) r ≡ true → has_key (second ps) r ≡ true
 key_fits ps (int z) h f = cc
 key_fits ps (atom z) h f = cc
@@ -57,9 +46,9 @@ key_fits none (tuple none) h f = refl
 key_fits none (tuple (one_more b rs)) h f = cc
 key_fits (one_more a none) (tuple none) h f = cc
 key_fits (one_more a none) (tuple (one_more b none)) h f = refl
-key_fits (one_more a none) (tuple (one_more b (one_more j rs))) h f = absurd (false≢true (sym (and_false (matches a b)) ∙ f))
+key_fits (one_more a none) (tuple (one_more b (one_more j rs))) h f = absurd (false≢true (sym (and-false (matches a b)) ∙ f))
 key_fits (one_more a (one_more k ps)) (tuple none) h f = cc
-key_fits (one_more a (one_more k ps)) (tuple (one_more b none)) h f = absurd (false≢true (sym (and_false (matches a b)) ∙ f))
+key_fits (one_more a (one_more k ps)) (tuple (one_more b none)) h f = absurd (false≢true (sym (and-false (matches a b)) ∙ f))
 key_fits (one_more a (one_more k ps)) (tuple (one_more b (one_more j rs))) h f =
     ap (λ z. same z k) (sym (same_true k j (sym (fits_plain k j h) ∙ (and_parts (matches k j) (all_match ps rs) (and_parts (matches a b) (matches k j && all_match ps rs) f).1).0))) ∙ same_refl k
 

@@ -3,7 +3,7 @@ use Rattle.std.proofs.Common.{◌≡◌, ℕ, List, [], ◌∷◌, ◌++◌, Boo
 use Rattle.std.specs.Prelude.{if◌then◌else◌, map}
 use Rattle.std.specs.Str.{bytes_eq}
 use Rattle.std.specs.List.{filter, list_any}
-use Rattle.std.proofs.lemmas.Bool.{false≢true}
+use Rattle.std.proofs.lemmas.Bool.{false≢true, or_parts}
 use Rattle.std.proofs.lemmas.Slice.Eq.{bytes_eq-Decides}
 use Rattle.tab_term.specs.View.{term}
 use Rattle.tab_model.specs.declared.data.Kind.{Kind}
@@ -130,10 +130,6 @@ entry_gives w n x t (Changed c over) r f d = cases (bytes_eq (table_of_schema c)
 entry_gives w n x t (Subscribed s u l dump) r f d = record { table = x; is = f; kind_is = refl; rows_are = refl }
 entry_gives w n x t (Unsubscribed s u) r f d = record { table = x; is = f; kind_is = refl; rows_are = refl }
 
-or_parts : (a b : Bool) → (a || b) ≡ false → (a ≡ false) × (b ≡ false)
-or_parts true b h = cc
-or_parts false b h = (refl, h)
-
 -- a whole log
 pub log_gives : (w : World) (n : ℕ) (x : Table) (t : List ℕ) (log : List Entry) → IsLegal w n log → find w t ≡ Some x → list_any (deletes t) log ≡ false → Stands (serial_from w log) t x.def.kind (applied x.def.kind x.rows (changes_on t log))
 log_gives w n x t [] l f d = record { table = x; is = f; kind_is = refl; rows_are = refl }
@@ -184,7 +180,7 @@ since_applies s t l log x legal i f =
     ∙ log_applies (serial i.earlier) (commits_from 0 i.earlier) x t i.since rest.1 f (not_deleted s t i.since i.not_ended)
 
 -- a list of terms and back
-terms_back : (rs : Rows) → terms_list (plain_terms rs) ≡ rs
+pub terms_back : (rs : Rows) → terms_list (plain_terms rs) ≡ rs
 terms_back [] = refl
 terms_back (r ∷ rs) = ap (λ xs. r ∷ xs) (terms_back rs)
 

@@ -2,7 +2,7 @@
 use Rattle.std.proofs.Common.{◌≡◌, ℕ, List, [], ◌∷◌, Bool, true, false, ◌||◌, ◌&&◌, refl, sym, ap, ◌∙◌, Option, Some, None}
 use Rattle.std.specs.Str.{bytes_eq}
 use Rattle.std.specs.List.{list_any}
-use Rattle.std.proofs.lemmas.Bool.{false≢true}
+use Rattle.std.proofs.lemmas.Bool.{false≢true, or_parts, or_right, or_from}
 use Rattle.std.proofs.lemmas.Slice.Eq.{bytes_eq-Decides}
 use Rattle.tab_term.specs.Data.{PlainTerm}
 use Rattle.tab_term.specs.Same.{same}
@@ -34,10 +34,6 @@ every t = true
 mono_part : (p q : PlainTerm → Bool) → ((k : PlainTerm) → p k ≡ true → q k ≡ true) → (part : Part) → SeesPart p part → SeesPart q part
 mono_part p q h All s = λ k. h k (s k)
 mono_part p q h (Key k) s = h k s
-
-or_right : (a b : Bool) → b ≡ true → (a || b) ≡ true
-or_right true b h = refl
-or_right false b h = h
 
 more_seen : (m : Lock) (ls : List Lock) (xs : List Move) → SeesAll (seen ls) every xs → SeesAll (seen (m ∷ ls)) every xs
 unfolding seen
@@ -71,14 +67,6 @@ sees_own (Open ∷ xs) = (tt, sees_own xs)
 sees_own (Close ∷ xs) = (tt, sees_own xs)
 sees_own (Undo ∷ xs) = (tt, sees_own xs)
 
-or_parts : (a b : Bool) → (a || b) ≡ false → (a ≡ false) × (b ≡ false)
-or_parts true b h = cc
-or_parts false b h = (refl, h)
-
-or_none : (a b : Bool) → a ≡ false → b ≡ false → (a || b) ≡ false
-or_none true b h k = cc
-or_none false b h k = k
-
 same_sym : (a b : PlainTerm) → same a b ≡ false → same b a ≡ false
 same_sym a b h = cases (same b a) refl
   where
@@ -102,7 +90,7 @@ one_unseen t k m h = cases (bytes_eq m.table t) refl
 unseen : (t : List ℕ) (k : PlainTerm) (ms : List Lock) → list_any (conflict (lock t (Key k) true)) ms ≡ false → seen ms t k ≡ false
 unfolding seen
 unseen t k [] h = refl
-unseen t k (m ∷ ms) h = let p = or_parts (conflict (lock t (Key k) true) m) (list_any (conflict (lock t (Key k) true)) ms) h in or_none (covers_cell m t k) (seen ms t k) (one_unseen t k m p.0) (unseen t k ms p.1)
+unseen t k (m ∷ ms) h = let p = or_parts (conflict (lock t (Key k) true) m) (list_any (conflict (lock t (Key k) true)) ms) h in or_from (covers_cell m t k) (seen ms t k) (one_unseen t k m p.0) (unseen t k ms p.1)
 
 writes_apart : (xs : List Move) (ms : List Lock) → Apart (locks_of xs) ms → WritesAll (seen ms) every xs
 writes_apart [] ms h = tt

@@ -4,6 +4,7 @@ use Rattle.std.specs.Prelude.{◌==◌, if◌then◌else◌}
 use Rattle.std.specs.Str.{bytes_eq}
 use Rattle.std.specs.List.{list_any}
 use Rattle.std.proofs.lemmas.Slice.Eq.{bytes_eq-Decides}
+use Rattle.std.proofs.lemmas.Bool.{and_parts, or_parts}
 use Rattle.tab_model.specs.declared.data.Level.{Level}
 use Rattle.tab_model.specs.declared.data.Entry.{Entry}
 use Rattle.tab_model.specs.declared.data.Entry.TheVariants.{Committed, Changed, Subscribed, Unsubscribed}
@@ -12,14 +13,6 @@ use Rattle.tab_model.specs.Log.{has_session, is_removed, kept_if, stands, in_for
 use Rattle.tab_model.specs.Since.{ends_it, subscribes, StandsSince}
 use Rattle.tab_model.proofs.Seats.{eq_true, itself}
 use Rattle.tab_model.proofs.Stay.{eq_names}
-
-or_parts : (a b : Bool) → (a || b) ≡ false → (a ≡ false) × (b ≡ false)
-or_parts true b h = cc
-or_parts false b h = (refl, h)
-
-and_parts : (a b : Bool) → (a && b) ≡ true → (a ≡ true) × (b ≡ true)
-and_parts true b h = (refl, h)
-and_parts false b h = cc
 
 -- an entry that neither ends nor begins it leaves it
 pub stands_on : (s : ℕ) (t : List ℕ) (b : Option Level) (e : Entry) → ends_it s t e ≡ false → subscribes s t e ≡ false → stands s t b e ≡ b

@@ -3,7 +3,7 @@ use Rattle.std.proofs.Common.{◌≡◌, ℕ, List, Bool, true, false, ◌||◌,
 use Rattle.std.specs.Ordering.{is_lt, ordering_reverse}
 use Rattle.std.specs.Cmp.Lexicographic.{slice_cmp}
 use Rattle.std.specs.Cmp.{IsTotalOrder}
-use Rattle.std.proofs.lemmas.Bool.{false≢true}
+use Rattle.std.proofs.lemmas.Bool.{false≢true, or_left, or_right}
 use Rattle.std.proofs.lemmas.Cmp.{nat_list_cmp_total}
 use Rattle.tab_term.specs.Canon.{canon}
 use Rattle.tab_term.specs.Data.{PlainTerm}
@@ -47,14 +47,6 @@ before-linear a b h k = by_case (slice_cmp nat_cmp a b) refl h
 pub less-linear : (a b : PlainTerm) → less a b ≡ false → (same b a || less b a) ≡ true
 less-linear a b h = by_case (slice_cmp nat_cmp (canon a) (canon b)) refl h
   where
-    or_left : (p q : Bool) → p ≡ true → (p || q) ≡ true
-    or_left true q e = refl
-    or_left false q e = cc
-
-    or_right : (p q : Bool) → q ≡ true → (p || q) ≡ true
-    or_right true q e = refl
-    or_right false q e = e
-
     by_case : (o : Ordering) → slice_cmp nat_cmp (canon a) (canon b) ≡ o → is_lt o ≡ false → (same b a || less b a) ≡ true
     by_case Less e h = cc
     by_case Equal e h = or_left (same b a) (less b a) ((same-Decides b a).1 (sym (canon_same a b e)))

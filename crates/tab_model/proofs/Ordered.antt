@@ -3,7 +3,7 @@ use Rattle.std.proofs.Common.{◌≡◌, ℕ, List, [], ◌∷◌, Bool, true, f
 use Rattle.std.specs.Prelude.{if◌then◌else◌, codes}
 use Rattle.std.specs.Str.{bytes_eq}
 use Rattle.std.specs.List.{list_any}
-use Rattle.std.proofs.lemmas.Bool.{false≢true}
+use Rattle.std.proofs.lemmas.Bool.{false≢true, not-true, or_parts}
 use Rattle.std.proofs.lemmas.Slice.Eq.{bytes_eq-Decides}
 use Rattle.tab_term.specs.Data.{PlainTerm, int, atom, tuple, list, bin, map, PlainTerms, none}
 use Rattle.tab_term.specs.View.{term}
@@ -171,10 +171,6 @@ needs_table (op.AllKeys t) = refl
 needs_table (op.ReadLockTable t) = refl
 needs_table (op.WriteLockTable t) = refl
 
-or_parts : (a b : Bool) → (a || b) ≡ false → (a ≡ false) × (b ≡ false)
-or_parts true b h = cc
-or_parts false b h = (refl, h)
-
 pub sees_not : (t : List ℕ) (xs : List Move) → list_any (λ (l : Lock). bytes_eq l.table t) (locks_of xs) ≡ false → SeesAll (no_cell_of t) (not_at t) xs
 sees_not t [] h = tt
 sees_not t (Do o ∷ xs) h =
@@ -195,9 +191,5 @@ names_sym t u h = cases (bytes_eq t u) refl
 pub agree_elsewhere : (w : World) (c : Schema) → IsOrderedWorld w → Agree (no_cell_of (table_of_schema c)) (not_at (table_of_schema c)) (schema_effect w c) w
 agree_elsewhere w c o u d =
     subst (λ (x : Option Table). AgreeTab (no_cell_of (table_of_schema c) u) x (find w u))
-    (sym (schema_elsewhere w c u (names_sym (table_of_schema c) u (not_true (bytes_eq u (table_of_schema c)) d))))
+    (sym (schema_elsewhere w c u (names_sym (table_of_schema c) u (not-true (bytes_eq u (table_of_schema c)) d))))
     (agree_self (no_cell_of (table_of_schema c)) w o u refl)
-  where
-    not_true : (b : Bool) → not b ≡ true → b ≡ false
-    not_true true h = cc
-    not_true false h = refl

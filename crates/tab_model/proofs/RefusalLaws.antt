@@ -1,5 +1,6 @@
 -- What each reply says of the state after it.
 use Rattle.std.proofs.Common.{◌≡◌, ℕ, List, [], ◌∷◌, ◌++◌, Bool, true, false, ◌||◌, ◌&&◌, not, refl, sym, ap, ◌∙◌, subst, append-nil, Option, Some, None}
+use Rattle.std.proofs.Math.Bool.{and-false}
 use Rattle.std.specs.Prelude.{if◌then◌else◌, is_some, ◌==◌}
 use Rattle.tab_term.specs.View.{term}
 use Rattle.tab_term.specs.declared.term.Term.{Term}
@@ -308,7 +309,7 @@ schema_refused σ over n c h = cases (seat_at σ.seats n) h
 
 -- ---- ends of levels
 
-after-more : (m : Mid) (xs : List Move) (x : Move) → after m (xs ++ x ∷ []) ≡ next (after m xs) x
+pub after-more : (m : Mid) (xs : List Move) (x : Move) → after m (xs ++ x ∷ []) ≡ next (after m xs) x
 after-more m [] x = refl
 after-more m (y ∷ xs) x = after-more (next m y) xs x
 
@@ -402,10 +403,6 @@ pub aborted : (σ : State) (over : List ℕ) (n : ℕ) (t : Transaction) (r : Te
 unfolding outcome
 aborted σ over n t r mine = cases (seat_at σ.seats n) refl mine
   where
-    and_no : (b : Bool) → (b && false) ≡ false
-    and_no true = refl
-    and_no false = refl
-
     by_transaction : (s : Seat) (x : Option Transaction) → seat_at σ.seats n ≡ Some s → x ≡ Some t → EndsLevel σ n t Undo None (abort σ s r x).state
     by_transaction s None here e = cc
     by_transaction s (Some u) here e = let same : t ≡ u = cc in
@@ -418,4 +415,4 @@ aborted σ over n t r mine = cases (seat_at σ.seats n) refl mine
 
     cases : (x : Option Seat) → seat_at σ.seats n ≡ x → transaction_in x ≡ Some t → EndsLevel σ n t Undo None (by_seat σ over n (DoCommand (command.Abort r)) x).state
     cases None here e = cc
-    cases (Some s) here e = by_wait s _ (and_no (is_waiting σ s.number)) here e
+    cases (Some s) here e = by_wait s _ (and-false (is_waiting σ s.number)) here e

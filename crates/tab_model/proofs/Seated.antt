@@ -3,6 +3,8 @@ use Rattle.std.proofs.Common.{◌≡◌, ◌≢◌, ℕ, ◌<◌, ◌≤◌, Lis
 use Rattle.std.specs.Prelude.{◌==◌, if◌then◌else◌, map}
 use Rattle.std.specs.List.{list_any}
 use Rattle.std.proofs.lemmas.Bool.Decides.{nat_tests}
+use Rattle.std.proofs.lemmas.Bool.{and_parts, not-true, or_parts, or_right}
+use Rattle.std.proofs.lemmas.List.Folds.{list_any-append}
 use Rattle.tab_model.specs.declared.data.Move.{Move}
 use Rattle.tab_model.specs.declared.data.Move.TheVariants.{Do, Open, Close, Undo}
 use Rattle.tab_model.specs.Alone.{Mid, start, after, told, next, replies}
@@ -10,20 +12,9 @@ use Rattle.tab_model.specs.Locks.{Lock, needs, locks_of, conflict, covers, Apart
 use Rattle.tab_model.specs.Ages.{Owned, Granted, Wait, Die, opposes, covers_own, decide}
 use Rattle.tab_model.specs.State.{Transaction, Seat, Queued, State, seat_at, transaction_in, moves_in, told_in_transaction, age_in, transaction_at, moves_at, with_age, held_by, held_in, queued_in, ages_of, mid_of, AreDistinct, IsSound}
 use Rattle.tab_model.specs.Outcome.{change, without_seat, more, emptied}
-use Rattle.tab_model.proofs.Seats.{eq_true, other_number, seat_at-map, mapped}
-use Rattle.tab_model.proofs.Conflicts.{any-append, conflict-sym, served_one}
-
-pub or_parts : (a b : Bool) → (a || b) ≡ false → (a ≡ false) × (b ≡ false)
-or_parts true b h = cc
-or_parts false b h = (refl, h)
-
-pub not_true : (b : Bool) → not b ≡ true → b ≡ false
-not_true true h = cc
-not_true false h = refl
-
-either_one : (P : Type 0) (a b : Bool) → (a || b) ≡ true → (a ≡ true → P) → (b ≡ true → P) → P
-either_one P true b h f g = f refl
-either_one P false b h f g = g h
+use Rattle.tab_model.proofs.Seats.{eq_true, other_number, seat_at-map, mapped, itself}
+use Rattle.tab_model.proofs.Conflicts.{conflict-sym, served_one}
+use Rattle.tab_model.proofs.Waits.{either_one}
 
 -- ---- traces with one move more
 
@@ -67,7 +58,7 @@ pub Apart-sym : (ls ms : List Lock) → Apart ls ms → Apart ms ls
 Apart-sym ls ms h = sym (apart_swap ls ms) ∙ h
 
 Apart-append : (ls ms ns : List Lock) → Apart ls ns → Apart ms ns → Apart (ls ++ ms) ns
-Apart-append ls ms ns p q = any-append (λ a. list_any (conflict a) ns) ls ms ∙ (λ i. p i || q i)
+Apart-append ls ms ns p q = list_any-append (λ a. list_any (conflict a) ns) ls ms ∙ (λ i. p i || q i)
 
 served_all : (l a : Lock) (ms : List Lock) → covers l a ≡ true → list_any (conflict a) ms ≡ false → list_any (conflict l) ms ≡ false
 served_all l a [] e f = refl
@@ -89,7 +80,7 @@ any_aged p a (l ∷ ls) = ap (λ b. p (a, l) || b) (any_aged p a ls)
 pub held_none : (p : Owned → Bool) (seats : List Seat) (m : ℕ) → list_any p (held_in seats) ≡ false → list_any p (held_by (transaction_in (seat_at seats m))) ≡ false
 held_none p [] m h = refl
 held_none p (x ∷ xs) m h =
-    let q = or_parts (list_any p (held_by x.transaction)) (list_any p (held_in xs)) (sym (any-append p (held_by x.transaction) (held_in xs)) ∙ h) in
+    let q = or_parts (list_any p (held_by x.transaction)) (list_any p (held_in xs)) (sym (list_any-append p (held_by x.transaction) (held_in xs)) ∙ h) in
     cases (x.number == m) q.0 (held_none p xs m q.1)
   where
     cases : (b : Bool) → list_any p (held_by x.transaction) ≡ false → list_any p (held_by (transaction_in (seat_at xs m))) ≡ false → list_any p (held_by (transaction_in (if b then Some x else seat_at xs m))) ≡ false
@@ -104,13 +95,10 @@ pub record IsHolder (p : Owned → Bool) (seats : List Seat) : Type 0 where
 pub held_some : (p : Owned → Bool) (seats : List Seat) → AreDistinct seats → list_any p (held_in seats) ≡ true → IsHolder p seats
 held_some p [] d h = cc
 held_some p (x ∷ xs) d h =
-    either_one (IsHolder p (x ∷ xs)) (list_any p (held_by x.transaction)) (list_any p (held_in xs)) (sym (any-append p (held_by x.transaction) (held_in xs)) ∙ h)
+    either_one (IsHolder p (x ∷ xs)) (list_any p (held_by x.transaction)) (list_any p (held_in xs)) (sym (list_any-append p (held_by x.transaction) (held_in xs)) ∙ h)
     (λ e. record { seat = x; here = ap (λ b. if b then Some x else seat_at xs x.number) (itself x.number); holds = e })
     (λ e. behind (held_some p xs d.1 e))
   where
-    itself : (n : ℕ) → (n == n) ≡ true
-    itself n = grind (arith, nat_tests)
-
     behind : IsHolder p xs → IsHolder p (x ∷ xs)
     behind r = record { seat = r.seat; here = cases (x.number == r.seat.number) refl; holds = r.holds }
       where
@@ -152,21 +140,13 @@ covered_own a b l [] h = cc
 covered_own a b l (k ∷ ls) h = either_one ((b ≡ a) × (list_any (covers l) (k ∷ ls) ≡ true)) (covers_own (a, l) (b, k)) (list_any (covers_own (a, l)) (with_age b ls)) h
     (λ e. let p = and_parts (b == a) (covers l k) e in (eq_true b a p.0, ap (λ z. z || list_any (covers l) ls) p.1))
     (λ e. let p = covered_own a b l ls e in (p.0, or_right (covers l k) (list_any (covers l) ls) p.1))
-  where
-    and_parts : (a b : Bool) → (a && b) ≡ true → (a ≡ true) × (b ≡ true)
-    and_parts true b h = (refl, h)
-    and_parts false b h = cc
-
-    or_right : (a b : Bool) → b ≡ true → (a || b) ≡ true
-    or_right true b e = refl
-    or_right false b e = e
 
 pub granted_apart : (σ : State) (n m : ℕ) (t : Transaction) (l : Lock) → IsSound σ → transaction_at σ n ≡ Some t → m ≢ n → decide (ages_of σ) (t.age, l) ≡ Granted → list_any (conflict l) (locks_of (moves_at σ m)) ≡ false
 granted_apart σ n m t l sound mine differ granted =
     either_one (list_any (conflict l) (locks_of (moves_at σ m)) ≡ false) (list_any (covers_own (t.age, l)) (held_in σ.seats)) (not (list_any (opposes (t.age, l)) (held_in σ.seats ++ queued_in σ.queue)))
     (granted_is _ _ granted)
     (λ e. covered (held_some (covers_own (t.age, l)) σ.seats sound.distinct e))
-    (λ e. unopposed_apart σ n m t l sound mine differ (or_parts _ _ (sym (any-append (opposes (t.age, l)) (held_in σ.seats) (queued_in σ.queue)) ∙ not_true _ e)).0)
+    (λ e. unopposed_apart σ n m t l sound mine differ (or_parts _ _ (sym (list_any-append (opposes (t.age, l)) (held_in σ.seats) (queued_in σ.queue)) ∙ not-true _ e)).0)
   where
     covered : IsHolder (covers_own (t.age, l)) σ.seats → list_any (conflict l) (locks_of (moves_at σ m)) ≡ false
     covered r = cases r.seat.transaction refl r.holds

@@ -3,7 +3,7 @@ use Rattle.std.proofs.Common.{◌≡◌, ℕ, zero, suc, ◌<◌, List, Bool, tr
 use Rattle.std.specs.Prelude.{if◌then◌else◌, pos, codes}
 use Rattle.std.specs.Str.{bytes_eq}
 use Rattle.std.proofs.lemmas.Slice.Eq.{bytes_eq-Decides}
-use Rattle.tab_term.specs.Data.{PlainTerm, int, atom, tuple, list, bin, map, PlainTerms, none, one_more}
+use Rattle.tab_term.specs.Data.{PlainTerm, int, atom, tuple, list, bin, map, PlainTerms, none, one_more, pair, triple}
 use Rattle.tab_term.specs.View.{term}
 use Rattle.tab_term.specs.declared.term.Term.{Term}
 use Rattle.tab_term.specs.declared.term.Term.TheVariants as is
@@ -12,11 +12,10 @@ use Rattle.tab_model.specs.declared.data.Level.TheVariants.{Simple, Detailed}
 use Rattle.tab_model.specs.declared.data.Change.{Change}
 use Rattle.tab_model.specs.declared.data.Change.TheVariants as change
 use Rattle.tab_model.specs.declared.data.Event.{Event}
-use Rattle.tab_model.specs.Names.{pair, triple}
 use Rattle.tab_model.specs.Operations.{table_of_change}
 use Rattle.tab_model.specs.Shapes.{held, tid, five, simple, detailed, body, shape, is_record, is_id, written, object_deleted, key_deleted, deleted, in_table, simple_change, detailed_change, detailed_body, by_rest, change_in_body, change_in, change_of, is_whole, IsShaped, ShapesChange}
 
-held_term : (r : Term) → held (term r) ≡ r
+pub held_term : (r : Term) → held (term r) ≡ r
 held_term (is.Int z) = refl
 held_term (is.Atom s) = refl
 held_term (is.Tuple ts) = refl
@@ -24,7 +23,7 @@ held_term (is.List ts) = refl
 held_term (is.Bin b) = refl
 held_term (is.Map ps) = refl
 
-term_held : (x : PlainTerm) → term (held x) ≡ x
+pub term_held : (x : PlainTerm) → term (held x) ≡ x
 term_held (int z) = refl
 term_held (atom s) = refl
 term_held (tuple ts) = refl

@@ -1,5 +1,7 @@
 -- Each step keeps what every reached state has.
 use Rattle.std.proofs.Common.{◌≡◌, ◌≢◌, ℕ, ◌+◌, ◌<◌, ◌≤◌, List, [], ◌∷◌, ◌++◌, Bool, true, false, ◌||◌, refl, sym, ap, ◌∙◌, subst, arith, Option, Some, None}
+use Rattle.std.proofs.lemmas.List.Folds.{list_any-append}
+use Rattle.std.proofs.lemmas.Bool.{not-true, or_parts}
 use Rattle.std.specs.Prelude.{◌==◌, if◌then◌else◌, nat_lt, map}
 use Rattle.std.specs.List.{list_any}
 use Rattle.std.specs.Str.{bytes_eq}
@@ -25,11 +27,10 @@ use Rattle.tab_model.specs.Log.{has_session}
 use Rattle.tab_model.specs.State.{Transaction, Outbox, Watch, Seat, Queued, State, new, seat_at, transaction_in, moves_in, told_in_transaction, age_in, transaction_at, moves_at, told_at, age_at, held_by, held_in, queued_in, ages_of, is_in, is_busy, request_in, without_request, is_waiting, level_in, count_moves, mid_of, AreDistinct, IsSound}
 use Rattle.tab_model.specs.Outcome.{Ask, Join, Leave, Retry, Take, DoCommand, change, without_seat, with_transaction, with_seat, with_queue, more, ends, after_move, made, emptied, decided, within, operate, retried, retry_in, retry, opened, nested, begin, one_shot, abort, given, overflowed, pushed, batch_to, commit_now, events_now, commit_at, commit, unwatched, end_to, schema_now, schema_if, schema, marked, subscribe, unsubscribe, do_command, command_if, give, leave, seated, fresh, join, unseated, by_seat, outcome}
 use Rattle.tab_model.proofs.Seats.{other_number, found, seat_at-change, seat_at-push, seat_at-without, seat_at-map, mapped}
-use Rattle.tab_model.proofs.Conflicts.{any-append}
 use Rattle.tab_model.proofs.Heart.{stays}
 use Rattle.tab_model.proofs.Stay.{same_replies}
 use Rattle.tab_model.proofs.Ordered.{ordered-after, schema_ordered, no_cell_of, not_at, sees_not, agree_elsewhere}
-use Rattle.tab_model.proofs.Seated.{or_parts, not_true, lock_of_move, Apart-sym, held_none, unopposed_apart, granted_apart, MaySit, none_sits, own_sits, emptied_sits, more_sits, seat_sound, distinct-change, distinct-without, distinct-push, distinct-map}
+use Rattle.tab_model.proofs.Seated.{lock_of_move, Apart-sym, held_none, unopposed_apart, granted_apart, MaySit, none_sits, own_sits, emptied_sits, more_sits, seat_sound, distinct-change, distinct-without, distinct-push, distinct-map}
 
 or_none : (a : Bool) → a ≡ false → (a || false) ≡ false
 or_none true h = h
@@ -203,7 +204,7 @@ schema_now_sound σ over c sound free = tables_sound σ (schema_effect σ.tables
     (λ n. same_replies (no_cell_of (table_of_schema c)) (not_at (table_of_schema c)) (start (schema_effect σ.tables c) (age_at σ n)) (start σ.tables (age_at σ n)) (moves_at σ n)
     (record { age = refl; now = agree_elsewhere σ.tables c sound.ordered; saved = tt; base = agree_elsewhere σ.tables c sound.ordered })
     (sees_not (table_of_schema c) (moves_at σ n) (idle (table_of_schema c) (transaction_at σ n) (held_none (is_in (table_of_schema c)) σ.seats n
-    (or_parts _ _ (sym (any-append (is_in (table_of_schema c)) (held_in σ.seats) (queued_in σ.queue)) ∙ free)).0))))
+    (or_parts _ _ (sym (list_any-append (is_in (table_of_schema c)) (held_in σ.seats) (queued_in σ.queue)) ∙ free)).0))))
   where
     f : Seat → Seat
     f x = given (σ.commits + 1) over (end_to (removed c) x) (unwatched (removed c) x)
@@ -215,7 +216,7 @@ module _ (σ : State) (sound : IsSound σ) (s : Seat) (here : seat_at σ.seats s
   retried_sound t o false e is = sound
   retried_sound t o true e is = made_sound (with_queue σ (without_request σ.queue s.number)) (requeued σ _ sound) s here t (Do o) reply.Done is
       (λ m d. or_none _ (unopposed_apart σ s.number m t (needs o) sound (ap transaction_in here ∙ is) d
-      (or_parts _ _ (sym (any-append (opposes (t.age, needs o)) (held_in σ.seats) (before t.age (queued_in σ.queue))) ∙ not_true _ e)).0))
+      (or_parts _ _ (sym (list_any-append (opposes (t.age, needs o)) (held_in σ.seats) (before t.age (queued_in σ.queue))) ∙ not-true _ e)).0))
 
   retry_in_sound : (o : Operation) (x : Option Transaction) → s.transaction ≡ x → IsSound (retry_in σ s o x).state
   retry_in_sound o None is = sound

@@ -2,7 +2,7 @@
 use Rattle.std.proofs.Common.{◌≡◌, [], ◌∷◌, ◌++◌, Bool, true, false, ◌||◌, ◌&&◌, not, refl, sym, ap, ◌∙◌, append-nil}
 use Rattle.std.specs.Prelude.{if◌then◌else◌}
 use Rattle.std.specs.List.{filter, list_any, list_all}
-use Rattle.std.proofs.lemmas.Bool.{false≢true}
+use Rattle.std.proofs.lemmas.Bool.{false≢true, and_from, and_parts, or_right}
 use Rattle.tab_term.specs.Data.{PlainTerm}
 use Rattle.tab_term.specs.Same.{same, same-Decides}
 use Rattle.tab_model.specs.Names.{less}
@@ -15,20 +15,6 @@ same_true a b h = (same-Decides a b).0 h
 
 pub same_refl : (a : PlainTerm) → same a a ≡ true
 same_refl a = (same-Decides a a).1 refl
-
-pub and_parts : (a b : Bool) → (a && b) ≡ true → (a ≡ true) × (b ≡ true)
-and_parts true true h = (refl, refl)
-and_parts true false h = cc
-and_parts false b h = cc
-
-pub and_both : (a b : Bool) → a ≡ true → b ≡ true → (a && b) ≡ true
-and_both true true h k = refl
-and_both true false h k = cc
-and_both false b h k = cc
-
-pub or_right : (a b : Bool) → b ≡ true → (a || b) ≡ true
-or_right true b h = refl
-or_right false b h = h
 
 -- where less holds, the keys differ
 less_other : (a b : PlainTerm) → less a b ≡ true → same b a ≡ false
@@ -80,7 +66,7 @@ all_filter p q [] h = refl
 all_filter p q (x ∷ rows) h = by_case (all_filter p q rows (and_parts (p x) (list_all p rows) h).1) (q x)
   where
     by_case : list_all p (filter q rows) ≡ true → (b : Bool) → list_all p (if b then x ∷ filter q rows else filter q rows) ≡ true
-    by_case ih true = and_both (p x) (list_all p (filter q rows)) (and_parts (p x) (list_all p rows) h).0 ih
+    by_case ih true = and_from (p x) (list_all p (filter q rows)) (and_parts (p x) (list_all p rows) h).0 ih
     by_case ih false = ih
 
 -- what is filtered keeps its order: deletions
@@ -89,7 +75,7 @@ ordered-filter q [] h = refl
 ordered-filter q (x ∷ rows) h = by_case (ordered-filter q rows (and_parts (list_all (follows x) rows) (is_ordered rows) h).1) (q x)
   where
     by_case : is_ordered (filter q rows) ≡ true → (b : Bool) → is_ordered (if b then x ∷ filter q rows else filter q rows) ≡ true
-    by_case ih true = and_both (list_all (follows x) (filter q rows)) (is_ordered (filter q rows)) (all_filter (follows x) q rows (and_parts (list_all (follows x) rows) (is_ordered rows) h).0) ih
+    by_case ih true = and_from (list_all (follows x) (filter q rows)) (is_ordered (filter q rows)) (all_filter (follows x) q rows (and_parts (list_all (follows x) rows) (is_ordered rows) h).0) ih
     by_case ih false = ih
 
 none_if : (b : Bool) (xs : Rows) → xs ≡ [] → xs ≡ (if b then [] else xs)
@@ -128,12 +114,12 @@ at-put-bag rows r k o = by_case (list_any (same r) rows)
     by_case false = at-insert r rows k o
 
 all_insert : (p : PlainTerm → Bool) (r : PlainTerm) (rows : Rows) → p r ≡ true → list_all p rows ≡ true → list_all p (insert r rows) ≡ true
-all_insert p r [] h f = and_both (p r) true h refl
+all_insert p r [] h f = and_from (p r) true h refl
 all_insert p r (x ∷ rows) h f = by_case (all_insert p r rows h (and_parts (p x) (list_all p rows) f).1) (less (key r) (key x))
   where
     by_case : list_all p (insert r rows) ≡ true → (b : Bool) → list_all p (if b then r ∷ x ∷ rows else x ∷ insert r rows) ≡ true
-    by_case ih true = and_both (p r) (list_all p (x ∷ rows)) h f
-    by_case ih false = and_both (p x) (list_all p (insert r rows)) (and_parts (p x) (list_all p rows) f).0 ih
+    by_case ih true = and_from (p r) (list_all p (x ∷ rows)) h f
+    by_case ih false = and_from (p x) (list_all p (insert r rows)) (and_parts (p x) (list_all p rows) f).0 ih
 
 follows_on : (r x y : PlainTerm) → less (key r) (key x) ≡ true → follows x y ≡ true → follows r y ≡ true
 follows_on r x y h f = by_case (same (key x) (key y)) refl f
@@ -146,7 +132,7 @@ all_follow : (r x : PlainTerm) (rows : Rows) → less (key r) (key x) ≡ true �
 all_follow r x [] h f = refl
 all_follow r x (y ∷ rows) h f =
     let p = and_parts (follows x y) (list_all (follows x) rows) f in
-    and_both (follows r y) (list_all (follows r) rows) (follows_on r x y h p.0) (all_follow r x rows h p.1)
+    and_from (follows r y) (list_all (follows r) rows) (follows_on r x y h p.0) (all_follow r x rows h p.1)
 
 pub ordered-insert : (r : PlainTerm) (rows : Rows) → is_ordered rows ≡ true → is_ordered (insert r rows) ≡ true
 ordered-insert r [] o = refl
@@ -154,9 +140,9 @@ ordered-insert r (x ∷ rows) o = by_case (ordered-insert r rows (and_parts (lis
   where
     by_case : is_ordered (insert r rows) ≡ true → (b : Bool) → less (key r) (key x) ≡ b → is_ordered (if b then r ∷ x ∷ rows else x ∷ insert r rows) ≡ true
     by_case ih true e =
-        and_both (list_all (follows r) (x ∷ rows)) (is_ordered (x ∷ rows))
-        (and_both (follows r x) (list_all (follows r) rows) (or_right (same (key r) (key x)) (less (key r) (key x)) e) (all_follow r x rows e (and_parts (list_all (follows x) rows) (is_ordered rows) o).0)) o
-    by_case ih false e = and_both (list_all (follows x) (insert r rows)) (is_ordered (insert r rows)) (all_insert (follows x) r rows (less-linear (key r) (key x) e) (and_parts (list_all (follows x) rows) (is_ordered rows) o).0) ih
+        and_from (list_all (follows r) (x ∷ rows)) (is_ordered (x ∷ rows))
+        (and_from (follows r x) (list_all (follows r) rows) (or_right (same (key r) (key x)) (less (key r) (key x)) e) (all_follow r x rows e (and_parts (list_all (follows x) rows) (is_ordered rows) o).0)) o
+    by_case ih false e = and_from (list_all (follows x) (insert r rows)) (is_ordered (insert r rows)) (all_insert (follows x) r rows (less-linear (key r) (key x) e) (and_parts (list_all (follows x) rows) (is_ordered rows) o).0) ih
 
 -- the canonical list has the same cells
 pub ordered-whole : (rows done : Rows) → is_ordered done ≡ true → is_ordered (whole_onto rows done) ≡ true

@@ -5,6 +5,7 @@ use Rattle.std.specs.Str.{bytes_eq}
 use Rattle.std.proofs.lemmas.Bool.{false≢true}
 use Rattle.std.proofs.lemmas.Bool.Decides.{nat_tests}
 use Rattle.std.proofs.lemmas.Slice.Eq.{bytes_eq-Decides}
+use Rattle.std.proofs.Math.Bool.{or-false}
 use Rattle.tab_term.specs.declared.term.Term.{Term}
 use Rattle.tab_term.specs.View.{term}
 use Rattle.tab_model.specs.declared.data.Operation.{Operation}
@@ -19,8 +20,7 @@ use Rattle.tab_model.specs.declared.data.Event.{Event}
 use Rattle.tab_model.specs.declared.data.Schema.{Schema}
 use Rattle.tab_model.specs.declared.data.Schema.TheVariants.{Create, Remove, AddIndex, DelIndex}
 use Rattle.tab_model.specs.Shapes.{held}
-use Rattle.tab_model.specs.Names.{pair}
-use Rattle.tab_term.specs.Data.{atom}
+use Rattle.tab_term.specs.Data.{atom, pair}
 use Rattle.tab_model.specs.declared.data.Command.{Command}
 use Rattle.tab_model.specs.declared.data.Command.TheVariants as command
 use Rattle.tab_model.specs.declared.data.InfoItem.{InfoItem}
@@ -380,15 +380,11 @@ module _ (σ : State) (log : List Entry) (tk : ℕ → List Item) (t : IsTied σ
       or_true true = refl
       or_true false = refl
 
-      or_false : (b : Bool) → (b || false) ≡ b
-      or_false true = refl
-      or_false false = refl
-
       moves : (q : ℕ) (x : Seat) → seat_at σ.seats q ≡ Some x → Moves q log e x (f x)
       moves q x g = given_moves q (σ.commits + 1) over (end_to (removed c) x) log e x (unwatched (removed c) x) ((unwatched_same (removed c) x).0 ∙ found σ.seats x q g) (unwatched_same (removed c) x).1
           (λ i. unless_over (has_session over q) (end_for (λ u. (sym ((t.seats q x g).watching u)) i) (removed c)))
           (λ h u. ap (λ b. kept_if (not (is_removed u (removed c) || b)) (level_in x.watching u)) h ∙ ap (λ b. kept_if (not b) (level_in x.watching u)) (or_true (is_removed u (removed c))))
-          (λ h u. unwatched_level (removed c) x u ∙ ap (λ b. kept_if (not b) (level_in x.watching u)) (sym (or_false (is_removed u (removed c)))) ∙ ap (λ b. kept_if (not (is_removed u (removed c) || b)) (level_in x.watching u)) (sym h))
+          (λ h u. unwatched_level (removed c) x u ∙ ap (λ b. kept_if (not b) (level_in x.watching u)) (sym (or-false (is_removed u (removed c)))) ∙ ap (λ b. kept_if (not (is_removed u (removed c) || b)) (level_in x.watching u)) (sym h))
 
       seats : (q : ℕ) (r : Seat) → seat_at (map f σ.seats) q ≡ Some r → (x : Seat) × (seat_at σ.seats q ≡ Some x) × Moves q log e x r
       seats q r g =

@@ -1,5 +1,6 @@
 -- The items since a subscription tell the changes since.
 use Rattle.std.proofs.Common.{◌≡◌, ℕ, ◌<◌, List, [], ◌∷◌, ◌++◌, Bool, true, false, ◌||◌, refl, sym, ap, ◌∙◌, subst, append-nil, append_assoc, Option, Some, None}
+use Rattle.std.proofs.lemmas.Bool.{or_parts}
 use Rattle.std.specs.Prelude.{if◌then◌else◌, ◌==◌}
 use Rattle.std.specs.Str.{bytes_eq}
 use Rattle.std.specs.List.{filter, list_any, filter_map, cons_option}
@@ -21,25 +22,17 @@ use Rattle.tab_model.specs.Log.{has_session, stands, in_force, in_force_from, en
 use Rattle.tab_model.specs.Slices.{as_batch, shape_at, batch_for, ended_item, end_for, unless_over, owed, slice_after, slice, dump_of}
 use Rattle.tab_model.specs.Since.{is_of, changes_in, changes_on, ends_it, subscribes, StandsSince, changes_told, HasAge, AllAged}
 use Rattle.tab_model.proofs.Seats.{in_force-push, serial-push}
-use Rattle.tab_model.proofs.Given.{legal-rest}
+use Rattle.tab_model.proofs.Given.{legal-rest, terms_back}
 use Rattle.tab_model.proofs.InForce.{stands_on, own_entry}
 use Rattle.tab_model.proofs.ShapeLaws.{shape_tells}
 use Rattle.tab_model.proofs.Stay.{eq_names}
 use Rattle.tab_model.proofs.Whole.{IsGood, good_serial, WholeAll, surviving_whole}
-
-or_parts : (a b : Bool) → (a || b) ≡ false → (a ≡ false) × (b ≡ false)
-or_parts true b h = cc
-or_parts false b h = (refl, h)
 
 told-append : (t : List ℕ) (xs ys : List Item) → changes_told t (xs ++ ys) ≡ changes_told t xs ++ changes_told t ys
 told-append t [] ys = refl
 told-append t (Began u l dump ∷ xs) ys = told-append t xs ys
 told-append t (Batch n es ∷ xs) ys = ap (λ zs. filter (is_of t) (filter_map change_of (terms_list es)) ++ zs) (told-append t xs ys) ∙ sym (append_assoc (filter (is_of t) (filter_map change_of (terms_list es))) _ _)
 told-append t (Ended u ending ∷ xs) ys = told-append t xs ys
-
-terms_back : (rs : List PlainTerm) → terms_list (plain_terms rs) ≡ rs
-terms_back [] = refl
-terms_back (r ∷ rs) = ap (λ xs. r ∷ xs) (terms_back rs)
 
 -- a batch tells what its terms tell
 batch_tells : (t : List ℕ) (n : ℕ) (es : List PlainTerm) → changes_told t (as_batch n es) ≡ filter (is_of t) (filter_map change_of es)

@@ -3,6 +3,7 @@ use Rattle.std.proofs.Common.{◌≡◌, ℕ, ◌<◌, List, [], ◌∷◌, ◌+
 use Rattle.std.specs.Prelude.{◌==◌, if◌then◌else◌, is_some, nat_lt}
 use Rattle.std.specs.Str.{bytes_eq}
 use Rattle.std.proofs.lemmas.Bool.Decides.{nat_tests}
+use Rattle.std.proofs.lemmas.Bool.{and_parts}
 use Rattle.tab_term.specs.Data.{PlainTerm, int, atom, tuple, list, bin, map, PlainTerms, none, one_more, count}
 use Rattle.tab_term.specs.Same.{same}
 use Rattle.tab_term.specs.View.{term}
@@ -168,10 +169,6 @@ good_serial w [] g = g
 good_serial w (e ∷ log) g = good_serial (entered w e) log (good_entry w e g)
 
 -- ---- what fits such a definition is a record
-
-and_parts : (a b : Bool) → (a && b) ≡ true → (a ≡ true) × (b ≡ true)
-and_parts true b h = (refl, h)
-and_parts false b h = cc
 
 long : (t : List ℕ) (ts : PlainTerms) (k : ℕ) → 1 < k → (count ts == k) ≡ true → is_record (tuple (one_more (atom t) ts)) ≡ true
 long t none k h e = absurd (short k h e)

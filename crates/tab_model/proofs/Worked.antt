@@ -1,7 +1,7 @@
 -- Worked rows, by computing.
 use Rattle.std.proofs.Common.{◌≡◌, ℕ, List, [], ◌∷◌, refl, Some, None, true, false}
 use Rattle.std.specs.Prelude.{codes, pos, negsuc}
-use Rattle.tab_term.specs.Data.{PlainTerm, int, atom, list, PlainTerms, none, one_more}
+use Rattle.tab_term.specs.Data.{PlainTerm, int, atom, list, PlainTerms, none, one_more, pair, triple}
 use Rattle.tab_term.specs.declared.term.Term.TheVariants as is
 use Rattle.tab_model.specs.declared.data.Operation.TheVariants as op
 use Rattle.tab_model.specs.declared.data.Reply.TheVariants as reply
@@ -11,7 +11,7 @@ use Rattle.tab_model.specs.declared.data.Command.TheVariants as command
 use Rattle.tab_model.specs.declared.data.Level.TheVariants.{Simple, Detailed}
 use Rattle.tab_model.specs.declared.data.Item.TheVariants.{Began, Batch, Ended}
 use Rattle.tab_term.specs.Canon.{canon, int_contents}
-use Rattle.tab_model.specs.Names.{less, plain_terms, pair, triple, names, numbers}
+use Rattle.tab_model.specs.Names.{less, plain_terms, names, numbers}
 use Rattle.tab_model.specs.declared.data.Ending.TheVariants as ending
 use Rattle.tab_model.specs.declared.data.InfoItem.TheVariants as item
 use Rattle.tab_model.specs.declared.data.TableInfo.TheVariants as info

@@ -3,12 +3,12 @@
 use Rattle.std.specs.Prelude.{ℕ, ◌+◌, List, [], ◌∷◌, Bool, true, false, not, ◌&&◌, ◌||◌, ◌==◌, nat_lt, length, if◌then◌else◌, Option, Some, None, pos, codes, is_some}
 use Rattle.std.specs.List.{list_any}
 use Rattle.std.specs.Str.{bytes_eq}
-use Rattle.tab_term.specs.Data.{PlainTerm, int, atom, tuple, list, bin, map, PlainTerms, none, one_more, count}
+use Rattle.tab_term.specs.Data.{PlainTerm, int, atom, tuple, list, bin, map, PlainTerms, none, one_more, count, pair}
 use Rattle.tab_term.specs.Same.{same}
 use Rattle.tab_model.specs.declared.data.Kind.{Kind}
 use Rattle.tab_model.specs.declared.data.Kind.TheVariants.{Set, Bag}
 use Rattle.tab_model.specs.declared.data.TableDef.{TableDef}
-use Rattle.tab_model.specs.Names.{has_name, pair}
+use Rattle.tab_model.specs.Names.{has_name}
 
 -- the position of an attribute that a term names, by name or number; never the key
 abbrev pub position_from : ℕ → List (List ℕ) → PlainTerm → Option ℕ

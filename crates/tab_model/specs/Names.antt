@@ -4,7 +4,7 @@ use Rattle.std.specs.List.{list_any}
 use Rattle.std.specs.Ordering.{nat_cmp, is_lt}
 use Rattle.std.specs.Cmp.Lexicographic.{slice_cmp}
 use Rattle.std.specs.Str.{bytes_eq}
-use Rattle.tab_term.specs.Data.{PlainTerm, int, atom, tuple, PlainTerms, none, one_more}
+use Rattle.tab_term.specs.Data.{PlainTerm, int, atom, PlainTerms, none, one_more}
 use Rattle.tab_term.specs.Canon.{canon}
 
 -- byte lists in their order
@@ -28,12 +28,6 @@ plain_terms (t ∷ ts) = one_more t (plain_terms ts)
 abbrev pub terms_list : PlainTerms → List PlainTerm
 terms_list none = []
 terms_list (one_more t ts) = t ∷ terms_list ts
-
-abbrev pub pair : PlainTerm → PlainTerm → PlainTerm
-pair a b = tuple (one_more a (one_more b none))
-
-abbrev pub triple : PlainTerm → PlainTerm → PlainTerm → PlainTerm
-triple a b c = tuple (one_more a (one_more b (one_more c none)))
 
 abbrev pub number : ℕ → PlainTerm
 number n = int (pos n)

@@ -25,8 +25,8 @@ rec t k v = tuple (record_of t k v)
 abbrev pub usual : Limits
 usual = record { sessions = 64; nesting = 16; operations = 1000; tables = 256; ages = 1000000; journal = 1024 }
 
-abbrev pub ring : ℕ → Outbox
-ring c = record { items = []; refusals = 0; capacity = Some c }
+abbrev pub empty_outbox : ℕ → Outbox
+empty_outbox c = record { items = []; refusals = 0; capacity = Some c }
 
 abbrev pub call : ℕ → Ask → Call
 call n a = record { session = n; ask = a; over = [] }
@@ -35,10 +35,10 @@ abbrev pub call_over : ℕ → Ask → List ℕ → Call
 call_over n a over = record { session = n; ask = a; over = over }
 
 abbrev pub joins : ℕ → Call
-joins n = call n (Join (ring 64))
+joins n = call n (Join (empty_outbox 64))
 
 abbrev pub joins_with : ℕ → ℕ → Call
-joins_with n c = call n (Join (ring c))
+joins_with n c = call n (Join (empty_outbox c))
 
 abbrev pub creates : ℕ → List ℕ → PlainTerms → Call
 creates n t os = call n (DoCommand (command.Schema (Create t os)))

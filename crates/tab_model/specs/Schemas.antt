@@ -1,7 +1,7 @@
 -- Schema commands on whole tables (Mnesia Reference Manual, create_table/2, delete_table/1, add_table_index/2,
 -- del_table_index/2; the terms of the refusals, but for already_exists and no_exists, are this project's own).
 use Rattle.std.specs.Prelude.{ℕ, List, [], Bool, true, false, ◌||◌, not, if◌then◌else◌, Option, Some, None, codes}
-use Rattle.tab_term.specs.Data.{atom, PlainTerms}
+use Rattle.tab_term.specs.Data.{atom, PlainTerms, pair}
 use Rattle.tab_term.specs.View.{term}
 use Rattle.tab_term.specs.declared.term.Term.{Term}
 use Rattle.tab_model.specs.declared.data.TableDef.{TableDef}
@@ -9,7 +9,6 @@ use Rattle.tab_model.specs.declared.data.Schema.{Schema}
 use Rattle.tab_model.specs.declared.data.Schema.TheVariants.{Create, Remove, AddIndex, DelIndex}
 use Rattle.tab_model.specs.declared.data.Reply.{Reply}
 use Rattle.tab_model.specs.declared.data.Reply.TheVariants as reply
-use Rattle.tab_model.specs.Names.{pair}
 use Rattle.tab_model.specs.Definitions.{position, is_indexed, add_number, less_number, with_indexes, Parsed, Good, Bad, parse_options}
 use Rattle.tab_model.specs.Worlds.{World, Table, find, place, without, with_def}
 use Rattle.tab_model.specs.Shapes.{held}

@@ -2,7 +2,7 @@
 -- and the activity id {tid, Age} are this project's own).
 use Rattle.std.specs.Prelude.{◌≡◌, ◌<◌, ℕ, suc, List, Bool, true, false, if◌then◌else◌, Option, Some, None, pos, codes}
 use Rattle.std.specs.Str.{bytes_eq}
-use Rattle.tab_term.specs.Data.{PlainTerm, int, atom, tuple, list, bin, map, PlainTerms, none, one_more}
+use Rattle.tab_term.specs.Data.{PlainTerm, int, atom, tuple, list, bin, map, PlainTerms, none, one_more, pair, triple}
 use Rattle.tab_term.specs.View.{term}
 use Rattle.tab_term.specs.declared.term.Term.{Term}
 use Rattle.tab_term.specs.declared.term.Term.TheVariants as is
@@ -11,7 +11,6 @@ use Rattle.tab_model.specs.declared.data.Level.TheVariants.{Simple, Detailed}
 use Rattle.tab_model.specs.declared.data.Change.{Change}
 use Rattle.tab_model.specs.declared.data.Change.TheVariants as change
 use Rattle.tab_model.specs.declared.data.Event.{Event}
-use Rattle.tab_model.specs.Names.{pair, triple}
 use Rattle.tab_model.specs.Operations.{table_of_change}
 
 -- the value of the program that a term is

@@ -15,22 +15,8 @@ use Rattle.tab_model.specs.declared.data.Command.TheVariants as command
 use Rattle.tab_proto.specs.declared.asked.Asked.{Asked}
 use Rattle.tab_proto.specs.declared.asked.Asked.TheVariants as asked
 use Rattle.tab_proto.specs.Asks.{ask_term, request_term, number_in, IsAsked}
-
-abbrev term_back : PlainTerm → Term
-term_back (int z) = is.Int z
-term_back (atom a) = is.Atom a
-term_back (tuple ts) = is.Tuple ts
-term_back (list ts) = is.List ts
-term_back (bin b) = is.Bin b
-term_back (map ps) = is.Map ps
-
-there_and_back : (t : Term) → term_back (term t) ≡ t
-there_and_back (is.Int z) = refl
-there_and_back (is.Atom a) = refl
-there_and_back (is.Tuple ts) = refl
-there_and_back (is.List ts) = refl
-there_and_back (is.Bin b) = refl
-there_and_back (is.Map ps) = refl
+use Rattle.tab_model.specs.Shapes.{held}
+use Rattle.tab_model.proofs.ShapeLaws.{held_term}
 
 abbrev word_back : List ℕ → Asked
 word_back w =
@@ -41,8 +27,8 @@ word_back w =
     else (if bytes_eq w (codes "begin") then asked.Do command.Begin else asked.Do command.Commit))))
 
 abbrev call_back : PlainTerms → Asked
-call_back (one_more (atom w) (one_more x none)) = if bytes_eq w (codes "abort") then asked.Do (command.Abort (term_back x)) else asked.Do (command.Do (op.Write (term_back x)))
-call_back (one_more (atom w) (one_more (atom t) (one_more x none))) = if bytes_eq w (codes "read") then asked.Do (command.Do (op.Read t (term_back x))) else asked.Do (command.Schema (schema.Create t none))
+call_back (one_more (atom w) (one_more x none)) = if bytes_eq w (codes "abort") then asked.Do (command.Abort (held x)) else asked.Do (command.Do (op.Write (held x)))
+call_back (one_more (atom w) (one_more (atom t) (one_more x none))) = if bytes_eq w (codes "read") then asked.Do (command.Do (op.Read t (held x))) else asked.Do (command.Schema (schema.Create t none))
 call_back ts = asked.Join
 
 abbrev ask_back : PlainTerm → Asked
@@ -57,9 +43,9 @@ asked_back asked.Retry h = refl
 asked_back asked.Take h = refl
 asked_back (asked.Do command.Begin) h = refl
 asked_back (asked.Do command.Commit) h = refl
-asked_back (asked.Do (command.Abort r)) h = ap (λ t. asked.Do (command.Abort t)) (there_and_back r)
-asked_back (asked.Do (command.Do (op.Read t k))) h = ap (λ x. asked.Do (command.Do (op.Read t x))) (there_and_back k)
-asked_back (asked.Do (command.Do (op.Write r))) h = ap (λ x. asked.Do (command.Do (op.Write x))) (there_and_back r)
+asked_back (asked.Do (command.Abort r)) h = ap (λ t. asked.Do (command.Abort t)) (held_term r)
+asked_back (asked.Do (command.Do (op.Read t k))) h = ap (λ x. asked.Do (command.Do (op.Read t x))) (held_term k)
+asked_back (asked.Do (command.Do (op.Write r))) h = ap (λ x. asked.Do (command.Do (op.Write x))) (held_term r)
 asked_back (asked.Do (command.Schema (schema.Create t none))) h = refl
 asked_back (asked.Do c) h = cc
 

@@ -2,7 +2,7 @@
 use Rattle.std.proofs.Common.{◌≡◌, ◌≢◌, ℕ, List, [], ◌∷◌, Bool, true, false, ◌&&◌, refl, sym, ap, ◌∙◌}
 use Rattle.std.specs.Prelude.{Result, Ok, Err, IfOk}
 use Rattle.std.specs.List.{list_all}
-use Rattle.std.proofs.lemmas.Bool.{false≢true}
+use Rattle.std.proofs.lemmas.Bool.{false≢true, and_from, and_parts}
 use Rattle.tab_term.specs.Data.{PlainTerm, PlainTerms, none, one_more}
 use Rattle.tab_term.specs.View.{term}
 use Rattle.tab_model.specs.declared.data.Operation.{Operation}
@@ -22,14 +22,6 @@ use Rattle.tab_proto.specs.Commands.{term_of, operation_term, schema_term, level
 use Rattle.tab_proto.specs.Reading.{is_level, is_item, is_part_term, are_parts, is_read, is_empty_list, serves_term, Spells, Refuses}
 use Rattle.tab_proto.specs.declared.fault.ProtoFault.{ProtoFault}
 use Rattle.tab_proto.specs.declared.fault.ProtoFault.TheVariants.{BadCommand, NoMemory}
-
-and_parts : (a b : Bool) → (a && b) ≡ true → (a ≡ true) × (b ≡ true)
-and_parts true b h = (refl, h)
-and_parts false b h = absurd (false≢true h)
-
-and_both : (a b : Bool) → a ≡ true → b ≡ true → (a && b) ≡ true
-and_both true b h k = k
-and_both false b h k = absurd (false≢true h)
 
 -- ---- the members of a one-shot
 
@@ -51,7 +43,7 @@ AllParts (ts ∷ outer) = (are_parts ts ≡ true) × AllParts outer
 
 first_is : (t : PlainTerm) (ls : List PlainTerms) → is_part_term t ≡ true → AllParts ls → AllParts (with_first t ls)
 first_is t [] h k = tt
-first_is t (ts ∷ outer) h k = (and_both (is_part_term t) (are_parts ts) h k.0, k.1)
+first_is t (ts ∷ outer) h k = (and_from (is_part_term t) (are_parts ts) h k.0, k.1)
 
 enclosed_is : (ls : List PlainTerms) → AllParts ls → AllParts (enclosed ls)
 enclosed_is [] h = tt
@@ -111,7 +103,7 @@ command_read (command.Unsubscribe t l) h = level_is l
 command_read (command.OneShot parts retries) h =
     let p = and_parts (Rattle.std.specs.Prelude.nat_le retries 1000) _ h in
     let q = and_parts (is_nested 0 parts) (list_all is_part parts) p.1 in
-    and_both _ _ (outermost_is (levels parts) (levels_are parts q.1)) p.0
+    and_from _ _ (outermost_is (levels parts) (levels_are parts q.1)) p.0
 
 options_are : (options : PlainTerms) → is_empty_list (Rattle.tab_term.specs.Data.list options) ≡ no_options options
 options_are none = refl
@@ -143,7 +135,7 @@ served_is (command.OneShot parts retries) = refl
 -- ---- refusals
 
 pub known : (c : Command) (t : PlainTerm) → serves c ≡ true → is_command c ≡ true → term_of c ≡ t → (serves_term t && is_read t) ≡ true
-known c t served formed spelled = ap (λ x. serves_term x && is_read x) (sym spelled) ∙ and_both _ _ (served_is c ∙ served) (command_read c formed)
+known c t served formed spelled = ap (λ x. serves_term x && is_read x) (sym spelled) ∙ and_from _ _ (served_is c ∙ served) (command_read c formed)
 
 pub unread : {A : Type 0} (t : PlainTerm) (r : Result A ProtoFault) → Refuses (is_read t) r → Refuses (serves_term t && is_read t) r
 unread t (Ok a) h = tt

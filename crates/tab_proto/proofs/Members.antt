@@ -7,11 +7,10 @@ use Rattle.std.specs.Prelude.{codes, pos, nat_le}
 use Rattle.tab_model.specs.declared.data.Command.TheVariants as command
 use Rattle.std.specs.List.{list_all}
 use Rattle.std.proofs.lemmas.List.{take_more}
-use Rattle.tab_term.specs.Data.{PlainTerm, int, atom, list, PlainTerms, none, one_more}
+use Rattle.tab_term.specs.Data.{PlainTerm, int, atom, list, PlainTerms, none, one_more, pair, triple}
 use Rattle.tab_term.specs.View.{term, terms}
 use Rattle.tab_term.specs.declared.term.Term.{Term}
 use Rattle.tab_term.proofs.Lists.{push, terms-push}
-use Rattle.tab_model.specs.Names.{pair, triple}
 use Rattle.tab_model.specs.declared.data.Operation.{Operation}
 use Rattle.tab_model.specs.declared.data.Part.{Part}
 use Rattle.tab_model.specs.declared.data.Part.TheVariants as part

@@ -1,8 +1,7 @@
 -- The terms of what a session asks (this project's own rule): a command, or a word for what isn't one.
 use Rattle.std.specs.Prelude.{◌≡◌, ◌≢◌, ◌≤◌, ◌<◌, ℤ, Option, Some, None, ℕ, List, Bool, true, false, ◌||◌, ◌&&◌, codes, pos, Result, Ok, Err}
 use Rattle.std.specs.Str.{bytes_eq}
-use Rattle.tab_term.specs.Data.{PlainTerm, int, atom, tuple, none, one_more}
-use Rattle.tab_model.specs.Names.{pair}
+use Rattle.tab_term.specs.Data.{PlainTerm, int, atom, tuple, none, one_more, pair}
 use Rattle.tab_core.specs.Served.{serves}
 use Rattle.tab_proto.specs.declared.asked.Asked.{Asked}
 use Rattle.tab_proto.specs.declared.asked.Asked.TheVariants as asked

@@ -2,7 +2,7 @@
 -- (That begin and commit are calls of their own, and the parts of a one-shot, are this project's own rules.)
 use Rattle.std.specs.Prelude.{ℕ, zero, suc, List, [], ◌∷◌, Bool, true, false, not, ◌&&◌, nat_le, codes, pos}
 use Rattle.std.specs.List.{list_all}
-use Rattle.tab_term.specs.Data.{PlainTerm, int, atom, tuple, list, PlainTerms, none, one_more}
+use Rattle.tab_term.specs.Data.{PlainTerm, int, atom, tuple, list, PlainTerms, none, one_more, pair, triple}
 use Rattle.tab_term.specs.View.{term}
 use Rattle.tab_model.specs.declared.data.Operation.{Operation}
 use Rattle.tab_model.specs.declared.data.Operation.TheVariants as op
@@ -16,7 +16,6 @@ use Rattle.tab_model.specs.declared.data.Part.{Part}
 use Rattle.tab_model.specs.declared.data.Part.TheVariants as part
 use Rattle.tab_model.specs.declared.data.Command.{Command}
 use Rattle.tab_model.specs.declared.data.Command.TheVariants as command
-use Rattle.tab_model.specs.Names.{pair, triple}
 
 abbrev pub four : PlainTerm → PlainTerm → PlainTerm → PlainTerm → PlainTerm
 four a b c d = tuple (one_more a (one_more b (one_more c (one_more d none))))

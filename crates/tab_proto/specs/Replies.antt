@@ -1,7 +1,7 @@
 -- The terms of replies. An aborted transaction's reason and {already_exists, Tab}, {no_exists, Tab} are those of the
 -- Mnesia Reference Manual; the other refusals are this project's own.
-use Rattle.std.specs.Prelude.{◌≡◌, ℕ, List, Option, Some, None, Bool, true, false, codes}
-use Rattle.tab_term.specs.Data.{PlainTerm, atom, list}
+use Rattle.std.specs.Prelude.{◌≡◌, ℕ, List, Option, Some, None, codes}
+use Rattle.tab_term.specs.Data.{PlainTerm, atom, list, pair, triple}
 use Rattle.tab_term.specs.View.{term}
 use Rattle.tab_model.specs.declared.data.Limit.{Limit}
 use Rattle.tab_model.specs.declared.data.Limit.TheVariants as limit
@@ -15,7 +15,7 @@ use Rattle.tab_model.specs.declared.data.TableInfo.{TableInfo}
 use Rattle.tab_model.specs.declared.data.TableInfo.TheVariants as info
 use Rattle.tab_model.specs.declared.data.Reply.{Reply}
 use Rattle.tab_model.specs.declared.data.Reply.TheVariants as reply
-use Rattle.tab_model.specs.Names.{pair, triple, number}
+use Rattle.tab_model.specs.Names.{number}
 use Rattle.tab_etf.specs.declared.outline.Outline.{Outline}
 use Rattle.tab_etf.specs.Outlines.{outline_term, IsShortOutline}
 use Rattle.tab_proto.specs.Commands.{level_word}
@@ -102,31 +102,3 @@ pub record IsOutlineOf (o : Outline) (t : PlainTerm) : Type 0 where
   pub alone : o.first ≡ None
   pub is : outline_term o ≡ t
   pub short : IsShortOutline o
-
-abbrev pub holds_number : Reply → Bool
-holds_number (reply.SystemLimit l) = true
-holds_number (reply.Tid age) = true
-holds_number (reply.Atomic n) = true
-holds_number (reply.Overflow n) = true
-holds_number r = false
-
-abbrev pub holds_nothing : Reply → Bool
-holds_nothing reply.BadTerm = true
-holds_nothing reply.BadCommand = true
-holds_nothing reply.NoTransaction = true
-holds_nothing reply.WaitingNow = true
-holds_nothing reply.InTransaction = true
-holds_nothing reply.NotWaiting = true
-holds_nothing reply.NoMemory = true
-holds_nothing reply.BadSession = true
-holds_nothing reply.OutboxFull = true
-holds_nothing reply.OverflowUntold = true
-holds_nothing reply.Waiting = true
-holds_nothing reply.Restart = true
-holds_nothing reply.Done = true
-holds_nothing reply.AtomicOk = true
-holds_nothing reply.NoMore = true
-holds_nothing reply.NoWait = true
-holds_nothing reply.SubscribedHere = true
-holds_nothing reply.Empty = true
-holds_nothing r = false

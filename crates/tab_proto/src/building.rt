@@ -1,9 +1,9 @@
 //! Terms from their parts.
 
 ghost use Rattle.std.specs.Prelude.{◌≡◌, ◌≤◌, length, IfOk};
-ghost use Rattle.tab_term.specs.Data.{atom};
+ghost use Rattle.tab_term.specs.Data.{atom, pair as pair_of, triple as triple_of};
 ghost use Rattle.tab_term.specs.View.{term};
-ghost use Rattle.tab_model.specs.Names.{number as number_of, pair as pair_of, triple as triple_of};
+ghost use Rattle.tab_model.specs.Names.{number as number_of};
 
 use std::alloc::{AllocError, Global};
 use tab_term::{Atom, Term, Terms};

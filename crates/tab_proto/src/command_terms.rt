@@ -1,9 +1,8 @@
 //! Commands as terms.
 
 ghost use Rattle.std.specs.Prelude.{◌≡◌, ◌≤◌, length, IfOk, codes};
-ghost use Rattle.tab_term.specs.Data.{atom};
+ghost use Rattle.tab_term.specs.Data.{atom, pair as pair_of, triple as triple_of};
 ghost use Rattle.tab_term.specs.View.{term};
-ghost use Rattle.tab_model.specs.Names.{pair as pair_of, triple as triple_of};
 ghost use Rattle.tab_proto.specs.Commands.{term_of as term_of_command, schema_term as schema_term_of, operation_term as operation_term_of, level_word as level_word_of, item_word as item_word_of, four as four_of};
 
 use crate::building::{name, number, pair, triple, word, worded};

@@ -1,10 +1,9 @@
 //! Commands from terms.
 
 ghost use Rattle.std.specs.Prelude.{◌≡◌, ◌≢◌, ◌&&◌, IfOk, true, Err, nat_le, pos, codes};
-ghost use Rattle.tab_term.specs.Data.{int, atom, tuple, list};
+ghost use Rattle.tab_term.specs.Data.{int, atom, tuple, list, pair, triple};
 ghost use Rattle.tab_term.specs.View.{term, terms};
 ghost use Rattle.tab_core.specs.Served.{serves};
-ghost use Rattle.tab_model.specs.Names.{pair, triple};
 ghost use Rattle.tab_model.specs.declared.data.Command.{Command as CommandOf};
 ghost use Rattle.tab_proto.specs.Commands.{term_of, is_command, level_word, item_word};
 ghost use Rattle.tab_proto.specs.FirstWords.{unary_in, binary_in};

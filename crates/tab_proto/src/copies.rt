@@ -1,9 +1,8 @@
 //! Copies of the parts of a request's term, where they have the form that a command wants.
 
 ghost use Rattle.std.specs.Prelude.{◌≡◌, IfOk, true};
-ghost use Rattle.tab_term.specs.Data.{atom, list};
+ghost use Rattle.tab_term.specs.Data.{atom, list, pair};
 ghost use Rattle.tab_term.specs.View.{term};
-ghost use Rattle.tab_model.specs.Names.{pair};
 ghost use Rattle.tab_proto.specs.Commands.{is_row as is_row_of, is_attribute as is_attribute_of};
 ghost use Rattle.tab_proto.specs.Reading.{is_atom, is_list, is_place, Refuses};
 ghost use Rattle.std.specs.Prelude.{false};

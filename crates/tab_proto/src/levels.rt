@@ -15,11 +15,11 @@ use tab_term::{Term, Terms};
 
 /// A transaction's operations, kept from the last to the first. Contracts see them in order.
 #[derive(Drop)]
-struct Level {
+struct OpenTransaction {
     items: Vec<Term>,
 }
 
-impl Model for Level {
+impl Model for OpenTransaction {
     ghost use Rattle.std.specs.Prelude.{reverse};
     ghost use Rattle.tab_term.specs.Code.{terms_code};
     ghost use Rattle.tab_term.specs.Data.{PlainTerms};
@@ -32,11 +32,11 @@ impl Model for Level {
     ghost view = { λ a. terms (reverse a.items.items) };
 }
 
-impl Level {
-    fn new(alloc: Global) -> Level
+impl OpenTransaction {
+    fn new(alloc: Global) -> OpenTransaction
         ensures { result ≡ none }
     {
-        Level {
+        OpenTransaction {
             items: Vec::new(alloc),
         }
     }
@@ -51,7 +51,7 @@ impl Level {
     fn into_terms(self) -> Terms
         ensures { result ≡ self }
     {
-        let Level { mut items } = self;
+        let OpenTransaction { mut items } = self;
         items.reverse();
         Terms::from_vec(items)
     }
@@ -59,11 +59,11 @@ impl Level {
 
 /// The transactions that stand open, outermost first. Contracts see them innermost first.
 #[derive(Drop)]
-struct Levels {
-    open: Vec<Level>,
+struct OpenTransactions {
+    open: Vec<OpenTransaction>,
 }
 
-impl Model for Levels {
+impl Model for OpenTransactions {
     ghost use Rattle.std.specs.Prelude.{List, reverse};
     ghost use Rattle.std.specs.Coded.{codes};
     ghost use Rattle.tab_term.specs.Code.{terms_code};
@@ -76,17 +76,17 @@ impl Model for Levels {
     ghost view = { λ a. reverse a.open.items };
 }
 
-impl Levels {
-    fn new(alloc: Global) -> Levels
+impl OpenTransactions {
+    fn new(alloc: Global) -> OpenTransactions
         ensures { result ≡ [] }
     {
-        Levels {
+        OpenTransactions {
             open: Vec::new(alloc),
         }
     }
 
     /// A transaction more stands open.
-    fn begin(&mut self, level: Level) -> Result<(), AllocError>
+    fn begin(&mut self, level: OpenTransaction) -> Result<(), AllocError>
         ensures { OnOk result (self.new ≡ level ∷ self.old) }
     {
         self.open.push(level)?;
@@ -123,7 +123,7 @@ impl Levels {
     fn into_outermost(self, alloc: Global) -> Terms
         ensures { result ≡ outermost self }
     {
-        let Levels { mut open } = self;
+        let OpenTransactions { mut open } = self;
         open.truncate(1);
         match open.pop() {
             Some(level) => level.into_terms(),
@@ -136,8 +136,8 @@ impl Levels {
 pub fn operations_of(alloc: Global, parts: &[Part]) -> Result<Terms, AllocError>
     ensures { IfOk result (λ ts. ts ≡ outermost (levels parts.now)) }
 {
-    let mut lists = Levels::new(alloc);
-    lists.begin(Level::new(alloc))?;
+    let mut lists = OpenTransactions::new(alloc);
+    lists.begin(OpenTransaction::new(alloc))?;
     let mut left = parts.len();
     while left > 0 {
         left -= 1;
@@ -147,7 +147,7 @@ pub fn operations_of(alloc: Global, parts: &[Part]) -> Result<Terms, AllocError>
 }
 
 /// One part more before those that the lists are of.
-fn step(alloc: Global, part: &Part, lists: &mut Levels) -> Result<(), AllocError>
+fn step(alloc: Global, part: &Part, lists: &mut OpenTransactions) -> Result<(), AllocError>
     ensures { OnOk result ((rest : List PartOf) → lists.old ≡ levels rest → lists.new ≡ levels (part.now ∷ rest)) }
 {
     match part {
@@ -156,6 +156,6 @@ fn step(alloc: Global, part: &Part, lists: &mut Levels) -> Result<(), AllocError
             lists.put_first(worded(alloc, "abort", reason.try_clone(alloc)?)?)
         }
         Part::Open => lists.enclose(alloc),
-        Part::Close => lists.begin(Level::new(alloc)),
+        Part::Close => lists.begin(OpenTransaction::new(alloc)),
     }
 }

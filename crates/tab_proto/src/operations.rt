@@ -1,9 +1,8 @@
 //! Operations from terms.
 
 ghost use Rattle.std.specs.Prelude.{◌≡◌, IfOk};
-ghost use Rattle.tab_term.specs.Data.{atom};
+ghost use Rattle.tab_term.specs.Data.{atom, pair, triple};
 ghost use Rattle.tab_term.specs.View.{term};
-ghost use Rattle.tab_model.specs.Names.{pair, triple};
 ghost use Rattle.tab_proto.specs.Commands.{four};
 ghost use Rattle.tab_proto.specs.FirstWords.{unary_text};
 ghost use Rattle.tab_proto.specs.Reading.{is_unary_operation, is_read_of, is_ternary, SpellsOperation, Refuses};

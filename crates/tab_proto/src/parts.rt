@@ -1,9 +1,8 @@
 //! The parts of a one-shot from the terms of its list.
 
 ghost use Rattle.std.specs.Prelude.{◌≡◌, ◌++◌, ◌∷◌, [], OnOk, true};
-ghost use Rattle.tab_term.specs.Data.{atom, none, one_more};
+ghost use Rattle.tab_term.specs.Data.{atom, none, one_more, pair};
 ghost use Rattle.tab_term.specs.View.{term, terms};
-ghost use Rattle.tab_model.specs.Names.{pair};
 ghost use Rattle.tab_proto.specs.FirstWords.{unary_text};
 ghost use Rattle.tab_proto.specs.Commands.{is_part};
 ghost use Rattle.tab_proto.specs.Reading.{is_unary_part, is_parts_list, is_part_term, are_parts, is_read_of, is_ternary, Refuses, Says, Adds};

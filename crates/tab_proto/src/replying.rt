@@ -1,16 +1,15 @@
 //! Replies, written without a term being built.
 
-ghost use Rattle.std.specs.Prelude.{codes, true, ◌≡◌, ◌≤◌, ◌<◌, ◌++◌, ◌∷◌, ◌↔◌, length, OnOk, OnErr, IfErr, Err, Option, ℕ};
+ghost use Rattle.std.specs.Prelude.{codes, pos, ◌≡◌, ◌≤◌, ◌<◌, ◌++◌, ◌∷◌, ◌↔◌, length, OnOk, OnErr, IfErr, Err, Option, ℕ};
 ghost use Rattle.std.specs.Io.KnownBytes.{Appends};
 ghost use Rattle.tab_term.specs.Canon.{canon};
-ghost use Rattle.tab_term.specs.Data.{atom, list};
+ghost use Rattle.tab_term.specs.Data.{atom, int, list, pair as pair_of, triple as triple_of};
 ghost use Rattle.tab_term.specs.View.{term};
 ghost use Rattle.tab_etf.specs.Frames.{frame};
 ghost use Rattle.tab_etf.specs.Outlines.{leaf_term, outline_term, IsShort, IsShortOutline};
 ghost use Rattle.tab_etf.specs.Writing.{IsUnwritten};
-ghost use Rattle.tab_model.specs.Names.{pair as pair_of, triple as triple_of};
 ghost use Rattle.tab_proto.specs.Commands.{level_word as level_word_of};
-ghost use Rattle.tab_proto.specs.Replies.{reply_term as reply_term_of, item_term as item_term_of, info_term as info_term_of, limit_word as limit_word_of, kind_word as kind_word_of, ending_word as ending_word_of, response, holds_nothing, holds_number, IsOutlineOf};
+ghost use Rattle.tab_proto.specs.Replies.{reply_term as reply_term_of, item_term as item_term_of, info_term as info_term_of, limit_word as limit_word_of, kind_word as kind_word_of, ending_word as ending_word_of, response, IsOutlineOf};
 
 use std::io::Write;
 use tab_etf::{
@@ -81,69 +80,71 @@ fn outline_of(reply: &Reply) -> Outline<'_>
         Reply::Found(rows) => alone(Leaf::List(rows)),
         Reply::Told(info) => info_outline(info),
         Reply::Taken(item) => item_outline(item),
-        Reply::SystemLimit(_) | Reply::Tid(_) | Reply::Atomic(_) | Reply::Overflow(_) => {
-            number_outline(reply)
-        }
-        Reply::BadTerm
-        | Reply::BadCommand
-        | Reply::NoTransaction
-        | Reply::WaitingNow
-        | Reply::InTransaction
-        | Reply::NotWaiting
-        | Reply::NoMemory
-        | Reply::BadSession
-        | Reply::OutboxFull
-        | Reply::OverflowUntold
-        | Reply::Waiting
-        | Reply::Restart
-        | Reply::Done
-        | Reply::AtomicOk
-        | Reply::NoMore
-        | Reply::NoWait
-        | Reply::SubscribedHere
-        | Reply::Empty => plain_outline(reply),
-    }
-}
-
-/// A reply that holds a limit or a number.
-fn number_outline(reply: &Reply) -> Outline<'_>
-    ensures { holds_number reply.now ≡ true → IsOutlineOf result (reply_term_of reply.now) }
-{
-    match reply {
         Reply::SystemLimit(limit) => {
-            told_in("error", "system_limit", Leaf::Word(limit_word(*limit)))
+            told_in("error", "system_limit", short(reply, limit_word(*limit)))
         }
-        Reply::Tid(age) => worded("tid", Leaf::Number(*age)),
-        Reply::Atomic(commits) => worded("atomic", Leaf::Number(*commits)),
-        Reply::Overflow(commits) => worded("mnesia_overflow", Leaf::Number(*commits)),
-        _ => alone(Leaf::Word("empty")),
+        Reply::Tid(age) => counted(reply, "tid", *age),
+        Reply::Atomic(commits) => counted(reply, "atomic", *commits),
+        Reply::Overflow(commits) => counted(reply, "mnesia_overflow", *commits),
+        Reply::BadTerm => error(reply, "badterm"),
+        Reply::BadCommand => error(reply, "badcommand"),
+        Reply::NoTransaction => error(reply, "no_transaction"),
+        Reply::WaitingNow => error(reply, "waiting"),
+        Reply::InTransaction => error(reply, "in_transaction"),
+        Reply::NotWaiting => error(reply, "not_waiting"),
+        Reply::NoMemory => error(reply, "no_memory"),
+        Reply::BadSession => error(reply, "badsession"),
+        Reply::OutboxFull => error(reply, "outbox_full"),
+        Reply::OverflowUntold => error(reply, "overflow"),
+        Reply::Waiting => word(reply, "waiting"),
+        Reply::Restart => word(reply, "restart"),
+        Reply::Done => word(reply, "ok"),
+        Reply::Empty => word(reply, "empty"),
+        Reply::AtomicOk => words(reply, "atomic", "ok"),
+        Reply::NoMore => words(reply, "aborted", "nomore"),
+        Reply::NoWait => words(reply, "aborted", "nowait"),
+        Reply::SubscribedHere => words(reply, "ok", "nonode@nohost"),
     }
 }
 
-/// A reply that holds nothing.
-fn plain_outline(reply: &Reply) -> Outline<'_>
-    ensures { holds_nothing reply.now ≡ true → IsOutlineOf result (reply_term_of reply.now) }
+// What is told of a reply that lends nothing is lent for as long as the reply, like what the others lend.
+
+fn word<'a>(_reply: &'a Reply, text: &'static str) -> Outline<'a>
+    requires { length text.now ≤ 255 }
+    ensures { IsOutlineOf result (atom text.now) }
 {
-    match reply {
-        Reply::BadTerm => error("badterm"),
-        Reply::BadCommand => error("badcommand"),
-        Reply::NoTransaction => error("no_transaction"),
-        Reply::WaitingNow => error("waiting"),
-        Reply::InTransaction => error("in_transaction"),
-        Reply::NotWaiting => error("not_waiting"),
-        Reply::NoMemory => error("no_memory"),
-        Reply::BadSession => error("badsession"),
-        Reply::OutboxFull => error("outbox_full"),
-        Reply::OverflowUntold => error("overflow"),
-        Reply::Waiting => alone(Leaf::Word("waiting")),
-        Reply::Restart => alone(Leaf::Word("restart")),
-        Reply::Done => alone(Leaf::Word("ok")),
-        Reply::AtomicOk => worded("atomic", Leaf::Word("ok")),
-        Reply::NoMore => worded("aborted", Leaf::Word("nomore")),
-        Reply::NoWait => worded("aborted", Leaf::Word("nowait")),
-        Reply::SubscribedHere => worded("ok", Leaf::Word("nonode@nohost")),
-        _ => alone(Leaf::Word("empty")),
-    }
+    alone(Leaf::Word(text))
+}
+
+fn words<'a>(_reply: &'a Reply, text: &'static str, value: &'static str) -> Outline<'a>
+    requires text { length text.now ≤ 255 }
+    requires value { length value.now ≤ 255 }
+    ensures { IsOutlineOf result (pair_of (atom text.now) (atom value.now)) }
+{
+    worded(text, Leaf::Word(value))
+}
+
+/// `{error, Fault}`.
+fn error<'a>(reply: &'a Reply, fault: &'static str) -> Outline<'a>
+    requires { length fault.now ≤ 255 }
+    ensures { IsOutlineOf result (pair_of (atom (codes "error")) (atom fault.now)) }
+{
+    words(reply, "error", fault)
+}
+
+fn counted<'a>(_reply: &'a Reply, text: &'static str, number: u64) -> Outline<'a>
+    requires { length text.now ≤ 255 }
+    ensures { IsOutlineOf result (pair_of (atom text.now) (int (pos number))) }
+{
+    worded(text, Leaf::Number(number))
+}
+
+fn short<'a>(_reply: &'a Reply, text: &'static str) -> Leaf<'a>
+    requires { length text.now ≤ 255 }
+    ensures term { leaf_term result ≡ atom text.now }
+    ensures short { IsShort result }
+{
+    Leaf::Word(text)
 }
 
 fn named(table: &Atom) -> Leaf<'_>
@@ -175,14 +176,6 @@ fn worded<'a>(text: &'a str, value: Leaf<'a>) -> Outline<'a>
         second: None,
         body: Body::Two(Leaf::Word(text), value),
     }
-}
-
-/// `{error, Fault}`.
-fn error<'a>(fault: &'a str) -> Outline<'a>
-    requires { length fault.now ≤ 255 }
-    ensures { IsOutlineOf result (pair_of (atom (codes "error")) (atom fault.now)) }
-{
-    worded("error", Leaf::Word(fault))
 }
 
 /// `{Text, {Fault, Value}}`.

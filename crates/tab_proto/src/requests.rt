@@ -1,9 +1,8 @@
 //! Requests from terms.
 
 ghost use Rattle.std.specs.Prelude.{◌≡◌, ◌≢◌, ◌&&◌, ℕ, pos, IfOk, IfSome, IfNone, Err};
-ghost use Rattle.tab_term.specs.Data.{int, atom};
+ghost use Rattle.tab_term.specs.Data.{int, atom, pair};
 ghost use Rattle.tab_term.specs.View.{term};
-ghost use Rattle.tab_model.specs.Names.{pair};
 ghost use Rattle.tab_proto.specs.Reading.{is_read, is_one_word, serves_term, Refuses};
 ghost use Rattle.tab_proto.specs.Asks.{ask_term, request_term, IsSession, IsNumbered, HasNoNumber, IsAsked, is_asked, is_asked_word, ReadsAsked};
 ghost use Rattle.tab_proto.specs.declared.asked.Asked.{Asked as AskedOf};

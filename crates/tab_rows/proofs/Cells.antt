@@ -5,8 +5,9 @@ use Rattle.std.specs.List.{filter, list_all, list_any}
 use Rattle.std.specs.Ordering.{match_ordering, is_lt}
 use Rattle.std.specs.Cmp.{IsTotalOrder}
 use Rattle.std.specs.Cmp.Lexicographic.{slice_cmp}
-use Rattle.std.proofs.lemmas.Bool.{false≢true}
+use Rattle.std.proofs.lemmas.Bool.{false≢true, and_from, and_parts, or_right}
 use Rattle.std.proofs.lemmas.Cmp.{on_total, nat_list_cmp_total}
+use Rattle.std.proofs.lemmas.List.Elements.{filter-append}
 use Rattle.tab_term.specs.declared.term.Term.{Term}
 use Rattle.tab_term.specs.View.{term}
 use Rattle.tab_term.specs.Canon.{canon}
@@ -25,44 +26,15 @@ use Rattle.tab_model.specs.declared.data.Change.TheVariants as change
 use Rattle.tab_model.specs.declared.data.Change.{Change}
 use Rattle.tab_model.proofs.TableLaws.{same_true, same_refl, same_lists}
 use Rattle.tab_model.proofs.ChangeLaws.{at-apply, ordered-apply, none_left, at_end, any_at}
-use Rattle.tab_rows.specs.Joined.{term_cmp, Entry, joined, IsKeyed, AllKeyed, IsInOrder}
+use Rattle.tab_rows.specs.Joined.{Entry, joined, IsKeyed, AllKeyed, IsInOrder}
 use Rattle.tab_rows.proofs.LookUps.{lookup_above, lookup_insert, lookup_remove}
-
-pub term_total : IsTotalOrder term_cmp
-term_total = on_total (λ t. canon (term t)) nat_list_cmp_total
-
--- the term of the program with a given plain value
-term_held : (t : PlainTerm) → term (held t) ≡ t
-term_held (Rattle.tab_term.specs.Data.int z) = refl
-term_held (Rattle.tab_term.specs.Data.atom s) = refl
-term_held (Rattle.tab_term.specs.Data.tuple ts) = refl
-term_held (Rattle.tab_term.specs.Data.list ts) = refl
-term_held (Rattle.tab_term.specs.Data.bin b) = refl
-term_held (Rattle.tab_term.specs.Data.map ps) = refl
+use Rattle.tab_model.proofs.ShapeLaws.{term_held}
+use Rattle.tab_term.specs.Order.{term_cmp}
+use Rattle.tab_term.proofs.Total.{term_total}
 
 filter_none : (p : PlainTerm → Bool) (xs : Rows) → list_all (λ x. p x) xs ≡ true → filter p xs ≡ xs
 filter_none p [] h = refl
 filter_none p (x ∷ xs) h = let q = and_parts (p x) (list_all p xs) h in ap (λ b. if b then x ∷ filter p xs else filter p xs) q.0 ∙ ap (λ ys. x ∷ ys) (filter_none p xs q.1)
-  where
-    and_parts : (a b : Bool) → (a && b) ≡ true → (a ≡ true) × (b ≡ true)
-    and_parts true b h = (refl, h)
-    and_parts false b h = cc
-
-and_parts : (a b : Bool) → (a && b) ≡ true → (a ≡ true) × (b ≡ true)
-and_parts true b h = (refl, h)
-and_parts false b h = cc
-
-and_both : (a b : Bool) → a ≡ true → b ≡ true → (a && b) ≡ true
-and_both true b h k = k
-and_both false b h k = cc
-
-filter-append : (p : PlainTerm → Bool) (xs ys : Rows) → filter p (xs ++ ys) ≡ filter p xs ++ filter p ys
-filter-append p [] ys = refl
-filter-append p (x ∷ xs) ys = cases (filter-append p xs ys) (p x)
-  where
-    cases : filter p (xs ++ ys) ≡ filter p xs ++ filter p ys → (b : Bool) → (if b then x ∷ filter p (xs ++ ys) else filter p (xs ++ ys)) ≡ (if b then x ∷ filter p xs else filter p xs) ++ filter p ys
-    cases ih true = ap (λ zs. x ∷ zs) ih
-    cases ih false = ih
 
 -- records of one key, seen at another
 at_other : (k q : PlainTerm) (xs : Rows) → same k q ≡ false → list_all (has_key k) xs ≡ true → at xs q ≡ []
@@ -125,13 +97,13 @@ at-joined (e ∷ es) q s k = filter-append (has_key (term q)) (terms_list e.1) (
 
 all_append : (p : PlainTerm → Bool) (xs ys : Rows) → list_all p xs ≡ true → list_all p ys ≡ true → list_all p (xs ++ ys) ≡ true
 all_append p [] ys h k = k
-all_append p (x ∷ xs) ys h k = let q = and_parts (p x) (list_all p xs) h in and_both (p x) (list_all p (xs ++ ys)) q.0 (all_append p xs ys q.1 k)
+all_append p (x ∷ xs) ys h k = let q = and_parts (p x) (list_all p xs) h in and_from (p x) (list_all p (xs ++ ys)) q.0 (all_append p xs ys q.1 k)
 
 follows_same : (k : PlainTerm) (x : PlainTerm) (ys : Rows) → has_key k x ≡ true → list_all (has_key k) ys ≡ true → list_all (follows x) ys ≡ true
 follows_same k x [] h a = refl
 follows_same k x (y ∷ ys) h a =
     let p = and_parts (has_key k y) (list_all (has_key k) ys) a in
-    and_both (follows x y) (list_all (follows x) ys)
+    and_from (follows x y) (list_all (follows x) ys)
     (ap₂ (λ i j. same i j || less i j) (same_true (key x) k h) (same_true (key y) k p.0) ∙ ap (λ b. b || less k k) (same_refl k))
     (follows_same k x ys h p.1)
 
@@ -139,13 +111,9 @@ follows_part : (k j : Term) (x : PlainTerm) (ys : Rows) → term_cmp k j ≡ Les
 follows_part k j x [] h e a = refl
 follows_part k j x (y ∷ ys) h e a =
     let p = and_parts (has_key (term j) y) (list_all (has_key (term j)) ys) a in
-    and_both (follows x y) (list_all (follows x) ys)
+    and_from (follows x y) (list_all (follows x) ys)
     (ap₂ (λ u v. same u v || less u v) (same_true (key x) (term k) e) (same_true (key y) (term j) p.0) ∙ or_right (same (term k) (term j)) (less (term k) (term j)) (less_is k j h))
     (follows_part k j x ys h e p.1)
-  where
-    or_right : (a b : Bool) → b ≡ true → (a || b) ≡ true
-    or_right true b h = refl
-    or_right false b h = h
 
 follows_above : (k : Term) (x : PlainTerm) (es : List Entry) → has_key (term k) x ≡ true → AllAbove term_cmp k es → AllKeyed es → list_all (follows x) (joined es) ≡ true
 follows_above k x [] e a d = refl
@@ -155,7 +123,7 @@ ordered_part : (k : Term) (xs : Rows) (es : List Entry) → list_all (has_key (t
 ordered_part k [] es h a d o = o
 ordered_part k (x ∷ xs) es h a d o =
     let p = and_parts (has_key (term k) x) (list_all (has_key (term k)) xs) h in
-    and_both (list_all (follows x) (xs ++ joined es)) (is_ordered (xs ++ joined es))
+    and_from (list_all (follows x) (xs ++ joined es)) (is_ordered (xs ++ joined es))
     (all_append (follows x) xs (joined es) (follows_same (term k) x xs p.0 p.1) (follows_above k x es p.0 a d))
     (ordered_part k xs es p.1 a d o)
 
@@ -290,7 +258,7 @@ found_keyed : (es : List Entry) (k : Term) → IsInOrder es → list_all (has_ke
 found_keyed es k o = ap (list_all (has_key (term k))) (sym (at-joined es k o.ascends o.keyed)) ∙ all_filter (joined es)
   where
     cases : (x : PlainTerm) (rows : Rows) → list_all (has_key (term k)) (at rows (term k)) ≡ true → (b : Bool) → has_key (term k) x ≡ b → list_all (has_key (term k)) (if b then x ∷ at rows (term k) else at rows (term k)) ≡ true
-    cases x rows ih true e = and_both (has_key (term k) x) (list_all (has_key (term k)) (at rows (term k))) e ih
+    cases x rows ih true e = and_from (has_key (term k) x) (list_all (has_key (term k)) (at rows (term k))) e ih
     cases x rows ih false e = ih
 
     all_filter : (rows : Rows) → list_all (has_key (term k)) (at rows (term k)) ≡ true

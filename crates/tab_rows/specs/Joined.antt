@@ -11,10 +11,7 @@ use Rattle.tab_term.specs.Data.{PlainTerms}
 use Rattle.tab_map.specs.Entries.{Ascends}
 use Rattle.tab_model.specs.Names.{terms_list}
 use Rattle.tab_model.specs.Tables.{Rows, has_key}
-
--- the order of terms
-abbrev pub term_cmp : Term → Term → Ordering
-term_cmp = on (λ t. canon (term t)) (slice_cmp nat_cmp)
+use Rattle.tab_term.specs.Order.{term_cmp}
 
 abbrev pub Entry : Type 0
 Entry = Term × PlainTerms

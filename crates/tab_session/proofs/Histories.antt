@@ -20,8 +20,10 @@ use Rattle.tab_proto.specs.declared.asked.Asked.TheVariants as asked
 use Rattle.tab_proto.specs.Asks.{request_term, number_in, IsSession, IsNumbered, IsAsked}
 use Rattle.tab_proto.proofs.Apart.{requests_apart}
 use Rattle.tab_session.specs.declared.answered.Answer.{Answer}
-use Rattle.tab_session.specs.Answers.{ask_for, IsMade, Made, IsStep, IsNumberOf, IsNoCommand, AnsweredTerm, AnsweredRead, Refused, Answered, Ran, NoneRefused, NoneWaits, AreOf, taken_by}
+use Rattle.tab_session.specs.Answers.{ask_for, IsMade, Made, IsStep, IsNumberOf, IsNoCommand, AnsweredTerm, AnsweredRead, Refused, Answered, Ran, NoneRefused, NoneWaits, AreOf, taken_by, IsOf}
 use Rattle.tab_session.specs.Replays.{Said}
+use Rattle.tab_core.proofs.RunLemmas.{rests_tied, quiet_tied}
+use Rattle.std.proofs.lemmas.List.Elements.{All-nil, All-cons, All-head, All-tail}
 
 -- ---- a step that was made
 
@@ -48,21 +50,12 @@ made_onward σ μ n a r log taken made sound tied =
           (step_tied σ log taken [] n (ask_for a) sound (joins_empty a) tied);
     }
 
-no_item : (m n : ℕ) (r : Reply) → item_of r ≡ [] → [] ≡ taken_now m n r
-no_item m n r e = cases (m == n)
-  where
-    cases : (b : Bool) → [] ≡ (if b then item_of r else [])
-    cases true = sym e
-    cases false = refl
-
 -- nothing has changed, and nothing was taken
 quiet_onward : (σ μ : State) (n : ℕ) (r : Reply) (log : List Entry) (taken : ℕ → List Item) → μ ≡ σ → item_of r ≡ [] → IsSound σ → IsTied σ log taken → Onward μ log (λ m. taken m ++ taken_now m n r)
 quiet_onward σ μ n r log taken same e sound tied = record {
   sound = subst IsSound (sym same) sound;
   more = [];
-  tied = subst (λ (x : State). IsTied x (log ++ []) (λ m. taken m ++ taken_now m n r)) (sym same)
-      (subst (λ (l : List Entry). IsTied σ l (λ m. taken m ++ taken_now m n r)) (sym (append-nil log))
-      (subst (λ (f : ℕ → List Item). IsTied σ log f) (λ i m. (sym (append-nil (taken m)) ∙ ap (λ xs. taken m ++ xs) (no_item m n r e)) i) tied));
+  tied = quiet_tied σ μ n r log taken same e tied;
 }
 
 read_onward : (σ μ : State) (read : Result PlainTerm Stop) (x : Answer) (log : List Entry) (taken : ℕ → List Item) → AnsweredRead σ read x μ → IsSound σ → IsTied σ log taken
@@ -80,8 +73,7 @@ ran_onward : (σ τ : State) (ps : List (List ℕ)) (xs : List Answer) (log : Li
 ran_onward σ τ [] [] log taken ran sound tied = record {
   sound = subst IsSound (sym ran) sound;
   more = [];
-  tied = subst (λ (x : State). IsTied x (log ++ []) (λ m. taken m ++ [])) (sym ran)
-      (subst (λ (l : List Entry). IsTied σ l (λ m. taken m ++ [])) (sym (append-nil log)) (subst (λ (f : ℕ → List Item). IsTied σ log f) (λ i m. sym (append-nil (taken m)) i) tied));
+  tied = rests_tied σ τ log taken ran tied;
 }
 ran_onward σ τ (p ∷ ps) [] log taken ran sound tied = absurd ran
 ran_onward σ τ [] (x ∷ xs) log taken ran sound tied = absurd ran
@@ -150,6 +142,9 @@ answer_once σ μ ν p x y e f (inl h) (inl k) = read_once σ μ ν (whole p) x 
 answer_once σ μ ν p x y e f (inr h) k = absurd (e h.reply)
 answer_once σ μ ν p x y e f (inl h) (inr k) = absurd (f k.reply)
 
+abbrev Unrefused : Answer → Type 0
+Unrefused x = x.reply ≢ reply.NoMemory
+
 ran_once : (σ τ ω : State) (ps : List (List ℕ)) (xs ys : List Answer) → NoneRefused xs → NoneRefused ys → Ran σ ps xs τ → Ran σ ps ys ω → (xs ≡ ys) × (τ ≡ ω)
 ran_once σ τ ω [] [] [] e f h k = (refl, h ∙ sym k)
 ran_once σ τ ω [] (x ∷ xs) ys e f h k = absurd h
@@ -157,8 +152,8 @@ ran_once σ τ ω [] [] (y ∷ ys) e f h k = absurd k
 ran_once σ τ ω (p ∷ ps) [] ys e f h k = absurd h
 ran_once σ τ ω (p ∷ ps) (x ∷ xs) [] e f h k = absurd k
 ran_once σ τ ω (p ∷ ps) (x ∷ xs) (y ∷ ys) e f (μ, h, hs) (ν, k, ks) =
-    let one = answer_once σ μ ν p x y e.0 f.0 h k in
-    let all = ran_once μ τ ω ps xs ys e.1 f.1 hs (subst (λ (s : State). Ran s ps ys ω) (sym one.1) ks) in
+    let one = answer_once σ μ ν p x y (All-head Unrefused x xs e) (All-head Unrefused y ys f) h k in
+    let all = ran_once μ τ ω ps xs ys (All-tail Unrefused x xs e) (All-tail Unrefused y ys f) hs (subst (λ (s : State). Ran s ps ys ω) (sym one.1) ks) in
     (λ i. one.0 i ∷ all.0 i, all.1)
 
 pub said_once : (σ : State) (ps : List (List ℕ)) (xs ys : List Answer) → NoneRefused xs → NoneRefused ys → Said σ ps xs → Said σ ps ys → xs ≡ ys
@@ -200,7 +195,7 @@ read_alone n σ μ (Ok t) x of (inl h) sole = stays_alone n σ μ x h.same (λ e
     restarts e = cc
 read_alone n σ μ (Ok t) x of (inr h) sole = made_alone n σ μ x h.asked (of t x.session refl (h.session, ap number_in (sym h.request))) h.made sole
 
-answer_alone : (n : ℕ) (σ μ : State) (p : List ℕ) (x : Answer) → ((t : PlainTerm) (m : ℕ) → whole p ≡ Ok t → IsNumbered t m → m ≡ n) → Answered σ p x μ → IsSole n σ → Alone n μ x
+answer_alone : (n : ℕ) (σ μ : State) (p : List ℕ) (x : Answer) → IsOf n p → Answered σ p x μ → IsSole n σ → Alone n μ x
 answer_alone n σ μ p x of (inl h) sole = read_alone n σ μ (whole p) x of h sole
 answer_alone n σ μ p x of (inr h) sole = stays_alone n σ μ x h.same (λ e. waits (sym h.reply ∙ e)) (λ e. restarts (sym h.reply ∙ e)) sole
   where
@@ -210,13 +205,16 @@ answer_alone n σ μ p x of (inr h) sole = stays_alone n σ μ x h.same (λ e. w
     restarts : reply.NoMemory ≡ reply.Restart → ⊥
     restarts e = cc
 
+abbrev GoesOn : Answer → Type 0
+GoesOn x = (x.reply ≢ reply.Waiting) × (x.reply ≢ reply.Restart)
+
 ran_alone : (n : ℕ) (σ τ : State) (ps : List (List ℕ)) (xs : List Answer) → AreOf n ps → Ran σ ps xs τ → IsSole n σ → NoneWaits xs
-ran_alone n σ τ [] [] of ran sole = tt
+ran_alone n σ τ [] [] of ran sole = All-nil GoesOn
 ran_alone n σ τ (p ∷ ps) [] of ran sole = absurd ran
 ran_alone n σ τ [] (x ∷ xs) of ran sole = absurd ran
 ran_alone n σ τ (p ∷ ps) (x ∷ xs) of (μ, one, rest) sole =
-    let first = answer_alone n σ μ p x of.0 one sole in
-    (first.wait, first.restart, ran_alone n μ τ ps xs of.1 rest first.sole)
+    let first = answer_alone n σ μ p x (All-head (IsOf n) p ps of) one sole in
+    All-cons GoesOn x xs (first.wait, first.restart) (ran_alone n μ τ ps xs (All-tail (IsOf n) p ps of) rest first.sole)
 
 pub said_alone : (n : ℕ) (σ : State) (ps : List (List ℕ)) (xs : List Answer) → AreOf n ps → IsSole n σ → Said σ ps xs → NoneWaits xs
 said_alone n σ ps xs of sole s = ran_alone n σ s.last ps xs of s.ran sole

@@ -1,6 +1,6 @@
 -- How a payload is answered, and the bytes of an answer (this project's own rules).
 use Rattle.std.specs.Prelude.{◌≡◌, ◌≢◌, ℕ, ◌≤◌, ◌<◌, List, [], ◌∷◌, length, Option, Some, Result, Ok, Err, ◌⊎◌}
-use Rattle.std.specs.List.{flat_map}
+use Rattle.std.specs.List.{All, flat_map}
 use Rattle.tab_term.specs.Data.{PlainTerm}
 use Rattle.tab_term.specs.Canon.{canon}
 use Rattle.tab_etf.specs.Frames.{frame}
@@ -97,18 +97,18 @@ Ran σ (p ∷ ps) (x ∷ xs) τ = (μ : State) × Answered σ p x μ × Ran μ p
 
 -- no answer of a run is a want of memory
 abbrev pub NoneRefused : List Answer → Type 0
-NoneRefused [] = Unit {0}
-NoneRefused (x ∷ xs) = (x.reply ≢ NoMemory) × NoneRefused xs
+NoneRefused xs = All (λ (x : Answer). x.reply ≢ NoMemory) xs
 
 -- no answer of a run is a wait or a restart
 abbrev pub NoneWaits : List Answer → Type 0
-NoneWaits [] = Unit {0}
-NoneWaits (x ∷ xs) = (x.reply ≢ Waiting) × (x.reply ≢ Restart) × NoneWaits xs
+NoneWaits xs = All (λ (x : Answer). (x.reply ≢ Waiting) × (x.reply ≢ Restart)) xs
 
--- where a number stands in one of these payloads, it is this session's
+-- where a number stands in this payload, it is this session's
+abbrev pub IsOf : ℕ → List ℕ → Type 0
+IsOf n p = (t : PlainTerm) (m : ℕ) → whole p ≡ Ok t → IsNumbered t m → m ≡ n
+
 abbrev pub AreOf : ℕ → List (List ℕ) → Type 0
-AreOf n [] = Unit {0}
-AreOf n (p ∷ ps) = ((t : PlainTerm) (m : ℕ) → whole p ≡ Ok t → IsNumbered t m → m ≡ n) × AreOf n ps
+AreOf n ps = All (IsOf n) ps
 
 -- the items that a session took in a run
 abbrev pub taken_by : ℕ → List Answer → List Item

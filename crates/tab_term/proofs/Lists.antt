@@ -10,6 +10,7 @@ use Rattle.tab_term.specs.Same.{same, all_same, pairs_same}
 use Rattle.tab_term.specs.View.{term, terms, pairs}
 use Rattle.tab_term.specs.Pattern.{matches, all_match}
 use Rattle.std.proofs.Common.{Ordering, Less, Equal, Greater}
+use Rattle.std.proofs.Math.Bool.{and-false}
 use Rattle.std.specs.Ordering.{ordering_then}
 use Rattle.tab_term.specs.Order.{order, pairs_order}
 
@@ -26,21 +27,17 @@ push_same xs bs i a h e same = terms-push xs a ∙ ap (λ ts. push ts (term a)) 
 
 -- ---- a loop over two lists at once
 
-and_false : (b : Bool) → (b && false) ≡ false
-and_false true = refl
-and_false false = refl
-
 pub lengths_differ : (xs ys : List Term) → length xs ≢ length ys → all_same (terms xs) (terms ys) ≡ false
 lengths_differ [] [] h = absurd (h refl)
 lengths_differ [] (y ∷ ys) h = refl
 lengths_differ (x ∷ xs) [] h = refl
-lengths_differ (x ∷ xs) (y ∷ ys) h = ap (λ b. same (term x) (term y) && b) (lengths_differ xs ys (λ e. h (omega arith))) ∙ and_false (same (term x) (term y))
+lengths_differ (x ∷ xs) (y ∷ ys) h = ap (λ b. same (term x) (term y) && b) (lengths_differ xs ys (λ e. h (omega arith))) ∙ and-false (same (term x) (term y))
 
 pub match_lengths_differ : (xs ys : List Term) → length xs ≢ length ys → all_match (terms xs) (terms ys) ≡ false
 match_lengths_differ [] [] h = absurd (h refl)
 match_lengths_differ [] (y ∷ ys) h = refl
 match_lengths_differ (x ∷ xs) [] h = refl
-match_lengths_differ (x ∷ xs) (y ∷ ys) h = ap (λ b. matches (term x) (term y) && b) (match_lengths_differ xs ys (λ e. h (omega arith))) ∙ and_false (matches (term x) (term y))
+match_lengths_differ (x ∷ xs) (y ∷ ys) h = ap (λ b. matches (term x) (term y) && b) (match_lengths_differ xs ys (λ e. h (omega arith))) ∙ and-false (matches (term x) (term y))
 
 pub next_same : (xs ys : List Term) (i : ℕ) (x y : Term) → i < length xs → i < length ys → x ≡ get_or xs i x → y ≡ get_or ys i y → all_same (terms (drop i xs)) (terms (drop i ys)) ≡ (same (term x) (term y) && all_same (terms (drop (i + 1) xs)) (terms (drop (i + 1) ys)))
 next_same xs ys i x y hx hy ex ey =
@@ -94,8 +91,8 @@ pair_lengths_differ [] (y ∷ ys) h = refl
 pair_lengths_differ (x ∷ xs) [] h = refl
 pair_lengths_differ (x ∷ xs) (y ∷ ys) h =
     ap (λ b. same (term x.0) (term y.0) && (same (term x.1) (term y.1) && b)) (pair_lengths_differ xs ys (λ e. h (omega arith)))
-    ∙ ap (λ b. same (term x.0) (term y.0) && b) (and_false (same (term x.1) (term y.1)))
-    ∙ and_false (same (term x.0) (term y.0))
+    ∙ ap (λ b. same (term x.0) (term y.0) && b) (and-false (same (term x.1) (term y.1)))
+    ∙ and-false (same (term x.0) (term y.0))
 
 pub count_pairs : (ps : List (Term × Term)) → pair_count (pairs ps) ≡ length ps
 count_pairs [] = refl

@@ -7,11 +7,8 @@ use Rattle.std.specs.Int.{w16, w32, w64, w128, to_be_bytes, to_le_bytes, cast_un
 use Rattle.std.proofs.lemmas.Nat.{mod_below}
 use Rattle.tab_term.specs.Data.{PlainTerm, int, atom, tuple, list, bin, map, PlainTerms, none, one_more, PlainPairs, no_pair, one_pair, count, pair_count}
 use Rattle.tab_term.specs.Canon.{canon, canons, pair_canons, tag, int_tag, int_contents, atom_tag, atom_length_field, tuple_tag, arity_field, list_tag, list_contents, length_field, wide_length_field, magnitude, significant, before_zeros, is_byte, fits_four, sign_of, is_byte_term, byte_of, all_bytes, bytes_of}
-use Rattle.tab_term.specs.Order.{order, by_tag, contents_order, members_order, pairs_order}
+use Rattle.tab_term.specs.Order.{bytes_cmp, order, by_tag, contents_order, members_order, pairs_order}
 use Rattle.tab_term.specs.Numbers.{then_assoc, then_same, then_both, then_first, then_equal, equal_is, less_is, greater_is, tie_is, lists_are, text_cmp, high_cmp, high_length, low_value, low_is}
-
-abbrev pub bytes_cmp : List ℕ → List ℕ → Ordering
-bytes_cmp = slice_cmp nat_cmp
 
 pub lt_is : (n m : ℕ) → nat_lt n m ≡ true → n < m
 lt_is n m h = grind arith

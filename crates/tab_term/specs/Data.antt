@@ -19,6 +19,13 @@ mutual
     no_pair : PlainPairs
     one_pair : PlainTerm → PlainTerm → PlainPairs → PlainPairs
 
+-- tuples of two and of three
+abbrev pub pair : PlainTerm → PlainTerm → PlainTerm
+pair a b = tuple (one_more a (one_more b none))
+
+abbrev pub triple : PlainTerm → PlainTerm → PlainTerm → PlainTerm
+triple a b c = tuple (one_more a (one_more b (one_more c none)))
+
 abbrev pub count : PlainTerms → ℕ
 count none = 0
 count (one_more t ts) = suc (count ts)

@@ -1,10 +1,20 @@
 -- The order of terms, member by member. It is that of their canonical spellings as lists of bytes (Compare, OrderLaws).
 use Rattle.std.specs.Prelude.{ℕ, List, length}
-use Rattle.std.specs.Ordering.{nat_cmp, ordering_then}
+use Rattle.std.specs.Ordering.{nat_cmp, on, ordering_then}
 use Rattle.std.proofs.Common.{Ordering, Less, Equal, Greater}
 use Rattle.std.specs.Cmp.Lexicographic.{slice_cmp}
 use Rattle.tab_term.specs.Data.{PlainTerm, int, atom, tuple, list, bin, map, PlainTerms, none, one_more, PlainPairs, no_pair, one_pair, count, pair_count}
-use Rattle.tab_term.specs.Canon.{tag, int_contents}
+use Rattle.tab_term.specs.Canon.{canon, tag, int_contents}
+use Rattle.tab_term.specs.View.{term}
+use Rattle.tab_term.specs.declared.term.Term.{Term}
+
+-- byte by byte, as names are ordered too
+abbrev pub bytes_cmp : List ℕ → List ℕ → Ordering
+bytes_cmp = slice_cmp nat_cmp
+
+-- terms of the program by their canonical spellings
+abbrev pub term_cmp : Term → Term → Ordering
+term_cmp = on (λ t. canon (term t)) bytes_cmp
 
 abbrev pub by_tag : PlainTerm → PlainTerm → Ordering → Ordering
 by_tag a b o = ordering_then (nat_cmp (tag a) (tag b)) o

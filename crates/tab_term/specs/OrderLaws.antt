@@ -18,9 +18,9 @@ use Rattle.std.specs.Cmp.{IsTotalOrder}
 use Rattle.std.proofs.lemmas.Cmp.{tied_itself, nat_list_cmp_total, on_total}
 use Rattle.tab_term.specs.Data.{PlainTerm, int, atom, tuple, list, bin, map, PlainTerms, none, one_more, PlainPairs, no_pair, one_pair, count, pair_count}
 use Rattle.tab_term.specs.Canon.{canon, tag, int_tag, int_contents, magnitude, significant, before_zeros, is_byte, fits_four, sign_of}
-use Rattle.tab_term.specs.Order.{order, by_tag, contents_order, members_order, pairs_order}
+use Rattle.tab_term.specs.Order.{order, by_tag, contents_order, members_order, pairs_order, bytes_cmp}
 use Rattle.tab_term.specs.Numbers.{then_both, equal_is, lists_are, high_cmp, low_value, low_is, then_equal, tie_is}
-use Rattle.tab_term.specs.Compare.{bytes_cmp, canon_cmp, apart, code, int_at, int_tag_at, lt_is}
+use Rattle.tab_term.specs.Compare.{canon_cmp, apart, code, int_at, int_tag_at, lt_is}
 
 -- ---- integers
 

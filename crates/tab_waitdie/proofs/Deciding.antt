@@ -1,5 +1,6 @@
 -- The answer by whom a request conflicts with, among who holds and among who waits.
 use Rattle.std.proofs.Common.{◌≡◌, List, [], ◌∷◌, ◌++◌, Bool, true, false, ◌||◌, ◌&&◌, not, refl, sym, ap, ◌∙◌}
+use Rattle.std.proofs.lemmas.List.Folds.{list_any-append}
 use Rattle.std.specs.Prelude.{if◌then◌else◌}
 use Rattle.std.specs.List.{list_any}
 use Rattle.tab_model.specs.Ages as plain
@@ -7,7 +8,7 @@ use Rattle.tab_model.specs.Ages.{Owned, opposes, covers_own, blocks, decide, bef
 use Rattle.tab_locks.specs.declared.lock_table.Conflict.{Conflict}
 use Rattle.tab_locks.specs.declared.lock_table.Conflict.TheVariants.{Free, WithYounger, WithOlder}
 use Rattle.tab_locks.specs.Placed.{conflict_with}
-use Rattle.tab_locks.proofs.Passing.{any_append, any_map}
+use Rattle.tab_locks.proofs.Passing.{any_map}
 use Rattle.tab_waitdie.specs.declared.waiting.Waiting.{Waiting}
 use Rattle.tab_waitdie.specs.Queue.{owned, queued}
 use Rattle.tab_waitdie.specs.Answers.{ages, answer_of, answer_to}
@@ -52,7 +53,7 @@ pub decided : (r : Owned) (held queue : List Owned) → list_any (covers_own r) 
 unfolding by_whom
 decided r held queue n =
     by_tests (list_any (opposes r) held) (list_any (blocks r) held) (list_any (opposes r) queue) (list_any (blocks r) queue) (older_opposes r held) (older_opposes r queue)
-    ∙ (λ i. if sym n i || not (sym (any_append (opposes r) held queue) i) then plain.Granted else if sym (any_append (blocks r) held queue) i then plain.Die else plain.Wait)
+    ∙ (λ i. if sym n i || not (sym (list_any-append (opposes r) held queue) i) then plain.Granted else if sym (list_any-append (blocks r) held queue) i then plain.Die else plain.Wait)
 
 pub granted : (r : Owned) (held queue : List Owned) → list_any (covers_own r) held ≡ true → plain.Granted ≡ decide (ages held queue) r
 granted r held queue h = λ i. if sym h i || not (list_any (opposes r) (held ++ queue)) then plain.Granted else if list_any (blocks r) (held ++ queue) then plain.Die else plain.Wait
@@ -80,10 +81,10 @@ older_is false b h = absurd cc
 module _ (r : Owned) (held earlier : List Owned) where
   pub free_where : Free ≡ conflict_with r held → not (list_any (opposes r) earlier) ≡ not (list_any (opposes r) (held ++ earlier))
   unfolding by_whom
-  free_where h = (λ i. not (sym (free_is (list_any (opposes r) held) (list_any (blocks r) held) h) i || list_any (opposes r) earlier)) ∙ ap not (sym (any_append (opposes r) held earlier))
+  free_where h = (λ i. not (sym (free_is (list_any (opposes r) held) (list_any (blocks r) held) h) i || list_any (opposes r) earlier)) ∙ ap not (sym (list_any-append (opposes r) held earlier))
 
   pub not_free : list_any (opposes r) held ≡ true → false ≡ not (list_any (opposes r) (held ++ earlier))
-  not_free h = (λ i. not (sym h i || list_any (opposes r) earlier)) ∙ ap not (sym (any_append (opposes r) held earlier))
+  not_free h = (λ i. not (sym h i || list_any (opposes r) earlier)) ∙ ap not (sym (list_any-append (opposes r) held earlier))
 
   pub not_free_younger : WithYounger ≡ conflict_with r held → false ≡ not (list_any (opposes r) (held ++ earlier))
   unfolding by_whom

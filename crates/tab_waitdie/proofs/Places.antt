@@ -1,14 +1,11 @@
 -- Where a request stands in the queue, and the queue without it.
 use Rattle.std.proofs.Common.{◌≡◌, ℕ, zero, suc, ◌<◌, ◌≤◌, List, [], ◌∷◌, ◌++◌, Bool, true, false, ◌||◌, not, refl, sym, ap, ◌∙◌, subst, Some, take, length, get_or, arith}
+use Rattle.std.proofs.lemmas.Bool.{or_parts}
 use Rattle.std.specs.Prelude.{◌==◌, if◌then◌else◌, IsSome, is_some}
 use Rattle.std.specs.List.{list_any, filter}
 use Rattle.tab_model.specs.Ages.{before, request_of, without}
 use Rattle.tab_waitdie.specs.declared.waiting.Waiting.{Waiting}
 use Rattle.tab_waitdie.specs.Queue.{owned, queued}
-
-or_parts : (a b : Bool) → (a || b) ≡ false → (a ≡ false) × (b ≡ false)
-or_parts true b h = cc
-or_parts false b h = (refl, h)
 
 pub before_place : (age : ℕ) (ws : List Waiting) (i : ℕ) (w : Waiting) → i < length ws → list_any (λ v. v.age == age) (take i ws) ≡ false → w ≡ get_or ws i w → (w.age == age) ≡ true → before age (queued ws) ≡ queued (take i ws)
 before_place age [] i w lt none is here = absurd (omega arith)

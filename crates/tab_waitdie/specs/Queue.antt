@@ -13,6 +13,3 @@ queued ws = map owned ws
 
 abbrev pub ages_of : List Owned → List Waiting → Ages
 ages_of held ws = record { held = held; queue = queued ws }
-
-abbrev pub is_on : List ℕ → Owned → Bool
-is_on table x = bytes_eq table (x.1).table

@@ -2,7 +2,8 @@ ghost use Rattle.std.specs.Prelude.{◌≡◌, ◌<◌, ◌∷◌, ◌++◌, ℕ
 ghost use Rattle.std.specs.List.{list_any};
 ghost use Rattle.tab_model.specs.Ages.{Ages as ages_record, Chain, all_of, can_retry, decide as decision, forget as forgotten, last_of, opposes, request_of, without};
 ghost use Rattle.tab_locks.specs.Plain.{lock_of};
-ghost use Rattle.tab_waitdie.specs.Queue.{is_on, owned, queued};
+ghost use Rattle.tab_model.specs.State.{is_in};
+ghost use Rattle.tab_waitdie.specs.Queue.{owned, queued};
 ghost use Rattle.tab_waitdie.specs.Answers.{answer_of, after_answer, is_granted, after_retried, ages, answer_to as answer_by};
 
 use crate::waiting::{
@@ -134,7 +135,7 @@ impl Ages {
 
     /// Whether some held or queued lock is on this table.
     pub fn busy(&self, table: &Atom) -> bool
-        ensures { result ≡ list_any (is_on table.now) (all_of self.now) }
+        ensures { result ≡ list_any (is_in table.now) (all_of self.now) }
     {
         self.locks.is_locked(table) || is_awaited(&self.queue, table)
     }

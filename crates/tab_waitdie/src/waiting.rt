@@ -4,7 +4,8 @@ ghost use Rattle.tab_model.specs.Locks.{conflict as conflict_of, meets as meets_
 ghost use Rattle.tab_model.specs.Ages.{opposes as opposes_of, blocks as blocks_of, before, request_of, without};
 ghost use Rattle.tab_locks.specs.Plain.{is_write as is_write_of, lock_of, part_of};
 ghost use Rattle.tab_locks.specs.Placed.{conflict_with};
-ghost use Rattle.tab_waitdie.specs.Queue.{owned, queued, is_on};
+ghost use Rattle.tab_model.specs.State.{is_in};
+ghost use Rattle.tab_waitdie.specs.Queue.{owned, queued};
 
 use std::alloc::{AllocError, Global};
 use tab_locks::Conflict;
@@ -110,7 +111,7 @@ pub(crate) fn drop_requests(queue: &mut Vec<Waiting>, age: u64)
 }
 
 pub(crate) fn is_awaited(queue: &[Waiting], table: &Atom) -> bool
-    ensures { result ≡ list_any (λ w. is_on table.now (owned w)) queue.now }
+    ensures { result ≡ list_any (λ w. is_in table.now (owned w)) queue.now }
 {
     queue.iter().any(|waiting| waiting.lock.table == *table)
 }

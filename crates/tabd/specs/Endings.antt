@@ -2,7 +2,7 @@
 use Rattle.std.specs.Prelude.{◌≡◌, ℕ, ◌<◌, ◌-◌, ◌^◌, List, Option, Some, None, codes, ◌⊎◌, Result, Ok, Err, IfSome, length}
 use Rattle.clap.specs.declared.error.kind.ErrorKind.{ErrorKind}
 use Rattle.clap.specs.declared.error.kind.ErrorKind.TheVariants as kind
-use Rattle.tab_session.specs.Replays.{Replayed}
+use Rattle.tab_session.specs.Replays.{Replayed, Faults}
 use Rattle.tab_session.specs.declared.ended.Ended.{Ended}
 use Rattle.tab_session.specs.declared.ended.Ended.TheVariants.{Damaged, Device, TooLong, NoMemory}
 use Rattle.tabd.specs.declared.ending.End.{End}
@@ -44,6 +44,18 @@ abbrev pub end_of : Result (Unit {0}) Ended → End
 end_of (Ok u) = Done
 end_of (Err e) = Stopped e
 
--- the program replayed its input, where that is known, onto its output
-abbrev pub Plays : Option (List ℕ) → Option (List ℕ) → Option (List ℕ) → End → Type 0
-Plays input old new end = (r : Result (Unit {0}) Ended) × (end ≡ end_of r) × IfSome input (λ stream. length stream < 2 ^ 64 - 1 → Replayed stream old new r)
+-- what the input has left and what the output holds, where that is known, and how often each has failed
+pub record Streams : Type 0 where
+  pub input : Option (List ℕ)
+  pub output : Option (List ℕ)
+  pub input_faults : ℕ
+  pub output_faults : ℕ
+
+abbrev pub streams : Option (List ℕ) → Option (List ℕ) → ℕ → ℕ → Streams
+streams i o f g = record { input = i; output = o; input_faults = f; output_faults = g }
+
+-- the program replayed its input onto its output, and ends by a device fault exactly where one rose
+abbrev pub Plays : Streams → Streams → End → Type 0
+Plays old new end = (r : Result (Unit {0}) Ended) × (end ≡ end_of r)
+    × IfSome old.input (λ stream. length stream < 2 ^ 64 - 1 → Replayed stream old.output new.output r)
+    × Faults old.input_faults new.input_faults old.output_faults new.output_faults r

@@ -1,8 +1,7 @@
 use Rattle.std.proofs.Common.{ap, sym, subst, ◌∙◌}
 use Rattle.std.specs.Prelude.{codes}
-use Rattle.tab_term.specs.Data.{atom, list, none, one_more}
+use Rattle.tab_term.specs.Data.{atom, list, none, one_more, pair}
 use Rattle.tab_term.specs.View.{term}
-use Rattle.tab_model.specs.Names.{pair}
 use Rattle.tab_proto.specs.Reading.{Adds}
 use Rattle.tab_proto.proofs.Members.{adds_member, adds_inner, refuses_list, on_ok}
 use Rattle.tab_proto.proofs.parts.+parts.Goals as goal

@@ -1,7 +1,7 @@
 use Rattle.std.proofs.Common.{sym, ap, ◌∙◌, true}
 use Rattle.std.specs.List.{list_any}
 use Rattle.std.specs.Option.{option_copied}
-use Rattle.std.specs.Str.{bytes_eq}
+use Rattle.tab_model.specs.State.{is_in}
 use Rattle.tab_locks.proofs.Lookups.{found_any}
 use Rattle.tab_locks.proofs.TableLocks.{locked_at}
 use Rattle.tab_locks.proofs.index.Index.is_locked.Goals as goal
@@ -9,9 +9,9 @@ use Rattle.tab_locks.proofs.index.Index.is_locked.Goals as goal
 pub returns-in-Some : goal.returns-in-Some
 returns-in-Some c =
     c.is_occupied.ensures ∙ ap (found_any (list_any (λ s. true))) (ap option_copied (sym c.in-Some.is) ∙ c.get.ensures.value)
-    ∙ sym (locked_at c.args.table.now c.self.inside.tables.entries c.self.invariant) ∙ ap (list_any (λ x. bytes_eq c.args.table.now (x.1).table)) c.self.view_is
+    ∙ sym (locked_at c.args.table.now c.self.inside.tables.entries c.self.invariant) ∙ ap (list_any (is_in c.args.table.now)) c.self.view_is
 
 pub returns-in-None : goal.returns-in-None
 returns-in-None c =
     ap (found_any (list_any (λ s. true))) (ap option_copied (sym c.in-None.is) ∙ c.get.ensures.value)
-    ∙ sym (locked_at c.args.table.now c.self.inside.tables.entries c.self.invariant) ∙ ap (list_any (λ x. bytes_eq c.args.table.now (x.1).table)) c.self.view_is
+    ∙ sym (locked_at c.args.table.now c.self.inside.tables.entries c.self.invariant) ∙ ap (list_any (is_in c.args.table.now)) c.self.view_is

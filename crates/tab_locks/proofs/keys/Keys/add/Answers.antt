@@ -5,9 +5,10 @@ use Rattle.std.specs.BTreeMap.{BTreeMap, insert_entry}
 use Rattle.tab_term.specs.declared.term.Term.{Term}
 use Rattle.tab_term.specs.View.{term}
 use Rattle.tab_locks.specs.Members.{HasMore, SameMembers}
-use Rattle.tab_locks.specs.Spots.{Holding, KeySpot, key_spots, term_cmp}
+use Rattle.tab_locks.specs.Spots.{Holding, KeySpot, key_spots}
 use Rattle.tab_locks.proofs.KeySpots.{more_at, same_at, new_at}
 use Rattle.tab_locks.proofs.keys.Keys.add.Goals as goal
+use Rattle.tab_term.specs.Order.{term_cmp}
 
 pub returns-in-Some-clause-ok : goal.returns-in-Some-clause-ok
 returns-in-Some-clause-ok c =

@@ -1,7 +1,7 @@
 use Rattle.std.proofs.Common.{ap, sym, ◌∙◌}
 use Rattle.tab_proto.specs.Commands.{outermost}
 use Rattle.tab_proto.proofs.Outermost.{outermost_first}
-use Rattle.tab_proto.proofs.levels.Levels.into_outermost.Goals as goal
+use Rattle.tab_proto.proofs.levels.OpenTransactions.into_outermost.Goals as goal
 
 pub returns-in-Some : goal.returns-in-Some
 returns-in-Some c =
