@@ -1,16 +1,15 @@
 -- Finding and placing tables by name, in a map and in a world.
-use Rattle.std.proofs.Common.{◌≡◌, ℕ, List, [], ◌∷◌, Bool, true, false, refl, sym, ap, ◌∙◌, subst, Option, Some, None, Ordering, Less, Equal, Greater, nat_cmp}
-use Rattle.std.specs.Prelude.{if◌then◌else◌, map}
+use Rattle.std.proofs.Common.{◌≡◌, ℕ, List, [], ◌∷◌, false, refl, sym, ap, ◌∙◌, Some, None, Ordering, Less, Equal, Greater}
+use Rattle.std.specs.Prelude.{if◌then◌else◌}
 use Rattle.std.specs.Str.{bytes_eq}
 use Rattle.std.specs.Ordering.{match_ordering, ordering_reverse, is_lt, is_eq}
 use Rattle.std.specs.Cmp.{IsTotalOrder}
-use Rattle.std.specs.Cmp.Lexicographic.{slice_cmp}
 use Rattle.std.proofs.lemmas.Cmp.{nat_list_cmp_total}
 use Rattle.tab_term.specs.OrderLaws.{matches_bytes}
 use Rattle.tab_map.specs.Entries.{lookup, insert_entry, AllAbove, Ascends}
 use Rattle.tab_map.proofs.Order.{ascends_insert}
 use Rattle.tab_model.specs.Names.{before}
-use Rattle.tab_model.specs.Worlds.{World, Table, name_of, find, place}
+use Rattle.tab_model.specs.Worlds.{Table, name_of, find, place}
 use Rattle.tab_core.specs.Named.{Entry, world_of, AllNamed, AreNamed}
 use Rattle.tab_term.specs.Order.{bytes_cmp}
 

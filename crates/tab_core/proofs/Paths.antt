@@ -1,12 +1,11 @@
 -- What the one session is answered, path by path.
-use Rattle.std.proofs.Common.{◌≡◌, ◌≢◌, ℕ, zero, suc, ◌+◌, ◌<◌, ◌≤◌, List, [], ◌∷◌, ◌++◌, Bool, true, false, ◌||◌, ◌&&◌, not, refl, sym, ap, ap₂, ◌∙◌, subst, arith, length, Option, Some, None}
+use Rattle.std.proofs.Common.{◌≡◌, ◌≢◌, ℕ, suc, ◌+◌, ◌<◌, ◌≤◌, List, [], ◌∷◌, ◌++◌, Bool, true, false, ◌&&◌, refl, sym, ap, ap₂, ◌∙◌, subst, arith, length, Option, Some, None}
 use Rattle.std.specs.Prelude.{◌==◌, if◌then◌else◌, nat_eq, nat_lt, nat_le, is_some}
 use Rattle.std.specs.List.{list_any}
 use Rattle.std.proofs.lemmas.Bool.Decides.{nat_tests}
 use Rattle.tab_term.specs.declared.term.Term.{Term}
 use Rattle.tab_model.specs.declared.data.Command.TheVariants as command
 use Rattle.tab_model.specs.declared.data.Entry.TheVariants.{Committed}
-use Rattle.tab_model.specs.declared.data.Event.{Event}
 use Rattle.tab_model.specs.declared.data.Limits.{Limits}
 use Rattle.tab_model.specs.declared.data.Move.{Move}
 use Rattle.tab_model.specs.declared.data.Move.TheVariants.{Do, Open, Close, Undo}
@@ -14,18 +13,17 @@ use Rattle.tab_model.specs.declared.data.Operation.{Operation}
 use Rattle.tab_model.specs.declared.data.Reply.{Reply}
 use Rattle.tab_model.specs.declared.data.Reply.TheVariants as reply
 use Rattle.tab_model.specs.Worlds.{World, find}
-use Rattle.tab_model.specs.Operations.{table_of, failure, answer, answer_in, answer_or, effect}
+use Rattle.tab_model.specs.Operations.{table_of, failure, answer, answer_or, effect}
 use Rattle.tab_model.specs.Alone.{Mid, start, after, back_to, back, next, told}
-use Rattle.tab_model.specs.Locks.{Lock, needs, locks_of}
-use Rattle.tab_model.specs.Ages.{Owned, Granted, Wait, Die, opposes, decide}
-use Rattle.tab_model.specs.Slices.{as_batch, batch_for}
-use Rattle.tab_model.specs.State.{Transaction, Seat, State, with_age, ages_of, count_moves}
+use Rattle.tab_model.specs.Locks.{needs, locks_of}
+use Rattle.tab_model.specs.Ages.{Granted, opposes, decide}
+use Rattle.tab_model.specs.State.{Transaction, State, with_age, ages_of, count_moves}
 use Rattle.tab_model.specs.Outcome.{Ask, Join, Leave, Retry, Take, DoCommand, outcome, by_seat, seated, unseated, Outcome, nothing, is_empty, change, ends, after_move, said, made, more, decided, within, operate, nested, batch_to, events_now}
 use Rattle.tab_model.proofs.TiedSteps.{batch_none}
 use Rattle.tab_model.proofs.Sole.{own_unopposed, any_nil, granted_if}
 use Rattle.tab_core.specs.declared.operate.Effect.{Effect}
 use Rattle.tab_core.specs.Performs.{HasEffect}
-use Rattle.tab_core.specs.Single.{IsAlone, no_outbox, transaction_of, seat_of, state_of, AllOperations, IsOpenIn, asked}
+use Rattle.tab_core.specs.Single.{IsAlone, transaction_of, seat_of, state_of, AllOperations, IsOpenIn, asked}
 use Rattle.tab_model.proofs.Seats.{itself}
 use Rattle.tab_model.proofs.RefusalLaws.{after-more}
 

@@ -6,7 +6,7 @@ use Rattle.tab_model.specs.declared.data.Item.{Item}
 use Rattle.tab_model.specs.declared.data.Reply.{Reply}
 use Rattle.tab_model.specs.declared.data.Reply.TheVariants as reply
 use Rattle.tab_model.specs.State.{State, IsSound}
-use Rattle.tab_model.specs.Outcome.{Ask, Join, Leave, Retry, Take, DoCommand, outcome}
+use Rattle.tab_model.specs.Outcome.{Ask, outcome}
 use Rattle.tab_model.specs.Run.{entries, taken_now, JoinsEmpty, IsTied, item_of}
 use Rattle.tab_model.proofs.SoundSteps.{step_sound}
 use Rattle.tab_model.proofs.TiedSteps.{step_tied}

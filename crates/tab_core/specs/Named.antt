@@ -1,8 +1,5 @@
 -- Tables as a map keeps them, by name.
 use Rattle.std.specs.Prelude.{◌≡◌, ℕ, List, [], ◌∷◌, map}
-use Rattle.std.specs.Ordering.{nat_cmp}
-use Rattle.std.specs.declared.cmp.Ordering.{Ordering}
-use Rattle.std.specs.Cmp.Lexicographic.{slice_cmp}
 use Rattle.tab_map.specs.Entries.{Ascends}
 use Rattle.tab_model.specs.Worlds.{World, Table, name_of}
 use Rattle.tab_term.specs.Order.{bytes_cmp}

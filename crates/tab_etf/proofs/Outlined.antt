@@ -1,7 +1,7 @@
 -- The canonical spelling of a term that is given by its parts.
-use Rattle.std.proofs.Common.{◌≡◌, ℕ, ◌+◌, List, [], ◌∷◌, ◌++◌, length, refl, sym, ap, ◌∙◌, arith, length-append, append_assoc, Option, Some, None}
+use Rattle.std.proofs.Common.{◌≡◌, ℕ, ◌+◌, List, [], ◌∷◌, ◌++◌, length, refl, sym, ap, ◌∙◌, arith, length-append, Option, Some, None}
 use Rattle.std.proofs.lemmas.List.{append-nil}
-use Rattle.tab_term.specs.Data.{PlainTerm, tuple, none, one_more, pair, triple}
+use Rattle.tab_term.specs.Data.{PlainTerm, pair, triple}
 use Rattle.tab_term.specs.Canon.{canon}
 use Rattle.tab_etf.proofs.Canonical as is
 use Rattle.tab_etf.specs.declared.outline.Leaf.{Leaf}

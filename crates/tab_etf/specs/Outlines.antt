@@ -1,7 +1,7 @@
 -- Terms that are given by their parts: an atom's text, a number, a term, the elements of a list; a tuple of two or three of
 -- these; and pairs around it.
 use Rattle.std.specs.Prelude.{ℕ, pos, ◌<◌, ◌^◌, List, [], ◌∷◌, Option, Some, None, length}
-use Rattle.tab_term.specs.Data.{PlainTerm, int, atom, tuple, list, none, one_more, pair, triple}
+use Rattle.tab_term.specs.Data.{PlainTerm, int, atom, list, pair, triple}
 use Rattle.tab_term.specs.Canon.{canon}
 use Rattle.tab_term.specs.View.{term}
 use Rattle.tab_etf.specs.declared.outline.Leaf.{Leaf}

@@ -3,12 +3,9 @@ use Rattle.std.proofs.Common.{◌≡◌, ℕ, List, [], Bool, true, false, ◌&&
 use Rattle.std.specs.Prelude.{map, ◌==◌}
 use Rattle.std.specs.List.{list_any}
 use Rattle.std.specs.List.Sorted.{IsStrictlySortedBy}
-use Rattle.std.specs.Cmp.{IsTotalOrder}
 use Rattle.std.specs.BTreeMap.{is_at, insert_entry}
 use Rattle.std.specs.Map.{keys_of, values_of, lookup, set_value, remove_entry}
-use Rattle.std.proofs.lemmas.Cmp.{on_total, nat_list_cmp_total}
 use Rattle.tab_term.specs.declared.term.Term.{Term}
-use Rattle.tab_term.specs.Canon.{canon}
 use Rattle.tab_term.specs.View.{term}
 use Rattle.tab_term.specs.Same.{same, same-Decides}
 use Rattle.tab_term.specs.OrderLaws.{matches_same}

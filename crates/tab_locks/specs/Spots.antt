@@ -2,13 +2,9 @@
 use Rattle.std.specs.Prelude.{ℕ, List, ◌++◌, Bool, true, false, ◌&&◌, ◌==◌, map}
 use Rattle.std.specs.List.{flat_map}
 use Rattle.std.specs.Str.{bytes_eq}
-use Rattle.std.specs.Ordering.{on, nat_cmp}
-use Rattle.std.specs.declared.cmp.Ordering.{Ordering}
-use Rattle.std.specs.Cmp.Lexicographic.{slice_cmp}
 use Rattle.tab_term.specs.declared.term.Term.{Term}
 use Rattle.tab_term.specs.Data.{PlainTerm}
 use Rattle.tab_term.specs.View.{term}
-use Rattle.tab_term.specs.Canon.{canon}
 use Rattle.tab_term.specs.Same.{same}
 use Rattle.tab_model.specs.Locks.{Part, All, Key, Lock, lock}
 use Rattle.tab_model.specs.Ages.{Owned}

@@ -1,5 +1,5 @@
 -- A session that is alone: it is never told to wait, and never restarted.
-use Rattle.std.proofs.Common.{◌≡◌, ◌≢◌, ℕ, List, [], ◌∷◌, ◌++◌, Bool, true, false, ◌||◌, ◌&&◌, not, refl, sym, ap, ◌∙◌, subst, Option, Some, None}
+use Rattle.std.proofs.Common.{◌≡◌, ◌≢◌, ℕ, List, [], ◌∷◌, ◌++◌, Bool, true, false, ◌||◌, not, refl, sym, ap, ◌∙◌, Option, Some, None}
 use Rattle.std.specs.Prelude.{◌==◌, if◌then◌else◌, is_some, map}
 use Rattle.std.specs.List.{list_any}
 use Rattle.std.proofs.Common.{arith}
@@ -15,7 +15,6 @@ use Rattle.tab_model.specs.declared.data.Reply.TheVariants as reply
 use Rattle.tab_model.specs.declared.data.Item.{Item}
 use Rattle.tab_model.specs.declared.data.Level.{Level}
 use Rattle.tab_model.specs.declared.data.Entry.{Entry}
-use Rattle.tab_model.specs.declared.data.Event.{Event}
 use Rattle.tab_model.specs.declared.data.Schema.{Schema}
 use Rattle.tab_model.specs.declared.data.Schema.TheVariants.{Create, Remove, AddIndex, DelIndex}
 use Rattle.tab_model.specs.declared.data.InfoItem.{InfoItem}
@@ -24,7 +23,6 @@ use Rattle.tab_model.specs.declared.data.Command.{Command}
 use Rattle.tab_model.specs.declared.data.Command.TheVariants as command
 use Rattle.tab_model.specs.Definitions.{Parsed, Good, Bad, parse_options, is_indexed, position}
 use Rattle.tab_model.specs.Worlds.{Table, find}
-use Rattle.tab_model.specs.Alone.{Mid}
 use Rattle.tab_model.specs.Locks.{Lock, needs, locks_of}
 use Rattle.tab_model.specs.Ages.{Owned, Answer, Granted, Wait, Die, opposes, decide}
 use Rattle.tab_model.specs.Log.{has_session}
@@ -33,7 +31,6 @@ use Rattle.tab_model.specs.State.{Transaction, Outbox, Watch, Seat, Queued, Stat
 use Rattle.tab_model.specs.Outcome.{Ask, Join, Leave, Retry, Take, DoCommand, Outcome, outcome, nothing, with_transaction, change, without_seat, ends, after_move, made, said, decided, within, operate, retry, opened, nested, begin, one_shot, abort, given, commit_at, commit, unwatched, end_to, batch_to, events_now, schema_if, schema, table_info, marked, subscribe_refusal, subscribe, unsubscribe, do_command, command_if, give, seated, join, unseated, by_seat}
 use Rattle.tab_model.specs.Refusals.{Standing, Changes, Queues, Emptied, standing, IsSeatOf, IsSole}
 use Rattle.tab_model.proofs.RefusalLaws.{move_answers}
-use Rattle.tab_model.specs.Alone.{told}
 
 -- ---- one owner is granted whatever it asks
 

@@ -1,16 +1,10 @@
 -- What a request's term asks, read back.
-use Rattle.std.proofs.Common.{◌≡◌, ℕ, ℤ, pos, List, Bool, true, false, refl, sym, ap, ◌∙◌, Option, Some, None}
+use Rattle.std.proofs.Common.{◌≡◌, ℕ, ℤ, pos, List, refl, sym, ap, ◌∙◌, Option, Some}
 use Rattle.std.specs.Prelude.{codes, if◌then◌else◌}
 use Rattle.std.specs.Str.{bytes_eq}
-use Rattle.tab_term.specs.Data.{PlainTerm, int, atom, tuple, list, bin, map, PlainTerms, none, one_more}
-use Rattle.tab_term.specs.View.{term}
-use Rattle.tab_term.specs.declared.term.Term.{Term}
-use Rattle.tab_term.specs.declared.term.Term.TheVariants as is
-use Rattle.tab_model.specs.declared.data.Operation.{Operation}
+use Rattle.tab_term.specs.Data.{PlainTerm, atom, tuple, PlainTerms, none, one_more}
 use Rattle.tab_model.specs.declared.data.Operation.TheVariants as op
-use Rattle.tab_model.specs.declared.data.Schema.{Schema}
 use Rattle.tab_model.specs.declared.data.Schema.TheVariants as schema
-use Rattle.tab_model.specs.declared.data.Command.{Command}
 use Rattle.tab_model.specs.declared.data.Command.TheVariants as command
 use Rattle.tab_proto.specs.declared.asked.Asked.{Asked}
 use Rattle.tab_proto.specs.declared.asked.Asked.TheVariants as asked

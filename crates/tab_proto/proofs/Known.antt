@@ -1,10 +1,9 @@
 -- Every command is known by its term, and so is whether it is served.
-use Rattle.std.proofs.Common.{◌≡◌, ◌≢◌, ℕ, List, [], ◌∷◌, Bool, true, false, ◌&&◌, refl, sym, ap, ◌∙◌}
+use Rattle.std.proofs.Common.{◌≡◌, ◌≢◌, List, [], ◌∷◌, Bool, true, false, ◌&&◌, refl, sym, ap, ◌∙◌}
 use Rattle.std.specs.Prelude.{Result, Ok, Err, IfOk}
 use Rattle.std.specs.List.{list_all}
 use Rattle.std.proofs.lemmas.Bool.{false≢true, and_from, and_parts}
 use Rattle.tab_term.specs.Data.{PlainTerm, PlainTerms, none, one_more}
-use Rattle.tab_term.specs.View.{term}
 use Rattle.tab_model.specs.declared.data.Operation.{Operation}
 use Rattle.tab_model.specs.declared.data.Operation.TheVariants as op
 use Rattle.tab_model.specs.declared.data.Schema.{Schema}
@@ -19,7 +18,7 @@ use Rattle.tab_model.specs.declared.data.Command.{Command}
 use Rattle.tab_model.specs.declared.data.Command.TheVariants as command
 use Rattle.tab_core.specs.Served.{serves, no_options}
 use Rattle.tab_proto.specs.Commands.{term_of, operation_term, schema_term, level_word, item_word, with_first, enclosed, levels, outermost, is_command, is_operation, is_schema, is_part, is_nested}
-use Rattle.tab_proto.specs.Reading.{is_level, is_item, is_part_term, are_parts, is_read, is_empty_list, serves_term, Spells, Refuses}
+use Rattle.tab_proto.specs.Reading.{is_level, is_item, is_part_term, are_parts, is_read, is_empty_list, serves_term, Refuses}
 use Rattle.tab_proto.specs.declared.fault.ProtoFault.{ProtoFault}
 use Rattle.tab_proto.specs.declared.fault.ProtoFault.TheVariants.{BadCommand, NoMemory}
 

@@ -1,12 +1,8 @@
 -- Records as a map keeps them: by key, each key's records in the order of insertion.
 use Rattle.std.specs.Prelude.{◌≡◌, ◌≢◌, List, [], ◌∷◌, ◌++◌, true}
 use Rattle.std.specs.List.{list_all}
-use Rattle.std.specs.Ordering.{on, nat_cmp}
-use Rattle.std.specs.declared.cmp.Ordering.{Ordering}
-use Rattle.std.specs.Cmp.Lexicographic.{slice_cmp}
 use Rattle.tab_term.specs.declared.term.Term.{Term}
 use Rattle.tab_term.specs.View.{term}
-use Rattle.tab_term.specs.Canon.{canon}
 use Rattle.tab_term.specs.Data.{PlainTerms}
 use Rattle.tab_map.specs.Entries.{Ascends}
 use Rattle.tab_model.specs.Names.{terms_list}

@@ -1,7 +1,7 @@
 -- The significant bytes of a number.
-use Rattle.std.proofs.Common.{◌≡◌, ◌≢◌, ℕ, zero, suc, ◌+◌, ◌-◌, ◌<◌, ◌≤◌, List, [], ◌∷◌, ◌++◌, length, take, drop, get_or, append_assoc, refl, sym, ap, ◌∙◌, arith, eqb}
+use Rattle.std.proofs.Common.{◌≡◌, ◌≢◌, ℕ, zero, suc, ◌+◌, ◌-◌, ◌<◌, ◌≤◌, List, [], ◌∷◌, ◌++◌, length, take, get_or, refl, sym, ap, ◌∙◌, arith}
 use Rattle.std.proofs.lemmas.Bool.{ne_eqb}
-use Rattle.std.proofs.lemmas.List.{take_more, take_all, at_drop_more, at_drop_all, append-nil}
+use Rattle.std.proofs.lemmas.List.{take_more}
 use Rattle.tab_term.specs.Canon.{before_zeros, significant}
 
 zero_last : (ns : List ℕ) → significant (ns ++ 0 ∷ []) ≡ significant ns

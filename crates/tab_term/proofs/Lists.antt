@@ -1,15 +1,15 @@
 -- Lists of terms, one after another.
-use Rattle.std.proofs.Common.{◌≡◌, ◌≢◌, ◌*◌, zero, suc, ◌≤◌, ◌&&◌, ℕ, ◌+◌, ◌<◌, true, false, drop, arith, Bool, List, [], ◌∷◌, ◌++◌, length, take, get_or, ap, ap₂, sym, ◌∙◌, refl, max}
+use Rattle.std.proofs.Common.{◌≡◌, ◌≢◌, ◌*◌, zero, suc, ◌≤◌, ◌&&◌, ℕ, ◌+◌, ◌<◌, true, false, drop, arith, List, [], ◌∷◌, ◌++◌, length, take, get_or, ap, ap₂, sym, ◌∙◌, refl}
 use Rattle.std.proofs.lemmas.List.{take_more, at_drop_more, at_drop_all, length-append}
 use Rattle.tab_term.specs.declared.term.Term.{Term}
 use Rattle.std.specs.Str.{IsUtf8, chars}
 use Rattle.std.proofs.Math.Utf8.{encode, encodes}
 use Rattle.std.proofs.lemmas.Str.{length-encode, len_utf8_bounds, encodes-chars}
-use Rattle.tab_term.specs.Data.{PlainTerm, PlainTerms, none, one_more, PlainPairs, no_pair, one_pair, depths, count, pair_count, weight, nodes}
+use Rattle.tab_term.specs.Data.{PlainTerm, PlainTerms, none, one_more, PlainPairs, no_pair, one_pair, count, pair_count, weight, nodes}
 use Rattle.tab_term.specs.Same.{same, all_same, pairs_same}
 use Rattle.tab_term.specs.View.{term, terms, pairs}
 use Rattle.tab_term.specs.Pattern.{matches, all_match}
-use Rattle.std.proofs.Common.{Ordering, Less, Equal, Greater}
+use Rattle.std.proofs.Common.{Equal}
 use Rattle.std.proofs.Math.Bool.{and-false}
 use Rattle.std.specs.Ordering.{ordering_then}
 use Rattle.tab_term.specs.Order.{order, pairs_order}

@@ -1,5 +1,5 @@
 -- Canonical spellings of single terms, as the External Term Format has them.
-use Rattle.std.specs.Prelude.{◌≡◌, ℕ, pos, negsuc, List, [], ◌∷◌, refl}
+use Rattle.std.specs.Prelude.{◌≡◌, pos, negsuc, [], ◌∷◌, refl}
 use Rattle.tab_term.specs.Data.{int, atom, tuple, list, bin, map, none, one_more, no_pair, one_pair}
 use Rattle.tab_term.specs.Canon.{canon, int_contents, magnitude, significant, arity_field, list_contents, length_field, atom_length_field}
 

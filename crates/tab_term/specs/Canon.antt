@@ -1,7 +1,7 @@
 -- The canonical spelling of a term: the one that is written, and by which terms are ordered. It is a tag of the
 -- External Term Format (ERTS User's Guide) and its contents, without the version byte. That each value has one spelling
 -- only, the shortest that holds it, is this project's own rule.
-use Rattle.std.specs.Prelude.{ℕ, suc, ◌+◌, ◌^◌, ℤ, pos, negsuc, List, [], ◌∷◌, ◌++◌, length, Bool, true, false, ◌&&◌, nat_lt, ◌==◌, if◌then◌else◌, unsigned_abs}
+use Rattle.std.specs.Prelude.{ℕ, ◌^◌, ℤ, pos, negsuc, List, [], ◌∷◌, ◌++◌, length, Bool, true, false, ◌&&◌, nat_lt, ◌==◌, if◌then◌else◌, unsigned_abs}
 use Rattle.std.specs.Int.{w16, w32, w64, w128, to_be_bytes, to_le_bytes, cast_unsigned}
 use Rattle.tab_term.specs.Data.{PlainTerm, int, atom, tuple, list, bin, map, PlainTerms, none, one_more, PlainPairs, no_pair, one_pair, count, pair_count}
 

@@ -1,14 +1,13 @@
 -- The order of terms is that of their spellings, whatever follows them.
-use Rattle.std.proofs.Common.{◌≡◌, ◌≢◌, ℕ, zero, suc, ◌+◌, ◌*◌, ◌^◌, ◌/◌, ◌<◌, ◌≤◌, Bool, true, false, ◌&&◌, nat_lt, ◌==◌, if◌then◌else◌, List, [], ◌∷◌, ◌++◌, length, refl, sym, ap, ap₂, subst, ◌∙◌, Ordering, Less, Equal, Greater, nat_cmp, arith, append_assoc}
-use Rattle.std.specs.Prelude.{ℤ, pos, negsuc, unsigned_abs}
+use Rattle.std.proofs.Common.{◌≡◌, ◌≢◌, ℕ, ◌^◌, ◌/◌, ◌<◌, ◌≤◌, Bool, true, false, ◌&&◌, nat_lt, ◌==◌, if◌then◌else◌, List, [], ◌∷◌, ◌++◌, length, refl, sym, ap, ap₂, ◌∙◌, Ordering, nat_cmp, arith, append_assoc}
+use Rattle.std.specs.Prelude.{ℤ, unsigned_abs}
 use Rattle.std.specs.Ordering.{ordering_then}
-use Rattle.std.specs.Cmp.Lexicographic.{slice_cmp}
-use Rattle.std.specs.Int.{w16, w32, w64, w128, to_be_bytes, to_le_bytes, cast_unsigned, byte_at, bytes_high_first}
+use Rattle.std.specs.Int.{w16, w32, w64, to_be_bytes, cast_unsigned, byte_at, bytes_high_first}
 use Rattle.std.proofs.lemmas.Nat.{mod_below}
 use Rattle.tab_term.specs.Data.{PlainTerm, int, atom, tuple, list, bin, map, PlainTerms, none, one_more, PlainPairs, no_pair, one_pair, count, pair_count}
-use Rattle.tab_term.specs.Canon.{canon, canons, pair_canons, tag, int_tag, int_contents, atom_tag, atom_length_field, tuple_tag, arity_field, list_tag, list_contents, length_field, wide_length_field, magnitude, significant, before_zeros, is_byte, fits_four, sign_of, is_byte_term, byte_of, all_bytes, bytes_of}
+use Rattle.tab_term.specs.Canon.{canon, canons, pair_canons, tag, int_tag, int_contents, atom_tag, atom_length_field, tuple_tag, arity_field, list_tag, list_contents, length_field, wide_length_field, magnitude, is_byte, fits_four, sign_of, is_byte_term, byte_of, all_bytes, bytes_of}
 use Rattle.tab_term.specs.Order.{bytes_cmp, order, by_tag, contents_order, members_order, pairs_order}
-use Rattle.tab_term.specs.Numbers.{then_assoc, then_same, then_both, then_first, then_equal, equal_is, less_is, greater_is, tie_is, lists_are, text_cmp, high_cmp, high_length, low_value, low_is}
+use Rattle.tab_term.specs.Numbers.{then_assoc, then_same, then_equal, equal_is, less_is, greater_is, text_cmp, high_cmp, high_length}
 
 pub lt_is : (n m : ℕ) → nat_lt n m ≡ true → n < m
 lt_is n m h = grind arith

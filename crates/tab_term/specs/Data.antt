@@ -1,6 +1,6 @@
 -- What a term is (ERTS User's Guide, External Term Format): an integer, an atom as the UTF-8 bytes of its text, a tuple,
 -- a proper list, a binary, or a map.
-use Rattle.std.specs.Prelude.{ℕ, suc, max, ℤ, ◌+◌, List, [], ◌∷◌}
+use Rattle.std.specs.Prelude.{ℕ, suc, max, ℤ, ◌+◌, List}
 
 mutual
   pub data PlainTerm : Type 0 where

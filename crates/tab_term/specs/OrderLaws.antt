@@ -1,5 +1,5 @@
 -- Terms that compare equal are one term, and no spelling begins another.
-use Rattle.std.proofs.Common.{◌≡◌, ◌≢◌, ℕ, zero, suc, ◌+◌, ◌*◌, ◌^◌, ◌/◌, ◌%◌, ◌<◌, ◌≤◌, Bool, true, false, ◌&&◌, nat_lt, ◌==◌, if◌then◌else◌, List, [], ◌∷◌, ◌++◌, length, refl, sym, ap, ap₂, subst, ◌∙◌, Ordering, Less, Equal, Greater, nat_cmp, arith}
+use Rattle.std.proofs.Common.{◌≡◌, ◌≢◌, ℕ, ◌+◌, ◌*◌, ◌^◌, ◌%◌, ◌<◌, Bool, true, false, nat_lt, ◌==◌, if◌then◌else◌, List, [], ◌∷◌, ◌++◌, length, refl, sym, ap, ap₂, ◌∙◌, Ordering, Less, Equal, Greater, nat_cmp, arith}
 use Rattle.std.specs.Prelude.{ℤ, pos, negsuc, unsigned_abs}
 use Rattle.std.specs.Ordering.{ordering_then, is_eq}
 use Rattle.std.proofs.lemmas.Bool.Decides.{same_from_decides}
@@ -7,7 +7,7 @@ use Rattle.tab_term.specs.Same.{same, same-Decides}
 use Rattle.std.specs.Str.{bytes_eq}
 use Rattle.std.proofs.lemmas.Slice.Eq.{bytes_eq-Decides}
 use Rattle.std.specs.Cmp.Lexicographic.{slice_cmp}
-use Rattle.std.specs.Int.{w16, w32, w64, w128, to_be_bytes, to_le_bytes, cast_unsigned, cast_signed}
+use Rattle.std.specs.Int.{w32, w128, to_be_bytes, to_le_bytes, cast_unsigned, cast_signed}
 use Rattle.std.specs.Int.RustNames.{FitsSigned}
 use Rattle.std.proofs.Math.Facts.{to_z-of_z}
 use Rattle.std.proofs.Math.Nat.{mod-eq_of_lt, div-one}
@@ -20,7 +20,7 @@ use Rattle.tab_term.specs.Data.{PlainTerm, int, atom, tuple, list, bin, map, Pla
 use Rattle.tab_term.specs.Canon.{canon, tag, int_tag, int_contents, magnitude, significant, before_zeros, is_byte, fits_four, sign_of}
 use Rattle.tab_term.specs.Order.{order, by_tag, contents_order, members_order, pairs_order, bytes_cmp}
 use Rattle.tab_term.specs.Numbers.{then_both, equal_is, lists_are, high_cmp, low_value, low_is, then_equal, tie_is}
-use Rattle.tab_term.specs.Compare.{canon_cmp, apart, code, int_at, int_tag_at, lt_is}
+use Rattle.tab_term.specs.Compare.{canon_cmp, apart, int_at, int_tag_at, lt_is}
 
 -- ---- integers
 

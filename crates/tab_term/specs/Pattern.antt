@@ -1,7 +1,7 @@
 -- When a term fits a pattern (Mnesia Reference Manual, match_object/1: the atom '_' is the wildcard).
 use Rattle.std.specs.Prelude.{ℕ, List, [], ◌∷◌, Bool, true, false, ◌&&◌, ◌||◌}
 use Rattle.std.specs.Str.{bytes_eq}
-use Rattle.tab_term.specs.Data.{PlainTerm, int, atom, tuple, list, bin, map, PlainTerms, none, one_more}
+use Rattle.tab_term.specs.Data.{PlainTerm, atom, tuple, list, PlainTerms, none, one_more}
 use Rattle.tab_term.specs.Same.{same}
 
 -- '_'

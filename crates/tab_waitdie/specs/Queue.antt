@@ -1,6 +1,5 @@
 -- The queued requests as definitions speak of them.
-use Rattle.std.specs.Prelude.{ℕ, List, Bool, map}
-use Rattle.std.specs.Str.{bytes_eq}
+use Rattle.std.specs.Prelude.{List, map}
 use Rattle.tab_model.specs.Ages.{Owned, Ages}
 use Rattle.tab_locks.specs.Plain.{lock_of}
 use Rattle.tab_waitdie.specs.declared.waiting.Waiting.{Waiting}

@@ -1,4 +1,4 @@
-use Rattle.std.proofs.Common.{◌+◌, ◌≡◌, ◌∷◌, [], ◌++◌, ap, sym, ◌∙◌, subst, arith, Some}
+use Rattle.std.proofs.Common.{◌+◌, ◌∷◌, [], ◌++◌, ap, sym, ◌∙◌, subst, arith, Some}
 use Rattle.tab_model.specs.declared.data.Command.TheVariants as command
 use Rattle.tab_model.specs.declared.data.Move.TheVariants as move
 use Rattle.tab_core.specs.Performs.{Performs}

@@ -1,9 +1,5 @@
-use Rattle.std.proofs.Common.{◌≡◌, ◌+◌, ◌≤◌, List, ◌++◌, length, vec_len, vec_capacity}
+use Rattle.std.proofs.Common.{◌≡◌, ◌+◌, ◌≤◌, length, vec_len, vec_capacity}
 use Rattle.std.specs.Vec.Iter.{into_iter_items, into_iter_len}
-use Rattle.tab_model.specs.declared.data.Entry.{Entry}
-use Rattle.tab_model.specs.declared.data.Reply.{Reply}
-use Rattle.tab_model.specs.State.{State}
-use Rattle.tab_core.specs.Runs.{Ran, AllServed, asks_of}
 use Rattle.tab_core.proofs.RunLemmas.{IsRunning}
 use Rattle.tab_core.proofs.running.Core.run_steps.Given as goal
 
