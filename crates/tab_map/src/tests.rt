@@ -10,12 +10,25 @@ use crate::{Map, Set, Tree};
 use std::alloc::{AllocError, Global};
 use std::collections::BTreeMap;
 use std::test::Fail;
+use tab_key::Abbreviate;
 
 #[derive(PartialEq, Eq, PartialOrd, Ord, Drop)]
 enum Term {
     Integer(i64),
     Atom(String),
     Tuple(Vec<Term>),
+}
+
+impl Abbreviate for Term {
+    ghost use Rattle.tab_key.specs.Agree.{one_number_agrees};
+
+    ghost abbreviation = { λ term. 0 };
+
+    ghost agrees = { one_number_agrees Self.cmp };
+
+    fn abbreviated(&self) -> u64 {
+        0
+    }
 }
 
 #[derive(Drop)]
@@ -126,7 +139,7 @@ fn is_shared<T: Send + Sync>(_value: &T) -> bool {
 }
 
 // The levels of the tree.
-fn levels<K: Ord, V>(map: &Map<K, V>) -> u8 {
+fn levels<K: Abbreviate, V>(map: &Map<K, V>) -> u8 {
     match &map.root {
         Tree::Leaf | Tree::Chunk(_) => 0,
         Tree::Node(node) => levels(&node.left)
@@ -141,7 +154,7 @@ const LEAST_ENTRIES: [usize; 26] = [
     22894, 36926, 59559, 96064, 154942,
 ];
 
-fn is_low<K: Ord + Drop, V: Drop>(map: &Map<K, V>, count: usize) -> bool {
+fn is_low<K: Abbreviate + Drop, V: Drop>(map: &Map<K, V>, count: usize) -> bool {
     match LEAST_ENTRIES.get(usize::from(map.height())) {
         Some(least) => count >= *least,
         None => false,
@@ -262,7 +275,7 @@ fn changes_in_place(rt: HostRuntime) -> Result<(), Fail> {
 #[test]
 fn finds_around(rt: HostRuntime) -> Result<(), Fail> {
     let alloc = rt.alloc();
-    let entries = [(10, 'a'), (20, 'b'), (30, 'c'), (40, 'd')].to_vec(alloc)?;
+    let entries = [(10u32, 'a'), (20, 'b'), (30, 'c'), (40, 'd')].to_vec(alloc)?;
     let map = Map::from_sorted(alloc, entries)?;
     for (key, from, above) in [
         (5, Some('a'), Some('a')),
@@ -291,7 +304,7 @@ fn finds_around(rt: HostRuntime) -> Result<(), Fail> {
 fn sets(rt: HostRuntime) -> Result<(), Fail> {
     let alloc = rt.alloc();
     let empty = Set::new();
-    let one = empty.inserted(alloc, 2)?;
+    let one = empty.inserted(alloc, 2u32)?;
     let two = one.inserted(alloc, 1)?.inserted(alloc, 2)?;
     let left = two.share()?.removed(alloc, &1)?;
     assert!(rt; empty.is_empty() && !one.is_empty());
