@@ -9,6 +9,9 @@ use std::alloc::{AllocError, Global};
 use std::cmp::Ordering;
 use tab_key::Abbreviate;
 
+/// The most entries in a row. A search in it touches few lines of memory, and a copy of it is short.
+pub const FULL: usize = 32;
+
 // The number of entries with keys below the key.
 fn count_below<K: Abbreviate + Drop, V: Drop>(items: &[Entry<K, V>], sought: &Sought<K>) -> usize
     requires { Ascends K.cmp items.now }
@@ -131,4 +134,17 @@ pub fn copied<K: Abbreviate + Drop, V: Drop>(
         copies.push(item.try_clone()?)?;
     }
     Ok(copies)
+}
+
+pub fn of_pairs<K: Abbreviate + Drop, V: Drop>(
+    alloc: Global,
+    pairs: Vec<(K, V)>,
+) -> Result<Vec<Entry<K, V>>, AllocError>
+    ensures { IfOk result (λ items. items.items ≡ pairs.items) }
+{
+    let mut items = Vec::with_capacity(alloc, pairs.len())?;
+    for pair in pairs {
+        items.push(Entry::new(alloc, pair)?)?;
+    }
+    Ok(items)
 }

@@ -9,9 +9,6 @@ use std::cmp::Ordering;
 use std::sync::Arc;
 use tab_key::Abbreviate;
 
-// The most entries in a row. A search in it touches few lines of memory, and a copy of it is short.
-const FULL: usize = 32;
-
 impl<K: Abbreviate + Drop, V: Drop> Map<K, V> {
     /// Puts this value at the key: in place of the value there, or as a new entry. Maps that share nodes with this
     /// one keep their entries.
@@ -218,7 +215,7 @@ impl<K: Abbreviate + Drop, V: Drop> Map<K, V> {
         let Tree::Chunk(items) = &self.root else {
             return;
         };
-        if items.len() > FULL {
+        if items.len() > chunk::FULL {
             if let Ok(halves) = Map::halves(alloc, items.as_slice()) {
                 *self = halves;
             }

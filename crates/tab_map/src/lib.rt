@@ -108,8 +108,8 @@ impl<K: Abbreviate + Drop, V: Drop> Map<K, V> {
         ensures taken { IfOk result (λ m. entries.old.items ≡ entries.new.items ++ m) }
         ensures count { IfOk result (λ m. length m ≡ count) }
     {
-        if count == 0 {
-            return Ok(Map::new());
+        if count <= chunk::FULL {
+            return Map::last_row(alloc, entries, count);
         }
         let right = Map::from_last(alloc, entries, count / 2)?;
         let Some(entry) = entries.pop() else {
@@ -117,6 +117,24 @@ impl<K: Abbreviate + Drop, V: Drop> Map<K, V> {
         };
         let left = Map::from_last(alloc, entries, (count - 1) / 2)?;
         Map::node(alloc, left, Entry::new(alloc, entry)?, right)
+    }
+
+    // Takes the last `count` entries, without nodes.
+    fn last_row(
+        alloc: Global,
+        entries: &mut Vec<(K, V)>,
+        count: usize,
+    ) -> Result<Map<K, V>, AllocError>
+        requires enough { count ≤ length entries.old.items }
+        requires sorted { Ascends K.cmp entries.old.items }
+        ensures taken { IfOk result (λ m. entries.old.items ≡ entries.new.items ++ m) }
+        ensures count { IfOk result (λ m. length m ≡ count) }
+    {
+        let last = entries.split_off(entries.len() - count)?;
+        let items = chunk::of_pairs(alloc, last)?;
+        Ok(Map {
+            root: Tree::Chunk(Arc::new(alloc, items)?),
+        })
     }
 
     /// The same map, in constant time. It allocates nothing: the error is a count of owners that is full, at 2^63.
