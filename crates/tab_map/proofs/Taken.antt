@@ -1,5 +1,6 @@
 -- What is left of a list from whose end a subtree, an entry and a subtree are taken.
-use Rattle.std.proofs.Common.{◌≡◌, ◌+◌, List, [], ◌∷◌, ◌++◌, length, append_assoc, length-append, refl, ap, ◌∙◌, subst}
+use Rattle.std.proofs.Common.{◌≡◌, ◌+◌, List, [], ◌∷◌, ◌++◌, length, append_assoc, length-append, take, drop, ℕ, refl, sym, ap, ◌∙◌, subst}
+use Rattle.std.proofs.lemmas.List.{take-append-drop}
 use Rattle.std.specs.declared.cmp.Ordering.{Ordering}
 use Rattle.tab_map.specs.Entries.{Ascends}
 use Rattle.tab_map.proofs.Order.{ascends_front, ascends_back}
@@ -20,3 +21,6 @@ module _ {K V : Type 0} (cmp : K → K → Ordering) where
   taken_node old one two three left right e p q r s =
       let i = p ∙ ap (λ z. z ++ right) (q ∙ ap (λ z. z ++ e ∷ []) r) ∙ regrouped three left e right in
       ascends_back cmp three (left ++ e ∷ right) (subst (Ascends cmp) i s)
+
+  pub dropped_sorted : (n : ℕ) (xs ys : List (K × V)) → ys ≡ drop n xs → Ascends cmp xs → Ascends cmp ys
+  dropped_sorted n xs ys p s = subst (Ascends cmp) (sym p) (ascends_back cmp (take n xs) (drop n xs) (subst (Ascends cmp) (sym (take-append-drop n xs)) s))

@@ -4,87 +4,100 @@ ghost use Rattle.std.specs.Option.{option_copied};
 ghost use Rattle.tab_map.specs.Entries.{Ascends, lookup, insert_entry, remove_entry, entries_from, entries_above};
 ghost use Rattle.tab_map.specs.Places.{IsPlace, HasAt, IsGap};
 
-use crate::entry::Entry;
+use crate::entry::{Entry, Sought};
 use std::alloc::{AllocError, Global};
 use std::cmp::Ordering;
+use tab_key::Abbreviate;
+
+/// The most entries in a row. A search in it touches few lines of memory, and a copy of it is short.
+pub const FULL: usize = 32;
 
 // The number of entries with keys below the key.
-fn count_below<K: Ord + Drop, V: Drop>(items: &[Entry<K, V>], key: &K) -> usize
+fn count_below<K: Abbreviate + Drop, V: Drop>(items: &[Entry<K, V>], sought: &Sought<K>) -> usize
     requires { Ascends K.cmp items.now }
-    ensures place { IsPlace K.cmp key.now items.now result }
+    ensures place { IsPlace K.cmp sought.now items.now result }
     ensures bound { result ≤ length items.now }
 {
     let (left, rest) = items.split_at(items.len() / 2);
     let [middle, right @ ..] = rest else {
         return 0;
     };
-    match key.cmp(&middle.pair().0) {
-        Ordering::Greater => left.len() + 1 + count_below(right, key),
-        _ => count_below(left, key),
+    match sought.order(middle) {
+        Ordering::Greater => left.len() + 1 + count_below(right, sought),
+        _ => count_below(left, sought),
     }
 }
 
 // The place of the entry at the key, or where one belongs.
-fn place<K: Ord + Drop, V: Drop>(items: &[Entry<K, V>], key: &K) -> Result<usize, usize>
+fn place<K: Abbreviate + Drop, V: Drop>(
+    items: &[Entry<K, V>],
+    sought: &Sought<K>,
+) -> Result<usize, usize>
     requires { Ascends K.cmp items.now }
-    ensures found { IfOk result (λ n. HasAt K.cmp key.now items.now n) }
+    ensures found { IfOk result (λ n. HasAt K.cmp sought.now items.now n) }
     ensures found_in_row { IfOk result (λ n. n < length items.now) }
-    ensures gap { IfErr result (λ n. IsGap K.cmp key.now items.now n) }
+    ensures gap { IfErr result (λ n. IsGap K.cmp sought.now items.now n) }
     ensures gap_in_row { IfErr result (λ n. n ≤ length items.now) }
 {
-    let at = count_below(items, key);
+    let at = count_below(items, sought);
     let Some(entry) = items.get(at) else {
         return Err(at);
     };
-    match key.cmp(&entry.pair().0) {
+    match sought.order(entry) {
         Ordering::Equal => Ok(at),
         _ => Err(at),
     }
 }
 
-pub fn get<'a, K: Ord + Drop, V: Drop>(items: &'a [Entry<K, V>], key: &K) -> Option<&'a V>
+pub fn get<'a, K: Abbreviate + Drop, V: Drop>(
+    items: &'a [Entry<K, V>],
+    sought: &Sought<K>,
+) -> Option<&'a V>
     requires { Ascends K.cmp items.now }
-    ensures { option_copied result ≡ lookup K.cmp key.now items.now }
+    ensures { option_copied result ≡ lookup K.cmp sought.now items.now }
 {
-    match place(items, key) {
+    match place(items, sought) {
         Ok(n) => Some(&items[n].pair().1),
         Err(_) => None,
     }
 }
 
-pub fn pair_at<'a, K: Ord + Drop, V: Drop>(items: &'a [Entry<K, V>], n: usize) -> Option<&'a (K, V)>
+pub fn pair_at<'a, K: Abbreviate + Drop, V: Drop>(
+    items: &'a [Entry<K, V>],
+    n: usize,
+) -> Option<&'a (K, V)>
     ensures { option_copied result ≡ slice_get items.now n }
 {
     Some(items.get(n)?.pair())
 }
 
-pub fn first_from<'a, K: Ord + Drop, V: Drop>(
+pub fn first_from<'a, K: Abbreviate + Drop, V: Drop>(
     items: &'a [Entry<K, V>],
-    key: &K,
+    sought: &Sought<K>,
 ) -> Option<&'a (K, V)>
     requires { Ascends K.cmp items.now }
-    ensures { option_copied result ≡ slice_get (entries_from K.cmp key.now items.now) 0 }
+    ensures { option_copied result ≡ slice_get (entries_from K.cmp sought.now items.now) 0 }
 {
-    match place(items, key) {
+    match place(items, sought) {
         Ok(n) => pair_at(items, n),
         Err(n) => pair_at(items, n),
     }
 }
 
-pub fn first_above<'a, K: Ord + Drop, V: Drop>(
+pub fn first_above<'a, K: Abbreviate + Drop, V: Drop>(
     items: &'a [Entry<K, V>],
-    key: &K,
+    sought: &Sought<K>,
 ) -> Option<&'a (K, V)>
     requires { Ascends K.cmp items.now }
-    ensures { option_copied result ≡ slice_get (entries_above K.cmp key.now items.now) 0 }
+    ensures { option_copied result ≡ slice_get (entries_above K.cmp sought.now items.now) 0 }
 {
-    match place(items, key) {
+    match place(items, sought) {
         Ok(n) => pair_at(items, n + 1),
         Err(n) => pair_at(items, n),
     }
 }
 
-pub fn put<K: Ord + Drop, V: Drop>(
+pub fn put<K: Abbreviate + Drop, V: Drop>(
     items: &mut Vec<Entry<K, V>>,
     entry: Entry<K, V>,
 ) -> Result<(), AllocError>
@@ -92,24 +105,25 @@ pub fn put<K: Ord + Drop, V: Drop>(
     ensures ok { OnOk result (items.new.items ≡ insert_entry K.cmp entry items.old.items) }
     ensures err { OnErr result (items.new.items ≡ items.old.items) }
 {
-    match place(items, &entry.pair().0) {
+    let found = place(items, &entry.sought());
+    match found {
         Ok(n) => items[n] = entry,
         Err(n) => items.insert(n, entry)?,
     }
     Ok(())
 }
 
-pub fn take<K: Ord + Drop, V: Drop>(items: &mut Vec<Entry<K, V>>, key: &K)
+pub fn take<K: Abbreviate + Drop, V: Drop>(items: &mut Vec<Entry<K, V>>, sought: &Sought<K>)
     requires { Ascends K.cmp items.old.items }
-    ensures { items.new.items ≡ remove_entry K.cmp key.now items.old.items }
+    ensures { items.new.items ≡ remove_entry K.cmp sought.now items.old.items }
 {
-    match place(items, key) {
+    match place(items, sought) {
         Ok(n) => drop(items.remove(n)),
         Err(_) => (),
     }
 }
 
-pub fn copied<K: Ord + Drop, V: Drop>(
+pub fn copied<K: Abbreviate + Drop, V: Drop>(
     alloc: Global,
     items: &[Entry<K, V>],
 ) -> Result<Vec<Entry<K, V>>, AllocError>
@@ -120,4 +134,17 @@ pub fn copied<K: Ord + Drop, V: Drop>(
         copies.push(item.try_clone()?)?;
     }
     Ok(copies)
+}
+
+pub fn of_pairs<K: Abbreviate + Drop, V: Drop>(
+    alloc: Global,
+    pairs: Vec<(K, V)>,
+) -> Result<Vec<Entry<K, V>>, AllocError>
+    ensures { IfOk result (λ items. items.items ≡ pairs.items) }
+{
+    let mut items = Vec::with_capacity(alloc, pairs.len())?;
+    for pair in pairs {
+        items.push(Entry::new(alloc, pair)?)?;
+    }
+    Ok(items)
 }

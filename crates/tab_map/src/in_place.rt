@@ -2,16 +2,14 @@
 ghost use Rattle.std.specs.Prelude.{◌≡◌, ◌∷◌, ◌++◌, [], IfOk, OnOk, OnErr};
 ghost use Rattle.tab_map.specs.Entries.{Ascends, insert_entry, remove_entry};
 
-use crate::entry::Entry;
+use crate::entry::{Entry, Sought};
 use crate::{Map, Node, Tree, chunk};
 use std::alloc::{AllocError, Global};
 use std::cmp::Ordering;
 use std::sync::Arc;
+use tab_key::Abbreviate;
 
-// The most entries in a row. A search in it touches few lines of memory, and a copy of it is short.
-const FULL: usize = 32;
-
-impl<K: Ord + Drop, V: Drop> Map<K, V> {
+impl<K: Abbreviate + Drop, V: Drop> Map<K, V> {
     /// Puts this value at the key: in place of the value there, or as a new entry. Maps that share nodes with this
     /// one keep their entries.
     pub fn insert(&mut self, alloc: Global, key: K, value: V) -> Result<(), AllocError>
@@ -28,7 +26,7 @@ impl<K: Ord + Drop, V: Drop> Map<K, V> {
         ensures ok { OnOk result (self.new ≡ remove_entry K.cmp key.now self.old) }
         ensures err { OnErr result (self.new ≡ self.old) }
     {
-        self.take(alloc, key)?;
+        self.take(alloc, &Sought::new(key))?;
         Ok(())
     }
 
@@ -75,7 +73,8 @@ impl<K: Ord + Drop, V: Drop> Map<K, V> {
         ensures ok { OnOk result (node.new.left ++ node.new.entry ∷ node.new.right ≡ insert_entry K.cmp entry (node.old.left ++ node.old.entry ∷ node.old.right)) }
         ensures err { OnErr result (node.new.left ++ node.new.entry ∷ node.new.right ≡ node.old.left ++ node.old.entry ∷ node.old.right) }
     {
-        match entry.pair().0.cmp(&node.entry.pair().0) {
+        let side = entry.sought().order(&node.entry);
+        match side {
             Ordering::Less => node.left.put(alloc, entry),
             Ordering::Equal => {
                 node.entry = entry;
@@ -85,15 +84,15 @@ impl<K: Ord + Drop, V: Drop> Map<K, V> {
         }
     }
 
-    fn take(&mut self, alloc: Global, key: &K) -> Result<bool, AllocError>
-        ensures ok { OnOk result (self.new ≡ remove_entry K.cmp key.now self.old) }
+    fn take(&mut self, alloc: Global, sought: &Sought<K>) -> Result<bool, AllocError>
+        ensures ok { OnOk result (self.new ≡ remove_entry K.cmp sought.now self.old) }
         ensures err { OnErr result (self.new ≡ self.old) }
     {
         let before = self.height();
         match &mut self.root {
             Tree::Leaf => return Ok(false),
             Tree::Chunk(items) => {
-                Map::take_in_row(alloc, items, key)?;
+                Map::take_in_row(alloc, items, sought)?;
                 return Ok(false);
             }
             Tree::Node(node) => {
@@ -101,15 +100,15 @@ impl<K: Ord + Drop, V: Drop> Map<K, V> {
                 let Some(node) = Arc::get_mut(node) else {
                     return Err(AllocError);
                 };
-                match key.cmp(&node.entry.pair().0) {
+                match sought.order(&node.entry) {
                     Ordering::Less => {
-                        if node.left.take(alloc, key)? {
+                        if node.left.take(alloc, sought)? {
                             self.rebalance(alloc);
                         }
                     }
                     Ordering::Equal => *self = Map::joined(alloc, &node.left, &node.right)?,
                     Ordering::Greater => {
-                        if node.right.take(alloc, key)? {
+                        if node.right.take(alloc, sought)? {
                             self.rebalance(alloc);
                         }
                     }
@@ -170,17 +169,17 @@ impl<K: Ord + Drop, V: Drop> Map<K, V> {
     fn take_in_row(
         alloc: Global,
         items: &mut Arc<Vec<Entry<K, V>>, Global>,
-        key: &K,
+        sought: &Sought<K>,
     ) -> Result<(), AllocError>
         requires { Ascends K.cmp items.old.value.items }
-        ensures ok { OnOk result (items.new.value.items ≡ remove_entry K.cmp key.now items.old.value.items) }
+        ensures ok { OnOk result (items.new.value.items ≡ remove_entry K.cmp sought.now items.old.value.items) }
         ensures err { OnErr result (items.new.value.items ≡ items.old.value.items) }
     {
         Map::own_items(alloc, items)?;
         let Some(items) = Arc::get_mut(items) else {
             return Err(AllocError);
         };
-        chunk::take(items, key);
+        chunk::take(items, sought);
         Ok(())
     }
 
@@ -196,11 +195,15 @@ impl<K: Ord + Drop, V: Drop> Map<K, V> {
         Ok(map)
     }
 
-    pub(crate) fn take_in_copy(&self, alloc: Global, key: &K) -> Result<Map<K, V>, AllocError>
-        ensures { IfOk result (λ m. m ≡ remove_entry K.cmp key.now self.now) }
+    pub(crate) fn take_in_copy(
+        &self,
+        alloc: Global,
+        sought: &Sought<K>,
+    ) -> Result<Map<K, V>, AllocError>
+        ensures { IfOk result (λ m. m ≡ remove_entry K.cmp sought.now self.now) }
     {
         let mut map = self.share()?;
-        map.take(alloc, key)?;
+        map.take(alloc, sought)?;
         Ok(map)
     }
 
@@ -212,7 +215,7 @@ impl<K: Ord + Drop, V: Drop> Map<K, V> {
         let Tree::Chunk(items) = &self.root else {
             return;
         };
-        if items.len() > FULL {
+        if items.len() > chunk::FULL {
             if let Ok(halves) = Map::halves(alloc, items.as_slice()) {
                 *self = halves;
             }

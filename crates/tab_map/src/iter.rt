@@ -6,17 +6,18 @@ ghost use Rattle.tab_map.specs.Entries.{Ascends, entries_from};
 use crate::Map;
 use std::iter::FusedIterator;
 use std::marker::Model;
+use tab_key::Abbreviate;
 
 /// The entries of a map in the order of their keys, seen as the list of those that are left.
 ///
 /// It walks by key: each step finds the first entry above the last one, in O(log n).
 #[derive(Drop)]
-pub struct Iter<'a, K: Ord, V> {
+pub struct Iter<'a, K: Abbreviate, V> {
     map: &'a Map<K, V>,
     next: Option<&'a (K, V)>,
 }
 
-impl<'a, K: Ord, V> Model for Iter<'a, K, V> {
+impl<'a, K: Abbreviate, V> Model for Iter<'a, K, V> {
     ghost use Rattle.std.specs.Prelude.{List};
 
     ghost Value = { List (K × V) };
@@ -27,7 +28,7 @@ impl<'a, K: Ord, V> Model for Iter<'a, K, V> {
     ghost view = { λ it. entries_left K.cmp it.map.now (option_copied it.next) };
 }
 
-impl<K: Ord + Drop, V: Drop> Map<K, V> {
+impl<K: Abbreviate + Drop, V: Drop> Map<K, V> {
     /// The entries in the order of their keys.
     pub fn iter<'a>(&'a self) -> Iter<'a, K, V>
         ensures entries { result ≡ self.now }
@@ -51,7 +52,7 @@ impl<K: Ord + Drop, V: Drop> Map<K, V> {
     }
 }
 
-impl<'a, K: Ord + Drop, V: Drop> Iterator for Iter<'a, K, V> {
+impl<'a, K: Abbreviate + Drop, V: Drop> Iterator for Iter<'a, K, V> {
     type Item = &'a (K, V);
 
     ghost next_gives = { YieldsFirstRef (λ left. left) };
@@ -65,4 +66,4 @@ impl<'a, K: Ord + Drop, V: Drop> Iterator for Iter<'a, K, V> {
     }
 }
 
-impl<'a, K: Ord + Drop, V: Drop> FusedIterator for Iter<'a, K, V> {}
+impl<'a, K: Abbreviate + Drop, V: Drop> FusedIterator for Iter<'a, K, V> {}

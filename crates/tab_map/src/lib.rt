@@ -21,23 +21,24 @@ mod set;
 #[cfg(test)]
 mod tests;
 
-use entry::Entry;
+use entry::{Entry, Sought};
 pub use iter::Iter;
 pub use set::{Keys, Set};
 use std::alloc::{AllocError, Global};
 use std::cmp::Ordering;
 use std::marker::Model;
 use std::sync::Arc;
+use tab_key::Abbreviate;
 
 /// A map from keys to values, in the order of the keys.
 #[cycle(tree)]
-pub struct Map<K: Ord, V> {
+pub struct Map<K: Abbreviate, V> {
     root: Tree<K, V>,
 }
 
 #[cycle(tree)]
 #[derive(Drop)]
-enum Tree<K: Ord, V> {
+enum Tree<K: Abbreviate, V> {
     Leaf,
     Chunk(Arc<Vec<Entry<K, V>>, Global>),
     Node(Arc<Node<K, V>, Global>),
@@ -45,14 +46,14 @@ enum Tree<K: Ord, V> {
 
 #[cycle(tree)]
 #[derive(Drop)]
-struct Node<K: Ord, V> {
+struct Node<K: Abbreviate, V> {
     left: Map<K, V>,
     entry: Entry<K, V>,
     height: u8,
     right: Map<K, V>,
 }
 
-impl<K: Ord, V> Model for Map<K, V> {
+impl<K: Abbreviate, V> Model for Map<K, V> {
     ghost use Rattle.std.specs.Prelude.{List, length};
 
     ghost Value = { List (K × V) };
@@ -71,7 +72,7 @@ impl<K: Ord, V> Model for Map<K, V> {
     ghost size_decreases = { λ a h. Prim.grind (arith, length-append) };
 }
 
-impl<K: Ord + Drop, V: Drop> Drop for Map<K, V> {
+impl<K: Abbreviate + Drop, V: Drop> Drop for Map<K, V> {
     #[cycle(tree)]
     fn drop(self) {
         let Map { root } = self;
@@ -79,7 +80,7 @@ impl<K: Ord + Drop, V: Drop> Drop for Map<K, V> {
     }
 }
 
-impl<K: Ord + Drop, V: Drop> Map<K, V> {
+impl<K: Abbreviate + Drop, V: Drop> Map<K, V> {
     /// The empty map.
     pub fn new() -> Map<K, V>
         ensures { result ≡ [] }
@@ -107,8 +108,8 @@ impl<K: Ord + Drop, V: Drop> Map<K, V> {
         ensures taken { IfOk result (λ m. entries.old.items ≡ entries.new.items ++ m) }
         ensures count { IfOk result (λ m. length m ≡ count) }
     {
-        if count == 0 {
-            return Ok(Map::new());
+        if count <= chunk::FULL {
+            return Map::last_row(alloc, entries, count);
         }
         let right = Map::from_last(alloc, entries, count / 2)?;
         let Some(entry) = entries.pop() else {
@@ -116,6 +117,24 @@ impl<K: Ord + Drop, V: Drop> Map<K, V> {
         };
         let left = Map::from_last(alloc, entries, (count - 1) / 2)?;
         Map::node(alloc, left, Entry::new(alloc, entry)?, right)
+    }
+
+    // Takes the last `count` entries, without nodes.
+    fn last_row(
+        alloc: Global,
+        entries: &mut Vec<(K, V)>,
+        count: usize,
+    ) -> Result<Map<K, V>, AllocError>
+        requires enough { count ≤ length entries.old.items }
+        requires sorted { Ascends K.cmp entries.old.items }
+        ensures taken { IfOk result (λ m. entries.old.items ≡ entries.new.items ++ m) }
+        ensures count { IfOk result (λ m. length m ≡ count) }
+    {
+        let last = entries.split_off(entries.len() - count)?;
+        let items = chunk::of_pairs(alloc, last)?;
+        Ok(Map {
+            root: Tree::Chunk(Arc::new(alloc, items)?),
+        })
     }
 
     /// The same map, in constant time. It allocates nothing: the error is a count of owners that is full, at 2^63.
@@ -149,13 +168,20 @@ impl<K: Ord + Drop, V: Drop> Map<K, V> {
         ensures value { option_copied result ≡ lookup K.cmp key.now self.now }
         ensures ascends { Ascends K.cmp self.now }
     {
+        self.find(&Sought::new(key))
+    }
+
+    fn find(&self, sought: &Sought<K>) -> Option<&V>
+        ensures value { option_copied result ≡ lookup K.cmp sought.now self.now }
+        ensures ascends { Ascends K.cmp self.now }
+    {
         match &self.root {
             Tree::Leaf => None,
-            Tree::Chunk(items) => chunk::get(items.as_slice(), key),
-            Tree::Node(node) => match key.cmp(&node.entry.pair().0) {
-                Ordering::Less => node.left.get(key),
+            Tree::Chunk(items) => chunk::get(items.as_slice(), sought),
+            Tree::Node(node) => match sought.order(&node.entry) {
+                Ordering::Less => node.left.find(sought),
                 Ordering::Equal => Some(&node.entry.pair().1),
-                Ordering::Greater => node.right.get(key),
+                Ordering::Greater => node.right.find(sought),
             },
         }
     }
@@ -187,16 +213,23 @@ impl<K: Ord + Drop, V: Drop> Map<K, V> {
         ensures entry { option_copied result ≡ slice_get (entries_from K.cmp key.now self.now) 0 }
         ensures ascends { Ascends K.cmp self.now }
     {
+        self.next_from(&Sought::new(key))
+    }
+
+    fn next_from(&self, sought: &Sought<K>) -> Option<&(K, V)>
+        ensures entry { option_copied result ≡ slice_get (entries_from K.cmp sought.now self.now) 0 }
+        ensures ascends { Ascends K.cmp self.now }
+    {
         match &self.root {
             Tree::Leaf => None,
-            Tree::Chunk(items) => chunk::first_from(items.as_slice(), key),
-            Tree::Node(node) => match key.cmp(&node.entry.pair().0) {
-                Ordering::Less => match node.left.first_from(key) {
+            Tree::Chunk(items) => chunk::first_from(items.as_slice(), sought),
+            Tree::Node(node) => match sought.order(&node.entry) {
+                Ordering::Less => match node.left.next_from(sought) {
                     None => Some(node.entry.pair()),
                     found => found,
                 },
                 Ordering::Equal => Some(node.entry.pair()),
-                Ordering::Greater => node.right.first_from(key),
+                Ordering::Greater => node.right.next_from(sought),
             },
         }
     }
@@ -206,16 +239,23 @@ impl<K: Ord + Drop, V: Drop> Map<K, V> {
         ensures entry { option_copied result ≡ slice_get (entries_above K.cmp key.now self.now) 0 }
         ensures ascends { Ascends K.cmp self.now }
     {
+        self.next_above(&Sought::new(key))
+    }
+
+    fn next_above(&self, sought: &Sought<K>) -> Option<&(K, V)>
+        ensures entry { option_copied result ≡ slice_get (entries_above K.cmp sought.now self.now) 0 }
+        ensures ascends { Ascends K.cmp self.now }
+    {
         match &self.root {
             Tree::Leaf => None,
-            Tree::Chunk(items) => chunk::first_above(items.as_slice(), key),
-            Tree::Node(node) => match key.cmp(&node.entry.pair().0) {
-                Ordering::Less => match node.left.first_above(key) {
+            Tree::Chunk(items) => chunk::first_above(items.as_slice(), sought),
+            Tree::Node(node) => match sought.order(&node.entry) {
+                Ordering::Less => match node.left.next_above(sought) {
                     None => Some(node.entry.pair()),
                     found => found,
                 },
                 Ordering::Equal => node.right.first(),
-                Ordering::Greater => node.right.first_above(key),
+                Ordering::Greater => node.right.next_above(sought),
             },
         }
     }
@@ -402,17 +442,25 @@ impl<K: Ord + Drop, V: Drop> Map<K, V> {
     {
         match &self.root {
             Tree::Leaf | Tree::Chunk(_) => self.put_in_copy(alloc, entry),
-            Tree::Node(node) => match entry.pair().0.cmp(&node.entry.pair().0) {
-                Ordering::Less => {
-                    let left = node.left.with_entry(alloc, entry)?;
-                    Map::balanced(alloc, left, node.entry.try_clone()?, node.right.share()?)
+            Tree::Node(node) => {
+                let side = entry.sought().order(&node.entry);
+                match side {
+                    Ordering::Less => {
+                        let left = node.left.with_entry(alloc, entry)?;
+                        Map::balanced(alloc, left, node.entry.try_clone()?, node.right.share()?)
+                    }
+                    Ordering::Equal => Map::node(
+                        alloc,
+                        node.left.share()?,
+                        entry,
+                        node.right.share()?,
+                    ),
+                    Ordering::Greater => {
+                        let right = node.right.with_entry(alloc, entry)?;
+                        Map::balanced(alloc, node.left.share()?, node.entry.try_clone()?, right)
+                    }
                 }
-                Ordering::Equal => Map::node(alloc, node.left.share()?, entry, node.right.share()?),
-                Ordering::Greater => {
-                    let right = node.right.with_entry(alloc, entry)?;
-                    Map::balanced(alloc, node.left.share()?, node.entry.try_clone()?, right)
-                }
-            },
+            }
         }
     }
 
@@ -420,16 +468,22 @@ impl<K: Ord + Drop, V: Drop> Map<K, V> {
     pub fn removed(&self, alloc: Global, key: &K) -> Result<Map<K, V>, AllocError>
         ensures { IfOk result (λ m. m ≡ remove_entry K.cmp key.now self.now) }
     {
+        self.without(alloc, &Sought::new(key))
+    }
+
+    fn without(&self, alloc: Global, sought: &Sought<K>) -> Result<Map<K, V>, AllocError>
+        ensures { IfOk result (λ m. m ≡ remove_entry K.cmp sought.now self.now) }
+    {
         match &self.root {
-            Tree::Leaf | Tree::Chunk(_) => self.take_in_copy(alloc, key),
-            Tree::Node(node) => match key.cmp(&node.entry.pair().0) {
+            Tree::Leaf | Tree::Chunk(_) => self.take_in_copy(alloc, sought),
+            Tree::Node(node) => match sought.order(&node.entry) {
                 Ordering::Less => {
-                    let left = node.left.removed(alloc, key)?;
+                    let left = node.left.without(alloc, sought)?;
                     Map::balanced(alloc, left, node.entry.try_clone()?, node.right.share()?)
                 }
                 Ordering::Equal => Map::joined(alloc, &node.left, &node.right),
                 Ordering::Greater => {
-                    let right = node.right.removed(alloc, key)?;
+                    let right = node.right.without(alloc, sought)?;
                     Map::balanced(alloc, node.left.share()?, node.entry.try_clone()?, right)
                 }
             },
@@ -440,6 +494,9 @@ impl<K: Ord + Drop, V: Drop> Map<K, V> {
         requires { Ascends K.cmp (left.now ++ right.now) }
         ensures { IfOk result (λ m. m ≡ left.now ++ right.now) }
     {
+        if left.is_empty() {
+            return right.share();
+        }
         match right.split_first(alloc)? {
             None => left.share(),
             Some((entry, rest)) => Map::balanced(alloc, left.share()?, entry, rest),

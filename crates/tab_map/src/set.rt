@@ -8,14 +8,15 @@ use crate::{Iter, Map};
 use std::alloc::{AllocError, Global};
 use std::iter::FusedIterator;
 use std::marker::Model;
+use tab_key::Abbreviate;
 
 /// A set of keys in their order, which shares its nodes with its copies, as a [`Map`] does.
 #[derive(Drop)]
-pub struct Set<K: Ord> {
+pub struct Set<K: Abbreviate> {
     map: Map<K, ()>,
 }
 
-impl<K: Ord> Model for Set<K> {
+impl<K: Abbreviate> Model for Set<K> {
     ghost use Rattle.std.specs.Prelude.{List};
 
     ghost Value = { List K };
@@ -25,7 +26,7 @@ impl<K: Ord> Model for Set<K> {
     ghost view = { λ set. keys set.map };
 }
 
-impl<K: Ord + Drop> Set<K> {
+impl<K: Abbreviate + Drop> Set<K> {
     /// The empty set.
     pub fn new() -> Set<K>
         ensures { result ≡ [] }
@@ -101,11 +102,11 @@ impl<K: Ord + Drop> Set<K> {
 
 /// The keys of a set in their order, seen as the list of those that are left.
 #[derive(Drop)]
-pub struct Keys<'a, K: Ord> {
+pub struct Keys<'a, K: Abbreviate> {
     entries: Iter<'a, K, ()>,
 }
 
-impl<'a, K: Ord> Model for Keys<'a, K> {
+impl<'a, K: Abbreviate> Model for Keys<'a, K> {
     ghost use Rattle.std.specs.Prelude.{List};
 
     ghost Value = { List K };
@@ -115,7 +116,7 @@ impl<'a, K: Ord> Model for Keys<'a, K> {
     ghost view = { λ it. keys it.entries };
 }
 
-impl<'a, K: Ord + Drop> Iterator for Keys<'a, K> {
+impl<'a, K: Abbreviate + Drop> Iterator for Keys<'a, K> {
     type Item = &'a K;
 
     ghost next_gives = { YieldsFirstRef (λ left. left) };
@@ -128,4 +129,4 @@ impl<'a, K: Ord + Drop> Iterator for Keys<'a, K> {
     }
 }
 
-impl<'a, K: Ord + Drop> FusedIterator for Keys<'a, K> {}
+impl<'a, K: Abbreviate + Drop> FusedIterator for Keys<'a, K> {}

@@ -4,6 +4,7 @@ ghost use Rattle.std.specs.Str.{chars};
 use std::alloc::{AllocError, Global};
 use std::cmp::Ordering;
 use std::marker::Model;
+use tab_key::Abbreviate;
 use thiserror::Error;
 
 /// Why a text is no atom.
@@ -147,5 +148,18 @@ impl PartialOrd for Atom {
 
     fn partial_cmp(&self, other: &Atom) -> Option<Ordering> {
         Some(self.cmp(other))
+    }
+}
+
+/// All atoms tie.
+impl Abbreviate for Atom {
+    ghost use Rattle.tab_key.specs.Agree.{one_number_agrees};
+
+    ghost abbreviation = { λ name. 0 };
+
+    ghost agrees = { one_number_agrees Self.cmp };
+
+    fn abbreviated(&self) -> u64 {
+        0
     }
 }

@@ -17,6 +17,7 @@ ghost use Rattle.tab_term.specs.Order.{order, members_order, pairs_order};
 use crate::atom::Atom;
 use crate::term::{Pairs, Term, Terms};
 use std::cmp::Ordering;
+use tab_key::Abbreviate;
 
 fn is_byte(z: i128) -> bool
     ensures { result ≡ is_byte_of z }
@@ -315,5 +316,18 @@ impl PartialOrd for Term {
 
     fn partial_cmp(&self, other: &Term) -> Option<Ordering> {
         Some(self.cmp(other))
+    }
+}
+
+/// All terms tie.
+impl Abbreviate for Term {
+    ghost use Rattle.tab_key.specs.Agree.{one_number_agrees};
+
+    ghost abbreviation = { λ term. 0 };
+
+    ghost agrees = { one_number_agrees Self.cmp };
+
+    fn abbreviated(&self) -> u64 {
+        0
     }
 }

@@ -6,7 +6,7 @@ pub from_last-requires-2 : goal.from_last-requires-2
 from_last-requires-2 g t c κs within =
     let n = taken_length _ _ _ _ c.in-Some.entry c.in_ok-right.ensures.taken c.in-Some.ensures.items in
     let s = taken_sorted g.K.Ord.cmp _ _ _ _ c.in-Some.entry c.in_ok-right.ensures.taken c.in-Some.ensures.items c.requires.sorted in
-    (omega (arith, c.decreases, c.if-count-eq0.false), (within.0, (within.1, (omega (arith, n, c.requires.enough, c.in_ok-right.ensures.count, c.if-count-eq0.false), s))))
+    (omega (arith, c.decreases, c.if-count-le-FULL.false), (within.0, (within.1, (omega (arith, n, c.requires.enough, c.in_ok-right.ensures.count, c.if-count-le-FULL.false), s))))
 
 pub node-requires : goal.node-requires
 node-requires g t c =

@@ -5,8 +5,8 @@ use Rattle.tab_map.proofs.chunk.take.Goals as goal
 
 pub returns-in-Ok : goal.returns-in-Ok
 returns-in-Ok g c =
-    c.remove.ensures.items ∙ has_remove g.met.K.Ord.total c.args.key.now _ _ (subst (λ es. HasAt g.K.Ord.cmp c.args.key.now es c.in-Ok.n) c.deref.ensures.value c.in-Ok.ensures.found) c.requires
+    c.remove.ensures.items ∙ has_remove g.met.K.Ord.total c.args.sought.now _ _ (subst (λ es. HasAt g.K.Ord.cmp c.args.sought.now es c.in-Ok.n) c.deref.ensures.value c.in-Ok.ensures.found) c.requires
 
 pub returns-in-Err : goal.returns-in-Err
 returns-in-Err g c =
-    gap_remove g.K.Ord.cmp c.args.key.now _ _ (subst (λ es. IsGap g.K.Ord.cmp c.args.key.now es c.in-Err.field-0) c.deref.ensures.value c.in-Err.ensures.gap)
+    gap_remove g.K.Ord.cmp c.args.sought.now _ _ (subst (λ es. IsGap g.K.Ord.cmp c.args.sought.now es c.in-Err.field-0) c.deref.ensures.value c.in-Err.ensures.gap)
