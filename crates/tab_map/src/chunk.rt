@@ -10,7 +10,7 @@ use std::cmp::Ordering;
 use tab_key::Abbreviate;
 
 /// The most entries in a row. A search in it touches few lines of memory, and a copy of it is short.
-pub const FULL: usize = 32;
+pub const FULL: usize = 64;
 
 // The number of entries with keys below the key.
 fn count_below<K: Abbreviate + Drop, V: Drop>(items: &[Entry<K, V>], sought: &Sought<K>) -> usize

@@ -1,5 +1,7 @@
 use crate::{Atom, Bytes, Pairs, Term, TermFault, Terms, has_wildcard, matches};
 use std::alloc::{AllocError, Global};
+use std::test::Fail;
+use tab_key::Abbreviate;
 
 /// A term, as few words.
 enum Shape {
@@ -217,4 +219,29 @@ fn patterns_match(rt: HostRuntime) {
         "a wildcard in a map"
     );
     assert_eq!(rt; in_map.depth(), 3);
+}
+
+fn number<K: Abbreviate>(key: &K) -> u64 {
+    key.abbreviated()
+}
+
+// The tag of the spelling, and what comes next.
+#[test]
+fn numbers_of_keys(rt: HostRuntime) -> Result<(), Fail> {
+    let alloc = rt.alloc();
+    for (z, wanted) in [
+        (7i128, 0x0061_0000_0000_0007u64),
+        (256, 0x0062_0000_0000_0100),
+        (-1, 0x0062_0000_ffff_ffff),
+        (1 << 31, 0x006e_0000_0000_0000),
+        (-1 << 80, 0x006e_0000_0000_0000),
+    ] {
+        assert_eq!(rt; number(&Term::Int(z)), wanted, "of {z}");
+    }
+    let name = Atom::from_short_text(alloc, "person")?;
+    assert_eq!(rt; number(&name), 0);
+    assert_eq!(rt; number(&Term::Atom(name)), 0x0077_0000_0000_0006);
+    let tuple = tuple_of(alloc, Term::Int(5))?;
+    assert_eq!(rt; number(&tuple), 0x0068_0000_0000_0001);
+    Ok(())
 }

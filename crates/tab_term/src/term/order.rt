@@ -9,7 +9,8 @@ ghost use Rattle.std.specs.Cmp.{IsTotalOrder};
 ghost use Rattle.std.specs.declared.cmp.Ordering.TheVariants.{Equal};
 ghost use Rattle.std.specs.Cmp.Lexicographic.{slice_cmp};
 ghost use Rattle.std.specs.Int.{w32, cast_unsigned};
-ghost use Rattle.tab_term.specs.Data.{PlainTerm, count, pair_count};
+ghost use Rattle.tab_term.specs.Abbreviations.{weight as weight_of};
+ghost use Rattle.tab_term.specs.Data.{PlainTerm, int, count, pair_count};
 ghost use Rattle.tab_term.specs.View.{term, terms};
 ghost use Rattle.tab_term.specs.Canon.{tag as tag_of, int_tag as int_tag_of, int_contents, list_tag as list_tag_of, all_bytes, is_byte_term as is_byte_term_of, is_byte as is_byte_of, fits_four as fits_four_of, sign_of, magnitude, significant, canon};
 ghost use Rattle.tab_term.specs.Order.{order, members_order, pairs_order};
@@ -18,6 +19,9 @@ use crate::atom::Atom;
 use crate::term::{Pairs, Term, Terms};
 use std::cmp::Ordering;
 use tab_key::Abbreviate;
+
+// A weight takes the low 48 bits of a term's number.
+const WEIGHTS: u64 = 0x1_0000_0000_0000;
 
 fn is_byte(z: i128) -> bool
     ensures { result ≡ is_byte_of z }
@@ -319,15 +323,42 @@ impl PartialOrd for Term {
     }
 }
 
-/// All terms tie.
+fn int_weight(z: i128) -> u64
+    ensures { result ≡ weight_of (int z) }
+{
+    if is_byte(z) {
+        z as u64
+    } else if fits_four(z) {
+        u64::from(four(z))
+    } else {
+        0
+    }
+}
+
+#[tactic(auto, using(crate::proofs::Lists::count_terms, crate::proofs::Lists::count_pairs))]
+fn weight(t: &Term) -> u64
+    ensures { result ≡ weight_of (term t.now) }
+{
+    match t {
+        Term::Int(z) => int_weight(*z),
+        Term::Atom(a) => a.as_str().len() as u64,
+        Term::Tuple(ts) | Term::List(ts) => ts.as_slice().len() as u64,
+        Term::Bin(b) => b.as_slice().len() as u64,
+        Term::Map(ps) => ps.as_slice().len() as u64,
+    }
+}
+
+/// The tag of the spelling, and what comes next where it is short: an integer of up to four bytes, or how many bytes
+/// or elements there are. Integers of more bytes tie, and so do tuples of one size.
 impl Abbreviate for Term {
-    ghost use Rattle.tab_key.specs.Agree.{one_number_agrees};
+    ghost use Rattle.tab_term.specs.View.{term};
+    ghost use Rattle.tab_term.specs.Abbreviations.{number, spelled_less};
 
-    ghost abbreviation = { λ term. 0 };
+    ghost abbreviation = { λ t. number (term t) };
 
-    ghost agrees = { one_number_agrees Self.cmp };
+    ghost agrees = { λ a b h. spelled_less (term a) (term b) h };
 
     fn abbreviated(&self) -> u64 {
-        0
+        u64::from(tag(self)) * WEIGHTS + weight(self).min(WEIGHTS - 1)
     }
 }
