@@ -5,9 +5,9 @@ use Rattle.std.specs.Ordering.{ordering_then}
 use Rattle.std.specs.Int.{w32, cast_unsigned}
 use Rattle.tab_term.specs.Data.{PlainTerm, int, atom, tuple, list, bin, map, count, pair_count}
 use Rattle.tab_term.specs.Canon.{canon, tag, int_tag, int_contents, is_byte, fits_four}
-use Rattle.tab_term.specs.Order.{order, contents_order, members_order, pairs_order}
+use Rattle.tab_term.specs.Order.{bytes_cmp, order, contents_order, members_order, pairs_order}
 use Rattle.tab_term.specs.Numbers.{less_is}
-use Rattle.tab_term.specs.Compare.{bytes_cmp, apart, int_tag_at, lt_is, ge_is}
+use Rattle.tab_term.specs.Compare.{apart, int_tag_at, lt_is, ge_is}
 use Rattle.tab_term.specs.OrderLaws.{order_is, at_one_tag, bytes_at, fours_at}
 
 -- an integer by whether a byte, or four, hold it
