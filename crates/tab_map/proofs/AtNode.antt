@@ -1,28 +1,17 @@
--- What is known of a map's entries d once its root is a node.
+-- Entries d as those of a node: some entries, an entry, and the rest.
 use Rattle.std.proofs.Common.{◌≡◌, List, ◌∷◌, ◌++◌, refl, sym, ap, ◌∙◌, subst, Some, Result, IfOk, OnOk}
 use Rattle.std.proofs.lemmas.Result.{on_ok_weaker}
 use Rattle.std.specs.declared.cmp.Ordering.{Ordering}
 use Rattle.std.specs.declared.cmp.Ordering.TheVariants.{Less, Equal, Greater}
 use Rattle.std.specs.Cmp.{IsTotalOrder}
 use Rattle.tab_map.specs.Entries.{lookup, insert_entry, remove_entry, entries_from, entries_above, Ascends}
-use Rattle.tab_map.specs.InOrder.{entries}
-use Rattle.tab_map.specs.declared.Tree.{Tree}
-use Rattle.tab_map.specs.declared.Tree.TheVariants.{Node}
 use Rattle.tab_map.proofs.Order.{lookup_left, lookup_later, from_left, from_later, above_left, above_later, insert_left, insert_later, ascends_insert, remove_left, remove_later, ascends_remove}
 
 pub record IsNode {K V : Type 0} (cmp : K → K → Ordering) (d l : List (K × V)) (e : K × V) (r : List (K × V)) : Type 0 where
   pub is : d ≡ l ++ e ∷ r
   pub sorted : Ascends cmp (l ++ e ∷ r)
 
-module _ {K V : Type 0} where
-  pub is_node : (cmp : K → K → Ordering) {root : Tree K V} {d : List (K × V)} {f : _} → entries root ≡ d → Ascends cmp (entries root) → root ≡ Node f → IsNode cmp d f.value.left f.value.entry f.value.right
-  is_node cmp {root} {d} {f} view_is sorted is = record { is = sym view_is ∙ ap entries is; sorted = subst (Ascends cmp) (ap entries is) sorted }
-
 module _ {K V : Type 0} {cmp : K → K → Ordering} where
-  -- a copy of the node
-  pub same_node : {d l r l' r' : List (K × V)} {e e' : K × V} → IsNode cmp d l e r → l' ≡ l → e' ≡ e → r' ≡ r → IsNode cmp d l' e' r'
-  same_node {d} {l} {r} {l'} {r'} {e} {e'} f p q s = subst (λ z. IsNode cmp d z e' r') (sym p) (subst (λ z. IsNode cmp d l z r') (sym q) (subst (λ z. IsNode cmp d l e z) (sym s) f))
-
   pub is_at : (l : List (K × V)) (e : K × V) (r : List (K × V)) → Ascends cmp (l ++ e ∷ r) → IsNode cmp (l ++ e ∷ r) l e r
   is_at l e r s = record { is = refl; sorted = s }
 

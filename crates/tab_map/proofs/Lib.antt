@@ -1,6 +1,11 @@
+pub mod Crossing
+pub mod Halves
+pub mod AtChild
 pub mod Order
 pub mod AtNode
 pub mod Left
 pub mod OfKeys
 pub mod Taken
 pub mod Places
+pub mod NodeReads
+pub mod Merged

@@ -65,15 +65,15 @@ module _ {K V : Type 0} {cmp : K → K → Ordering} (o : IsTotalOrder cmp) wher
 
 -- at the seam of two rows
 module _ {A : Type 0} where
-  get_seam : (l m : List A) → slice_get (l ++ m) (length l) ≡ slice_get m 0
+  pub get_seam : (l m : List A) → slice_get (l ++ m) (length l) ≡ slice_get m 0
   get_seam [] m = refl
   get_seam (x ∷ l) m = get_seam l m
 
-  get_next : (l : List A) (e : A) (m : List A) → slice_get (l ++ e ∷ m) (suc (length l)) ≡ slice_get m 0
+  pub get_next : (l : List A) (e : A) (m : List A) → slice_get (l ++ e ∷ m) (suc (length l)) ≡ slice_get m 0
   get_next [] e m = refl
   get_next (x ∷ l) e m = get_next l e m
 
-  set_seam : (l : List A) (e : A) (m : List A) (x : A) → slice_set (l ++ e ∷ m) (length l) x ≡ l ++ x ∷ m
+  pub set_seam : (l : List A) (e : A) (m : List A) (x : A) → slice_set (l ++ e ∷ m) (length l) x ≡ l ++ x ∷ m
   set_seam [] e m x = refl
   set_seam (y ∷ l) e m x = ap (λ z. y ∷ z) (set_seam l e m x)
 
@@ -81,7 +81,7 @@ module _ {A : Type 0} where
   drop_next [] e m = refl
   drop_next (x ∷ l) e m = drop_next l e m
 
-  head_is : (m : List A) (e : A) → slice_get m 0 ≡ Some e → (r : List A) × (m ≡ e ∷ r)
+  pub head_is : (m : List A) (e : A) → slice_get m 0 ≡ Some e → (r : List A) × (m ≡ e ∷ r)
   head_is [] e p = absurd (cc)
   head_is (x ∷ m) e p = let q : x ≡ e = cc in (m, ap (λ z. z ∷ m) q)
 

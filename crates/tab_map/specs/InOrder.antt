@@ -1,15 +1,27 @@
 -- What the parts of a map are seen as.
-use Rattle.std.specs.Prelude.{List, [], ◌∷◌, ◌++◌, Option, None, Some}
+use Rattle.std.specs.Prelude.{ℕ, ◌≤◌, List, [], ◌∷◌, ◌++◌, Option, None, Some, length}
 use Rattle.std.specs.declared.cmp.Ordering.{Ordering}
 use Rattle.tab_map.specs.Entries.{entries_above}
+use Rattle.tab_map.specs.declared.Branch.{Branch}
 use Rattle.tab_map.specs.declared.Tree.{Tree}
-use Rattle.tab_map.specs.declared.Tree.TheVariants.{Leaf, Chunk, Node}
+use Rattle.tab_map.specs.declared.Tree.TheVariants.{Empty, Leaf, Node}
 
--- the entries of a binary search tree, in order
+-- the entries of branches and of what is below them, in order
+abbrev pub spread : {K V : Type 0} → List (Branch K V) → List (K × V)
+spread [] = []
+spread (b ∷ bs) = b.below ++ b.entry ∷ spread bs
+
+-- the entries of a B-tree, in order
 abbrev pub entries : {K V : Type 0} → Tree K V → List (K × V)
-entries Leaf = []
-entries (Chunk c) = c.value.items
-entries (Node n) = n.value.left ++ n.value.entry ∷ n.value.right
+entries Empty = []
+entries (Leaf c) = c.value.items
+entries (Node n) = spread n.value.branches.items ++ n.value.last
+
+-- a node has a branch
+abbrev pub HasBranch : {K V : Type 0} → Tree K V → Type 0
+HasBranch Empty = Unit {0}
+HasBranch (Leaf c) = Unit {0}
+HasBranch (Node n) = 1 ≤ length n.value.branches.items
 
 -- what an iterator over es has left, whose next entry is given
 abbrev pub entries_left : {K V : Type 0} → (K → K → Ordering) → List (K × V) → Option (K × V) → List (K × V)

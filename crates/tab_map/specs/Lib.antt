@@ -1,4 +1,6 @@
+pub mod Branches
 pub mod Entries
 pub mod InOrder
 pub mod KeyList
 pub mod Places
+pub mod TreeFalls

@@ -10,7 +10,7 @@ use std::cmp::Ordering;
 use tab_key::Abbreviate;
 
 /// The most entries in a row. A search in it touches few lines of memory, and a copy of it is short.
-pub const FULL: usize = 64;
+pub const FULL: usize = 32;
 
 // The number of entries with keys below the key.
 fn count_below<K: Abbreviate + Drop, V: Drop>(items: &[Entry<K, V>], sought: &Sought<K>) -> usize
@@ -129,7 +129,7 @@ pub fn copied<K: Abbreviate + Drop, V: Drop>(
 ) -> Result<Vec<Entry<K, V>>, AllocError>
     ensures { IfOk result (λ copies. copies.items ≡ items.now) }
 {
-    let mut copies = Vec::with_capacity(alloc, items.len())?;
+    let mut copies = Vec::with_capacity(alloc, items.len().saturating_add(1))?;
     for item in items {
         copies.push(item.try_clone()?)?;
     }

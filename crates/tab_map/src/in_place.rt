@@ -1,11 +1,12 @@
 //! Changes in place: a node that no other map shares is written, and one that is shared is copied first.
-ghost use Rattle.std.specs.Prelude.{◌≡◌, ◌∷◌, ◌++◌, [], IfOk, OnOk, OnErr};
+ghost use Rattle.std.specs.Prelude.{◌≤◌, length, ◌≡◌, ◌∷◌, ◌++◌, [], IfOk, OnOk, OnErr};
 ghost use Rattle.tab_map.specs.Entries.{Ascends, insert_entry, remove_entry};
+ghost use Rattle.tab_map.specs.InOrder.{spread};
 
 use crate::entry::{Entry, Sought};
-use crate::{Map, Node, Tree, chunk};
+use crate::{Map, Node, Tree, branches, chunk};
 use std::alloc::{AllocError, Global};
-use std::cmp::Ordering;
+use std::mem;
 use std::sync::Arc;
 use tab_key::Abbreviate;
 
@@ -18,6 +19,7 @@ impl<K: Abbreviate + Drop, V: Drop> Map<K, V> {
     {
         let entry = Entry::new(alloc, (key, value))?;
         self.put(alloc, entry)?;
+        self.grow(alloc);
         Ok(())
     }
 
@@ -26,127 +28,107 @@ impl<K: Abbreviate + Drop, V: Drop> Map<K, V> {
         ensures ok { OnOk result (self.new ≡ remove_entry K.cmp key.now self.old) }
         ensures err { OnErr result (self.new ≡ self.old) }
     {
-        self.take(alloc, &Sought::new(key))?;
-        Ok(())
+        self.take(alloc, &Sought::new(key))
     }
 
-    // The answer is whether the height has changed, as it is of `take`.
     #[cycle(put)]
-    fn put(&mut self, alloc: Global, entry: Entry<K, V>) -> Result<bool, AllocError>
+    fn put(&mut self, alloc: Global, entry: Entry<K, V>) -> Result<(), AllocError>
         ensures ok { OnOk result (self.new ≡ insert_entry K.cmp entry self.old) }
         ensures err { OnErr result (self.new ≡ self.old) }
     {
-        let before = self.height();
         match &mut self.root {
-            Tree::Leaf => {
+            Tree::Empty => {
                 let mut items = Vec::new(alloc);
                 items.push(entry)?;
-                self.root = Tree::Chunk(Arc::new(alloc, items)?);
-                Ok(false)
+                self.root = Tree::Leaf(Arc::new(alloc, items)?);
             }
-            Tree::Chunk(items) => {
-                Map::put_in_row(alloc, items, entry)?;
-                self.halve(alloc);
-                Ok(self.height() != before)
-            }
+            Tree::Leaf(items) => Map::put_in_row(alloc, items, entry)?,
             Tree::Node(node) => {
                 Map::own(alloc, node)?;
                 let Some(node) = Arc::get_mut(node) else {
                     return Err(AllocError);
                 };
-                if Map::put_under(alloc, node, entry)? {
-                    self.rebalance(alloc);
-                }
-                Ok(self.height() != before)
+                Map::put_under(alloc, node, entry)?;
             }
         }
+        Ok(())
     }
 
-    // The answer is whether the height of a child has changed, as it is of `take_under`.
     #[cycle(put)]
-    fn put_under(
-        alloc: Global,
-        node: &mut Node<K, V>,
-        entry: Entry<K, V>,
-    ) -> Result<bool, AllocError>
-        requires { Ascends K.cmp (node.old.left ++ node.old.entry ∷ node.old.right) }
-        ensures ok { OnOk result (node.new.left ++ node.new.entry ∷ node.new.right ≡ insert_entry K.cmp entry (node.old.left ++ node.old.entry ∷ node.old.right)) }
-        ensures err { OnErr result (node.new.left ++ node.new.entry ∷ node.new.right ≡ node.old.left ++ node.old.entry ∷ node.old.right) }
+    fn put_under(alloc: Global, node: &mut Node<K, V>, entry: Entry<K, V>) -> Result<(), AllocError>
+        requires { Ascends K.cmp (spread node.old.branches.items ++ node.old.last) }
+        ensures ok { OnOk result (spread node.new.branches.items ++ node.new.last ≡ insert_entry K.cmp entry (spread node.old.branches.items ++ node.old.last)) }
+        ensures err { OnErr result (spread node.new.branches.items ++ node.new.last ≡ spread node.old.branches.items ++ node.old.last) }
+        ensures kept { length node.old.branches.items ≤ length node.new.branches.items }
     {
-        let side = entry.sought().order(&node.entry);
-        match side {
-            Ordering::Less => node.left.put(alloc, entry),
-            Ordering::Equal => {
-                node.entry = entry;
-                Ok(false)
+        let found = branches::place(&node.branches, &entry.sought());
+        match found {
+            Ok(n) => {
+                node.branches[n].entry = entry;
+                Ok(())
             }
-            Ordering::Greater => node.right.put(alloc, entry),
+            Err(n) => match node.branches.get_mut(n) {
+                Some(branch) => {
+                    branch.below.put(alloc, entry)?;
+                    node.split(alloc, n);
+                    Ok(())
+                }
+                None => {
+                    node.last.put(alloc, entry)?;
+                    node.split(alloc, n);
+                    Ok(())
+                }
+            },
         }
     }
 
-    fn take(&mut self, alloc: Global, sought: &Sought<K>) -> Result<bool, AllocError>
+    #[cycle(take)]
+    fn take(&mut self, alloc: Global, sought: &Sought<K>) -> Result<(), AllocError>
         ensures ok { OnOk result (self.new ≡ remove_entry K.cmp sought.now self.old) }
         ensures err { OnErr result (self.new ≡ self.old) }
     {
-        let before = self.height();
         match &mut self.root {
-            Tree::Leaf => return Ok(false),
-            Tree::Chunk(items) => {
-                Map::take_in_row(alloc, items, sought)?;
-                return Ok(false);
-            }
+            Tree::Empty => (),
+            Tree::Leaf(items) => Map::take_in_row(alloc, items, sought)?,
             Tree::Node(node) => {
                 Map::own(alloc, node)?;
                 let Some(node) = Arc::get_mut(node) else {
                     return Err(AllocError);
                 };
-                match sought.order(&node.entry) {
-                    Ordering::Less => {
-                        if node.left.take(alloc, sought)? {
-                            self.rebalance(alloc);
-                        }
-                    }
-                    Ordering::Equal => *self = Map::joined(alloc, &node.left, &node.right)?,
-                    Ordering::Greater => {
-                        if node.right.take(alloc, sought)? {
-                            self.rebalance(alloc);
-                        }
-                    }
+                Map::take_under(alloc, node, sought)?;
+                if node.branches.is_empty() {
+                    self.root = mem::replace(&mut node.last.root, Tree::Empty);
                 }
             }
         }
-        Ok(self.height() != before)
+        Ok(())
     }
 
-    // The same entries, where the height of one side has changed by one. It is left less balanced where memory for
-    // a rotation is refused.
-    fn rebalance(&mut self, alloc: Global)
-        ensures { self.new ≡ self.old }
+    #[cycle(take)]
+    fn take_under(
+        alloc: Global,
+        node: &mut Node<K, V>,
+        sought: &Sought<K>,
+    ) -> Result<(), AllocError>
+        requires { Ascends K.cmp (spread node.old.branches.items ++ node.old.last) }
+        ensures ok { OnOk result (spread node.new.branches.items ++ node.new.last ≡ remove_entry K.cmp sought.now (spread node.old.branches.items ++ node.old.last)) }
+        ensures err { OnErr result (spread node.new.branches.items ++ node.new.last ≡ spread node.old.branches.items ++ node.old.last) }
+        ensures kept { OnErr result (length node.old.branches.items ≤ length node.new.branches.items) }
     {
-        let Tree::Node(node) = &mut self.root else {
-            return;
-        };
-        let (left, right) = (node.left.height(), node.right.height());
-        if left.abs_diff(right) > 1 {
-            if let Ok(rotated) = self.rotated(alloc) {
-                *self = rotated;
-            }
-        } else if let Some(node) = Arc::get_mut(node) {
-            node.height = left.max(right).saturating_add(1);
-        }
-    }
-
-    fn rotated(&self, alloc: Global) -> Result<Map<K, V>, AllocError>
-        ensures { IfOk result (λ m. m ≡ self.now) }
-    {
-        match &self.root {
-            Tree::Leaf | Tree::Chunk(_) => self.share(),
-            Tree::Node(node) => Map::balanced(
-                alloc,
-                node.left.share()?,
-                node.entry.try_clone()?,
-                node.right.share()?,
-            ),
+        match branches::place(&node.branches, sought) {
+            Ok(n) => node.take_at(alloc, n),
+            Err(n) => match node.branches.get_mut(n) {
+                Some(branch) => {
+                    branch.below.take(alloc, sought)?;
+                    node.merge(alloc, n);
+                    Ok(())
+                }
+                None => {
+                    node.last.take(alloc, sought)?;
+                    node.merge(alloc, n);
+                    Ok(())
+                }
+            },
         }
     }
 
@@ -183,59 +165,10 @@ impl<K: Abbreviate + Drop, V: Drop> Map<K, V> {
         Ok(())
     }
 
-    pub(crate) fn put_in_copy(
-        &self,
+    pub(crate) fn own_items(
         alloc: Global,
-        entry: Entry<K, V>,
-    ) -> Result<Map<K, V>, AllocError>
-        ensures { IfOk result (λ m. m ≡ insert_entry K.cmp entry self.now) }
-    {
-        let mut map = self.share()?;
-        map.put(alloc, entry)?;
-        Ok(map)
-    }
-
-    pub(crate) fn take_in_copy(
-        &self,
-        alloc: Global,
-        sought: &Sought<K>,
-    ) -> Result<Map<K, V>, AllocError>
-        ensures { IfOk result (λ m. m ≡ remove_entry K.cmp sought.now self.now) }
-    {
-        let mut map = self.share()?;
-        map.take(alloc, sought)?;
-        Ok(map)
-    }
-
-    // The same entries, where a row that is too long becomes a node between two rows. It stays long where memory for
-    // that is refused.
-    fn halve(&mut self, alloc: Global)
-        ensures { self.new ≡ self.old }
-    {
-        let Tree::Chunk(items) = &self.root else {
-            return;
-        };
-        if items.len() > chunk::FULL {
-            if let Ok(halves) = Map::halves(alloc, items.as_slice()) {
-                *self = halves;
-            }
-        }
-    }
-
-    fn halves(alloc: Global, items: &[Entry<K, V>]) -> Result<Map<K, V>, AllocError>
-        requires { Ascends K.cmp items.now }
-        ensures { IfOk result (λ m. m ≡ items.now) }
-    {
-        let (left, rest) = items.split_at(items.len() / 2);
-        let [middle, right @ ..] = rest else {
-            return Map::row(alloc, items);
-        };
-        let left = Map::row(alloc, left)?;
-        let right = Map::row(alloc, right)?;
-        Map::node(alloc, left, middle.try_clone()?, right)
-    }
-
-    fn own_items(alloc: Global, items: &mut Arc<Vec<Entry<K, V>>, Global>) -> Result<(), AllocError>
+        items: &mut Arc<Vec<Entry<K, V>>, Global>,
+    ) -> Result<(), AllocError>
         ensures { items.new.value.items ≡ items.old.value.items }
     {
         if Arc::strong_count(items) == 1 {
@@ -247,19 +180,16 @@ impl<K: Abbreviate + Drop, V: Drop> Map<K, V> {
     }
 
     // The same node, copied where it is shared.
-    fn own(alloc: Global, node: &mut Arc<Node<K, V>, Global>) -> Result<(), AllocError>
-        ensures left { node.new.value.left ≡ node.old.value.left }
-        ensures entry { node.new.value.entry ≡ node.old.value.entry }
-        ensures right { node.new.value.right ≡ node.old.value.right }
+    pub(crate) fn own(alloc: Global, node: &mut Arc<Node<K, V>, Global>) -> Result<(), AllocError>
+        ensures branches { node.new.value.branches.items ≡ node.old.value.branches.items }
+        ensures last { node.new.value.last ≡ node.old.value.last }
     {
         if Arc::strong_count(node) == 1 {
             return Ok(());
         }
         let copy = Node {
-            left: node.left.share()?,
-            entry: node.entry.try_clone()?,
-            height: node.height,
-            right: node.right.share()?,
+            branches: branches::copied(alloc, &node.branches)?,
+            last: node.last.share()?,
         };
         *node = Arc::new(alloc, copy)?;
         Ok(())

@@ -1,10 +1,10 @@
 //! An ordered map that shares its nodes with its copies, so that a copy takes constant time.
 //!
-//! A map is an AVL tree (Adelson-Velsky and Landis, 1962) whose nodes stand behind `Arc`, and whose leaves hold rows
-//! of a few dozen entries. Contracts see it as the list of its entries in the order of their keys. A change takes
-//! O(log n) time and memory. `inserted` and `removed` leave the old map as it was; `insert` and `remove` write the
-//! nodes that no other map shares, and copy the others. Where an allocation is refused, nothing has changed. The
-//! heights of the tree keep it balanced; no contract speaks of them.
+//! A map is a B-tree (Bayer and McCreight, 1972) whose nodes stand behind `Arc`. Contracts see it as the list of its
+//! entries in the order of their keys. A change takes O(log n) time and memory. `inserted` and `removed` leave the old
+//! map as it was; `insert` and `remove` write the nodes that no other map shares, and copy the others. Where an
+//! allocation is refused, nothing has changed. Nodes that are too long are split, and neighbours that fit one node are
+//! merged; no contract speaks of lengths or heights.
 //!
 //! A map does not count its entries: the type that holds one keeps the number beside it, where it needs one.
 #![tactic(auto)]
@@ -13,11 +13,14 @@ ghost use Rattle.std.specs.Prelude.{◌≡◌, ◌↔◌, ◌≤◌, [], ◌∷�
 ghost use Rattle.std.specs.Option.{option_copied};
 ghost use Rattle.tab_map.specs.Entries.{Ascends, lookup, insert_entry, remove_entry, entries_from, entries_above};
 
+mod branches;
 mod chunk;
 mod entry;
 mod in_place;
 mod iter;
+mod merge;
 mod set;
+mod split;
 #[cfg(test)]
 mod tests;
 
@@ -25,7 +28,6 @@ use entry::{Entry, Sought};
 pub use iter::Iter;
 pub use set::{Keys, Set};
 use std::alloc::{AllocError, Global};
-use std::cmp::Ordering;
 use std::marker::Model;
 use std::sync::Arc;
 use tab_key::Abbreviate;
@@ -39,18 +41,24 @@ pub struct Map<K: Abbreviate, V> {
 #[cycle(tree)]
 #[derive(Drop)]
 enum Tree<K: Abbreviate, V> {
-    Leaf,
-    Chunk(Arc<Vec<Entry<K, V>>, Global>),
+    Empty,
+    Leaf(Arc<Vec<Entry<K, V>>, Global>),
     Node(Arc<Node<K, V>, Global>),
 }
 
 #[cycle(tree)]
 #[derive(Drop)]
 struct Node<K: Abbreviate, V> {
-    left: Map<K, V>,
+    branches: Vec<Branch<K, V>>,
+    last: Map<K, V>,
+}
+
+/// An entry of a node, and the map of the entries between it and the branch before.
+#[cycle(tree)]
+#[derive(Drop)]
+struct Branch<K: Abbreviate, V> {
+    below: Map<K, V>,
     entry: Entry<K, V>,
-    height: u8,
-    right: Map<K, V>,
 }
 
 impl<K: Abbreviate, V> Model for Map<K, V> {
@@ -59,17 +67,17 @@ impl<K: Abbreviate, V> Model for Map<K, V> {
     ghost Value = { List (K × V) };
 
     ghost use Rattle.tab_map.specs.Entries.{Ascends};
-    ghost use Rattle.tab_map.specs.InOrder.{entries};
+    ghost use Rattle.tab_map.specs.InOrder.{entries, HasBranch};
 
     ghost view = { λ a. entries a.root };
 
-    ghost invariant = { λ a. Ascends K.cmp (entries a.root) };
+    ghost invariant = { λ a. Ascends K.cmp (entries a.root) × HasBranch a.root };
 
     ghost size = { length };
 
-    ghost use Rattle.std.proofs.Common.{arith, length-append};
+    ghost use Rattle.tab_map.specs.TreeFalls.{falls};
 
-    ghost size_decreases = { λ a h. Prim.grind (arith, length-append) };
+    ghost size_decreases = { λ a h. falls K.Abbreviate K.Ord K.PartialEq K.PartialOrd a.root h.1 };
 }
 
 impl<K: Abbreviate + Drop, V: Drop> Drop for Map<K, V> {
@@ -85,7 +93,7 @@ impl<K: Abbreviate + Drop, V: Drop> Map<K, V> {
     pub fn new() -> Map<K, V>
         ensures { result ≡ [] }
     {
-        Map { root: Tree::Leaf }
+        Map { root: Tree::Empty }
     }
 
     /// The map of entries that stand in the order of their keys, in O(n).
@@ -115,8 +123,20 @@ impl<K: Abbreviate + Drop, V: Drop> Map<K, V> {
         let Some(entry) = entries.pop() else {
             unreachable!()
         };
-        let left = Map::from_last(alloc, entries, (count - 1) / 2)?;
-        Map::node(alloc, left, Entry::new(alloc, entry)?, right)
+        let below = Map::from_last(alloc, entries, (count - 1) / 2)?;
+        let entry = Entry::new(alloc, entry)?;
+        Map::node(alloc, Branch { below, entry }, right)
+    }
+
+    fn node(alloc: Global, branch: Branch<K, V>, last: Map<K, V>) -> Result<Map<K, V>, AllocError>
+        requires { Ascends K.cmp (branch.below ++ branch.entry ∷ last) }
+        ensures { IfOk result (λ m. m ≡ branch.below ++ branch.entry ∷ last) }
+    {
+        let mut branches = Vec::new(alloc);
+        branches.push(branch)?;
+        Ok(Map {
+            root: Tree::Node(Arc::new(alloc, Node { branches, last })?),
+        })
     }
 
     // Takes the last `count` entries, without nodes.
@@ -133,7 +153,7 @@ impl<K: Abbreviate + Drop, V: Drop> Map<K, V> {
         let last = entries.split_off(entries.len() - count)?;
         let items = chunk::of_pairs(alloc, last)?;
         Ok(Map {
-            root: Tree::Chunk(Arc::new(alloc, items)?),
+            root: Tree::Leaf(Arc::new(alloc, items)?),
         })
     }
 
@@ -142,9 +162,9 @@ impl<K: Abbreviate + Drop, V: Drop> Map<K, V> {
         ensures { IfOk result (λ m. m ≡ self.now) }
     {
         match &self.root {
-            Tree::Leaf => Ok(Map::new()),
-            Tree::Chunk(items) => Ok(Map {
-                root: Tree::Chunk(Arc::try_clone(items)?),
+            Tree::Empty => Ok(Map::new()),
+            Tree::Leaf(items) => Ok(Map {
+                root: Tree::Leaf(Arc::try_clone(items)?),
             }),
             Tree::Node(node) => Ok(Map {
                 root: Tree::Node(Arc::try_clone(node)?),
@@ -157,8 +177,8 @@ impl<K: Abbreviate + Drop, V: Drop> Map<K, V> {
         ensures ascends { Ascends K.cmp self.now }
     {
         match &self.root {
-            Tree::Leaf => true,
-            Tree::Chunk(items) => items.is_empty(),
+            Tree::Empty => true,
+            Tree::Leaf(items) => items.is_empty(),
             Tree::Node(_) => false,
         }
     }
@@ -176,12 +196,14 @@ impl<K: Abbreviate + Drop, V: Drop> Map<K, V> {
         ensures ascends { Ascends K.cmp self.now }
     {
         match &self.root {
-            Tree::Leaf => None,
-            Tree::Chunk(items) => chunk::get(items.as_slice(), sought),
-            Tree::Node(node) => match sought.order(&node.entry) {
-                Ordering::Less => node.left.find(sought),
-                Ordering::Equal => Some(&node.entry.pair().1),
-                Ordering::Greater => node.right.find(sought),
+            Tree::Empty => None,
+            Tree::Leaf(items) => chunk::get(items.as_slice(), sought),
+            Tree::Node(node) => match branches::place(&node.branches, sought) {
+                Ok(n) => Some(&node.branches[n].entry.pair().1),
+                Err(n) => match node.branches.get(n) {
+                    Some(branch) => branch.below.find(sought),
+                    None => node.last.find(sought),
+                },
             },
         }
     }
@@ -199,11 +221,14 @@ impl<K: Abbreviate + Drop, V: Drop> Map<K, V> {
         ensures ascends { Ascends K.cmp self.now }
     {
         match &self.root {
-            Tree::Leaf => None,
-            Tree::Chunk(items) => chunk::pair_at(items.as_slice(), 0),
-            Tree::Node(node) => match node.left.first() {
-                None => Some(node.entry.pair()),
-                found => found,
+            Tree::Empty => None,
+            Tree::Leaf(items) => chunk::pair_at(items.as_slice(), 0),
+            Tree::Node(node) => match node.branches.as_slice() {
+                [] => None,
+                [branch, ..] => match branch.below.first() {
+                    None => Some(branch.entry.pair()),
+                    found => found,
+                },
             },
         }
     }
@@ -221,15 +246,17 @@ impl<K: Abbreviate + Drop, V: Drop> Map<K, V> {
         ensures ascends { Ascends K.cmp self.now }
     {
         match &self.root {
-            Tree::Leaf => None,
-            Tree::Chunk(items) => chunk::first_from(items.as_slice(), sought),
-            Tree::Node(node) => match sought.order(&node.entry) {
-                Ordering::Less => match node.left.next_from(sought) {
-                    None => Some(node.entry.pair()),
-                    found => found,
+            Tree::Empty => None,
+            Tree::Leaf(items) => chunk::first_from(items.as_slice(), sought),
+            Tree::Node(node) => match branches::place(&node.branches, sought) {
+                Ok(n) => Some(node.branches[n].entry.pair()),
+                Err(n) => match node.branches.get(n) {
+                    Some(branch) => match branch.below.next_from(sought) {
+                        None => Some(branch.entry.pair()),
+                        found => found,
+                    },
+                    None => node.last.next_from(sought),
                 },
-                Ordering::Equal => Some(node.entry.pair()),
-                Ordering::Greater => node.right.next_from(sought),
             },
         }
     }
@@ -247,283 +274,42 @@ impl<K: Abbreviate + Drop, V: Drop> Map<K, V> {
         ensures ascends { Ascends K.cmp self.now }
     {
         match &self.root {
-            Tree::Leaf => None,
-            Tree::Chunk(items) => chunk::first_above(items.as_slice(), sought),
-            Tree::Node(node) => match sought.order(&node.entry) {
-                Ordering::Less => match node.left.next_above(sought) {
-                    None => Some(node.entry.pair()),
-                    found => found,
+            Tree::Empty => None,
+            Tree::Leaf(items) => chunk::first_above(items.as_slice(), sought),
+            Tree::Node(node) => match branches::place(&node.branches, sought) {
+                Ok(n) => match node.branches.get(n + 1) {
+                    Some(branch) => match branch.below.first() {
+                        None => Some(branch.entry.pair()),
+                        found => found,
+                    },
+                    None => node.last.first(),
                 },
-                Ordering::Equal => node.right.first(),
-                Ordering::Greater => node.right.next_above(sought),
+                Err(n) => match node.branches.get(n) {
+                    Some(branch) => match branch.below.next_above(sought) {
+                        None => Some(branch.entry.pair()),
+                        found => found,
+                    },
+                    None => node.last.next_above(sought),
+                },
             },
         }
-    }
-
-    fn height(&self) -> u8 {
-        match &self.root {
-            Tree::Leaf | Tree::Chunk(_) => 0,
-            Tree::Node(node) => node.height,
-        }
-    }
-
-    fn node(
-        alloc: Global,
-        left: Map<K, V>,
-        entry: Entry<K, V>,
-        right: Map<K, V>,
-    ) -> Result<Map<K, V>, AllocError>
-        requires { Ascends K.cmp (left ++ entry ∷ right) }
-        ensures { IfOk result (λ m. m ≡ left ++ entry ∷ right) }
-    {
-        let height = left.height().max(right.height()).saturating_add(1);
-        let node = Arc::new(
-            alloc,
-            Node {
-                left,
-                entry,
-                height,
-                right,
-            },
-        )?;
-        Ok(Map {
-            root: Tree::Node(node),
-        })
-    }
-
-    // A map without nodes.
-    fn row(alloc: Global, items: &[Entry<K, V>]) -> Result<Map<K, V>, AllocError>
-        requires { Ascends K.cmp items.now }
-        ensures { IfOk result (λ m. m ≡ items.now) }
-    {
-        let copies = chunk::copied(alloc, items)?;
-        Ok(Map {
-            root: Tree::Chunk(Arc::new(alloc, copies)?),
-        })
-    }
-
-    // The same entries, where one side may be two levels higher than the other. No clause speaks of heights.
-    fn balanced(
-        alloc: Global,
-        left: Map<K, V>,
-        entry: Entry<K, V>,
-        right: Map<K, V>,
-    ) -> Result<Map<K, V>, AllocError>
-        requires { Ascends K.cmp (left ++ entry ∷ right) }
-        ensures { IfOk result (λ m. m ≡ left ++ entry ∷ right) }
-    {
-        if left.height() > right.height().saturating_add(1) {
-            Map::lean_left(alloc, left, entry, right)
-        } else if right.height() > left.height().saturating_add(1) {
-            Map::lean_right(alloc, left, entry, right)
-        } else {
-            Map::node(alloc, left, entry, right)
-        }
-    }
-
-    fn lean_left(
-        alloc: Global,
-        left: Map<K, V>,
-        entry: Entry<K, V>,
-        right: Map<K, V>,
-    ) -> Result<Map<K, V>, AllocError>
-        requires { Ascends K.cmp (left ++ entry ∷ right) }
-        ensures { IfOk result (λ m. m ≡ left ++ entry ∷ right) }
-    {
-        let Tree::Node(outer) = &left.root else {
-            return Map::node(alloc, left, entry, right);
-        };
-        let inner = &outer.right;
-        match &inner.root {
-            Tree::Node(middle) if outer.left.height() < middle.height => Map::double_left(
-                alloc, outer, middle, entry, right,
-            ),
-            _ => Map::single_left(alloc, outer, entry, right),
-        }
-    }
-
-    fn lean_right(
-        alloc: Global,
-        left: Map<K, V>,
-        entry: Entry<K, V>,
-        right: Map<K, V>,
-    ) -> Result<Map<K, V>, AllocError>
-        requires { Ascends K.cmp (left ++ entry ∷ right) }
-        ensures { IfOk result (λ m. m ≡ left ++ entry ∷ right) }
-    {
-        let Tree::Node(outer) = &right.root else {
-            return Map::node(alloc, left, entry, right);
-        };
-        let inner = &outer.left;
-        match &inner.root {
-            Tree::Node(middle) if outer.right.height() < middle.height => Map::double_right(
-                alloc, left, entry, outer, middle,
-            ),
-            _ => Map::single_right(alloc, left, entry, outer),
-        }
-    }
-
-    fn single_right(
-        alloc: Global,
-        left: Map<K, V>,
-        entry: Entry<K, V>,
-        outer: &Node<K, V>,
-    ) -> Result<Map<K, V>, AllocError>
-        requires { Ascends K.cmp (left ++ entry ∷ (outer.now.left ++ outer.now.entry ∷ outer.now.right)) }
-        ensures { IfOk result (λ m. m ≡ left ++ entry ∷ (outer.now.left ++ outer.now.entry ∷ outer.now.right)) }
-    {
-        let left = Map::node(alloc, left, entry, outer.left.share()?)?;
-        Map::node(alloc, left, outer.entry.try_clone()?, outer.right.share()?)
-    }
-
-    fn double_right(
-        alloc: Global,
-        left: Map<K, V>,
-        entry: Entry<K, V>,
-        outer: &Node<K, V>,
-        middle: &Node<K, V>,
-    ) -> Result<Map<K, V>, AllocError>
-        requires { Ascends K.cmp (left ++ entry ∷ (middle.now.left ++ middle.now.entry ∷ (middle.now.right ++ outer.now.entry ∷ outer.now.right))) }
-        ensures { IfOk result (λ m. m ≡ left ++ entry ∷ (middle.now.left ++ middle.now.entry ∷ (middle.now.right ++ outer.now.entry ∷ outer.now.right))) }
-    {
-        let right = Map::node(
-            alloc,
-            middle.right.share()?,
-            outer.entry.try_clone()?,
-            outer.right.share()?,
-        )?;
-        let left = Map::node(alloc, left, entry, middle.left.share()?)?;
-        Map::node(alloc, left, middle.entry.try_clone()?, right)
-    }
-
-    fn single_left(
-        alloc: Global,
-        outer: &Node<K, V>,
-        entry: Entry<K, V>,
-        right: Map<K, V>,
-    ) -> Result<Map<K, V>, AllocError>
-        requires { Ascends K.cmp (outer.now.left ++ outer.now.entry ∷ (outer.now.right ++ entry ∷ right)) }
-        ensures { IfOk result (λ m. m ≡ outer.now.left ++ outer.now.entry ∷ (outer.now.right ++ entry ∷ right)) }
-    {
-        let right = Map::node(alloc, outer.right.share()?, entry, right)?;
-        Map::node(alloc, outer.left.share()?, outer.entry.try_clone()?, right)
-    }
-
-    fn double_left(
-        alloc: Global,
-        outer: &Node<K, V>,
-        middle: &Node<K, V>,
-        entry: Entry<K, V>,
-        right: Map<K, V>,
-    ) -> Result<Map<K, V>, AllocError>
-        requires { Ascends K.cmp (outer.now.left ++ outer.now.entry ∷ (middle.now.left ++ middle.now.entry ∷ (middle.now.right ++ entry ∷ right))) }
-        ensures { IfOk result (λ m. m ≡ outer.now.left ++ outer.now.entry ∷ (middle.now.left ++ middle.now.entry ∷ (middle.now.right ++ entry ∷ right))) }
-    {
-        let right = Map::node(alloc, middle.right.share()?, entry, right)?;
-        let left = Map::node(
-            alloc,
-            outer.left.share()?,
-            outer.entry.try_clone()?,
-            middle.left.share()?,
-        )?;
-        Map::node(alloc, left, middle.entry.try_clone()?, right)
     }
 
     /// The map with this value at the key: in place of the value there, or as a new entry.
     pub fn inserted(&self, alloc: Global, key: K, value: V) -> Result<Map<K, V>, AllocError>
         ensures { IfOk result (λ m. m ≡ insert_entry K.cmp (key, value) self.now) }
     {
-        let entry = Entry::new(alloc, (key, value))?;
-        self.with_entry(alloc, entry)
-    }
-
-    fn with_entry(&self, alloc: Global, entry: Entry<K, V>) -> Result<Map<K, V>, AllocError>
-        ensures { IfOk result (λ m. m ≡ insert_entry K.cmp entry self.now) }
-    {
-        match &self.root {
-            Tree::Leaf | Tree::Chunk(_) => self.put_in_copy(alloc, entry),
-            Tree::Node(node) => {
-                let side = entry.sought().order(&node.entry);
-                match side {
-                    Ordering::Less => {
-                        let left = node.left.with_entry(alloc, entry)?;
-                        Map::balanced(alloc, left, node.entry.try_clone()?, node.right.share()?)
-                    }
-                    Ordering::Equal => Map::node(
-                        alloc,
-                        node.left.share()?,
-                        entry,
-                        node.right.share()?,
-                    ),
-                    Ordering::Greater => {
-                        let right = node.right.with_entry(alloc, entry)?;
-                        Map::balanced(alloc, node.left.share()?, node.entry.try_clone()?, right)
-                    }
-                }
-            }
-        }
+        let mut map = self.share()?;
+        map.insert(alloc, key, value)?;
+        Ok(map)
     }
 
     /// The map without the entry at the key. A removal allocates too, since it copies the path to the entry.
     pub fn removed(&self, alloc: Global, key: &K) -> Result<Map<K, V>, AllocError>
         ensures { IfOk result (λ m. m ≡ remove_entry K.cmp key.now self.now) }
     {
-        self.without(alloc, &Sought::new(key))
-    }
-
-    fn without(&self, alloc: Global, sought: &Sought<K>) -> Result<Map<K, V>, AllocError>
-        ensures { IfOk result (λ m. m ≡ remove_entry K.cmp sought.now self.now) }
-    {
-        match &self.root {
-            Tree::Leaf | Tree::Chunk(_) => self.take_in_copy(alloc, sought),
-            Tree::Node(node) => match sought.order(&node.entry) {
-                Ordering::Less => {
-                    let left = node.left.without(alloc, sought)?;
-                    Map::balanced(alloc, left, node.entry.try_clone()?, node.right.share()?)
-                }
-                Ordering::Equal => Map::joined(alloc, &node.left, &node.right),
-                Ordering::Greater => {
-                    let right = node.right.without(alloc, sought)?;
-                    Map::balanced(alloc, node.left.share()?, node.entry.try_clone()?, right)
-                }
-            },
-        }
-    }
-
-    fn joined(alloc: Global, left: &Map<K, V>, right: &Map<K, V>) -> Result<Map<K, V>, AllocError>
-        requires { Ascends K.cmp (left.now ++ right.now) }
-        ensures { IfOk result (λ m. m ≡ left.now ++ right.now) }
-    {
-        if left.is_empty() {
-            return right.share();
-        }
-        match right.split_first(alloc)? {
-            None => left.share(),
-            Some((entry, rest)) => Map::balanced(alloc, left.share()?, entry, rest),
-        }
-    }
-
-    fn split_first(&self, alloc: Global) -> Result<Option<(Entry<K, V>, Map<K, V>)>, AllocError>
-        ensures { IfOk result (λ o. MatchOption o (self.now ≡ []) (λ p. self.now ≡ p.0 ∷ p.1)) }
-    {
-        match &self.root {
-            Tree::Leaf => Ok(None),
-            Tree::Chunk(items) => match items.as_slice() {
-                [] => Ok(None),
-                [first, rest @ ..] => Ok(Some((first.try_clone()?, Map::row(alloc, rest)?))),
-            },
-            Tree::Node(node) => match node.left.split_first(alloc)? {
-                None => Ok(Some((node.entry.try_clone()?, node.right.share()?))),
-                Some((first, rest)) => {
-                    let rest = Map::balanced(
-                        alloc,
-                        rest,
-                        node.entry.try_clone()?,
-                        node.right.share()?,
-                    )?;
-                    Ok(Some((first, rest)))
-                }
-            },
-        }
+        let mut map = self.share()?;
+        map.remove(alloc, key)?;
+        Ok(map)
     }
 }

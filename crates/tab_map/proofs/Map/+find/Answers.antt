@@ -1,22 +1,31 @@
-use Rattle.std.proofs.Common.{◌≡◌}
-use Rattle.std.specs.declared.cmp.Ordering.TheVariants.{Less, Equal, Greater}
-use Rattle.tab_map.proofs.AtNode.{is_node, lookup_less, lookup_equal, lookup_greater}
+use Rattle.std.proofs.Common.{◌∙◌, sym, ap, refl, Some}
+use Rattle.std.proofs.lemmas.Bool.{ltb-false}
+use Rattle.std.proofs.lemmas.Option.{slice_get_read, slice_get_past}
+use Rattle.tab_map.specs.Entries.{lookup}
+use Rattle.tab_map.proofs.AtChild.{is_root, child_lookup, last_lookup}
+use Rattle.tab_map.proofs.NodeReads.{found_lookup}
 use Rattle.tab_map.proofs.Map.+find.Goals as goal
 
-pub returns-in-Less-clause-value : goal.returns-in-Less-clause-value
-returns-in-Less-clause-value g t c =
-    let f = is_node g.K.Ord.cmp c.self.view_is c.self.invariant c.in-Node.is in
-    let p : g.K.Ord.cmp c.args.sought.now c.in-Node.node.value.entry.0 ≡ Less = cc in
-    cc (lookup_less c.args.sought.now f p)
+pub returns-in-Ok-clause-value : goal.returns-in-Ok-clause-value
+returns-in-Ok-clause-value g t c =
+    let root = is_root g.K.Ord.cmp c.self.view_is c.self.invariant c.in-Node.is in
+    let found = rw (c.deref-in-Node-2.ensures.value, c.deref-in-Node.ensures) at c.in-Ok.ensures.found in
+    let at = rw c.deref-in-Ok.ensures at c.index.ensures in
+    ap (λ z. Some z.1) c.pair.ensures ∙ found_lookup g.met.K.Ord.total c.args.sought.now root c.in-Ok.n c.index.result.now found at
 
-pub returns-in-Equal-clause-value : goal.returns-in-Equal-clause-value
-returns-in-Equal-clause-value g t c =
-    let f = is_node g.K.Ord.cmp c.self.view_is c.self.invariant c.in-Node.is in
-    let p : g.K.Ord.cmp c.args.sought.now c.in-Node.node.value.entry.0 ≡ Equal = cc in
-    cc (lookup_equal g.met.K.Ord.total c.args.sought.now f p)
+pub returns-in-Some-clause-value : goal.returns-in-Some-clause-value
+returns-in-Some-clause-value g t c =
+    let root = is_root g.K.Ord.cmp c.self.view_is c.self.invariant c.in-Node.is in
+    let child = rw (c.deref-in-Node-2.ensures.value, c.deref-in-Node.ensures) at c.in-Err.ensures.child in
+    let got = rw (c.deref-in-Err-2.ensures.value, c.deref-in-Err.ensures) at c.in-Some.ensures.lookup in
+    let below = child_lookup g.met.K.Ord.total c.args.sought.now _ c.in-Err.n _ c.in-Some.branch.now child (slice_get_read _ _ _ _ refl got.3.0 got.1) root.sorted in
+    c.find.ensures.value ∙ sym (ap (lookup g.K.Ord.cmp c.args.sought.now) root.is ∙ below)
 
-pub returns-in-Greater-clause-value : goal.returns-in-Greater-clause-value
-returns-in-Greater-clause-value g t c =
-    let f = is_node g.K.Ord.cmp c.self.view_is c.self.invariant c.in-Node.is in
-    let p : g.K.Ord.cmp c.args.sought.now c.in-Node.node.value.entry.0 ≡ Greater = cc in
-    cc (lookup_greater g.met.K.Ord.total c.args.sought.now f p)
+pub returns-in-None-clause-value : goal.returns-in-None-clause-value
+returns-in-None-clause-value g t c =
+    let root = is_root g.K.Ord.cmp c.self.view_is c.self.invariant c.in-Node.is in
+    let child = rw (c.deref-in-Node-2.ensures.value, c.deref-in-Node.ensures) at c.in-Err.ensures.child in
+    let none = rw (c.deref-in-Err-2.ensures.value, c.deref-in-Err.ensures) at c.in-None.ensures.lookup.0 in
+    let value = rw c.deref-in-None.ensures at c.find-in-None.ensures.value in
+    let last = last_lookup g.met.K.Ord.total c.args.sought.now _ c.in-Err.n _ child (slice_get_past _ _ (ltb-false _ _ (sym none))) root.sorted in
+    value ∙ sym (ap (lookup g.K.Ord.cmp c.args.sought.now) root.is ∙ last)

@@ -10,4 +10,4 @@ from_last-requires-2 g t c κs within =
 
 pub node-requires : goal.node-requires
 node-requires g t c =
-    rw c.in_ok-new.ensures (taken_node g.K.Ord.cmp _ _ _ _ _ _ c.in-Some.entry c.in_ok-right.ensures.taken c.in-Some.ensures.items c.in_ok-left.ensures.taken c.requires.sorted)
+    rw c.in_ok-entry.ensures (taken_node g.K.Ord.cmp _ _ _ _ _ _ c.in-Some.entry c.in_ok-right.ensures.taken c.in-Some.ensures.items c.in_ok-below.ensures.taken c.requires.sorted)

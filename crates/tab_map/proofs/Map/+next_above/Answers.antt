@@ -1,31 +1,54 @@
-use Rattle.std.proofs.Common.{◌≡◌, refl}
-use Rattle.std.specs.declared.cmp.Ordering.TheVariants.{Less, Equal, Greater}
-use Rattle.tab_map.proofs.Order.{first_of_left, first_of_right}
-use Rattle.tab_map.proofs.AtNode.{is_node, above_less, above_equal, above_greater}
+use Rattle.std.proofs.Common.{◌∙◌, sym, ap, refl, slice_get, Some}
+use Rattle.std.proofs.lemmas.Bool.{ltb-false}
+use Rattle.std.proofs.lemmas.Option.{slice_get_read, slice_get_past}
+use Rattle.tab_map.proofs.AtChild.{is_root}
+use Rattle.tab_map.proofs.NodeReads.{next_above_found, last_above_found, child_above, last_above, next_item, first_item}
 use Rattle.tab_map.proofs.Map.+next_above.Goals as goal
 
-pub returns-in-None-clause-entry : goal.returns-in-None-clause-entry
-returns-in-None-clause-entry g t c =
-    let n = is_node g.K.Ord.cmp c.self.view_is c.self.invariant c.in-Node.is in
-    let p : g.K.Ord.cmp c.args.sought.now c.in-Node.node.value.entry.0 ≡ Less = cc in
-    let h = rw c.deref-in-Less.ensures at c.next_above.ensures.entry in
-    let first = first_of_right c.next_above.result _ c.in-Node.node.value.entry c.in-Node.node.value.right c.in-None.is h in
-    rw (above_less c.args.sought.now n p, first, c.pair.ensures, c.deref-in-None.ensures) refl
+pub returns-in-None-first-clause-entry : goal.returns-in-None-first-clause-entry
+returns-in-None-first-clause-entry g t c =
+    let root = is_root g.K.Ord.cmp c.self.view_is c.self.invariant c.in-Node.is in
+    let found = rw (c.deref-in-Node-2.ensures.value, c.deref-in-Node.ensures) at c.in-Ok.ensures.found in
+    let got = rw (c.deref-in-Ok-2.ensures.value, c.deref-in-Ok.ensures) at c.in-Some.ensures.lookup in
+    let f = next_above_found g.met.K.Ord.total c.args.sought.now root c.in-Ok.n c.in-Some.branch.now found (slice_get_read _ _ _ _ refl got.3.0 got.1) in
+    ap Some c.pair.ensures ∙ next_item c.first.result _ _ _ f c.in-None-first.is c.first.ensures.entry
 
 pub returns-in_default-clause-entry : goal.returns-in_default-clause-entry
 returns-in_default-clause-entry g t c =
-    let n = is_node g.K.Ord.cmp c.self.view_is c.self.invariant c.in-Node.is in
-    let p : g.K.Ord.cmp c.args.sought.now c.in-Node.node.value.entry.0 ≡ Less = cc in
-    rw (above_less c.args.sought.now n p) (first_of_left c.next_above.result _ _ c.in_default.not-None (rw c.deref-in-Less.ensures at c.next_above.ensures.entry))
+    let root = is_root g.K.Ord.cmp c.self.view_is c.self.invariant c.in-Node.is in
+    let found = rw (c.deref-in-Node-2.ensures.value, c.deref-in-Node.ensures) at c.in-Ok.ensures.found in
+    let got = rw (c.deref-in-Ok-2.ensures.value, c.deref-in-Ok.ensures) at c.in-Some.ensures.lookup in
+    let f = next_above_found g.met.K.Ord.total c.args.sought.now root c.in-Ok.n c.in-Some.branch.now found (slice_get_read _ _ _ _ refl got.3.0 got.1) in
+    first_item c.first.result _ _ _ f c.in_default.not-None c.first.ensures.entry
 
-pub returns-in-Equal-clause-entry : goal.returns-in-Equal-clause-entry
-returns-in-Equal-clause-entry g t c =
-    let n = is_node g.K.Ord.cmp c.self.view_is c.self.invariant c.in-Node.is in
-    let p : g.K.Ord.cmp c.args.sought.now c.in-Node.node.value.entry.0 ≡ Equal = cc in
-    cc (above_equal g.met.K.Ord.total c.args.sought.now n p)
+pub returns-in-None-clause-entry : goal.returns-in-None-clause-entry
+returns-in-None-clause-entry g t c =
+    let root = is_root g.K.Ord.cmp c.self.view_is c.self.invariant c.in-Node.is in
+    let found = rw (c.deref-in-Node-2.ensures.value, c.deref-in-Node.ensures) at c.in-Ok.ensures.found in
+    let none = rw (c.deref-in-Ok-2.ensures.value, c.deref-in-Ok.ensures) at c.in-None.ensures.lookup.0 in
+    let entry = rw c.deref-in-None.ensures at c.first-in-None.ensures.entry in
+    entry ∙ sym (ap (λ z. slice_get z 0) (last_above_found g.met.K.Ord.total c.args.sought.now root c.in-Ok.n found (slice_get_past _ _ (ltb-false _ _ (sym none)))))
 
-pub returns-in-Greater-clause-entry : goal.returns-in-Greater-clause-entry
-returns-in-Greater-clause-entry g t c =
-    let n = is_node g.K.Ord.cmp c.self.view_is c.self.invariant c.in-Node.is in
-    let p : g.K.Ord.cmp c.args.sought.now c.in-Node.node.value.entry.0 ≡ Greater = cc in
-    cc (above_greater g.met.K.Ord.total c.args.sought.now n p)
+pub returns-in-None-next_above-clause-entry : goal.returns-in-None-next_above-clause-entry
+returns-in-None-next_above-clause-entry g t c =
+    let root = is_root g.K.Ord.cmp c.self.view_is c.self.invariant c.in-Node.is in
+    let child = rw (c.deref-in-Node-2.ensures.value, c.deref-in-Node.ensures) at c.in-Err.ensures.child in
+    let got = rw (c.deref-in-Err-2.ensures.value, c.deref-in-Err.ensures) at c.in-Some-get.ensures.lookup in
+    let f = child_above g.met.K.Ord.total c.args.sought.now root c.in-Err.n c.in-Some-get.branch.now child (slice_get_read _ _ _ _ refl got.3.0 got.1) in
+    ap Some c.pair-in-None-next_above.ensures ∙ next_item c.next_above.result _ _ _ f c.in-None-next_above.is c.next_above.ensures.entry
+
+pub returns-in_default-next_above-clause-entry : goal.returns-in_default-next_above-clause-entry
+returns-in_default-next_above-clause-entry g t c =
+    let root = is_root g.K.Ord.cmp c.self.view_is c.self.invariant c.in-Node.is in
+    let child = rw (c.deref-in-Node-2.ensures.value, c.deref-in-Node.ensures) at c.in-Err.ensures.child in
+    let got = rw (c.deref-in-Err-2.ensures.value, c.deref-in-Err.ensures) at c.in-Some-get.ensures.lookup in
+    let f = child_above g.met.K.Ord.total c.args.sought.now root c.in-Err.n c.in-Some-get.branch.now child (slice_get_read _ _ _ _ refl got.3.0 got.1) in
+    first_item c.next_above.result _ _ _ f c.in_default-next_above.not-None c.next_above.ensures.entry
+
+pub returns-in-None-get-clause-entry : goal.returns-in-None-get-clause-entry
+returns-in-None-get-clause-entry g t c =
+    let root = is_root g.K.Ord.cmp c.self.view_is c.self.invariant c.in-Node.is in
+    let child = rw (c.deref-in-Node-2.ensures.value, c.deref-in-Node.ensures) at c.in-Err.ensures.child in
+    let none = rw (c.deref-in-Err-2.ensures.value, c.deref-in-Err.ensures) at c.in-None-get.ensures.lookup.0 in
+    let entry = rw c.deref-in-None-get.ensures at c.next_above-in-None-get.ensures.entry in
+    entry ∙ sym (ap (λ z. slice_get z 0) (last_above g.met.K.Ord.total c.args.sought.now root c.in-Err.n child (slice_get_past _ _ (ltb-false _ _ (sym none)))))

@@ -1,31 +1,37 @@
-use Rattle.std.proofs.Common.{◌≡◌, refl}
-use Rattle.std.specs.declared.cmp.Ordering.TheVariants.{Less, Equal, Greater}
-use Rattle.tab_map.proofs.Order.{first_of_left, first_of_right}
-use Rattle.tab_map.proofs.AtNode.{is_node, from_less, from_equal, from_greater}
+use Rattle.std.proofs.Common.{◌∙◌, sym, ap, refl, slice_get, Some, None}
+use Rattle.std.proofs.lemmas.Bool.{ltb-false}
+use Rattle.std.proofs.lemmas.Option.{slice_get_read, slice_get_past}
+use Rattle.tab_map.proofs.AtChild.{is_root}
+use Rattle.tab_map.proofs.NodeReads.{found_from, child_from, last_from, next_item, first_item}
 use Rattle.tab_map.proofs.Map.+next_from.Goals as goal
 
-pub returns-in-None-clause-entry : goal.returns-in-None-clause-entry
-returns-in-None-clause-entry g t c =
-    let n = is_node g.K.Ord.cmp c.self.view_is c.self.invariant c.in-Node.is in
-    let p : g.K.Ord.cmp c.args.sought.now c.in-Node.node.value.entry.0 ≡ Less = cc in
-    let h = rw c.deref-in-Less.ensures at c.next_from.ensures.entry in
-    let first = first_of_right c.next_from.result _ c.in-Node.node.value.entry c.in-Node.node.value.right c.in-None.is h in
-    rw (from_less c.args.sought.now n p, first, c.pair.ensures, c.deref-in-None.ensures) refl
+pub returns-in-Ok-clause-entry : goal.returns-in-Ok-clause-entry
+returns-in-Ok-clause-entry g t c =
+    let root = is_root g.K.Ord.cmp c.self.view_is c.self.invariant c.in-Node.is in
+    let found = rw (c.deref-in-Node-2.ensures.value, c.deref-in-Node.ensures) at c.in-Ok.ensures.found in
+    let at = rw c.deref-in-Ok.ensures at c.index.ensures in
+    ap Some c.pair.ensures ∙ found_from g.met.K.Ord.total c.args.sought.now root c.in-Ok.n c.index.result.now found at
+
+pub returns-in-None-next_from-clause-entry : goal.returns-in-None-next_from-clause-entry
+returns-in-None-next_from-clause-entry g t c =
+    let root = is_root g.K.Ord.cmp c.self.view_is c.self.invariant c.in-Node.is in
+    let child = rw (c.deref-in-Node-2.ensures.value, c.deref-in-Node.ensures) at c.in-Err.ensures.child in
+    let got = rw (c.deref-in-Err-2.ensures.value, c.deref-in-Err.ensures) at c.in-Some.ensures.lookup in
+    let f = child_from g.met.K.Ord.total c.args.sought.now root c.in-Err.n c.in-Some.branch.now child (slice_get_read _ _ _ _ refl got.3.0 got.1) in
+    ap Some c.pair-in-None-next_from.ensures ∙ next_item c.next_from.result _ _ _ f c.in-None-next_from.is c.next_from.ensures.entry
 
 pub returns-in_default-clause-entry : goal.returns-in_default-clause-entry
 returns-in_default-clause-entry g t c =
-    let n = is_node g.K.Ord.cmp c.self.view_is c.self.invariant c.in-Node.is in
-    let p : g.K.Ord.cmp c.args.sought.now c.in-Node.node.value.entry.0 ≡ Less = cc in
-    rw (from_less c.args.sought.now n p) (first_of_left c.next_from.result _ _ c.in_default.not-None (rw c.deref-in-Less.ensures at c.next_from.ensures.entry))
+    let root = is_root g.K.Ord.cmp c.self.view_is c.self.invariant c.in-Node.is in
+    let child = rw (c.deref-in-Node-2.ensures.value, c.deref-in-Node.ensures) at c.in-Err.ensures.child in
+    let got = rw (c.deref-in-Err-2.ensures.value, c.deref-in-Err.ensures) at c.in-Some.ensures.lookup in
+    let f = child_from g.met.K.Ord.total c.args.sought.now root c.in-Err.n c.in-Some.branch.now child (slice_get_read _ _ _ _ refl got.3.0 got.1) in
+    first_item c.next_from.result _ _ _ f c.in_default.not-None c.next_from.ensures.entry
 
-pub returns-in-Equal-clause-entry : goal.returns-in-Equal-clause-entry
-returns-in-Equal-clause-entry g t c =
-    let n = is_node g.K.Ord.cmp c.self.view_is c.self.invariant c.in-Node.is in
-    let p : g.K.Ord.cmp c.args.sought.now c.in-Node.node.value.entry.0 ≡ Equal = cc in
-    rw (from_equal g.met.K.Ord.total c.args.sought.now n p, c.pair-in-Equal.ensures, c.deref-in-Equal.ensures) refl
-
-pub returns-in-Greater-clause-entry : goal.returns-in-Greater-clause-entry
-returns-in-Greater-clause-entry g t c =
-    let n = is_node g.K.Ord.cmp c.self.view_is c.self.invariant c.in-Node.is in
-    let p : g.K.Ord.cmp c.args.sought.now c.in-Node.node.value.entry.0 ≡ Greater = cc in
-    cc (from_greater g.met.K.Ord.total c.args.sought.now n p)
+pub returns-in-None-clause-entry : goal.returns-in-None-clause-entry
+returns-in-None-clause-entry g t c =
+    let root = is_root g.K.Ord.cmp c.self.view_is c.self.invariant c.in-Node.is in
+    let child = rw (c.deref-in-Node-2.ensures.value, c.deref-in-Node.ensures) at c.in-Err.ensures.child in
+    let none = rw (c.deref-in-Err-2.ensures.value, c.deref-in-Err.ensures) at c.in-None.ensures.lookup.0 in
+    let entry = rw c.deref-in-None.ensures at c.next_from-in-None.ensures.entry in
+    entry ∙ sym (ap (λ z. slice_get z 0) (last_from g.met.K.Ord.total c.args.sought.now root c.in-Err.n child (slice_get_past _ _ (ltb-false _ _ (sym none)))))

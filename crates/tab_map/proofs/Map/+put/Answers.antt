@@ -1,40 +1,39 @@
-use Rattle.std.proofs.Common.{rules, ◌≡◌, ◌∷◌, ◌++◌, sym, ap, ◌∙◌, subst}
-use Rattle.std.specs.declared.cmp.Ordering.TheVariants.{Less, Equal, Greater}
+use Rattle.std.proofs.Common.{◌≡◌, ◌∷◌, ◌++◌, refl, sym, ap, ◌∙◌, subst, arith, length, slice_set}
 use Rattle.tab_map.specs.Entries.{Ascends}
-use Rattle.tab_map.specs.InOrder.{entries}
+use Rattle.tab_map.specs.InOrder.{spread, entries}
 use Rattle.tab_map.proofs.Order.{ascends_insert}
-use Rattle.tab_map.proofs.AtNode.{is_node, is_at, same_node, on_ok_ap, inserted_less, inserted_equal, inserted_greater}
+use Rattle.tab_map.proofs.AtChild.{is_root, same_root, child_insert, last_insert, found_insert, read_at, read_past}
 use Rattle.tab_map.proofs.Map.+put.Goals as goal
 
-pub put-invariant_of-self-then-branch : goal.put-invariant_of-self-then-branch
-put-invariant_of-self-then-branch g t c =
-    let f = same_node (is_node g.K.Ord.cmp c.self.view_is c.self.invariant c.in-Node.is) (ap (λ n. n.left) c.in-Some.ensures.value ∙ c.own.ensures.left) (ap (λ n. n.entry) c.in-Some.ensures.value ∙ c.own.ensures.entry) (ap (λ n. n.right) c.in-Some.ensures.value ∙ c.own.ensures.right) in
-    subst (Ascends g.K.Ord.cmp) (sym c.in_ok-put_under-in-Node.ensures.ok) (ascends_insert g.met.K.Ord.total c.args.entry _ f.sorted)
+pub put-invariant_of-self-in_ok-put_in_row-in-Leaf : goal.put-invariant_of-self-in_ok-put_in_row-in-Leaf
+put-invariant_of-self-in_ok-put_in_row-in-Leaf g t c =
+    let s = subst (λ root. Ascends g.K.Ord.cmp (entries root)) c.in-Leaf.is c.self.invariant.0 in
+    (subst (Ascends g.K.Ord.cmp) (sym c.in_ok-put_in_row-in-Leaf.ensures.ok) (ascends_insert g.met.K.Ord.total c.args.entry _ s), tt)
 
-pub put-invariant_of-self-else-branch : goal.put-invariant_of-self-else-branch
-put-invariant_of-self-else-branch g t c =
-    let f = same_node (is_node g.K.Ord.cmp c.self.view_is c.self.invariant c.in-Node.is) (ap (λ n. n.left) c.in-Some.ensures.value ∙ c.own.ensures.left) (ap (λ n. n.entry) c.in-Some.ensures.value ∙ c.own.ensures.entry) (ap (λ n. n.right) c.in-Some.ensures.value ∙ c.own.ensures.right) in
-    subst (Ascends g.K.Ord.cmp) (sym c.in_ok-put_under-in-Node.ensures.ok) (ascends_insert g.met.K.Ord.total c.args.entry _ f.sorted)
+pub put-invariant_of-self-in_ok-put_under-in-Node : goal.put-invariant_of-self-in_ok-put_under-in-Node
+put-invariant_of-self-in_ok-put_under-in-Node g t c =
+    let root = is_root g.K.Ord.cmp c.self.view_is c.self.invariant c.in-Node.is in
+    let f = same_root root (ap (λ n. n.branches.items) c.in-Some.ensures.value ∙ c.own.ensures.branches) (ap (λ n. n.last) c.in-Some.ensures.value ∙ c.own.ensures.last) in
+    (subst (Ascends g.K.Ord.cmp) (sym c.in_ok-put_under-in-Node.ensures.ok) (ascends_insert g.met.K.Ord.total c.args.entry _ f.sorted), omega (arith, c.in_ok-put_under-in-Node.ensures.kept, f.some))
 
-pub put-invariant_of-self-in-Chunk : goal.put-invariant_of-self-in-Chunk
-put-invariant_of-self-in-Chunk g t c =
-    let s = subst (Ascends g.K.Ord.cmp) (ap entries c.in-Chunk.is) c.self.invariant in
-    subst (Ascends g.K.Ord.cmp) (sym c.in_ok-put_in_row-in-Chunk.ensures.ok) (ascends_insert g.met.K.Ord.total c.args.entry _ s)
+pub put_under-returns-in-Ok-clause-ok : goal.put_under-returns-in-Ok-clause-ok
+put_under-returns-in-Ok-clause-ok g t c =
+    let found = rw (c.sought.ensures, c.deref.ensures.value) at c.in-Ok.ensures.found in
+    let place = rw c.deref.ensures.value at c.in-Ok.ensures.found_in_node in
+    found_insert g.met.K.Ord.total c.args.entry _ c.in-Ok.n c.args.node.now.last c.index_mut.result.now found (read_at c.args.node.now.branches.items c.in-Ok.n c.index_mut.result.now place c.index_mut.ensures.value) c.requires
 
-pub put_under-returns-in-Less-clause-ok : goal.put_under-returns-in-Less-clause-ok
-put_under-returns-in-Less-clause-ok g t c =
-    let p : g.K.Ord.cmp c.args.entry.0 c.args.node.now.entry.0 ≡ Less = cc in
-    let h = inserted_less g.met.K.Ord.total c.args.entry (is_at _ _ _ c.requires) p in
-    on_ok_ap _ (λ l. l ++ c.args.node.now.entry ∷ c.args.node.now.right) _ _ _ h.is c.put.ensures.ok
+pub put_under-returns-in_ok-put-in-Some-clause-ok : goal.put_under-returns-in_ok-put-in-Some-clause-ok
+put_under-returns-in_ok-put-in-Some-clause-ok g t c =
+    let child = rw (c.sought.ensures, c.deref.ensures.value) at c.in-Err.ensures.child in
+    let place = read_at c.args.node.now.branches.items c.in-Err.n c.in-Some.branch.now (omega (arith, c.in-Some.ensures.variant.0 refl, c.args.node.now.branches.ok)) c.in-Some.ensures.value in
+    c.split.ensures.same
+    ∙ ap (λ z. spread (slice_set c.args.node.now.branches.items c.in-Err.n record { below = z; entry = c.in-Some.branch.now.entry }) ++ c.args.node.now.last) c.in_ok-put-in-Some.ensures.ok
+    ∙ child_insert g.met.K.Ord.total c.args.entry _ c.in-Err.n c.args.node.now.last c.in-Some.branch.now child place c.requires
 
-pub put_under-returns-in-Equal-clause-ok : goal.put_under-returns-in-Equal-clause-ok
-put_under-returns-in-Equal-clause-ok g t c =
-    let p : g.K.Ord.cmp c.args.entry.0 c.args.node.now.entry.0 ≡ Equal = cc in
-    let h = inserted_equal g.met.K.Ord.total c.args.entry (is_at _ _ _ c.requires) p in
-    sym h.is
-
-pub put_under-returns-in-Greater-clause-ok : goal.put_under-returns-in-Greater-clause-ok
-put_under-returns-in-Greater-clause-ok g t c =
-    let p : g.K.Ord.cmp c.args.entry.0 c.args.node.now.entry.0 ≡ Greater = cc in
-    let h = inserted_greater g.met.K.Ord.total c.args.entry (is_at _ _ _ c.requires) p in
-    on_ok_ap _ (λ r. c.args.node.now.left ++ c.args.node.now.entry ∷ r) _ _ _ h.is c.put-in-Greater.ensures.ok
+pub put_under-returns-in_ok-put-in-None-clause-ok : goal.put_under-returns-in_ok-put-in-None-clause-ok
+put_under-returns-in_ok-put-in-None-clause-ok g t c =
+    let child = rw (c.sought.ensures, c.deref.ensures.value) at c.in-Err.ensures.child in
+    let place = read_past c.args.node.now.branches.items c.in-Err.n (λ h. cc (c.in-None.ensures.variant.1 (omega (arith, h, c.args.node.now.branches.ok)))) in
+    c.split-in-None.ensures.same
+    ∙ ap (λ z. spread c.args.node.now.branches.items ++ z) c.in_ok-put-in-None.ensures.ok
+    ∙ last_insert g.met.K.Ord.total c.args.entry _ c.in-Err.n c.args.node.now.last child place c.requires

@@ -1,69 +1,59 @@
-use Rattle.std.proofs.Common.{◌≡◌, refl, sym, ap, ◌∙◌, subst}
-use Rattle.std.specs.declared.cmp.Ordering.TheVariants.{Less, Equal, Greater}
-use Rattle.tab_map.specs.Entries.{Ascends}
-use Rattle.tab_map.specs.InOrder.{entries}
+use Rattle.std.proofs.Common.{◌≡◌, ◌<◌, ◌∷◌, ◌++◌, refl, sym, ap, ◌∙◌, subst, arith, length, slice_set, OnOk}
+use Rattle.tab_map.specs.Entries.{Ascends, remove_entry}
+use Rattle.tab_map.specs.InOrder.{spread, entries}
 use Rattle.tab_map.proofs.Order.{ascends_remove}
-use Rattle.tab_map.proofs.AtNode.{is_node, same_node, removed_less, removed_equal, removed_greater}
-use Rattle.tab_map.proofs.Map.+take.Goals.{in-Less+in_ok-take-in-Less+then-branch, in-Less+in_ok-take-in-Less+else-branch, in-Equal+in_ok-self-inside-in-Equal, in-Greater+in_ok-take-in-Greater+then-branch-2, in-Greater+in_ok-take-in-Greater+else-branch-2}
+use Rattle.tab_map.proofs.AtChild.{is_root, same_root, child_remove, last_remove, found_remove, read_at, read_past, some_of}
 use Rattle.tab_map.proofs.Map.+take.Goals as goal
 
-pub invariant_of-self-then-branch : goal.invariant_of-self-then-branch
-invariant_of-self-then-branch g t c =
-    let f = same_node (is_node g.K.Ord.cmp c.self.view_is c.self.invariant c.in-Node.is) (ap (λ n. n.left) c.in-Some.ensures.value ∙ c.own.ensures.left) (ap (λ n. n.entry) c.in-Some.ensures.value ∙ c.own.ensures.entry) (ap (λ n. n.right) c.in-Some.ensures.value ∙ c.own.ensures.right) in
-    let p : g.K.Ord.cmp c.args.sought.now c.in-Some.node.now.entry.0 ≡ Less = cc in
-    let h = removed_less g.met.K.Ord.total c.args.sought.now f p in
-    (same_node h c.in_ok-take-in-Less.ensures.ok refl refl).sorted
+pub take-invariant_of-self-in-Continue-1 : goal.take-invariant_of-self-in-Continue-1
+take-invariant_of-self-in-Continue-1 g t c =
+    let s = subst (λ root. Ascends g.K.Ord.cmp (entries root)) c.in-Leaf.is c.self.invariant.0 in
+    (subst (Ascends g.K.Ord.cmp) (sym c.in_ok-take_in_row-in-Leaf.ensures.ok) (ascends_remove g.K.Ord.cmp c.args.sought.now _ s), tt)
 
-pub invariant_of-self-else-branch : goal.invariant_of-self-else-branch
-invariant_of-self-else-branch g t c =
-    let f = same_node (is_node g.K.Ord.cmp c.self.view_is c.self.invariant c.in-Node.is) (ap (λ n. n.left) c.in-Some.ensures.value ∙ c.own.ensures.left) (ap (λ n. n.entry) c.in-Some.ensures.value ∙ c.own.ensures.entry) (ap (λ n. n.right) c.in-Some.ensures.value ∙ c.own.ensures.right) in
-    let p : g.K.Ord.cmp c.args.sought.now c.in-Some.node.now.entry.0 ≡ Less = cc in
-    let h = removed_less g.met.K.Ord.total c.args.sought.now f p in
-    (same_node h c.in_ok-take-in-Less.ensures.ok refl refl).sorted
+pub take-invariant_of-self-else-is_empty : goal.take-invariant_of-self-else-is_empty
+take-invariant_of-self-else-is_empty g t c =
+    let root = is_root g.K.Ord.cmp c.self.view_is c.self.invariant c.in-Node.is in
+    let f = same_root root (ap (λ n. n.branches.items) c.in-Some.ensures.value ∙ c.own.ensures.branches) (ap (λ n. n.last) c.in-Some.ensures.value ∙ c.own.ensures.last) in (
+      subst (Ascends g.K.Ord.cmp) (sym c.in_ok-take_under-in-Node.ensures.ok) (ascends_remove g.K.Ord.cmp c.args.sought.now _ f.sorted),
+      some_of c.take_under.new.node.branches.items (λ h.
+          let none : c.node.inside.0.0.len ≡ 0 = omega (arith, h, ap (λ n. length n.branches.items) c.node.view_is, c.node.inside.0.0.ok) in
+          let empty = rw none at c.is_empty.ensures in
+          cc (empty, c.if-is_empty.false)),
+    )
 
-pub invariant_of-self-in-Chunk : goal.invariant_of-self-in-Chunk
-invariant_of-self-in-Chunk g t c =
-    let s = subst (Ascends g.K.Ord.cmp) (ap entries c.in-Chunk.is) c.self.invariant in
-    subst (Ascends g.K.Ord.cmp) (sym c.in_ok-take_in_row-in-Chunk.ensures.ok) (ascends_remove g.K.Ord.cmp c.args.sought.now _ s)
+pub take_under-merge-requires : goal.take_under-merge-requires
+take_under-merge-requires g t c =
+    let child = rw c.deref.ensures.value at c.in-Err.ensures.child in
+    let place = read_at c.args.node.now.branches.items c.in-Err.n c.in-Some.branch.now (omega (arith, c.in-Some.ensures.variant.0 refl, c.args.node.now.branches.ok)) c.in-Some.ensures.value in
+    let p = ap (λ z. spread (slice_set c.args.node.now.branches.items c.in-Err.n record { below = z; entry = c.in-Some.branch.now.entry }) ++ c.args.node.now.last) c.in_ok-take-in-Some.ensures.ok
+    ∙ child_remove g.met.K.Ord.total c.args.sought.now c.args.node.now.branches.items c.in-Err.n c.args.node.now.last c.in-Some.branch.now child place c.requires in
+    subst (Ascends g.K.Ord.cmp) (sym p) (ascends_remove g.K.Ord.cmp c.args.sought.now _ c.requires)
 
-pub joined-requires : goal.joined-requires
-joined-requires g t c =
-    let f = same_node (is_node g.K.Ord.cmp c.self.view_is c.self.invariant c.in-Node.is) (ap (λ n. n.left) c.in-Some.ensures.value ∙ c.own.ensures.left) (ap (λ n. n.entry) c.in-Some.ensures.value ∙ c.own.ensures.entry) (ap (λ n. n.right) c.in-Some.ensures.value ∙ c.own.ensures.right) in
-    let p : g.K.Ord.cmp c.args.sought.now c.in-Some.node.now.entry.0 ≡ Equal = cc in
-    (removed_equal g.met.K.Ord.total c.args.sought.now f p).1
+pub take_under-merge-requires-in-None : goal.take_under-merge-requires-in-None
+take_under-merge-requires-in-None g t c =
+    let child = rw c.deref.ensures.value at c.in-Err.ensures.child in
+    let place = read_past c.args.node.now.branches.items c.in-Err.n (λ h. cc (c.in-None.ensures.variant.1 (omega (arith, h, c.args.node.now.branches.ok)))) in
+    let p = ap (λ z. spread c.args.node.now.branches.items ++ z) c.in_ok-take-in-None.ensures.ok
+    ∙ last_remove g.met.K.Ord.total c.args.sought.now c.args.node.now.branches.items c.in-Err.n c.args.node.now.last child place c.requires in
+    subst (Ascends g.K.Ord.cmp) (sym p) (ascends_remove g.K.Ord.cmp c.args.sought.now _ c.requires)
 
-pub invariant_of-self-then-branch-2 : goal.invariant_of-self-then-branch-2
-invariant_of-self-then-branch-2 g t c =
-    let f = same_node (is_node g.K.Ord.cmp c.self.view_is c.self.invariant c.in-Node.is) (ap (λ n. n.left) c.in-Some.ensures.value ∙ c.own.ensures.left) (ap (λ n. n.entry) c.in-Some.ensures.value ∙ c.own.ensures.entry) (ap (λ n. n.right) c.in-Some.ensures.value ∙ c.own.ensures.right) in
-    let p : g.K.Ord.cmp c.args.sought.now c.in-Some.node.now.entry.0 ≡ Greater = cc in
-    let h = removed_greater g.met.K.Ord.total c.args.sought.now f p in
-    (same_node h refl refl c.in_ok-take-in-Greater.ensures.ok).sorted
+pub take_under-returns-in-Ok-clause-ok : goal.take_under-returns-in-Ok-clause-ok
+take_under-returns-in-Ok-clause-ok g t c =
+    let found = rw c.deref.ensures.value at c.in-Ok.ensures.found in
+    subst (λ z. OnOk c.take_at.result (spread c.take_at.new.self.branches.items ++ c.take_at.new.self.last ≡ z)) (found_remove g.met.K.Ord.total c.args.sought.now c.args.node.now.branches.items c.in-Ok.n c.args.node.now.last found c.requires) c.take_at.ensures.ok
 
-pub invariant_of-self-else-branch-2 : goal.invariant_of-self-else-branch-2
-invariant_of-self-else-branch-2 g t c =
-    let f = same_node (is_node g.K.Ord.cmp c.self.view_is c.self.invariant c.in-Node.is) (ap (λ n. n.left) c.in-Some.ensures.value ∙ c.own.ensures.left) (ap (λ n. n.entry) c.in-Some.ensures.value ∙ c.own.ensures.entry) (ap (λ n. n.right) c.in-Some.ensures.value ∙ c.own.ensures.right) in
-    let p : g.K.Ord.cmp c.args.sought.now c.in-Some.node.now.entry.0 ≡ Greater = cc in
-    let h = removed_greater g.met.K.Ord.total c.args.sought.now f p in
-    (same_node h refl refl c.in_ok-take-in-Greater.ensures.ok).sorted
+pub take_under-returns-in_ok-take-in-Some-clause-ok : goal.take_under-returns-in_ok-take-in-Some-clause-ok
+take_under-returns-in_ok-take-in-Some-clause-ok g t c =
+    let child = rw c.deref.ensures.value at c.in-Err.ensures.child in
+    let place = read_at c.args.node.now.branches.items c.in-Err.n c.in-Some.branch.now (omega (arith, c.in-Some.ensures.variant.0 refl, c.args.node.now.branches.ok)) c.in-Some.ensures.value in
+    c.merge.ensures.same
+    ∙ ap (λ z. spread (slice_set c.args.node.now.branches.items c.in-Err.n record { below = z; entry = c.in-Some.branch.now.entry }) ++ c.args.node.now.last) c.in_ok-take-in-Some.ensures.ok
+    ∙ child_remove g.met.K.Ord.total c.args.sought.now c.args.node.now.branches.items c.in-Err.n c.args.node.now.last c.in-Some.branch.now child place c.requires
 
-pub returns-clause-ok : goal.returns-clause-ok
-returns-clause-ok g t c =
-    let f = same_node (is_node g.K.Ord.cmp c.self.view_is c.self.invariant c.in-Node.is) (ap (λ n. n.left) c.in-Some.ensures.value ∙ c.own.ensures.left) (ap (λ n. n.entry) c.in-Some.ensures.value ∙ c.own.ensures.entry) (ap (λ n. n.right) c.in-Some.ensures.value ∙ c.own.ensures.right) in
-    let k = c.args.sought.now in
-    elim c.match-order.branch [
-      | in-Less+in_ok-take-in-Less+then-branch w ↦
-          let p : g.K.Ord.cmp k c.in-Some.node.now.entry.0 ≡ Less = cc in
-          w.self-is ∙ w.rebalance.ensures ∙ sym (same_node (removed_less g.met.K.Ord.total k f p) w.in_ok-take-in-Less.ensures.ok refl refl).is
-      | in-Less+in_ok-take-in-Less+else-branch w ↦
-          let p : g.K.Ord.cmp k c.in-Some.node.now.entry.0 ≡ Less = cc in
-          w.self-is ∙ sym (same_node (removed_less g.met.K.Ord.total k f p) w.in_ok-take-in-Less.ensures.ok refl refl).is
-      | in-Equal+in_ok-self-inside-in-Equal w ↦
-          let p : g.K.Ord.cmp k c.in-Some.node.now.entry.0 ≡ Equal = cc in
-          w.self-is ∙ w.drop.view_is ∙ w.in_ok-self-inside-in-Equal.ensures ∙ sym (removed_equal g.met.K.Ord.total k f p).0
-      | in-Greater+in_ok-take-in-Greater+then-branch-2 w ↦
-          let p : g.K.Ord.cmp k c.in-Some.node.now.entry.0 ≡ Greater = cc in
-          w.self-is ∙ w.rebalance-then-branch-2.ensures ∙ sym (same_node (removed_greater g.met.K.Ord.total k f p) refl refl w.in_ok-take-in-Greater.ensures.ok).is
-      | in-Greater+in_ok-take-in-Greater+else-branch-2 w ↦
-          let p : g.K.Ord.cmp k c.in-Some.node.now.entry.0 ≡ Greater = cc in
-          w.self-is ∙ sym (same_node (removed_greater g.met.K.Ord.total k f p) refl refl w.in_ok-take-in-Greater.ensures.ok).is
-    ]
+pub take_under-returns-in_ok-take-in-None-clause-ok : goal.take_under-returns-in_ok-take-in-None-clause-ok
+take_under-returns-in_ok-take-in-None-clause-ok g t c =
+    let child = rw c.deref.ensures.value at c.in-Err.ensures.child in
+    let place = read_past c.args.node.now.branches.items c.in-Err.n (λ h. cc (c.in-None.ensures.variant.1 (omega (arith, h, c.args.node.now.branches.ok)))) in
+    c.merge-in-None.ensures.same
+    ∙ ap (λ z. spread c.args.node.now.branches.items ++ z) c.in_ok-take-in-None.ensures.ok
+    ∙ last_remove g.met.K.Ord.total c.args.sought.now c.args.node.now.branches.items c.in-Err.n c.args.node.now.last child place c.requires

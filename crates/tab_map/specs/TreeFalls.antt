@@ -1,0 +1,28 @@
+-- Each child of a node has fewer entries than the node.
+use Rattle.std.specs.Prelude.{ℕ, ◌+◌, ◌≤◌, List, [], ◌∷◌, ◌++◌, length, max}
+use Rattle.std.proofs.Common.{arith, length-append}
+use denote.Param.Weighed.{most}
+use Rattle.tab_key.specs.declared.Abbreviate as abbreviate
+use Rattle.std.specs.declared.cmp.Ord as ord
+use Rattle.std.specs.declared.cmp.PartialEq as partial_eq
+use Rattle.std.specs.declared.cmp.PartialOrd as partial_ord
+use Rattle.tab_map.specs.declared.Branch.{Branch}
+use Rattle.tab_map.specs.declared.Tree.{Tree}
+use Rattle.tab_map.specs.declared.Tree.TheVariants.{Empty, Leaf, Node}
+use Rattle.tab_map.specs.declared.Map.TheDeep.{deep-Tree, deep-Branch}
+use Rattle.tab_map.specs.InOrder.{spread, entries, HasBranch}
+
+module _ {K V : Type 0} (a : abbreviate.Ghosts K) (o : ord.Ghosts K) (e : partial_eq.Ghosts K) (p : partial_ord.Ghosts K) where
+  -- no child below a branch has more entries than all of them together
+  most_le-spread : (bs : List (Branch K V)) → most (deep-Branch K V a o e p) bs ≤ length (spread bs)
+  most_le-spread [] = omega arith
+  most_le-spread (b ∷ bs) = omega (arith, most_le-spread bs, length-append b.below (b.entry ∷ spread bs))
+
+  some_spread : (bs : List (Branch K V)) → 1 ≤ length bs → 1 ≤ length (spread bs)
+  some_spread [] h = h
+  some_spread (b ∷ bs) h = omega (arith, length-append b.below (b.entry ∷ spread bs))
+
+  pub falls : (t : Tree K V) → HasBranch t → max (deep-Tree K V a o e p t) 0 ≤ length (entries t)
+  falls Empty h = omega arith
+  falls (Leaf c) h = omega arith
+  falls (Node n) h = omega (arith, most_le-spread n.value.branches.items, length-append (spread n.value.branches.items) n.value.last, some_spread n.value.branches.items h)

@@ -1,0 +1,172 @@
+//! Rows and nodes that are too long are split at their middle. All memory is taken before an entry moves, and what
+//! is refused memory stays long.
+ghost use Rattle.std.specs.Prelude.{◌≡◌, ◌≤◌, ◌∷◌, ◌++◌, IfOk, OnErr, length};
+ghost use Rattle.tab_map.specs.Entries.{Ascends};
+ghost use Rattle.tab_map.specs.InOrder.{spread};
+
+use crate::entry::Entry;
+use crate::{Branch, Map, Node, Tree, branches, chunk};
+use std::alloc::{AllocError, Global};
+use std::mem;
+use std::sync::Arc;
+use tab_key::Abbreviate;
+
+impl<K: Abbreviate + Drop, V: Drop> Map<K, V> {
+    fn is_long(&self) -> bool {
+        match &self.root {
+            Tree::Empty => false,
+            Tree::Leaf(items) => items.len() > chunk::FULL,
+            Tree::Node(node) => node.branches.len() > branches::FULL,
+        }
+    }
+
+    /// The same entries, under one more node where the root is too long.
+    pub(crate) fn grow(&mut self, alloc: Global)
+        ensures { self.new ≡ self.old }
+    {
+        if self.is_long() {
+            let _ = self.try_grow(alloc);
+        }
+    }
+
+    fn try_grow(&mut self, alloc: Global) -> Result<(), AllocError>
+        ensures { self.new ≡ self.old }
+    {
+        let mut root = Map::bare(alloc, Vec::with_capacity(alloc, 1)?)?;
+        let Some(node) = Arc::get_mut(&mut root) else {
+            return Err(AllocError);
+        };
+        let half = self.lower_half(alloc)?;
+        let Ok(()) = node.branches.push(half) else {
+            unreachable!()
+        };
+        node.last = mem::replace(self, Map::new());
+        *self = Map {
+            root: Tree::Node(root),
+        };
+        Ok(())
+    }
+
+    // A node that waits for its last child.
+    fn bare(
+        alloc: Global,
+        branches: Vec<Branch<K, V>>,
+    ) -> Result<Arc<Node<K, V>, Global>, AllocError>
+        ensures { IfOk result (λ node. node.value.branches ≡ branches) }
+    {
+        let last = Map::new();
+        Ok(Arc::new(alloc, Node { branches, last })?)
+    }
+
+    // Takes the entries up to the middle one out.
+    fn lower_half(&mut self, alloc: Global) -> Result<Branch<K, V>, AllocError>
+        ensures ok { IfOk result (λ half. self.old ≡ half.below ++ half.entry ∷ self.new) }
+        ensures err { OnErr result (self.new ≡ self.old) }
+        ensures ascends { Ascends K.cmp self.old }
+    {
+        match &mut self.root {
+            Tree::Empty => Err(AllocError),
+            Tree::Leaf(items) => Map::lower_row(alloc, items),
+            Tree::Node(node) => Map::lower_node(alloc, node),
+        }
+    }
+
+    fn lower_row(
+        alloc: Global,
+        items: &mut Arc<Vec<Entry<K, V>>, Global>,
+    ) -> Result<Branch<K, V>, AllocError>
+        requires { Ascends K.cmp items.old.value.items }
+        ensures ok { IfOk result (λ half. items.old.value.items ≡ half.below ++ half.entry ∷ items.new.value.items) }
+        ensures err { OnErr result (items.new.value.items ≡ items.old.value.items) }
+        ensures sorted { Ascends K.cmp items.new.value.items }
+    {
+        let mut row = Arc::new(alloc, Vec::new(alloc))?;
+        let Some(lower) = Arc::get_mut(&mut row) else {
+            return Err(AllocError);
+        };
+        let Some(items) = Arc::get_mut(items) else {
+            return Err(AllocError);
+        };
+        if items.is_empty() {
+            return Err(AllocError);
+        }
+        let upper = items.split_off(items.len() / 2 + 1)?;
+        let Some(entry) = items.pop() else {
+            unreachable!()
+        };
+        *lower = mem::replace(items, upper);
+        let below = Map {
+            root: Tree::Leaf(row),
+        };
+        Ok(Branch { below, entry })
+    }
+
+    fn lower_node(
+        alloc: Global,
+        node: &mut Arc<Node<K, V>, Global>,
+    ) -> Result<Branch<K, V>, AllocError>
+        requires sorted { Ascends K.cmp (spread node.old.value.branches.items ++ node.old.value.last) }
+        requires some { 1 ≤ length node.old.value.branches.items }
+        ensures ok { IfOk result (λ half. spread node.old.value.branches.items ++ node.old.value.last ≡ half.below ++ half.entry ∷ (spread node.new.value.branches.items ++ node.new.value.last)) }
+        ensures err { OnErr result (spread node.new.value.branches.items ++ node.new.value.last ≡ spread node.old.value.branches.items ++ node.old.value.last) }
+        ensures sorted { Ascends K.cmp (spread node.new.value.branches.items ++ node.new.value.last) }
+        ensures some { 1 ≤ length node.new.value.branches.items }
+    {
+        let mut low = Map::bare(alloc, Vec::new(alloc))?;
+        let Some(lower) = Arc::get_mut(&mut low) else {
+            return Err(AllocError);
+        };
+        let Some(node) = Arc::get_mut(node) else {
+            return Err(AllocError);
+        };
+        if node.branches.len() < 3 {
+            return Err(AllocError);
+        }
+        let upper = node.branches.split_off(node.branches.len() / 2 + 1)?;
+        let Some(middle) = node.branches.pop() else {
+            unreachable!()
+        };
+        lower.branches = mem::replace(&mut node.branches, upper);
+        lower.last = middle.below;
+        let below = Map {
+            root: Tree::Node(low),
+        };
+        Ok(Branch {
+            below,
+            entry: middle.entry,
+        })
+    }
+}
+
+impl<K: Abbreviate + Drop, V: Drop> Node<K, V> {
+    /// The same entries, where the child at this place is split if it is too long.
+    pub(crate) fn split(&mut self, alloc: Global, n: usize)
+        requires { n ≤ length self.old.branches.items }
+        ensures same { spread self.new.branches.items ++ self.new.last ≡ spread self.old.branches.items ++ self.old.last }
+        ensures kept { length self.old.branches.items ≤ length self.new.branches.items }
+    {
+        let is_long = match self.branches.get(n) {
+            Some(branch) => branch.below.is_long(),
+            None => self.last.is_long(),
+        };
+        if is_long {
+            let _ = self.try_split(alloc, n);
+        }
+    }
+
+    fn try_split(&mut self, alloc: Global, n: usize) -> Result<(), AllocError>
+        requires { n ≤ length self.old.branches.items }
+        ensures same { spread self.new.branches.items ++ self.new.last ≡ spread self.old.branches.items ++ self.old.last }
+        ensures kept { length self.old.branches.items ≤ length self.new.branches.items }
+    {
+        self.branches.reserve(1)?;
+        let half = match self.branches.get_mut(n) {
+            Some(branch) => branch.below.lower_half(alloc)?,
+            None => self.last.lower_half(alloc)?,
+        };
+        let Ok(()) = self.branches.insert(n, half) else {
+            unreachable!()
+        };
+        Ok(())
+    }
+}
