@@ -1,13 +1,10 @@
 -- A list in two halves, with an item between them.
-use Rattle.std.proofs.Common.{◌≡◌, ℕ, zero, suc, ◌+◌, ◌≤◌, ◌<◌, slice_set, get_or, List, [], ◌∷◌, ◌++◌, length, take, drop, append_assoc, refl, sym, ap, ◌∙◌, subst, arith}
+use Rattle.std.proofs.Common.{◌≡◌, ℕ, zero, suc, ◌≤◌, ◌<◌, slice_set, get_or, List, [], ◌∷◌, ◌++◌, length, take, drop, append_assoc, refl, sym, ap, ◌∙◌, arith}
 use Rattle.std.proofs.lemmas.List.{take-append-drop}
 use Rattle.std.specs.List.{insert}
-use Rattle.std.specs.declared.cmp.Ordering.{Ordering}
 use Rattle.tab_map.specs.declared.Branch.{Branch}
-use Rattle.tab_map.specs.Entries.{Ascends}
 use Rattle.tab_map.specs.InOrder.{spread}
 use Rattle.tab_map.proofs.AtChild.{spread-append}
-use Rattle.tab_map.proofs.Order.{ascends_front, last_two}
 
 pub halves_of : {A : Type 0} (xs taken lower : List A) (e : A) (upper : List A) (n : ℕ) → taken ≡ take n xs → upper ≡ drop n xs → taken ≡ lower ++ e ∷ [] → xs ≡ lower ++ e ∷ upper
 halves_of xs taken lower e upper n p q r =

@@ -1,12 +1,12 @@
 -- Two children with the entry between them as one, and a branch whose entry is taken out.
-use Rattle.std.proofs.Common.{Option, None, Some, slice_get, slice_set, get_or, add-one, ◌≡◌, ℕ, zero, suc, ◌+◌, ◌≤◌, ◌<◌, List, [], ◌∷◌, ◌++◌, length, append_assoc, append-nil, length-append, MatchOption, refl, sym, ap, ◌∙◌, subst, arith}
+use Rattle.std.proofs.Common.{Option, None, Some, slice_get, slice_set, get_or, ◌≡◌, ℕ, zero, suc, ◌≤◌, ◌<◌, List, [], ◌∷◌, ◌++◌, length, append_assoc, append-nil, length-append, MatchOption, refl, sym, ap, ◌∙◌, subst, arith}
+use Rattle.std.proofs.lemmas.List.{get_or-set_same}
 use Rattle.std.specs.List.{remove}
 use Rattle.std.specs.declared.cmp.Ordering.{Ordering}
 use Rattle.tab_map.specs.declared.Branch.{Branch}
 use Rattle.tab_map.specs.Entries.{AllAbove, Ascends}
 use Rattle.tab_map.specs.InOrder.{spread}
-use Rattle.tab_map.specs.Branches.{without_entry}
-use Rattle.tab_map.proofs.AtChild.{later}
+use Rattle.tab_map.proofs.AtChild.{later, without_entry}
 use Rattle.tab_map.proofs.Halves.{spread_halves}
 use Rattle.tab_map.proofs.Order.{ascends_front, first_two}
 
@@ -71,11 +71,6 @@ set_set : {A : Type 0} (xs : List A) (n : ℕ) (x y : A) → slice_set (slice_se
 set_set [] n x y = refl
 set_set (z ∷ xs) zero x y = refl
 set_set (z ∷ xs) (suc n) x y = ap (λ w. z ∷ w) (set_set xs n x y)
-
-set_read : {A : Type 0} (xs : List A) (n : ℕ) (x y : A) → n < length xs → y ≡ get_or (slice_set xs n x) n y → y ≡ x
-set_read [] n x y h p = absurd (omega (arith, h))
-set_read (z ∷ xs) zero x y h p = p
-set_read (z ∷ xs) (suc n) x y h p = set_read xs n x y (omega (arith, h)) p
 
 -- the entries around the one of a branch
 record Around {K V : Type 0} (n : ℕ) (bs : List (Branch K V)) (m : List (K × V)) : Type 0 where
@@ -158,5 +153,5 @@ module _ {K V : Type 0} where
   pub taken_in_turn : (n : ℕ) (bs : List (Branch K V)) (m : List (K × V)) (b a y : Branch K V) (e : K × V) → n < length bs → b ≡ get_or bs n b → b.below ≡ a.below ++ e ∷ [] → y ≡ get_or (slice_set bs n a) n y → spread (slice_set (slice_set bs n a) n record { below = y.below; entry = e }) ++ m ≡ without_entry n bs m
   taken_in_turn n bs m b a y e h p q r =
       ap (λ z. spread z ++ m) (set_set bs n a record { below = y.below; entry = e })
-      ∙ ap (λ z. spread (slice_set bs n record { below = z.below; entry = e }) ++ m) (set_read bs n a y h r)
+      ∙ ap (λ z. spread (slice_set bs n record { below = z.below; entry = e }) ++ m) (r ∙ get_or-set_same bs n a y h)
       ∙ taken_below n bs m b a.below e h p q

@@ -1,6 +1,7 @@
 -- What is read at a node: the place of a key among its branches, and the entry that comes first.
-use Rattle.std.proofs.Common.{Option, None, Some, slice_get, get_or, add-one, ◌≡◌, ℕ, zero, suc, ◌+◌, ◌≤◌, ◌<◌, List, [], ◌∷◌, ◌++◌, length, take, drop, refl, sym, ap, ◌∙◌, subst, arith}
-use Rattle.std.proofs.Math.Seq.{get_or-append_seam}
+use Rattle.std.proofs.Common.{Option, None, Some, slice_get, get_or, add-one, ◌≡◌, ℕ, zero, suc, ◌+◌, ◌≤◌, ◌<◌, List, [], ◌∷◌, ◌++◌, length, take, drop, sym, ap, ◌∙◌, subst, arith}
+use Rattle.std.proofs.lemmas.List.{length-map, length-take-le, map-append}
+use Rattle.std.proofs.Math.Seq.{get_or-append_seam, split_at}
 use Rattle.std.specs.declared.cmp.Ordering.{Ordering}
 use Rattle.std.specs.declared.cmp.Ordering.TheVariants.{Less, Equal, Greater}
 use Rattle.std.specs.Cmp.{IsTotalOrder}
@@ -8,53 +9,46 @@ use Rattle.std.specs.Option.{option_copied}
 use denote.Ref.{Bor}
 use Rattle.tab_map.specs.declared.Branch.{Branch}
 use Rattle.tab_map.specs.Entries.{lookup, entries_from, entries_above, Ascends}
-use Rattle.tab_map.specs.InOrder.{spread}
-use Rattle.tab_map.specs.Branches.{PassesAll, IsBranch, IsChild}
+use Rattle.tab_map.specs.InOrder.{spread, separators}
+use Rattle.tab_map.specs.Places.{IsPast, HasAt, IsGap}
 use Rattle.tab_map.proofs.AtNode.{lookup_equal, from_less, from_equal, above_less, above_equal}
 use Rattle.tab_map.proofs.Order.{first_of_left, first_of_right, last_two}
 use Rattle.tab_map.proofs.Places.{get_next, head_is}
-use Rattle.tab_map.proofs.AtChild.{IsRoot, AtBranch, first_node, past_lookup, past_from, past_above, found_branch, child_branch, last_child, none_left}
-
--- the item e at n and the items around it
-module _ {A : Type 0} where
-  at_index : (xs : List A) (n : ℕ) (e : A) → n < length xs → e ≡ get_or xs n e → xs ≡ take n xs ++ e ∷ drop (suc n) xs
-  at_index [] n e h p = absurd (omega (arith, h))
-  at_index (x ∷ xs) zero e h p = ap (λ z. z ∷ xs) (sym p)
-  at_index (x ∷ xs) (suc n) e h p = ap (λ z. x ∷ z) (at_index xs n e (omega (arith, h)) p)
-
-  taken_count : (xs : List A) (n : ℕ) → n ≤ length xs → length (take n xs) ≡ n
-  taken_count xs zero h = refl
-  taken_count [] (suc n) h = absurd (omega (arith, h))
-  taken_count (x ∷ xs) (suc n) h = ap suc (taken_count xs n (omega (arith, h)))
+use Rattle.tab_map.proofs.AtChild.{IsRoot, AtBranch, Found, first_node, past_lookup, past_from, past_above, found_branch, child_branch, last_child, none_left}
 
 -- the place that a search of the branches comes to
 module _ {K V : Type 0} (cmp : K → K → Ordering) (k : K) where
-  pub passes_one_more : (bs : List (Branch K V)) (n : ℕ) (b : Branch K V) → n < length bs → b ≡ get_or bs n b → PassesAll cmp k (take n bs) → cmp k b.entry.0 ≡ Greater → PassesAll cmp k (take (n + 1) bs)
-  passes_one_more bs n b h p s q = subst (λ i. PassesAll cmp k (take i bs)) (sym (add-one n)) (by bs n h p s)
+  pub passes_one_more : (bs : List (Branch K V)) (n : ℕ) (b : Branch K V) → n < length bs → b ≡ get_or bs n b → IsPast cmp k (separators (take n bs)) → cmp k b.entry.0 ≡ Greater → IsPast cmp k (separators (take (n + 1) bs))
+  passes_one_more bs n b h p s q = subst (λ i. IsPast cmp k (separators (take i bs))) (sym (add-one n)) (by bs n h p s)
     where
-      by : (bs : List (Branch K V)) (n : ℕ) → n < length bs → b ≡ get_or bs n b → PassesAll cmp k (take n bs) → PassesAll cmp k (take (suc n) bs)
+      by : (bs : List (Branch K V)) (n : ℕ) → n < length bs → b ≡ get_or bs n b → IsPast cmp k (separators (take n bs)) → IsPast cmp k (separators (take (suc n) bs))
       by [] n h p s = absurd (omega (arith, h))
       by (x ∷ bs) zero h p s = (ap (λ z. cmp k z.entry.0) (sym p) ∙ q, tt)
       by (x ∷ bs) (suc n) h p s = (s.0, by bs n (omega (arith, h)) p s.1)
 
-  pub child_at : (bs : List (Branch K V)) (n : ℕ) (b : Branch K V) → n < length bs → b ≡ get_or bs n b → PassesAll cmp k (take n bs) → cmp k b.entry.0 ≡ Less → IsChild cmp k bs n
+  around : (bs : List (Branch K V)) (n : ℕ) (b : Branch K V) → n < length bs → b ≡ get_or bs n b → separators bs ≡ separators (take n bs) ++ b.entry ∷ separators (drop (suc n) bs)
+  around bs n b h p = ap separators (split_at bs n b h ∙ ap (λ z. take n bs ++ z ∷ drop (suc n) bs) (sym p)) ∙ map-append (λ z. z.entry) (take n bs) (b ∷ drop (suc n) bs)
+
+  before_count : (bs : List (Branch K V)) (n : ℕ) → n ≤ length bs → length (separators (take n bs)) ≡ n
+  before_count bs n h = length-map (take n bs) (λ b. b.entry) ∙ length-take-le n bs h
+
+  pub child_at : (bs : List (Branch K V)) (n : ℕ) (b : Branch K V) → n < length bs → b ≡ get_or bs n b → IsPast cmp k (separators (take n bs)) → cmp k b.entry.0 ≡ Less → IsGap cmp k (separators bs) n
   child_at bs n b h p s q = record {
-    before = take n bs;
-    after = b ∷ drop (suc n) bs;
-    is = at_index bs n b h p;
-    count = taken_count bs n (omega (arith, h));
-    passes = s;
-    stops = q;
+    before = separators (take n bs);
+    after = b.entry ∷ separators (drop (suc n) bs);
+    is = around bs n b h p;
+    count = before_count bs n (omega (arith, h));
+    past = s;
+    below = q;
   }
 
-  pub branch_at : (bs : List (Branch K V)) (n : ℕ) (b : Branch K V) → n < length bs → b ≡ get_or bs n b → PassesAll cmp k (take n bs) → cmp k b.entry.0 ≡ Equal → IsBranch cmp k bs n
-  branch_at bs n b h p s q = record {
-    before = take n bs;
-    branch = b;
-    after = drop (suc n) bs;
-    is = at_index bs n b h p;
-    count = taken_count bs n (omega (arith, h));
-    passes = s;
+  pub branch_at : (bs : List (Branch K V)) (n : ℕ) (b : Branch K V) → n < length bs → b ≡ get_or bs n b → cmp k b.entry.0 ≡ Equal → HasAt cmp k (separators bs) n
+  branch_at bs n b h p q = record {
+    before = separators (take n bs);
+    entry = b.entry;
+    after = separators (drop (suc n) bs);
+    is = around bs n b h p;
+    count = before_count bs n (omega (arith, h));
     equal = q;
   }
 
@@ -82,20 +76,20 @@ module _ {K V : Type 0} (cmp : K → K → Ordering) where
       record { after = spread h.0 ++ m; is = ap (λ z. spread z ++ m) h.1 ∙ (first_node cmp b h.0 m t).is }
 
 module _ {K V : Type 0} {cmp : K → K → Ordering} (o : IsTotalOrder cmp) (k : K) {d : List (K × V)} {bs : List (Branch K V)} {m : List (K × V)} (root : IsRoot cmp d bs m) where
-  found_is : (n : ℕ) (b : Branch K V) (f : IsBranch cmp k bs n) → b ≡ get_or bs n b → b ≡ f.branch
-  found_is n b f p = p ∙ ap (λ z. get_or z n b) f.is ∙ ap (λ i. get_or (f.before ++ f.branch ∷ f.after) i b) (sym f.count) ∙ get_or-append_seam f.before f.branch f.after b
+  found_is : (n : ℕ) (b : Branch K V) (h : Found cmp k bs n m) → b ≡ get_or bs n b → b ≡ h.branch
+  found_is n b h p = p ∙ ap (λ z. get_or z n b) h.place.is ∙ ap (λ i. get_or (h.place.before ++ h.branch ∷ h.place.after) i b) (sym h.place.count) ∙ get_or-append_seam h.place.before h.branch h.place.after b
 
-  pub found_lookup : (n : ℕ) (b : Branch K V) → IsBranch cmp k bs n → b ≡ get_or bs n b → Some b.entry.1 ≡ lookup cmp k d
+  pub found_lookup : (n : ℕ) (b : Branch K V) → HasAt cmp k (separators bs) n → b ≡ get_or bs n b → Some b.entry.1 ≡ lookup cmp k d
   found_lookup n b f p =
-      let h = found_branch k bs n m f root.sorted in
-      ap (λ z. Some z.entry.1) (found_is n b f p)
-      ∙ sym (ap (lookup cmp k) (root.is ∙ h.whole) ∙ past_lookup o k h.before (spread (f.branch ∷ h.after) ++ m) h.passes h.sorted ∙ lookup_equal o k h.node f.equal)
+      let h = found_branch o k bs n m f root.sorted in
+      ap (λ z. Some z.entry.1) (found_is n b h p)
+      ∙ sym (ap (lookup cmp k) (root.is ∙ h.place.whole) ∙ past_lookup o k h.place.before (spread (h.branch ∷ h.place.after) ++ m) h.place.passes h.place.sorted ∙ lookup_equal o k h.place.node h.equal)
 
-  pub found_from : (n : ℕ) (b : Branch K V) → IsBranch cmp k bs n → b ≡ get_or bs n b → Some b.entry ≡ slice_get (entries_from cmp k d) 0
+  pub found_from : (n : ℕ) (b : Branch K V) → HasAt cmp k (separators bs) n → b ≡ get_or bs n b → Some b.entry ≡ slice_get (entries_from cmp k d) 0
   found_from n b f p =
-      let h = found_branch k bs n m f root.sorted in
-      ap (λ z. Some z.entry) (found_is n b f p)
-      ∙ sym (ap (λ z. slice_get z 0) (ap (entries_from cmp k) (root.is ∙ h.whole) ∙ past_from o k h.before (spread (f.branch ∷ h.after) ++ m) h.passes h.sorted ∙ from_equal o k h.node f.equal))
+      let h = found_branch o k bs n m f root.sorted in
+      ap (λ z. Some z.entry) (found_is n b h p)
+      ∙ sym (ap (λ z. slice_get z 0) (ap (entries_from cmp k) (root.is ∙ h.place.whole) ∙ past_from o k h.place.before (spread (h.branch ∷ h.place.after) ++ m) h.place.passes h.place.sorted ∙ from_equal o k h.place.node h.equal))
 
   found_above : (n : ℕ) (b : Branch K V) (h : AtBranch cmp k bs n m b) → cmp k b.entry.0 ≡ Equal → entries_above cmp k d ≡ spread h.after ++ m
   found_above n b h q = ap (entries_above cmp k) (root.is ∙ h.whole) ∙ past_above o k h.before (spread (b ∷ h.after) ++ m) h.passes h.sorted ∙ above_equal o k h.node q
@@ -105,29 +99,29 @@ module _ {K V : Type 0} {cmp : K → K → Ordering} (o : IsTotalOrder cmp) (k :
       ap (slice_get bs) (add-one n) ∙ ap (λ z. slice_get z (suc n)) h.is ∙ ap (λ i. slice_get (h.before ++ b ∷ h.after) (suc i)) (sym h.count)
       ∙ get_next h.before b h.after
 
-  pub next_above_found : (n : ℕ) (b : Branch K V) → IsBranch cmp k bs n → slice_get bs (n + 1) ≡ Some b → Leads (entries_above cmp k d) b.below b.entry
+  pub next_above_found : (n : ℕ) (b : Branch K V) → HasAt cmp k (separators bs) n → slice_get bs (n + 1) ≡ Some b → Leads (entries_above cmp k d) b.below b.entry
   next_above_found n b f p =
-      let h = found_branch k bs n m f root.sorted in
-      let s = last_two cmp f.branch.below f.branch.entry (spread h.after ++ m) h.node.sorted in
-      subst (λ z. Leads z b.below b.entry) (sym (found_above n f.branch h f.equal)) (next_leads cmp h.after m b s (sym (after_get n f.branch h) ∙ p))
+      let h = found_branch o k bs n m f root.sorted in
+      let s = last_two cmp h.branch.below h.branch.entry (spread h.place.after ++ m) h.place.node.sorted in
+      subst (λ z. Leads z b.below b.entry) (sym (found_above n h.branch h.place h.equal)) (next_leads cmp h.place.after m b s (sym (after_get n h.branch h.place) ∙ p))
 
-  pub last_above_found : (n : ℕ) → IsBranch cmp k bs n → slice_get bs (n + 1) ≡ None → entries_above cmp k d ≡ m
+  pub last_above_found : (n : ℕ) → HasAt cmp k (separators bs) n → slice_get bs (n + 1) ≡ None → entries_above cmp k d ≡ m
   last_above_found n f p =
-      let h = found_branch k bs n m f root.sorted in
-      found_above n f.branch h f.equal ∙ ap (λ z. spread z ++ m) (none_left h.after (sym (after_get n f.branch h) ∙ p))
+      let h = found_branch o k bs n m f root.sorted in
+      found_above n h.branch h.place h.equal ∙ ap (λ z. spread z ++ m) (none_left h.place.after (sym (after_get n h.branch h.place) ∙ p))
 
-  pub child_from : (n : ℕ) (b : Branch K V) → IsChild cmp k bs n → slice_get bs n ≡ Some b → Leads (entries_from cmp k d) (entries_from cmp k b.below) b.entry
+  pub child_from : (n : ℕ) (b : Branch K V) → IsGap cmp k (separators bs) n → slice_get bs n ≡ Some b → Leads (entries_from cmp k d) (entries_from cmp k b.below) b.entry
   child_from n b f p =
       let h = child_branch k bs n m b f p root.sorted in
       record { after = spread h.0.after ++ m; is = ap (entries_from cmp k) (root.is ∙ h.0.whole) ∙ past_from o k h.0.before (spread (b ∷ h.0.after) ++ m) h.0.passes h.0.sorted ∙ from_less k h.0.node h.1 }
 
-  pub child_above : (n : ℕ) (b : Branch K V) → IsChild cmp k bs n → slice_get bs n ≡ Some b → Leads (entries_above cmp k d) (entries_above cmp k b.below) b.entry
+  pub child_above : (n : ℕ) (b : Branch K V) → IsGap cmp k (separators bs) n → slice_get bs n ≡ Some b → Leads (entries_above cmp k d) (entries_above cmp k b.below) b.entry
   child_above n b f p =
       let h = child_branch k bs n m b f p root.sorted in
       record { after = spread h.0.after ++ m; is = ap (entries_above cmp k) (root.is ∙ h.0.whole) ∙ past_above o k h.0.before (spread (b ∷ h.0.after) ++ m) h.0.passes h.0.sorted ∙ above_less k h.0.node h.1 }
 
-  pub last_from : (n : ℕ) → IsChild cmp k bs n → slice_get bs n ≡ None → entries_from cmp k d ≡ entries_from cmp k m
+  pub last_from : (n : ℕ) → IsGap cmp k (separators bs) n → slice_get bs n ≡ None → entries_from cmp k d ≡ entries_from cmp k m
   last_from n f p = ap (entries_from cmp k) root.is ∙ past_from o k bs m (last_child k bs n f p) root.sorted
 
-  pub last_above : (n : ℕ) → IsChild cmp k bs n → slice_get bs n ≡ None → entries_above cmp k d ≡ entries_above cmp k m
+  pub last_above : (n : ℕ) → IsGap cmp k (separators bs) n → slice_get bs n ≡ None → entries_above cmp k d ≡ entries_above cmp k m
   last_above n f p = ap (entries_above cmp k) root.is ∙ past_above o k bs m (last_child k bs n f p) root.sorted

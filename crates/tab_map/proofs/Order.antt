@@ -152,7 +152,7 @@ module _ {K V : Type 0} {cmp : K → K → Ordering} (o : IsTotalOrder cmp) wher
         | Greater ↦ λ h. (above_insert e.0 x es (o.antisymm e.0 x.0 ∙ ap ordering_reverse h) s.0, ascends_insert x es s.1)
       ] refl
 
--- what a rotation regroups
+-- parts of what ascends
 module _ {K V : Type 0} (cmp : K → K → Ordering) where
   pub last_two : (x : List (K × V)) (j : K × V) (y : List (K × V)) → Ascends cmp (x ++ j ∷ y) → Ascends cmp y
   last_two x j y s = (ascends_back cmp x (j ∷ y) s).1

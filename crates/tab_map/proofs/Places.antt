@@ -1,13 +1,12 @@
 -- Places in a row of entries, and what changes there.
-use Rattle.std.proofs.Common.{Option, None, Some, slice_get, slice_set, add-one, ◌≡◌, ℕ, suc, ◌+◌, ◌-◌, ◌≤◌, ◌<◌, List, [], ◌∷◌, ◌++◌, length, take, drop, get_or, append_assoc, refl, sym, ap, ◌∙◌, subst, arith, length-append}
+use Rattle.std.proofs.Common.{None, Some, slice_get, slice_set, add-one, ◌≡◌, ℕ, suc, ◌+◌, ◌-◌, ◌≤◌, ◌<◌, List, [], ◌∷◌, ◌++◌, length, take, drop, get_or, append_assoc, refl, sym, ap, ◌∙◌, subst, arith, length-append}
 use Rattle.std.proofs.lemmas.List.{take-append-drop}
-use Rattle.std.proofs.Math.Seq.{take-length, take-append_seam, drop-append_seam, get_or-append_seam}
+use Rattle.std.proofs.Math.Seq.{take-length, take-append_seam, drop-append_seam, get_or-append_seam, set-append_seam}
 use Rattle.std.specs.List.{insert, remove}
-use Rattle.std.specs.Ordering.{match_ordering}
 use Rattle.std.specs.declared.cmp.Ordering.{Ordering}
 use Rattle.std.specs.declared.cmp.Ordering.TheVariants.{Less, Equal, Greater}
 use Rattle.std.specs.Cmp.{IsTotalOrder}
-use Rattle.tab_map.specs.Entries.{AllAbove, Ascends, lookup, insert_entry, remove_entry, entries_from, entries_above}
+use Rattle.tab_map.specs.Entries.{Ascends, lookup, insert_entry, remove_entry, entries_from, entries_above}
 use Rattle.tab_map.specs.Places.{IsPast, IsUpTo, IsPlace, IsBelow, HasAt, IsGap}
 use Rattle.tab_map.proofs.Order.{above, above_back}
 use Rattle.tab_map.proofs.AtNode.{IsNode, lookup_equal, from_equal, above_equal, inserted_equal, removed_equal}
@@ -49,7 +48,7 @@ module _ {K V : Type 0} (cmp : K → K → Ordering) where
   }
 
 module _ {K V : Type 0} {cmp : K → K → Ordering} (o : IsTotalOrder cmp) where
-  past_before : (k : K) (l : List (K × V)) (e : K × V) (r : List (K × V)) → Ascends cmp (l ++ e ∷ r) → (cmp k e.0 ≡ Less → ⊥) → IsPast cmp k l
+  pub past_before : (k : K) (l : List (K × V)) (e : K × V) (r : List (K × V)) → Ascends cmp (l ++ e ∷ r) → (cmp k e.0 ≡ Less → ⊥) → IsPast cmp k l
   past_before k [] e r s p = tt
   past_before k (x ∷ l) e r s p = (above o x.0 e.0 k (above_back cmp x.0 l (e ∷ r) s.0).0 p, past_before k l e r s.1 p)
 
@@ -72,10 +71,6 @@ module _ {A : Type 0} where
   pub get_next : (l : List A) (e : A) (m : List A) → slice_get (l ++ e ∷ m) (suc (length l)) ≡ slice_get m 0
   get_next [] e m = refl
   get_next (x ∷ l) e m = get_next l e m
-
-  pub set_seam : (l : List A) (e : A) (m : List A) (x : A) → slice_set (l ++ e ∷ m) (length l) x ≡ l ++ x ∷ m
-  set_seam [] e m x = refl
-  set_seam (y ∷ l) e m x = ap (λ z. y ∷ z) (set_seam l e m x)
 
   drop_next : (l : List A) (e : A) (m : List A) → drop (suc (length l)) (l ++ e ∷ m) ≡ m
   drop_next [] e m = refl
@@ -189,7 +184,7 @@ module _ {K V : Type 0} {cmp : K → K → Ordering} (o : IsTotalOrder cmp) wher
 
   pub has_set : (x : K × V) (es : List (K × V)) (n : ℕ) → HasAt cmp x.0 es n → Ascends cmp es → slice_set es n x ≡ insert_entry cmp x es
   has_set x es n f s =
-      ap (λ z. slice_set z n x) f.is ∙ ap (λ i. slice_set (f.before ++ f.entry ∷ f.after) i x) (sym f.count) ∙ set_seam f.before f.entry f.after x
+      ap (λ z. slice_set z n x) f.is ∙ ap (λ i. slice_set (f.before ++ f.entry ∷ f.after) i x) (sym f.count) ∙ set-append_seam f.before f.entry f.after x
       ∙ sym (inserted_equal o x (has_node x.0 es n f s) f.equal).is
 
   pub has_remove : (k : K) (es : List (K × V)) (n : ℕ) → HasAt cmp k es n → Ascends cmp es → remove es n ≡ remove_entry cmp k es

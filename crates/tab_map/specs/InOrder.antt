@@ -1,5 +1,5 @@
 -- What the parts of a map are seen as.
-use Rattle.std.specs.Prelude.{ℕ, ◌≤◌, List, [], ◌∷◌, ◌++◌, Option, None, Some, length}
+use Rattle.std.specs.Prelude.{◌≤◌, List, [], ◌∷◌, ◌++◌, Option, None, Some, length, map}
 use Rattle.std.specs.declared.cmp.Ordering.{Ordering}
 use Rattle.tab_map.specs.Entries.{entries_above}
 use Rattle.tab_map.specs.declared.Branch.{Branch}
@@ -10,6 +10,10 @@ use Rattle.tab_map.specs.declared.Tree.TheVariants.{Empty, Leaf, Node}
 abbrev pub spread : {K V : Type 0} → List (Branch K V) → List (K × V)
 spread [] = []
 spread (b ∷ bs) = b.below ++ b.entry ∷ spread bs
+
+-- the entries that stand between the children of a node
+abbrev pub separators : {K V : Type 0} → List (Branch K V) → List (K × V)
+separators bs = map (λ b. b.entry) bs
 
 -- the entries of a B-tree, in order
 abbrev pub entries : {K V : Type 0} → Tree K V → List (K × V)

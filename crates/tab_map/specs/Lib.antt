@@ -1,4 +1,3 @@
-pub mod Branches
 pub mod Entries
 pub mod InOrder
 pub mod KeyList

@@ -1,5 +1,5 @@
 -- Each child of a node has fewer entries than the node.
-use Rattle.std.specs.Prelude.{ℕ, ◌+◌, ◌≤◌, List, [], ◌∷◌, ◌++◌, length, max}
+use Rattle.std.specs.Prelude.{◌≤◌, List, [], ◌∷◌, length, max}
 use Rattle.std.proofs.Common.{arith, length-append}
 use denote.Param.Weighed.{most}
 use Rattle.tab_key.specs.declared.Abbreviate as abbreviate

@@ -1,6 +1,7 @@
 //! The branches of a node: where a key belongs among them, and copies of them.
-ghost use Rattle.std.specs.Prelude.{◌≡◌, ◌<◌, ◌≤◌, IfOk, IfErr, length, take};
-ghost use Rattle.tab_map.specs.Branches.{IsBranch, IsChild};
+ghost use Rattle.std.specs.Prelude.{◌≡◌, ◌<◌, ◌≤◌, IfOk, IfErr, length};
+ghost use Rattle.tab_map.specs.InOrder.{separators};
+ghost use Rattle.tab_map.specs.Places.{HasAt, IsGap};
 
 use crate::Branch;
 use crate::entry::{Entry, Sought};
@@ -11,15 +12,15 @@ use tab_key::Abbreviate;
 /// The most branches in a node. More make a search shorter, and a copy longer.
 pub const FULL: usize = 16;
 
-/// The branch whose entry is at the key, or the one below whose entry the key belongs, which is none for the last
-/// child.
+/// The place of the branch whose entry has the key, or of the child to which the key belongs: the one below the branch
+/// at that place, or the last where there is none.
 pub fn place<K: Abbreviate + Drop, V: Drop>(
     branches: &[Branch<K, V>],
     sought: &Sought<K>,
 ) -> Result<usize, usize>
-    ensures found { IfOk result (λ n. IsBranch K.cmp sought.now branches.now n) }
+    ensures found { IfOk result (λ n. HasAt K.cmp sought.now (separators branches.now) n) }
     ensures found_in_node { IfOk result (λ n. n < length branches.now) }
-    ensures child { IfErr result (λ n. IsChild K.cmp sought.now branches.now n) }
+    ensures child { IfErr result (λ n. IsGap K.cmp sought.now (separators branches.now) n) }
     ensures child_in_node { IfErr result (λ n. n ≤ length branches.now) }
 {
     for (n, branch) in branches.iter().enumerate() {

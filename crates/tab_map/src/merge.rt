@@ -1,8 +1,8 @@
 //! Children that a removal has made short are merged with a neighbour, where the two fit one.
 ghost use Rattle.std.specs.Prelude.{◌≡◌, ◌≤◌, ◌<◌, ◌∷◌, ◌++◌, [], List, IfOk, IfSome, OnOk, OnErr, MatchOption, length};
-ghost use Rattle.tab_map.specs.Entries.{Ascends};
-ghost use Rattle.tab_map.specs.InOrder.{spread};
-ghost use Rattle.tab_map.specs.Branches.{without_entry};
+ghost use Rattle.tab_map.specs.Entries.{Ascends, remove_entry};
+ghost use Rattle.tab_map.specs.InOrder.{spread, separators};
+ghost use Rattle.tab_map.specs.Places.{HasAt};
 
 use crate::entry::Entry;
 use crate::{Branch, Map, Node, Tree, branches, chunk};
@@ -116,7 +116,7 @@ impl<K: Abbreviate + Drop, V: Drop> Node<K, V> {
     pub(crate) fn take_at(&mut self, alloc: Global, n: usize) -> Result<(), AllocError>
         requires in_node { n < length self.old.branches.items }
         requires sorted { Ascends K.cmp (spread self.old.branches.items ++ self.old.last) }
-        ensures ok { OnOk result (spread self.new.branches.items ++ self.new.last ≡ without_entry n self.old.branches.items self.old.last) }
+        ensures ok { OnOk result ((k : K) → HasAt K.cmp k (separators self.old.branches.items) n → spread self.new.branches.items ++ self.new.last ≡ remove_entry K.cmp k (spread self.old.branches.items ++ self.old.last)) }
         ensures err { OnErr result (spread self.new.branches.items ++ self.new.last ≡ spread self.old.branches.items ++ self.old.last) }
         ensures kept { OnErr result (length self.old.branches.items ≤ length self.new.branches.items) }
     {

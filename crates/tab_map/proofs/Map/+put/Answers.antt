@@ -1,8 +1,9 @@
-use Rattle.std.proofs.Common.{◌≡◌, ◌∷◌, ◌++◌, refl, sym, ap, ◌∙◌, subst, arith, length, slice_set}
+use Rattle.std.proofs.Common.{◌++◌, ◌<◌, refl, sym, ap, ◌∙◌, subst, arith, slice_set}
+use Rattle.std.proofs.lemmas.Option.{slice_get_read, slice_get_past}
 use Rattle.tab_map.specs.Entries.{Ascends}
 use Rattle.tab_map.specs.InOrder.{spread, entries}
 use Rattle.tab_map.proofs.Order.{ascends_insert}
-use Rattle.tab_map.proofs.AtChild.{is_root, same_root, child_insert, last_insert, found_insert, read_at, read_past}
+use Rattle.tab_map.proofs.AtChild.{is_root, same_root, child_insert, last_insert, found_insert}
 use Rattle.tab_map.proofs.Map.+put.Goals as goal
 
 pub put-invariant_of-self-in_ok-put_in_row-in-Leaf : goal.put-invariant_of-self-in_ok-put_in_row-in-Leaf
@@ -20,12 +21,12 @@ pub put_under-returns-in-Ok-clause-ok : goal.put_under-returns-in-Ok-clause-ok
 put_under-returns-in-Ok-clause-ok g t c =
     let found = rw (c.sought.ensures, c.deref.ensures.value) at c.in-Ok.ensures.found in
     let place = rw c.deref.ensures.value at c.in-Ok.ensures.found_in_node in
-    found_insert g.met.K.Ord.total c.args.entry _ c.in-Ok.n c.args.node.now.last c.index_mut.result.now found (read_at c.args.node.now.branches.items c.in-Ok.n c.index_mut.result.now place c.index_mut.ensures.value) c.requires
+    found_insert g.met.K.Ord.total c.args.entry _ c.in-Ok.n c.args.node.now.last c.index_mut.result.now found (slice_get_read _ _ _ _ refl place c.index_mut.ensures.value) c.requires
 
 pub put_under-returns-in_ok-put-in-Some-clause-ok : goal.put_under-returns-in_ok-put-in-Some-clause-ok
 put_under-returns-in_ok-put-in-Some-clause-ok g t c =
     let child = rw (c.sought.ensures, c.deref.ensures.value) at c.in-Err.ensures.child in
-    let place = read_at c.args.node.now.branches.items c.in-Err.n c.in-Some.branch.now (omega (arith, c.in-Some.ensures.variant.0 refl, c.args.node.now.branches.ok)) c.in-Some.ensures.value in
+    let place = slice_get_read _ _ _ _ c.args.node.now.branches.ok.0 (c.in-Some.ensures.variant.0 refl) c.in-Some.ensures.value in
     c.split.ensures.same
     ∙ ap (λ z. spread (slice_set c.args.node.now.branches.items c.in-Err.n record { below = z; entry = c.in-Some.branch.now.entry }) ++ c.args.node.now.last) c.in_ok-put-in-Some.ensures.ok
     ∙ child_insert g.met.K.Ord.total c.args.entry _ c.in-Err.n c.args.node.now.last c.in-Some.branch.now child place c.requires
@@ -33,7 +34,8 @@ put_under-returns-in_ok-put-in-Some-clause-ok g t c =
 pub put_under-returns-in_ok-put-in-None-clause-ok : goal.put_under-returns-in_ok-put-in-None-clause-ok
 put_under-returns-in_ok-put-in-None-clause-ok g t c =
     let child = rw (c.sought.ensures, c.deref.ensures.value) at c.in-Err.ensures.child in
-    let place = read_past c.args.node.now.branches.items c.in-Err.n (λ h. cc (c.in-None.ensures.variant.1 (omega (arith, h, c.args.node.now.branches.ok)))) in
+    let none : c.in-Err.n < c.args.node.now.branches.len → ⊥ = λ h. cc (c.in-None.ensures.variant.1 h) in
+    let place = slice_get_past c.args.node.now.branches.items c.in-Err.n (omega (arith, none, c.args.node.now.branches.ok)) in
     c.split-in-None.ensures.same
     ∙ ap (λ z. spread c.args.node.now.branches.items ++ z) c.in_ok-put-in-None.ensures.ok
     ∙ last_insert g.met.K.Ord.total c.args.entry _ c.in-Err.n c.args.node.now.last child place c.requires

@@ -1,8 +1,10 @@
-use Rattle.std.proofs.Common.{◌≡◌, ◌<◌, ◌∷◌, ◌++◌, refl, sym, ap, ◌∙◌, subst, arith, length, slice_set, OnOk}
-use Rattle.tab_map.specs.Entries.{Ascends, remove_entry}
+use Rattle.std.proofs.Common.{◌≡◌, ◌<◌, ◌++◌, refl, sym, ap, ◌∙◌, subst, arith, length, slice_set}
+use Rattle.std.proofs.lemmas.Result.{on_ok_weaker}
+use Rattle.std.proofs.lemmas.Option.{slice_get_read, slice_get_past}
+use Rattle.tab_map.specs.Entries.{Ascends}
 use Rattle.tab_map.specs.InOrder.{spread, entries}
 use Rattle.tab_map.proofs.Order.{ascends_remove}
-use Rattle.tab_map.proofs.AtChild.{is_root, same_root, child_remove, last_remove, found_remove, read_at, read_past, some_of}
+use Rattle.tab_map.proofs.AtChild.{is_root, same_root, child_remove, last_remove}
 use Rattle.tab_map.proofs.Map.+take.Goals as goal
 
 pub take-invariant_of-self-in-Continue-1 : goal.take-invariant_of-self-in-Continue-1
@@ -13,18 +15,17 @@ take-invariant_of-self-in-Continue-1 g t c =
 pub take-invariant_of-self-else-is_empty : goal.take-invariant_of-self-else-is_empty
 take-invariant_of-self-else-is_empty g t c =
     let root = is_root g.K.Ord.cmp c.self.view_is c.self.invariant c.in-Node.is in
-    let f = same_root root (ap (λ n. n.branches.items) c.in-Some.ensures.value ∙ c.own.ensures.branches) (ap (λ n. n.last) c.in-Some.ensures.value ∙ c.own.ensures.last) in (
-      subst (Ascends g.K.Ord.cmp) (sym c.in_ok-take_under-in-Node.ensures.ok) (ascends_remove g.K.Ord.cmp c.args.sought.now _ f.sorted),
-      some_of c.take_under.new.node.branches.items (λ h.
-          let none : c.node.inside.0.0.len ≡ 0 = omega (arith, h, ap (λ n. length n.branches.items) c.node.view_is, c.node.inside.0.0.ok) in
-          let empty = rw none at c.is_empty.ensures in
-          cc (empty, c.if-is_empty.false)),
-    )
+    let f = same_root root (ap (λ n. n.branches.items) c.in-Some.ensures.value ∙ c.own.ensures.branches) (ap (λ n. n.last) c.in-Some.ensures.value ∙ c.own.ensures.last) in
+    let some : length c.take_under.new.node.branches.items ≡ 0 → ⊥ = λ h.
+    let none : c.node.inside.0.0.len ≡ 0 = omega (arith, h, ap (λ n. length n.branches.items) c.node.view_is, c.node.inside.0.0.ok) in
+    let empty = rw none at c.is_empty.ensures in
+    cc (empty, c.if-is_empty.false) in
+    (subst (Ascends g.K.Ord.cmp) (sym c.in_ok-take_under-in-Node.ensures.ok) (ascends_remove g.K.Ord.cmp c.args.sought.now _ f.sorted), omega (arith, some))
 
 pub take_under-merge-requires : goal.take_under-merge-requires
 take_under-merge-requires g t c =
     let child = rw c.deref.ensures.value at c.in-Err.ensures.child in
-    let place = read_at c.args.node.now.branches.items c.in-Err.n c.in-Some.branch.now (omega (arith, c.in-Some.ensures.variant.0 refl, c.args.node.now.branches.ok)) c.in-Some.ensures.value in
+    let place = slice_get_read _ _ _ _ c.args.node.now.branches.ok.0 (c.in-Some.ensures.variant.0 refl) c.in-Some.ensures.value in
     let p = ap (λ z. spread (slice_set c.args.node.now.branches.items c.in-Err.n record { below = z; entry = c.in-Some.branch.now.entry }) ++ c.args.node.now.last) c.in_ok-take-in-Some.ensures.ok
     ∙ child_remove g.met.K.Ord.total c.args.sought.now c.args.node.now.branches.items c.in-Err.n c.args.node.now.last c.in-Some.branch.now child place c.requires in
     subst (Ascends g.K.Ord.cmp) (sym p) (ascends_remove g.K.Ord.cmp c.args.sought.now _ c.requires)
@@ -32,7 +33,8 @@ take_under-merge-requires g t c =
 pub take_under-merge-requires-in-None : goal.take_under-merge-requires-in-None
 take_under-merge-requires-in-None g t c =
     let child = rw c.deref.ensures.value at c.in-Err.ensures.child in
-    let place = read_past c.args.node.now.branches.items c.in-Err.n (λ h. cc (c.in-None.ensures.variant.1 (omega (arith, h, c.args.node.now.branches.ok)))) in
+    let none : c.in-Err.n < c.args.node.now.branches.len → ⊥ = λ h. cc (c.in-None.ensures.variant.1 h) in
+    let place = slice_get_past c.args.node.now.branches.items c.in-Err.n (omega (arith, none, c.args.node.now.branches.ok)) in
     let p = ap (λ z. spread c.args.node.now.branches.items ++ z) c.in_ok-take-in-None.ensures.ok
     ∙ last_remove g.met.K.Ord.total c.args.sought.now c.args.node.now.branches.items c.in-Err.n c.args.node.now.last child place c.requires in
     subst (Ascends g.K.Ord.cmp) (sym p) (ascends_remove g.K.Ord.cmp c.args.sought.now _ c.requires)
@@ -40,12 +42,12 @@ take_under-merge-requires-in-None g t c =
 pub take_under-returns-in-Ok-clause-ok : goal.take_under-returns-in-Ok-clause-ok
 take_under-returns-in-Ok-clause-ok g t c =
     let found = rw c.deref.ensures.value at c.in-Ok.ensures.found in
-    subst (λ z. OnOk c.take_at.result (spread c.take_at.new.self.branches.items ++ c.take_at.new.self.last ≡ z)) (found_remove g.met.K.Ord.total c.args.sought.now c.args.node.now.branches.items c.in-Ok.n c.args.node.now.last found c.requires) c.take_at.ensures.ok
+    on_ok_weaker c.take_at.result (λ h. h c.args.sought.now found) c.take_at.ensures.ok
 
 pub take_under-returns-in_ok-take-in-Some-clause-ok : goal.take_under-returns-in_ok-take-in-Some-clause-ok
 take_under-returns-in_ok-take-in-Some-clause-ok g t c =
     let child = rw c.deref.ensures.value at c.in-Err.ensures.child in
-    let place = read_at c.args.node.now.branches.items c.in-Err.n c.in-Some.branch.now (omega (arith, c.in-Some.ensures.variant.0 refl, c.args.node.now.branches.ok)) c.in-Some.ensures.value in
+    let place = slice_get_read _ _ _ _ c.args.node.now.branches.ok.0 (c.in-Some.ensures.variant.0 refl) c.in-Some.ensures.value in
     c.merge.ensures.same
     ∙ ap (λ z. spread (slice_set c.args.node.now.branches.items c.in-Err.n record { below = z; entry = c.in-Some.branch.now.entry }) ++ c.args.node.now.last) c.in_ok-take-in-Some.ensures.ok
     ∙ child_remove g.met.K.Ord.total c.args.sought.now c.args.node.now.branches.items c.in-Err.n c.args.node.now.last c.in-Some.branch.now child place c.requires
@@ -53,7 +55,8 @@ take_under-returns-in_ok-take-in-Some-clause-ok g t c =
 pub take_under-returns-in_ok-take-in-None-clause-ok : goal.take_under-returns-in_ok-take-in-None-clause-ok
 take_under-returns-in_ok-take-in-None-clause-ok g t c =
     let child = rw c.deref.ensures.value at c.in-Err.ensures.child in
-    let place = read_past c.args.node.now.branches.items c.in-Err.n (λ h. cc (c.in-None.ensures.variant.1 (omega (arith, h, c.args.node.now.branches.ok)))) in
+    let none : c.in-Err.n < c.args.node.now.branches.len → ⊥ = λ h. cc (c.in-None.ensures.variant.1 h) in
+    let place = slice_get_past c.args.node.now.branches.items c.in-Err.n (omega (arith, none, c.args.node.now.branches.ok)) in
     c.merge-in-None.ensures.same
     ∙ ap (λ z. spread c.args.node.now.branches.items ++ z) c.in_ok-take-in-None.ensures.ok
     ∙ last_remove g.met.K.Ord.total c.args.sought.now c.args.node.now.branches.items c.in-Err.n c.args.node.now.last child place c.requires

@@ -1,4 +1,4 @@
-use Rattle.std.proofs.Common.{◌≡◌, ◌∷◌, ◌++◌, length, ◌≤◌, sym, ap, ◌∙◌, subst}
+use Rattle.std.proofs.Common.{◌++◌, length, ◌≤◌, sym, ap, ◌∙◌, subst}
 use Rattle.tab_map.specs.Entries.{Ascends}
 use Rattle.tab_map.specs.InOrder.{spread}
 use Rattle.tab_map.proofs.AtChild.{is_root}

@@ -1,4 +1,4 @@
-use Rattle.std.proofs.Common.{◌≡◌, ◌∷◌, ◌++◌, sym, ap, ◌∙◌, subst, arith, length}
+use Rattle.std.proofs.Common.{◌++◌, sym, ap, ◌∙◌, subst, arith, length}
 use Rattle.tab_map.specs.Entries.{Ascends}
 use Rattle.tab_map.specs.InOrder.{spread}
 use Rattle.tab_map.proofs.Order.{ascends_front, last_two}

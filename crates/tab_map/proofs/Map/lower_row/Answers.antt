@@ -1,4 +1,4 @@
-use Rattle.std.proofs.Common.{◌≡◌, ◌∷◌, ◌++◌, sym, ap, ◌∙◌, subst}
+use Rattle.std.proofs.Common.{sym, ap, ◌∙◌, subst}
 use Rattle.tab_map.specs.Entries.{Ascends}
 use Rattle.tab_map.proofs.Order.{ascends_front, last_two}
 use Rattle.tab_map.proofs.Halves.{halves_of}

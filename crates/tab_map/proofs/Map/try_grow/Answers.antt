@@ -1,4 +1,4 @@
-use Rattle.std.proofs.Common.{◌≡◌, [], ◌∷◌, ◌++◌, length, sym, ap, ◌∙◌, subst, arith}
+use Rattle.std.proofs.Common.{[], ◌∷◌, ◌++◌, length, sym, ap, ◌∙◌, subst, arith}
 use Rattle.tab_map.specs.Entries.{Ascends}
 use Rattle.tab_map.proofs.Halves.{spread_one}
 use Rattle.tab_map.proofs.Map.try_grow.Goals as goal

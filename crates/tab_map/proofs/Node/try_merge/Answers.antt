@@ -1,4 +1,4 @@
-use Rattle.std.proofs.Common.{◌≡◌, add-one, slice_get, refl, sym, ap, ◌∙◌}
+use Rattle.std.proofs.Common.{add-one, slice_get, refl, sym, ap, ◌∙◌}
 use Rattle.std.proofs.lemmas.Bool.{ltb-false}
 use Rattle.std.proofs.lemmas.Option.{slice_get_read, slice_get_past}
 use Rattle.tab_map.proofs.Merged.{merge_child, merge_last, two_children, last_children}

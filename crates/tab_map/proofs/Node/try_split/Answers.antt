@@ -1,4 +1,4 @@
-use Rattle.std.proofs.Common.{◌≡◌, refl, ap, ◌∙◌, ◌++◌, ◌∷◌, length, arith}
+use Rattle.std.proofs.Common.{refl, ap, ◌∙◌, ◌++◌, arith}
 use Rattle.tab_map.specs.InOrder.{spread}
 use Rattle.tab_map.proofs.Halves.{split_child, split_last}
 use Rattle.tab_map.proofs.Node.try_split.Goals.{in-Some+in_ok-half-in-Some, in-None+in_ok-half-in-None}

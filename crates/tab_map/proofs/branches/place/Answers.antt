@@ -11,7 +11,7 @@ returns-in-Less-clause-child g c =
 pub returns-in-Equal-clause-found : goal.returns-in-Equal-clause-found
 returns-in-Equal-clause-found g c =
     let p : g.K.Ord.cmp c.args.sought.now c.index-branches-n.result.entry.0 ≡ Equal = cc in
-    branch_at g.K.Ord.cmp c.args.sought.now c.args.branches.now c.loop-n.n c.index-branches-n.result c.loop-n-test.true c.index-branches-n.is c.loop-n.invariant p
+    branch_at g.K.Ord.cmp c.args.sought.now c.args.branches.now c.loop-n.n c.index-branches-n.result c.loop-n-test.true c.index-branches-n.is p
 
 pub loop-n-preserved : goal.loop-n-preserved
 loop-n-preserved g c =

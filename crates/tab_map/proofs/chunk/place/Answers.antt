@@ -1,7 +1,7 @@
 use Rattle.std.proofs.Common.{◌≡◌, refl}
 use Rattle.std.proofs.lemmas.Option.{slice_get_read}
 use Rattle.std.specs.declared.cmp.Ordering.TheVariants.{Equal}
-use Rattle.tab_map.proofs.Places.{found_at, gap_at}
+use Rattle.tab_map.proofs.Places.{found_at}
 use Rattle.tab_map.proofs.chunk.place.Goals as goal
 
 pub returns-in-Equal-clause-found : goal.returns-in-Equal-clause-found
