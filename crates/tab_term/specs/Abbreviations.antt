@@ -1,31 +1,81 @@
 -- The number that stands for a term among the keys of a container.
-use Rattle.std.proofs.Common.{◌≡◌, ℕ, ◌+◌, ◌-◌, ◌*◌, ◌^◌, ◌<◌, ◌≤◌, Bool, true, false, nat_lt, if◌then◌else◌, List, length, min, refl, ap, ◌∙◌, Ordering, Less, nat_cmp, arith}
+use Rattle.std.proofs.Common.{◌≡◌, ℕ, zero, suc, ◌+◌, ◌-◌, ◌*◌, ◌^◌, ◌<◌, ◌≤◌, Bool, true, false, nat_lt, if◌then◌else◌, List, [], ◌∷◌, length, min, refl, ap, ◌∙◌, Ordering, Less, Equal, Greater, nat_cmp, arith}
 use Rattle.std.specs.Prelude.{ℤ, unsigned_abs}
-use Rattle.std.specs.Ordering.{ordering_then}
+use Rattle.std.specs.Ordering.{ordering_then, MatchOrdering}
+use Rattle.std.proofs.lemmas.Cmp.{ranked}
 use Rattle.std.specs.Int.{w32, cast_unsigned}
 use Rattle.tab_term.specs.Data.{PlainTerm, int, atom, tuple, list, bin, map, count, pair_count}
-use Rattle.tab_term.specs.Canon.{canon, tag, int_tag, int_contents, is_byte, fits_four}
+use Rattle.tab_term.specs.Canon.{canon, tag, int_tag, int_contents, is_byte, fits_four, sign_of, magnitude}
 use Rattle.tab_term.specs.Order.{bytes_cmp, order, contents_order, members_order, pairs_order}
-use Rattle.tab_term.specs.Numbers.{less_is}
+use Rattle.tab_term.specs.Numbers.{less_is, tie_is, two_less, power_above}
 use Rattle.tab_term.specs.Compare.{apart, int_tag_at, lt_is, ge_is}
-use Rattle.tab_term.specs.OrderLaws.{order_is, at_one_tag, bytes_at, fours_at}
+use Rattle.tab_term.specs.OrderLaws.{order_is, at_one_tag, bytes_at, fours_at, bigs_at}
 
--- an integer by whether a byte, or four, hold it
+-- the number of the first k bytes, the highest first. A byte of 255, and what is above a byte, stand with all that
+-- follow for the greatest number there is, so lists that first differ after it tie
+abbrev pub head : ℕ → List ℕ → ℕ
+head zero bs = 0
+head (suc k) [] = 0
+head (suc k) (b ∷ bs) = if nat_lt b 255 then b * 256 ^ k + head k bs else 256 ^ suc k - 1
+
+-- how long a text is, and its first five bytes
+abbrev pub text_weight : ℕ → List ℕ → ℕ
+text_weight n bs = n * 256 ^ 5 + head 5 bs
+
+-- an integer by whether a byte, or four, hold it: else its digits, the lowest first, as they are spelled
 abbrev pub weight_at : Bool → Bool → ℤ → ℕ
-weight_at p q z = if p then unsigned_abs z else (if q then cast_unsigned w32 z else 0)
+weight_at p q z =
+    if p then unsigned_abs z
+    else (if q then cast_unsigned w32 z
+    else text_weight (length (magnitude (unsigned_abs z))) (sign_of z ∷ magnitude (unsigned_abs z)))
 
--- of two terms with one tag, the one with the lesser weight is the lesser; integers that want over four bytes tie
+-- of two terms with one tag, the one with the lesser weight is the lesser
 abbrev pub weight : PlainTerm → ℕ
 weight (int z) = weight_at (is_byte z) (fits_four z) z
-weight (atom s) = length s
+weight (atom s) = text_weight (length s) s
 weight (tuple ts) = count ts
 weight (list ts) = count ts
-weight (bin b) = length b
+weight (bin b) = text_weight (length b) b
 weight (map ps) = pair_count ps
 
 -- the tag, and the weight as far as 48 bits hold it
 abbrev pub number : PlainTerm → ℕ
 number t = tag t * 2 ^ 48 + min (weight t) (2 ^ 48 - 1)
+
+head_of_byte : (p : Bool) (k b : ℕ) (bs : List ℕ) → nat_lt b 255 ≡ p → head k bs < 256 ^ k → (if p then b * 256 ^ k + head k bs else 256 ^ suc k - 1) < 256 ^ suc k
+head_of_byte true k b bs hp h = omega (arith, two_less (256 ^ k) b 255 (head k bs) 0 h (lt_is b 255 hp))
+head_of_byte false k b bs hp h = omega (arith, power_above k)
+
+pub head_below : (k : ℕ) (bs : List ℕ) → head k bs < 256 ^ k
+head_below zero bs = omega arith
+head_below (suc k) [] = power_above (suc k)
+head_below (suc k) (b ∷ bs) = head_of_byte (nat_lt b 255) k b bs refl (head_below k bs)
+
+head_less : (k : ℕ) (xs ys : List ℕ) → head k xs < head k ys → bytes_cmp xs ys ≡ Less
+head_less zero xs ys h = absurd (omega (arith, h))
+head_less (suc k) [] [] h = absurd (omega (arith, h))
+head_less (suc k) [] (y ∷ ys) h = refl
+head_less (suc k) (x ∷ xs) [] h = absurd (omega (arith, h))
+head_less (suc k) (x ∷ xs) (y ∷ ys) h = by (nat_lt x 255) (nat_lt y 255) refl refl (head_less k xs ys) h
+  where
+    at : (o : Ordering) → (head k xs < head k ys → bytes_cmp xs ys ≡ Less) → MatchOrdering o (x < y) (x ≡ y) (y < x) → x * 256 ^ k + head k xs < y * 256 ^ k + head k ys → ordering_then (nat_cmp x y) (bytes_cmp xs ys) ≡ Less
+    at Less f r h = ap (λ o. ordering_then o (bytes_cmp xs ys)) (less_is x y r)
+    at Equal f r h = ap (λ o. ordering_then o (bytes_cmp xs ys)) (tie_is x y r) ∙ f (omega (arith, h, ap (λ n. n * 256 ^ k) r))
+    at Greater f r h = absurd (omega (arith, h, two_less (256 ^ k) y x (head k ys) (head k xs) (head_below k ys) r))
+
+    by : (p q : Bool) → nat_lt x 255 ≡ p → nat_lt y 255 ≡ q → (head k xs < head k ys → bytes_cmp xs ys ≡ Less) → (if p then x * 256 ^ k + head k xs else 256 ^ suc k - 1) < (if q then y * 256 ^ k + head k ys else 256 ^ suc k - 1) → ordering_then (nat_cmp x y) (bytes_cmp xs ys) ≡ Less
+    by true true hp hq f h = at (nat_cmp x y) f (ranked x y (nat_cmp x y) refl) h
+    by true false hp hq f h = ap (λ o. ordering_then o (bytes_cmp xs ys)) (less_is x y (omega (arith, lt_is x 255 hp, ge_is y 255 hq)))
+    by false true hp hq f h = absurd (omega (arith, h, head_of_byte true k y ys hq (head_below k ys)))
+    by false false hp hq f h = absurd (omega (arith, h))
+
+text_less : (n m : ℕ) (xs ys : List ℕ) → text_weight n xs < text_weight m ys → ordering_then (nat_cmp n m) (bytes_cmp xs ys) ≡ Less
+text_less n m xs ys h = by (nat_cmp n m) (ranked n m (nat_cmp n m) refl)
+  where
+    by : (o : Ordering) → MatchOrdering o (n < m) (n ≡ m) (m < n) → ordering_then (nat_cmp n m) (bytes_cmp xs ys) ≡ Less
+    by Less r = ap (λ o. ordering_then o (bytes_cmp xs ys)) (less_is n m r)
+    by Equal r = ap (λ o. ordering_then o (bytes_cmp xs ys)) (tie_is n m r) ∙ head_less 5 xs ys (omega (arith, h, r))
+    by Greater r = absurd (omega (arith, h, r, head_below 5 ys))
 
 int_less : (x y : ℤ) → int_tag x ≡ int_tag y → weight (int x) < weight (int y) → bytes_cmp (int_contents x) (int_contents y) ≡ Less
 int_less x y e h = by (is_byte x) (fits_four x) (is_byte y) (fits_four y) refl refl e h
@@ -39,17 +89,19 @@ int_less x y e h = by (is_byte x) (fits_four x) (is_byte y) (fits_four y) refl r
     by false true false false hp hq t h = absurd (omega arith)
     by false false true _ hp hq t h = absurd (omega arith)
     by false false false true hp hq t h = absurd (omega arith)
-    by false false false false hp hq t h = absurd (omega (arith, h))
+    by false false false false hp hq t h =
+        bigs_at x y hp hq e
+        ∙ text_less (length (magnitude (unsigned_abs x))) (length (magnitude (unsigned_abs y))) (sign_of x ∷ magnitude (unsigned_abs x)) (sign_of y ∷ magnitude (unsigned_abs y)) h
 
 first_less : (n m : ℕ) (o : Ordering) → n < m → ordering_then (nat_cmp n m) o ≡ Less
 first_less n m o h = ap (λ c. ordering_then c o) (less_is n m h)
 
 contents_less : (a b : PlainTerm) → tag a ≡ tag b → weight a < weight b → contents_order a b ≡ Less
 contents_less (int x) (int y) e h = int_less x y e h
-contents_less (atom s) (atom t) e h = first_less (length s) (length t) (bytes_cmp s t) h
+contents_less (atom s) (atom t) e h = text_less (length s) (length t) s t h
 contents_less (tuple xs) (tuple ys) e h = first_less (count xs) (count ys) (members_order xs ys) h
 contents_less (list xs) (list ys) e h = first_less (count xs) (count ys) (members_order xs ys) h
-contents_less (bin s) (bin t) e h = first_less (length s) (length t) (bytes_cmp s t) h
+contents_less (bin s) (bin t) e h = text_less (length s) (length t) s t h
 contents_less (map ps) (map qs) e h = first_less (pair_count ps) (pair_count qs) (pairs_order ps qs) h
 contents_less a b e h = absurd (apart a b e (λ k. omega (arith, k)))
 

@@ -233,14 +233,19 @@ fn numbers_of_keys(rt: HostRuntime) -> Result<(), Fail> {
         (7i128, 0x0061_0000_0000_0007u64),
         (256, 0x0062_0000_0000_0100),
         (-1, 0x0062_0000_ffff_ffff),
-        (1 << 31, 0x006e_0000_0000_0000),
-        (-1 << 80, 0x006e_0000_0000_0000),
+        (1 << 31, 0x006e_0400_0000_0080),
+        (-1 << 80, 0x006e_0b01_0000_0000),
+        (0x0102_0304_05ff, 0x006e_0600_ffff_ffff),
     ] {
         assert_eq!(rt; number(&Term::Int(z)), wanted, "of {z}");
     }
     let name = Atom::from_short_text(alloc, "person")?;
     assert_eq!(rt; number(&name), 0);
-    assert_eq!(rt; number(&Term::Atom(name)), 0x0077_0000_0000_0006);
+    assert_eq!(rt; number(&Term::Atom(name)), 0x0077_0670_6572_736f);
+    for (count, wanted) in [(2, 0x006d_0261_6100_0000u64), (300, 0x006d_ffff_ffff_ffff)] {
+        let bytes = binary(alloc, count, b'a')?;
+        assert_eq!(rt; number(&Term::Bin(bytes)), wanted, "of {count} bytes");
+    }
     let tuple = tuple_of(alloc, Term::Int(5))?;
     assert_eq!(rt; number(&tuple), 0x0068_0000_0000_0001);
     Ok(())

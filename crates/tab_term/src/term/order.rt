@@ -3,13 +3,13 @@
 //! A list is told from a list of bytes by a walk up to its first member that is no byte; everything else stops
 //! at the first difference.
 
-ghost use Rattle.std.specs.Prelude.{◌≡◌, ◌∷◌, List, ℕ, ◌++◌, length, true, unsigned_abs};
+ghost use Rattle.std.specs.Prelude.{◌≡◌, ◌<◌, ◌≤◌, ◌+◌, ◌-◌, ◌*◌, ◌^◌, ◌∷◌, List, ℕ, ◌++◌, length, min, true, unsigned_abs};
 ghost use Rattle.std.specs.Ordering.{nat_cmp, ordering_then, on};
 ghost use Rattle.std.specs.Cmp.{IsTotalOrder};
 ghost use Rattle.std.specs.declared.cmp.Ordering.TheVariants.{Equal};
 ghost use Rattle.std.specs.Cmp.Lexicographic.{slice_cmp};
 ghost use Rattle.std.specs.Int.{w32, cast_unsigned};
-ghost use Rattle.tab_term.specs.Abbreviations.{weight as weight_of};
+ghost use Rattle.tab_term.specs.Abbreviations.{weight as weight_of, head as head_of, text_weight as text_weight_of};
 ghost use Rattle.tab_term.specs.Data.{PlainTerm, int, count, pair_count};
 ghost use Rattle.tab_term.specs.View.{term, terms};
 ghost use Rattle.tab_term.specs.Canon.{tag as tag_of, int_tag as int_tag_of, int_contents, list_tag as list_tag_of, all_bytes, is_byte_term as is_byte_term_of, is_byte as is_byte_of, fits_four as fits_four_of, sign_of, magnitude, significant, canon};
@@ -22,6 +22,9 @@ use tab_key::Abbreviate;
 
 // A weight takes the low 48 bits of a term's number.
 const WEIGHTS: u64 = 0x1_0000_0000_0000;
+
+// The first bytes of a text take the low 40 bits of its weight.
+const HEADS: u64 = 0x100_0000_0000;
 
 fn is_byte(z: i128) -> bool
     ensures { result ≡ is_byte_of z }
@@ -323,33 +326,84 @@ impl PartialOrd for Term {
     }
 }
 
+// The number of the first `count` bytes, the highest first, below `room`. A byte of 255 and what follows it stand for
+// the greatest number, since the law is to hold of all lists of numbers.
+fn head(bytes: &[u8], count: u8, room: u64) -> u64
+    requires room { room ≡ 256 ^ count }
+    requires small { room ≤ 256 ^ 5 }
+    ensures head { result ≡ head_of count bytes.now }
+    ensures below { result < room }
+{
+    let [first, rest @ ..] = bytes else {
+        return 0;
+    };
+    if count == 0 {
+        return 0;
+    }
+    if *first == 255 {
+        return room - 1;
+    }
+    let below = room / 256;
+    u64::from(*first) * below + head(rest, count - 1, below)
+}
+
+fn after_length(length: usize, head: u64) -> u64
+    requires { head < 256 ^ 5 }
+    ensures { result ≡ min (length * 256 ^ 5 + head) (2 ^ 48 - 1) }
+{
+    if length < 256 {
+        length as u64 * HEADS + head
+    } else {
+        WEIGHTS - 1
+    }
+}
+
+fn text_weight(bytes: &[u8]) -> u64
+    ensures { result ≡ min (text_weight_of (length bytes.now) bytes.now) (2 ^ 48 - 1) }
+{
+    after_length(bytes.len(), head(bytes, 5, HEADS))
+}
+
+fn big_weight(z: i128) -> u64
+    ensures { result ≡ min (text_weight_of (length (magnitude (unsigned_abs z))) (sign_of z ∷ magnitude (unsigned_abs z))) (2 ^ 48 - 1) }
+{
+    let bytes = low_first(z.unsigned_abs());
+    let digits = significant_of(&bytes);
+    let below = HEADS / 256;
+    after_length(
+        digits.len(),
+        u64::from(sign_byte(z)) * below + head(digits, 4, below),
+    )
+}
+
 fn int_weight(z: i128) -> u64
-    ensures { result ≡ weight_of (int z) }
+    ensures { result ≡ min (weight_of (int z)) (2 ^ 48 - 1) }
 {
     if is_byte(z) {
         z as u64
     } else if fits_four(z) {
         u64::from(four(z))
     } else {
-        0
+        big_weight(z)
     }
 }
 
+// The weight as far as 48 bits hold it.
 #[tactic(auto, using(crate::proofs::Lists::count_terms, crate::proofs::Lists::count_pairs))]
 fn weight(t: &Term) -> u64
-    ensures { result ≡ weight_of (term t.now) }
+    ensures { result ≡ min (weight_of (term t.now)) (2 ^ 48 - 1) }
 {
     match t {
         Term::Int(z) => int_weight(*z),
-        Term::Atom(a) => a.as_str().len() as u64,
-        Term::Tuple(ts) | Term::List(ts) => ts.as_slice().len() as u64,
-        Term::Bin(b) => b.as_slice().len() as u64,
-        Term::Map(ps) => ps.as_slice().len() as u64,
+        Term::Atom(a) => text_weight(a.as_str().as_bytes()),
+        Term::Bin(b) => text_weight(b.as_slice()),
+        Term::Tuple(ts) | Term::List(ts) => (ts.as_slice().len() as u64).min(WEIGHTS - 1),
+        Term::Map(ps) => (ps.as_slice().len() as u64).min(WEIGHTS - 1),
     }
 }
 
-/// The tag of the spelling, and what comes next where it is short: an integer of up to four bytes, or how many bytes
-/// or elements there are. Integers of more bytes tie, and so do tuples of one size.
+/// The tag of the spelling, and what comes next: an integer of up to four bytes; of a longer one, of an atom and of a
+/// binary, how many bytes there are (up to 255) and the first of them; how many elements a tuple, list or map has.
 impl Abbreviate for Term {
     ghost use Rattle.tab_term.specs.View.{term};
     ghost use Rattle.tab_term.specs.Abbreviations.{number, spelled_less};
@@ -359,6 +413,6 @@ impl Abbreviate for Term {
     ghost agrees = { λ a b h. spelled_less (term a) (term b) h };
 
     fn abbreviated(&self) -> u64 {
-        u64::from(tag(self)) * WEIGHTS + weight(self).min(WEIGHTS - 1)
+        u64::from(tag(self)) * WEIGHTS + weight(self)
     }
 }
