@@ -128,10 +128,14 @@ impl<K: Abbreviate + Drop, V: Drop> Map<K, V> {
         Map::node(alloc, Branch { below, entry }, right)
     }
 
+    // One node, where the two fit it, or a node over them.
     fn node(alloc: Global, branch: Branch<K, V>, last: Map<K, V>) -> Result<Map<K, V>, AllocError>
         requires { Ascends K.cmp (branch.below ++ branch.entry ∷ last) }
         ensures { IfOk result (λ m. m ≡ branch.below ++ branch.entry ∷ last) }
     {
+        if let Some(joined) = branch.below.joined(alloc, &branch.entry, &last)? {
+            return Ok(joined);
+        }
         let mut branches = Vec::new(alloc);
         branches.push(branch)?;
         Ok(Map {

@@ -72,7 +72,7 @@ impl<K: Abbreviate + Drop, V: Drop> Map<K, V> {
     }
 
     // The two maps with the entry between them as one row or node, where they are short enough for that.
-    fn joined(
+    pub(crate) fn joined(
         &self,
         alloc: Global,
         entry: &Entry<K, V>,

@@ -183,6 +183,17 @@ fn is_low<K: Abbreviate + Drop, V: Drop>(map: &Map<K, V>, count: usize) -> bool 
     }
 }
 
+// The same map, built at once.
+fn built_again(alloc: Global, map: &Map<u32, ()>) -> Result<Map<u32, ()>, AllocError>
+    ensures { IfOk result (λ again. again ≡ map.now) }
+{
+    let mut entries = Vec::new(alloc);
+    for entry in map.iter() {
+        entries.push(*entry)?;
+    }
+    Map::from_sorted(alloc, entries)
+}
+
 // A number that no other n below 2^32 gives, in no order.
 fn scattered(n: u32) -> u32 {
     n.wrapping_mul(0x9e37_79b1)
@@ -202,6 +213,7 @@ fn stays_low(rt: HostRuntime) -> Result<(), Fail> {
             assert!(rt; is_low(&map, n as usize + 1), "after insert {n}");
         }
         assert_eq!(rt; levels(&map), height(&map));
+        assert!(rt; levels(&built_again(rt.alloc(), &map)?) <= 3);
         for n in 0..100_000u32 {
             map = map.removed(rt.alloc(), &order(n))?;
             assert!(rt; is_low(&map, 99_999 - n as usize), "after removal {n}");
