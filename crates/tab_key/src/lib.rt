@@ -4,8 +4,9 @@
 //! keys only where their numbers tie.
 #![tactic(auto)]
 
-ghost use Rattle.std.specs.Prelude.{◌≡◌, ℕ};
+ghost use Rattle.std.specs.Prelude.{◌≡◌, ◌<◌, ◌^◌, ℕ};
 ghost use Rattle.tab_key.specs.Agree.{Agrees};
+ghost use Rattle.tab_key.specs.Heads.{head as head_of};
 
 #[cfg(test)]
 mod tests;
@@ -48,16 +49,36 @@ impl Abbreviate for u32 {
     }
 }
 
-/// All strings tie.
+/// The number of the first `count` bytes, the first the highest, which is below `room`, 256 to the power `count`. A byte
+/// of 255 and what follows it stand for the greatest such number, since the law is to hold of all lists of numbers.
+pub fn head(bytes: &[u8], count: u8, room: u64) -> u64
+    requires room { room ≡ 256 ^ count }
+    ensures head { result ≡ head_of count bytes.now }
+    ensures below { result < room }
+{
+    let [first, rest @ ..] = bytes else {
+        return 0;
+    };
+    if count == 0 {
+        return 0;
+    }
+    if *first == 255 {
+        return room - 1;
+    }
+    let below = room / 256;
+    u64::from(*first) * below + head(rest, count - 1, below)
+}
+
+/// The first seven bytes. Strings that differ only later tie.
 impl Abbreviate for String {
-    ghost use Rattle.std.specs.String.{string_cmp};
-    ghost use Rattle.tab_key.specs.Agree.{one_number_agrees};
+    ghost use Rattle.std.specs.Prelude.{string_bytes};
+    ghost use Rattle.tab_key.specs.Heads.{head, head_less};
 
-    ghost abbreviation = { λ text. 0 };
+    ghost abbreviation = { λ text. head 7 (string_bytes text) };
 
-    ghost agrees = { one_number_agrees string_cmp };
+    ghost agrees = { λ a b h. head_less 7 (string_bytes a) (string_bytes b) h };
 
     fn abbreviated(&self) -> u64 {
-        0
+        head(self.as_bytes(), 7, 0x100_0000_0000_0000)
     }
 }

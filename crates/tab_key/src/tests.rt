@@ -11,6 +11,6 @@ fn numbers(rt: HostRuntime) -> Result<(), Fail> {
     assert_eq!(rt; number(&u64::MAX), u64::MAX);
     assert_eq!(rt; number(&7u32), 7);
     let text = String::from_str(rt.alloc(), "text")?;
-    assert_eq!(rt; number(&text), 0);
+    assert_eq!(rt; number(&text), 0x0074_6578_7400_0000);
     Ok(())
 }

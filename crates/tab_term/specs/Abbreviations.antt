@@ -1,5 +1,5 @@
 -- The number that stands for a term among the keys of a container.
-use Rattle.std.proofs.Common.{◌≡◌, ℕ, zero, suc, ◌+◌, ◌-◌, ◌*◌, ◌^◌, ◌<◌, ◌≤◌, Bool, true, false, nat_lt, if◌then◌else◌, List, [], ◌∷◌, length, min, refl, ap, ◌∙◌, Ordering, Less, Equal, Greater, nat_cmp, arith}
+use Rattle.std.proofs.Common.{◌≡◌, ℕ, ◌+◌, ◌-◌, ◌*◌, ◌^◌, ◌<◌, ◌≤◌, Bool, true, false, nat_lt, if◌then◌else◌, List, ◌∷◌, length, min, refl, ap, ◌∙◌, Ordering, Less, Equal, Greater, nat_cmp, arith}
 use Rattle.std.specs.Prelude.{ℤ, unsigned_abs}
 use Rattle.std.specs.Ordering.{ordering_then, MatchOrdering}
 use Rattle.std.proofs.lemmas.Cmp.{ranked}
@@ -7,16 +7,10 @@ use Rattle.std.specs.Int.{w32, cast_unsigned}
 use Rattle.tab_term.specs.Data.{PlainTerm, int, atom, tuple, list, bin, map, count, pair_count}
 use Rattle.tab_term.specs.Canon.{canon, tag, int_tag, int_contents, is_byte, fits_four, sign_of, magnitude}
 use Rattle.tab_term.specs.Order.{bytes_cmp, order, contents_order, members_order, pairs_order}
-use Rattle.tab_term.specs.Numbers.{less_is, tie_is, two_less, power_above}
+use Rattle.tab_key.specs.Heads.{head, head_below, head_less}
+use Rattle.tab_term.specs.Numbers.{less_is, tie_is}
 use Rattle.tab_term.specs.Compare.{apart, int_tag_at, lt_is, ge_is}
 use Rattle.tab_term.specs.OrderLaws.{order_is, at_one_tag, bytes_at, fours_at, bigs_at}
-
--- the number of the first k bytes, the highest first. A byte of 255, and what is above a byte, stand with all that
--- follow for the greatest number there is, so lists that first differ after it tie
-abbrev pub head : ℕ → List ℕ → ℕ
-head zero bs = 0
-head (suc k) [] = 0
-head (suc k) (b ∷ bs) = if nat_lt b 255 then b * 256 ^ k + head k bs else 256 ^ suc k - 1
 
 -- how long a text is, and its first five bytes
 abbrev pub text_weight : ℕ → List ℕ → ℕ
@@ -41,33 +35,6 @@ weight (map ps) = pair_count ps
 -- the tag, and the weight as far as 48 bits hold it
 abbrev pub number : PlainTerm → ℕ
 number t = tag t * 2 ^ 48 + min (weight t) (2 ^ 48 - 1)
-
-head_of_byte : (p : Bool) (k b : ℕ) (bs : List ℕ) → nat_lt b 255 ≡ p → head k bs < 256 ^ k → (if p then b * 256 ^ k + head k bs else 256 ^ suc k - 1) < 256 ^ suc k
-head_of_byte true k b bs hp h = omega (arith, two_less (256 ^ k) b 255 (head k bs) 0 h (lt_is b 255 hp))
-head_of_byte false k b bs hp h = omega (arith, power_above k)
-
-pub head_below : (k : ℕ) (bs : List ℕ) → head k bs < 256 ^ k
-head_below zero bs = omega arith
-head_below (suc k) [] = power_above (suc k)
-head_below (suc k) (b ∷ bs) = head_of_byte (nat_lt b 255) k b bs refl (head_below k bs)
-
-head_less : (k : ℕ) (xs ys : List ℕ) → head k xs < head k ys → bytes_cmp xs ys ≡ Less
-head_less zero xs ys h = absurd (omega (arith, h))
-head_less (suc k) [] [] h = absurd (omega (arith, h))
-head_less (suc k) [] (y ∷ ys) h = refl
-head_less (suc k) (x ∷ xs) [] h = absurd (omega (arith, h))
-head_less (suc k) (x ∷ xs) (y ∷ ys) h = by (nat_lt x 255) (nat_lt y 255) refl refl (head_less k xs ys) h
-  where
-    at : (o : Ordering) → (head k xs < head k ys → bytes_cmp xs ys ≡ Less) → MatchOrdering o (x < y) (x ≡ y) (y < x) → x * 256 ^ k + head k xs < y * 256 ^ k + head k ys → ordering_then (nat_cmp x y) (bytes_cmp xs ys) ≡ Less
-    at Less f r h = ap (λ o. ordering_then o (bytes_cmp xs ys)) (less_is x y r)
-    at Equal f r h = ap (λ o. ordering_then o (bytes_cmp xs ys)) (tie_is x y r) ∙ f (omega (arith, h, ap (λ n. n * 256 ^ k) r))
-    at Greater f r h = absurd (omega (arith, h, two_less (256 ^ k) y x (head k ys) (head k xs) (head_below k ys) r))
-
-    by : (p q : Bool) → nat_lt x 255 ≡ p → nat_lt y 255 ≡ q → (head k xs < head k ys → bytes_cmp xs ys ≡ Less) → (if p then x * 256 ^ k + head k xs else 256 ^ suc k - 1) < (if q then y * 256 ^ k + head k ys else 256 ^ suc k - 1) → ordering_then (nat_cmp x y) (bytes_cmp xs ys) ≡ Less
-    by true true hp hq f h = at (nat_cmp x y) f (ranked x y (nat_cmp x y) refl) h
-    by true false hp hq f h = ap (λ o. ordering_then o (bytes_cmp xs ys)) (less_is x y (omega (arith, lt_is x 255 hp, ge_is y 255 hq)))
-    by false true hp hq f h = absurd (omega (arith, h, head_of_byte true k y ys hq (head_below k ys)))
-    by false false hp hq f h = absurd (omega (arith, h))
 
 text_less : (n m : ℕ) (xs ys : List ℕ) → text_weight n xs < text_weight m ys → ordering_then (nat_cmp n m) (bytes_cmp xs ys) ≡ Less
 text_less n m xs ys h = by (nat_cmp n m) (ranked n m (nat_cmp n m) refl)

@@ -4,7 +4,7 @@ ghost use Rattle.std.specs.Str.{chars};
 use std::alloc::{AllocError, Global};
 use std::cmp::Ordering;
 use std::marker::Model;
-use tab_key::Abbreviate;
+use tab_key::{Abbreviate, head};
 use thiserror::Error;
 
 /// Why a text is no atom.
@@ -151,15 +151,15 @@ impl PartialOrd for Atom {
     }
 }
 
-/// All atoms tie.
+/// The first seven bytes. Atoms that differ only later tie.
 impl Abbreviate for Atom {
-    ghost use Rattle.tab_key.specs.Agree.{one_number_agrees};
+    ghost use Rattle.tab_key.specs.Heads.{head, head_less};
 
-    ghost abbreviation = { λ name. 0 };
+    ghost abbreviation = { head 7 };
 
-    ghost agrees = { one_number_agrees Self.cmp };
+    ghost agrees = { head_less 7 };
 
     fn abbreviated(&self) -> u64 {
-        0
+        head(self.text.as_bytes(), 7, 0x100_0000_0000_0000)
     }
 }

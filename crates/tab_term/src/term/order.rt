@@ -9,7 +9,7 @@ ghost use Rattle.std.specs.Cmp.{IsTotalOrder};
 ghost use Rattle.std.specs.declared.cmp.Ordering.TheVariants.{Equal};
 ghost use Rattle.std.specs.Cmp.Lexicographic.{slice_cmp};
 ghost use Rattle.std.specs.Int.{w32, cast_unsigned};
-ghost use Rattle.tab_term.specs.Abbreviations.{weight as weight_of, head as head_of, text_weight as text_weight_of};
+ghost use Rattle.tab_term.specs.Abbreviations.{weight as weight_of, text_weight as text_weight_of};
 ghost use Rattle.tab_term.specs.Data.{PlainTerm, int, count, pair_count};
 ghost use Rattle.tab_term.specs.View.{term, terms};
 ghost use Rattle.tab_term.specs.Canon.{tag as tag_of, int_tag as int_tag_of, int_contents, list_tag as list_tag_of, all_bytes, is_byte_term as is_byte_term_of, is_byte as is_byte_of, fits_four as fits_four_of, sign_of, magnitude, significant, canon};
@@ -18,7 +18,7 @@ ghost use Rattle.tab_term.specs.Order.{order, members_order, pairs_order};
 use crate::atom::Atom;
 use crate::term::{Pairs, Term, Terms};
 use std::cmp::Ordering;
-use tab_key::Abbreviate;
+use tab_key::{Abbreviate, head};
 
 // A weight takes the low 48 bits of a term's number.
 const WEIGHTS: u64 = 0x1_0000_0000_0000;
@@ -324,27 +324,6 @@ impl PartialOrd for Term {
     fn partial_cmp(&self, other: &Term) -> Option<Ordering> {
         Some(self.cmp(other))
     }
-}
-
-// The number of the first `count` bytes, the highest first, below `room`. A byte of 255 and what follows it stand for
-// the greatest number, since the law is to hold of all lists of numbers.
-fn head(bytes: &[u8], count: u8, room: u64) -> u64
-    requires room { room ≡ 256 ^ count }
-    requires small { room ≤ 256 ^ 5 }
-    ensures head { result ≡ head_of count bytes.now }
-    ensures below { result < room }
-{
-    let [first, rest @ ..] = bytes else {
-        return 0;
-    };
-    if count == 0 {
-        return 0;
-    }
-    if *first == 255 {
-        return room - 1;
-    }
-    let below = room / 256;
-    u64::from(*first) * below + head(rest, count - 1, below)
 }
 
 fn after_length(length: usize, head: u64) -> u64

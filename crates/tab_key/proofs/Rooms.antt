@@ -1,6 +1,6 @@
--- The first bytes of a text as a number.
+-- The powers of 256 that numbers of a few bytes stand below.
 use Rattle.std.proofs.Common.{◌≡◌, ℕ, zero, suc, ◌-◌, ◌/◌, ◌^◌, ◌<◌, refl, sym, ap, ◌∙◌, arith}
-use Rattle.tab_term.specs.Numbers.{power_above}
+use Rattle.tab_key.specs.Heads.{power_above}
 
 pub some_room : (k r : ℕ) → r ≡ 256 ^ k → 0 < r
 some_room k r p = omega (arith, p, power_above k)
