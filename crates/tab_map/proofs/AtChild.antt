@@ -64,7 +64,7 @@ module _ {K V : Type 0} (cmp : K → K → Ordering) where
       let h = above_back cmp k b.below (b.entry ∷ (spread bs ++ m)) (subst (AllAbove cmp k) (append_assoc b.below (b.entry ∷ spread bs) m) a) in
       (h.0, above_separators k bs m h.1)
 
-  separators_ascend : (bs : List (Branch K V)) (m : List (K × V)) → Ascends cmp (spread bs ++ m) → Ascends cmp (separators bs)
+  pub separators_ascend : (bs : List (Branch K V)) (m : List (K × V)) → Ascends cmp (spread bs ++ m) → Ascends cmp (separators bs)
   separators_ascend [] m s = tt
   separators_ascend (b ∷ bs) m s =
       let h = ascends_back cmp b.below (b.entry ∷ (spread bs ++ m)) (first_node b bs m s).sorted in

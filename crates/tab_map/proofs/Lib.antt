@@ -7,5 +7,6 @@ pub mod Left
 pub mod OfKeys
 pub mod Taken
 pub mod Places
+pub mod Searched
 pub mod NodeReads
 pub mod Merged

@@ -1,56 +1,19 @@
 -- What is read at a node: the place of a key among its branches, and the entry that comes first.
-use Rattle.std.proofs.Common.{Option, None, Some, slice_get, get_or, add-one, ◌≡◌, ℕ, zero, suc, ◌+◌, ◌≤◌, ◌<◌, List, [], ◌∷◌, ◌++◌, length, take, drop, sym, ap, ◌∙◌, subst, arith}
-use Rattle.std.proofs.lemmas.List.{length-map, length-take-le, map-append}
-use Rattle.std.proofs.Math.Seq.{get_or-append_seam, split_at}
+use Rattle.std.proofs.Common.{Option, None, Some, slice_get, get_or, add-one, ◌≡◌, ℕ, suc, ◌+◌, List, [], ◌∷◌, ◌++◌, sym, ap, ◌∙◌, subst, arith}
+use Rattle.std.proofs.Math.Seq.{get_or-append_seam}
 use Rattle.std.specs.declared.cmp.Ordering.{Ordering}
-use Rattle.std.specs.declared.cmp.Ordering.TheVariants.{Less, Equal, Greater}
+use Rattle.std.specs.declared.cmp.Ordering.TheVariants.{Equal}
 use Rattle.std.specs.Cmp.{IsTotalOrder}
 use Rattle.std.specs.Option.{option_copied}
 use denote.Ref.{Bor}
 use Rattle.tab_map.specs.declared.Branch.{Branch}
 use Rattle.tab_map.specs.Entries.{lookup, entries_from, entries_above, Ascends}
 use Rattle.tab_map.specs.InOrder.{spread, separators}
-use Rattle.tab_map.specs.Places.{IsPast, HasAt, IsGap}
+use Rattle.tab_map.specs.Places.{HasAt, IsGap}
 use Rattle.tab_map.proofs.AtNode.{lookup_equal, from_less, from_equal, above_less, above_equal}
 use Rattle.tab_map.proofs.Order.{first_of_left, first_of_right, last_two}
 use Rattle.tab_map.proofs.Places.{get_next, head_is}
 use Rattle.tab_map.proofs.AtChild.{IsRoot, AtBranch, Found, first_node, past_lookup, past_from, past_above, found_branch, child_branch, last_child, none_left}
-
--- the place that a search of the branches comes to
-module _ {K V : Type 0} (cmp : K → K → Ordering) (k : K) where
-  pub passes_one_more : (bs : List (Branch K V)) (n : ℕ) (b : Branch K V) → n < length bs → b ≡ get_or bs n b → IsPast cmp k (separators (take n bs)) → cmp k b.entry.0 ≡ Greater → IsPast cmp k (separators (take (n + 1) bs))
-  passes_one_more bs n b h p s q = subst (λ i. IsPast cmp k (separators (take i bs))) (sym (add-one n)) (by bs n h p s)
-    where
-      by : (bs : List (Branch K V)) (n : ℕ) → n < length bs → b ≡ get_or bs n b → IsPast cmp k (separators (take n bs)) → IsPast cmp k (separators (take (suc n) bs))
-      by [] n h p s = absurd (omega (arith, h))
-      by (x ∷ bs) zero h p s = (ap (λ z. cmp k z.entry.0) (sym p) ∙ q, tt)
-      by (x ∷ bs) (suc n) h p s = (s.0, by bs n (omega (arith, h)) p s.1)
-
-  around : (bs : List (Branch K V)) (n : ℕ) (b : Branch K V) → n < length bs → b ≡ get_or bs n b → separators bs ≡ separators (take n bs) ++ b.entry ∷ separators (drop (suc n) bs)
-  around bs n b h p = ap separators (split_at bs n b h ∙ ap (λ z. take n bs ++ z ∷ drop (suc n) bs) (sym p)) ∙ map-append (λ z. z.entry) (take n bs) (b ∷ drop (suc n) bs)
-
-  before_count : (bs : List (Branch K V)) (n : ℕ) → n ≤ length bs → length (separators (take n bs)) ≡ n
-  before_count bs n h = length-map (take n bs) (λ b. b.entry) ∙ length-take-le n bs h
-
-  pub child_at : (bs : List (Branch K V)) (n : ℕ) (b : Branch K V) → n < length bs → b ≡ get_or bs n b → IsPast cmp k (separators (take n bs)) → cmp k b.entry.0 ≡ Less → IsGap cmp k (separators bs) n
-  child_at bs n b h p s q = record {
-    before = separators (take n bs);
-    after = b.entry ∷ separators (drop (suc n) bs);
-    is = around bs n b h p;
-    count = before_count bs n (omega (arith, h));
-    past = s;
-    below = q;
-  }
-
-  pub branch_at : (bs : List (Branch K V)) (n : ℕ) (b : Branch K V) → n < length bs → b ≡ get_or bs n b → cmp k b.entry.0 ≡ Equal → HasAt cmp k (separators bs) n
-  branch_at bs n b h p q = record {
-    before = separators (take n bs);
-    entry = b.entry;
-    after = separators (drop (suc n) bs);
-    is = around bs n b h p;
-    count = before_count bs n (omega (arith, h));
-    equal = q;
-  }
 
 -- xs begins with the items l, then e
 pub record Leads {A : Type 0} (xs l : List A) (e : A) : Type 0 where

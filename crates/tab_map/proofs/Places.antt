@@ -1,66 +1,19 @@
 -- Places in a row of entries, and what changes there.
-use Rattle.std.proofs.Common.{None, Some, slice_get, slice_set, add-one, ◌≡◌, ℕ, suc, ◌+◌, ◌-◌, ◌≤◌, ◌<◌, List, [], ◌∷◌, ◌++◌, length, take, drop, get_or, append_assoc, refl, sym, ap, ◌∙◌, subst, arith, length-append}
-use Rattle.std.proofs.lemmas.List.{take-append-drop}
-use Rattle.std.proofs.Math.Seq.{take-length, take-append_seam, drop-append_seam, get_or-append_seam, set-append_seam}
+use Rattle.std.proofs.Common.{None, Some, slice_get, slice_set, add-one, ◌≡◌, ℕ, suc, ◌+◌, List, [], ◌∷◌, ◌++◌, length, drop, get_or, refl, sym, ap, ◌∙◌, subst}
+use Rattle.std.proofs.Math.Seq.{take-append_seam, drop-append_seam, get_or-append_seam, set-append_seam}
 use Rattle.std.specs.List.{insert, remove}
 use Rattle.std.specs.declared.cmp.Ordering.{Ordering}
-use Rattle.std.specs.declared.cmp.Ordering.TheVariants.{Less, Equal, Greater}
+use Rattle.std.specs.declared.cmp.Ordering.TheVariants.{Less}
 use Rattle.std.specs.Cmp.{IsTotalOrder}
 use Rattle.tab_map.specs.Entries.{Ascends, lookup, insert_entry, remove_entry, entries_from, entries_above}
-use Rattle.tab_map.specs.Places.{IsPast, IsUpTo, IsPlace, IsBelow, HasAt, IsGap}
+use Rattle.tab_map.specs.Places.{IsPast, IsBelow, HasAt, IsGap}
 use Rattle.tab_map.proofs.Order.{above, above_back}
 use Rattle.tab_map.proofs.AtNode.{IsNode, lookup_equal, from_equal, above_equal, inserted_equal, removed_equal}
-
-module _ {A : Type 0} where
-  middle_of : (rest : List A) (e : A) → 1 ≤ length rest → e ≡ get_or rest 0 e → rest ≡ e ∷ take (length rest - 1) (drop 1 rest)
-  middle_of [] e h p = absurd (omega (arith, h))
-  middle_of (x ∷ xs) e h p =
-      let n : length (x ∷ xs) - 1 ≡ length xs = omega arith in
-      rw (n, take-length xs) (ap (λ z. z ∷ xs) (sym p))
-
-  pub split_row : (xs front rest : List A) (n : ℕ) (e : A) → front ≡ take n xs → rest ≡ drop n xs → 1 ≤ length rest → e ≡ get_or rest 0 e → xs ≡ front ++ e ∷ take (length rest - 1) (drop 1 rest)
-  split_row xs front rest n e p q h s =
-      sym (take-append-drop n xs) ∙ ap (λ z. z ++ drop n xs) (sym p) ∙ ap (λ z. front ++ z) (sym q ∙ middle_of rest e h s)
-
-  pub shorter_left : (xs left : List A) (e : A) (right : List A) → xs ≡ left ++ e ∷ right → length left < length xs
-  shorter_left xs left e right p = omega (arith, ap length p, length-append left (e ∷ right))
-
-  pub shorter_right : (xs left : List A) (e : A) (right : List A) → xs ≡ left ++ e ∷ right → length right < length xs
-  shorter_right xs left e right p = omega (arith, ap length p, length-append left (e ∷ right))
-
-module _ {K V : Type 0} (cmp : K → K → Ordering) where
-  past_join : (k : K) (l m : List (K × V)) → IsPast cmp k l → IsPast cmp k m → IsPast cmp k (l ++ m)
-  past_join k [] m p q = q
-  past_join k (e ∷ l) m p q = (p.0, past_join k l m p.1 q)
-
-  up_to_join : (k : K) (l : List (K × V)) (e : K × V) (r : List (K × V)) → IsUpTo cmp k l → (cmp k e.0 ≡ Greater → ⊥) → IsUpTo cmp k (l ++ e ∷ r)
-  up_to_join k [] e r p q = q
-  up_to_join k (x ∷ l) e r p q = p
-
-  pub place_left : (k : K) (es left : List (K × V)) (e : K × V) (right : List (K × V)) (n : ℕ) → es ≡ left ++ e ∷ right → (cmp k e.0 ≡ Greater → ⊥) → IsPlace cmp k left n → IsPlace cmp k es n
-  place_left k es left e right n p h f = record {
-    before = f.before;
-    after = f.after ++ e ∷ right;
-    is = p ∙ ap (λ z. z ++ e ∷ right) f.is ∙ append_assoc f.before f.after (e ∷ right);
-    count = f.count;
-    past = f.past;
-    up_to = up_to_join k f.after e right f.up_to h;
-  }
 
 module _ {K V : Type 0} {cmp : K → K → Ordering} (o : IsTotalOrder cmp) where
   pub past_before : (k : K) (l : List (K × V)) (e : K × V) (r : List (K × V)) → Ascends cmp (l ++ e ∷ r) → (cmp k e.0 ≡ Less → ⊥) → IsPast cmp k l
   past_before k [] e r s p = tt
   past_before k (x ∷ l) e r s p = (above o x.0 e.0 k (above_back cmp x.0 l (e ∷ r) s.0).0 p, past_before k l e r s.1 p)
-
-  pub place_right : (k : K) (es left : List (K × V)) (e : K × V) (right : List (K × V)) (n : ℕ) → es ≡ left ++ e ∷ right → Ascends cmp es → cmp k e.0 ≡ Greater → IsPlace cmp k right n → IsPlace cmp k es (length left + 1 + n)
-  place_right k es left e right n p s h f = record {
-    before = left ++ e ∷ f.before;
-    after = f.after;
-    is = p ∙ ap (λ z. left ++ e ∷ z) f.is ∙ sym (append_assoc left (e ∷ f.before) f.after);
-    count = omega (arith, length-append left (e ∷ f.before), f.count);
-    past = past_join cmp k left (e ∷ f.before) (past_before k left e right (subst (Ascends cmp) p s) (λ q. cc)) (h, f.past);
-    up_to = f.up_to;
-  }
 
 -- at the seam of two rows
 module _ {A : Type 0} where
@@ -142,26 +95,6 @@ module _ {K V : Type 0} (cmp : K → K → Ordering) where
 
   pub gap_remove : (k : K) (es : List (K × V)) (n : ℕ) → IsGap cmp k es n → es ≡ remove_entry cmp k es
   gap_remove k es n f = f.is ∙ sym (ap (remove_entry cmp k) f.is ∙ past_remove cmp k f.before f.after f.past ∙ ap (λ z. f.before ++ z) (below_remove cmp k f.after f.below))
-
-  place_get : (k : K) (es : List (K × V)) (n : ℕ) (f : IsPlace cmp k es n) → slice_get es n ≡ slice_get f.after 0
-  place_get k es n f = ap (λ z. slice_get z n) f.is ∙ ap (λ i. slice_get (f.before ++ f.after) i) (sym f.count) ∙ get_seam f.before f.after
-
-  pub found_at : (k : K) (es : List (K × V)) (n : ℕ) (e : K × V) → IsPlace cmp k es n → slice_get es n ≡ Some e → cmp k e.0 ≡ Equal → HasAt cmp k es n
-  found_at k es n e f p q =
-      let h = head_is f.after e (sym (place_get k es n f) ∙ p) in
-      record { before = f.before; entry = e; after = h.0; is = f.is ∙ ap (λ z. f.before ++ z) h.1; count = f.count; equal = q }
-
-  below_of : (k : K) (m : List (K × V)) → IsUpTo cmp k m → ((e : K × V) → slice_get m 0 ≡ Some e → cmp k e.0 ≡ Equal → ⊥) → IsBelow cmp k m
-  below_of k [] p q = tt
-  below_of k (e ∷ m) p q =
-      elim (cmp k e.0) as (λ d. cmp k e.0 ≡ d → d ≡ Less) [
-        | Less ↦ λ h. refl
-        | Equal ↦ λ h. absurd (q e refl h)
-        | Greater ↦ λ h. absurd (p h)
-      ] refl
-
-  pub gap_at : (k : K) (es : List (K × V)) (n : ℕ) → IsPlace cmp k es n → ((e : K × V) → slice_get es n ≡ Some e → cmp k e.0 ≡ Equal → ⊥) → IsGap cmp k es n
-  gap_at k es n f q = record { before = f.before; after = f.after; is = f.is; count = f.count; past = f.past; below = below_of k f.after f.up_to (λ e p. q e (place_get k es n f ∙ p)) }
 
 module _ {K V : Type 0} {cmp : K → K → Ordering} (o : IsTotalOrder cmp) where
   has_node : (k : K) (es : List (K × V)) (n : ℕ) (f : HasAt cmp k es n) → Ascends cmp es → IsNode cmp es f.before f.entry f.after

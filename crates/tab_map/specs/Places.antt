@@ -8,20 +8,6 @@ abbrev pub IsPast : {K V : Type 0} → (K → K → Ordering) → K → List (K 
 IsPast cmp k [] = Unit {0}
 IsPast cmp k (e ∷ es) = (cmp k e.0 ≡ Greater) × IsPast cmp k es
 
--- k is not above the first entry's key
-abbrev pub IsUpTo : {K V : Type 0} → (K → K → Ordering) → K → List (K × V) → Type 0
-IsUpTo cmp k [] = Unit {0}
-IsUpTo cmp k (e ∷ es) = cmp k e.0 ≡ Greater → ⊥
-
--- the first n entries are those with keys below k
-pub record IsPlace {K V : Type 0} (cmp : K → K → Ordering) (k : K) (es : List (K × V)) (n : ℕ) : Type 0 where
-  pub before : List (K × V)
-  pub after : List (K × V)
-  pub is : es ≡ before ++ after
-  pub count : length before ≡ n
-  pub past : IsPast cmp k before
-  pub up_to : IsUpTo cmp k after
-
 -- k is below the first entry's key
 abbrev pub IsBelow : {K V : Type 0} → (K → K → Ordering) → K → List (K × V) → Type 0
 IsBelow cmp k [] = Unit {0}

@@ -1,5 +1,7 @@
 //! The branches of a node: where a key belongs among them, and copies of them.
 ghost use Rattle.std.specs.Prelude.{◌≡◌, ◌<◌, ◌≤◌, IfOk, IfErr, length};
+ghost use Rattle.std.specs.Ordering.{ordering_reverse};
+ghost use Rattle.tab_map.specs.Entries.{Ascends};
 ghost use Rattle.tab_map.specs.InOrder.{separators};
 ghost use Rattle.tab_map.specs.Places.{HasAt, IsGap};
 
@@ -20,17 +22,14 @@ pub fn place<K: Abbreviate + Drop, V: Drop>(
 ) -> Result<usize, usize>
     ensures found { IfOk result (λ n. HasAt K.cmp sought.now (separators branches.now) n) }
     ensures found_in_node { IfOk result (λ n. n < length branches.now) }
-    ensures child { IfErr result (λ n. IsGap K.cmp sought.now (separators branches.now) n) }
+    ensures child { IfErr result (λ n. Ascends K.cmp (separators branches.now) → IsGap K.cmp sought.now (separators branches.now) n) }
     ensures child_in_node { IfErr result (λ n. n ≤ length branches.now) }
 {
-    for (n, branch) in branches.iter().enumerate() {
-        match sought.order(&branch.entry) {
-            Ordering::Less => return Err(n),
-            Ordering::Equal => return Ok(n),
-            Ordering::Greater => (),
-        }
-    }
-    Err(branches.len())
+    branches.binary_search_by(
+        |branch: &Branch<K, V>| -> Ordering
+            ensures { result ≡ ordering_reverse (K.cmp sought.entry.now branch.now.entry.0) }
+        { sought.order(&branch.entry).reverse() },
+    )
 }
 
 impl<K: Abbreviate + Drop, V: Drop> Branch<K, V> {

@@ -1,8 +1,9 @@
 //! Up to a few dozen entries in a row, which the leaves of a tree hold.
 ghost use Rattle.std.specs.Prelude.{◌≡◌, ◌≤◌, ◌<◌, IfOk, IfErr, OnOk, OnErr, length, slice_get};
 ghost use Rattle.std.specs.Option.{option_copied};
+ghost use Rattle.std.specs.Ordering.{ordering_reverse};
 ghost use Rattle.tab_map.specs.Entries.{Ascends, lookup, insert_entry, remove_entry, entries_from, entries_above};
-ghost use Rattle.tab_map.specs.Places.{IsPlace, HasAt, IsGap};
+ghost use Rattle.tab_map.specs.Places.{HasAt, IsGap};
 
 use crate::entry::{Entry, Sought};
 use std::alloc::{AllocError, Global};
@@ -11,22 +12,6 @@ use tab_key::Abbreviate;
 
 /// The most entries in a row. A search in it touches few lines of memory, and a copy of it is short.
 pub const FULL: usize = 32;
-
-// The number of entries with keys below the key.
-fn count_below<K: Abbreviate + Drop, V: Drop>(items: &[Entry<K, V>], sought: &Sought<K>) -> usize
-    requires { Ascends K.cmp items.now }
-    ensures place { IsPlace K.cmp sought.now items.now result }
-    ensures bound { result ≤ length items.now }
-{
-    let (left, rest) = items.split_at(items.len() / 2);
-    let [middle, right @ ..] = rest else {
-        return 0;
-    };
-    match sought.order(middle) {
-        Ordering::Greater => left.len() + 1 + count_below(right, sought),
-        _ => count_below(left, sought),
-    }
-}
 
 // The place of the entry at the key, or where one belongs.
 fn place<K: Abbreviate + Drop, V: Drop>(
@@ -39,14 +24,11 @@ fn place<K: Abbreviate + Drop, V: Drop>(
     ensures gap { IfErr result (λ n. IsGap K.cmp sought.now items.now n) }
     ensures gap_in_row { IfErr result (λ n. n ≤ length items.now) }
 {
-    let at = count_below(items, sought);
-    let Some(entry) = items.get(at) else {
-        return Err(at);
-    };
-    match sought.order(entry) {
-        Ordering::Equal => Ok(at),
-        _ => Err(at),
-    }
+    items.binary_search_by(
+        |entry: &Entry<K, V>| -> Ordering
+            ensures { result ≡ ordering_reverse (K.cmp sought.entry.now entry.now.0) }
+        { sought.order(entry).reverse() },
+    )
 }
 
 pub fn get<'a, K: Abbreviate + Drop, V: Drop>(

@@ -2,7 +2,7 @@ use Rattle.std.proofs.Common.{◌∙◌, sym, ap, refl, Some}
 use Rattle.std.proofs.lemmas.Bool.{ltb-false}
 use Rattle.std.proofs.lemmas.Option.{slice_get_read, slice_get_past}
 use Rattle.tab_map.specs.Entries.{lookup}
-use Rattle.tab_map.proofs.AtChild.{is_root, child_lookup, last_lookup}
+use Rattle.tab_map.proofs.AtChild.{is_root, separators_ascend, child_lookup, last_lookup}
 use Rattle.tab_map.proofs.NodeReads.{found_lookup}
 use Rattle.tab_map.proofs.Map.+find.Goals as goal
 
@@ -16,7 +16,7 @@ returns-in-Ok-clause-value g t c =
 pub returns-in-Some-clause-value : goal.returns-in-Some-clause-value
 returns-in-Some-clause-value g t c =
     let root = is_root g.K.Ord.cmp c.self.view_is c.self.invariant c.in-Node.is in
-    let child = rw (c.deref-in-Node-2.ensures.value, c.deref-in-Node.ensures) at c.in-Err.ensures.child in
+    let child = (rw (c.deref-in-Node-2.ensures.value, c.deref-in-Node.ensures) at c.in-Err.ensures.child) (separators_ascend g.K.Ord.cmp _ _ root.sorted) in
     let got = rw (c.deref-in-Err-2.ensures.value, c.deref-in-Err.ensures) at c.in-Some.ensures.lookup in
     let below = child_lookup g.met.K.Ord.total c.args.sought.now _ c.in-Err.n _ c.in-Some.branch.now child (slice_get_read _ _ _ _ refl got.3.0 got.1) root.sorted in
     c.find.ensures.value ∙ sym (ap (lookup g.K.Ord.cmp c.args.sought.now) root.is ∙ below)
@@ -24,7 +24,7 @@ returns-in-Some-clause-value g t c =
 pub returns-in-None-clause-value : goal.returns-in-None-clause-value
 returns-in-None-clause-value g t c =
     let root = is_root g.K.Ord.cmp c.self.view_is c.self.invariant c.in-Node.is in
-    let child = rw (c.deref-in-Node-2.ensures.value, c.deref-in-Node.ensures) at c.in-Err.ensures.child in
+    let child = (rw (c.deref-in-Node-2.ensures.value, c.deref-in-Node.ensures) at c.in-Err.ensures.child) (separators_ascend g.K.Ord.cmp _ _ root.sorted) in
     let none = rw (c.deref-in-Err-2.ensures.value, c.deref-in-Err.ensures) at c.in-None.ensures.lookup.0 in
     let value = rw c.deref-in-None.ensures at c.find-in-None.ensures.value in
     let last = last_lookup g.met.K.Ord.total c.args.sought.now _ c.in-Err.n _ child (slice_get_past _ _ (ltb-false _ _ (sym none))) root.sorted in
