@@ -1,4 +1,5 @@
-pub mod Known
-pub mod Apart
-mod Members
-mod Outermost
+pub mod Arity
+pub mod CommandTerms
+pub mod Outermost
+pub mod PartsLemmas
+pub mod RequestsApart

@@ -1,5 +1,5 @@
 -- The first words of commands: calls of the Mnesia Reference Manual, and this project's own.
-use Rattle.std.specs.Prelude.{ℕ, List, Option, Some, None, codes, if◌then◌else◌}
+use Rattle.std.specs.Prelude.{ℕ, List, [], ◌∷◌, Option, codes, find}
 use Rattle.std.specs.Str.{bytes_eq}
 use Rattle.tab_proto.specs.declared.first_words.Unary.{Unary}
 use Rattle.tab_proto.specs.declared.first_words.Unary.TheVariants as unary
@@ -21,22 +21,12 @@ unary_text unary.Unsubscribe = codes "unsubscribe"
 unary_text unary.Write = codes "write"
 unary_text unary.WriteLockTable = codes "write_lock_table"
 
+abbrev pub all_unary : List Unary
+all_unary = unary.Abort ∷ unary.AllKeys ∷ unary.Delete ∷ unary.DeleteObject ∷ unary.DeleteTable ∷ unary.MatchObject ∷ unary.ReadForWrite ∷ unary.ReadLockTable ∷ unary.Subscribe ∷ unary.Transaction ∷ unary.Unsubscribe ∷ unary.Write ∷ unary.WriteLockTable ∷ []
+
+-- the word that has this text
 abbrev pub unary_in : List ℕ → Option Unary
-unary_in w =
-    if bytes_eq w (codes "abort") then Some unary.Abort
-    else (if bytes_eq w (codes "all_keys") then Some unary.AllKeys
-    else (if bytes_eq w (codes "delete") then Some unary.Delete
-    else (if bytes_eq w (codes "delete_object") then Some unary.DeleteObject
-    else (if bytes_eq w (codes "delete_table") then Some unary.DeleteTable
-    else (if bytes_eq w (codes "match_object") then Some unary.MatchObject
-    else (if bytes_eq w (codes "wread") then Some unary.ReadForWrite
-    else (if bytes_eq w (codes "read_lock_table") then Some unary.ReadLockTable
-    else (if bytes_eq w (codes "subscribe") then Some unary.Subscribe
-    else (if bytes_eq w (codes "transaction") then Some unary.Transaction
-    else (if bytes_eq w (codes "unsubscribe") then Some unary.Unsubscribe
-    else (if bytes_eq w (codes "write") then Some unary.Write
-    else (if bytes_eq w (codes "write_lock_table") then Some unary.WriteLockTable
-    else None))))))))))))
+unary_in w = find (λ u. bytes_eq w (unary_text u)) all_unary
 
 abbrev pub binary_text : Binary → List ℕ
 binary_text binary.AddTableIndex = codes "add_table_index"
@@ -46,12 +36,8 @@ binary_text binary.Read = codes "read"
 binary_text binary.TableInfo = codes "table_info"
 binary_text binary.Transaction = codes "transaction"
 
+abbrev pub all_binary : List Binary
+all_binary = binary.AddTableIndex ∷ binary.CreateTable ∷ binary.DelTableIndex ∷ binary.Read ∷ binary.TableInfo ∷ binary.Transaction ∷ []
+
 abbrev pub binary_in : List ℕ → Option Binary
-binary_in w =
-    if bytes_eq w (codes "add_table_index") then Some binary.AddTableIndex
-    else (if bytes_eq w (codes "create_table") then Some binary.CreateTable
-    else (if bytes_eq w (codes "del_table_index") then Some binary.DelTableIndex
-    else (if bytes_eq w (codes "read") then Some binary.Read
-    else (if bytes_eq w (codes "table_info") then Some binary.TableInfo
-    else (if bytes_eq w (codes "transaction") then Some binary.Transaction
-    else None)))))
+binary_in w = find (λ b. bytes_eq w (binary_text b)) all_binary

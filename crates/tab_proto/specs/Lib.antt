@@ -1,5 +1,5 @@
 pub mod Commands
 pub mod Reading
-pub mod Asks
+pub mod Requests
 pub mod Replies
 pub mod FirstWords

@@ -2,6 +2,7 @@
 use Rattle.std.specs.Prelude.{◌≡◌, ℕ, pos, List, ◌++◌, Bool, true, false, ◌&&◌, ◌||◌, nat_le, codes, Option, Some, None, Result, Ok, Err}
 use Rattle.std.specs.Str.{bytes_eq}
 use Rattle.std.specs.List.{list_all}
+use Rattle.tab_term.specs.View.{term}
 use Rattle.tab_term.specs.Data.{PlainTerm, int, atom, tuple, list, PlainTerms, none, one_more}
 use Rattle.tab_model.specs.declared.data.Operation.{Operation}
 use Rattle.tab_model.specs.declared.data.Command.{Command}
@@ -12,6 +13,9 @@ use Rattle.tab_proto.specs.declared.first_words.Unary.{Unary}
 use Rattle.tab_proto.specs.declared.first_words.Unary.TheVariants as unary
 use Rattle.tab_proto.specs.declared.first_words.Binary.{Binary}
 use Rattle.tab_proto.specs.declared.first_words.Binary.TheVariants as binary
+use Rattle.tab_proto.specs.declared.call.Arguments.{Arguments}
+use Rattle.tab_proto.specs.declared.call.Arguments.TheVariants.{One, Two, Three}
+use Rattle.tab_proto.specs.declared.call.Call.{Call}
 use Rattle.tab_proto.specs.FirstWords.{unary_in, binary_in}
 use Rattle.tab_proto.specs.Commands.{term_of, operation_term, levels, with_first, is_nested, is_command, is_operation, is_part, is_row, is_attribute}
 
@@ -22,6 +26,10 @@ is_atom t = false
 abbrev pub is_list : PlainTerm → Bool
 is_list (list ts) = true
 is_list t = false
+
+abbrev pub is_pair : PlainTerm → Bool
+is_pair (tuple (one_more x (one_more y none))) = true
+is_pair t = false
 
 -- {Tab, Key}
 abbrev pub is_place : PlainTerm → Bool
@@ -103,6 +111,21 @@ is_binary (Some binary.Read) x y = is_atom x
 is_binary (Some binary.TableInfo) x y = is_atom x && is_item y
 is_binary (Some binary.Transaction) x y = is_parts_list x && is_retries y
 
+-- a tuple of a word and its one to three arguments
+abbrev pub argument_terms : Arguments → PlainTerms
+argument_terms (One x) = one_more (term x) none
+argument_terms (Two x y) = one_more (term x) (one_more (term y) none)
+argument_terms (Three x y z) = one_more (term x) (one_more (term y) (one_more (term z) none))
+
+abbrev pub call_term : Call → PlainTerm
+call_term c = tuple (one_more (atom c.word) (argument_terms c.arguments))
+
+abbrev pub is_call_term : PlainTerm → Bool
+is_call_term (tuple (one_more (atom w) (one_more x none))) = true
+is_call_term (tuple (one_more (atom w) (one_more x (one_more y none)))) = true
+is_call_term (tuple (one_more (atom w) (one_more x (one_more y (one_more z none))))) = true
+is_call_term t = false
+
 abbrev pub is_one_word : List ℕ → Bool
 is_one_word w = bytes_eq w (codes "begin") || bytes_eq w (codes "commit")
 
@@ -112,25 +135,10 @@ is_call (one_more (atom w) (one_more x (one_more y none))) = is_binary (binary_i
 is_call (one_more (atom w) (one_more x (one_more y (one_more z none)))) = is_ternary w x z
 is_call ts = false
 
-abbrev pub is_read : PlainTerm → Bool
-is_read (atom w) = is_one_word w
-is_read (tuple ts) = is_call ts
-is_read t = false
-
-abbrev pub is_empty_list : PlainTerm → Bool
-is_empty_list (list none) = true
-is_empty_list t = false
-
-abbrev pub serves_call : PlainTerms → Bool
-serves_call (one_more (atom w) (one_more x none)) = bytes_eq w (codes "abort") || bytes_eq w (codes "write")
-serves_call (one_more (atom w) (one_more x (one_more y none))) = bytes_eq w (codes "read") || (bytes_eq w (codes "create_table") && is_empty_list y)
-serves_call ts = false
-
--- which of these terms the core serves so far
-abbrev pub serves_term : PlainTerm → Bool
-serves_term (atom w) = true
-serves_term (tuple ts) = serves_call ts
-serves_term t = false
+abbrev pub is_command_term : PlainTerm → Bool
+is_command_term (atom w) = is_one_word w
+is_command_term (tuple ts) = is_call ts
+is_command_term t = false
 
 abbrev pub SpellsOperation : Operation → PlainTerm → Type 0
 SpellsOperation o t = (operation_term o ≡ t) × (is_operation o ≡ true)
@@ -138,11 +146,11 @@ SpellsOperation o t = (operation_term o ≡ t) × (is_operation o ≡ true)
 abbrev pub Spells : Command → PlainTerm → Type 0
 Spells c t = (term_of c ≡ t) × (is_command c ≡ true)
 
--- BadCommand comes only where `known` is false
-abbrev pub Refuses : {A : Type 0} → Bool → Result A ProtoFault → Type 0
-Refuses known (Ok a) = Unit {0}
-Refuses known (Err BadCommand) = known ≡ false
-Refuses known (Err NoMemory) = Unit {0}
+-- what comes with BadCommand
+abbrev pub RefusesOnlyIf : {A : Type 0} → Type 0 → Result A ProtoFault → Type 0
+RefusesOnlyIf P (Ok a) = Unit {0}
+RefusesOnlyIf P (Err BadCommand) = P
+RefusesOnlyIf P (Err NoMemory) = Unit {0}
 
 -- these operations stand first in the innermost transaction that is open before
 abbrev pub with_all : PlainTerms → List PlainTerms → List PlainTerms

@@ -1,5 +1,6 @@
 //! Why a term was not read.
 
+use std::alloc::AllocFailed;
 use thiserror::Error;
 
 /// Why a term is no command.
@@ -10,4 +11,15 @@ pub enum ProtoFault {
     BadCommand,
     #[error("no memory")]
     NoMemory,
+}
+
+impl<T: Drop> From<AllocFailed<T>> for ProtoFault {
+    ghost use Rattle.std.specs.Prelude.{◌≡◌};
+    ghost use Rattle.tab_proto.specs.declared.fault.ProtoFault.TheVariants.{NoMemory};
+
+    ghost from_gives = { λ _ fault. fault ≡ NoMemory };
+
+    fn from(_: AllocFailed<T>) -> ProtoFault {
+        ProtoFault::NoMemory
+    }
 }

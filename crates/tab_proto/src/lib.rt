@@ -2,24 +2,23 @@
 
 #![tactic(auto)]
 
-mod asked;
+mod arguments;
 mod building;
+mod call;
 mod command_terms;
 mod commands;
-mod copies;
 mod fault;
 mod first_words;
 mod levels;
 mod operations;
 mod parts;
 mod replying;
+mod request;
 mod requests;
-#[cfg(test)]
-mod tests;
 
-pub use asked::Asked;
 pub use command_terms::term_of;
 pub use commands::command;
 pub use fault::ProtoFault;
 pub use replying::{append_reply, write_reply};
-pub use requests::{request, requests_are_apart, session_of};
+pub use request::Request;
+pub use requests::{read_request, requests_are_apart, session_of};

@@ -1,105 +1,82 @@
 //! The parts of a one-shot from the terms of its list.
 
-ghost use Rattle.std.specs.Prelude.{◌≡◌, ◌++◌, ◌∷◌, [], OnOk, true};
+ghost use Rattle.std.specs.Prelude.{◌≡◌, ◌++◌, ◌∷◌, [], OnOk, true, false};
 ghost use Rattle.tab_term.specs.Data.{atom, none, one_more, pair};
 ghost use Rattle.tab_term.specs.View.{term, terms};
 ghost use Rattle.tab_proto.specs.FirstWords.{unary_text};
 ghost use Rattle.tab_proto.specs.Commands.{is_part};
-ghost use Rattle.tab_proto.specs.Reading.{is_unary_part, is_parts_list, is_part_term, are_parts, is_read_of, is_ternary, Refuses, Says, Adds};
+ghost use Rattle.tab_proto.specs.Reading.{is_unary_part, is_parts_list, is_part_term, are_parts, is_read_of, is_ternary, RefusesOnlyIf, Says, Adds};
 
-use crate::copies::{copy_of, no_memory};
+use crate::call::{Arguments, Call, call_of};
 use crate::fault::ProtoFault;
 use crate::first_words::{Unary, unary_of};
 use crate::operations::{index_operation, read_operation, unary_operation};
-use std::alloc::{AllocError, Global};
-use tab_model::{Operation, Part};
-use tab_term::{Atom, Term};
+use tab_model::Part;
+use tab_term::{Atom, Term, Terms};
 
 /// Adds the parts that these terms say.
 #[cycle(parts)]
 #[tactic(auto, using(tab_term::proofs::Lists::weight_at))]
-pub fn push_parts(alloc: Global, members: &[Term], parts: &mut Vec<Part>) -> Result<(), ProtoFault>
-    ensures ok { OnOk result (Adds parts.old.items parts.new.items (terms members.now)) }
-    ensures bad { Refuses (are_parts (terms members.now)) result }
+pub fn push_parts(members: Terms, parts: &mut Vec<Part>) -> Result<(), ProtoFault>
+    ensures ok { OnOk result (Adds parts.old.items parts.new.items members) }
+    ensures bad { RefusesOnlyIf (are_parts members ≡ false) result }
 {
-    for member in members {
-        match push_part(alloc, member, parts) {
-            Ok(()) => {}
-            Err(fault) => return Err(fault),
-        }
+    for member in members.into_vec() {
+        push_part(member, parts)?;
     }
     Ok(())
 }
 
 #[cycle(parts)]
-fn push_part(alloc: Global, member: &Term, parts: &mut Vec<Part>) -> Result<(), ProtoFault>
-    ensures ok { OnOk result (Adds parts.old.items parts.new.items (one_more (term member.now) none)) }
-    ensures bad { Refuses (is_part_term (term member.now)) result }
+fn push_part(member: Term, parts: &mut Vec<Part>) -> Result<(), ProtoFault>
+    ensures ok { OnOk result (Adds parts.old.items parts.new.items (one_more (term member) none)) }
+    ensures bad { RefusesOnlyIf (is_part_term (term member) ≡ false) result }
 {
-    let Term::Tuple(inside) = member else {
-        return Err(ProtoFault::BadCommand);
-    };
-    match inside.as_slice() {
-        [Term::Atom(word), argument] => push_unary(alloc, word, argument, parts),
-        [Term::Atom(word), table, key] => {
-            push_operation(read_operation(alloc, word, table, key)?, parts)
-        }
-        [Term::Atom(word), table, value, attribute] => push_operation(
-            index_operation(alloc, word, table, value, attribute)?,
+    let Call { word, arguments } = call_of(member)?;
+    match arguments {
+        Arguments::One(argument) => push_unary(&word, argument, parts),
+        Arguments::Two(table, key) => push(Part::Do(read_operation(&word, table, key)?), parts),
+        Arguments::Three(table, value, attribute) => push(
+            Part::Do(index_operation(&word, table, value, attribute)?),
             parts,
         ),
-        _ => Err(ProtoFault::BadCommand),
     }
 }
 
 #[cycle(parts)]
 fn push_unary(
-    alloc: Global,
     word: &Atom,
-    argument: &Term,
+    argument: Term,
     parts: &mut Vec<Part>,
 ) -> Result<(), ProtoFault>
-    ensures ok { OnOk result (Adds parts.old.items parts.new.items (one_more (pair (atom word.now) (term argument.now)) none)) }
-    ensures bad { Refuses (is_part_term (pair (atom word.now) (term argument.now))) result }
+    ensures ok { OnOk result (Adds parts.old.items parts.new.items (one_more (pair (atom word.now) (term argument)) none)) }
+    ensures bad { RefusesOnlyIf (is_part_term (pair (atom word.now) (term argument)) ≡ false) result }
 {
     match unary_of(word.as_str()) {
-        Some(Unary::Abort) => push(Part::Abort(copy_of(alloc, argument)?), parts),
-        Some(Unary::Transaction) => push_inner(alloc, argument, parts),
-        Some(word) => push_operation(unary_operation(alloc, word, argument)?, parts),
+        Some(Unary::Abort) => push(Part::Abort(argument), parts),
+        Some(Unary::Transaction) => push_inner(argument, parts),
+        Some(word) => push(Part::Do(unary_operation(word, argument)?), parts),
         None => Err(ProtoFault::BadCommand),
     }
 }
 
 /// An inner transaction.
 #[cycle(parts)]
-fn push_inner(alloc: Global, held: &Term, parts: &mut Vec<Part>) -> Result<(), ProtoFault>
-    ensures ok { OnOk result (Adds parts.old.items parts.new.items (one_more (pair (atom (unary_text Unary.Transaction)) (term held.now)) none)) }
-    ensures bad { Refuses (is_parts_list (term held.now)) result }
+fn push_inner(argument: Term, parts: &mut Vec<Part>) -> Result<(), ProtoFault>
+    ensures ok { OnOk result (Adds parts.old.items parts.new.items (one_more (pair (atom (unary_text Unary.Transaction)) (term argument)) none)) }
+    ensures bad { RefusesOnlyIf (is_parts_list (term argument) ≡ false) result }
 {
-    let Term::List(members) = held else {
+    let Term::List(members) = argument else {
         return Err(ProtoFault::BadCommand);
     };
     push(Part::Open, parts)?;
-    push_parts(alloc, members.as_slice(), parts)?;
+    push_parts(members, parts)?;
     push(Part::Close, parts)
-}
-
-fn push_operation(operation: Operation, parts: &mut Vec<Part>) -> Result<(), ProtoFault>
-    ensures ok { OnOk result (parts.new.items ≡ parts.old.items ++ Part.Do operation ∷ []) }
-    ensures memory { Refuses true result }
-{
-    push(Part::Do(operation), parts)
 }
 
 fn push(part: Part, parts: &mut Vec<Part>) -> Result<(), ProtoFault>
     ensures ok { OnOk result (parts.new.items ≡ parts.old.items ++ part ∷ []) }
-    ensures memory { Refuses true result }
-{
-    add(part, parts).map_err(no_memory)
-}
-
-fn add(part: Part, parts: &mut Vec<Part>) -> Result<(), AllocError>
-    ensures { OnOk result (parts.new.items ≡ parts.old.items ++ part ∷ []) }
+    ensures memory { RefusesOnlyIf ⊥ result }
 {
     parts.push(part)?;
     Ok(())

@@ -1,58 +1,44 @@
 //! Requests from terms.
 
-ghost use Rattle.std.specs.Prelude.{◌≡◌, ◌≢◌, ◌&&◌, ℕ, pos, IfOk, IfSome, IfNone, Err};
-ghost use Rattle.tab_term.specs.Data.{int, atom, pair};
+ghost use Rattle.std.specs.Prelude.{◌≡◌, ◌≢◌, ℕ, pos, IfOk, IfSome, IfNone, Err};
+ghost use Rattle.tab_term.specs.Data.{atom};
 ghost use Rattle.tab_term.specs.View.{term};
-ghost use Rattle.tab_proto.specs.Reading.{is_read, is_one_word, serves_term, Refuses};
-ghost use Rattle.tab_proto.specs.Asks.{ask_term, request_term, IsSession, IsNumbered, HasNoNumber, IsAsked, is_asked, is_asked_word, ReadsAsked};
-ghost use Rattle.tab_proto.specs.declared.asked.Asked.{Asked as AskedOf};
+ghost use Rattle.tab_proto.specs.Requests.{asked_term, request_term, IsSession, IsNumbered, HasNoNumber, IsRequest, is_asked, is_word_alone, ReadsAs};
+ghost use Rattle.tab_proto.specs.Reading.{is_one_word};
+ghost use Rattle.tab_proto.specs.declared.request.Request.{Request as RequestOf};
 ghost use Rattle.tab_proto.specs.declared.fault.ProtoFault.TheVariants.{BadCommand};
 
-use crate::asked::Asked;
-use crate::commands::served_command;
+use crate::call::pair_of;
+use crate::commands::read_command;
 use crate::fault::ProtoFault;
+use crate::request::Request;
 use std::alloc::Global;
 use tab_term::{Atom, Term};
 
 /// A session's number and what it asks, from `{Session, X}`. Session numbers are 1 to 4,294,967,295. Every other term is
-/// BadCommand.
-pub fn request(alloc: Global, asked: &Term) -> Result<(u32, Asked), ProtoFault>
-    ensures ok { IfOk result (λ r. (request_term r.0 r.1 ≡ term asked.now) × IsSession r.0 × IsAsked r.1) }
-    ensures only { (session : ℕ) (a : AskedOf) → IsSession session → IsAsked a → request_term session a ≡ term asked.now → result ≢ Err BadCommand }
+/// BadCommand. Records and keys are taken out of the term, and not copied.
+pub fn read_request(alloc: Global, held: Term) -> Result<(u32, Request), ProtoFault>
+    ensures ok { IfOk result (λ r. (request_term r.0 r.1 ≡ term held) × IsSession r.0 × IsRequest r.1) }
+    ensures only { (session : ℕ) (r : RequestOf) → IsSession session → IsRequest r → request_term session r ≡ term held → result ≢ Err BadCommand }
 {
-    let Term::Tuple(parts) = asked else {
+    let Some(session) = session_of(&held) else {
         return Err(ProtoFault::BadCommand);
     };
-    match parts.as_slice() {
-        [Term::Int(number), ask] => numbered(alloc, *number, ask),
-        _ => Err(ProtoFault::BadCommand),
-    }
+    let (_number, asked) = pair_of(held)?;
+    Ok((session, read_asked(alloc, asked)?))
 }
 
 /// The number in `{Session, X}`, whatever X is. None where the term is no such pair, or the number is none of a session.
-pub fn session_of(asked: &Term) -> Option<u32>
-    ensures some { IfSome result (λ n. IsNumbered (term asked.now) n) }
-    ensures none { IfNone result (HasNoNumber (term asked.now)) }
+pub fn session_of(held: &Term) -> Option<u32>
+    ensures some { IfSome result (λ n. IsNumbered (term held.now) n) }
+    ensures none { IfNone result (HasNoNumber (term held.now)) }
 {
-    let Term::Tuple(parts) = asked else {
+    let Term::Tuple(parts) = held else {
         return None;
     };
     match parts.as_slice() {
         [Term::Int(number), _] => session_number(*number),
         _ => None,
-    }
-}
-
-fn numbered(alloc: Global, number: i128, ask: &Term) -> Result<(u32, Asked), ProtoFault>
-    ensures ok { IfOk result (λ r. (request_term r.0 r.1 ≡ pair (int number) (term ask.now)) × IsSession r.0 × IsAsked r.1) }
-    ensures only { (session : ℕ) (a : AskedOf) → IsSession session → IsAsked a → request_term session a ≡ pair (int number) (term ask.now) → result ≢ Err BadCommand }
-{
-    let Some(session) = session_number(number) else {
-        return Err(ProtoFault::BadCommand);
-    };
-    match asked_of(alloc, ask) {
-        Ok(ask) => Ok((session, ask)),
-        Err(fault) => Err(fault),
     }
 }
 
@@ -66,41 +52,32 @@ fn session_number(number: i128) -> Option<u32>
     Some(number as u32)
 }
 
-fn asked_of(alloc: Global, ask: &Term) -> Result<Asked, ProtoFault>
-    ensures { ReadsAsked (term ask.now) (is_asked (term ask.now)) result }
+fn read_asked(alloc: Global, asked: Term) -> Result<Request, ProtoFault>
+    ensures { ReadsAs (term asked) (is_asked (term asked)) result }
 {
-    match ask {
-        Term::Atom(word) => match word_asked(word) {
-            Some(asked) => Ok(asked),
-            None => do_command(alloc, ask),
-        },
-        _ => do_command(alloc, ask),
+    if let Term::Atom(word) = &asked {
+        if let Some(request) = word_alone(word) {
+            return Ok(request);
+        }
     }
+    Ok(Request::Do(read_command(alloc, asked)?))
 }
 
-fn do_command(alloc: Global, ask: &Term) -> Result<Asked, ProtoFault>
-    ensures ok { IfOk result (λ a. (ask_term a ≡ term ask.now) × IsAsked a) }
-    ensures bad { Refuses (serves_term (term ask.now) && is_read (term ask.now)) result }
-{
-    Ok(Asked::Do(served_command(alloc, ask)?))
-}
-
-/// What is asked by a word that is no command.
-fn word_asked(word: &Atom) -> Option<Asked>
-    ensures some { IfSome result (λ a. (ask_term a ≡ atom word.now) × IsAsked a) }
-    ensures none { IfNone result (is_asked_word word.now ≡ is_one_word word.now) }
+/// What a word asks that is no command.
+fn word_alone(word: &Atom) -> Option<Request>
+    ensures some { IfSome result (λ r. (asked_term r ≡ atom word.now) × IsRequest r) }
+    ensures none { IfNone result (is_word_alone word.now ≡ is_one_word word.now) }
 {
     match word.as_str() {
-        "join" => Some(Asked::Join),
-        "leave" => Some(Asked::Leave),
-        "retry" => Some(Asked::Retry),
-        "take" => Some(Asked::Take),
+        "join" => Some(Request::Join),
+        "leave" => Some(Request::Leave),
+        "retry" => Some(Request::Retry),
+        "take" => Some(Request::Take),
         _ => None,
     }
 }
 
 /// Two requests with one term are one: the same session asks the same.
-#[tactic(auto, using(crate::proofs::Apart::requests_apart))]
 pub fn requests_are_apart()
-    ensures { (m n : ℕ) (a b : AskedOf) → IsAsked a → IsAsked b → request_term m a ≡ request_term n b → (m ≡ n) × (a ≡ b) }
+    ensures { (m n : ℕ) (a b : RequestOf) → IsRequest a → IsRequest b → request_term m a ≡ request_term n b → (m ≡ n) × (a ≡ b) }
 {}

@@ -15,24 +15,24 @@ use Rattle.tab_model.specs.Run.{item_of, entries, taken_now, JoinsEmpty, IsTied}
 use Rattle.tab_model.proofs.SoundSteps.{step_sound}
 use Rattle.tab_model.proofs.TiedSteps.{step_tied}
 use Rattle.tab_model.proofs.Sole.{stays_sole, no_wait, no_restart}
-use Rattle.tab_proto.specs.declared.asked.Asked.{Asked}
-use Rattle.tab_proto.specs.declared.asked.Asked.TheVariants as asked
-use Rattle.tab_proto.specs.Asks.{request_term, number_in, IsSession, IsNumbered, IsAsked}
-use Rattle.tab_proto.proofs.Apart.{requests_apart}
+use Rattle.tab_proto.specs.declared.request.Request.{Request}
+use Rattle.tab_proto.specs.declared.request.Request.TheVariants as request
+use Rattle.tab_proto.specs.Requests.{request_term, number_in, IsSession, IsNumbered}
+use Rattle.tab_proto.proofs.RequestsApart.{requests_apart}
 use Rattle.tab_session.specs.declared.answered.Answer.{Answer}
-use Rattle.tab_session.specs.Answers.{ask_for, IsMade, Made, IsStep, IsNumberOf, IsNoCommand, AnsweredTerm, AnsweredRead, Refused, Answered, Ran, NoneRefused, NoneWaits, AreOf, taken_by, IsOf}
-use Rattle.tab_session.specs.Replays.{Said}
+use Rattle.tab_session.specs.AnsweredPayloads.{ask_for, IsStepMade, StepMadeOrRefused, IsStep, IsNumberOf, IsNoCommand, AnsweredTerm, AnsweredRead, Refused, Answered, AnsweredAll, NoneRefused, NoneWaits, AreOf, taken_by, IsOf}
+use Rattle.tab_session.specs.Replays.{IsRun}
 use Rattle.tab_core.proofs.RunLemmas.{rests_tied, quiet_tied}
 use Rattle.std.proofs.lemmas.List.Elements.{All-nil, All-cons, All-head, All-tail}
 
 -- ---- a step that was made
 
-joins_empty : (a : Asked) → JoinsEmpty (ask_for a)
-joins_empty asked.Join = refl
-joins_empty asked.Leave = tt
-joins_empty asked.Retry = tt
-joins_empty asked.Take = tt
-joins_empty (asked.Do c) = tt
+joins_empty : (a : Request) → JoinsEmpty (ask_for a)
+joins_empty request.Join = refl
+joins_empty request.Leave = tt
+joins_empty request.Retry = tt
+joins_empty request.Take = tt
+joins_empty (request.Do c) = tt
 
 -- the history of a state after an answer under a session
 record Onward (μ : State) (log : List Entry) (taken : ℕ → List Item) : Type 0 where
@@ -40,7 +40,7 @@ record Onward (μ : State) (log : List Entry) (taken : ℕ → List Item) : Type
   pub more : List Entry
   pub tied : IsTied μ (log ++ more) taken
 
-made_onward : (σ μ : State) (n : ℕ) (a : Asked) (r : Reply) (log : List Entry) (taken : ℕ → List Item) → IsMade σ n a r μ → IsSound σ → IsTied σ log taken → Onward μ log (λ m. taken m ++ taken_now m n r)
+made_onward : (σ μ : State) (n : ℕ) (a : Request) (r : Reply) (log : List Entry) (taken : ℕ → List Item) → IsStepMade σ n a r μ → IsSound σ → IsTied σ log taken → Onward μ log (λ m. taken m ++ taken_now m n r)
 made_onward σ μ n a r log taken made sound tied =
     let o = made.made in
     record {
@@ -69,7 +69,7 @@ answer_onward : (σ μ : State) (p : List ℕ) (x : Answer) (log : List Entry) (
 answer_onward σ μ p x log taken (inl h) sound tied = read_onward σ μ (whole p) x log taken h sound tied
 answer_onward σ μ p x log taken (inr h) sound tied = quiet_onward σ μ x.session x.reply log taken h.same (ap item_of h.reply) sound tied
 
-ran_onward : (σ τ : State) (ps : List (List ℕ)) (xs : List Answer) (log : List Entry) (taken : ℕ → List Item) → Ran σ ps xs τ → IsSound σ → IsTied σ log taken → Onward τ log (λ m. taken m ++ taken_by m xs)
+ran_onward : (σ τ : State) (ps : List (List ℕ)) (xs : List Answer) (log : List Entry) (taken : ℕ → List Item) → AnsweredAll σ ps xs τ → IsSound σ → IsTied σ log taken → Onward τ log (λ m. taken m ++ taken_by m xs)
 ran_onward σ τ [] [] log taken ran sound tied = record {
   sound = subst IsSound (sym ran) sound;
   more = [];
@@ -87,21 +87,21 @@ ran_onward σ τ (p ∷ ps) (x ∷ xs) log taken (μ, one, rest) sound tied =
           (subst (λ (f : ℕ → List Item). IsTied τ ((log ++ first.more) ++ all.more) f) (λ i m. append_assoc (taken m) (taken_now m x.session x.reply) (taken_by m xs) i) all.tied);
     }
 
-pub said_sound : (σ : State) (ps : List (List ℕ)) (xs : List Answer) (s : Said σ ps xs) (log : List Entry) (taken : ℕ → List Item) → IsSound σ → IsTied σ log taken → IsSound s.last
+pub said_sound : (σ : State) (ps : List (List ℕ)) (xs : List Answer) (s : IsRun σ ps xs) (log : List Entry) (taken : ℕ → List Item) → IsSound σ → IsTied σ log taken → IsSound s.last
 said_sound σ ps xs s log taken sound tied = (ran_onward σ s.last ps xs log taken s.ran sound tied).sound
 
-pub said_tied : (σ : State) (ps : List (List ℕ)) (xs : List Answer) (s : Said σ ps xs) (log : List Entry) (taken : ℕ → List Item) → IsSound σ → IsTied σ log taken → (more : List Entry) × IsTied s.last (log ++ more) (λ m. taken m ++ taken_by m xs)
+pub said_tied : (σ : State) (ps : List (List ℕ)) (xs : List Answer) (s : IsRun σ ps xs) (log : List Entry) (taken : ℕ → List Item) → IsSound σ → IsTied σ log taken → (more : List Entry) × IsTied s.last (log ++ more) (λ m. taken m ++ taken_by m xs)
 said_tied σ ps xs s log taken sound tied = let all = ran_onward σ s.last ps xs log taken s.ran sound tied in (all.more, all.tied)
 
 -- ---- one answer to each payload
 
-ran_length : (σ τ : State) (ps : List (List ℕ)) (xs : List Answer) → Ran σ ps xs τ → length xs ≡ length ps
+ran_length : (σ τ : State) (ps : List (List ℕ)) (xs : List Answer) → AnsweredAll σ ps xs τ → length xs ≡ length ps
 ran_length σ τ [] [] ran = refl
 ran_length σ τ (p ∷ ps) [] ran = absurd ran
 ran_length σ τ [] (x ∷ xs) ran = absurd ran
 ran_length σ τ (p ∷ ps) (x ∷ xs) (μ, one, rest) = ap suc (ran_length μ τ ps xs rest)
 
-pub said_each : (σ : State) (ps : List (List ℕ)) (xs : List Answer) → Said σ ps xs → length xs ≡ length ps
+pub said_each : (σ : State) (ps : List (List ℕ)) (xs : List Answer) → IsRun σ ps xs → length xs ≡ length ps
 said_each σ ps xs s = ran_length σ s.last ps xs s.ran
 
 -- ---- an answer follows from its payload and the state
@@ -119,17 +119,17 @@ number_once t m n (inr h) (inr k) = ap value_of (sym h.1 ∙ k.1)
 answer_of : (x y : Answer) → x.session ≡ y.session → x.reply ≡ y.reply → x ≡ y
 answer_of x y e f = λ i. record { session = e i; reply = f i }
 
-made_once : (σ μ ν : State) (n m : ℕ) (a b : Asked) (r q : Reply) → n ≡ m → a ≡ b → IsMade σ n a r μ → IsMade σ m b q ν → (r ≡ q) × (μ ≡ ν)
+made_once : (σ μ ν : State) (n m : ℕ) (a b : Request) (r q : Reply) → n ≡ m → a ≡ b → IsStepMade σ n a r μ → IsStepMade σ m b q ν → (r ≡ q) × (μ ≡ ν)
 made_once σ μ ν n m a b r q e f h k =
     let both = sym h.made ∙ (λ i. outcome σ [] (e i) (ask_for (f i))) ∙ k.made in
     (ap (λ o. Outcome.reply o) both, ap (λ o. Outcome.state o) both)
 
 term_once : (σ μ ν : State) (t : PlainTerm) (x y : Answer) → AnsweredTerm σ t x μ → AnsweredTerm σ t y ν → (x ≡ y) × (μ ≡ ν)
 term_once σ μ ν t x y (inl h) (inl k) = (answer_of x y (number_once t x.session y.session h.under k.under) (h.reply ∙ sym k.reply), h.same ∙ sym k.same)
-term_once σ μ ν t x y (inl h) (inr k) = absurd (h.nothing y.session k.asked k.session k.formed k.request)
-term_once σ μ ν t x y (inr h) (inl k) = absurd (k.nothing x.session h.asked h.session h.formed h.request)
+term_once σ μ ν t x y (inl h) (inr k) = absurd (h.nothing y.session k.asked k.session k.served k.spelled)
+term_once σ μ ν t x y (inr h) (inl k) = absurd (k.nothing x.session h.asked h.session h.served h.spelled)
 term_once σ μ ν t x y (inr h) (inr k) =
-    let same = requests_apart x.session y.session h.asked k.asked h.formed k.formed (h.request ∙ sym k.request) in
+    let same = requests_apart x.session y.session h.asked k.asked h.served.formed k.served.formed (h.spelled ∙ sym k.spelled) in
     let once = made_once σ μ ν x.session y.session h.asked k.asked x.reply y.reply same.0 same.1 h.made k.made in
     (answer_of x y same.0 once.0, once.1)
 
@@ -145,7 +145,7 @@ answer_once σ μ ν p x y e f (inl h) (inr k) = absurd (f k.reply)
 abbrev Unrefused : Answer → Type 0
 Unrefused x = x.reply ≢ reply.NoMemory
 
-ran_once : (σ τ ω : State) (ps : List (List ℕ)) (xs ys : List Answer) → NoneRefused xs → NoneRefused ys → Ran σ ps xs τ → Ran σ ps ys ω → (xs ≡ ys) × (τ ≡ ω)
+ran_once : (σ τ ω : State) (ps : List (List ℕ)) (xs ys : List Answer) → NoneRefused xs → NoneRefused ys → AnsweredAll σ ps xs τ → AnsweredAll σ ps ys ω → (xs ≡ ys) × (τ ≡ ω)
 ran_once σ τ ω [] [] [] e f h k = (refl, h ∙ sym k)
 ran_once σ τ ω [] (x ∷ xs) ys e f h k = absurd h
 ran_once σ τ ω [] [] (y ∷ ys) e f h k = absurd k
@@ -153,10 +153,10 @@ ran_once σ τ ω (p ∷ ps) [] ys e f h k = absurd h
 ran_once σ τ ω (p ∷ ps) (x ∷ xs) [] e f h k = absurd k
 ran_once σ τ ω (p ∷ ps) (x ∷ xs) (y ∷ ys) e f (μ, h, hs) (ν, k, ks) =
     let one = answer_once σ μ ν p x y (All-head Unrefused x xs e) (All-head Unrefused y ys f) h k in
-    let all = ran_once μ τ ω ps xs ys (All-tail Unrefused x xs e) (All-tail Unrefused y ys f) hs (subst (λ (s : State). Ran s ps ys ω) (sym one.1) ks) in
+    let all = ran_once μ τ ω ps xs ys (All-tail Unrefused x xs e) (All-tail Unrefused y ys f) hs (subst (λ (s : State). AnsweredAll s ps ys ω) (sym one.1) ks) in
     (λ i. one.0 i ∷ all.0 i, all.1)
 
-pub said_once : (σ : State) (ps : List (List ℕ)) (xs ys : List Answer) → NoneRefused xs → NoneRefused ys → Said σ ps xs → Said σ ps ys → xs ≡ ys
+pub said_once : (σ : State) (ps : List (List ℕ)) (xs ys : List Answer) → NoneRefused xs → NoneRefused ys → IsRun σ ps xs → IsRun σ ps ys → xs ≡ ys
 said_once σ ps xs ys e f s t = (ran_once σ s.last t.last ps xs ys e f s.ran t.ran).0
 
 -- ---- a session that is alone
@@ -169,7 +169,7 @@ record Alone (n : ℕ) (μ : State) (x : Answer) : Type 0 where
 stays_alone : (n : ℕ) (σ μ : State) (x : Answer) → μ ≡ σ → x.reply ≢ reply.Waiting → x.reply ≢ reply.Restart → IsSole n σ → Alone n μ x
 stays_alone n σ μ x same w r sole = record { sole = subst (IsSole n) (sym same) sole; wait = w; restart = r }
 
-made_alone : (n : ℕ) (σ μ : State) (x : Answer) (a : Asked) → x.session ≡ n → IsMade σ x.session a x.reply μ → IsSole n σ → Alone n μ x
+made_alone : (n : ℕ) (σ μ : State) (x : Answer) (a : Request) → x.session ≡ n → IsStepMade σ x.session a x.reply μ → IsSole n σ → Alone n μ x
 made_alone n σ μ x a mine made sole =
     let here = (λ i. outcome σ [] (sym mine i) (ask_for a)) ∙ made.made in
     record {
@@ -193,7 +193,7 @@ read_alone n σ μ (Ok t) x of (inl h) sole = stays_alone n σ μ x h.same (λ e
 
     restarts : reply.BadCommand ≡ reply.Restart → ⊥
     restarts e = cc
-read_alone n σ μ (Ok t) x of (inr h) sole = made_alone n σ μ x h.asked (of t x.session refl (h.session, ap number_in (sym h.request))) h.made sole
+read_alone n σ μ (Ok t) x of (inr h) sole = made_alone n σ μ x h.asked (of t x.session refl (h.session, ap number_in (sym h.spelled))) h.made sole
 
 answer_alone : (n : ℕ) (σ μ : State) (p : List ℕ) (x : Answer) → IsOf n p → Answered σ p x μ → IsSole n σ → Alone n μ x
 answer_alone n σ μ p x of (inl h) sole = read_alone n σ μ (whole p) x of h sole
@@ -208,7 +208,7 @@ answer_alone n σ μ p x of (inr h) sole = stays_alone n σ μ x h.same (λ e. w
 abbrev GoesOn : Answer → Type 0
 GoesOn x = (x.reply ≢ reply.Waiting) × (x.reply ≢ reply.Restart)
 
-ran_alone : (n : ℕ) (σ τ : State) (ps : List (List ℕ)) (xs : List Answer) → AreOf n ps → Ran σ ps xs τ → IsSole n σ → NoneWaits xs
+ran_alone : (n : ℕ) (σ τ : State) (ps : List (List ℕ)) (xs : List Answer) → AreOf n ps → AnsweredAll σ ps xs τ → IsSole n σ → NoneWaits xs
 ran_alone n σ τ [] [] of ran sole = All-nil GoesOn
 ran_alone n σ τ (p ∷ ps) [] of ran sole = absurd ran
 ran_alone n σ τ [] (x ∷ xs) of ran sole = absurd ran
@@ -216,5 +216,5 @@ ran_alone n σ τ (p ∷ ps) (x ∷ xs) of (μ, one, rest) sole =
     let first = answer_alone n σ μ p x (All-head (IsOf n) p ps of) one sole in
     All-cons GoesOn x xs (first.wait, first.restart) (ran_alone n μ τ ps xs (All-tail (IsOf n) p ps of) rest first.sole)
 
-pub said_alone : (n : ℕ) (σ : State) (ps : List (List ℕ)) (xs : List Answer) → AreOf n ps → IsSole n σ → Said σ ps xs → NoneWaits xs
+pub said_alone : (n : ℕ) (σ : State) (ps : List (List ℕ)) (xs : List Answer) → AreOf n ps → IsSole n σ → IsRun σ ps xs → NoneWaits xs
 said_alone n σ ps xs of sole s = ran_alone n σ s.last ps xs of s.ran sole

@@ -1,4 +1,4 @@
-pub mod Made
+pub mod StepMadeOrRefused
 pub mod Runs
 pub mod Served
 pub mod Replayed

@@ -10,10 +10,10 @@ use Rattle.tab_etf.specs.declared.framing.FrameFault.TheVariants as faults
 use Rattle.tab_etf.specs.Streams.{payloads, rest_of, GoesOn, Stops}
 use Rattle.tab_session.specs.declared.answered.Answer.{Answer}
 use Rattle.tab_model.specs.State.{State}
-use Rattle.tab_session.specs.Answers.{Ran}
+use Rattle.tab_session.specs.AnsweredPayloads.{AnsweredAll}
 use Rattle.tab_session.specs.declared.ended.Ended.{Ended}
 use Rattle.tab_session.specs.declared.ended.Ended.TheVariants.{Damaged, Device, TooLong, NoMemory}
-use Rattle.tab_session.specs.Replays.{fresh, frames_of, Said, IsReplaying, Passed, WroteAll, WroteSome, WroteFirst, BeginsTooLong, Served, Replayed, Advances}
+use Rattle.tab_session.specs.Replays.{fresh, frames_of, IsRun, IsReplaying, Passed, WroteAll, WroteSome, WroteFirst, BeginsTooLong, Served, Replayed, Advances}
 use Rattle.tab_session.proofs.Runs.{total, ran_join, frames_join, beginning_after}
 use Rattle.tab_etf.proofs.Known.{Appends-none, Appends-then}
 
@@ -86,8 +86,8 @@ replaying_end stream left new_left held i now old new s read end =
         replies = s.said;
         said = record {
           last = now;
-          ran = subst (λ (ps : List (List ℕ)). Ran fresh ps s.said now) (ap (λ (x : List (List ℕ)). s.done ++ x) (sym e) ∙ ap (λ (x : List ℕ). s.done ++ payloads x) (sym whole) ∙ sym s.found)
-              (subst (λ (rs : List Answer). Ran fresh (s.done ++ []) rs now) (append-nil s.said) (s.goes [] [] now refl));
+          ran = subst (λ (ps : List (List ℕ)). AnsweredAll fresh ps s.said now) (ap (λ (x : List (List ℕ)). s.done ++ x) (sym e) ∙ ap (λ (x : List ℕ). s.done ++ payloads x) (sym whole) ∙ sym s.found)
+              (subst (λ (rs : List Answer). AnsweredAll fresh (s.done ++ []) rs now) (append-nil s.said) (s.goes [] [] now refl));
         };
         text = s.text;
       };
@@ -105,7 +105,7 @@ replaying_over stream left new_left held piece i now μ old mid new given s read
         replies = s.said ++ p.replies;
         said = record {
           last = μ;
-          ran = subst (λ (ps : List (List ℕ)). Ran fresh ps (s.said ++ p.replies) μ) (ap (λ (x : List (List ℕ)). s.done ++ x) (sym (g.found k.next)) ∙ ap (λ (x : List ℕ). s.done ++ payloads x) (sym whole) ∙ sym s.found)
+          ran = subst (λ (ps : List (List ℕ)). AnsweredAll fresh ps (s.said ++ p.replies) μ) (ap (λ (x : List (List ℕ)). s.done ++ x) (sym (g.found k.next)) ∙ ap (λ (x : List ℕ). s.done ++ payloads x) (sym whole) ∙ sym s.found)
               (s.goes given p.replies μ p.ran);
         };
         text = Appends-then old mid new _ _ _ s.text p.text (sym (frames_join s.said p.replies));
@@ -133,10 +133,10 @@ next_stopped stream left new_left held piece i now old new given s read g =
 
 -- the run of what was served, after what was done and before all the rest
 said_on : (stream : List ℕ) (left : Option (List ℕ)) (held : List ℕ) (i : ℕ) (now : State) (old mid : Option (List ℕ)) (given : List (List ℕ)) (rs : List Answer)
-    → (s : IsReplaying stream left held i now old mid) → Next stream s.done given → Said now given rs → (us : List Answer) × Said fresh (payloads stream) (s.said ++ (rs ++ us))
+    → (s : IsReplaying stream left held i now old mid) → Next stream s.done given → IsRun now given rs → (us : List Answer) × IsRun fresh (payloads stream) (s.said ++ (rs ++ us))
 said_on stream left held i now old mid given rs s n q =
     let t = total q.last n.others in
-    (t.0, record { last = t.1.last; ran = subst (λ (ps : List (List ℕ)). Ran fresh ps (s.said ++ (rs ++ t.0)) t.1.last) (sym n.found) (s.goes (given ++ n.others) (rs ++ t.0) t.1.last (ran_join now q.last t.1.last given n.others rs t.0 q.ran t.1.ran)) })
+    (t.0, record { last = t.1.last; ran = subst (λ (ps : List (List ℕ)). AnsweredAll fresh ps (s.said ++ (rs ++ t.0)) t.1.last) (sym n.found) (s.goes (given ++ n.others) (rs ++ t.0) t.1.last (ran_join now q.last t.1.last given n.others rs t.0 q.ran t.1.ran)) })
 
 regroup : (a b c d : List Answer) → a ++ ((b ++ c) ++ d) ≡ (a ++ b) ++ (c ++ d)
 regroup a b c d = ap (λ (x : List Answer). a ++ x) (append_assoc b c d) ∙ sym (append_assoc a b (c ++ d))
@@ -164,7 +164,7 @@ replaying_err stream left held i now μ old mid new given TooLong s n h =
     record {
       first = s.said ++ h.first;
       others = h.others ++ u.0;
-      said = subst (λ (rs : List Answer). Said fresh (payloads stream) rs) (regroup s.said h.first h.others u.0) u.1;
+      said = subst (λ (rs : List Answer). IsRun fresh (payloads stream) rs) (regroup s.said h.first h.others u.0) u.1;
       text = Appends-then old mid new _ _ _ s.text h.text (sym (frames_join s.said h.first));
       next = too_long_on h.others u.0 h.next;
     }
@@ -173,16 +173,16 @@ replaying_err stream left held i now μ old mid new given NoMemory s n h =
     record {
       first = s.said ++ h.first;
       others = h.others ++ u.0;
-      said = subst (λ (rs : List Answer). Said fresh (payloads stream) rs) (regroup s.said h.first h.others u.0) u.1;
+      said = subst (λ (rs : List Answer). IsRun fresh (payloads stream) rs) (regroup s.said h.first h.others u.0) u.1;
       text = Appends-then old mid new _ _ _ s.text h.text (sym (frames_join s.said h.first));
     }
 
 -- a run over the whole stream from what was done
 said_all : (stream : List ℕ) (left : Option (List ℕ)) (held : List ℕ) (i : ℕ) (now : State) (old new : Option (List ℕ))
-    → (s : IsReplaying stream left held i now old new) → (us : List Answer) × Said fresh (payloads stream) (s.said ++ us)
+    → (s : IsReplaying stream left held i now old new) → (us : List Answer) × IsRun fresh (payloads stream) (s.said ++ us)
 said_all stream left held i now old new s =
     let t = total now (payloads (held ++ s.more)) in
-    (t.0, record { last = t.1.last; ran = subst (λ (ps : List (List ℕ)). Ran fresh ps (s.said ++ t.0) t.1.last) (sym s.found) (s.goes (payloads (held ++ s.more)) t.0 t.1.last t.1.ran) })
+    (t.0, record { last = t.1.last; ran = subst (λ (ps : List (List ℕ)). AnsweredAll fresh ps (s.said ++ t.0) t.1.last) (sym s.found) (s.goes (payloads (held ++ s.more)) t.0 t.1.last t.1.ran) })
 
 pub replaying_device : (stream : List ℕ) (left : Option (List ℕ)) (held : List ℕ) (i : ℕ) (now : State) (old new : Option (List ℕ))
     → IsReplaying stream left held i now old new → WroteSome fresh (payloads stream) old new

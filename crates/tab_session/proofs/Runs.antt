@@ -6,13 +6,13 @@ use Rattle.std.proofs.lemmas.List.Concat.{flat_map-append}
 use Rattle.std.proofs.Math.Seq.{take-append-add}
 use Rattle.tab_session.specs.declared.answered.Answer.{Answer}
 use Rattle.tab_model.specs.State.{State}
-use Rattle.tab_session.specs.Answers.{Answered, IsUnderRead, Ran, answer_frame}
+use Rattle.tab_session.specs.AnsweredPayloads.{Answered, IsUnderRead, AnsweredAll, answer_frame}
 use Rattle.std.proofs.Common.{Result, Ok, Err}
 use Rattle.tab_term.specs.Data.{PlainTerm}
 use Rattle.tab_etf.specs.Reading.{whole}
 use Rattle.tab_etf.specs.declared.fault.Stop.{Stop}
 use Rattle.tab_model.specs.declared.data.Reply.TheVariants.{NoMemory}
-use Rattle.tab_session.specs.Replays.{frames_of, Said}
+use Rattle.tab_session.specs.Replays.{frames_of, IsRun}
 
 abbrev unasked : Answer
 unasked = record { session = 0; reply = NoMemory }
@@ -25,14 +25,14 @@ refused : (σ : State) (p : List ℕ) → Answered σ p unasked σ
 refused σ p = inr (record { reply = refl; same = refl; under = under (whole p) })
 
 -- any payloads can be answered
-pub total : (σ : State) (ps : List (List ℕ)) → (rs : List Answer) × Said σ ps rs
+pub total : (σ : State) (ps : List (List ℕ)) → (rs : List Answer) × IsRun σ ps rs
 total σ [] = ([], record { last = σ; ran = refl })
 total σ (p ∷ ps) =
     let t = total σ ps in
     (unasked ∷ t.0, record { last = t.1.last; ran = (σ, refused σ p, t.1.ran) })
 
-pub ran_join : (σ μ τ : State) (ps qs : List (List ℕ)) (rs ss : List Answer) → Ran σ ps rs μ → Ran μ qs ss τ → Ran σ (ps ++ qs) (rs ++ ss) τ
-ran_join σ μ τ [] qs [] ss p q = subst (λ (s : State). Ran s qs ss τ) p q
+pub ran_join : (σ μ τ : State) (ps qs : List (List ℕ)) (rs ss : List Answer) → AnsweredAll σ ps rs μ → AnsweredAll μ qs ss τ → AnsweredAll σ (ps ++ qs) (rs ++ ss) τ
+ran_join σ μ τ [] qs [] ss p q = subst (λ (s : State). AnsweredAll s qs ss τ) p q
 ran_join σ μ τ [] qs (r ∷ rs) ss p q = absurd p
 ran_join σ μ τ (x ∷ ps) qs [] ss p q = absurd p
 ran_join σ μ τ (x ∷ ps) qs (r ∷ rs) ss p q = (p.0, p.1, ran_join p.0 μ τ ps qs rs ss p.2 q)

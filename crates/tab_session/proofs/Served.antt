@@ -11,7 +11,7 @@ use Rattle.tab_session.specs.declared.answered.Answer.{Answer}
 use Rattle.tab_etf.specs.declared.encoding.EncodeFault.{EncodeFault}
 use Rattle.tab_etf.specs.declared.encoding.EncodeFault.TheVariants as puts
 use Rattle.tab_model.specs.State.{State}
-use Rattle.tab_session.specs.Answers.{Answered, Ran, answer_frame, answer_payload, NotPut}
+use Rattle.tab_session.specs.AnsweredPayloads.{Answered, AnsweredAll, answer_frame, answer_payload, NotPut}
 use Rattle.tab_session.specs.Replays.{frames_of, IsServing, Passed, WroteSome, WroteFirst, WroteBefore, Served, ended_of}
 use Rattle.tab_session.proofs.Runs.{total, frames_join, frames_one, beginning_after}
 use Rattle.tab_etf.proofs.Known.{Appends-none, Appends-then, Appends-keeps}
@@ -23,7 +23,7 @@ pub serving_kept : (σ now μ : State) (all left : List (List ℕ)) (old new : O
     → IsServing σ now all (p ∷ left) old new b → Answered now p r μ → c ≡ b ++ answer_frame r → IsServing σ μ all left old new c
 serving_kept σ now μ all left old new b c p r s a e = record {
   said = s.said ++ r ∷ [];
-  goes = λ ss τ q. subst (λ (rs : List Answer). Ran σ all rs τ) (sym (append_assoc s.said (r ∷ []) ss)) (s.goes (r ∷ ss) τ (μ, a, q));
+  goes = λ ss τ q. subst (λ (rs : List Answer). AnsweredAll σ all rs τ) (sym (append_assoc s.said (r ∷ []) ss)) (s.goes (r ∷ ss) τ (μ, a, q));
   written = s.written;
   text = s.text;
   whole = ap (λ (x : List ℕ). s.written ++ x) e ∙ sym (append_assoc s.written b (answer_frame r)) ∙ ap (λ (x : List ℕ). x ++ answer_frame r) s.whole ∙ sym (frames_one s.said r);
@@ -43,7 +43,7 @@ pub serving_done : (σ now : State) (all : List (List ℕ)) (old mid new : Optio
     → IsServing σ now all [] old mid b → Appends mid new b → Passed σ now all old new
 serving_done σ now all old mid new b s w = record {
   replies = s.said;
-  ran = subst (λ (rs : List Answer). Ran σ all rs now) (append-nil s.said) (s.goes [] now refl);
+  ran = subst (λ (rs : List Answer). AnsweredAll σ all rs now) (append-nil s.said) (s.goes [] now refl);
   text = Appends-then old mid new s.written b (frames_of s.said) s.text w s.whole;
 }
 

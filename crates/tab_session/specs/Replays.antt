@@ -6,7 +6,7 @@ use Rattle.tab_etf.specs.Streams.{payloads, rest_of}
 use Rattle.tab_session.specs.declared.answered.Answer.{Answer}
 use Rattle.tab_model.specs.State.{State, new}
 use Rattle.tab_model.specs.declared.data.Limits.{Limits}
-use Rattle.tab_session.specs.Answers.{Answered, NotPut, Ran, answer_payload, answer_frame}
+use Rattle.tab_session.specs.AnsweredPayloads.{Answered, NotPut, AnsweredAll, answer_payload, answer_frame}
 use Rattle.tab_etf.specs.declared.encoding.EncodeFault.{EncodeFault}
 use Rattle.tab_etf.specs.declared.encoding.EncodeFault.TheVariants as puts
 use Rattle.tab_session.specs.declared.ended.Ended.{Ended}
@@ -24,20 +24,20 @@ abbrev pub frames_of : List Answer → List ℕ
 frames_of rs = flat_map answer_frame rs
 
 -- a run over all these payloads says these replies
-pub record Said (σ : State) (ps : List (List ℕ)) (rs : List Answer) : Type 0 where
+pub record IsRun (σ : State) (ps : List (List ℕ)) (rs : List Answer) : Type 0 where
   pub last : State
-  pub ran : Ran σ ps rs last
+  pub ran : AnsweredAll σ ps rs last
 
 -- the frames of all replies were written
 pub record WroteAll (σ : State) (ps : List (List ℕ)) (old new : Option (List ℕ)) : Type 0 where
   pub replies : List Answer
-  pub said : Said σ ps replies
+  pub said : IsRun σ ps replies
   pub text : Appends old new (frames_of replies)
 
 -- a beginning of the text was written
 pub record WroteSome (σ : State) (ps : List (List ℕ)) (old new : Option (List ℕ)) : Type 0 where
   pub replies : List Answer
-  pub said : Said σ ps replies
+  pub said : IsRun σ ps replies
   pub count : ℕ
   pub text : Appends old new (take count (frames_of replies))
 
@@ -45,7 +45,7 @@ pub record WroteSome (σ : State) (ps : List (List ℕ)) (old new : Option (List
 pub record WroteFirst (σ : State) (ps : List (List ℕ)) (old new : Option (List ℕ)) : Type 0 where
   pub first : List Answer
   pub others : List Answer
-  pub said : Said σ ps (first ++ others)
+  pub said : IsRun σ ps (first ++ others)
   pub text : Appends old new (frames_of first)
 
 abbrev pub BeginsTooLong : List Answer → Type 0
@@ -56,13 +56,13 @@ BeginsTooLong (r ∷ rs) = 4294967295 < length (answer_payload r)
 pub record WroteBefore (σ : State) (ps : List (List ℕ)) (old new : Option (List ℕ)) : Type 0 where
   pub first : List Answer
   pub others : List Answer
-  pub said : Said σ ps (first ++ others)
+  pub said : IsRun σ ps (first ++ others)
   pub text : Appends old new (frames_of first)
   pub next : BeginsTooLong others
 
 pub record Passed (σ τ : State) (ps : List (List ℕ)) (old new : Option (List ℕ)) : Type 0 where
   pub replies : List Answer
-  pub ran : Ran σ ps replies τ
+  pub ran : AnsweredAll σ ps replies τ
   pub text : Appends old new (frames_of replies)
 
 -- one payload was answered, and its frame added
@@ -127,7 +127,7 @@ Faults a b c d (Err NoMemory) = Sound a b c d
 -- the loop over the payloads of a piece: what was said, and how a run goes on
 pub record IsServing (σ now : State) (all left : List (List ℕ)) (old new : Option (List ℕ)) (buffer : List ℕ) : Type 0 where
   pub said : List Answer
-  pub goes : (ss : List Answer) (τ : State) → Ran now left ss τ → Ran σ all (said ++ ss) τ
+  pub goes : (ss : List Answer) (τ : State) → AnsweredAll now left ss τ → AnsweredAll σ all (said ++ ss) τ
   pub written : List ℕ
   pub text : Appends old new written
   pub whole : written ++ buffer ≡ frames_of said
@@ -140,7 +140,7 @@ pub record IsReplaying (stream : List ℕ) (left : Option (List ℕ)) (held : Li
   pub said : List Answer
   pub found : payloads stream ≡ done ++ payloads (held ++ more)
   pub ends : rest_of stream ≡ rest_of (held ++ more)
-  pub goes : (qs : List (List ℕ)) (ss : List Answer) (τ : State) → Ran now qs ss τ → Ran fresh (done ++ qs) (said ++ ss) τ
+  pub goes : (qs : List (List ℕ)) (ss : List Answer) (τ : State) → AnsweredAll now qs ss τ → AnsweredAll fresh (done ++ qs) (said ++ ss) τ
   pub text : Appends old new (frames_of said)
   pub count : rounds + length more ≤ length stream
 

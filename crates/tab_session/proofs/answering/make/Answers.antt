@@ -1,5 +1,5 @@
 use Rattle.std.proofs.Common.{inl}
-use Rattle.tab_session.proofs.Made.{makes}
+use Rattle.tab_session.proofs.StepMadeOrRefused.{makes}
 use Rattle.tab_session.proofs.answering.make.Goals as goal
 
 pub returns-in-Ok : goal.returns-in-Ok

@@ -4,12 +4,12 @@ use Rattle.tab_model.specs.State.{State}
 use Rattle.tab_model.specs.Outcome.{Ask, outcome, Outcome}
 use Rattle.tab_model.specs.declared.data.Entry.{Entry}
 use Rattle.tab_model.specs.declared.data.Reply.{Reply}
-use Rattle.tab_core.specs.Runs.{Makes}
+use Rattle.tab_core.specs.Runs.{StepsTo}
 use Rattle.tab_core.specs.declared.stepped.Stepped.{Stepped}
 
 abbrev made_of : State → Reply → Option Entry → Outcome
 made_of μ r e = record { state = μ; reply = r; entry = e }
 
 pub makes : (σ μ : State) (n : ℕ) (a b : Ask) (r : Reply) (s : Stepped)
-    → b ≡ a → r ≡ s.reply → Makes σ n b s μ → outcome σ [] n a ≡ record { state = μ; reply = r; entry = s.entry }
+    → b ≡ a → r ≡ s.reply → StepsTo σ n b s μ → outcome σ [] n a ≡ record { state = μ; reply = r; entry = s.entry }
 makes σ μ n a b r s e f h = ap (λ (x : Ask). outcome σ [] n x) (sym e) ∙ h ∙ ap (λ (x : Reply). made_of μ x s.entry) (sym f)

@@ -2,7 +2,7 @@ use tab_model::Command;
 
 /// What a session asks.
 #[derive(Drop)]
-pub enum Asked {
+pub enum Request {
     /// `join`.
     Join,
     /// `leave`.

@@ -1,5 +1,5 @@
 -- Parts one after another, and the operations that they say.
-use Rattle.std.proofs.Common.{◌≡◌, ℕ, suc, zero, ◌+◌, ◌<◌, List, [], ◌∷◌, ◌++◌, Bool, true, false, ◌&&◌, refl, sym, ap, ◌∙◌, subst, append-nil, append_assoc, take, length, get_or}
+use Rattle.std.proofs.Common.{◌≡◌, ℕ, suc, zero, ◌+◌, ◌<◌, ◌≤◌, List, [], ◌∷◌, ◌++◌, Bool, true, false, ◌&&◌, refl, sym, ap, ◌∙◌, subst, append-nil, append_assoc, take, length, get_or}
 use Rattle.std.proofs.Common.{arith, Result, Ok, Err, OnOk}
 use Rattle.tab_proto.specs.declared.fault.ProtoFault.{ProtoFault}
 use Rattle.tab_proto.specs.declared.fault.ProtoFault.TheVariants.{BadCommand, NoMemory}
@@ -7,7 +7,7 @@ use Rattle.std.specs.Prelude.{codes, pos, nat_le}
 use Rattle.tab_model.specs.declared.data.Command.TheVariants as command
 use Rattle.std.specs.List.{list_all}
 use Rattle.std.proofs.lemmas.List.{take_more}
-use Rattle.tab_term.specs.Data.{PlainTerm, int, atom, list, PlainTerms, none, one_more, pair, triple}
+use Rattle.tab_term.specs.Data.{PlainTerm, int, atom, list, PlainTerms, none, one_more, pair, triple, weight, nodes}
 use Rattle.tab_term.specs.View.{term, terms}
 use Rattle.tab_term.specs.declared.term.Term.{Term}
 use Rattle.tab_term.proofs.Lists.{push, terms-push}
@@ -15,7 +15,7 @@ use Rattle.tab_model.specs.declared.data.Operation.{Operation}
 use Rattle.tab_model.specs.declared.data.Part.{Part}
 use Rattle.tab_model.specs.declared.data.Part.TheVariants as part
 use Rattle.tab_proto.specs.Commands.{operation_term, abort_term, with_first, enclosed, levels, outermost, is_nested, is_part, is_operation}
-use Rattle.tab_proto.specs.Reading.{is_part_term, are_parts, with_all, Spells, Refuses, Says, Adds}
+use Rattle.tab_proto.specs.Reading.{is_part_term, are_parts, with_all, Spells, RefusesOnlyIf, Says, Adds}
 
 all-append : (xs ys : List Part) → list_all is_part xs ≡ true → list_all is_part ys ≡ true → list_all is_part (xs ++ ys) ≡ true
 all-append [] ys h k = k
@@ -42,13 +42,36 @@ says_then xs ys ts t h k = record {
   formed = all-append xs ys h.formed k.formed;
 }
 
--- a member more
-pub adds_member : (old mid new : List Part) (ms : List Term) (i : ℕ) (m : Term) → i < length ms → m ≡ get_or ms i m → Adds old mid (terms (take i ms)) → Adds mid new (one_more (term m) none) → Adds old new (terms (take (i + 1) ms))
-adds_member old mid new ms i m within same (xs, e, h) (ys, f, k) = (
-  xs ++ ys,
-  f ∙ ap (λ z. z ++ ys) e ∙ append_assoc old xs ys,
-  subst (Says (xs ++ ys)) (sym (terms-push (take i ms) m) ∙ ap terms (sym (take_more ms i m within ∙ ap (λ x. take i ms ++ x ∷ []) (sym same)))) (says_then xs ys (terms (take i ms)) (term m) h k),
-)
+-- the members that were read, and those that are left
+pub record AreRead (members : PlainTerms) (old now : List Part) (left : List Term) : Type 0 where
+  pub done : List Term
+  pub whole : terms (done ++ left) ≡ members
+  pub adds : Adds old now (terms done)
+
+pub none_read : (members : PlainTerms) (ms : List Term) (old : List Part) → terms ms ≡ members → AreRead members old old ms
+none_read members ms old e = record { done = []; whole = e; adds = adds_none old }
+
+pub one_read : (members : PlainTerms) (old mid new : List Part) (m : Term) (left rest : List Term) → left ≡ m ∷ rest → AreRead members old mid left → Adds mid new (one_more (term m) none) → AreRead members old new rest
+one_read members old mid new m left rest is r (ys, f, k) = record {
+  done = r.done ++ m ∷ [];
+  whole = ap terms (append_assoc r.done (m ∷ []) rest ∙ ap (λ l. r.done ++ l) (sym is)) ∙ r.whole;
+  adds = joined r.adds;
+}
+  where
+    joined : Adds old mid (terms r.done) → Adds old new (terms (r.done ++ m ∷ []))
+    joined (xs, e, h) = (xs ++ ys, f ∙ ap (λ z. z ++ ys) e ∙ append_assoc old xs ys, subst (Says (xs ++ ys)) (sym (terms-push r.done m)) (says_then xs ys (terms r.done) (term m) h k))
+
+pub all_read : (members : PlainTerms) (old now : List Part) (left : List Term) → left ≡ [] → AreRead members old now left → Adds old now members
+all_read members old now left e r = subst (Adds old now) (ap terms (sym (append-nil r.done) ∙ ap (λ l. r.done ++ l) (sym e)) ∙ r.whole) r.adds
+
+-- a member weighs no more than all
+weight_in : (done : List Term) (m : Term) (rest : List Term) → weight (term m) ≤ nodes (terms (done ++ m ∷ rest))
+weight_in [] m rest = omega arith
+weight_in (x ∷ done) m rest = omega (arith, weight_in done m rest)
+
+pub weight_left : (members : PlainTerms) (old now : List Part) (m : Term) (left rest : List Term) → left ≡ m ∷ rest → AreRead members old now left → weight (term m) ≤ nodes members
+weight_left members old now m left rest is r =
+    subst (λ ts. weight (term m) ≤ nodes ts) (ap (λ l. terms (r.done ++ l)) (sym is) ∙ r.whole) (weight_in r.done m rest)
 
 -- one part
 pub adds_operation : (old new : List Part) (o : Operation) (t : PlainTerm) → new ≡ old ++ part.Do o ∷ [] → operation_term o ≡ t → is_operation o ≡ true → Adds old new (one_more t none)
@@ -94,19 +117,18 @@ adds_inner old opened inside new ts e (xs, f, h) g = (
     encloses (suc n) rest = closes (suc n) rest
 
 -- a member that is no part
-pub no_parts : (ms : List Term) (i : ℕ) (m : Term) → i < length ms → m ≡ get_or ms i m → is_part_term (term m) ≡ false → are_parts (terms ms) ≡ false
-no_parts [] i m lt e h = absurd (omega arith)
-no_parts (x ∷ ms) zero m lt e h = ap (λ y. is_part_term (term y) && are_parts (terms ms)) (sym e) ∙ ap (λ b. b && are_parts (terms ms)) h
-no_parts (x ∷ ms) (suc i) m lt e h = ap (λ b. is_part_term (term x) && b) (no_parts ms i m (omega arith) e h) ∙ none_of (is_part_term (term x))
+no_part_in : (done : List Term) (m : Term) (rest : List Term) → is_part_term (term m) ≡ false → are_parts (terms (done ++ m ∷ rest)) ≡ false
+no_part_in [] m rest h = ap (λ b. b && are_parts (terms rest)) h
+no_part_in (x ∷ done) m rest h = ap (λ b. is_part_term (term x) && b) (no_part_in done m rest h) ∙ none_of (is_part_term (term x))
   where
     none_of : (b : Bool) → (b && false) ≡ false
     none_of true = refl
     none_of false = refl
 
 -- a member that is refused refuses the list
-pub refuses_list : (ms : List Term) (i : ℕ) (m : Term) (e : ProtoFault) → i < length ms → m ≡ get_or ms i m → Refuses {A = Unit {0}} (is_part_term (term m)) (Err e) → Refuses {A = Unit {0}} (are_parts (terms ms)) (Err e)
-refuses_list ms i m BadCommand lt same h = no_parts ms i m lt same h
-refuses_list ms i m NoMemory lt same h = tt
+pub refuses_list : (members : PlainTerms) (old now : List Part) (m : Term) (left rest : List Term) (e : ProtoFault) → left ≡ m ∷ rest → AreRead members old now left → RefusesOnlyIf {A = Unit {0}} (is_part_term (term m) ≡ false) (Err e) → RefusesOnlyIf {A = Unit {0}} (are_parts members ≡ false) (Err e)
+refuses_list members old now m left rest BadCommand is r h = subst (λ ts. are_parts ts ≡ false) (ap (λ l. terms (r.done ++ l)) (sym is) ∙ r.whole) (no_part_in r.done m rest h)
+refuses_list members old now m left rest NoMemory is r h = tt
 
 pub on_ok : {E : Type 0} (r : Result (Unit {0}) E) (A B : Type 0) → (A → B) → OnOk r A → OnOk r B
 on_ok (Ok u) A B f h = f h

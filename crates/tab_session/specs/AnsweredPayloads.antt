@@ -1,5 +1,5 @@
 -- How a payload is answered, and the bytes of an answer (this project's own rules).
-use Rattle.std.specs.Prelude.{◌≡◌, ◌≢◌, ℕ, ◌≤◌, ◌<◌, List, [], ◌∷◌, length, Option, Some, Result, Ok, Err, ◌⊎◌}
+use Rattle.std.specs.Prelude.{◌≡◌, ◌≢◌, ℕ, Bool, true, false, ◌≤◌, ◌<◌, List, [], ◌∷◌, length, Option, Some, Result, Ok, Err, ◌⊎◌}
 use Rattle.std.specs.List.{All, flat_map}
 use Rattle.tab_term.specs.Data.{PlainTerm}
 use Rattle.tab_term.specs.Canon.{canon}
@@ -15,40 +15,53 @@ use Rattle.tab_model.specs.declared.data.Reply.{Reply}
 use Rattle.tab_model.specs.declared.data.Reply.TheVariants.{BadTerm, BadCommand, NoMemory, Waiting, Restart}
 use Rattle.tab_model.specs.declared.data.Item.{Item}
 use Rattle.tab_model.specs.Run.{taken_now}
+use Rattle.tab_core.specs.Served.{serves}
 use Rattle.tab_core.specs.Single.{no_outbox}
-use Rattle.tab_proto.specs.declared.asked.Asked.{Asked}
-use Rattle.tab_proto.specs.declared.asked.Asked.TheVariants as asked
-use Rattle.tab_proto.specs.Asks.{request_term, IsSession, IsAsked, IsNumbered, HasNoNumber}
+use Rattle.tab_proto.specs.declared.request.Request.{Request}
+use Rattle.tab_proto.specs.declared.request.Request.TheVariants as request
+use Rattle.tab_proto.specs.Requests.{request_term, IsSession, IsRequest, IsNumbered, HasNoNumber}
 use Rattle.tab_proto.specs.Replies.{response}
 use Rattle.tab_session.specs.declared.answered.Answer.{Answer}
 
 -- what the core is asked for it
-abbrev pub ask_for : Asked → Ask
-ask_for asked.Join = Join no_outbox
-ask_for asked.Leave = Leave
-ask_for asked.Retry = Retry
-ask_for asked.Take = Take
-ask_for (asked.Do c) = DoCommand c
+abbrev pub ask_for : Request → Ask
+ask_for request.Join = Join no_outbox
+ask_for request.Leave = Leave
+ask_for request.Retry = Retry
+ask_for request.Take = Take
+ask_for (request.Do c) = DoCommand c
 
--- the term is no request of a session
+abbrev pub serves_request : Request → Bool
+serves_request (request.Do c) = serves c
+serves_request r = true
+
+pub record IsServedRequest (r : Request) : Type 0 where
+  pub formed : IsRequest r
+  pub served : serves_request r ≡ true
+
+-- the term is no request that is served
 abbrev pub AsksNothing : PlainTerm → Type 0
-AsksNothing t = (session : ℕ) (a : Asked) → IsSession session → IsAsked a → request_term session a ≢ t
+AsksNothing t = (session : ℕ) (a : Request) → IsSession session → IsServedRequest a → request_term session a ≢ t
 
 -- the step that was asked was made
-pub record IsMade (σ : State) (session : ℕ) (a : Asked) (r : Reply) (μ : State) : Type 0 where
+pub record IsStepMade (σ : State) (session : ℕ) (a : Request) (r : Reply) (μ : State) : Type 0 where
   pub entry : Option Entry
   pub made : outcome σ [] session (ask_for a) ≡ record { state = μ; reply = r; entry = entry }
 
 -- or it was refused for memory, with nothing changed
-abbrev pub Made : State → ℕ → Asked → Reply → State → Type 0
-Made σ session a r μ = IsMade σ session a r μ ⊎ (r ≡ NoMemory) × (μ ≡ σ)
+abbrev pub StepMadeOrRefused : State → ℕ → Request → Reply → State → Type 0
+StepMadeOrRefused σ session a r μ = IsStepMade σ session a r μ ⊎ (r ≡ NoMemory) × (μ ≡ σ)
+
+-- a request is answered by its step, or refused as one that is not served
+abbrev pub RepliesTo : State → ℕ → Request → Reply → State → Type 0
+RepliesTo σ session a r μ = (serves_request a ≡ true) × StepMadeOrRefused σ session a r μ ⊎ (serves_request a ≡ false) × (r ≡ BadCommand) × (μ ≡ σ)
 
 pub record IsStep (σ : State) (t : PlainTerm) (x : Answer) (μ : State) : Type 0 where
-  pub asked : Asked
-  pub request : request_term x.session asked ≡ t
+  pub asked : Request
+  pub spelled : request_term x.session asked ≡ t
   pub session : IsSession x.session
-  pub formed : IsAsked asked
-  pub made : IsMade σ x.session asked x.reply μ
+  pub served : IsServedRequest asked
+  pub made : IsStepMade σ x.session asked x.reply μ
 
 -- the number under which a term is refused
 abbrev pub IsNumberOf : PlainTerm → ℕ → Type 0
@@ -70,7 +83,7 @@ AnsweredRead σ (Ok t) x μ = AnsweredTerm σ t x μ
 
 -- under the session that asked, or under 0
 abbrev pub IsUnder : PlainTerm → ℕ → Type 0
-IsUnder t session = (session ≡ 0) ⊎ ((a : Asked) × (request_term session a ≡ t))
+IsUnder t session = (session ≡ 0) ⊎ IsNumbered t session
 
 abbrev pub IsUnderRead : Result PlainTerm Stop → ℕ → Type 0
 IsUnderRead (Err f) session = session ≡ 0
@@ -89,11 +102,11 @@ abbrev pub Answered : State → List ℕ → Answer → State → Type 0
 Answered σ payload x μ = AnsweredRead σ (whole payload) x μ ⊎ Refused σ (whole payload) x μ
 
 -- payloads answered one after another
-abbrev pub Ran : State → List (List ℕ) → List Answer → State → Type 0
-Ran σ [] [] τ = τ ≡ σ
-Ran σ (p ∷ ps) [] τ = ⊥
-Ran σ [] (x ∷ xs) τ = ⊥
-Ran σ (p ∷ ps) (x ∷ xs) τ = (μ : State) × Answered σ p x μ × Ran μ ps xs τ
+abbrev pub AnsweredAll : State → List (List ℕ) → List Answer → State → Type 0
+AnsweredAll σ [] [] τ = τ ≡ σ
+AnsweredAll σ (p ∷ ps) [] τ = ⊥
+AnsweredAll σ [] (x ∷ xs) τ = ⊥
+AnsweredAll σ (p ∷ ps) (x ∷ xs) τ = (μ : State) × Answered σ p x μ × AnsweredAll μ ps xs τ
 
 -- no answer of a run is a want of memory
 abbrev pub NoneRefused : List Answer → Type 0

@@ -1,8 +1,9 @@
-use crate::commands::read_command;
-use crate::{Asked, ProtoFault, append_reply, command, request, term_of, write_reply};
 use std::alloc::{AllocError, Global};
 use tab_etf::{Counted, decode};
 use tab_model::{Command, Ending, Item, Level, Limit, Operation, Reply, Schema, TableInfo};
+use tab_proto::{
+    ProtoFault, Request, append_reply, command, read_request, term_of, write_reply,
+};
 use tab_term::{Atom, Term, Terms};
 
 /// What a request is to be read as. Terms stand as payloads of the external term format.
@@ -113,13 +114,13 @@ fn is_command(alloc: Global, command: &Command, wanted: &Wanted) -> bool {
     }
 }
 
-fn is_asked(alloc: Global, asked: &Asked, wanted: &Wanted) -> bool {
-    match (asked, wanted) {
-        (Asked::Join, Wanted::Join)
-        | (Asked::Leave, Wanted::Leave)
-        | (Asked::Retry, Wanted::Retry)
-        | (Asked::Take, Wanted::Take) => true,
-        (Asked::Do(command), wanted) => is_command(alloc, command, wanted),
+fn is_request(alloc: Global, request: &Request, wanted: &Wanted) -> bool {
+    match (request, wanted) {
+        (Request::Join, Wanted::Join)
+        | (Request::Leave, Wanted::Leave)
+        | (Request::Retry, Wanted::Retry)
+        | (Request::Take, Wanted::Take) => true,
+        (Request::Do(command), wanted) => is_command(alloc, command, wanted),
         _ => false,
     }
 }
@@ -128,21 +129,13 @@ fn is_asked(alloc: Global, asked: &Asked, wanted: &Wanted) -> bool {
 fn requests_are_read(rt: HostRuntime) {
     let alloc = rt.alloc();
     for (line, (payload, number, wanted)) in REQUESTS.iter().enumerate() {
-        let asked = decode(alloc, payload).expect(&rt, "a term");
-        let right = match request(alloc, &asked) {
-            Ok((session, asked)) => session == *number && is_asked(alloc, &asked, wanted),
+        let held = decode(alloc, payload).expect(&rt, "a term");
+        let right = match read_request(alloc, held) {
+            Ok((session, request)) => session == *number && is_request(alloc, &request, wanted),
             Err(fault) => fault == ProtoFault::BadCommand && matches!(wanted, Wanted::Bad),
         };
         assert!(rt; right, "line {line}");
     }
-}
-
-#[test]
-fn a_command_is_read_alone(rt: HostRuntime) {
-    let alloc = rt.alloc();
-    let asked = decode(alloc, b"\x83h\x02w\x05aborta\x05").expect(&rt, "a term");
-    let read = command(alloc, &asked).expect(&rt, "a command");
-    assert!(rt; matches!(read, Command::Abort(Term::Int(5))));
 }
 
 /// Payloads of replies: the one of each line is that of `sample` at its number.
@@ -279,8 +272,8 @@ const NO_COMMANDS: [&[u8]; 7] = [
 ];
 
 /// The term of the command that a term is.
-fn told_again(alloc: Global, asked: &Term) -> Option<Term> {
-    match read_command(alloc, asked) {
+fn told_again(alloc: Global, held: &Term) -> Option<Term> {
+    match command(alloc, held) {
         Ok(command) => term_of(alloc, &command).ok(),
         Err(_) => None,
     }
@@ -290,12 +283,12 @@ fn told_again(alloc: Global, asked: &Term) -> Option<Term> {
 fn commands_are_read_and_told(rt: HostRuntime) {
     let alloc = rt.alloc();
     for payload in COMMANDS {
-        let asked = decode(alloc, payload).expect(&rt, "a term");
-        let told = told_again(alloc, &asked).expect(&rt, "a command");
-        assert!(rt; told == asked);
+        let held = decode(alloc, payload).expect(&rt, "a term");
+        let told = told_again(alloc, &held).expect(&rt, "a command");
+        assert!(rt; told == held);
     }
     for payload in NO_COMMANDS {
-        let asked = decode(alloc, payload).expect(&rt, "a term");
-        assert!(rt; told_again(alloc, &asked).is_none());
+        let held = decode(alloc, payload).expect(&rt, "a term");
+        assert!(rt; told_again(alloc, &held).is_none());
     }
 }

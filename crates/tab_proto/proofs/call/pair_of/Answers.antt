@@ -1,0 +1,13 @@
+use Rattle.std.proofs.Common.{◌≡◌, ◌≢◌, ap, sym, ◌∙◌, arith, length}
+use Rattle.tab_term.specs.Data.{count}
+use Rattle.tab_term.specs.View.{term}
+use Rattle.tab_term.proofs.Lists.{count_terms}
+use Rattle.tab_proto.specs.Reading.{is_pair}
+use Rattle.tab_proto.proofs.Arity.{not_pair}
+use Rattle.tab_proto.proofs.call.pair_of.Goals as goal
+
+pub returns-then-len-ne2-clause-bad : goal.returns-then-len-ne2-clause-bad
+returns-then-len-ne2-clause-bad c =
+    let same : count c.in-Tuple.parts ≡ length c.into_vec-parts.result.items = ap count (sym c.into_vec-parts.ensures) ∙ count_terms c.into_vec-parts.result.items in
+    let other : count c.in-Tuple.parts ≢ 2 = λ e. absurd (omega (arith, c.if-len-ne2.true, c.len.ensures, same, e)) in
+    ap is_pair (ap term c.in-Tuple.is) ∙ not_pair c.in-Tuple.parts other

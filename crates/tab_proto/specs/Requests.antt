@@ -1,0 +1,56 @@
+-- The terms of requests (this project's own rule): a session's number, and a command or a word for what isn't one.
+use Rattle.std.specs.Prelude.{◌≡◌, ◌≢◌, ◌≤◌, ◌<◌, ℤ, Option, Some, None, ℕ, List, Bool, true, false, ◌||◌, ◌&&◌, codes, pos, Result, Ok, Err}
+use Rattle.std.specs.Str.{bytes_eq}
+use Rattle.tab_term.specs.Data.{PlainTerm, int, atom, tuple, none, one_more, pair}
+use Rattle.tab_proto.specs.declared.request.Request.{Request}
+use Rattle.tab_proto.specs.declared.request.Request.TheVariants as request
+use Rattle.tab_proto.specs.declared.fault.ProtoFault.{ProtoFault}
+use Rattle.tab_proto.specs.declared.fault.ProtoFault.TheVariants.{BadCommand, NoMemory}
+use Rattle.tab_proto.specs.Commands.{term_of, is_command}
+use Rattle.tab_proto.specs.Reading.{is_one_word, is_call}
+
+abbrev pub asked_term : Request → PlainTerm
+asked_term request.Join = atom (codes "join")
+asked_term request.Leave = atom (codes "leave")
+asked_term request.Retry = atom (codes "retry")
+asked_term request.Take = atom (codes "take")
+asked_term (request.Do c) = term_of c
+
+-- {Session, X}
+abbrev pub request_term : ℕ → Request → PlainTerm
+request_term session r = pair (int (pos session)) (asked_term r)
+
+-- the number in {Number, X}
+abbrev pub number_in : PlainTerm → Option ℤ
+number_in (tuple (one_more (int z) (one_more x none))) = Some z
+number_in t = None
+
+-- a session's number
+abbrev pub IsSession : ℕ → Type 0
+IsSession n = (1 ≤ n) × (n < 4294967296)
+
+-- {Session, X}, whatever X is
+abbrev pub IsNumbered : PlainTerm → ℕ → Type 0
+IsNumbered t n = IsSession n × (number_in t ≡ Some (pos n))
+
+abbrev pub HasNoNumber : PlainTerm → Type 0
+HasNoNumber t = (n : ℕ) → IsSession n → number_in t ≢ Some (pos n)
+
+-- what a request has to be to have one of these forms
+abbrev pub IsRequest : Request → Type 0
+IsRequest (request.Do c) = is_command c ≡ true
+IsRequest r = Unit {0}
+
+abbrev pub is_word_alone : List ℕ → Bool
+is_word_alone w = bytes_eq w (codes "join") || (bytes_eq w (codes "leave") || (bytes_eq w (codes "retry") || (bytes_eq w (codes "take") || is_one_word w)))
+
+abbrev pub is_asked : PlainTerm → Bool
+is_asked (atom w) = is_word_alone w
+is_asked (tuple ts) = is_call ts
+is_asked t = false
+
+-- what this term asks, refused only where `known` is false
+abbrev pub ReadsAs : PlainTerm → Bool → Result Request ProtoFault → Type 0
+ReadsAs t known (Ok r) = (asked_term r ≡ t) × IsRequest r
+ReadsAs t known (Err BadCommand) = known ≡ false
+ReadsAs t known (Err NoMemory) = Unit {0}

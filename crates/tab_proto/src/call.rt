@@ -1,0 +1,78 @@
+//! A tuple that begins with a word, as the calls of the manuals do: the word, and the arguments behind it.
+
+ghost use Rattle.std.specs.Prelude.{◌≡◌, IfOk, false};
+ghost use Rattle.tab_term.specs.Data.{atom, pair};
+ghost use Rattle.tab_term.specs.View.{term};
+ghost use Rattle.tab_proto.specs.Reading.{call_term, is_call_term, is_atom, is_pair, RefusesOnlyIf};
+
+use crate::fault::ProtoFault;
+use tab_term::{Atom, Term};
+
+/// One to three arguments; no command has more.
+#[derive(Drop)]
+pub enum Arguments {
+    One(Term),
+    Two(Term, Term),
+    Three(Term, Term, Term),
+}
+
+#[derive(Drop)]
+pub struct Call {
+    pub word: Atom,
+    pub arguments: Arguments,
+}
+
+/// Takes a term apart, and copies nothing.
+pub fn call_of(held: Term) -> Result<Call, ProtoFault>
+    ensures ok { IfOk result (λ call. term held ≡ call_term call) }
+    ensures bad { RefusesOnlyIf (is_call_term (term held) ≡ false) result }
+{
+    let Term::Tuple(parts) = held else {
+        return Err(ProtoFault::BadCommand);
+    };
+    let mut parts = parts.into_vec();
+    match parts.len() {
+        2 => {
+            let argument = parts.remove(1);
+            worded(parts.remove(0), Arguments::One(argument))
+        }
+        3 => {
+            let second = parts.remove(2);
+            let first = parts.remove(1);
+            worded(parts.remove(0), Arguments::Two(first, second))
+        }
+        4 => {
+            let third = parts.remove(3);
+            let second = parts.remove(2);
+            let first = parts.remove(1);
+            worded(parts.remove(0), Arguments::Three(first, second, third))
+        }
+        _ => Err(ProtoFault::BadCommand),
+    }
+}
+
+/// Takes a pair apart.
+pub fn pair_of(held: Term) -> Result<(Term, Term), ProtoFault>
+    ensures ok { IfOk result (λ p. term held ≡ pair (term p.0) (term p.1)) }
+    ensures bad { RefusesOnlyIf (is_pair (term held) ≡ false) result }
+{
+    let Term::Tuple(parts) = held else {
+        return Err(ProtoFault::BadCommand);
+    };
+    let mut parts = parts.into_vec();
+    if parts.len() != 2 {
+        return Err(ProtoFault::BadCommand);
+    }
+    let second = parts.remove(1);
+    Ok((parts.remove(0), second))
+}
+
+fn worded(word: Term, arguments: Arguments) -> Result<Call, ProtoFault>
+    ensures ok { IfOk result (λ call. (term word ≡ atom call.word) × (call.arguments ≡ arguments)) }
+    ensures bad { RefusesOnlyIf (is_atom (term word) ≡ false) result }
+{
+    match word {
+        Term::Atom(word) => Ok(Call { word, arguments }),
+        _ => Err(ProtoFault::BadCommand),
+    }
+}
