@@ -1,3 +1,3 @@
-pub mod Names
-pub mod Paths
-pub mod RunLemmas
+pub mod NamedLemmas
+pub mod RunsLemmas
+pub mod SingleLemmas

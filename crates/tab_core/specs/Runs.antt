@@ -7,9 +7,9 @@ use Rattle.tab_model.specs.declared.data.Reply.TheVariants as reply
 use Rattle.tab_model.specs.State.{State}
 use Rattle.tab_model.specs.Outcome.{Ask, Join, Leave, Retry, Take, DoCommand, outcome}
 use Rattle.tab_model.specs.Run.{entries, taken_now}
-use Rattle.tab_core.specs.declared.steps.Step.{Step}
-use Rattle.tab_core.specs.declared.steps.Step.TheVariants as step
-use Rattle.tab_core.specs.declared.stepped.Stepped.{Stepped}
+use Rattle.tab_core.specs.declared.step.Step.{Step}
+use Rattle.tab_core.specs.declared.step.Step.TheVariants as step
+use Rattle.tab_core.specs.declared.step.Stepped.{Stepped}
 use Rattle.tab_core.specs.Served.{serves}
 use Rattle.tab_core.specs.Single.{no_outbox}
 
@@ -34,21 +34,21 @@ asks_of [] = []
 asks_of (s ∷ steps) = (s.0, ask_of s.1) ∷ asks_of steps
 
 -- a step that was made: no post refuses, since no one subscribes
-abbrev pub Makes : State → ℕ → Ask → Stepped → State → Type 0
-Makes σ n a s τ = outcome σ [] n a ≡ record { state = τ; reply = s.reply; entry = s.entry }
+abbrev pub StepsTo : State → ℕ → Ask → Stepped → State → Type 0
+StepsTo σ n a s τ = outcome σ [] n a ≡ record { state = τ; reply = s.reply; entry = s.entry }
 
 -- the entry that a step adds to the log, or none of one refused for memory
-abbrev pub Takes : State → ℕ × Ask → Reply → List Entry → State → Type 0
-Takes σ a r es τ =
+abbrev pub StepsOrNoMemory : State → ℕ × Ask → Reply → List Entry → State → Type 0
+StepsOrNoMemory σ a r es τ =
     ((outcome σ [] a.0 a.1).state ≡ τ) × ((outcome σ [] a.0 a.1).reply ≡ r) × (entries (outcome σ [] a.0 a.1).entry ≡ es)
     ⊎ (r ≡ reply.NoMemory) × (es ≡ []) × (τ ≡ σ)
 
 -- a run of steps, one after another, with its replies and its log
-abbrev pub Ran : State → List (ℕ × Ask) → List Reply → List Entry → State → Type 0
-Ran σ [] [] log τ = (log ≡ []) × (σ ≡ τ)
-Ran σ (a ∷ asks) [] log τ = ⊥
-Ran σ [] (r ∷ rs) log τ = ⊥
-Ran σ (a ∷ asks) (r ∷ rs) log τ = (μ : State) × (es rest : List Entry) × Takes σ a r es μ × Ran μ asks rs rest τ × (log ≡ es ++ rest)
+abbrev pub RunsTo : State → List (ℕ × Ask) → List Reply → List Entry → State → Type 0
+RunsTo σ [] [] log τ = (log ≡ []) × (σ ≡ τ)
+RunsTo σ (a ∷ asks) [] log τ = ⊥
+RunsTo σ [] (r ∷ rs) log τ = ⊥
+RunsTo σ (a ∷ asks) (r ∷ rs) log τ = (μ : State) × (es rest : List Entry) × StepsOrNoMemory σ a r es μ × RunsTo μ asks rs rest τ × (log ≡ es ++ rest)
 
 -- the items that a session took in a run
 abbrev pub taken_in : ℕ → List (ℕ × Ask) → List Reply → List Item

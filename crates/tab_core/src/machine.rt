@@ -6,17 +6,16 @@ ghost use Rattle.tab_model.specs.declared.data.Schema.TheVariants as schema;
 ghost use Rattle.tab_term.specs.Data.{none};
 ghost use Rattle.tab_model.specs.Definitions.{parse_options, Good};
 ghost use Rattle.tab_model.specs.State.{new};
-ghost use Rattle.tab_core.specs.Runs.{Makes, ask_of, serves_step};
+ghost use Rattle.tab_core.specs.Runs.{StepsTo, ask_of, serves_step};
 ghost use Rattle.tab_model.specs.Outcome.{Ask, Join, Leave, Retry, Take, DoCommand, nothing, unseated, outcome};
 ghost use Rattle.tab_core.specs.Served.{serves, serves_operation};
 ghost use Rattle.tab_core.specs.Single.{asked, no_outbox, IsAlone};
 
 use crate::operate::{Effect, Performed, perform};
-use crate::stepped::Stepped;
-use crate::steps::Step;
+use crate::step::{Step, Stepped};
 use crate::table::Table;
 use crate::tables::Tables;
-use crate::transaction::{Pending, Request, push_move, push_told};
+use crate::transaction::{Pending, Request};
 use std::alloc::{AllocError, Global};
 use std::marker::Model;
 use std::mem;
@@ -27,6 +26,7 @@ use tab_model::{
 use tab_term::{Atom, Term, Terms};
 
 /// At most one session, and one level of its transaction.
+#[derive(Drop)]
 pub struct Machine {
     alloc: Global,
     tables: Tables,
@@ -57,28 +57,6 @@ impl Model for Machine {
     ghost view = { λ a. state_of a.tables a.session (transaction_of a.open a.moves.items a.told.items) (a.begun + 1) a.commits a.greatest a.limits };
 
     ghost invariant = { λ a. IsSingle a.tables a.session a.open a.moves.items a.work a.begun a.commits a.limits };
-}
-
-impl Drop for Machine {
-    fn drop(self) {
-        let Machine {
-            alloc: _,
-            tables,
-            session: _,
-            open: _,
-            moves,
-            told,
-            work,
-            begun: _,
-            commits: _,
-            greatest: _,
-            limits: _,
-        } = self;
-        drop(tables);
-        drop(moves);
-        drop(told);
-        drop(work);
-    }
 }
 
 impl Machine {
@@ -163,15 +141,15 @@ impl Machine {
                     told,
                     tables,
                 } = effect;
-                push_move(&mut self.moves, Move::Do(pending.into_operation()));
-                push_told(&mut self.told, Some(told));
+                self.moves.push_reserved(Move::Do(pending.into_operation()));
+                self.told.push_reserved(Some(told));
                 self.work = tables;
                 Ok(reply)
             }
         }
     }
 
-    /// Takes no memory.
+    /// StepsOrNoMemory no memory.
     pub fn commit(&mut self) -> Stepped
         ensures { asked self.old command.Commit ≡ record { state = self.new; reply = result.reply; entry = result.entry } }
     {
@@ -230,7 +208,7 @@ impl Machine {
         })
     }
 
-    /// Of a session that has not joined. Takes no memory.
+    /// Of a session that has not joined. StepsOrNoMemory no memory.
     pub fn join(&mut self, session: u32) -> Reply
         ensures { unseated self.old session (Join no_outbox) ≡ nothing self.new result }
     {
@@ -246,7 +224,7 @@ impl Machine {
         Reply::Done
     }
 
-    /// Takes no memory.
+    /// StepsOrNoMemory no memory.
     pub fn leave(&mut self, session: u32) -> Reply
         ensures { outcome self.old [] session Leave ≡ nothing self.new result }
     {
@@ -292,7 +270,7 @@ impl Machine {
 
     pub fn step(&mut self, session: u32, step: Step) -> Result<Stepped, AllocError>
         requires { serves_step step ≡ true }
-        ensures done { IfOk result (λ s. Makes self.old session (ask_of step) s self.new) }
+        ensures done { IfOk result (λ s. StepsTo self.old session (ask_of step) s self.new) }
         ensures err { OnErr result (self.new ≡ self.old) }
     {
         match step {

@@ -15,6 +15,7 @@ use tab_rows::Rows;
 use tab_term::{Atom, Term, Terms};
 
 /// A table: its definition, which all versions of the table share, and its records.
+#[derive(Drop)]
 pub struct Table {
     def: Arc<TableDef, Global>,
     rows: Rows,
@@ -33,14 +34,6 @@ impl Model for Table {
     ghost view = { λ a. record { def = a.def.value; rows = a.rows.1 } };
 
     ghost invariant = { λ a. a.rows.0 ≡ a.def.value.kind };
-}
-
-impl Drop for Table {
-    fn drop(self) {
-        let Table { def, rows } = self;
-        drop(def);
-        drop(rows);
-    }
 }
 
 impl Table {

@@ -9,6 +9,7 @@ use tab_map::Map;
 use tab_term::Atom;
 
 /// All tables, by name. Sharing them takes constant time.
+#[derive(Drop)]
 pub struct Tables {
     by_name: Map<Atom, Table>,
 }
@@ -26,13 +27,6 @@ impl Model for Tables {
     ghost view = { λ a. world_of a.by_name };
 
     ghost invariant = { λ a. AreNamed a.by_name };
-}
-
-impl Drop for Tables {
-    fn drop(self) {
-        let Tables { by_name } = self;
-        drop(by_name);
-    }
 }
 
 impl Tables {

@@ -22,7 +22,7 @@ use Rattle.tab_proto.proofs.RequestsApart.{requests_apart}
 use Rattle.tab_session.specs.declared.answered.Answer.{Answer}
 use Rattle.tab_session.specs.AnsweredPayloads.{ask_for, IsStepMade, StepMadeOrRefused, IsStep, IsNumberOf, IsNoCommand, AnsweredTerm, AnsweredRead, Refused, Answered, AnsweredAll, NoneRefused, NoneWaits, AreOf, taken_by, IsOf}
 use Rattle.tab_session.specs.Replays.{IsRun}
-use Rattle.tab_core.proofs.RunLemmas.{rests_tied, quiet_tied}
+use Rattle.tab_core.proofs.RunsLemmas.{rests_tied, quiet_tied}
 use Rattle.std.proofs.lemmas.List.Elements.{All-nil, All-cons, All-head, All-tail}
 
 -- ---- a step that was made

@@ -5,7 +5,7 @@ use Rattle.tab_model.specs.Outcome.{Ask, outcome, Outcome}
 use Rattle.tab_model.specs.declared.data.Entry.{Entry}
 use Rattle.tab_model.specs.declared.data.Reply.{Reply}
 use Rattle.tab_core.specs.Runs.{StepsTo}
-use Rattle.tab_core.specs.declared.stepped.Stepped.{Stepped}
+use Rattle.tab_core.specs.declared.step.Stepped.{Stepped}
 
 abbrev made_of : State → Reply → Option Entry → Outcome
 made_of μ r e = record { state = μ; reply = r; entry = e }

@@ -1,7 +1,7 @@
 use Rattle.std.proofs.Common.{◌+◌, ap, sym, ◌∙◌}
 use Rattle.tab_model.specs.declared.data.Command.TheVariants as command
 use Rattle.tab_core.specs.Single.{asked}
-use Rattle.tab_core.proofs.Paths.{commit_if}
+use Rattle.tab_core.proofs.SingleLemmas.{commit_if}
 use Rattle.tab_core.proofs.machine.Machine.commit.Goals as goal
 
 pub returns : goal.returns

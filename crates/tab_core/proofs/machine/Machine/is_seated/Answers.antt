@@ -1,7 +1,7 @@
 use Rattle.std.proofs.Common.{◌+◌, ◌≡◌, [], subst}
 use Rattle.tab_model.specs.Outcome.{outcome, unseated}
 use Rattle.tab_core.specs.Single.{transaction_of, IsAlone}
-use Rattle.tab_core.proofs.Paths.{seated_if, stranger_if, none_if}
+use Rattle.tab_core.proofs.SingleLemmas.{seated_if, stranger_if, none_if}
 use Rattle.tab_core.proofs.machine.Machine.is_seated.Goals as goal
 
 pub returns-in-Some-clause-seated : goal.returns-in-Some-clause-seated

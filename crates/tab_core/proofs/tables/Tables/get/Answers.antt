@@ -1,6 +1,6 @@
 use Rattle.std.proofs.Common.{ap, sym, ◌∙◌}
 use Rattle.tab_model.specs.Worlds.{find}
-use Rattle.tab_core.proofs.Names.{found}
+use Rattle.tab_core.proofs.NamedLemmas.{found}
 use Rattle.tab_core.proofs.tables.Tables.get.Goals as goal
 
 pub returns : goal.returns

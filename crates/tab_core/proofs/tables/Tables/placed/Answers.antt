@@ -1,7 +1,7 @@
 use Rattle.std.proofs.Common.{ap, sym, ◌∙◌, subst}
 use Rattle.tab_model.specs.Worlds.{place}
 use Rattle.tab_core.specs.Named.{world_of, AreNamed}
-use Rattle.tab_core.proofs.Names.{placed, named_insert}
+use Rattle.tab_core.proofs.NamedLemmas.{placed, named_insert}
 use Rattle.tab_core.proofs.tables.Tables.placed.Goals as goal
 
 pub invariant_of-result : goal.invariant_of-result

@@ -1,5 +1,5 @@
-use crate::{Core, Step, is_served};
 use std::alloc::{AllocError, Global};
+use tab_core::{Core, Step, is_served};
 use tab_model::{Command, Limit, Limits, Operation, Reply, Schema};
 use tab_term::{Atom, Term, Terms};
 

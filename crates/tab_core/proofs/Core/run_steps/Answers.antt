@@ -1,8 +1,8 @@
 use Rattle.std.proofs.Common.{◌≡◌, List, [], ◌∷◌, length, refl, ap, sym, subst, ◌∙◌, arith}
 use Rattle.std.specs.Vec.Iter.{into_iter_items}
 use Rattle.tab_model.specs.State.{IsSound}
-use Rattle.tab_core.proofs.RunLemmas.{IsRunning, goes_on, ends_with, history_goes_on}
-use Rattle.tab_core.proofs.running.Core.run_steps.Goals as goal
+use Rattle.tab_core.proofs.RunsLemmas.{IsRunning, goes_on, ends_with, history_goes_on}
+use Rattle.tab_core.proofs.Core.run_steps.Goals as goal
 
 no_items : {A : Type 0} (xs : List A) → length xs ≡ 0 → xs ≡ []
 no_items [] h = refl
@@ -14,8 +14,8 @@ loop-session-preserved c =
     let rest : into_iter_items c.loop-session.session-iterator ≡ (c.in-Some.session, c.in-Some.step) ∷ into_iter_items c.next.new.self = c.in-Some.ensures.steps.0 in
     let before = subst (λ xs. IsRunning c.args.self.now c.loop-session.self c.args.steps.items xs c.loop-session.replies.items) rest inv.0 in
     let now = goes_on c.args.self.now c.loop-session.self c.step_reply-reply.new.self c.args.steps.items (into_iter_items c.next.new.self) (c.in-Some.session, c.in-Some.step) c.loop-session.replies.items c.step_reply-reply.result c.step_reply-reply.ensures.0 c.step_reply-reply.ensures.1 before in (
-      subst (λ rs. IsRunning c.args.self.now c.step_reply-reply.new.self c.args.steps.items (into_iter_items c.next.new.self) rs) (sym c.push_with_room.ensures.items) now,
-      omega (arith, inv.1, c.push_with_room.ensures.room, c.push_with_room.ensures.len, ap length rest),
+      subst (λ rs. IsRunning c.args.self.now c.step_reply-reply.new.self c.args.steps.items (into_iter_items c.next.new.self) rs) (sym c.push_reserved.ensures.items) now,
+      omega (arith, inv.1, c.push_reserved.ensures.capacity, c.push_reserved.ensures.len, ap length rest),
       omega (arith, inv.2, ap length rest, c.in-Some.ensures.steps.1),
     )
 

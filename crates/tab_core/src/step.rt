@@ -1,6 +1,23 @@
+//! What a session asks of a core, and what it is given.
+
 ghost use Rattle.std.specs.Prelude.{◌≡◌, None};
 
-use tab_model::{Entry, Reply};
+use tab_model::{Command, Entry, Reply};
+
+/// What a session asks.
+#[derive(Drop)]
+pub enum Step {
+    /// StepsOrNoMemory a session number greater than all that joined before.
+    Join,
+    /// Ends the session's transaction and the session.
+    Leave,
+    /// A command of the session. It is one that `is_served` names.
+    Do(Command),
+    /// Asks again for the lock that the session waits for.
+    Retry,
+    /// StepsOrNoMemory the next item of the session's outbox.
+    Take,
+}
 
 /// What a step answers, and what it adds to the log.
 #[derive(Drop)]

@@ -10,39 +10,39 @@ use Rattle.tab_model.specs.Outcome.{Ask, outcome}
 use Rattle.tab_model.specs.Run.{entries, taken_now, JoinsEmpty, IsTied, item_of}
 use Rattle.tab_model.proofs.SoundSteps.{step_sound}
 use Rattle.tab_model.proofs.TiedSteps.{step_tied}
-use Rattle.tab_core.specs.declared.steps.Step.{Step}
-use Rattle.tab_core.specs.declared.steps.Step.TheVariants as step
-use Rattle.tab_core.specs.declared.stepped.Stepped.{Stepped}
-use Rattle.tab_core.specs.Runs.{ask_of, asks_of, AllServed, Makes, Takes, Ran, taken_in}
+use Rattle.tab_core.specs.declared.step.Step.{Step}
+use Rattle.tab_core.specs.declared.step.Step.TheVariants as step
+use Rattle.tab_core.specs.declared.step.Stepped.{Stepped}
+use Rattle.tab_core.specs.Runs.{ask_of, asks_of, AllServed, StepsTo, StepsOrNoMemory, RunsTo, taken_in}
 
 -- the run so far, in a form that the rest completes
 pub record IsRunning (first now : State) (all rest : List (ℕ × Step)) (told : List Reply) : Type 0 where
   pub log : List Entry
-  pub onward : (rs : List Reply) (more : List Entry) (τ : State) → Ran now (asks_of rest) rs more τ → Ran first (asks_of all) (told ++ rs) (log ++ more) τ
+  pub onward : (rs : List Reply) (more : List Entry) (τ : State) → RunsTo now (asks_of rest) rs more τ → RunsTo first (asks_of all) (told ++ rs) (log ++ more) τ
   pub served : AllServed rest
 
 pub starts : (σ : State) (steps : List (ℕ × Step)) → AllServed steps → IsRunning σ σ steps steps []
 starts σ steps h = record { log = []; onward = λ rs more τ r. r; served = h }
 
-pub takes_of : (σ μ : State) (n : ℕ) (a : Ask) (s : Stepped) → Makes σ n a s μ → Takes σ (n, a) s.reply (entries s.entry) μ
+pub takes_of : (σ μ : State) (n : ℕ) (a : Ask) (s : Stepped) → StepsTo σ n a s μ → StepsOrNoMemory σ (n, a) s.reply (entries s.entry) μ
 takes_of σ μ n a s m = inl (ap (λ o. o.state) m, ap (λ o. o.reply) m, ap (λ o. entries o.entry) m)
 
-pub takes_none : (σ μ : State) (a : ℕ × Ask) → μ ≡ σ → Takes σ a reply.NoMemory [] μ
+pub takes_none : (σ μ : State) (a : ℕ × Ask) → μ ≡ σ → StepsOrNoMemory σ a reply.NoMemory [] μ
 takes_none σ μ a h = inr (refl, refl, h)
 
-pub goes_on : (first σ μ : State) (all rest : List (ℕ × Step)) (s : ℕ × Step) (told : List Reply) (r : Reply) (es : List Entry) → Takes σ (s.0, ask_of s.1) r es μ → IsRunning first σ all (s ∷ rest) told → IsRunning first μ all rest (told ++ r ∷ [])
+pub goes_on : (first σ μ : State) (all rest : List (ℕ × Step)) (s : ℕ × Step) (told : List Reply) (r : Reply) (es : List Entry) → StepsOrNoMemory σ (s.0, ask_of s.1) r es μ → IsRunning first σ all (s ∷ rest) told → IsRunning first μ all rest (told ++ r ∷ [])
 goes_on first σ μ all rest s told r es t h = record {
   log = h.log ++ es;
-  onward = λ rs more τ ran. subst (λ (xs : List Reply). Ran first (asks_of all) xs ((h.log ++ es) ++ more) τ) (sym (append_assoc told (r ∷ []) rs))
-      (subst (λ (l : List Entry). Ran first (asks_of all) (told ++ r ∷ rs) l τ) (sym (append_assoc h.log es more)) (h.onward (r ∷ rs) (es ++ more) τ (μ, es, more, t, ran, refl)));
+  onward = λ rs more τ ran. subst (λ (xs : List Reply). RunsTo first (asks_of all) xs ((h.log ++ es) ++ more) τ) (sym (append_assoc told (r ∷ []) rs))
+      (subst (λ (l : List Entry). RunsTo first (asks_of all) (told ++ r ∷ rs) l τ) (sym (append_assoc h.log es more)) (h.onward (r ∷ rs) (es ++ more) τ (μ, es, more, t, ran, refl)));
   served = h.served.1;
 }
 
-pub ends_with : (first σ : State) (all : List (ℕ × Step)) (told : List Reply) → IsRunning first σ all [] told → (log : List Entry) × Ran first (asks_of all) told log σ
+pub ends_with : (first σ : State) (all : List (ℕ × Step)) (told : List Reply) → IsRunning first σ all [] told → (log : List Entry) × RunsTo first (asks_of all) told log σ
 ends_with first σ all told h = (
   h.log,
-  subst (λ (xs : List Reply). Ran first (asks_of all) xs h.log σ) (append-nil told)
-      (subst (λ (l : List Entry). Ran first (asks_of all) (told ++ []) l σ) (append-nil h.log) (h.onward [] [] σ (refl, refl))),
+  subst (λ (xs : List Reply). RunsTo first (asks_of all) xs h.log σ) (append-nil told)
+      (subst (λ (l : List Entry). RunsTo first (asks_of all) (told ++ []) l σ) (append-nil h.log) (h.onward [] [] σ (refl, refl))),
 )
 
 joins_empty : (s : Step) → JoinsEmpty (ask_of s)
@@ -71,7 +71,7 @@ quiet_tied σ μ n r log taken same e tied =
     subst (λ (f : ℕ → List Item). IsTied μ (log ++ []) f) (λ i m. taken m ++ no_item m n r e i) (rests_tied σ μ log taken same tied)
 
 -- what one step leaves
-step_takes : (σ μ : State) (s : ℕ × Step) (r : Reply) (es log : List Entry) (taken : ℕ → List Item) → Takes σ (s.0, ask_of s.1) r es μ → IsSound σ → IsTied σ log taken → IsSound μ × IsTied μ (log ++ es) (λ m. taken m ++ taken_now m s.0 r)
+step_takes : (σ μ : State) (s : ℕ × Step) (r : Reply) (es log : List Entry) (taken : ℕ → List Item) → StepsOrNoMemory σ (s.0, ask_of s.1) r es μ → IsSound σ → IsTied σ log taken → IsSound μ × IsTied μ (log ++ es) (λ m. taken m ++ taken_now m s.0 r)
 step_takes σ μ s r es log taken (inl (st, rp, en)) sound tied = (
   subst IsSound st (step_sound σ [] s.0 (ask_of s.1) sound),
   subst (λ (x : State). IsTied x (log ++ es) (λ m. taken m ++ taken_now m s.0 r)) st
@@ -85,7 +85,7 @@ step_takes σ μ s r es log taken (inr (rp, en, st)) sound tied = (
 )
 
 -- whatever history led to the first state goes on to the last
-pub history_goes_on : (σ τ : State) (steps : List (ℕ × Step)) (rs : List Reply) (run : List Entry) → Ran σ (asks_of steps) rs run τ → IsSound σ → (log : List Entry) (taken : ℕ → List Item) → IsTied σ log taken
+pub history_goes_on : (σ τ : State) (steps : List (ℕ × Step)) (rs : List Reply) (run : List Entry) → RunsTo σ (asks_of steps) rs run τ → IsSound σ → (log : List Entry) (taken : ℕ → List Item) → IsTied σ log taken
     → IsTied τ (log ++ run) (λ m. taken m ++ taken_in m (asks_of steps) rs)
 history_goes_on σ τ [] [] run ran sound log taken tied =
     subst (λ (l : List Entry). IsTied τ (log ++ l) (λ m. taken m ++ [])) (sym ran.0) (rests_tied σ τ log taken (sym ran.1) tied)
@@ -98,6 +98,6 @@ history_goes_on σ τ (s ∷ steps) (r ∷ rs) run (μ, es, rest, t, ran, is) so
     (subst (λ (f : ℕ → List Item). IsTied τ ((log ++ es) ++ rest) f) (λ i m. append_assoc (taken m) (taken_now m s.0 r) (taken_in m (asks_of steps) rs) i) all)
 
 -- a step, made or refused, keeps what every reached state has
-pub step_keeps : {E : Type 0} (σ μ : State) (n : ℕ) (a : Ask) (r : Result Stepped E) → IsSound σ → IfOk r (λ s. Makes σ n a s μ) → OnErr r (μ ≡ σ) → IsSound μ
+pub step_keeps : {E : Type 0} (σ μ : State) (n : ℕ) (a : Ask) (r : Result Stepped E) → IsSound σ → IfOk r (λ s. StepsTo σ n a s μ) → OnErr r (μ ≡ σ) → IsSound μ
 step_keeps σ μ n a (Ok s) sound done err = subst IsSound (ap (λ o. o.state) done) (step_sound σ [] n a sound)
 step_keeps σ μ n a (Err e) sound done err = subst IsSound (sym err) sound

@@ -1,7 +1,7 @@
 use Rattle.std.proofs.Common.{◌≡◌, ◌+◌, ◌≤◌, length, vec_len, vec_capacity}
 use Rattle.std.specs.Vec.Iter.{into_iter_items, into_iter_len}
-use Rattle.tab_core.proofs.RunLemmas.{IsRunning}
-use Rattle.tab_core.proofs.running.Core.run_steps.Given as goal
+use Rattle.tab_core.proofs.RunsLemmas.{IsRunning}
+use Rattle.tab_core.proofs.Core.run_steps.Given as goal
 
 -- what a run of the rest gives is a run of all
 abbrev pub invariant-loop-session : goal.invariant-loop-session
