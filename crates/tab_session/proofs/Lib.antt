@@ -1,4 +1,4 @@
-pub mod StepMadeOrRefused
+pub mod StepMade
 pub mod Runs
 pub mod Served
 pub mod Replayed

@@ -7,8 +7,6 @@ mod ended;
 mod laws;
 mod replaying;
 mod serving;
-#[cfg(test)]
-mod tests;
 
 pub use answered::Answer;
 pub use answering::answer;

@@ -1,11 +1,15 @@
 use Rattle.std.proofs.Common.{Err, ap, inl, refl}
+use Rattle.tab_session.proofs.StepMade.{answered}
 use Rattle.tab_session.proofs.answering.answer_to.Goals as goal
+
+pub returns-in-Ok : goal.returns-in-Ok
+returns-in-Ok c = answered _ _ _ _ c.in-Ok.request _ c.in-Ok.ensures.ok.0 c.in-Ok.ensures.ok.1 c.in-Ok.ensures.ok.2 c.reply_to.ensures
 
 pub returns-in-Err-BadCommand : goal.returns-in-Err-BadCommand
 returns-in-Err-BadCommand c =
     inl (inl (record {
-      nothing = λ session a number asked same. c.in-Err-BadCommand.ensures.only session a number asked same (ap Err c.in-Err-BadCommand.field-0-is);
-      reply = c.no_command.ensures.reply;
+      nothing = λ session a number asked same. c.in-Err-BadCommand.ensures.only session a number asked.formed same (ap Err c.in-Err-BadCommand.field-0-is);
+      reply = refl;
       same = refl;
-      under = c.no_command.ensures.under;
+      under = c.number_of-number.ensures;
     }))

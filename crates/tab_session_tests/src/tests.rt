@@ -1,10 +1,8 @@
-//! Whole streams, in pieces and on devices that fail.
-
-use crate::{Ended, replay};
 use std::alloc::{AllocError, Global};
 use std::io::{self, Read, Write};
 use std::test::Fail;
 use tab_etf::Counted;
+use tab_session::{Ended, replay};
 
 /// A stream and its replies, as hexadecimal digits; `3*00` stands for three such groups. Another program, which shares
 /// no code with this one, made them.
