@@ -20,7 +20,7 @@ use Rattle.tab_model.specs.Ages.{Granted, opposes, decide}
 use Rattle.tab_model.specs.State.{Transaction, State, with_age, ages_of, count_moves}
 use Rattle.tab_model.specs.Outcome.{Ask, Join, Leave, Retry, Take, DoCommand, outcome, by_seat, seated, unseated, Outcome, nothing, is_empty, change, ends, after_move, said, made, more, decided, within, operate, nested, batch_to, events_now}
 use Rattle.tab_model.proofs.TiedSteps.{batch_none}
-use Rattle.tab_model.proofs.Sole.{own_unopposed, any_nil, granted_if}
+use Rattle.tab_model.proofs.SessionAlone.{own_unopposed, any_nil, granted_if}
 use Rattle.tab_core.specs.declared.operate.Effect.{Effect}
 use Rattle.tab_core.specs.Performs.{HasEffect}
 use Rattle.tab_core.specs.Single.{IsAlone, transaction_of, seat_of, state_of, AllOperations, IsOpenIn, asked}

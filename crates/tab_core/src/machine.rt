@@ -166,16 +166,16 @@ impl Machine {
         self.commits += 1;
         Stepped {
             reply: Reply::Atomic(self.commits),
-            entry: Some(Entry::Committed(
-                self.commits,
-                session as u64,
+            entry: Some(Entry::Committed {
+                number: self.commits,
+                session: session as u64,
                 age,
-                Moves { items: moves },
-                Replies { items: told },
-                Numbers {
+                moves: Moves { items: moves },
+                told: Replies { items: told },
+                overflowed: Numbers {
                     items: Vec::new(self.alloc),
                 },
-            )),
+            }),
         }
     }
 

@@ -10,7 +10,7 @@ use Rattle.std.specs.BTreeSet.{insert_key}
 use Rattle.std.specs.Set.{remove_key}
 use Rattle.tab_locks.specs.Spots.{Holding, holdings}
 use Rattle.tab_locks.proofs.Passing.{any_map, or_swap}
-use Rattle.tab_locks.proofs.Inserted.{any_insert_key, any_remove_key}
+use Rattle.tab_locks.proofs.AgeSets.{any_insert_key, any_remove_key}
 
 pub any_holdings : (p : Holding → Bool) (readers writers : List ℕ) → list_any p (holdings readers writers) ≡ (list_any (λ a. p (a, false)) readers || list_any (λ a. p (a, true)) writers)
 any_holdings p readers writers = list_any-append p (map (λ a. (a, false)) readers) (map (λ a. (a, true)) writers) ∙ (λ i. any_map p (λ a. (a, false)) readers i || any_map p (λ a. (a, true)) writers i)

@@ -13,7 +13,7 @@ use Rattle.tab_locks.specs.Members.{HasMore, SameMembers, Drops}
 use Rattle.tab_locks.specs.Spots.{Holding, KeySpot, key_spots, stands_on_key}
 use Rattle.tab_locks.proofs.Passing.{any_same, any_map, any_and, any_flat_map}
 use Rattle.tab_locks.proofs.Lookups.{found_any}
-use Rattle.tab_locks.proofs.Spelled.{more_mapped, dropped_mapped, kept_mapped, spelled_found, spelled_more, spelled_same, spelled_new, spelled_dropped, spelled_kept, spelled_pruned}
+use Rattle.tab_locks.proofs.MapMembers.{more_mapped, dropped_mapped, kept_mapped, spelled_found, spelled_more, spelled_same, spelled_new, spelled_dropped, spelled_kept, spelled_pruned}
 use Rattle.tab_term.proofs.Total.{term_total}
 use Rattle.tab_term.specs.Order.{term_cmp}
 

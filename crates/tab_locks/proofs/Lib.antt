@@ -1,10 +1,10 @@
 pub mod Passing
 pub mod Lookups
-pub mod Inserted
+pub mod AgeSets
 pub mod Holdings
-pub mod Spelled
+pub mod MapMembers
 pub mod KeySpots
 pub mod TableSpots
 pub mod TableLocks
 pub mod Listing
-pub mod Kept
+pub mod HoldAndRelease

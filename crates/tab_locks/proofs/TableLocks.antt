@@ -20,7 +20,7 @@ use Rattle.tab_locks.specs.Members.{HasMore, SameMembers, Drops}
 use Rattle.tab_locks.specs.Spots.{Spot, locks_on, locks_in, stands_on, stands_at}
 use Rattle.tab_locks.proofs.Passing.{any_same, any_map, any_and}
 use Rattle.tab_locks.proofs.Lookups.{found_any}
-use Rattle.tab_locks.proofs.Spelled.{more_mapped, same_mapped, dropped_mapped, kept_mapped, spelled_found, spelled_more, spelled_same, spelled_new, spelled_dropped, spelled_kept, spelled_pruned}
+use Rattle.tab_locks.proofs.MapMembers.{more_mapped, same_mapped, dropped_mapped, kept_mapped, spelled_found, spelled_more, spelled_same, spelled_new, spelled_dropped, spelled_kept, spelled_pruned}
 use Rattle.tab_term.specs.Order.{bytes_cmp}
 use Rattle.tab_model.specs.State.{is_in}
 

@@ -12,7 +12,7 @@ use Rattle.tab_model.specs.Schemas.{removed}
 use Rattle.tab_model.specs.Log.{has_session, is_removed, kept_if, stands, in_force, in_force_from}
 use Rattle.tab_model.specs.Since.{ends_it, subscribes, StandsSince}
 use Rattle.tab_model.proofs.Seats.{eq_true, itself}
-use Rattle.tab_model.proofs.Stay.{eq_names}
+use Rattle.tab_model.proofs.RepliesStay.{eq_names}
 
 -- an entry that neither ends nor begins it leaves it
 pub stands_on : (s : ℕ) (t : List ℕ) (b : Option Level) (e : Entry) → ends_it s t e ≡ false → subscribes s t e ≡ false → stands s t b e ≡ b

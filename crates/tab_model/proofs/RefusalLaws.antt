@@ -26,8 +26,8 @@ use Rattle.tab_model.specs.Alone.{Mid, start, after, back, next, told}
 use Rattle.tab_model.specs.Locks.{locks_of}
 use Rattle.tab_model.specs.Events.{is_failure}
 use Rattle.tab_model.proofs.Seats.{found, seat_at-change, itself}
-use Rattle.tab_model.proofs.Seated.{locks-more}
-use Rattle.tab_model.proofs.Survive.{reply_tells}
+use Rattle.tab_model.proofs.StepsBySeat.{locks-more}
+use Rattle.tab_model.proofs.SurvivorsRight.{reply_tells}
 use Rattle.tab_model.specs.Schemas.{is_some_position, bad_parse, create_refusal, remove_refusal, add_refusal, del_refusal, schema_refusal}
 use Rattle.tab_model.specs.Ages.{Answer, Granted, Wait, Die}
 use Rattle.tab_model.specs.State.{Transaction, Outbox, Watch, Seat, Queued, State, seat_at, mid_of, level_in, without_request, request_in, is_waiting, transaction_at, transaction_in}

@@ -27,10 +27,10 @@ use Rattle.tab_model.specs.Log.{has_session}
 use Rattle.tab_model.specs.State.{Transaction, Outbox, Watch, Seat, Queued, State, new, seat_at, transaction_in, moves_in, told_in_transaction, age_in, transaction_at, moves_at, told_at, age_at, held_by, held_in, queued_in, ages_of, is_in, is_busy, request_in, without_request, is_waiting, level_in, count_moves, mid_of, AreDistinct, IsSound}
 use Rattle.tab_model.specs.Outcome.{Ask, Join, Leave, Retry, Take, DoCommand, change, without_seat, with_transaction, with_seat, with_queue, more, ends, after_move, made, emptied, decided, within, operate, retried, retry_in, retry, opened, nested, begin, one_shot, abort, given, overflowed, pushed, batch_to, commit_now, events_now, commit_at, commit, unwatched, end_to, schema_now, schema_if, schema, marked, subscribe, unsubscribe, do_command, command_if, give, leave, seated, fresh, join, unseated, by_seat, outcome}
 use Rattle.tab_model.proofs.Seats.{other_number, found, seat_at-change, seat_at-push, seat_at-without, seat_at-map, mapped}
-use Rattle.tab_model.proofs.Heart.{stays}
-use Rattle.tab_model.proofs.Stay.{same_replies}
-use Rattle.tab_model.proofs.Ordered.{ordered-after, schema_ordered, no_cell_of, not_at, sees_not, agree_elsewhere}
-use Rattle.tab_model.proofs.Seated.{lock_of_move, Apart-sym, held_none, unopposed_apart, granted_apart, MaySit, none_sits, own_sits, emptied_sits, more_sits, seat_sound, distinct-change, distinct-without, distinct-push, distinct-map}
+use Rattle.tab_model.proofs.LocksApart.{stays}
+use Rattle.tab_model.proofs.RepliesStay.{same_replies}
+use Rattle.tab_model.proofs.WorldsOrdered.{ordered-after, schema_ordered, no_cell_of, not_at, sees_not, agree_elsewhere}
+use Rattle.tab_model.proofs.StepsBySeat.{lock_of_move, Apart-sym, held_none, unopposed_apart, granted_apart, MaySit, none_sits, own_sits, emptied_sits, more_sits, seat_sound, distinct-change, distinct-without, distinct-push, distinct-map}
 
 or_none : (a : Bool) → a ≡ false → (a || false) ≡ false
 or_none true h = h

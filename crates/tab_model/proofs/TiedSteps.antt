@@ -43,7 +43,7 @@ use Rattle.tab_model.specs.State.{Transaction, Outbox, Watch, Seat, Queued, Stat
 use Rattle.tab_model.specs.Run.{entries, item_of, taken_now, JoinsEmpty, IsSeatTied, IsNew, IsTied}
 use Rattle.tab_model.specs.Outcome.{Ask, Join, Leave, Retry, Take, DoCommand, nothing, change, with_transaction, with_queue, pushed, said, made, decided, within, operate, retried, retry_in, retry, opened, nested, begin, one_shot, abort, overflowed, given, batch_to, commit_now, events_now, commit_at, commit, unwatched, end_to, schema_now, schema_if, schema, table_info, is_at, marked, subscribe_refusal, subscribe, unsubscribe, do_command, command_if, give, takable, leave, seated, fresh, join, unseated, by_seat, outcome}
 use Rattle.tab_model.proofs.Seats.{eq_true, differs, differs', itself, found, seat_at-push, seat_at-without, seat_at-map, mapped_some}
-use Rattle.tab_model.proofs.Tied.{kept, none_taken, Ties, quiet_tied, Moves, entry_tied, changed_some}
+use Rattle.tab_model.proofs.TiedLemmas.{kept, none_taken, Ties, quiet_tied, Moves, entry_tied, changed_some}
 
 -- an operation's answer gives no item
 if_item : (b : Bool) (f : Reply) (t : Table) (o : Operation) → item_of f ≡ [] → item_of (answer_or None (Some t) o) ≡ [] → item_of (answer_or (if b then None else Some f) (Some t) o) ≡ []

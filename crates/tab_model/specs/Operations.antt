@@ -13,7 +13,7 @@ use Rattle.tab_model.specs.declared.data.Reply.{Reply}
 use Rattle.tab_model.specs.declared.data.Reply.TheVariants as reply
 use Rattle.tab_model.specs.Names.{plain_terms}
 use Rattle.tab_model.specs.Tables.{Rows, at, key, keys, apply}
-use Rattle.tab_model.specs.Answers.{index_read, match_object}
+use Rattle.tab_model.specs.WholeTables.{index_read, match_object}
 use Rattle.tab_model.specs.Definitions.{position, is_indexed, fits_def}
 use Rattle.tab_model.specs.Worlds.{World, Table, find, place, with_rows}
 

@@ -221,13 +221,26 @@ pub enum Command {
     OneShot(Parts, u64),
 }
 
-/// What a step adds to the log: a commit (its number, its session, its age, its moves, what they were told, and the
-/// sessions that overflowed in it), a schema command that is done (and who overflowed), a subscribing (its session, table,
-/// level, and whether with a dump), an unsubscribing.
+/// What a step adds to the log.
 #[derive(Drop)]
 pub enum Entry {
-    Committed(u64, u64, u64, Moves, Replies, Numbers),
+    /// A commit: its moves, what they were told, and the sessions that overflowed in it.
+    Committed {
+        number: u64,
+        session: u64,
+        age: u64,
+        moves: Moves,
+        told: Replies,
+        overflowed: Numbers,
+    },
+    /// A schema command that is done, and the sessions that overflowed in it.
     Changed(Schema, Numbers),
-    Subscribed(u64, Atom, Level, bool),
+    Subscribed {
+        session: u64,
+        table: Atom,
+        level: Level,
+        dump: bool,
+    },
+    /// The session and the table.
     Unsubscribed(u64, Atom),
 }

@@ -42,7 +42,7 @@ ghost use Rattle.tab_model.specs.Run.{Call, AllJoinEmpty, Begins, leaves, JoinsE
 /// order. Each subscription was made on a table that stood then, and each commit's age is from 1 on. Where a subscription
 /// stands now, the changes of the commits since, and so those that the session's items since its begin mark tell, applied
 /// to the table's rows at its beginning, give the table's rows now.
-#[tactic(auto, using(crate::proofs::Schedules::schedule_legal, crate::proofs::Schedules::schedule_tables, crate::proofs::Schedules::schedule_told, crate::proofs::Schedules::schedule_rows, crate::proofs::Stood::schedule_stood, crate::proofs::Aged::schedule_aged, crate::proofs::Stood::schedule_applied))]
+#[tactic(auto, using(crate::proofs::Schedules::schedule_legal, crate::proofs::Schedules::schedule_tables, crate::proofs::Schedules::schedule_told, crate::proofs::Schedules::schedule_rows, crate::proofs::SubscribedTables::schedule_stood, crate::proofs::PositiveAges::schedule_aged, crate::proofs::SubscribedTables::schedule_applied))]
 pub fn every_schedule()
     ensures legal { (limits : Limits) (calls : List Call) → AllJoinEmpty calls → IsLegal [] 0 (log_of (new limits) calls) }
     ensures tables { (limits : Limits) (calls : List Call) → AllJoinEmpty calls → (after_all (new limits) calls).tables ≡ serial (log_of (new limits) calls) }
@@ -72,13 +72,13 @@ pub fn tables_are_lists()
 {}
 
 /// What a transaction was told stays right when another commits whose locks do not conflict with its own.
-#[tactic(auto, using(crate::proofs::Heart::stays))]
+#[tactic(auto, using(crate::proofs::LocksApart::stays))]
 pub fn replies_stay()
     ensures { (w : World) (a b : ℕ) (xs ys : List Move) → IsOrderedWorld w → Apart (locks_of xs) (locks_of ys) → replies (start (after (start w a) xs).now b) ys ≡ replies (start w b) ys }
 {}
 
 /// Whatever is asked, ages rise along every wait, from older to younger: so no chain of waits leads back.
-#[tactic(auto, using(crate::proofs::Waits::request_rises, crate::proofs::Waits::retry_rises, crate::proofs::Waits::forget_rises, crate::proofs::Waits::chain_rises))]
+#[tactic(auto, using(crate::proofs::WaitsHaveNoCycle::request_rises, crate::proofs::WaitsHaveNoCycle::retry_rises, crate::proofs::WaitsHaveNoCycle::forget_rises, crate::proofs::WaitsHaveNoCycle::chain_rises))]
 pub fn waits_have_no_cycle()
     ensures request { (g : Ages) (r : Owned) → Rises g → Rises (after_request g r (decide g r)) }
     ensures retry { (g : Ages) (r : Owned) → request_of r.0 g.queue ≡ Some r → Rises g → Rises (after_retry g r (can_retry g r)) }
@@ -88,7 +88,7 @@ pub fn waits_have_no_cycle()
 
 /// The updates that no abort and no failure undid, read off a transaction's replies and made one after another, give the
 /// tables that the transaction leaves.
-#[tactic(auto, using(crate::proofs::Survive::survivors_are))]
+#[tactic(auto, using(crate::proofs::SurvivorsRight::survivors_are))]
 pub fn survivors_right()
     ensures { (w : World) (age : ℕ) (xs : List Move) → change_all w (surviving xs (replies (start w age) xs)) ≡ (after (start w age) xs).now }
 {}
@@ -96,7 +96,7 @@ pub fn survivors_right()
 /// The changes that a legal log made to a table that stood before it and that it doesn't delete, applied to the table's
 /// rows before it, give the rows after it: so the changes since a subscription that stands give the table now, from the
 /// rows at its beginning or from the dump of its begin mark. The changes are those that the events of the commits carry.
-#[tactic(auto, using(crate::proofs::Given::log_applies, crate::proofs::Given::events_carry))]
+#[tactic(auto, using(crate::proofs::EventsGiveTheRows::log_applies, crate::proofs::EventsGiveTheRows::events_carry))]
 pub fn events_give_the_rows()
     ensures log { (w : World) (n : ℕ) (x : Table) (t : List ℕ) (log : List Entry) → IsLegal w n log → find w t ≡ Some x → list_any (deletes t) log ≡ false → rows_of (serial_from w log) t ≡ applied x.def.kind (rows_of w t) (changes_on t log) }
     ensures since { (s : ℕ) (t : List ℕ) (l : Level) (log : List Entry) (x : Table) → IsLegal [] 0 log → (i : StandsSince s t l log) → find (serial i.earlier) t ≡ Some x → rows_of (serial log) t ≡ applied x.def.kind (rows_of (serial i.earlier) t) (changes_on t i.since) }
@@ -156,7 +156,7 @@ pub fn levels_end_alone()
 /// Wait-die in its own words. A request is granted exactly where an own lock covers it or no other owner's lock, held or
 /// queued, conflicts; it waits where all owners in conflict are younger; it dies where one of them is older. A retry is
 /// granted exactly where no other owner's lock, held or queued before it, conflicts.
-#[tactic(auto, using(crate::proofs::Deciding::granted_where, crate::proofs::Deciding::waits_where, crate::proofs::Deciding::dies_where, crate::proofs::Deciding::retries_where))]
+#[tactic(auto, using(crate::proofs::WaitDieLaws::granted_where, crate::proofs::WaitDieLaws::waits_where, crate::proofs::WaitDieLaws::dies_where, crate::proofs::WaitDieLaws::retries_where))]
 pub fn older_wait_and_younger_die()
     ensures granted { (g : Ages) (r : Owned) → (decide g r ≡ Granted) ↔ (Covered g r ⊎ (Opposed g r → ⊥)) }
     ensures waits { (g : Ages) (r : Owned) → (decide g r ≡ Wait) ↔ ((Covered g r → ⊥) × Opposed g r × (OpposedByOlder g r → ⊥)) }
@@ -166,7 +166,7 @@ pub fn older_wait_and_younger_die()
 
 /// For every schedule: a joined session has taken a beginning of its slice, and one that left has taken, whatever came
 /// after its Leave, a beginning of its slice at that moment.
-#[tactic(auto, using(crate::proofs::Gone::joined_begins, crate::proofs::Gone::left_begins))]
+#[tactic(auto, using(crate::proofs::WhoLeaves::joined_begins, crate::proofs::WhoLeaves::left_begins))]
 pub fn who_leaves_has_taken_a_beginning()
     ensures joined { (limits : Limits) (calls : List Call) (n : ℕ) (s : Seat) → AllJoinEmpty calls → seat_at (after_all (new limits) calls).seats n ≡ Some s → Begins (taken_of n (new limits) calls) (slice n (log_of (new limits) calls)) }
     ensures left { (limits : Limits) (calls later : List Call) (n : ℕ) (s : Seat) → AllJoinEmpty calls → seat_at (after_all (new limits) calls).seats n ≡ Some s → Begins (taken_of n (new limits) (calls ++ leaves n ∷ later)) (slice n (log_of (new limits) calls)) }
@@ -175,7 +175,7 @@ pub fn who_leaves_has_taken_a_beginning()
 /// The items that a session is owed since a subscription that stands, which follow those owed before in its slice, tell
 /// exactly the changes that the log's commits made to that table since: read off the terms of their events, at either
 /// level, whatever else the session watches.
-#[tactic(auto, using(crate::proofs::Told::slice_parts))]
+#[tactic(auto, using(crate::proofs::ItemsTellTheChanges::slice_parts))]
 pub fn items_tell_the_changes()
     ensures told { (s : ℕ) (t : List ℕ) (l : Level) (log : List Entry) → IsLegal [] 0 log → AllAged log → (i : StandsSince s t l log) → changes_told t (slice_after s (i.earlier ++ Subscribed s t l i.dump ∷ []) i.since) ≡ changes_on t i.since }
     ensures parts { (s : ℕ) (xs ys : List Entry) → slice s (xs ++ ys) ≡ slice s xs ++ slice_after s xs ys }
@@ -183,7 +183,7 @@ pub fn items_tell_the_changes()
 
 /// A session that is alone stays so while no other asks; it is never told to wait, and never restarted: no one opposes its
 /// requests.
-#[tactic(auto, using(crate::proofs::Sole::stays_sole, crate::proofs::Sole::no_wait, crate::proofs::Sole::no_restart))]
+#[tactic(auto, using(crate::proofs::SessionAlone::stays_sole, crate::proofs::SessionAlone::no_wait, crate::proofs::SessionAlone::no_restart))]
 pub fn a_session_alone_never_waits()
     ensures alone { (σ : State) (over : List ℕ) (n : ℕ) (a : Ask) → IsSole n σ → IsSole n (outcome σ over n a).state }
     ensures waiting { (σ : State) (over : List ℕ) (n : ℕ) (a : Ask) → IsSole n σ → (outcome σ over n a).reply ≢ reply.Waiting }

@@ -1,5 +1,5 @@
-pub mod StepMade
-pub mod Runs
-pub mod Served
-pub mod Replayed
-mod Histories
+pub mod AnsweredLemmas
+pub mod AnsweredAllLemmas
+pub mod ServedLemmas
+pub mod ReplayedLemmas
+mod RunLaws

@@ -1,6 +1,8 @@
 //! A whole stream of requests.
 
-ghost use Rattle.std.specs.Prelude.{◌≡◌, [], None, ◌<◌, ◌-◌, ◌^◌, length, IfSome};
+ghost use Rattle.std.specs.Prelude.{◌≡◌, ◌≢◌, [], None, ◌<◌, ◌-◌, ◌^◌, length, IfSome, IfErr, OnOk};
+ghost use Rattle.tab_etf.specs.Streams.{payloads, rest_of};
+ghost use Rattle.tab_session.specs.declared.ended.Ended.TheVariants.{Damaged};
 ghost use Rattle.tab_session.specs.Replays.{Replayed, Faults, fresh};
 
 use crate::Ended;
@@ -39,21 +41,22 @@ fn run_all<R: Read, W: Write>(
         Replayed stream (W.contents output.old.inner) (W.contents output.new.inner) result) }
     ensures faults { Faults input.old.faults input.new.faults output.old.faults output.new.faults result }
 {
-    'rounds: for round in 0..u64::MAX {
-        match input.get(piece) {
-            Ok(0) => {
-                return match splitter.finish() {
-                    Ok(()) => Ok(()),
-                    Err(_) => Err(Ended::Damaged),
-                };
-            }
-            Ok(count) => match serve_piece(alloc, core, splitter, &piece[..count], output) {
-                Ok(()) => {}
-                Err(ended) => return Err(ended),
-            },
-            Err(_) => return Err(Ended::Device),
+    for round in 0..u64::MAX {
+        let count = input.get(piece)?;
+        if count == 0 {
+            return end_of_stream(splitter);
         }
+        serve_piece(alloc, core, splitter, &piece[..count], output)?;
     }
+    end_of_stream(splitter)
+}
+
+/// The stream is damaged where it ends inside a frame.
+fn end_of_stream(splitter: &Splitter) -> Result<(), Ended>
+    ensures found { splitter.now.over ≡ None → payloads splitter.now.rest ≡ [] }
+    ensures ok { OnOk result (rest_of splitter.now.rest ≡ []) }
+    ensures err { IfErr result (λ e. (e ≡ Damaged) × (splitter.now.over ≡ None → rest_of splitter.now.rest ≢ [])) }
+{
     match splitter.finish() {
         Ok(()) => Ok(()),
         Err(_) => Err(Ended::Damaged),

@@ -3,7 +3,7 @@
 ghost use Rattle.std.specs.Prelude.{◌≡◌, ◌+◌, ◌<◌, ℕ, List, Option, None, length, OnOk};
 ghost use Rattle.std.specs.Io.KnownBytes.{Consumes};
 ghost use Rattle.tab_etf.specs.Frames.{contents, payload_of};
-ghost use Rattle.tab_session.specs.Replays.{IsReplaying, Advances, Served, ServedOne, OneFault, ended_of};
+ghost use Rattle.tab_session.specs.Replays.{IsReplaying, Advances, Served, ServedOne, OneFault};
 
 use crate::Ended;
 use crate::answering::{answer, put_answer};
@@ -14,15 +14,6 @@ use tab_etf::{Counted, EncodeFault, Frame, FrameFault, Splitter};
 
 /// So many bytes of replies are kept before they are written.
 const KEPT: usize = 65_536;
-
-fn ended_by(fault: EncodeFault) -> Ended
-    ensures { result ≡ ended_of fault }
-{
-    match fault {
-        EncodeFault::TooLong => Ended::TooLong,
-        EncodeFault::NoMemory => Ended::NoMemory,
-    }
-}
 
 fn payload_in(frame: &Frame) -> &[u8]
     ensures { result.now ≡ payload_of frame.now }
@@ -57,29 +48,19 @@ fn serve_all<W: Write>(
     ensures faults { OneFault output.old.faults output.new.faults result }
 {
     let mut buffer = Vec::new(alloc);
-    'frames: for frame in frames {
-        match serve_one(alloc, core, frame, &mut buffer) {
-            Ok(()) => {}
-            Err(fault) => match output.put(&buffer) {
-                Ok(()) => return Err(ended_by(fault)),
-                Err(_) => return Err(Ended::Device),
-            },
+    for frame in frames {
+        if let Err(fault) = serve_one(alloc, core, frame, &mut buffer) {
+            output.put(&buffer)?;
+            return Err(Ended::from(fault));
         }
         if buffer.len() >= KEPT {
-            match output.put(&buffer) {
-                Ok(()) => buffer.clear(),
-                Err(_) => return Err(Ended::Device),
-            }
+            output.put(&buffer)?;
+            buffer.clear();
         }
     }
-    match output.put(&buffer) {
-        Ok(()) => {}
-        Err(_) => return Err(Ended::Device),
-    }
-    match output.flush() {
-        Ok(()) => Ok(()),
-        Err(_) => Err(Ended::Device),
-    }
+    output.put(&buffer)?;
+    output.flush()?;
+    Ok(())
 }
 
 /// Serves the frames that are whole with this piece.
@@ -101,10 +82,8 @@ pub fn serve_piece<W: Write>(
     match splitter.feed(piece) {
         Ok(frames) => serve_all(alloc, core, &frames, output),
         Err(FrameFault::FrameTooLong(_)) => {
-            match serve_all(alloc, core, splitter.before_fault(), output) {
-                Ok(()) => Err(Ended::Damaged),
-                Err(ended) => Err(ended),
-            }
+            serve_all(alloc, core, splitter.before_fault(), output)?;
+            Err(Ended::Damaged)
         }
         Err(_) => Err(Ended::NoMemory),
     }

@@ -11,7 +11,7 @@ use Rattle.tab_locks.specs.Placed.{conflict_with}
 use Rattle.tab_locks.proofs.Passing.{any_map}
 use Rattle.tab_waitdie.specs.declared.waiting.Waiting.{Waiting}
 use Rattle.tab_waitdie.specs.Queue.{owned, queued}
-use Rattle.tab_waitdie.specs.Answers.{ages, answer_of, answer_to}
+use Rattle.tab_waitdie.specs.Decisions.{ages, answer_of, answer_to}
 
 module _ {X : Type 0} (p q : X → Bool) (f : (x : X) → p x ≡ true → q x ≡ true) where
   any_weaker : (xs : List X) → list_any p xs ≡ true → list_any q xs ≡ true

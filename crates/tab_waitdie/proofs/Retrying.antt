@@ -8,7 +8,7 @@ use Rattle.tab_locks.specs.Placed.{placed}
 use Rattle.tab_locks.specs.Plain.{lock_of}
 use Rattle.tab_waitdie.specs.declared.waiting.Waiting.{Waiting}
 use Rattle.tab_waitdie.specs.Queue.{owned, queued, ages_of}
-use Rattle.tab_waitdie.specs.Answers.{ages}
+use Rattle.tab_waitdie.specs.Decisions.{ages}
 use Rattle.tab_waitdie.proofs.Rising.{found_age, retried_rises}
 
 -- at this place stands the first request of this age

@@ -3,14 +3,14 @@ use Rattle.std.proofs.Common.{◌≡◌, ℕ, ◌<◌, List, [], ◌∷◌, ◌+
 use Rattle.std.proofs.lemmas.Bool.Decides.{nat_tests}
 use Rattle.tab_model.specs.Ages as plain
 use Rattle.tab_model.specs.Ages.{Owned, Ages, blocks, decide, request_of, without, after_request, can_retry, after_retry, RisesAfter, Rises, Chain, last_of}
-use Rattle.tab_model.proofs.Waits.{request_rises, retry_rises, fewer_rises, chain_rises}
+use Rattle.tab_model.proofs.WaitsHaveNoCycle.{request_rises, retry_rises, fewer_rises, chain_rises}
 use Rattle.tab_locks.specs.Members.{SameMembers}
 use Rattle.tab_locks.specs.Placed.{placed}
 use Rattle.tab_locks.proofs.Passing.{any_more}
 use Rattle.tab_locks.proofs.Listing.{any_placed}
 use Rattle.tab_waitdie.specs.declared.ages.Answer.{Answer}
 use Rattle.tab_waitdie.specs.declared.ages.Answer.TheVariants.{Granted, Wait, Die}
-use Rattle.tab_waitdie.specs.Answers.{ages, answer_of, after_answer}
+use Rattle.tab_waitdie.specs.Decisions.{ages, answer_of, after_answer}
 
 same_rises : (held new earlier queue : List Owned) → SameMembers held new → RisesAfter held earlier queue → RisesAfter new earlier queue
 same_rises held new earlier [] s h = tt

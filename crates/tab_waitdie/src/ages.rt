@@ -4,7 +4,7 @@ ghost use Rattle.tab_model.specs.Ages.{Ages as ages_record, Chain, all_of, can_r
 ghost use Rattle.tab_locks.specs.Plain.{lock_of};
 ghost use Rattle.tab_model.specs.State.{is_in};
 ghost use Rattle.tab_waitdie.specs.Queue.{owned, queued};
-ghost use Rattle.tab_waitdie.specs.Answers.{answer_of, after_answer, is_granted, after_retried, ages, answer_to as answer_by};
+ghost use Rattle.tab_waitdie.specs.Decisions.{answer_of, after_answer, is_granted, after_retried, ages, answer_to as answer_by};
 
 use crate::waiting::{
     Waiting, any_opposing, conflicts_in, copy_of, drop_requests, is_awaited, is_queued, place_of,

@@ -1,4 +1,4 @@
-use Rattle.tab_locks.proofs.Kept.{one_more_gone}
+use Rattle.tab_locks.proofs.HoldAndRelease.{one_more_gone}
 use Rattle.tab_locks.proofs.lock_table.release.Goals as goal
 
 pub loop-lock-preserved : goal.loop-lock-preserved

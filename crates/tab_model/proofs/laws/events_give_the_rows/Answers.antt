@@ -1,4 +1,4 @@
-use Rattle.tab_model.proofs.Given.{since_applies, dump_applies}
+use Rattle.tab_model.proofs.EventsGiveTheRows.{since_applies, dump_applies}
 use Rattle.tab_model.proofs.laws.events_give_the_rows.Goals as goal
 
 pub returns-clause-since : goal.returns-clause-since

@@ -1,4 +1,4 @@
-use Rattle.tab_model.proofs.Waits.{chain_rises}
+use Rattle.tab_model.proofs.WaitsHaveNoCycle.{chain_rises}
 use Rattle.tab_model.proofs.laws.waits_have_no_cycle.Goals as goal
 
 pub returns-clause-chain : goal.returns-clause-chain

@@ -1,5 +1,5 @@
 use Rattle.std.proofs.Common.{Err, ap, inl, refl}
-use Rattle.tab_session.proofs.StepMade.{answered}
+use Rattle.tab_session.proofs.AnsweredLemmas.{answered}
 use Rattle.tab_session.proofs.answering.answer_to.Goals as goal
 
 pub returns-in-Ok : goal.returns-in-Ok

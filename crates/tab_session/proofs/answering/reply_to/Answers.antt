@@ -1,6 +1,6 @@
 use Rattle.std.proofs.Common.{◌≡◌, true, inl, sym, ◌∙◌}
 use Rattle.tab_session.specs.AnsweredPayloads.{serves_request}
-use Rattle.tab_session.proofs.StepMade.{makes}
+use Rattle.tab_session.proofs.AnsweredLemmas.{makes}
 use Rattle.tab_session.proofs.answering.reply_to.Goals as goal
 
 pub returns-in-Ok : goal.returns-in-Ok

@@ -1,4 +1,4 @@
-use Rattle.tab_session.proofs.Histories.{said_each, said_once}
+use Rattle.tab_session.proofs.RunLaws.{said_each, said_once}
 use Rattle.tab_session.proofs.laws.an_answer_follows.Goals as goal
 
 pub returns-clause-each : goal.returns-clause-each

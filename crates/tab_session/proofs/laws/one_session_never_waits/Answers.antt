@@ -1,4 +1,4 @@
-use Rattle.tab_session.proofs.Histories.{said_alone}
+use Rattle.tab_session.proofs.RunLaws.{said_alone}
 use Rattle.tab_session.proofs.laws.one_session_never_waits.Goals as goal
 
 pub returns : goal.returns

@@ -1,4 +1,4 @@
-use Rattle.tab_session.proofs.Histories.{said_sound, said_tied}
+use Rattle.tab_session.proofs.RunLaws.{said_sound, said_tied}
 use Rattle.tab_session.proofs.laws.runs_have_a_history.Goals as goal
 
 pub returns-clause-sound : goal.returns-clause-sound

@@ -1,4 +1,4 @@
-use Rattle.tab_session.proofs.Replayed.{nothing_if}
+use Rattle.tab_session.proofs.ReplayedLemmas.{nothing_if}
 use Rattle.tab_session.proofs.replaying.replay.Goals as goal
 
 pub returns-in_default-clause-bytes : goal.returns-in_default-clause-bytes

@@ -9,8 +9,8 @@ pub record Kept (A B C D E : Type 0) : Type 0 where
   pub input : D
   pub output : E
 
-abbrev pub invariant-rounds : goal.invariant-rounds
-invariant-rounds g l = Kept
+abbrev pub invariant-loop-round : goal.invariant-loop-round
+invariant-loop-round g l = Kept
     (IfSome (g.R.Read.remaining l.initial.input.inner) (λ stream. IsReplaying stream (g.R.Read.remaining l.input.inner) l.splitter.rest l.round l.core (g.W.Write.contents l.initial.output.inner) (g.W.Write.contents l.output.inner)))
     (l.splitter.over ≡ None)
     (0 < length l.piece)

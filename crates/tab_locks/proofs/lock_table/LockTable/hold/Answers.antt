@@ -1,7 +1,7 @@
 use Rattle.std.proofs.Common.{sym, ap, ◌∙◌}
 use Rattle.std.specs.List.{list_any}
 use Rattle.std.specs.Option.{option_copied_mut}
-use Rattle.tab_locks.proofs.Kept.{listed_on_ok, listed_on_err, still_indexed}
+use Rattle.tab_locks.proofs.HoldAndRelease.{listed_on_ok, listed_on_err, still_indexed}
 use Rattle.tab_locks.proofs.lock_table.LockTable.hold.Goals as goal
 
 pub invariant_of-self-in-Some : goal.invariant_of-self-in-Some

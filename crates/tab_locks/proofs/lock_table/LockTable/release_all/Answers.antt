@@ -4,7 +4,7 @@ use Rattle.tab_model.specs.Ages.{without}
 use Rattle.tab_locks.specs.Members.{Drops}
 use Rattle.tab_locks.specs.Placed.{listed, is_of}
 use Rattle.tab_locks.proofs.Listing.{listed_without}
-use Rattle.tab_locks.proofs.Kept.{indexed_released}
+use Rattle.tab_locks.proofs.HoldAndRelease.{indexed_released}
 use Rattle.tab_locks.proofs.lock_table.LockTable.release_all.Goals as goal
 
 pub invariant_of-self : goal.invariant_of-self

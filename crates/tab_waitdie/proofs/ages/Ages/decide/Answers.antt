@@ -3,7 +3,7 @@ use Rattle.tab_model.specs.Ages.{Owned, decide}
 use Rattle.tab_locks.specs.Placed.{conflict_with}
 use Rattle.tab_locks.specs.Plain.{lock_of}
 use Rattle.tab_waitdie.specs.Queue.{queued}
-use Rattle.tab_waitdie.specs.Answers.{answer_of, answer_to}
+use Rattle.tab_waitdie.specs.Decisions.{answer_of, answer_to}
 use Rattle.tab_waitdie.proofs.Deciding.{decided}
 use Rattle.tab_waitdie.proofs.ages.Ages.decide.Goals as goal
 

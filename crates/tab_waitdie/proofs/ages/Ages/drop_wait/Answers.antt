@@ -1,7 +1,7 @@
 use Rattle.std.proofs.Common.{sym, subst, List}
 use Rattle.tab_model.specs.Ages.{Owned, Rises}
 use Rattle.tab_waitdie.specs.Queue.{ages_of}
-use Rattle.tab_waitdie.specs.Answers.{ages}
+use Rattle.tab_waitdie.specs.Decisions.{ages}
 use Rattle.tab_waitdie.proofs.Rising.{dropped_rises}
 use Rattle.tab_waitdie.proofs.ages.Ages.drop_wait.Goals as goal
 

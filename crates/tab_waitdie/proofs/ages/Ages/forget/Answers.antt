@@ -1,8 +1,8 @@
 use Rattle.std.proofs.Common.{sym, subst}
 use Rattle.tab_model.specs.Ages.{Ages, Rises}
-use Rattle.tab_model.proofs.Waits.{forget_rises}
+use Rattle.tab_model.proofs.WaitsHaveNoCycle.{forget_rises}
 use Rattle.tab_waitdie.specs.Queue.{ages_of}
-use Rattle.tab_waitdie.specs.Answers.{ages}
+use Rattle.tab_waitdie.specs.Decisions.{ages}
 use Rattle.tab_waitdie.proofs.ages.Ages.forget.Goals as goal
 
 pub invariant_of-self : goal.invariant_of-self

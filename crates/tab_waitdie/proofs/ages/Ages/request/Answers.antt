@@ -3,7 +3,7 @@ use Rattle.tab_model.specs.Ages.{Owned, Rises, decide}
 use Rattle.tab_locks.specs.Plain.{lock_of}
 use Rattle.tab_waitdie.specs.declared.ages.Answer.TheVariants.{Granted, Wait}
 use Rattle.tab_waitdie.specs.Queue.{ages_of, queued}
-use Rattle.tab_waitdie.specs.Answers.{ages, answer_of}
+use Rattle.tab_waitdie.specs.Decisions.{ages, answer_of}
 use Rattle.tab_waitdie.proofs.Places.{queued_more}
 use Rattle.tab_waitdie.proofs.Rising.{answered_rises}
 use Rattle.tab_waitdie.proofs.ages.Ages.request.Goals as goal

@@ -4,7 +4,7 @@ use Rattle.tab_model.specs.Ages.{Ages, Rises, request_of, can_retry, without}
 use Rattle.tab_locks.specs.Placed.{placed}
 use Rattle.tab_waitdie.specs.declared.waiting.Waiting.{Waiting}
 use Rattle.tab_waitdie.specs.Queue.{ages_of, queued}
-use Rattle.tab_waitdie.specs.Answers.{ages}
+use Rattle.tab_waitdie.specs.Decisions.{ages}
 use Rattle.tab_waitdie.proofs.Retrying.{IsPlace, TellsFree, told, moved_rises, moved}
 use Rattle.tab_waitdie.proofs.ages.Ages.retry.Goals as goal
 

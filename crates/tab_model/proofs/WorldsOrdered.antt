@@ -22,8 +22,8 @@ use Rattle.tab_model.specs.Alone.{start, after}
 use Rattle.tab_model.specs.Locks.{Part, All, Key, Lock, needs, locks_of}
 use Rattle.tab_model.specs.Schemas.{table_of_schema, schema_effect, create_parsed, add_at, del_at, add_effect, del_effect}
 use Rattle.tab_model.proofs.ChangeLaws.{find-place, find-without}
-use Rattle.tab_model.proofs.Stay.{find_name, AgreeTab, Agree, SeesPart, SeesAll, WritesAll, keeps_after}
-use Rattle.tab_model.proofs.Heart.{agree_self}
+use Rattle.tab_model.proofs.RepliesStay.{find_name, AgreeTab, Agree, SeesPart, SeesAll, WritesAll, keeps_after}
+use Rattle.tab_model.proofs.LocksApart.{agree_self}
 
 -- ---- tables stay in order through a transaction
 

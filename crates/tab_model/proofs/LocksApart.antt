@@ -18,7 +18,7 @@ use Rattle.tab_model.specs.Alone.{start, after, replies}
 use Rattle.tab_model.specs.Locks.{Part, All, Key, Lock, lock, needs, locks_of, meets, conflict, Apart}
 use Rattle.tab_model.specs.Worlds.{IsOrderedWorld}
 use Rattle.tab_model.proofs.TableLaws.{same_true, same_refl}
-use Rattle.tab_model.proofs.Stay.{AgreeTab, Agree, SeesPart, SeesAll, same_replies, WritesAll, keeps_after}
+use Rattle.tab_model.proofs.RepliesStay.{AgreeTab, Agree, SeesPart, SeesAll, same_replies, WritesAll, keeps_after}
 
 covers_cell : Lock → List ℕ → PlainTerm → Bool
 covers_cell l t k = bytes_eq l.table t && meets l.part (Key k)

@@ -2,7 +2,7 @@
 use Rattle.std.proofs.Common.{◌≡◌, ◌≢◌, ℕ, ◌+◌, ◌<◌, ◌-◌, ◌^◌, List, [], ◌∷◌, ◌++◌, length, take, Option, Some, None, Result, Ok, Err, refl, sym, ap, subst, ◌∙◌, append_assoc, arith, length-append}
 use Rattle.std.specs.Io.KnownBytes.{Appends, Consumes, IsAtEnd}
 use Rattle.std.proofs.lemmas.List.{append-nil}
-use Rattle.std.proofs.Common.{inl, inr, IfSome}
+use Rattle.std.proofs.Common.{inl, inr, IfSome, IfErr, OnOk}
 use Rattle.tab_etf.specs.Feeding.{Held}
 use Rattle.tab_etf.specs.Feeding.{IsStopped}
 use Rattle.tab_etf.specs.declared.framing.FrameFault.{FrameFault}
@@ -14,7 +14,7 @@ use Rattle.tab_session.specs.AnsweredPayloads.{AnsweredAll}
 use Rattle.tab_session.specs.declared.ended.Ended.{Ended}
 use Rattle.tab_session.specs.declared.ended.Ended.TheVariants.{Damaged, Device, TooLong, NoMemory}
 use Rattle.tab_session.specs.Replays.{fresh, frames_of, IsRun, IsReplaying, Passed, WroteAll, WroteSome, WroteFirst, BeginsTooLong, Served, Replayed, Advances}
-use Rattle.tab_session.proofs.Runs.{total, ran_join, frames_join, beginning_after}
+use Rattle.tab_session.proofs.AnsweredAllLemmas.{total, ran_join, frames_join, beginning_after}
 use Rattle.tab_etf.proofs.Known.{Appends-none, Appends-then}
 
 pub replaying_init : (stream : List ℕ) (old : Option (List ℕ)) → IsReplaying stream (Some stream) [] 0 fresh old old
@@ -248,17 +248,24 @@ pub device_if : (o left : Option (List ℕ)) (held : List ℕ) (i : ℕ) (now : 
 device_if None left held i now old new s = tt
 device_if (Some stream) left held i now old new s = λ small. replaying_device stream left held i now old new s
 
-pub ok_if : (o left new_left : Option (List ℕ)) (held : List ℕ) (i : ℕ) (now : State) (old new : Option (List ℕ)) (n : ℕ) (buf : List ℕ)
+ok_if : (o left new_left : Option (List ℕ)) (held : List ℕ) (i : ℕ) (now : State) (old new : Option (List ℕ)) (n : ℕ) (buf : List ℕ)
     → IfSome o (λ stream. IsReplaying stream left held i now old new) → n ≡ 0 → Consumes left new_left (take n buf) → (n ≡ 0 → 0 < length buf → IsAtEnd new_left) → 0 < length buf
     → payloads held ≡ [] → rest_of held ≡ [] → IfSome o (λ stream. length stream < 2 ^ 64 - 1 → Replayed stream old new (Ok tt))
 ok_if None left new_left held i now old new n buf s e read end some found ok = tt
 ok_if (Some stream) left new_left held i now old new n buf s e read end some found ok = λ small. ended_ok stream held old new (replaying_zero stream left new_left held i now old new n buf s e read end some) found ok
 
-pub cut_if : (o left new_left : Option (List ℕ)) (held : List ℕ) (i : ℕ) (now : State) (old new : Option (List ℕ)) (n : ℕ) (buf : List ℕ)
+cut_if : (o left new_left : Option (List ℕ)) (held : List ℕ) (i : ℕ) (now : State) (old new : Option (List ℕ)) (n : ℕ) (buf : List ℕ)
     → IfSome o (λ stream. IsReplaying stream left held i now old new) → n ≡ 0 → Consumes left new_left (take n buf) → (n ≡ 0 → 0 < length buf → IsAtEnd new_left) → 0 < length buf
     → payloads held ≡ [] → rest_of held ≢ [] → IfSome o (λ stream. length stream < 2 ^ 64 - 1 → Replayed stream old new (Err Damaged))
 cut_if None left new_left held i now old new n buf s e read end some found cut = tt
 cut_if (Some stream) left new_left held i now old new n buf s e read end some found cut = λ small. ended_cut stream held old new (replaying_zero stream left new_left held i now old new n buf s e read end some) found cut
+
+pub end_if : (o left new_left : Option (List ℕ)) (held : List ℕ) (i : ℕ) (now : State) (old new : Option (List ℕ)) (n : ℕ) (buf : List ℕ) (r : Result (Unit {0}) Ended)
+    → IfSome o (λ stream. IsReplaying stream left held i now old new) → n ≡ 0 → Consumes left new_left (take n buf) → (n ≡ 0 → 0 < length buf → IsAtEnd new_left) → 0 < length buf
+    → payloads held ≡ [] → OnOk r (rest_of held ≡ []) → IfErr r (λ e. (e ≡ Damaged) × (rest_of held ≢ [])) → IfSome o (λ stream. length stream < 2 ^ 64 - 1 → Replayed stream old new r)
+end_if o left new_left held i now old new n buf (Ok u) s e read end some found ok cut = ok_if o left new_left held i now old new n buf s e read end some found ok
+end_if o left new_left held i now old new n buf (Err f) s e read end some found ok cut =
+    subst (λ (x : Ended). IfSome o (λ stream. length stream < 2 ^ 64 - 1 → Replayed stream old new (Err x))) (sym cut.0) (cut_if o left new_left held i now old new n buf s e read end some found cut.1)
 
 pub piece_if : (o left : Option (List ℕ)) (held : List ℕ) (i : ℕ) (now : State) (old mid new : Option (List ℕ)) (e : Ended)
     → IfSome o (λ stream. IsReplaying stream left held i now old mid) → ((stream : List ℕ) → IsReplaying stream left held i now old mid → Replayed stream old new (Err e))

@@ -21,7 +21,7 @@ use Rattle.tab_model.specs.Alone.{Mid, forgotten, back_to, back, next, told, aft
 use Rattle.tab_model.specs.Locks.{Part, All, Key, needs}
 use Rattle.tab_model.proofs.TableLaws.{same_true}
 use Rattle.tab_model.proofs.ChangeLaws.{at-apply, ordered-apply, find-place}
-use Rattle.tab_model.proofs.Frame.{Alike, same_failure, same_told}
+use Rattle.tab_model.proofs.CoveredOperations.{Alike, same_failure, same_told}
 
 pub eq_names : (a b : List ℕ) → bytes_eq a b ≡ true → a ≡ b
 eq_names a b h = (bytes_eq-Decides a b).0 h

@@ -21,10 +21,10 @@ use Rattle.tab_model.specs.Since.{changes_on, StandsSince, StoodFor, AllStood, R
 use Rattle.tab_model.specs.State.{Transaction, Watch, Seat, Queued, State, new, seat_at, level_in, IsSound}
 use Rattle.tab_model.specs.Outcome.{Ask, Join, Leave, Retry, Take, DoCommand, Outcome, outcome, decided, within, operate, retried, retry_in, retry, opened, nested, begin, one_shot, abort, commit_at, commit, schema_if, schema, marked, subscribe_refusal, subscribe, unsubscribe, command_if, give, seated, join, unseated, by_seat}
 use Rattle.tab_model.specs.Run.{Call, outcome_of, after_all, entries, log_of, taken_now, AllJoinEmpty, IsTied}
-use Rattle.tab_model.proofs.Given.{since_applies, serial-append}
+use Rattle.tab_model.proofs.EventsGiveTheRows.{since_applies, serial-append}
 use Rattle.tab_model.proofs.InForce.{in_force_stands}
-use Rattle.tab_model.proofs.Told.{items_tell}
-use Rattle.tab_model.proofs.Aged.{schedule_aged}
+use Rattle.tab_model.proofs.ItemsTellTheChanges.{items_tell}
+use Rattle.tab_model.proofs.PositiveAges.{schedule_aged}
 use Rattle.tab_model.proofs.SoundSteps.{step_sound}
 use Rattle.tab_model.proofs.TiedSteps.{step_tied}
 use Rattle.tab_model.proofs.Schedules.{new_sound, new_tied, tied}

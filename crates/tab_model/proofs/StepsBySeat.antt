@@ -13,8 +13,8 @@ use Rattle.tab_model.specs.Ages.{Owned, Granted, Wait, Die, opposes, covers_own,
 use Rattle.tab_model.specs.State.{Transaction, Seat, Queued, State, seat_at, transaction_in, moves_in, told_in_transaction, age_in, transaction_at, moves_at, with_age, held_by, held_in, queued_in, ages_of, mid_of, AreDistinct, IsSound}
 use Rattle.tab_model.specs.Outcome.{change, without_seat, more, emptied}
 use Rattle.tab_model.proofs.Seats.{eq_true, other_number, seat_at-map, mapped, itself}
-use Rattle.tab_model.proofs.Conflicts.{conflict-sym, served_one}
-use Rattle.tab_model.proofs.Waits.{either_one}
+use Rattle.tab_model.proofs.LocksLemmas.{conflict-sym, served_one}
+use Rattle.tab_model.proofs.WaitsHaveNoCycle.{either_one}
 
 -- ---- traces with one move more
 

@@ -14,7 +14,7 @@ use Rattle.tab_model.specs.Refusals.{IsSole}
 use Rattle.tab_model.specs.Run.{item_of, entries, taken_now, JoinsEmpty, IsTied}
 use Rattle.tab_model.proofs.SoundSteps.{step_sound}
 use Rattle.tab_model.proofs.TiedSteps.{step_tied}
-use Rattle.tab_model.proofs.Sole.{stays_sole, no_wait, no_restart}
+use Rattle.tab_model.proofs.SessionAlone.{stays_sole, no_wait, no_restart}
 use Rattle.tab_proto.specs.declared.request.Request.{Request}
 use Rattle.tab_proto.specs.declared.request.Request.TheVariants as request
 use Rattle.tab_proto.specs.Requests.{request_term, number_in, IsSession, IsNumbered}

@@ -22,11 +22,11 @@ use Rattle.tab_model.specs.Log.{has_session, stands, in_force, in_force_from, en
 use Rattle.tab_model.specs.Slices.{as_batch, shape_at, batch_for, ended_item, end_for, unless_over, owed, slice_after, slice, dump_of}
 use Rattle.tab_model.specs.Since.{is_of, changes_in, changes_on, ends_it, subscribes, StandsSince, changes_told, HasAge, AllAged}
 use Rattle.tab_model.proofs.Seats.{in_force-push, serial-push}
-use Rattle.tab_model.proofs.Given.{legal-rest, terms_back}
+use Rattle.tab_model.proofs.EventsGiveTheRows.{legal-rest, terms_back}
 use Rattle.tab_model.proofs.InForce.{stands_on, own_entry}
 use Rattle.tab_model.proofs.ShapeLaws.{shape_tells}
-use Rattle.tab_model.proofs.Stay.{eq_names}
-use Rattle.tab_model.proofs.Whole.{IsGood, good_serial, WholeAll, surviving_whole}
+use Rattle.tab_model.proofs.RepliesStay.{eq_names}
+use Rattle.tab_model.proofs.SurvivorsWellFormed.{IsGood, good_serial, WholeAll, surviving_whole}
 
 told-append : (t : List ℕ) (xs ys : List Item) → changes_told t (xs ++ ys) ≡ changes_told t xs ++ changes_told t ys
 told-append t [] ys = refl

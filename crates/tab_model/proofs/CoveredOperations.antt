@@ -15,7 +15,7 @@ use Rattle.tab_model.specs.declared.data.Reply.{Reply}
 use Rattle.tab_model.specs.declared.data.Reply.TheVariants as reply
 use Rattle.tab_model.specs.Names.{plain_terms}
 use Rattle.tab_model.specs.Tables.{Rows, key, second, has_key, at, is_ordered, SameTable}
-use Rattle.tab_model.specs.Answers.{match_object}
+use Rattle.tab_model.specs.WholeTables.{match_object}
 use Rattle.tab_model.specs.Definitions.{fits_def, is_indexed, position}
 use Rattle.tab_model.specs.Worlds.{Table}
 use Rattle.tab_model.specs.Operations.{failure_in, answer_or, failure_at, answer_at, bad_type}

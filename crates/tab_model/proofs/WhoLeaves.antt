@@ -21,7 +21,7 @@ use Rattle.tab_model.specs.State.{Transaction, Outbox, Watch, Seat, Queued, Stat
 use Rattle.tab_model.specs.Outcome.{Ask, Join, Leave, Retry, Take, DoCommand, outcome, with_transaction, change, made, decided, within, operate, retried, retry_in, retry, opened, nested, begin, one_shot, abort, given, batch_to, end_to, unwatched, commit_at, commit, events_now, schema_if, schema, marked, subscribe, unsubscribe, do_command, command_if, give, seated, fresh, join, unseated, by_seat}
 use Rattle.tab_model.specs.Run.{Call, outcome_of, after_all, log_of, taken_now, taken_of, item_of, AllJoinEmpty, Begins, leaves}
 use Rattle.tab_model.proofs.Seats.{eq_true, found, seat_at-map, mapped, seat_at-without, itself}
-use Rattle.tab_model.proofs.Seated.{change_none, without_none, push_none}
+use Rattle.tab_model.proofs.StepsBySeat.{change_none, without_none, push_none}
 use Rattle.tab_model.proofs.SoundSteps.{given_same, unwatched_same}
 use Rattle.tab_model.proofs.Schedules.{run_sound, new_sound, schedule_rows}
 

@@ -29,7 +29,7 @@ use Rattle.tab_model.specs.Schemas.{schema_effect, create_parsed, add_at, del_at
 use Rattle.tab_model.specs.Log.{entered, serial_from}
 use Rattle.tab_model.specs.Shapes.{is_record, is_whole}
 use Rattle.tab_model.proofs.ChangeLaws.{find-place, find-without}
-use Rattle.tab_model.proofs.Survive.{reply_tells}
+use Rattle.tab_model.proofs.SurvivorsRight.{reply_tells}
 use Rattle.std.specs.Prelude.{codes}
 
 -- each table has two attributes or more

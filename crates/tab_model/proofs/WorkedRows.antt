@@ -20,9 +20,11 @@ use Rattle.tab_model.specs.declared.data.Limits.{Limits}
 use Rattle.tab_model.specs.State.{new}
 use Rattle.tab_model.specs.declared.data.Change.TheVariants as change
 use Rattle.tab_model.specs.Shapes.{tid, five, held, change_of}
+use Rattle.tab_model.specs.declared.data.Entry.TheVariants.{Changed, Subscribed}
+use Rattle.tab_model.specs.Log.{in_force}
 use Rattle.tab_model.specs.Outcome.{outcome, Retry, Leave, DoCommand}
 use Rattle.tab_model.specs.Run.{Call, replies_of}
-use Rattle.tab_model.specs.Rows.{num, record_of, rec, joins, joins_with, creates, call, call_over, does, begins, commits, writes, reads, subscribes, takes, told_in, bag}
+use Rattle.tab_model.proofs.WorkedFixtures.{num, record_of, rec, joins, joins_with, creates, call, call_over, does, begins, commits, writes, reads, subscribes, takes, told_in, bag}
 
 abbrev event : PlainTerm → PlainTerm
 event x = pair (atom (codes "mnesia_table_event")) x
@@ -242,3 +244,22 @@ record_deleted = refl
 
 pub key_deleted : change_of (event (triple (atom (codes "delete")) (pair (atom (codes "t")) (num 2)) (tid 1))) ≡ Some (change.Delete (codes "t") (is.Int (pos 2)))
 key_deleted = refl
+
+-- a restarted transaction keeps its age, as the reply to a child's begin tells it
+pub row_restart_keeps_age : told_in (joins 1 ∷ joins 2 ∷ creates 1 (codes "t") none ∷ begins 1 ∷ begins 2 ∷ writes 1 (codes "t") 5 (codes "a") ∷ reads 2 (codes "t") 5 ∷ begins 2 ∷ [])
+    ≡ reply.Done ∷ reply.Done ∷ reply.AtomicOk ∷ reply.Tid 1 ∷ reply.Tid 2 ∷ reply.Done ∷ reply.Restart ∷ reply.Tid 2 ∷ []
+unfolding outcome canon int_contents
+row_restart_keeps_age = refl
+
+-- an aborted child's write has no event
+pub row_aborted_child : told_in (joins 1 ∷ creates 1 (codes "t") none ∷ subscribes 1 (codes "t") ∷ takes 1 ∷ begins 1 ∷ writes 1 (codes "t") 1 (codes "a") ∷ begins 1 ∷ writes 1 (codes "t") 1 (codes "b") ∷ call 1 (DoCommand (command.Abort (is.Atom (codes "why")))) ∷ commits 1 ∷ takes 1 ∷ takes 1 ∷ [])
+    ≡ reply.Done ∷ reply.AtomicOk ∷ reply.SubscribedHere ∷ reply.Taken (Began (codes "t") Simple None) ∷ reply.Tid 1 ∷ reply.Done ∷ reply.Tid 1 ∷ reply.Done ∷ reply.UserAbort (is.Atom (codes "why")) ∷ reply.Atomic 1 ∷ reply.Taken (Batch 1 (plain_terms (event (write1 (codes "t") 1 (codes "a")) ∷ []))) ∷ reply.Empty ∷ []
+unfolding outcome canon int_contents
+row_aborted_child = refl
+
+-- a table's deletion ends the subscriptions to it, and to no other
+pub row_deletion_ends : in_force 1 (Subscribed 1 (codes "t") Simple false ∷ Subscribed 1 (codes "u") Detailed false ∷ Changed (Remove (codes "t")) [] ∷ []) (codes "t") ≡ None
+row_deletion_ends = refl
+
+pub row_deletion_leaves : in_force 1 (Subscribed 1 (codes "t") Simple false ∷ Subscribed 1 (codes "u") Detailed false ∷ Changed (Remove (codes "t")) [] ∷ []) (codes "u") ≡ Some Detailed
+row_deletion_leaves = refl

@@ -27,9 +27,9 @@ use Rattle.tab_model.specs.Names.{plain_terms, terms_list}
 use Rattle.tab_model.specs.declared.data.Event.{Event}
 use Rattle.tab_term.specs.Data.{PlainTerms}
 use Rattle.tab_model.proofs.ChangeLaws.{find-place}
-use Rattle.tab_model.proofs.Stay.{eq_names, find_name}
-use Rattle.tab_model.proofs.Ordered.{schema_elsewhere}
-use Rattle.tab_model.proofs.Survive.{survivors_are}
+use Rattle.tab_model.proofs.RepliesStay.{eq_names, find_name}
+use Rattle.tab_model.proofs.WorldsOrdered.{schema_elsewhere}
+use Rattle.tab_model.proofs.SurvivorsRight.{survivors_are}
 
 same_name : (t : List ℕ) → bytes_eq t t ≡ true
 same_name t = (bytes_eq-Decides t t).1 refl
