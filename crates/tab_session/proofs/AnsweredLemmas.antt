@@ -29,8 +29,8 @@ answered σ μ t n a r spelled number formed (inl (served, inr refused)) = inr (
 answered σ μ t n a r spelled number formed (inr (unserved, bad, same)) =
     inl (inl (record {
       nothing = λ m b other served spells.
-      let apart = requests_apart m n b a served.formed formed (spells ∙ sym spelled) in
-      false≢true (sym unserved ∙ ap serves_request (sym apart.1) ∙ served.served);
+          let apart = requests_apart m n b a served.formed formed (spells ∙ sym spelled) in
+          false≢true (sym unserved ∙ ap serves_request (sym apart.1) ∙ served.served);
       reply = bad;
       same = same;
       under = inr (number, ap number_in (sym spelled));

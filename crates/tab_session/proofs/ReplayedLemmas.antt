@@ -260,12 +260,12 @@ cut_if : (o left new_left : Option (List ℕ)) (held : List ℕ) (i : ℕ) (now 
 cut_if None left new_left held i now old new n buf s e read end some found cut = tt
 cut_if (Some stream) left new_left held i now old new n buf s e read end some found cut = λ small. ended_cut stream held old new (replaying_zero stream left new_left held i now old new n buf s e read end some) found cut
 
-pub end_if : (o left new_left : Option (List ℕ)) (held : List ℕ) (i : ℕ) (now : State) (old new : Option (List ℕ)) (n : ℕ) (buf : List ℕ) (r : Result (Unit {0}) Ended)
+pub end_if : (o left new_left : Option (List ℕ)) (held : List ℕ) (i : ℕ) (now : State) (old new : Option (List ℕ)) (n : ℕ) (buf : List ℕ) (r : Result (Unit {0}) Ended) (over : Option ℕ) → over ≡ None
     → IfSome o (λ stream. IsReplaying stream left held i now old new) → n ≡ 0 → Consumes left new_left (take n buf) → (n ≡ 0 → 0 < length buf → IsAtEnd new_left) → 0 < length buf
-    → payloads held ≡ [] → OnOk r (rest_of held ≡ []) → IfErr r (λ e. (e ≡ Damaged) × (rest_of held ≢ [])) → IfSome o (λ stream. length stream < 2 ^ 64 - 1 → Replayed stream old new r)
-end_if o left new_left held i now old new n buf (Ok u) s e read end some found ok cut = ok_if o left new_left held i now old new n buf s e read end some found ok
-end_if o left new_left held i now old new n buf (Err f) s e read end some found ok cut =
-    subst (λ (x : Ended). IfSome o (λ stream. length stream < 2 ^ 64 - 1 → Replayed stream old new (Err x))) (sym cut.0) (cut_if o left new_left held i now old new n buf s e read end some found cut.1)
+    → (over ≡ None → payloads held ≡ []) → OnOk r (rest_of held ≡ []) → IfErr r (λ e. (e ≡ Damaged) × (over ≡ None → rest_of held ≢ [])) → IfSome o (λ stream. length stream < 2 ^ 64 - 1 → Replayed stream old new r)
+end_if o left new_left held i now old new n buf (Ok u) over going s e read end some found ok cut = ok_if o left new_left held i now old new n buf s e read end some (found going) ok
+end_if o left new_left held i now old new n buf (Err f) over going s e read end some found ok cut =
+    subst (λ (x : Ended). IfSome o (λ stream. length stream < 2 ^ 64 - 1 → Replayed stream old new (Err x))) (sym cut.0) (cut_if o left new_left held i now old new n buf s e read end some (found going) (cut.1 going))
 
 pub piece_if : (o left : Option (List ℕ)) (held : List ℕ) (i : ℕ) (now : State) (old mid new : Option (List ℕ)) (e : Ended)
     → IfSome o (λ stream. IsReplaying stream left held i now old mid) → ((stream : List ℕ) → IsReplaying stream left held i now old mid → Replayed stream old new (Err e))

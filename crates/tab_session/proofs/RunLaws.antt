@@ -1,7 +1,6 @@
 -- What a run over payloads leaves: the history goes on, an answer follows from its payload, and a session alone never waits.
-use Rattle.std.proofs.Common.{◌≡◌, ◌≢◌, ℕ, ℤ, pos, suc, List, [], ◌∷◌, ◌++◌, length, Bool, true, false, refl, sym, ap, subst, ◌∙◌, inl, inr, append_assoc, append-nil, Option, Some, None, Result, Ok, Err}
-use Rattle.std.specs.Prelude.{◌==◌, if◌then◌else◌}
-use Rattle.tab_term.specs.Data.{PlainTerm, int, tuple, one_more, none}
+use Rattle.std.proofs.Common.{◌≡◌, ◌≢◌, ℕ, ℤ, pos, suc, List, [], ◌∷◌, ◌++◌, length, refl, sym, ap, subst, ◌∙◌, inl, inr, append_assoc, Option, Some, Result, Ok, Err}
+use Rattle.tab_term.specs.Data.{PlainTerm}
 use Rattle.tab_etf.specs.Reading.{whole}
 use Rattle.tab_etf.specs.declared.fault.Stop.{Stop}
 use Rattle.tab_model.specs.declared.data.Entry.{Entry}
@@ -9,7 +8,7 @@ use Rattle.tab_model.specs.declared.data.Item.{Item}
 use Rattle.tab_model.specs.declared.data.Reply.{Reply}
 use Rattle.tab_model.specs.declared.data.Reply.TheVariants as reply
 use Rattle.tab_model.specs.State.{State, IsSound}
-use Rattle.tab_model.specs.Outcome.{Ask, Join, Outcome, outcome}
+use Rattle.tab_model.specs.Outcome.{Outcome, outcome}
 use Rattle.tab_model.specs.Refusals.{IsSole}
 use Rattle.tab_model.specs.Run.{item_of, entries, taken_now, JoinsEmpty, IsTied}
 use Rattle.tab_model.proofs.SoundSteps.{step_sound}
@@ -17,10 +16,10 @@ use Rattle.tab_model.proofs.TiedSteps.{step_tied}
 use Rattle.tab_model.proofs.SessionAlone.{stays_sole, no_wait, no_restart}
 use Rattle.tab_proto.specs.declared.request.Request.{Request}
 use Rattle.tab_proto.specs.declared.request.Request.TheVariants as request
-use Rattle.tab_proto.specs.Requests.{request_term, number_in, IsSession, IsNumbered}
+use Rattle.tab_proto.specs.Requests.{number_in, IsNumbered}
 use Rattle.tab_proto.proofs.RequestsApart.{requests_apart}
 use Rattle.tab_session.specs.declared.answered.Answer.{Answer}
-use Rattle.tab_session.specs.AnsweredPayloads.{ask_for, IsStepMade, StepMadeOrRefused, IsStep, IsNumberOf, IsNoCommand, AnsweredTerm, AnsweredRead, Refused, Answered, AnsweredAll, NoneRefused, NoneWaits, AreOf, taken_by, IsOf}
+use Rattle.tab_session.specs.AnsweredPayloads.{ask_for, IsStepMade, IsNumberOf, AnsweredTerm, AnsweredRead, Answered, AnsweredAll, NoneRefused, NoneWaits, AreOf, taken_by, IsOf}
 use Rattle.tab_session.specs.Replays.{IsRun}
 use Rattle.tab_core.proofs.RunsLemmas.{rests_tied, quiet_tied}
 use Rattle.std.proofs.lemmas.List.Elements.{All-nil, All-cons, All-head, All-tail}
