@@ -14,7 +14,7 @@ use Rattle.tab_term.specs.Data.{PlainTerm, PlainTerms}
 use Rattle.tab_term.specs.OrderLaws.{canon_same}
 use Rattle.tab_term.specs.Same.{same, same-Decides}
 use Rattle.tab_map.specs.Entries.{lookup, insert_entry, remove_entry, AllAbove, Ascends}
-use Rattle.tab_map.proofs.Order.{ascends_insert, ascends_remove}
+use Rattle.tab_map.proofs.AscendsLemmas.{ascends_insert, ascends_remove}
 use Rattle.tab_model.specs.Names.{less, plain_terms, terms_list}
 use Rattle.tab_model.specs.Tables.{Rows, key, has_key, at, put, delete, insert, apply, follows, is_ordered}
 use Rattle.tab_model.specs.Operations.{key_of_change}
