@@ -33,7 +33,6 @@ use tab_key::Abbreviate;
 
 /// A map from keys to values, in the order of the keys.
 #[cycle(tree)]
-#[derive(Drop)]
 pub struct Map<K: Abbreviate, V> {
     root: Tree<K, V>,
 }
@@ -78,6 +77,15 @@ impl<K: Abbreviate, V> Model for Map<K, V> {
     ghost use Rattle.tab_map.specs.TreeFalls.{falls};
 
     ghost size_decreases = { λ a h. falls K.Abbreviate K.Ord K.PartialEq K.PartialOrd a.root h.1 };
+}
+
+// A derived Drop would be taken apart, field by field, at each exit of each caller.
+impl<K: Abbreviate + Drop, V: Drop> Drop for Map<K, V> {
+    #[cycle(tree)]
+    fn drop(self) {
+        let Map { root } = self;
+        drop(root);
+    }
 }
 
 impl<K: Abbreviate + Drop, V: Drop> Map<K, V> {

@@ -14,7 +14,6 @@ use tab_model::Kind;
 use tab_term::{Term, Terms};
 
 /// The records of one table.
-#[derive(Drop)]
 pub struct Rows {
     kind: Kind,
     records: Map<Term, Terms>,
@@ -37,6 +36,18 @@ impl Model for Rows {
     ghost view = { λ a. (a.kind, joined a.records) };
 
     ghost invariant = { λ a. IsKept a.records a.size };
+}
+
+// A derived Drop would be taken apart, field by field, at each exit of each caller.
+impl Drop for Rows {
+    fn drop(self) {
+        let Rows {
+            kind: _,
+            records,
+            size: _,
+        } = self;
+        drop(records);
+    }
 }
 
 impl Rows {
