@@ -7,7 +7,7 @@ use Rattle.std.specs.Cmp.{IsTotalOrder}
 use Rattle.std.proofs.lemmas.Cmp.{nat_list_cmp_total}
 use Rattle.tab_term.specs.OrderLaws.{matches_bytes}
 use Rattle.tab_map.specs.Entries.{lookup, insert_entry, AllAbove, Ascends}
-use Rattle.tab_map.proofs.Order.{ascends_insert}
+use Rattle.tab_map.proofs.AscendsLemmas.{ascends_insert}
 use Rattle.tab_model.specs.Names.{before}
 use Rattle.tab_model.specs.Worlds.{Table, name_of, find, place}
 use Rattle.tab_core.specs.Named.{Entry, world_of, AllNamed, AreNamed}

@@ -7,13 +7,13 @@ use Rattle.std.specs.Cmp.{IsTotalOrder}
 use Rattle.std.specs.Option.{option_copied}
 use denote.Ref.{Bor}
 use Rattle.tab_map.specs.declared.Branch.{Branch}
-use Rattle.tab_map.specs.Entries.{lookup, entries_from, entries_above, Ascends}
+use Rattle.tab_map.specs.Entries.{lookup, entries_from, entries_above}
 use Rattle.tab_map.specs.InOrder.{spread, separators}
 use Rattle.tab_map.specs.Places.{HasAt, IsGap}
-use Rattle.tab_map.proofs.AtNode.{lookup_equal, from_less, from_equal, above_less, above_equal}
-use Rattle.tab_map.proofs.Order.{first_of_left, first_of_right, last_two}
-use Rattle.tab_map.proofs.Places.{get_next, head_is}
-use Rattle.tab_map.proofs.AtChild.{IsRoot, AtBranch, Found, first_node, past_lookup, past_from, past_above, found_branch, child_branch, last_child, none_left}
+use Rattle.tab_map.proofs.EntriesLemmas.{lookup_equal, from_less, from_equal, above_less, above_equal}
+use Rattle.tab_map.proofs.AscendsLemmas.{first_of_left, first_of_right}
+use Rattle.tab_map.proofs.PlacesLemmas.{get_next, head_is}
+use Rattle.tab_map.proofs.SpreadLemmas.{IsRoot, AtBranch, Found, past_lookup, past_from, past_above, found_branch, child_branch, last_child, none_left}
 
 -- xs begins with the items l, then e
 pub record Leads {A : Type 0} (xs l : List A) (e : A) : Type 0 where
@@ -30,13 +30,10 @@ module _ {A : Type 0} where
 module _ {K V : Type 0} (cmp : K → K → Ordering) where
   pub leads_first : (d : List (K × V)) (bs : List (Branch K V)) (m : List (K × V)) (b : Branch K V) → IsRoot cmp d bs m → b ≡ get_or bs 0 b → Leads d b.below b.entry
   leads_first d [] m b f p = absurd (omega (arith, f.some))
-  leads_first d (x ∷ bs) m b f p = record { after = spread bs ++ m; is = f.is ∙ (first_node cmp x bs m f.sorted).is ∙ ap (λ z. z.below ++ z.entry ∷ (spread bs ++ m)) (sym p) }
+  leads_first d (x ∷ bs) m b f p = record { after = spread bs m; is = f.is ∙ ap (λ z. z.below ++ z.entry ∷ spread bs m) (sym p) }
 
-  next_leads : (after : List (Branch K V)) (m : List (K × V)) (b : Branch K V) → Ascends cmp (spread after ++ m) → slice_get after 0 ≡ Some b → Leads (spread after ++ m) b.below b.entry
-  next_leads after m b s p =
-      let h = head_is after b p in
-      let t = subst (λ z. Ascends cmp (spread z ++ m)) h.1 s in
-      record { after = spread h.0 ++ m; is = ap (λ z. spread z ++ m) h.1 ∙ (first_node cmp b h.0 m t).is }
+  next_leads : (after : List (Branch K V)) (m : List (K × V)) (b : Branch K V) → slice_get after 0 ≡ Some b → Leads (spread after m) b.below b.entry
+  next_leads after m b p = let h = head_is after b p in record { after = spread h.0 m; is = ap (λ z. spread z m) h.1 }
 
 module _ {K V : Type 0} {cmp : K → K → Ordering} (o : IsTotalOrder cmp) (k : K) {d : List (K × V)} {bs : List (Branch K V)} {m : List (K × V)} (root : IsRoot cmp d bs m) where
   found_is : (n : ℕ) (b : Branch K V) (h : Found cmp k bs n m) → b ≡ get_or bs n b → b ≡ h.branch
@@ -46,16 +43,16 @@ module _ {K V : Type 0} {cmp : K → K → Ordering} (o : IsTotalOrder cmp) (k :
   found_lookup n b f p =
       let h = found_branch o k bs n m f root.sorted in
       ap (λ z. Some z.entry.1) (found_is n b h p)
-      ∙ sym (ap (lookup cmp k) (root.is ∙ h.place.whole) ∙ past_lookup o k h.place.before (spread (h.branch ∷ h.place.after) ++ m) h.place.passes h.place.sorted ∙ lookup_equal o k h.place.node h.equal)
+      ∙ sym (ap (lookup cmp k) (root.is ∙ h.place.whole) ∙ past_lookup o k h.place.before (spread (h.branch ∷ h.place.after) m) h.place.passes h.place.sorted ∙ lookup_equal o k h.place.node h.equal)
 
   pub found_from : (n : ℕ) (b : Branch K V) → HasAt cmp k (separators bs) n → b ≡ get_or bs n b → Some b.entry ≡ slice_get (entries_from cmp k d) 0
   found_from n b f p =
       let h = found_branch o k bs n m f root.sorted in
       ap (λ z. Some z.entry) (found_is n b h p)
-      ∙ sym (ap (λ z. slice_get z 0) (ap (entries_from cmp k) (root.is ∙ h.place.whole) ∙ past_from o k h.place.before (spread (h.branch ∷ h.place.after) ++ m) h.place.passes h.place.sorted ∙ from_equal o k h.place.node h.equal))
+      ∙ sym (ap (λ z. slice_get z 0) (ap (entries_from cmp k) (root.is ∙ h.place.whole) ∙ past_from o k h.place.before (spread (h.branch ∷ h.place.after) m) h.place.passes h.place.sorted ∙ from_equal o k h.place.node h.equal))
 
-  found_above : (n : ℕ) (b : Branch K V) (h : AtBranch cmp k bs n m b) → cmp k b.entry.0 ≡ Equal → entries_above cmp k d ≡ spread h.after ++ m
-  found_above n b h q = ap (entries_above cmp k) (root.is ∙ h.whole) ∙ past_above o k h.before (spread (b ∷ h.after) ++ m) h.passes h.sorted ∙ above_equal o k h.node q
+  found_above : (n : ℕ) (b : Branch K V) (h : AtBranch cmp k bs n m b) → cmp k b.entry.0 ≡ Equal → entries_above cmp k d ≡ spread h.after m
+  found_above n b h q = ap (entries_above cmp k) (root.is ∙ h.whole) ∙ past_above o k h.before (spread (b ∷ h.after) m) h.passes h.sorted ∙ above_equal o k h.node q
 
   after_get : (n : ℕ) (b : Branch K V) (h : AtBranch cmp k bs n m b) → slice_get bs (n + 1) ≡ slice_get h.after 0
   after_get n b h =
@@ -65,23 +62,22 @@ module _ {K V : Type 0} {cmp : K → K → Ordering} (o : IsTotalOrder cmp) (k :
   pub next_above_found : (n : ℕ) (b : Branch K V) → HasAt cmp k (separators bs) n → slice_get bs (n + 1) ≡ Some b → Leads (entries_above cmp k d) b.below b.entry
   next_above_found n b f p =
       let h = found_branch o k bs n m f root.sorted in
-      let s = last_two cmp h.branch.below h.branch.entry (spread h.place.after ++ m) h.place.node.sorted in
-      subst (λ z. Leads z b.below b.entry) (sym (found_above n h.branch h.place h.equal)) (next_leads cmp h.place.after m b s (sym (after_get n h.branch h.place) ∙ p))
+      subst (λ z. Leads z b.below b.entry) (sym (found_above n h.branch h.place h.equal)) (next_leads cmp h.place.after m b (sym (after_get n h.branch h.place) ∙ p))
 
   pub last_above_found : (n : ℕ) → HasAt cmp k (separators bs) n → slice_get bs (n + 1) ≡ None → entries_above cmp k d ≡ m
   last_above_found n f p =
       let h = found_branch o k bs n m f root.sorted in
-      found_above n h.branch h.place h.equal ∙ ap (λ z. spread z ++ m) (none_left h.place.after (sym (after_get n h.branch h.place) ∙ p))
+      found_above n h.branch h.place h.equal ∙ ap (λ z. spread z m) (none_left h.place.after (sym (after_get n h.branch h.place) ∙ p))
 
   pub child_from : (n : ℕ) (b : Branch K V) → IsGap cmp k (separators bs) n → slice_get bs n ≡ Some b → Leads (entries_from cmp k d) (entries_from cmp k b.below) b.entry
   child_from n b f p =
       let h = child_branch k bs n m b f p root.sorted in
-      record { after = spread h.0.after ++ m; is = ap (entries_from cmp k) (root.is ∙ h.0.whole) ∙ past_from o k h.0.before (spread (b ∷ h.0.after) ++ m) h.0.passes h.0.sorted ∙ from_less k h.0.node h.1 }
+      record { after = spread h.0.after m; is = ap (entries_from cmp k) (root.is ∙ h.0.whole) ∙ past_from o k h.0.before (spread (b ∷ h.0.after) m) h.0.passes h.0.sorted ∙ from_less k h.0.node h.1 }
 
   pub child_above : (n : ℕ) (b : Branch K V) → IsGap cmp k (separators bs) n → slice_get bs n ≡ Some b → Leads (entries_above cmp k d) (entries_above cmp k b.below) b.entry
   child_above n b f p =
       let h = child_branch k bs n m b f p root.sorted in
-      record { after = spread h.0.after ++ m; is = ap (entries_above cmp k) (root.is ∙ h.0.whole) ∙ past_above o k h.0.before (spread (b ∷ h.0.after) ++ m) h.0.passes h.0.sorted ∙ above_less k h.0.node h.1 }
+      record { after = spread h.0.after m; is = ap (entries_above cmp k) (root.is ∙ h.0.whole) ∙ past_above o k h.0.before (spread (b ∷ h.0.after) m) h.0.passes h.0.sorted ∙ above_less k h.0.node h.1 }
 
   pub last_from : (n : ℕ) → IsGap cmp k (separators bs) n → slice_get bs n ≡ None → entries_from cmp k d ≡ entries_from cmp k m
   last_from n f p = ap (entries_from cmp k) root.is ∙ past_from o k bs m (last_child k bs n f p) root.sorted

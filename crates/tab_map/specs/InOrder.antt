@@ -3,13 +3,18 @@ use Rattle.std.specs.Prelude.{◌≤◌, List, [], ◌∷◌, ◌++◌, Option, 
 use Rattle.std.specs.declared.cmp.Ordering.{Ordering}
 use Rattle.tab_map.specs.Entries.{entries_above}
 use Rattle.tab_map.specs.declared.Branch.{Branch}
+use Rattle.tab_map.specs.declared.Node.{Node as NodeOf}
 use Rattle.tab_map.specs.declared.Tree.{Tree}
 use Rattle.tab_map.specs.declared.Tree.TheVariants.{Empty, Leaf, Node}
 
--- the entries of branches and of what is below them, in order
-abbrev pub spread : {K V : Type 0} → List (Branch K V) → List (K × V)
-spread [] = []
-spread (b ∷ bs) = b.below ++ b.entry ∷ spread bs
+-- the entries of branches and of what is below them, then those of the last child, in order
+abbrev pub spread : {K V : Type 0} → List (Branch K V) → List (K × V) → List (K × V)
+spread [] last = last
+spread (b ∷ bs) last = b.below ++ b.entry ∷ spread bs last
+
+-- the entries of a node, in order
+abbrev pub node_entries : {K V : Type 0} → NodeOf K V → List (K × V)
+node_entries n = spread n.branches.items n.last
 
 -- the entries that stand between the children of a node
 abbrev pub separators : {K V : Type 0} → List (Branch K V) → List (K × V)
@@ -19,7 +24,7 @@ separators bs = map (λ b. b.entry) bs
 abbrev pub entries : {K V : Type 0} → Tree K V → List (K × V)
 entries Empty = []
 entries (Leaf c) = c.value.items
-entries (Node n) = spread n.value.branches.items ++ n.value.last
+entries (Node n) = node_entries n.value
 
 -- a node has a branch
 abbrev pub HasBranch : {K V : Type 0} → Tree K V → Type 0

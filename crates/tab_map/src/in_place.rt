@@ -1,12 +1,12 @@
-//! Changes in place: a node that no other map shares is written, and one that is shared is copied first.
-ghost use Rattle.std.specs.Prelude.{◌≤◌, length, ◌≡◌, ◌∷◌, ◌++◌, [], IfOk, OnOk, OnErr};
+//! Changes in place: a node that no other map shares is written, and one that is shared is copied first. Entries are
+//! put in here; `removal` takes them out.
+ghost use Rattle.std.specs.Prelude.{◌≤◌, length, ◌≡◌, OnOk, OnErr};
 ghost use Rattle.tab_map.specs.Entries.{Ascends, insert_entry, remove_entry};
-ghost use Rattle.tab_map.specs.InOrder.{spread};
+ghost use Rattle.tab_map.specs.InOrder.{node_entries};
 
 use crate::entry::{Entry, Sought};
-use crate::{Map, Node, Tree, branches, chunk};
+use crate::{Map, Node, Tree, branches, row};
 use std::alloc::{AllocError, Global};
-use std::mem;
 use std::sync::Arc;
 use tab_key::Abbreviate;
 
@@ -56,9 +56,9 @@ impl<K: Abbreviate + Drop, V: Drop> Map<K, V> {
 
     #[cycle(put)]
     fn put_under(alloc: Global, node: &mut Node<K, V>, entry: Entry<K, V>) -> Result<(), AllocError>
-        requires { Ascends K.cmp (spread node.old.branches.items ++ node.old.last) }
-        ensures ok { OnOk result (spread node.new.branches.items ++ node.new.last ≡ insert_entry K.cmp entry (spread node.old.branches.items ++ node.old.last)) }
-        ensures err { OnErr result (spread node.new.branches.items ++ node.new.last ≡ spread node.old.branches.items ++ node.old.last) }
+        requires { Ascends K.cmp (node_entries node.old) }
+        ensures ok { OnOk result (node_entries node.new ≡ insert_entry K.cmp entry (node_entries node.old)) }
+        ensures err { OnErr result (node_entries node.new ≡ node_entries node.old) }
         ensures kept { length node.old.branches.items ≤ length node.new.branches.items }
     {
         let found = branches::place(&node.branches, &entry.sought());
@@ -82,56 +82,6 @@ impl<K: Abbreviate + Drop, V: Drop> Map<K, V> {
         }
     }
 
-    #[cycle(take)]
-    fn take(&mut self, alloc: Global, sought: &Sought<K>) -> Result<(), AllocError>
-        ensures ok { OnOk result (self.new ≡ remove_entry K.cmp sought.now self.old) }
-        ensures err { OnErr result (self.new ≡ self.old) }
-    {
-        match &mut self.root {
-            Tree::Empty => (),
-            Tree::Leaf(items) => Map::take_in_row(alloc, items, sought)?,
-            Tree::Node(node) => {
-                Map::own(alloc, node)?;
-                let Some(node) = Arc::get_mut(node) else {
-                    return Err(AllocError);
-                };
-                Map::take_under(alloc, node, sought)?;
-                if node.branches.is_empty() {
-                    self.root = mem::replace(&mut node.last.root, Tree::Empty);
-                }
-            }
-        }
-        Ok(())
-    }
-
-    #[cycle(take)]
-    fn take_under(
-        alloc: Global,
-        node: &mut Node<K, V>,
-        sought: &Sought<K>,
-    ) -> Result<(), AllocError>
-        requires { Ascends K.cmp (spread node.old.branches.items ++ node.old.last) }
-        ensures ok { OnOk result (spread node.new.branches.items ++ node.new.last ≡ remove_entry K.cmp sought.now (spread node.old.branches.items ++ node.old.last)) }
-        ensures err { OnErr result (spread node.new.branches.items ++ node.new.last ≡ spread node.old.branches.items ++ node.old.last) }
-        ensures kept { OnErr result (length node.old.branches.items ≤ length node.new.branches.items) }
-    {
-        match branches::place(&node.branches, sought) {
-            Ok(n) => node.take_at(alloc, n),
-            Err(n) => match node.branches.get_mut(n) {
-                Some(branch) => {
-                    branch.below.take(alloc, sought)?;
-                    node.merge(alloc, n);
-                    Ok(())
-                }
-                None => {
-                    node.last.take(alloc, sought)?;
-                    node.merge(alloc, n);
-                    Ok(())
-                }
-            },
-        }
-    }
-
     fn put_in_row(
         alloc: Global,
         items: &mut Arc<Vec<Entry<K, V>>, Global>,
@@ -143,26 +93,9 @@ impl<K: Abbreviate + Drop, V: Drop> Map<K, V> {
     {
         Map::own_items(alloc, items)?;
         match Arc::get_mut(items) {
-            Some(items) => chunk::put(items, entry),
+            Some(items) => row::put(items, entry),
             None => Err(AllocError),
         }
-    }
-
-    fn take_in_row(
-        alloc: Global,
-        items: &mut Arc<Vec<Entry<K, V>>, Global>,
-        sought: &Sought<K>,
-    ) -> Result<(), AllocError>
-        requires { Ascends K.cmp items.old.value.items }
-        ensures ok { OnOk result (items.new.value.items ≡ remove_entry K.cmp sought.now items.old.value.items) }
-        ensures err { OnErr result (items.new.value.items ≡ items.old.value.items) }
-    {
-        Map::own_items(alloc, items)?;
-        let Some(items) = Arc::get_mut(items) else {
-            return Err(AllocError);
-        };
-        chunk::take(items, sought);
-        Ok(())
     }
 
     pub(crate) fn own_items(
@@ -174,7 +107,7 @@ impl<K: Abbreviate + Drop, V: Drop> Map<K, V> {
         if Arc::strong_count(items) == 1 {
             return Ok(());
         }
-        let copies = chunk::copied(alloc, items.as_slice())?;
+        let copies = row::copied(alloc, items.as_slice())?;
         *items = Arc::new(alloc, copies)?;
         Ok(())
     }

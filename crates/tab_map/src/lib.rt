@@ -14,15 +14,14 @@ ghost use Rattle.std.specs.Option.{option_copied};
 ghost use Rattle.tab_map.specs.Entries.{Ascends, lookup, insert_entry, remove_entry, entries_from, entries_above};
 
 mod branches;
-mod chunk;
 mod entry;
 mod in_place;
 mod iter;
 mod merge;
+mod removal;
+mod row;
 mod set;
 mod split;
-#[cfg(test)]
-mod tests;
 
 use entry::{Entry, Sought};
 pub use iter::Iter;
@@ -80,6 +79,7 @@ impl<K: Abbreviate, V> Model for Map<K, V> {
     ghost size_decreases = { λ a h. falls K.Abbreviate K.Ord K.PartialEq K.PartialOrd a.root h.1 };
 }
 
+// A derived Drop would be taken apart, field by field, at each exit of each caller.
 impl<K: Abbreviate + Drop, V: Drop> Drop for Map<K, V> {
     #[cycle(tree)]
     fn drop(self) {
@@ -116,13 +116,11 @@ impl<K: Abbreviate + Drop, V: Drop> Map<K, V> {
         ensures taken { IfOk result (λ m. entries.old.items ≡ entries.new.items ++ m) }
         ensures count { IfOk result (λ m. length m ≡ count) }
     {
-        if count <= chunk::FULL {
+        if count <= row::FULL {
             return Map::last_row(alloc, entries, count);
         }
         let right = Map::from_last(alloc, entries, count / 2)?;
-        let Some(entry) = entries.pop() else {
-            unreachable!()
-        };
+        let entry = entries.take_last();
         let below = Map::from_last(alloc, entries, (count - 1) / 2)?;
         let entry = Entry::new(alloc, entry)?;
         Map::node(alloc, Branch { below, entry }, right)
@@ -155,7 +153,7 @@ impl<K: Abbreviate + Drop, V: Drop> Map<K, V> {
         ensures count { IfOk result (λ m. length m ≡ count) }
     {
         let last = entries.split_off(entries.len() - count)?;
-        let items = chunk::of_pairs(alloc, last)?;
+        let items = row::of_pairs(alloc, last)?;
         Ok(Map {
             root: Tree::Leaf(Arc::new(alloc, items)?),
         })
@@ -201,7 +199,7 @@ impl<K: Abbreviate + Drop, V: Drop> Map<K, V> {
     {
         match &self.root {
             Tree::Empty => None,
-            Tree::Leaf(items) => chunk::get(items.as_slice(), sought),
+            Tree::Leaf(items) => row::get(items.as_slice(), sought),
             Tree::Node(node) => match branches::place(&node.branches, sought) {
                 Ok(n) => Some(&node.branches[n].entry.pair().1),
                 Err(n) => match node.branches.get(n) {
@@ -226,7 +224,7 @@ impl<K: Abbreviate + Drop, V: Drop> Map<K, V> {
     {
         match &self.root {
             Tree::Empty => None,
-            Tree::Leaf(items) => chunk::pair_at(items.as_slice(), 0),
+            Tree::Leaf(items) => row::pair_at(items.as_slice(), 0),
             Tree::Node(node) => match node.branches.as_slice() {
                 [] => None,
                 [branch, ..] => match branch.below.first() {
@@ -251,7 +249,7 @@ impl<K: Abbreviate + Drop, V: Drop> Map<K, V> {
     {
         match &self.root {
             Tree::Empty => None,
-            Tree::Leaf(items) => chunk::first_from(items.as_slice(), sought),
+            Tree::Leaf(items) => row::first_from(items.as_slice(), sought),
             Tree::Node(node) => match branches::place(&node.branches, sought) {
                 Ok(n) => Some(node.branches[n].entry.pair()),
                 Err(n) => match node.branches.get(n) {
@@ -279,7 +277,7 @@ impl<K: Abbreviate + Drop, V: Drop> Map<K, V> {
     {
         match &self.root {
             Tree::Empty => None,
-            Tree::Leaf(items) => chunk::first_above(items.as_slice(), sought),
+            Tree::Leaf(items) => row::first_above(items.as_slice(), sought),
             Tree::Node(node) => match branches::place(&node.branches, sought) {
                 Ok(n) => match node.branches.get(n + 1) {
                     Some(branch) => match branch.below.first() {

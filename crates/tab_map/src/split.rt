@@ -2,10 +2,10 @@
 //! is refused memory stays long.
 ghost use Rattle.std.specs.Prelude.{◌≡◌, ◌≤◌, ◌∷◌, ◌++◌, IfOk, OnErr, length};
 ghost use Rattle.tab_map.specs.Entries.{Ascends};
-ghost use Rattle.tab_map.specs.InOrder.{spread};
+ghost use Rattle.tab_map.specs.InOrder.{node_entries};
 
 use crate::entry::Entry;
-use crate::{Branch, Map, Node, Tree, branches, chunk};
+use crate::{Branch, Map, Node, Tree, branches, row};
 use std::alloc::{AllocError, Global};
 use std::mem;
 use std::sync::Arc;
@@ -15,7 +15,7 @@ impl<K: Abbreviate + Drop, V: Drop> Map<K, V> {
     fn is_long(&self) -> bool {
         match &self.root {
             Tree::Empty => false,
-            Tree::Leaf(items) => items.len() > chunk::FULL,
+            Tree::Leaf(items) => items.len() > row::FULL,
             Tree::Node(node) => node.branches.len() > branches::FULL,
         }
     }
@@ -37,13 +37,9 @@ impl<K: Abbreviate + Drop, V: Drop> Map<K, V> {
             return Err(AllocError);
         };
         let half = self.lower_half(alloc)?;
-        let Ok(()) = node.branches.push(half) else {
-            unreachable!()
-        };
+        node.branches.push_reserved(half);
         node.last = mem::replace(self, Map::new());
-        *self = Map {
-            root: Tree::Node(root),
-        };
+        self.root = Tree::Node(root);
         Ok(())
     }
 
@@ -91,9 +87,7 @@ impl<K: Abbreviate + Drop, V: Drop> Map<K, V> {
             return Err(AllocError);
         }
         let upper = items.split_off(items.len() / 2 + 1)?;
-        let Some(entry) = items.pop() else {
-            unreachable!()
-        };
+        let entry = items.take_last();
         *lower = mem::replace(items, upper);
         let below = Map {
             root: Tree::Leaf(row),
@@ -105,11 +99,11 @@ impl<K: Abbreviate + Drop, V: Drop> Map<K, V> {
         alloc: Global,
         node: &mut Arc<Node<K, V>, Global>,
     ) -> Result<Branch<K, V>, AllocError>
-        requires sorted { Ascends K.cmp (spread node.old.value.branches.items ++ node.old.value.last) }
+        requires sorted { Ascends K.cmp (node_entries node.old.value) }
         requires some { 1 ≤ length node.old.value.branches.items }
-        ensures ok { IfOk result (λ half. spread node.old.value.branches.items ++ node.old.value.last ≡ half.below ++ half.entry ∷ (spread node.new.value.branches.items ++ node.new.value.last)) }
-        ensures err { OnErr result (spread node.new.value.branches.items ++ node.new.value.last ≡ spread node.old.value.branches.items ++ node.old.value.last) }
-        ensures sorted { Ascends K.cmp (spread node.new.value.branches.items ++ node.new.value.last) }
+        ensures ok { IfOk result (λ half. node_entries node.old.value ≡ half.below ++ half.entry ∷ (node_entries node.new.value)) }
+        ensures err { OnErr result (node_entries node.new.value ≡ node_entries node.old.value) }
+        ensures sorted { Ascends K.cmp (node_entries node.new.value) }
         ensures some { 1 ≤ length node.new.value.branches.items }
     {
         let mut low = Map::bare(alloc, Vec::new(alloc))?;
@@ -123,9 +117,7 @@ impl<K: Abbreviate + Drop, V: Drop> Map<K, V> {
             return Err(AllocError);
         }
         let upper = node.branches.split_off(node.branches.len() / 2 + 1)?;
-        let Some(middle) = node.branches.pop() else {
-            unreachable!()
-        };
+        let middle = node.branches.take_last();
         lower.branches = mem::replace(&mut node.branches, upper);
         lower.last = middle.below;
         let below = Map {
@@ -142,7 +134,7 @@ impl<K: Abbreviate + Drop, V: Drop> Node<K, V> {
     /// The same entries, where the child at this place is split if it is too long.
     pub(crate) fn split(&mut self, alloc: Global, n: usize)
         requires { n ≤ length self.old.branches.items }
-        ensures same { spread self.new.branches.items ++ self.new.last ≡ spread self.old.branches.items ++ self.old.last }
+        ensures same { node_entries self.new ≡ node_entries self.old }
         ensures kept { length self.old.branches.items ≤ length self.new.branches.items }
     {
         let is_long = match self.branches.get(n) {
@@ -156,7 +148,7 @@ impl<K: Abbreviate + Drop, V: Drop> Node<K, V> {
 
     fn try_split(&mut self, alloc: Global, n: usize) -> Result<(), AllocError>
         requires { n ≤ length self.old.branches.items }
-        ensures same { spread self.new.branches.items ++ self.new.last ≡ spread self.old.branches.items ++ self.old.last }
+        ensures same { node_entries self.new ≡ node_entries self.old }
         ensures kept { length self.old.branches.items ≤ length self.new.branches.items }
     {
         self.branches.reserve(1)?;

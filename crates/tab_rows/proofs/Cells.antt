@@ -14,9 +14,9 @@ use Rattle.tab_term.specs.Data.{PlainTerm, PlainTerms}
 use Rattle.tab_term.specs.OrderLaws.{canon_same}
 use Rattle.tab_term.specs.Same.{same, same-Decides}
 use Rattle.tab_map.specs.Entries.{lookup, insert_entry, remove_entry, AllAbove, Ascends}
-use Rattle.tab_map.proofs.Order.{ascends_insert, ascends_remove}
+use Rattle.tab_map.proofs.AscendsLemmas.{ascends_insert, ascends_remove}
 use Rattle.tab_model.specs.Names.{less, plain_terms, terms_list}
-use Rattle.tab_model.specs.Tables.{Rows, key, has_key, at, put, delete, insert, apply, follows, is_ordered}
+use Rattle.tab_model.specs.Tables.{Rows, key, has_key, at, put, delete, delete_object, insert, apply, follows, is_ordered}
 use Rattle.tab_model.specs.Operations.{key_of_change}
 use Rattle.tab_model.specs.Shapes.{held}
 use Rattle.tab_model.specs.declared.data.Kind.{Kind}
@@ -52,7 +52,7 @@ less_is a b h = ap is_lt h
 equal_same : (a b : Term) → term_cmp a b ≡ Equal → same (term a) (term b) ≡ true
 equal_same a b h = (same-Decides (term a) (term b)).1 (canon_same (term a) (term b) h)
 
-unequal : (a b : Term) → (term_cmp a b ≡ Equal → ⊥) → same (term a) (term b) ≡ false
+pub unequal : (a b : Term) → (term_cmp a b ≡ Equal → ⊥) → same (term a) (term b) ≡ false
 unequal a b n = cases (same (term a) (term b)) refl
   where
     itself : (t : PlainTerm) → slice_cmp nat_cmp (canon t) (canon t) ≡ Equal
@@ -299,3 +299,41 @@ put_new es k r ts us rk o before absent is = record {
 -- a deletion
 pub deleted : (kind : Kind) (es : List Entry) (k : Term) → IsInOrder es → joined (remove_entry term_cmp k es) ≡ delete (joined es) (term k)
 deleted kind es k o = joined-remove kind es (change.Delete [] k) k refl o.ascends o.keyed (ap (λ xs. delete xs (term k)) (sym (at-joined es k o.ascends o.keyed)) ∙ none_left (joined es) (term k))
+
+-- ---- a record that is taken out
+
+-- the map in order, and its list
+pub record Leaves (fs : List Entry) (rows : Rows) : Type 0 where
+  pub order : IsInOrder fs
+  pub list : joined fs ≡ rows
+
+filter_keyed : (k : PlainTerm) (p : PlainTerm → Bool) (xs : Rows) → list_all (has_key k) xs ≡ true → list_all (has_key k) (filter p xs) ≡ true
+filter_keyed k p [] h = refl
+filter_keyed k p (x ∷ xs) h =
+    let q = and_parts (has_key k x) (list_all (has_key k) xs) h in
+    cases (filter_keyed k p xs q.1) q.0 (p x)
+  where
+    cases : list_all (has_key k) (filter p xs) ≡ true → has_key k x ≡ true → (b : Bool) → list_all (has_key k) (if b then x ∷ filter p xs else filter p xs) ≡ true
+    cases ih here true = and_from (has_key k x) (list_all (has_key k) (filter p xs)) here ih
+    cases ih here false = ih
+
+found_at : (es : List Entry) (k : Term) (ts : PlainTerms) → IsInOrder es → ts ≡ plain_terms (at (joined es) (term k)) → terms_list ts ≡ found_in (lookup term_cmp k es)
+found_at es k ts o is = ap terms_list is ∙ round (at (joined es) (term k)) ∙ at-joined es k o.ascends o.keyed
+  where
+    round : (xs : Rows) → terms_list (plain_terms xs) ≡ xs
+    round [] = refl
+    round (x ∷ xs) = ap (λ ys. x ∷ ys) (round xs)
+
+-- others of its key are left
+pub object_taken : (es : List Entry) (k r : Term) (ts us : PlainTerms) → term k ≡ key (term r) → IsInOrder es → ts ≡ plain_terms (at (joined es) (term k)) → terms_list us ≡ delete_object (terms_list ts) (term r) → (terms_list us ≡ [] → ⊥)
+    → Leaves (insert_entry term_cmp (k, us) es) (delete_object (joined es) (term r))
+object_taken es k r ts us rk o before is some =
+    let left = is ∙ ap (λ xs. delete_object xs (term r)) (found_at es k ts o before) in
+    let keyed : IsKeyed (k, us) = record { keyed = ap (list_all (has_key (term k))) left ∙ filter_keyed (term k) _ (found_in (lookup term_cmp k es)) (found_keyed es k o); filled = some } in
+    record { order = order_insert k us es o keyed; list = joined-insert Bag es (change.DeleteObject r) k us (sym rk) o.ascends o.keyed left keyed }
+
+-- it was the last of its key
+pub last_taken : (es : List Entry) (k r : Term) (ts us : PlainTerms) → term k ≡ key (term r) → IsInOrder es → ts ≡ plain_terms (at (joined es) (term k)) → terms_list us ≡ delete_object (terms_list ts) (term r) → terms_list us ≡ []
+    → Leaves (remove_entry term_cmp k es) (delete_object (joined es) (term r))
+last_taken es k r ts us rk o before is none =
+    record { order = order_remove k es o; list = joined-remove Bag es (change.DeleteObject r) k (sym rk) o.ascends o.keyed (ap (λ xs. delete_object xs (term r)) (sym (found_at es k ts o before)) ∙ sym is ∙ none) }

@@ -1,2 +1,5 @@
 pub mod LookUps
 pub mod Cells
+pub mod SizeLemmas
+pub mod KeysLemmas
+pub mod CopiesLemmas

@@ -1,5 +1,5 @@
 -- Records as a map keeps them: by key, each key's records in the order of insertion.
-use Rattle.std.specs.Prelude.{◌≡◌, ◌≢◌, List, [], ◌∷◌, ◌++◌, true}
+use Rattle.std.specs.Prelude.{◌≡◌, ◌≢◌, ℕ, List, [], ◌∷◌, ◌++◌, true, length}
 use Rattle.std.specs.List.{list_all}
 use Rattle.tab_term.specs.declared.term.Term.{Term}
 use Rattle.tab_term.specs.View.{term}
@@ -30,3 +30,8 @@ AllKeyed (e ∷ es) = IsKeyed e × AllKeyed es
 pub record IsInOrder (es : List Entry) : Type 0 where
   pub ascends : Ascends term_cmp es
   pub keyed : AllKeyed es
+
+-- what a table keeps: its records by key, and how many they are
+pub record IsKept (es : List Entry) (size : ℕ) : Type 0 where
+  pub order : IsInOrder es
+  pub counted : size ≡ length (joined es)

@@ -6,8 +6,6 @@
 #![tactic(auto)]
 
 mod rows;
-#[cfg(test)]
-mod tests;
 
 pub use rows::Rows;
 pub use tab_model::Kind;

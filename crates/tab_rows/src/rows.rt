@@ -1,14 +1,15 @@
-ghost use Rattle.std.specs.Prelude.{◌≡◌, [], ◌∷◌, ◌++◌, IfOk, OnOk, OnErr, true};
+ghost use Rattle.std.specs.Prelude.{◌≡◌, ◌≤◌, ◌+◌, [], ◌∷◌, ◌++◌, IfOk, OnOk, OnErr, length};
 ghost use Rattle.std.specs.List.{list_any};
 ghost use Rattle.tab_model.specs.declared.data.Kind.TheVariants as Kind;
 ghost use Rattle.tab_term.specs.Same.{same};
 ghost use Rattle.tab_term.specs.View.{term, terms};
 ghost use Rattle.tab_model.specs.Names.{plain_terms, terms_list};
-ghost use Rattle.tab_model.specs.Tables.{at, key as key_of_row, put as put_in, delete as delete_in};
+ghost use Rattle.tab_model.specs.Tables.{at, key as key_of_row, put as put_in, delete as delete_in, delete_object as delete_object_in, keys as keys_of_rows};
+ghost use Rattle.tab_rows.specs.Joined.{joined, IsInOrder};
 
 use std::alloc::{AllocError, Global};
 use std::marker::Model;
-use tab_map::Map;
+use tab_map::{Iter, Map};
 use tab_model::Kind;
 use tab_term::{Term, Terms};
 
@@ -16,6 +17,8 @@ use tab_term::{Term, Terms};
 pub struct Rows {
     kind: Kind,
     records: Map<Term, Terms>,
+    // Of all keys together.
+    size: usize,
 }
 
 impl Model for Rows {
@@ -24,7 +27,7 @@ impl Model for Rows {
     ghost use Rattle.tab_term.specs.Code.{term_code};
     ghost use Rattle.tab_term.specs.Data.{PlainTerm};
     ghost use Rattle.tab_model.specs.declared.data.Kind.{Kind};
-    ghost use Rattle.tab_rows.specs.Joined.{joined, IsInOrder};
+    ghost use Rattle.tab_rows.specs.Joined.{joined, IsKept};
 
     ghost Value = { Kind × List PlainTerm };
 
@@ -32,12 +35,17 @@ impl Model for Rows {
 
     ghost view = { λ a. (a.kind, joined a.records) };
 
-    ghost invariant = { λ a. IsInOrder a.records };
+    ghost invariant = { λ a. IsKept a.records a.size };
 }
 
+// A derived Drop would be taken apart, field by field, at each exit of each caller.
 impl Drop for Rows {
     fn drop(self) {
-        let Rows { kind: _, records } = self;
+        let Rows {
+            kind: _,
+            records,
+            size: _,
+        } = self;
         drop(records);
     }
 }
@@ -50,6 +58,7 @@ impl Rows {
         Rows {
             kind,
             records: Map::new(),
+            size: 0,
         }
     }
 
@@ -60,7 +69,34 @@ impl Rows {
         Ok(Rows {
             kind: self.kind,
             records: self.records.share()?,
+            size: self.size,
         })
+    }
+
+    /// How many records there are.
+    pub fn size(&self) -> usize
+        ensures { result ≡ length self.now.1 }
+    {
+        self.size
+    }
+
+    /// The keys in their order, each with its records in the order of their insertion.
+    pub fn walk<'a>(&'a self) -> Iter<'a, Term, Terms>
+        ensures records { joined result ≡ self.now.1 }
+        ensures order { IsInOrder result }
+    {
+        self.records.iter()
+    }
+
+    /// Copies of the keys, each once, in their order.
+    pub fn keys(&self, alloc: Global) -> Result<Terms, AllocError>
+        ensures { IfOk result (λ keys. keys ≡ plain_terms (keys_of_rows self.now.1)) }
+    {
+        let mut keys = Vec::new(alloc);
+        for (key, _) in self.walk() {
+            keys.push(key.try_clone(alloc)?)?;
+        }
+        Ok(Terms::from_vec(keys))
     }
 
     /// The records of the key, in the order of their insertion, without memory.
@@ -71,6 +107,13 @@ impl Rows {
             Some(records) => records.as_slice(),
             None => &[],
         }
+    }
+
+    fn count_at(&self, key: &Term) -> usize
+        ensures count { result ≡ length (at self.now.1 (term key.now)) }
+        ensures within { result ≤ length self.now.1 }
+    {
+        self.at(key).len()
     }
 
     /// Copies of the records of the key, in the order of their insertion.
@@ -99,9 +142,11 @@ impl Rows {
         ensures ok { OnOk result (self.new ≡ (self.old.0, put_in self.old.0 self.old.1 (term row))) }
         ensures err { OnErr result (self.new ≡ self.old) }
     {
+        let size = one_more(self.size - self.count_at(&key))?;
         let mut only = Vec::with_capacity(alloc, 1)?;
-        only.push(row)?;
+        only.push_reserved(row);
         self.records.insert(alloc, key, Terms::from_vec(only))?;
+        self.size = size;
         Ok(())
     }
 
@@ -114,8 +159,10 @@ impl Rows {
         if contains(self.at(&key), &row) {
             return Ok(());
         }
+        let size = one_more(self.size)?;
         let records = copies_and(alloc, self.at(&key), row)?;
         self.records.insert(alloc, key, records)?;
+        self.size = size;
         Ok(())
     }
 
@@ -124,9 +171,36 @@ impl Rows {
         ensures ok { OnOk result (self.new ≡ (self.old.0, delete_in self.old.1 (term key.now))) }
         ensures err { OnErr result (self.new ≡ self.old) }
     {
+        let size = self.size - self.count_at(key);
         self.records.remove(alloc, key)?;
+        self.size = size;
         Ok(())
     }
+
+    /// Takes out the equal record, if it is there. A key that has no other record goes with it.
+    pub fn delete_object(&mut self, alloc: Global, row: &Term) -> Result<(), AllocError>
+        ensures ok { OnOk result (self.new ≡ (self.old.0, delete_object_in self.old.1 (term row.now))) }
+        ensures err { OnErr result (self.new ≡ self.old) }
+    {
+        let key = copy_of_key(alloc, row)?;
+        let left = copies_but(alloc, self.at(&key), row)?;
+        let size = self.size - self.count_at(&key) + left.as_slice().len();
+        if left.as_slice().is_empty() {
+            self.records.remove(alloc, &key)?;
+            self.size = size;
+            return Ok(());
+        }
+        self.records.insert(alloc, key, left)?;
+        self.size = size;
+        Ok(())
+    }
+}
+
+// No memory holds as many records as a size can't count.
+fn one_more(size: usize) -> Result<usize, AllocError>
+    ensures { IfOk result (λ more. more ≡ size + 1) }
+{
+    size.checked_add(1).ok_or(AllocError)
 }
 
 fn contains(records: &[Term], row: &Term) -> bool
@@ -146,6 +220,18 @@ fn copies_and(alloc: Global, records: &[Term], row: Term) -> Result<Terms, Alloc
     let mut all = copies(alloc, records)?.into_vec();
     all.push(row)?;
     Ok(Terms::from_vec(all))
+}
+
+fn copies_but(alloc: Global, records: &[Term], row: &Term) -> Result<Terms, AllocError>
+    ensures { IfOk result (λ left. terms_list left ≡ delete_object_in (terms_list (terms records.now)) (term row.now)) }
+{
+    let mut left = Vec::with_capacity(alloc, records.len())?;
+    for other in records {
+        if row != other {
+            left.push(other.try_clone(alloc)?)?;
+        }
+    }
+    Ok(Terms::from_vec(left))
 }
 
 /// The second element of a record, which is its key.

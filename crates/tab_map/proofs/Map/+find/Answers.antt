@@ -2,7 +2,7 @@ use Rattle.std.proofs.Common.{◌∙◌, sym, ap, refl, Some}
 use Rattle.std.proofs.lemmas.Bool.{ltb-false}
 use Rattle.std.proofs.lemmas.Option.{slice_get_read, slice_get_past}
 use Rattle.tab_map.specs.Entries.{lookup}
-use Rattle.tab_map.proofs.AtChild.{is_root, separators_ascend, child_lookup, last_lookup}
+use Rattle.tab_map.proofs.SpreadLemmas.{is_root, separators_ascend, child_lookup, last_lookup}
 use Rattle.tab_map.proofs.NodeReads.{found_lookup}
 use Rattle.tab_map.proofs.Map.+find.Goals as goal
 

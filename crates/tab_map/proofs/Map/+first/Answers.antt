@@ -1,5 +1,5 @@
 use Rattle.std.proofs.Common.{ap, ◌∙◌, Some}
-use Rattle.tab_map.proofs.AtChild.{is_root}
+use Rattle.tab_map.proofs.SpreadLemmas.{is_root}
 use Rattle.tab_map.proofs.NodeReads.{leads_first, next_item, first_item}
 use Rattle.tab_map.proofs.Map.+first.Goals as goal
 

@@ -1,7 +1,7 @@
 use Rattle.std.proofs.Common.{◌∙◌, sym, ap, refl, slice_get, Some}
 use Rattle.std.proofs.lemmas.Bool.{ltb-false}
 use Rattle.std.proofs.lemmas.Option.{slice_get_read, slice_get_past}
-use Rattle.tab_map.proofs.AtChild.{is_root, separators_ascend}
+use Rattle.tab_map.proofs.SpreadLemmas.{is_root, separators_ascend}
 use Rattle.tab_map.proofs.NodeReads.{next_above_found, last_above_found, child_above, last_above, next_item, first_item}
 use Rattle.tab_map.proofs.Map.+next_above.Goals as goal
 

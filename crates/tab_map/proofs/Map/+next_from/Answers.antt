@@ -1,7 +1,7 @@
 use Rattle.std.proofs.Common.{◌∙◌, sym, ap, refl, slice_get, Some}
 use Rattle.std.proofs.lemmas.Bool.{ltb-false}
 use Rattle.std.proofs.lemmas.Option.{slice_get_read, slice_get_past}
-use Rattle.tab_map.proofs.AtChild.{is_root, separators_ascend}
+use Rattle.tab_map.proofs.SpreadLemmas.{is_root, separators_ascend}
 use Rattle.tab_map.proofs.NodeReads.{found_from, child_from, last_from, next_item, first_item}
 use Rattle.tab_map.proofs.Map.+next_from.Goals as goal
 

@@ -1,9 +1,9 @@
 use Rattle.std.proofs.Common.{◌++◌, ◌<◌, refl, sym, ap, ◌∙◌, subst, arith, slice_set}
 use Rattle.std.proofs.lemmas.Option.{slice_get_read, slice_get_past}
 use Rattle.tab_map.specs.Entries.{Ascends}
-use Rattle.tab_map.specs.InOrder.{spread, entries}
-use Rattle.tab_map.proofs.Order.{ascends_insert}
-use Rattle.tab_map.proofs.AtChild.{is_root, separators_ascend, same_root, child_insert, last_insert, found_insert}
+use Rattle.tab_map.specs.InOrder.{spread, node_entries, entries}
+use Rattle.tab_map.proofs.AscendsLemmas.{ascends_insert}
+use Rattle.tab_map.proofs.SpreadLemmas.{is_root, separators_ascend, same_root, child_insert, last_insert, found_insert}
 use Rattle.tab_map.proofs.Map.+put.Goals as goal
 
 pub put-invariant_of-self-in_ok-put_in_row-in-Leaf : goal.put-invariant_of-self-in_ok-put_in_row-in-Leaf
@@ -28,7 +28,7 @@ put_under-returns-in_ok-put-in-Some-clause-ok g t c =
     let child = (rw (c.sought.ensures, c.deref.ensures.value) at c.in-Err.ensures.child) (separators_ascend g.K.Ord.cmp _ _ c.requires) in
     let place = slice_get_read _ _ _ _ c.args.node.now.branches.ok.0 (c.in-Some.ensures.variant.0 refl) c.in-Some.ensures.value in
     c.split.ensures.same
-    ∙ ap (λ z. spread (slice_set c.args.node.now.branches.items c.in-Err.n record { below = z; entry = c.in-Some.branch.now.entry }) ++ c.args.node.now.last) c.in_ok-put-in-Some.ensures.ok
+    ∙ ap (λ z. spread (slice_set c.args.node.now.branches.items c.in-Err.n record { below = z; entry = c.in-Some.branch.now.entry }) c.args.node.now.last) c.in_ok-put-in-Some.ensures.ok
     ∙ child_insert g.met.K.Ord.total c.args.entry _ c.in-Err.n c.args.node.now.last c.in-Some.branch.now child place c.requires
 
 pub put_under-returns-in_ok-put-in-None-clause-ok : goal.put_under-returns-in_ok-put-in-None-clause-ok
@@ -37,5 +37,5 @@ put_under-returns-in_ok-put-in-None-clause-ok g t c =
     let none : c.in-Err.n < c.args.node.now.branches.len → ⊥ = λ h. cc (c.in-None.ensures.variant.1 h) in
     let place = slice_get_past c.args.node.now.branches.items c.in-Err.n (omega (arith, none, c.args.node.now.branches.ok)) in
     c.split-in-None.ensures.same
-    ∙ ap (λ z. spread c.args.node.now.branches.items ++ z) c.in_ok-put-in-None.ensures.ok
+    ∙ ap (λ z. spread c.args.node.now.branches.items z) c.in_ok-put-in-None.ensures.ok
     ∙ last_insert g.met.K.Ord.total c.args.entry _ c.in-Err.n c.args.node.now.last child place c.requires

@@ -2,9 +2,9 @@ use Rattle.std.proofs.Common.{◌≡◌, ◌<◌, ◌++◌, refl, sym, ap, ◌�
 use Rattle.std.proofs.lemmas.Result.{on_ok_weaker}
 use Rattle.std.proofs.lemmas.Option.{slice_get_read, slice_get_past}
 use Rattle.tab_map.specs.Entries.{Ascends}
-use Rattle.tab_map.specs.InOrder.{spread, entries}
-use Rattle.tab_map.proofs.Order.{ascends_remove}
-use Rattle.tab_map.proofs.AtChild.{is_root, separators_ascend, same_root, child_remove, last_remove}
+use Rattle.tab_map.specs.InOrder.{spread, node_entries, entries}
+use Rattle.tab_map.proofs.AscendsLemmas.{ascends_remove}
+use Rattle.tab_map.proofs.SpreadLemmas.{is_root, separators_ascend, same_root, child_remove, last_remove}
 use Rattle.tab_map.proofs.Map.+take.Goals as goal
 
 pub take-invariant_of-self-in-Continue-1 : goal.take-invariant_of-self-in-Continue-1
@@ -26,7 +26,7 @@ pub take_under-merge-requires : goal.take_under-merge-requires
 take_under-merge-requires g t c =
     let child = (rw c.deref.ensures.value at c.in-Err.ensures.child) (separators_ascend g.K.Ord.cmp _ _ c.requires) in
     let place = slice_get_read _ _ _ _ c.args.node.now.branches.ok.0 (c.in-Some.ensures.variant.0 refl) c.in-Some.ensures.value in
-    let p = ap (λ z. spread (slice_set c.args.node.now.branches.items c.in-Err.n record { below = z; entry = c.in-Some.branch.now.entry }) ++ c.args.node.now.last) c.in_ok-take-in-Some.ensures.ok
+    let p = ap (λ z. spread (slice_set c.args.node.now.branches.items c.in-Err.n record { below = z; entry = c.in-Some.branch.now.entry }) c.args.node.now.last) c.in_ok-take-in-Some.ensures.ok
     ∙ child_remove g.met.K.Ord.total c.args.sought.now c.args.node.now.branches.items c.in-Err.n c.args.node.now.last c.in-Some.branch.now child place c.requires in
     subst (Ascends g.K.Ord.cmp) (sym p) (ascends_remove g.K.Ord.cmp c.args.sought.now _ c.requires)
 
@@ -35,7 +35,7 @@ take_under-merge-requires-in-None g t c =
     let child = (rw c.deref.ensures.value at c.in-Err.ensures.child) (separators_ascend g.K.Ord.cmp _ _ c.requires) in
     let none : c.in-Err.n < c.args.node.now.branches.len → ⊥ = λ h. cc (c.in-None.ensures.variant.1 h) in
     let place = slice_get_past c.args.node.now.branches.items c.in-Err.n (omega (arith, none, c.args.node.now.branches.ok)) in
-    let p = ap (λ z. spread c.args.node.now.branches.items ++ z) c.in_ok-take-in-None.ensures.ok
+    let p = ap (λ z. spread c.args.node.now.branches.items z) c.in_ok-take-in-None.ensures.ok
     ∙ last_remove g.met.K.Ord.total c.args.sought.now c.args.node.now.branches.items c.in-Err.n c.args.node.now.last child place c.requires in
     subst (Ascends g.K.Ord.cmp) (sym p) (ascends_remove g.K.Ord.cmp c.args.sought.now _ c.requires)
 
@@ -49,7 +49,7 @@ take_under-returns-in_ok-take-in-Some-clause-ok g t c =
     let child = (rw c.deref.ensures.value at c.in-Err.ensures.child) (separators_ascend g.K.Ord.cmp _ _ c.requires) in
     let place = slice_get_read _ _ _ _ c.args.node.now.branches.ok.0 (c.in-Some.ensures.variant.0 refl) c.in-Some.ensures.value in
     c.merge.ensures.same
-    ∙ ap (λ z. spread (slice_set c.args.node.now.branches.items c.in-Err.n record { below = z; entry = c.in-Some.branch.now.entry }) ++ c.args.node.now.last) c.in_ok-take-in-Some.ensures.ok
+    ∙ ap (λ z. spread (slice_set c.args.node.now.branches.items c.in-Err.n record { below = z; entry = c.in-Some.branch.now.entry }) c.args.node.now.last) c.in_ok-take-in-Some.ensures.ok
     ∙ child_remove g.met.K.Ord.total c.args.sought.now c.args.node.now.branches.items c.in-Err.n c.args.node.now.last c.in-Some.branch.now child place c.requires
 
 pub take_under-returns-in_ok-take-in-None-clause-ok : goal.take_under-returns-in_ok-take-in-None-clause-ok
@@ -58,5 +58,5 @@ take_under-returns-in_ok-take-in-None-clause-ok g t c =
     let none : c.in-Err.n < c.args.node.now.branches.len → ⊥ = λ h. cc (c.in-None.ensures.variant.1 h) in
     let place = slice_get_past c.args.node.now.branches.items c.in-Err.n (omega (arith, none, c.args.node.now.branches.ok)) in
     c.merge-in-None.ensures.same
-    ∙ ap (λ z. spread c.args.node.now.branches.items ++ z) c.in_ok-take-in-None.ensures.ok
+    ∙ ap (λ z. spread c.args.node.now.branches.items z) c.in_ok-take-in-None.ensures.ok
     ∙ last_remove g.met.K.Ord.total c.args.sought.now c.args.node.now.branches.items c.in-Err.n c.args.node.now.last child place c.requires

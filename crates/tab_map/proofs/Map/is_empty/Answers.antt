@@ -1,4 +1,4 @@
-use Rattle.tab_map.proofs.AtChild.{is_root, not_bare}
+use Rattle.tab_map.proofs.SpreadLemmas.{is_root, not_bare}
 use Rattle.tab_map.proofs.Map.is_empty.Goals as goal
 
 pub returns-in-Node-clause-empty : goal.returns-in-Node-clause-empty

@@ -1,4 +1,4 @@
-use Rattle.tab_map.proofs.Left.{left_all}
+use Rattle.tab_map.proofs.EntriesLeftLemmas.{left_all}
 use Rattle.tab_map.proofs.Map.iter.Goals as goal
 
 pub returns-clause-entries : goal.returns-clause-entries

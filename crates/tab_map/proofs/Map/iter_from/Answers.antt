@@ -1,4 +1,4 @@
-use Rattle.tab_map.proofs.Left.{left_from}
+use Rattle.tab_map.proofs.EntriesLeftLemmas.{left_from}
 use Rattle.tab_map.proofs.Map.iter_from.Goals as goal
 
 pub returns-clause-entries : goal.returns-clause-entries

@@ -1,8 +1,8 @@
 use Rattle.std.proofs.Common.{◌++◌, length, ◌≤◌, sym, ap, ◌∙◌, subst}
 use Rattle.tab_map.specs.Entries.{Ascends}
-use Rattle.tab_map.specs.InOrder.{spread}
-use Rattle.tab_map.proofs.AtChild.{is_root}
-use Rattle.tab_map.proofs.Merged.{joined_is, joined_some}
+use Rattle.tab_map.specs.InOrder.{spread, node_entries}
+use Rattle.tab_map.proofs.SpreadLemmas.{is_root}
+use Rattle.tab_map.proofs.MergeLemmas.{joined_is, joined_some}
 use Rattle.tab_map.proofs.Map.joined.Goals as goal
 
 pub returns-in_ok-new-in-Node-Node : goal.returns-in_ok-new-in-Node-Node
@@ -13,7 +13,7 @@ returns-in_ok-new-in-Node-Node g c =
     let more = rw (c.deref-in-Node-Node-5.ensures.value, c.deref-in-Node-Node-4.ensures) at c.in_ok-more-in-Node-Node.ensures in
     let below = rw c.deref-in-Node-Node-3.ensures at c.in_ok-share-in-Node-Node.ensures in
     let last = rw c.deref-in-Node-Node-6.ensures at c.in_ok-last-in-Node-Node.ensures in
-    ap (λ v. spread v.branches.items ++ v.last) c.in_ok-new-in-Node-Node.ensures.ok
+    ap (λ v. node_entries v) c.in_ok-new-in-Node-Node.ensures.ok
     ∙ joined_is _ _ _ _ _ _ _ _ _ _ _ _ _ c.in_ok-append-in-Node-Node.ensures.items c.in_ok-push-in-Node-Node.ensures.items copied more below c.in_ok-try_clone-in-Node-Node.ensures last left.is right.is
 
 pub invariant_of-result-in-Node-Node : goal.invariant_of-result-in-Node-Node
@@ -24,6 +24,6 @@ invariant_of-result-in-Node-Node g c =
     let more = rw (c.deref-in-Node-Node-5.ensures.value, c.deref-in-Node-Node-4.ensures) at c.in_ok-more-in-Node-Node.ensures in
     let below = rw c.deref-in-Node-Node-3.ensures at c.in_ok-share-in-Node-Node.ensures in
     let last = rw c.deref-in-Node-Node-6.ensures at c.in_ok-last-in-Node-Node.ensures in
-    let whole = ap (λ v. spread v.branches.items ++ v.last) c.in_ok-new-in-Node-Node.ensures.ok
+    let whole = ap (λ v. node_entries v) c.in_ok-new-in-Node-Node.ensures.ok
     ∙ joined_is _ _ _ _ _ _ _ _ _ _ _ _ _ c.in_ok-append-in-Node-Node.ensures.items c.in_ok-push-in-Node-Node.ensures.items copied more below c.in_ok-try_clone-in-Node-Node.ensures last left.is right.is in
     (subst (Ascends g.K.Ord.cmp) (sym whole) c.requires, subst (λ v. 1 ≤ length v.branches.items) (sym c.in_ok-new-in-Node-Node.ensures.ok) (joined_some _ _ _ _ _ c.in_ok-append-in-Node-Node.ensures.items c.in_ok-push-in-Node-Node.ensures.items))

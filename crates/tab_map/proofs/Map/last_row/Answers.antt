@@ -1,5 +1,5 @@
 use Rattle.std.proofs.Common.{ap, ◌∙◌}
-use Rattle.tab_map.proofs.Taken.{dropped_sorted}
+use Rattle.tab_map.proofs.FromLastLemmas.{dropped_sorted}
 use Rattle.tab_map.proofs.Map.last_row.Goals as goal
 
 pub invariant_of-result : goal.invariant_of-result

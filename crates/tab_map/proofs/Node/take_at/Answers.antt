@@ -1,8 +1,8 @@
 use Rattle.std.proofs.Common.{◌++◌, sym, ap, ◌∙◌, subst}
 use Rattle.tab_map.specs.Entries.{Ascends}
-use Rattle.tab_map.specs.InOrder.{spread}
-use Rattle.tab_map.proofs.AtChild.{found_remove}
-use Rattle.tab_map.proofs.Merged.{taken_in_turn, taken_whole, remove_set, ascends_without}
+use Rattle.tab_map.specs.InOrder.{spread, node_entries}
+use Rattle.tab_map.proofs.SpreadLemmas.{found_remove}
+use Rattle.tab_map.proofs.RemovalLemmas.{taken_in_turn, taken_whole, remove_set, ascends_without}
 use Rattle.tab_map.proofs.Node.take_at.Goals as goal
 
 pub merge-requires : goal.merge-requires
@@ -19,6 +19,6 @@ returns-in-Some-clause-ok g c =
 pub returns-in-None-clause-ok : goal.returns-in-None-clause-ok
 returns-in-None-clause-ok g c =
     let taken = rw c.in-None.is at c.in_ok-entry.ensures.ok in
-    λ k found. ap (λ z. spread z ++ c.args.self.now.last) (c.remove.ensures.items ∙ remove_set c.args.self.now.branches.items c.args.n _)
+    λ k found. ap (λ z. spread z c.args.self.now.last) (c.remove.ensures.items ∙ remove_set c.args.self.now.branches.items c.args.n _)
     ∙ taken_whole c.args.n c.args.self.now.branches.items c.args.self.now.last c.index_mut.result.now c.requires.in_node c.index_mut.ensures.value taken.0
     ∙ found_remove g.met.K.Ord.total k c.args.self.now.branches.items c.args.n c.args.self.now.last found c.requires.sorted

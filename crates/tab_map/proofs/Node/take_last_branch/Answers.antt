@@ -1,7 +1,5 @@
-use Rattle.std.proofs.Common.{ap, ◌∙◌}
-use Rattle.tab_map.specs.InOrder.{spread}
-use Rattle.tab_map.proofs.Halves.{spread_join}
+use Rattle.tab_map.proofs.RemovalLemmas.{last_branch_taken}
 use Rattle.tab_map.proofs.Node.take_last_branch.Goals as goal
 
 pub returns : goal.returns
-returns g c = ap spread c.in_ok-branch.ensures.items ∙ spread_join _ _
+returns g c = last_branch_taken _ _ _ _ c.in_ok-branch.ensures.items c.requires

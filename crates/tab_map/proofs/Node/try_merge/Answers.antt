@@ -1,7 +1,7 @@
 use Rattle.std.proofs.Common.{add-one, slice_get, refl, sym, ap, ◌∙◌}
 use Rattle.std.proofs.lemmas.Bool.{ltb-false}
 use Rattle.std.proofs.lemmas.Option.{slice_get_read, slice_get_past}
-use Rattle.tab_map.proofs.Merged.{merge_child, merge_last, two_children, last_children}
+use Rattle.tab_map.proofs.MergeLemmas.{merge_child, merge_last, two_children, last_children}
 use Rattle.tab_map.proofs.Node.try_merge.Goals as goal
 
 pub joined-requires : goal.joined-requires

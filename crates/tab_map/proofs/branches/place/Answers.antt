@@ -1,7 +1,7 @@
 use Rattle.std.proofs.Common.{rules}
 use Rattle.std.proofs.lemmas.Fn.{always_returns_same}
 use Rattle.std.specs.Ordering.{ordering_reverse}
-use Rattle.tab_map.proofs.Searched.{answer_found, answer_gap}
+use Rattle.tab_map.proofs.BinarySearchLemmas.{answer_found, answer_gap}
 use Rattle.tab_map.proofs.branches.place.Goals as goal
 
 pub returns-clause-found : goal.returns-clause-found

@@ -1,4 +1,4 @@
-use Rattle.tab_map.proofs.Left.{left_step, fewer}
+use Rattle.tab_map.proofs.EntriesLeftLemmas.{left_step, fewer}
 use Rattle.tab_map.proofs.iter.IterIterator.next.Goals as goal
 
 pub returns-clause-steps : goal.returns-clause-steps

@@ -1,6 +1,6 @@
 use Rattle.std.proofs.Common.{ap, ◌∙◌, subst}
 use Rattle.tab_map.specs.KeyList.{contains_key, KeysAscend}
-use Rattle.tab_map.proofs.OfKeys.{keys_lookup, keys_ascend}
+use Rattle.tab_map.proofs.KeyListLemmas.{keys_lookup, keys_ascend}
 use Rattle.tab_map.proofs.set.Set.contains.Goals as goal
 
 pub returns-clause-found : goal.returns-clause-found

@@ -1,7 +1,7 @@
 use Rattle.std.proofs.Common.{sym, ap, ◌∙◌}
 use Rattle.tab_map.specs.KeyList.{keys, insert_key}
-use Rattle.tab_map.proofs.OfKeys.{keys_insert}
-use Rattle.tab_map.proofs.AtNode.{on_ok_ap}
+use Rattle.tab_map.proofs.KeyListLemmas.{keys_insert}
+use Rattle.tab_map.proofs.EntriesLemmas.{on_ok_ap}
 use Rattle.tab_map.proofs.set.Set.insert.Goals as goal
 
 pub returns-clause-ok : goal.returns-clause-ok

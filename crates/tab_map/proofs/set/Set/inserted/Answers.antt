@@ -1,6 +1,6 @@
 use Rattle.std.proofs.Common.{ap, ◌∙◌}
 use Rattle.tab_map.specs.KeyList.{keys, insert_key}
-use Rattle.tab_map.proofs.OfKeys.{keys_insert}
+use Rattle.tab_map.proofs.KeyListLemmas.{keys_insert}
 use Rattle.tab_map.proofs.set.Set.inserted.Goals as goal
 
 pub returns : goal.returns

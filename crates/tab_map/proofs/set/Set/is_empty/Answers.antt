@@ -1,6 +1,6 @@
 use Rattle.std.proofs.Common.{sym, ap, ◌∙◌, subst}
 use Rattle.tab_map.specs.KeyList.{keys, KeysAscend}
-use Rattle.tab_map.proofs.OfKeys.{no_keys, keys_ascend}
+use Rattle.tab_map.proofs.KeyListLemmas.{no_keys, keys_ascend}
 use Rattle.tab_map.proofs.set.Set.is_empty.Goals as goal
 
 pub returns-clause-empty : goal.returns-clause-empty

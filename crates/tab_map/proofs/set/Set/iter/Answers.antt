@@ -1,6 +1,6 @@
 use Rattle.std.proofs.Common.{subst}
 use Rattle.tab_map.specs.KeyList.{KeysAscend}
-use Rattle.tab_map.proofs.OfKeys.{keys_ascend}
+use Rattle.tab_map.proofs.KeyListLemmas.{keys_ascend}
 use Rattle.tab_map.proofs.set.Set.iter.Goals as goal
 
 pub returns-clause-ascends : goal.returns-clause-ascends

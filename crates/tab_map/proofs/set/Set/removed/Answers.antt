@@ -1,6 +1,6 @@
 use Rattle.std.proofs.Common.{ap, ◌∙◌}
 use Rattle.tab_map.specs.KeyList.{keys, remove_key}
-use Rattle.tab_map.proofs.OfKeys.{keys_remove}
+use Rattle.tab_map.proofs.KeyListLemmas.{keys_remove}
 use Rattle.tab_map.proofs.set.Set.removed.Goals as goal
 
 pub returns : goal.returns

@@ -9,10 +9,10 @@ use Rattle.tab_rows.proofs.rows.Rows.at.Goals as goal
 pub returns-in-Some : goal.returns-in-Some
 returns-in-Some c =
     c.as_slice.ensures.items
-    ∙ at_found c.self.inside.records c.args.key.now c.in-Some.records.now c.self.invariant (ap option_copied (sym c.in-Some.is) ∙ c.get.ensures.value)
+    ∙ at_found c.self.inside.records c.args.key.now c.in-Some.records.now c.self.invariant.order (ap option_copied (sym c.in-Some.is) ∙ c.get.ensures.value)
     ∙ ap (λ v. plain_terms (at v.1 (term c.args.key.now))) c.self.view_is
 
 pub returns-in-None : goal.returns-in-None
 returns-in-None c =
-    at_missing c.self.inside.records c.args.key.now c.self.invariant (ap option_copied (sym c.in-None.is) ∙ c.get.ensures.value)
+    at_missing c.self.inside.records c.args.key.now c.self.invariant.order (ap option_copied (sym c.in-None.is) ∙ c.get.ensures.value)
     ∙ ap (λ v. plain_terms (at v.1 (term c.args.key.now))) c.self.view_is

@@ -1,0 +1,48 @@
+-- Terms that a loop copies one after another.
+use Rattle.std.proofs.Common.{◌≡◌, ℕ, ◌+◌, ◌<◌, List, [], ◌∷◌, ◌++◌, Bool, true, false, not, length, drop, get_or, refl, sym, ap, ◌∙◌, append-nil}
+use Rattle.std.specs.Prelude.{if◌then◌else◌}
+use Rattle.std.proofs.lemmas.List.{at_drop_more}
+use Rattle.tab_term.specs.declared.term.Term.{Term}
+use Rattle.tab_term.specs.View.{term, terms}
+use Rattle.tab_term.specs.Data.{PlainTerm, PlainTerms}
+use Rattle.tab_term.specs.Same.{same}
+use Rattle.tab_model.specs.Names.{plain_terms, terms_list}
+use Rattle.tab_model.specs.Tables.{Rows, delete_object}
+use Rattle.tab_rows.specs.Joined.{Entry}
+use Rattle.tab_rows.proofs.Cells.{plain-list}
+use Rattle.tab_rows.proofs.KeysLemmas.{entry_keys}
+
+-- one more copy, before what is left
+copied_before : (copies new : List Term) (copy t : Term) (rest : Rows) → new ≡ copies ++ copy ∷ [] → copy ≡ t → terms_list (terms new) ++ rest ≡ terms_list (terms copies) ++ (term t ∷ rest)
+copied_before copies new copy t rest p q = ap (λ z. terms_list (terms z) ++ rest) p ∙ moved copies ∙ ap (λ z. terms_list (terms copies) ++ (term z ∷ rest)) q
+  where
+    moved : (ts : List Term) → terms_list (terms (ts ++ copy ∷ [])) ++ rest ≡ terms_list (terms ts) ++ (term copy ∷ rest)
+    moved [] = refl
+    moved (u ∷ ts) = ap (λ z. term u ∷ z) (moved ts)
+
+-- a key
+pub next_key : (copies new : List Term) (copy : Term) (e : Entry) (left after : List Entry) (all : Rows) → new ≡ copies ++ copy ∷ [] → copy ≡ e.0 → left ≡ e ∷ after → terms_list (terms copies) ++ entry_keys left ≡ all
+    → terms_list (terms new) ++ entry_keys after ≡ all
+next_key copies new copy e left after all p q r h = copied_before copies new copy e.0 (entry_keys after) p q ∙ ap (λ z. terms_list (terms copies) ++ entry_keys z) (sym r) ∙ h
+
+pub all_keys : (copies : List Term) (left : List Entry) (all : Rows) (keys : PlainTerms) → keys ≡ terms copies → left ≡ [] → terms_list (terms copies) ++ entry_keys left ≡ all → keys ≡ plain_terms all
+all_keys copies left all keys p q h =
+    p ∙ sym (plain-list (terms copies)) ∙ ap plain_terms (sym (append-nil (terms_list (terms copies))) ∙ ap (λ z. terms_list (terms copies) ++ entry_keys z) (sym q) ∙ h)
+
+-- a record that may be the one to be left out
+record_is : (records : List Term) (i : ℕ) (item : Term) (r : PlainTerm) (kept : Bool) → i < length records → item ≡ get_or records i item → not (same r (term item)) ≡ kept
+    → delete_object (terms_list (terms (drop i records))) r ≡ (if kept then term item ∷ delete_object (terms_list (terms (drop (i + 1) records))) r else delete_object (terms_list (terms (drop (i + 1) records))) r)
+record_is records i item r kept h is k =
+    at_drop_more (λ us. delete_object (terms_list (terms us)) r) records i item h
+    ∙ ap (λ t. delete_object (terms_list (terms (t ∷ drop (i + 1) records))) r) (sym is)
+    ∙ ap (λ b. if b then term item ∷ delete_object (terms_list (terms (drop (i + 1) records))) r else delete_object (terms_list (terms (drop (i + 1) records))) r) k
+
+pub record_kept : (records copies new : List Term) (i : ℕ) (item copy : Term) (r : PlainTerm) (all : Rows) → i < length records → item ≡ get_or records i item → not (same r (term item)) ≡ true → new ≡ copies ++ copy ∷ [] → copy ≡ item
+    → terms_list (terms copies) ++ delete_object (terms_list (terms (drop i records))) r ≡ all → terms_list (terms new) ++ delete_object (terms_list (terms (drop (i + 1) records))) r ≡ all
+record_kept records copies new i item copy r all h is k p q before =
+    copied_before copies new copy item _ p q ∙ ap (λ z. terms_list (terms copies) ++ z) (sym (record_is records i item r true h is k)) ∙ before
+
+pub record_left_out : (records copies : List Term) (i : ℕ) (item : Term) (r : PlainTerm) (all : Rows) → i < length records → item ≡ get_or records i item → not (same r (term item)) ≡ false
+    → terms_list (terms copies) ++ delete_object (terms_list (terms (drop i records))) r ≡ all → terms_list (terms copies) ++ delete_object (terms_list (terms (drop (i + 1) records))) r ≡ all
+record_left_out records copies i item r all h is k before =
+    ap (λ z. terms_list (terms copies) ++ z) (sym (record_is records i item r false h is k)) ∙ before
