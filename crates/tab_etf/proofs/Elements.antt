@@ -51,9 +51,3 @@ pairs-push (q ∷ qs) p =
 
 pub pairs_next : (ps : List (Term × Term)) (i : ℕ) (p : Term × Term) → i < length ps → p ≡ get_or ps i p → pair_canons (pairs (take (i + 1) ps)) ≡ (pair_canons (pairs (take i ps)) ++ canon (term p.0)) ++ canon (term p.1)
 pairs_next ps i p lt e = ap (λ qs. pair_canons (pairs qs)) (take_more ps i p lt) ∙ pairs-push (take i ps) (get_or ps i p) ∙ ap (λ (q : Term × Term). (pair_canons (pairs (take i ps)) ++ canon (term q.0)) ++ canon (term q.1)) (sym e)
-
--- a pair weighs no more than all
-pub pair_weight_at : (ps : List (Term × Term)) (i : ℕ) (p : Term × Term) → i < length ps → p ≡ get_or ps i p → weight (term p.0) + weight (term p.1) ≤ pair_nodes (pairs ps)
-pair_weight_at [] i p h e = absurd (omega arith)
-pair_weight_at (q ∷ qs) zero p h e = rw e (omega arith)
-pair_weight_at (q ∷ qs) (suc i) p h e = omega (arith, pair_weight_at qs i p (omega arith) e)

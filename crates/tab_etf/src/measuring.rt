@@ -108,7 +108,7 @@ fn all_len(ts: &[Term]) -> u64
 }
 
 #[cycle(len)]
-#[tactic(auto, using(crate::proofs::Elements::pair_weight_at, crate::proofs::Lengths::pairs_more, crate::proofs::Lengths::no_pair_length))]
+#[tactic(auto, using(tab_term::proofs::Lists::pair_weight_at, crate::proofs::Lengths::pairs_more, crate::proofs::Lengths::no_pair_length))]
 fn pairs_len(ps: &[(Term, Term)]) -> u64
     ensures { result ≡ min (length (pair_canons (pairs_of ps.now))) u64.MAX }
 {

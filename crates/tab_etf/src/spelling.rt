@@ -279,7 +279,7 @@ fn put_all<W: Write>(device: &mut Counted<W>, pending: &mut Pending, ts: &[Term]
 }
 
 #[cycle(put)]
-#[tactic(auto, using(crate::proofs::Elements::pair_weight_at))]
+#[tactic(auto, using(tab_term::proofs::Lists::pair_weight_at))]
 fn put_pairs<W: Write>(device: &mut Counted<W>, pending: &mut Pending, ps: &[(Term, Term)])
     ensures { Puts (output W.contents device.old pending.old) (output W.contents device.new pending.new) (pair_canons (pairs_of ps.now)) }
 {

@@ -1,7 +1,8 @@
-use crate::{Atom, Bytes, Pairs, Term, TermFault, Terms, has_wildcard, matches};
+//! Terms: their order, their copies, patterns and numbers, against tables from outside.
+
 use std::alloc::{AllocError, Global};
-use std::test::Fail;
 use tab_key::Abbreviate;
+use tab_term::{Atom, Bytes, Pairs, Term, TermFault, Terms, has_wildcard, matches};
 
 /// A term, as few words.
 enum Shape {
@@ -15,6 +16,10 @@ enum Shape {
     Map(i128, i128),
     MapOfTuple(i128),
     EmptyMap,
+    /// A tuple of this atom alone.
+    Named(&'static str),
+    /// A map of 1 to such a tuple.
+    MapOfNamed(&'static str),
     /// So many tuples of one, with 0 in the innermost.
     Nested(usize),
 }
@@ -123,19 +128,29 @@ fn binary(alloc: Global, count: usize, byte: u8) -> Result<Bytes, AllocError> {
     Ok(Bytes::from_vec(vec![in alloc; byte; count]?))
 }
 
+fn named(alloc: Global, text: &str) -> Result<Term, AllocError> {
+    tuple_of(alloc, build_atom(alloc, text, 1)?)
+}
+
+fn build_atom(alloc: Global, text: &str, count: usize) -> Result<Term, AllocError> {
+    match atom(alloc, text, count)? {
+        Ok(name) => Ok(Term::Atom(name)),
+        Err(_) => Ok(Term::Int(0)),
+    }
+}
+
 fn build(alloc: Global, shape: &Shape) -> Result<Term, AllocError> {
     match shape {
         Shape::Int(z) => Ok(Term::Int(*z)),
         Shape::Tuple(count, z) => Ok(Term::Tuple(copies(alloc, *count, *z)?)),
         Shape::List(count, z) => Ok(Term::List(copies(alloc, *count, *z)?)),
         Shape::Binary(count, byte) => Ok(Term::Bin(binary(alloc, *count, *byte)?)),
-        Shape::Atom(text, count) => match atom(alloc, text, *count)? {
-            Ok(name) => Ok(Term::Atom(name)),
-            Err(_) => Ok(Term::Int(0)),
-        },
+        Shape::Atom(text, count) => build_atom(alloc, text, *count),
         Shape::Map(key, value) => map_of(alloc, Term::Int(*key), Term::Int(*value)),
         Shape::MapOfTuple(key) => map_of(alloc, Term::Int(*key), Term::Tuple(copies(alloc, 0, 0)?)),
         Shape::EmptyMap => Ok(Term::Map(Pairs::from_vec(Vec::new(alloc)))),
+        Shape::Named(text) => named(alloc, text),
+        Shape::MapOfNamed(text) => map_of(alloc, Term::Int(1), named(alloc, text)?),
         Shape::Nested(count) => nested(alloc, *count),
     }
 }
@@ -184,7 +199,7 @@ fn atoms_have_at_most_255_characters(rt: HostRuntime) {
 }
 
 /// A pattern, a term, whether it fits, and whether the pattern has a wildcard.
-const PATTERNS: [(Shape, Shape, bool, bool); 9] = [
+const PATTERNS: [(Shape, Shape, bool, bool); 11] = [
     (Shape::Atom("_", 1), Shape::List(3, 7), true, true),
     (Shape::Atom("_", 2), Shape::Atom("_", 1), false, false),
     (Shape::Atom("a", 1), Shape::Atom("a", 1), true, false),
@@ -194,59 +209,48 @@ const PATTERNS: [(Shape, Shape, bool, bool); 9] = [
     (Shape::List(2, 1), Shape::List(2, 1), true, false),
     (Shape::Map(1, 2), Shape::Map(1, 2), true, false),
     (Shape::Map(1, 2), Shape::Map(1, 3), false, false),
+    (Shape::Named("_"), Shape::Tuple(1, 5), true, true),
+    (
+        Shape::MapOfNamed("_"),
+        Shape::MapOfNamed("a"),
+        false,
+        false,
+    ),
 ];
 
 #[test]
 fn patterns_match(rt: HostRuntime) {
     let alloc = rt.alloc();
-    for (pattern, subject, fits, wild) in &PATTERNS {
+    for (i, (pattern, subject, fits, wild)) in PATTERNS.iter().enumerate() {
         let pattern = build(alloc, pattern).expect(&rt, "memory");
         let subject = build(alloc, subject).expect(&rt, "memory");
-        assert_eq!(rt; matches(&pattern, &subject), *fits);
-        assert_eq!(rt; has_wildcard(&pattern), *wild);
+        assert_eq!(rt; matches(&pattern, &subject), *fits, "row {i}");
+        assert_eq!(rt; has_wildcard(&pattern), *wild, "row {i}");
     }
-    let wildcard = build(alloc, &Shape::Atom("_", 1)).expect(&rt, "memory");
-    let inner = tuple_of(alloc, wildcard).expect(&rt, "memory");
-    let subject = tuple_of(alloc, Term::Int(5)).expect(&rt, "memory");
-    assert!(rt;
-        matches(&inner, &subject) && has_wildcard(&inner),
-        "a wildcard in a tuple"
-    );
-    let in_map = map_of(alloc, Term::Int(1), inner).expect(&rt, "memory");
-    let filled = map_of(alloc, Term::Int(1), subject).expect(&rt, "memory");
-    assert!(rt;
-        !matches(&in_map, &filled) && !has_wildcard(&in_map),
-        "a wildcard in a map"
-    );
-    assert_eq!(rt; in_map.depth(), 3);
 }
 
-fn number<K: Abbreviate>(key: &K) -> u64 {
-    key.abbreviated()
-}
+/// A term, its depth, and its number: the tag of the spelling, and what comes next.
+const NUMBERS: [(Shape, u64, u64); 11] = [
+    (Shape::Int(7), 1, 0x0061_0000_0000_0007),
+    (Shape::Int(256), 1, 0x0062_0000_0000_0100),
+    (Shape::Int(-1), 1, 0x0062_0000_ffff_ffff),
+    (Shape::Int(1 << 31), 1, 0x006e_0400_0000_0080),
+    (Shape::Int(-1 << 80), 1, 0x006e_0b01_0000_0000),
+    (Shape::Int(0x0102_0304_05ff), 1, 0x006e_0600_ffff_ffff),
+    (Shape::Atom("person", 1), 1, 0x0077_0670_6572_736f),
+    (Shape::Binary(2, b'a'), 1, 0x006d_0261_6100_0000),
+    (Shape::Binary(300, b'a'), 1, 0x006d_ffff_ffff_ffff),
+    (Shape::Tuple(1, 5), 2, 0x0068_0000_0000_0001),
+    (Shape::MapOfNamed("_"), 3, 0x0074_0000_0000_0001),
+];
 
-// The tag of the spelling, and what comes next.
 #[test]
-fn numbers_of_keys(rt: HostRuntime) -> Result<(), Fail> {
-    let alloc = rt.alloc();
-    for (z, wanted) in [
-        (7i128, 0x0061_0000_0000_0007u64),
-        (256, 0x0062_0000_0000_0100),
-        (-1, 0x0062_0000_ffff_ffff),
-        (1 << 31, 0x006e_0400_0000_0080),
-        (-1 << 80, 0x006e_0b01_0000_0000),
-        (0x0102_0304_05ff, 0x006e_0600_ffff_ffff),
-    ] {
-        assert_eq!(rt; number(&Term::Int(z)), wanted, "of {z}");
+fn terms_have_depths_and_numbers(rt: HostRuntime) {
+    for (i, (shape, depth, number)) in NUMBERS.iter().enumerate() {
+        let term = build(rt.alloc(), shape).expect(&rt, "memory");
+        assert_eq!(rt; term.depth(), *depth, "row {i}");
+        assert_eq!(rt; term.abbreviated(), *number, "row {i}");
     }
-    let name = Atom::from_short_text(alloc, "person")?;
-    assert_eq!(rt; number(&name), 0x0070_6572_736f_6e00);
-    assert_eq!(rt; number(&Term::Atom(name)), 0x0077_0670_6572_736f);
-    for (count, wanted) in [(2, 0x006d_0261_6100_0000u64), (300, 0x006d_ffff_ffff_ffff)] {
-        let bytes = binary(alloc, count, b'a')?;
-        assert_eq!(rt; number(&Term::Bin(bytes)), wanted, "of {count} bytes");
-    }
-    let tuple = tuple_of(alloc, Term::Int(5))?;
-    assert_eq!(rt; number(&tuple), 0x0068_0000_0000_0001);
-    Ok(())
+    let name = Atom::from_short_text(rt.alloc(), "person").expect(&rt, "memory");
+    assert_eq!(rt; name.abbreviated(), 0x0070_6572_736f_6e00);
 }
