@@ -1,8 +1,8 @@
 -- One more element of a list is written.
-use Rattle.std.proofs.Common.{◌≡◌, ℕ, zero, suc, ◌+◌, ◌<◌, ◌≤◌, List, [], ◌∷◌, ◌++◌, length, take, drop, get_or, refl, sym, ap, ◌∙◌, append_assoc, arith, Bool, true, false, ◌&&◌}
+use Rattle.std.proofs.Common.{◌≡◌, ℕ, ◌+◌, ◌<◌, List, [], ◌∷◌, ◌++◌, length, take, drop, get_or, refl, sym, ap, ◌∙◌, append_assoc, Bool, true, false, ◌&&◌}
 use Rattle.std.proofs.lemmas.List.{take_more, append-nil, at_drop_more}
 use Rattle.tab_term.specs.declared.term.Term.{Term}
-use Rattle.tab_term.specs.Data.{weight, pair_nodes, none, no_pair}
+use Rattle.tab_term.specs.Data.{none, no_pair}
 use Rattle.tab_term.specs.Canon.{is_byte_term, byte_of, all_bytes, bytes_of, canon, canons, pair_canons}
 use Rattle.tab_term.specs.View.{term, terms, pairs}
 

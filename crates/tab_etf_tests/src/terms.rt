@@ -210,12 +210,7 @@ const PATTERNS: [(Shape, Shape, bool, bool); 11] = [
     (Shape::Map(1, 2), Shape::Map(1, 2), true, false),
     (Shape::Map(1, 2), Shape::Map(1, 3), false, false),
     (Shape::Named("_"), Shape::Tuple(1, 5), true, true),
-    (
-        Shape::MapOfNamed("_"),
-        Shape::MapOfNamed("a"),
-        false,
-        false,
-    ),
+    (Shape::MapOfNamed("_"), Shape::MapOfNamed("a"), false, false),
 ];
 
 #[test]

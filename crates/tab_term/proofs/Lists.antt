@@ -9,10 +9,7 @@ use Rattle.tab_term.specs.Data.{PlainTerm, PlainTerms, none, one_more, PlainPair
 use Rattle.tab_term.specs.Same.{same, all_same, pairs_same}
 use Rattle.tab_term.specs.View.{term, terms, pairs}
 use Rattle.tab_term.specs.Pattern.{matches, all_match}
-use Rattle.std.proofs.Common.{Equal}
 use Rattle.std.proofs.Math.Bool.{and-false}
-use Rattle.std.specs.Ordering.{ordering_then}
-use Rattle.tab_term.specs.Order.{order, pairs_order}
 
 abbrev pub push : PlainTerms → PlainTerm → PlainTerms
 push none t = one_more t none

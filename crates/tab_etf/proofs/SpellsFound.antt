@@ -16,7 +16,7 @@ use Rattle.tab_etf.specs.declared.fault.Fault.TheVariants as faults
 use Rattle.tab_etf.specs.Spells.{numbers, signed_value, IsAtomText, IsLatin1Text, Spells, small_integer_ext, integer_ext, small_big_ext, atom_ext, small_atom_ext, atom_utf8_ext, small_atom_utf8_ext, small_tuple_ext, large_tuple_ext, nil_ext, string_ext, list_ext, binary_ext, SpellAll, nothing, one_first}
 use Rattle.tab_etf.specs.Reading.{◌>>=◌, stop, Reads, byte_at, bytes_at, number_at, text_at, short_text_at, small_integer, integer, integer_is, small_big, atom_is, latin1_is, utf8_is, atom_by, latin1_atom, small_latin1_atom, utf8_atom, small_utf8_atom, string, binary, times, small_tuple, large_tuple, end_of_list, long_list, leaf, behind, term_at}
 use Rattle.tab_etf.proofs.Fields.{IsBytes, IsBytes-rest, bind_ok, guard_ok, chosen, done, ok_is, Takes, Takes-then, byte_takes, bytes_take, number_takes, wide16, wide32}
-use Rattle.tab_etf.proofs.Text.{latin1_chars}
+use Rattle.tab_etf.proofs.LeafLemmas.{latin1_chars}
 
 -- a term that stands at the front
 pub record Spelled (levels : ℕ) (bytes : List ℕ) (t : PlainTerm) (rest : List ℕ) : Type 0 where
@@ -46,7 +46,7 @@ times_take levels read sound (suc n) bytes x fits e =
     let b = bind_ok (times read n a.0.1) (λ others. Ok (one_more a.0.0 others.0, others.1)) x a.2 in
     let others = times_take levels read sound n a.0.1 b.0 first.takes.rest_fits b.1 in
     let made : PlainTerms × List ℕ = (one_more a.0.0 b.0.0, b.0.1) in
-    subst (λ (y : PlainTerms × List ℕ). SpelledAll levels (suc n) bytes y.0 y.1) (ok_is made x b.2)
+    subst (λ (y : PlainTerms × List ℕ). SpelledAll levels (suc n) bytes y.0 y.1) {x = made} (ok_is made x b.2)
     (record { text = first.text ++ others.text; takes = Takes-then bytes first.text a.0.1 others.text b.0.1 first.takes others.takes; spells = one_first first.spells others.spells; within = omega (arith, first.within, others.within); counts = ap suc others.counts })
 
 -- what a reader of what stands behind a tag gives
@@ -135,7 +135,7 @@ module _ (l : ℕ) where
       let a = bind_ok (byte_at bytes) (λ n. Ok (int (pos n.0), n.1)) x e in
       let t = byte_takes bytes a.0 fits a.1 in
       let made : PlainTerm × List ℕ = (int (pos a.0.0), a.0.1) in
-      subst (λ (y : PlainTerm × List ℕ). Spelled (suc l) (97 ∷ bytes) y.0 y.1) (ok_is made x a.2)
+      subst (λ (y : PlainTerm × List ℕ). Spelled (suc l) (97 ∷ bytes) y.0 y.1) {x = made} (ok_is made x a.2)
       (record { text = 97 ∷ a.0.0 ∷ []; takes = behind_takes 97 bytes (a.0.0 ∷ []) a.0.1 t.0; spells = small_integer_ext t.1; within = omega arith })
 
   integer_takes : SoundBehind (suc l) 98 integer
@@ -146,7 +146,7 @@ module _ (l : ℕ) where
       let made : PlainTerm × List ℕ = (int (cast_signed w32 a.0.0), a.0.1) in
       let same : cast_unsigned w32 (cast_signed w32 a.0.0) ≡ a.0.0 = of_z-to_z w32 a.0.0 t.1 in
       let told : Spells (int (cast_signed w32 a.0.0)) (98 ∷ to_be_bytes w32 (cast_unsigned w32 (cast_signed w32 a.0.0))) = integer_ext (sfits_to_z (Fits-of_lt t.1)) in
-      subst (λ (y : PlainTerm × List ℕ). Spelled (suc l) (98 ∷ bytes) y.0 y.1) (ok_is made x a.2)
+      subst (λ (y : PlainTerm × List ℕ). Spelled (suc l) (98 ∷ bytes) y.0 y.1) {x = made} (ok_is made x a.2)
       (record { text = 98 ∷ to_be_bytes w32 a.0.0; takes = behind_takes 98 bytes (to_be_bytes w32 a.0.0) a.0.1 t.0; spells = subst (λ (k : ℕ). Spells (int (cast_signed w32 a.0.0)) (98 ∷ to_be_bytes w32 k)) same told; within = omega arith })
 
   small_big_takes : SoundBehind (suc l) 110 small_big
@@ -161,12 +161,12 @@ module _ (l : ℕ) where
       let s = bytes_take a.0.0 b.0.1 c.0 u.0.rest_fits c.1 in
       let z : signed_value b.0.0 (low_value c.0.0) ≡ Some d.0 = integer_found (signed_value b.0.0 (low_value c.0.0)) (length bytes + 1) d.0 d.1 in
       let made : PlainTerm × List ℕ = (int d.0, c.0.1) in
-      let told : Spells (int d.0) (110 ∷ length c.0.0 ∷ b.0.0 ∷ c.0.0) = small_big_ext (omega (arith, s.1, t.1)) z in
-      subst (λ (y : PlainTerm × List ℕ). Spelled (suc l) (110 ∷ bytes) y.0 y.1) (ok_is made x d.2)
+      let told : Spells (int d.0) (110 ∷ length c.0.0 ∷ b.0.0 ∷ c.0.0) = small_big_ext {z = d.0} {sign = b.0.0} {digits = c.0.0} (omega (arith, s.1, t.1)) z in
+      subst (λ (y : PlainTerm × List ℕ). Spelled (suc l) (110 ∷ bytes) y.0 y.1) {x = made} (ok_is made x d.2)
       (record {
         text = 110 ∷ a.0.0 ∷ b.0.0 ∷ c.0.0;
         takes = behind_takes 110 bytes (a.0.0 ∷ b.0.0 ∷ c.0.0) c.0.1 (Takes-then bytes (a.0.0 ∷ b.0.0 ∷ []) b.0.1 c.0.0 c.0.1 (Takes-then bytes (a.0.0 ∷ []) a.0.1 (b.0.0 ∷ []) b.0.1 t.0 u.0) s.0);
-        spells = subst (λ (k : ℕ). Spells (int d.0) (110 ∷ k ∷ b.0.0 ∷ c.0.0)) s.1 told;
+        spells = subst (λ (k : ℕ). Spells (int d.0) (110 ∷ k ∷ b.0.0 ∷ c.0.0)) {x = length c.0.0} s.1 told;
         within = omega arith;
       })
 
@@ -178,7 +178,7 @@ module _ (l : ℕ) where
       let b = bind_ok (is a.0.0 (length bytes + 1)) (λ name. Ok (atom name, a.0.1)) x a.2 in
       let t = takes bytes a.0 fits a.1 in
       let made : PlainTerm × List ℕ = (atom b.0, a.0.1) in
-      subst (λ (y : PlainTerm × List ℕ). Spelled (suc l) (tag ∷ bytes) y.0 y.1) (ok_is made x b.2)
+      subst (λ (y : PlainTerm × List ℕ). Spelled (suc l) (tag ∷ bytes) y.0 y.1) {x = made} (ok_is made x b.2)
       (record { text = tag ∷ (field (length a.0.0) ++ a.0.0); takes = behind_takes tag bytes (field (length a.0.0) ++ a.0.0) a.0.1 t.0; spells = spelled a.0.0 (length bytes + 1) b.0 t.2 t.1 b.1; within = omega arith })
 
   latin1_atom_takes : SoundBehind (suc l) 100 latin1_atom
@@ -207,7 +207,7 @@ module _ (l : ℕ) where
       let a = bind_ok (text_at w32 bytes) (λ s. Ok (bin s.0, s.1)) x e in
       let t = text32_takes bytes a.0 fits a.1 in
       let made : PlainTerm × List ℕ = (bin a.0.0, a.0.1) in
-      subst (λ (y : PlainTerm × List ℕ). Spelled (suc l) (109 ∷ bytes) y.0 y.1) (ok_is made x a.2)
+      subst (λ (y : PlainTerm × List ℕ). Spelled (suc l) (109 ∷ bytes) y.0 y.1) {x = made} (ok_is made x a.2)
       (record { text = 109 ∷ (to_be_bytes w32 (length a.0.0) ++ a.0.0); takes = behind_takes 109 bytes (to_be_bytes w32 (length a.0.0) ++ a.0.0) a.0.1 t.0; spells = binary_ext t.1; within = omega arith })
 
   string_takes : SoundBehind (suc l) 107 (string (eqb l 0))
@@ -221,7 +221,7 @@ module _ (l : ℕ) where
       let s = bytes_take a.0.0 a.0.1 b.0 t.0.rest_fits b.1 in
       let told : Spells (list (numbers b.0.0)) (107 ∷ to_be_bytes w16 (length b.0.0) ++ b.0.0) = string_ext (omega (arith, s.1, t.1)) in
       let shallow : (ltb 0 (length b.0.0) && eqb l 0) ≡ false = subst (λ (k : ℕ). (ltb 0 k && eqb l 0) ≡ false) (sym s.1) g.0 in
-      subst (λ (y : PlainTerm × List ℕ). Spelled (suc l) (107 ∷ bytes) y.0 y.1) (ok_is made x g.1)
+      subst (λ (y : PlainTerm × List ℕ). Spelled (suc l) (107 ∷ bytes) y.0 y.1) {x = made} (ok_is made x g.1)
       (record {
         text = 107 ∷ (to_be_bytes w16 a.0.0 ++ b.0.0);
         takes = behind_takes 107 bytes (to_be_bytes w16 a.0.0 ++ b.0.0) b.0.1 (Takes-then bytes (to_be_bytes w16 a.0.0) a.0.1 b.0.0 b.0.1 t.0 s.0);
@@ -232,7 +232,7 @@ module _ (l : ℕ) where
   nil_takes : SoundBehind (suc l) 106 (λ bytes. Ok (list none, bytes))
   nil_takes bytes x fits e =
       let made : PlainTerm × List ℕ = (list none, bytes) in
-      subst (λ (y : PlainTerm × List ℕ). Spelled (suc l) (106 ∷ bytes) y.0 y.1) (ok_is made x e)
+      subst (λ (y : PlainTerm × List ℕ). Spelled (suc l) (106 ∷ bytes) y.0 y.1) {x = made} (ok_is made x e)
       (record { text = 106 ∷ []; takes = record { parts = refl; rest_fits = fits }; spells = nil_ext; within = omega arith })
 
   -- the test of one tag
@@ -268,7 +268,7 @@ module _ (l : ℕ) where
         let ts = times_take l read sound a.0.0 a.0.1 b.0 t.0.rest_fits b.1 in
         let made : PlainTerm × List ℕ = (tuple b.0.0, b.0.1) in
         let told : Spells (tuple b.0.0) (104 ∷ count b.0.0 ∷ ts.text) = small_tuple_ext (omega (arith, ts.counts, t.1)) ts.spells in
-        subst (λ (y : PlainTerm × List ℕ). Spelled (suc l) (104 ∷ bytes) y.0 y.1) (ok_is made x b.2)
+        subst (λ (y : PlainTerm × List ℕ). Spelled (suc l) (104 ∷ bytes) y.0 y.1) {x = made} (ok_is made x b.2)
         (record { text = 104 ∷ a.0.0 ∷ ts.text; takes = behind_takes 104 bytes (a.0.0 ∷ ts.text) b.0.1 (Takes-then bytes (a.0.0 ∷ []) a.0.1 ts.text b.0.1 t.0 ts.takes); spells = subst (λ (k : ℕ). Spells (tuple b.0.0) (104 ∷ k ∷ ts.text)) ts.counts told; within = omega (arith, ts.within) })
 
     large_tuple_takes : SoundBehind (suc l) 105 (large_tuple read)
@@ -280,7 +280,7 @@ module _ (l : ℕ) where
         let ts = times_take l read sound a.0.0 a.0.1 b.0 t.0.rest_fits b.1 in
         let made : PlainTerm × List ℕ = (tuple b.0.0, b.0.1) in
         let told : Spells (tuple b.0.0) (105 ∷ (to_be_bytes w32 (count b.0.0) ++ ts.text)) = large_tuple_ext (omega (arith, ts.counts, t.1)) ts.spells in
-        subst (λ (y : PlainTerm × List ℕ). Spelled (suc l) (105 ∷ bytes) y.0 y.1) (ok_is made x b.2)
+        subst (λ (y : PlainTerm × List ℕ). Spelled (suc l) (105 ∷ bytes) y.0 y.1) {x = made} (ok_is made x b.2)
         (record {
           text = 105 ∷ (to_be_bytes w32 a.0.0 ++ ts.text);
           takes = behind_takes 105 bytes (to_be_bytes w32 a.0.0 ++ ts.text) b.0.1 (Takes-then bytes (to_be_bytes w32 a.0.0) a.0.1 ts.text b.0.1 t.0 ts.takes);
@@ -300,7 +300,7 @@ module _ (l : ℕ) where
         let made : PlainTerm × List ℕ = (list b.0.0, c.0) in
         let told : Spells (list b.0.0) (((108 ∷ to_be_bytes w32 (count b.0.0)) ++ ts.text) ++ 106 ∷ []) = list_ext (omega (arith, ts.counts, t.1)) ts.spells in
         let both = Takes-then bytes (to_be_bytes w32 a.0.0 ++ ts.text) b.0.1 (106 ∷ []) c.0 (Takes-then bytes (to_be_bytes w32 a.0.0) a.0.1 ts.text b.0.1 t.0 ts.takes) end in
-        subst (λ (y : PlainTerm × List ℕ). Spelled (suc l) (108 ∷ bytes) y.0 y.1) (ok_is made x c.2)
+        subst (λ (y : PlainTerm × List ℕ). Spelled (suc l) (108 ∷ bytes) y.0 y.1) {x = made} (ok_is made x c.2)
         (record {
           text = 108 ∷ ((to_be_bytes w32 a.0.0 ++ ts.text) ++ 106 ∷ []);
           takes = behind_takes 108 bytes ((to_be_bytes w32 a.0.0 ++ ts.text) ++ 106 ∷ []) c.0 both;

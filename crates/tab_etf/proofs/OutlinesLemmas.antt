@@ -3,11 +3,12 @@ use Rattle.std.proofs.Common.{◌≡◌, ℕ, ◌+◌, List, [], ◌∷◌, ◌+
 use Rattle.std.proofs.lemmas.List.{append-nil}
 use Rattle.tab_term.specs.Data.{PlainTerm, pair, triple}
 use Rattle.tab_term.specs.Canon.{canon}
-use Rattle.tab_etf.proofs.Canonical as is
+use Rattle.tab_etf.proofs.CanonLemmas as is
 use Rattle.tab_etf.specs.declared.outline.Leaf.{Leaf}
 use Rattle.tab_etf.specs.declared.outline.Outline.{Outline}
-use Rattle.tab_etf.specs.Writing.{Output, Puts}
-use Rattle.tab_etf.proofs.Output.{puts_as, puts_then}
+use Rattle.tab_etf.specs.declared.writer.Writer.{Writer}
+use Rattle.tab_etf.specs.Writing.{Writes}
+use Rattle.tab_etf.proofs.WritingLemmas.{writes_as, writes_then}
 use Rattle.tab_etf.specs.Outlines.{leaf_term, body_term, outline_term, under, head_canon}
 
 pub pair_canon : (a b : PlainTerm) → canon (pair a b) ≡ (104 ∷ 2 ∷ []) ++ (canon a ++ canon b)
@@ -34,13 +35,14 @@ triple_length a b c = omega (arith, ap length (triple_canon a b c), length-appen
 pub outline_length : (o : Outline) → length (canon (outline_term o)) ≡ length (head_canon o.first) + length (head_canon o.second) + length (canon (body_term o.body))
 outline_length o = omega (arith, ap length (outline_canon o), length-append (head_canon o.first) (head_canon o.second ++ canon (body_term o.body)), length-append (head_canon o.second) (canon (body_term o.body)))
 
--- ---- what is put, part by part
+-- ---- what is written, part by part
 
-pub puts_pair : (a b c d : Output) (s t : PlainTerm) → Puts a b (104 ∷ 2 ∷ []) → Puts b c (canon s) → Puts c d (canon t) → Puts a d (canon (pair s t))
-puts_pair a b c d s t p q r = puts_as _ _ _ _ (puts_then _ _ _ _ _ p (puts_then _ _ _ _ _ q r)) (sym (pair_canon s t))
+module _ {W : Type 0} {contents : W → Option (List ℕ)} where
+  pub writes_pair : {a b c d : Writer W} (s t : PlainTerm) → Writes contents a b (104 ∷ 2 ∷ []) → Writes contents b c (canon s) → Writes contents c d (canon t) → Writes contents a d (canon (pair s t))
+  writes_pair s t p q r = writes_as (writes_then p (writes_then q r)) (sym (pair_canon s t))
 
-pub puts_triple : (a b c d e : Output) (s t u : PlainTerm) → Puts a b (104 ∷ 3 ∷ []) → Puts b c (canon s) → Puts c d (canon t) → Puts d e (canon u) → Puts a e (canon (triple s t u))
-puts_triple a b c d e s t u p q r w = puts_as _ _ _ _ (puts_then _ _ _ _ _ p (puts_then _ _ _ _ _ q (puts_then _ _ _ _ _ r w))) (sym (triple_canon s t u))
+  pub writes_triple : {a b c d e : Writer W} (s t u : PlainTerm) → Writes contents a b (104 ∷ 3 ∷ []) → Writes contents b c (canon s) → Writes contents c d (canon t) → Writes contents d e (canon u) → Writes contents a e (canon (triple s t u))
+  writes_triple s t u p q r w = writes_as (writes_then p (writes_then q (writes_then r w))) (sym (triple_canon s t u))
 
-pub puts_outline : (a b c d : Output) (o : Outline) → Puts a b (head_canon o.first) → Puts b c (head_canon o.second) → Puts c d (canon (body_term o.body)) → Puts a d (canon (outline_term o))
-puts_outline a b c d o p q r = puts_as _ _ _ _ (puts_then _ _ _ _ _ p (puts_then _ _ _ _ _ q r)) (sym (outline_canon o))
+  pub writes_outline : {a b c d : Writer W} (o : Outline) → Writes contents a b (head_canon o.first) → Writes contents b c (head_canon o.second) → Writes contents c d (canon (body_term o.body)) → Writes contents a d (canon (outline_term o))
+  writes_outline o p q r = writes_as (writes_then p (writes_then q r)) (sym (outline_canon o))

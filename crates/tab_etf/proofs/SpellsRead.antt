@@ -13,7 +13,7 @@ use Rattle.tab_etf.specs.declared.fault.Stop.{Stop}
 use Rattle.tab_etf.specs.Spells.{numbers, signed_value, IsAtomText, IsLatin1Text, Spells, small_integer_ext, integer_ext, small_big_ext, atom_ext, small_atom_ext, atom_utf8_ext, small_atom_utf8_ext, small_tuple_ext, large_tuple_ext, nil_ext, string_ext, list_ext, binary_ext, SpellAll, nothing, one_first}
 use Rattle.tab_etf.specs.Reading.{Reads, text_at, short_text_at, small_integer, integer, small_big, latin1_is, utf8_is, atom_by, latin1_atom, small_latin1_atom, utf8_atom, small_utf8_atom, string, binary, times, small_tuple, large_tuple, end_of_list, long_list, leaf, behind, term_at}
 use Rattle.tab_etf.proofs.Fields.{wide16, wide32, number_again, bytes_again}
-use Rattle.tab_etf.proofs.Text.{utf8_again, latin1_again}
+use Rattle.tab_etf.proofs.LeafLemmas.{utf8_again, latin1_again}
 
 not_deepest : (ns : List ℕ) (l : ℕ) → depths (numbers ns) ≤ l → (ltb 0 (length ns) && eqb l 0) ≡ false
 not_deepest [] l h = refl

@@ -11,8 +11,8 @@ use Rattle.tab_term.specs.View.{term}
 use Rattle.tab_etf.specs.declared.fault.EtfFault.{EtfFault}
 use Rattle.tab_etf.specs.Reading.{Decodes, ◌>>=◌, stop, term_at, whole}
 use Rattle.tab_etf.proofs.Fields.{IsBytes, IsBytes-rest, bind_ok, chosen, done, ok_is}
-use Rattle.tab_etf.proofs.Takes.{sound}
-use Rattle.tab_etf.proofs.Again.{again}
+use Rattle.tab_etf.proofs.SpellsFound.{sound}
+use Rattle.tab_etf.proofs.SpellsRead.{again}
 
 -- what is read is spelled so
 pub found : (p : List ℕ) (t : PlainTerm) → IsBytes p → whole p ≡ Ok t → (b : List ℕ) × (p ≡ 131 ∷ b) × Spells t b × (depth t ≤ 64)
