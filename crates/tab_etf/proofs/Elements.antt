@@ -1,8 +1,8 @@
 -- One more element of a list is written.
-use Rattle.std.proofs.Common.{◌≡◌, ℕ, zero, suc, ◌+◌, ◌<◌, ◌≤◌, List, [], ◌∷◌, ◌++◌, length, take, drop, get_or, refl, sym, ap, ◌∙◌, append_assoc, arith, Bool, true, false, ◌&&◌}
+use Rattle.std.proofs.Common.{◌≡◌, ℕ, ◌+◌, ◌<◌, List, [], ◌∷◌, ◌++◌, length, take, drop, get_or, refl, sym, ap, ◌∙◌, append_assoc, Bool, true, false, ◌&&◌}
 use Rattle.std.proofs.lemmas.List.{take_more, append-nil, at_drop_more}
 use Rattle.tab_term.specs.declared.term.Term.{Term}
-use Rattle.tab_term.specs.Data.{weight, pair_nodes, none, no_pair}
+use Rattle.tab_term.specs.Data.{none, no_pair}
 use Rattle.tab_term.specs.Canon.{is_byte_term, byte_of, all_bytes, bytes_of, canon, canons, pair_canons}
 use Rattle.tab_term.specs.View.{term, terms, pairs}
 
@@ -51,9 +51,3 @@ pairs-push (q ∷ qs) p =
 
 pub pairs_next : (ps : List (Term × Term)) (i : ℕ) (p : Term × Term) → i < length ps → p ≡ get_or ps i p → pair_canons (pairs (take (i + 1) ps)) ≡ (pair_canons (pairs (take i ps)) ++ canon (term p.0)) ++ canon (term p.1)
 pairs_next ps i p lt e = ap (λ qs. pair_canons (pairs qs)) (take_more ps i p lt) ∙ pairs-push (take i ps) (get_or ps i p) ∙ ap (λ (q : Term × Term). (pair_canons (pairs (take i ps)) ++ canon (term q.0)) ++ canon (term q.1)) (sym e)
-
--- a pair weighs no more than all
-pub pair_weight_at : (ps : List (Term × Term)) (i : ℕ) (p : Term × Term) → i < length ps → p ≡ get_or ps i p → weight (term p.0) + weight (term p.1) ≤ pair_nodes (pairs ps)
-pair_weight_at [] i p h e = absurd (omega arith)
-pair_weight_at (q ∷ qs) zero p h e = rw e (omega arith)
-pair_weight_at (q ∷ qs) (suc i) p h e = omega (arith, pair_weight_at qs i p (omega arith) e)

@@ -8,7 +8,7 @@ use Rattle.std.proofs.lemmas.Nat.{from_be_bytes-to_be_bytes_4}
 use Rattle.tab_etf.specs.Frames.{limit, frame, frames, length_next}
 use Rattle.tab_etf.specs.Streams.{after_length, front, Cut, cut_by, cut_at_most, payloads, rest_of, AreWithin, IsShort, AreFirstFrames}
 use Rattle.tab_etf.proofs.Cuts.{front_falls, payloads-front, payloads-none}
-use Rattle.tab_etf.proofs.Arriving.{known_front}
+use Rattle.tab_etf.proofs.ArrivalsLemmas.{known_front}
 use Rattle.tab_etf.proofs.Fields.{IsBytes, IsBytes-take, IsBytes-drop, wide32}
 
 -- ---- the first frame

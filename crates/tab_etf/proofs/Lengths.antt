@@ -1,11 +1,11 @@
 -- How long a spelling is.
-use Rattle.std.proofs.Common.{◌≡◌, ℕ, suc, ◌+◌, ◌-◌, ◌^◌, ◌<◌, ◌≤◌, min, ℤ, true, false, List, [], ◌∷◌, ◌++◌, length, take, get_or, refl, unsigned_abs, sym, ap, ◌∙◌, arith, eqb, length-append}
+use Rattle.std.proofs.Common.{◌≡◌, ◌≢◌, ℕ, suc, ◌+◌, ◌-◌, ◌^◌, ◌<◌, ◌≤◌, min, ℤ, true, false, List, [], ◌∷◌, ◌++◌, length, take, get_or, refl, unsigned_abs, ap, ◌∙◌, arith, length-append}
 use Rattle.std.specs.Int.{w16, to_be_bytes}
 use Rattle.tab_term.specs.declared.term.Term.{Term}
 use Rattle.tab_term.specs.Data.{int, atom, tuple, list, bin, map, PlainTerms, none, one_more, PlainPairs, no_pair, count, pair_count}
-use Rattle.tab_term.specs.Canon.{is_byte, fits_four, int_tag, int_contents, magnitude, length_field, atom_tag, atom_length_field, tuple_tag, arity_field, all_bytes, bytes_of, canon, canons, pair_canons}
+use Rattle.tab_term.specs.Canon.{is_byte, fits_four, int_tag, int_contents, magnitude, length_field, atom_tag, atom_length_field, tuple_tag, arity_field, list_tag, bytes_of, canon, canons, pair_canons}
 use Rattle.tab_term.specs.View.{term, terms, pairs}
-use Rattle.tab_etf.proofs.Canonical as is
+use Rattle.tab_etf.proofs.CanonLemmas as is
 use Rattle.tab_etf.proofs.Elements.{canons_next, pairs_next}
 
 module _ (z : ℤ) where
@@ -64,24 +64,25 @@ bytes_count none = refl
 bytes_count (one_more t ts) = ap suc (bytes_count ts)
 
 module _ (ts us : PlainTerms) (n : ℕ) (same : us ≡ ts) (counted : n ≡ count ts) where
-  pub empty_length : eqb n 0 ≡ true → length (canon (list ts)) ≡ 1
+  pub empty_length : list_tag ts ≡ 106 → length (canon (list ts)) ≡ 1
   unfolding canon
-  empty_length e = sym (ap length (is.list_empty ts us n same counted e))
+  empty_length e = ap length (is.list_none ts e)
 
-  pub bytes_length : eqb n 0 ≡ false → n < 2 ^ 16 → all_bytes us ≡ true → length (canon (list ts)) ≡ 3 + n
+  pub bytes_length : list_tag ts ≡ 107 → length (canon (list ts)) ≡ 3 + n
   unfolding canon
-  bytes_length e lt b = omega (arith, ap length (is.list_bytes ts us n same counted e lt b), length-append (to_be_bytes w16 n) (bytes_of us), bytes_count us, ap count same)
+  bytes_length e = omega (arith, ap length (is.list_bytes ts e), length-append (to_be_bytes w16 (count ts)) (bytes_of ts), bytes_count ts, counted)
 
-  long_length : length (108 ∷ length_field n ++ canons us ++ 106 ∷ []) ≡ 2 + length (length_field n) + length (canons us)
-  long_length = omega (arith, length-append (108 ∷ length_field n ++ canons us) (106 ∷ []), length-append (108 ∷ length_field n) (canons us))
-
-  pub many_length : eqb n 0 ≡ false → 2 ^ 16 ≤ n → length (canon (list ts)) ≡ 2 + length (length_field n) + length (canons us)
+  pub others_length : list_tag ts ≢ 106 → list_tag ts ≢ 107 → length (canon (list ts)) ≡ 2 + length (length_field n) + length (canons us)
   unfolding canon
-  many_length e le = sym (ap length (is.list_many ts us n same counted e le)) ∙ long_length
-
-  pub others_length : eqb n 0 ≡ false → all_bytes us ≡ false → length (canon (list ts)) ≡ 2 + length (length_field n) + length (canons us)
-  unfolding canon
-  others_length e b = sym (ap length (is.list_others ts us n same counted e b)) ∙ long_length
+  others_length e f =
+      omega (
+        arith,
+        ap length (is.list_others ts e f),
+        length-append (length_field (count ts) ++ canons ts) (106 ∷ []),
+        length-append (length_field (count ts)) (canons ts),
+        ap (λ m. length (length_field m)) counted,
+        ap (λ vs. length (canons vs)) same,
+      )
 
 pub canons_more : (ts : List Term) (i : ℕ) (t : Term) → i < length ts → t ≡ get_or ts i t → length (canons (terms (take (i + 1) ts))) ≡ length (canons (terms (take i ts))) + length (canon (term t))
 canons_more ts i t lt e = ap length (canons_next ts i t lt e) ∙ length-append (canons (terms (take i ts))) (canon (term t))

@@ -4,8 +4,7 @@ use Rattle.std.specs.Io.KnownBytes.{Appends}
 use Rattle.tab_etf.specs.Frames.{frame}
 use Rattle.tab_etf.specs.declared.framing.FrameFault.{FrameFault}
 use Rattle.tab_etf.specs.declared.framing.FrameFault.TheVariants.{FrameTooLong, Device}
-use Rattle.tab_etf.specs.declared.counted.Counted.{Counted}
-use Rattle.tab_etf.specs.declared.pending.Pending.{Pending}
+use Rattle.tab_etf.specs.declared.writer.Writer.{Writer}
 
 pub record Output : Type 0 where
   pub failed : Bool
@@ -13,8 +12,8 @@ pub record Output : Type 0 where
   pub sent : Option (List ℕ)  -- what the device holds, where that is known
   pub kept : List ℕ
 
-abbrev pub output : {W : Type 0} → (W → Option (List ℕ)) → Counted W → Pending → Output
-output contents device pending = record { failed = pending.failed; faults = device.faults; sent = contents device.inner; kept = pending.bytes.items }
+abbrev pub output : {W : Type 0} → (W → Option (List ℕ)) → Writer W → Output
+output contents w = record { failed = w.failed; faults = w.device.now.faults; sent = contents w.device.now.inner; kept = w.bytes.items }
 
 -- how many faults there are, if there were f before
 abbrev pub HasFaults : ℕ → Bool → ℕ → Type 0
@@ -39,6 +38,11 @@ KnownGrows old (Some xs) new (Some ys) bytes = Grows old xs new ys bytes
 pub record Puts (old new : Output) (bytes : List ℕ) : Type 0 where
   pub faults : (f : ℕ) → HasFaults f old.failed old.faults → HasFaults f new.failed new.faults
   pub text : KnownGrows old old.sent new new.sent bytes
+
+-- a writer keeps its device, and these bytes are written next
+pub record Writes {W : Type 0} (contents : W → Option (List ℕ)) (old new : Writer W) (bytes : List ℕ) : Type 0 where
+  pub same : new.device.ghost_name ≡ old.device.ghost_name
+  pub puts : Puts (output contents old) (output contents new) bytes
 
 -- bytes handed to the device: those that were kept, and these
 abbrev pub Hands : Bool → ℕ → Option (List ℕ) → Bool → ℕ → Option (List ℕ) → List ℕ → Type 0

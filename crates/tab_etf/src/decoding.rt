@@ -9,6 +9,7 @@ ghost use Rattle.tab_etf.specs.Reading.{Gives, Decodes, whole, end_of_list, time
 use crate::fault::{EtfFault, Fault, ReadError};
 use crate::leaf::{leaf_of, stop, u8_at, u32_at};
 use std::alloc::Global;
+use tab_term::spelling::{LARGE_TUPLE_EXT, LIST_EXT, NIL_EXT, SMALL_TUPLE_EXT};
 use tab_term::{Term, Terms};
 
 /// The deepest level that is read. The outermost term is at level 1.
@@ -22,7 +23,7 @@ fn list_end(bytes: &[u8]) -> Result<&[u8], ReadError>
     ensures { Gives (λ x. x.now) result (end_of_list bytes.now) }
 {
     let (tail, rest) = u8_at(bytes)?;
-    if tail != 106 {
+    if tail != NIL_EXT {
         return Err(stop(Fault::ImproperTail, bytes.len()));
     }
     Ok(rest)
@@ -91,9 +92,9 @@ fn behind_of(
     ensures { Gives (λ x. (term x.0, x.1.now)) result (behind (term_at levels) (levels == 0) tag bytes.now) }
 {
     match tag {
-        104 => small_tuple_of(alloc, levels, bytes),
-        105 => large_tuple_of(alloc, levels, bytes),
-        108 => long_list_of(alloc, levels, bytes),
+        SMALL_TUPLE_EXT => small_tuple_of(alloc, levels, bytes),
+        LARGE_TUPLE_EXT => large_tuple_of(alloc, levels, bytes),
+        LIST_EXT => long_list_of(alloc, levels, bytes),
         _ => leaf_of(alloc, levels == 0, tag, bytes),
     }
 }

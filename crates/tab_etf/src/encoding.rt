@@ -13,7 +13,7 @@ use crate::counted::{Broken, Counted};
 use crate::framing::FrameFault;
 use crate::measuring::encoded_len;
 use crate::outline::{Body, Leaf, Outline, outline_len, put_outline};
-use crate::pending::Pending;
+use crate::writer::Writer;
 use std::alloc::AllocError;
 use std::io::Write;
 use tab_term::Term;
@@ -27,6 +27,16 @@ pub enum EncodeFault {
     TooLong,
     #[error("no memory")]
     NoMemory,
+}
+
+impl From<AllocError> for EncodeFault {
+    ghost use Rattle.tab_etf.specs.declared.encoding.EncodeFault.TheVariants.{NoMemory};
+
+    ghost from_gives = { λ _ e. e ≡ NoMemory };
+
+    fn from(_e: AllocError) -> EncodeFault {
+        EncodeFault::NoMemory
+    }
 }
 
 /// A term that stands as it is.
@@ -49,11 +59,11 @@ fn spell<W: Write>(device: &mut Counted<W>, head: &[u8], outline: &Outline) -> R
     ensures part { OnErr result ((n : ℕ) × Appends (W.contents device.old.inner) (W.contents device.new.inner) (take n (head.now ++ canon (outline_term outline.now)))) }
     ensures rose { OnErr result (device.new.faults ≡ min (device.old.faults + 1) u64.MAX) }
 {
-    let mut pending = Pending::new();
-    pending.put(device, head);
-    put_outline(device, &mut pending, outline);
-    pending.write_out(device);
-    if pending.has_failed() {
+    let mut writer = Writer::new(device);
+    writer.put(head);
+    put_outline(&mut writer, outline);
+    writer.write_out();
+    if writer.has_failed() {
         return Err(Broken);
     }
     Ok(())
@@ -89,10 +99,8 @@ pub fn write_outline<W: Write>(device: &mut Counted<W>, outline: &Outline) -> Re
     let Some(len) = outline_len(outline) else {
         return Err(FrameFault::FrameTooLong(u32::MAX));
     };
-    match spell(device, &frame_head(len as u32), outline) {
-        Ok(()) => Ok(()),
-        Err(_) => Err(FrameFault::Device),
-    }
+    spell(device, &frame_head(len as u32), outline)?;
+    Ok(())
 }
 
 /// Adds bytes and the spelling behind them, so many bytes together. On an error the bytes are as before.
@@ -125,10 +133,8 @@ pub fn encode(value: &Term, out: &mut Vec<u8>) -> Result<(), EncodeFault>
     let Some(len) = encoded_len(value) else {
         return Err(EncodeFault::TooLong);
     };
-    match append(&held(value), &[131], len as usize, out) {
-        Ok(()) => Ok(()),
-        Err(_) => Err(EncodeFault::NoMemory),
-    }
+    append(&held(value), &[131], len as usize, out)?;
+    Ok(())
 }
 
 /// Adds the frame of a term: four bytes of length, and the payload.
@@ -152,8 +158,6 @@ pub fn append_outline(outline: &Outline, out: &mut Vec<u8>) -> Result<(), Encode
     let Some(len) = outline_len(outline) else {
         return Err(EncodeFault::TooLong);
     };
-    match append(outline, &frame_head(len as u32), len as usize + 4, out) {
-        Ok(()) => Ok(()),
-        Err(_) => Err(EncodeFault::NoMemory),
-    }
+    append(outline, &frame_head(len as u32), len as usize + 4, out)?;
+    Ok(())
 }

@@ -1,9 +1,10 @@
 //! Frames, and why there is none.
 
 ghost use Rattle.std.specs.Prelude.{◌≡◌, IfOk};
-ghost use Rattle.tab_etf.specs.declared.framing.FrameFault.TheVariants.{NoMemory};
+ghost use Rattle.tab_etf.specs.declared.framing.FrameFault.TheVariants.{Device, NoMemory};
 ghost use Rattle.tab_etf.specs.Frames.{payload_of, IsTold};
 
+use crate::counted::Broken;
 use std::alloc::{AllocError, AllocFailed, Global};
 use thiserror::Error;
 
@@ -38,6 +39,14 @@ impl From<AllocError> for FrameFault {
 
     fn from(_e: AllocError) -> FrameFault {
         FrameFault::NoMemory
+    }
+}
+
+impl From<Broken> for FrameFault {
+    ghost from_gives = { λ _ e. e ≡ Device };
+
+    fn from(_e: Broken) -> FrameFault {
+        FrameFault::Device
     }
 }
 

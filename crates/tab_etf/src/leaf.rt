@@ -9,6 +9,10 @@ ghost use Rattle.tab_etf.specs.Reading.{Gives, byte_at, number_at, bytes_at, sho
 
 use crate::fault::{Fault, ReadError, Stop};
 use std::alloc::Global;
+use tab_term::spelling::{
+    ATOM_EXT, ATOM_UTF8_EXT, BINARY_EXT, INTEGER_EXT, NIL_EXT, SMALL_ATOM_EXT, SMALL_ATOM_UTF8_EXT,
+    SMALL_BIG_EXT, SMALL_INTEGER_EXT, STRING_EXT,
+};
 use tab_term::{Atom, Bytes, Term, Terms};
 
 pub fn stop(fault: Fault, left: usize) -> ReadError
@@ -140,19 +144,13 @@ fn signed_of(sign: u8, m: u128) -> Option<i128>
 fn big_of(sign: u8, digits: &[u8]) -> Option<i128>
     ensures { result ≡ signed_value sign (low_value digits.now) }
 {
-    match magnitude_of(digits) {
-        Some(m) => signed_of(sign, m),
-        None => None,
-    }
+    signed_of(sign, magnitude_of(digits)?)
 }
 
 fn integer_in(sign: u8, digits: &[u8], left: usize) -> Result<i128, ReadError>
     ensures { Gives (λ z. z) result (integer_is (signed_value sign (low_value digits.now)) left) }
 {
-    match big_of(sign, digits) {
-        Some(z) => Ok(z),
-        None => Err(stop(Fault::Integer, left)),
-    }
+    big_of(sign, digits).ok_or_else(|| stop(Fault::Integer, left))
 }
 
 #[tactic(auto, unfolding(crate::specs::Reading::small_big))]
@@ -170,13 +168,10 @@ fn small_big_of(bytes: &[u8]) -> Result<(Term, &[u8]), ReadError>
 fn atom_of(text: String, left: usize) -> Result<Atom, ReadError>
     ensures { Gives (λ a. a) result (atom_is (string_bytes text) left) }
 {
-    match Atom::new(text) {
-        Ok(atom) => Ok(atom),
-        Err(_) => Err(stop(Fault::Atom, left)),
-    }
+    Atom::new(text).map_err(|_| stop(Fault::Atom, left))
 }
 
-#[tactic(auto, using(crate::proofs::Text::utf8_here, crate::proofs::Text::utf8_not))]
+#[tactic(auto, using(crate::proofs::LeafLemmas::utf8_here, crate::proofs::LeafLemmas::utf8_not))]
 fn utf8_name(alloc: Global, text: &[u8], left: usize) -> Result<Atom, ReadError>
     ensures { Gives (λ a. a) result (utf8_is text.now left) }
 {
@@ -187,7 +182,7 @@ fn utf8_name(alloc: Global, text: &[u8], left: usize) -> Result<Atom, ReadError>
 }
 
 /// Each byte is a character.
-#[tactic(auto, using(crate::proofs::Text::latin1_more))]
+#[tactic(auto, using(crate::proofs::LeafLemmas::latin1_more))]
 fn latin1_text(alloc: Global, bytes: &[u8]) -> Result<String, ReadError>
     ensures { Gives (λ s. string_bytes s) result (Ok (encode_utf8_all bytes.now)) }
 {
@@ -239,7 +234,7 @@ fn small_utf8_atom_of(alloc: Global, bytes: &[u8]) -> Result<(Term, &[u8]), Read
 
 // ---- lists of bytes, and binaries
 
-#[tactic(auto, using(crate::proofs::Text::numbers_more))]
+#[tactic(auto, using(crate::proofs::LeafLemmas::numbers_more))]
 fn numbers_of(alloc: Global, bytes: &[u8]) -> Result<Terms, ReadError>
     ensures { Gives (λ ts. ts) result (Ok (numbers bytes.now)) }
 {
@@ -284,16 +279,16 @@ pub fn leaf_of(
     ensures { Gives (λ x. (term x.0, x.1.now)) result (leaf deepest tag bytes.now) }
 {
     match tag {
-        97 => small_integer_of(bytes),
-        98 => integer_of(bytes),
-        110 => small_big_of(bytes),
-        100 => latin1_atom_of(alloc, bytes),
-        115 => small_latin1_atom_of(alloc, bytes),
-        118 => utf8_atom_of(alloc, bytes),
-        119 => small_utf8_atom_of(alloc, bytes),
-        106 => Ok((Term::List(Terms::from_vec(Vec::new(alloc))), bytes)),
-        107 => string_of(alloc, deepest, bytes),
-        109 => binary_of(alloc, bytes),
+        SMALL_INTEGER_EXT => small_integer_of(bytes),
+        INTEGER_EXT => integer_of(bytes),
+        SMALL_BIG_EXT => small_big_of(bytes),
+        ATOM_EXT => latin1_atom_of(alloc, bytes),
+        SMALL_ATOM_EXT => small_latin1_atom_of(alloc, bytes),
+        ATOM_UTF8_EXT => utf8_atom_of(alloc, bytes),
+        SMALL_ATOM_UTF8_EXT => small_utf8_atom_of(alloc, bytes),
+        NIL_EXT => Ok((Term::List(Terms::from_vec(Vec::new(alloc))), bytes)),
+        STRING_EXT => string_of(alloc, deepest, bytes),
+        BINARY_EXT => binary_of(alloc, bytes),
         _ => Err(stop(Fault::LeftOut(tag), bytes.len() + 1)),
     }
 }

@@ -9,12 +9,10 @@ mod framing;
 mod leaf;
 mod measuring;
 mod outline;
-mod pending;
 mod receiving;
 mod spelling;
 mod splitting;
-#[cfg(test)]
-mod tests;
+mod writer;
 
 pub use counted::{Broken, Counted};
 pub use decoding::{decode, spellings_are_apart};

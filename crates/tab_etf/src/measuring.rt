@@ -1,11 +1,13 @@
 //! How long the canonical spelling of a term is.
 
 ghost use Rattle.std.specs.Prelude.{◌≡◌, ◌<◌, ◌≤◌, ◌+◌, ◌^◌, ◌∷◌, min, length, MatchOption, unsigned_abs};
-ghost use Rattle.tab_term.specs.Canon.{int_tag, int_contents, magnitude, length_field, atom_tag, atom_length_field, tuple_tag, arity_field, list_tag, list_contents, canon, canons, pair_canons};
+ghost use Rattle.tab_term.specs.Canon.{int_tag, int_contents, magnitude, length_field, atom_tag, atom_length_field, tuple_tag, arity_field, canon, canons, pair_canons};
 ghost use Rattle.tab_term.specs.Data.{list};
 ghost use Rattle.tab_term.specs.View.{term, terms, pairs as pairs_of};
 
-use crate::spelling::{are_bytes, is_in_byte, is_in_four, low_first, significant_of};
+use tab_term::spelling::{
+    NIL_EXT, STRING_EXT, fits_four, is_byte, list_tag, low_first, significant_of,
+};
 use tab_term::{Term, Terms};
 
 /// The longest payload that a length of four bytes can tell.
@@ -15,9 +17,9 @@ pub const LONGEST: u64 = 0xffff_ffff;
 pub fn int_len(z: i128) -> u64
     ensures { result ≡ length (int_tag z ∷ int_contents z) }
 {
-    if is_in_byte(z) {
+    if is_byte(z) {
         2
-    } else if is_in_four(z) {
+    } else if fits_four(z) {
         5
     } else {
         big_len(z)
@@ -81,17 +83,15 @@ pub fn spelled_len(t: &Term) -> u64
 }
 
 #[cycle(len)]
-#[tactic(auto, using(crate::proofs::Lengths::empty_length, crate::proofs::Lengths::bytes_length, crate::proofs::Lengths::many_length, crate::proofs::Lengths::others_length))]
+#[tactic(auto, using(crate::proofs::Lengths::empty_length, crate::proofs::Lengths::bytes_length, crate::proofs::Lengths::others_length))]
 pub fn list_len(ts: &Terms) -> u64
     ensures { result ≡ min (length (canon (list ts.now))) u64.MAX }
 {
     let items = ts.as_slice();
-    if items.is_empty() {
-        1
-    } else if items.len() < 0x1_0000 && are_bytes(items) {
-        items.len() as u64 + 3
-    } else {
-        all_len(items).saturating_add(field_len(items.len()) + 2)
+    match list_tag(ts) {
+        NIL_EXT => 1,
+        STRING_EXT => items.len() as u64 + 3,
+        _ => all_len(items).saturating_add(field_len(items.len()) + 2),
     }
 }
 
@@ -108,7 +108,7 @@ fn all_len(ts: &[Term]) -> u64
 }
 
 #[cycle(len)]
-#[tactic(auto, using(crate::proofs::Elements::pair_weight_at, crate::proofs::Lengths::pairs_more, crate::proofs::Lengths::no_pair_length))]
+#[tactic(auto, using(tab_term::proofs::Lists::pair_weight_at, crate::proofs::Lengths::pairs_more, crate::proofs::Lengths::no_pair_length))]
 fn pairs_len(ps: &[(Term, Term)]) -> u64
     ensures { result ≡ min (length (pair_canons (pairs_of ps.now))) u64.MAX }
 {

@@ -3,13 +3,13 @@
 ghost use Rattle.std.specs.Prelude.{◌≡◌, ◌<◌, ◌≤◌, ◌∷◌, min, length, MatchOption};
 ghost use Rattle.tab_term.specs.Canon.{canon};
 ghost use Rattle.tab_etf.specs.Outlines.{leaf_term, body_term, outline_term, head_canon, IsShort, IsShortBody, IsShortHead, IsShortOutline};
-ghost use Rattle.tab_etf.specs.Writing.{Puts, output};
+ghost use Rattle.tab_etf.specs.Writing.{Writes};
 
-use crate::counted::Counted;
 use crate::measuring::{LONGEST, atom_len, int_len, list_len, spelled_len};
-use crate::pending::Pending;
 use crate::spelling::{put, put_atom, put_int, put_list};
+use crate::writer::Writer;
 use std::io::Write;
+use tab_term::spelling::SMALL_TUPLE_EXT;
 use tab_term::{Term, Terms};
 
 /// A part of a term.
@@ -40,59 +40,59 @@ pub struct Outline<'a> {
 }
 
 #[tactic(auto, unfolding(tab_term::specs::Canon::canon))]
-fn put_leaf<W: Write>(device: &mut Counted<W>, pending: &mut Pending, leaf: &Leaf)
+fn put_leaf<W: Write>(writer: &mut Writer<W>, leaf: &Leaf)
     requires { IsShort leaf.now }
-    ensures { Puts (output W.contents device.old pending.old) (output W.contents device.new pending.new) (canon (leaf_term leaf.now)) }
+    ensures { Writes W.contents writer.old writer.new (canon (leaf_term leaf.now)) }
 {
     match leaf {
-        Leaf::Word(text) => put_atom(device, pending, text),
-        Leaf::Number(number) => put_int(device, pending, i128::from(*number)),
-        Leaf::Held(held) => put(device, pending, held),
-        Leaf::List(elements) => put_list(device, pending, elements),
+        Leaf::Word(text) => put_atom(writer, text),
+        Leaf::Number(number) => put_int(writer, i128::from(*number)),
+        Leaf::Held(held) => put(writer, held),
+        Leaf::List(elements) => put_list(writer, elements),
     }
 }
 
-#[tactic(auto, using(crate::proofs::Output::puts_then, crate::proofs::Output::puts_none))]
-fn put_head<W: Write>(device: &mut Counted<W>, pending: &mut Pending, head: &Option<Leaf>)
+#[tactic(auto, using(crate::proofs::WritingLemmas::writes_then, crate::proofs::WritingLemmas::writes_none))]
+fn put_head<W: Write>(writer: &mut Writer<W>, head: &Option<Leaf>)
     requires { IsShortHead head.now }
-    ensures { Puts (output W.contents device.old pending.old) (output W.contents device.new pending.new) (head_canon head.now) }
+    ensures { Writes W.contents writer.old writer.new (head_canon head.now) }
 {
     if let Some(leaf) = head {
-        pending.put(device, &[104, 2]);
-        put_leaf(device, pending, leaf);
+        writer.put(&[SMALL_TUPLE_EXT, 2]);
+        put_leaf(writer, leaf);
     }
 }
 
-#[tactic(auto, using(crate::proofs::Outlined::puts_pair, crate::proofs::Outlined::puts_triple))]
-fn put_body<W: Write>(device: &mut Counted<W>, pending: &mut Pending, body: &Body)
+#[tactic(auto, using(crate::proofs::OutlinesLemmas::writes_pair, crate::proofs::OutlinesLemmas::writes_triple))]
+fn put_body<W: Write>(writer: &mut Writer<W>, body: &Body)
     requires { IsShortBody body.now }
-    ensures { Puts (output W.contents device.old pending.old) (output W.contents device.new pending.new) (canon (body_term body.now)) }
+    ensures { Writes W.contents writer.old writer.new (canon (body_term body.now)) }
 {
     match body {
-        Body::One(only) => put_leaf(device, pending, only),
+        Body::One(only) => put_leaf(writer, only),
         Body::Two(first, second) => {
-            pending.put(device, &[104, 2]);
-            put_leaf(device, pending, first);
-            put_leaf(device, pending, second);
+            writer.put(&[SMALL_TUPLE_EXT, 2]);
+            put_leaf(writer, first);
+            put_leaf(writer, second);
         }
         Body::Three(first, second, third) => {
-            pending.put(device, &[104, 3]);
-            put_leaf(device, pending, first);
-            put_leaf(device, pending, second);
-            put_leaf(device, pending, third);
+            writer.put(&[SMALL_TUPLE_EXT, 3]);
+            put_leaf(writer, first);
+            put_leaf(writer, second);
+            put_leaf(writer, third);
         }
     }
 }
 
 /// Writes the canonical spelling.
-#[tactic(auto, using(crate::proofs::Outlined::puts_outline))]
-pub fn put_outline<W: Write>(device: &mut Counted<W>, pending: &mut Pending, outline: &Outline)
+#[tactic(auto, using(crate::proofs::OutlinesLemmas::writes_outline))]
+pub fn put_outline<W: Write>(writer: &mut Writer<W>, outline: &Outline)
     requires { IsShortOutline outline.now }
-    ensures { Puts (output W.contents device.old pending.old) (output W.contents device.new pending.new) (canon (outline_term outline.now)) }
+    ensures { Writes W.contents writer.old writer.new (canon (outline_term outline.now)) }
 {
-    put_head(device, pending, &outline.first);
-    put_head(device, pending, &outline.second);
-    put_body(device, pending, &outline.body);
+    put_head(writer, &outline.first);
+    put_head(writer, &outline.second);
+    put_body(writer, &outline.body);
 }
 
 #[tactic(auto, using(crate::proofs::Lengths::int_length, crate::proofs::Lengths::atom_length))]
@@ -118,7 +118,7 @@ fn head_len(head: &Option<Leaf>) -> u64
     }
 }
 
-#[tactic(auto, using(crate::proofs::Outlined::pair_length, crate::proofs::Outlined::triple_length))]
+#[tactic(auto, using(crate::proofs::OutlinesLemmas::pair_length, crate::proofs::OutlinesLemmas::triple_length))]
 fn body_len(body: &Body) -> u64
     requires { IsShortBody body.now }
     ensures { result ≡ min (length (canon (body_term body.now))) u64.MAX }
@@ -136,7 +136,7 @@ fn body_len(body: &Body) -> u64
 }
 
 /// How long the payload is: the byte 131 and the canonical spelling. None where it passes 4,294,967,295 bytes.
-#[tactic(auto, using(crate::proofs::Outlined::outline_length))]
+#[tactic(auto, using(crate::proofs::OutlinesLemmas::outline_length))]
 pub fn outline_len(outline: &Outline) -> Option<u64>
     requires { IsShortOutline outline.now }
     ensures { MatchOption result (4294967295 < length (131 ∷ canon (outline_term outline.now))) (λ n. (n ≡ length (131 ∷ canon (outline_term outline.now))) × (n ≤ 4294967295)) }

@@ -25,11 +25,11 @@ fn fill<R: Read>(reader: &mut Counted<R>, buf: &mut [u8]) -> Result<usize, Broke
 {
     let mut at = 0;
     while at < buf.len() {
-        match reader.get(&mut buf[at..]) {
-            Ok(0) => return Ok(at),
-            Ok(count) => at += count,
-            Err(broken) => return Err(broken),
+        let came = reader.get(&mut buf[at..])?;
+        if came == 0 {
+            return Ok(at);
         }
+        at += came;
     }
     Ok(at)
 }
@@ -60,9 +60,7 @@ fn read_payload<R: Read>(
     let mut chunk = [0; CHUNK];
     while left > 0 {
         let room = left.min(CHUNK);
-        let Ok(came) = fill(reader, &mut chunk[..room]) else {
-            return Err(FrameFault::Device);
-        };
+        let came = fill(reader, &mut chunk[..room])?;
         if came < room {
             return Err(FrameFault::CutOff);
         }
@@ -88,9 +86,7 @@ pub fn read_frame<R: Read>(
     ensures faults { CountsFaults result reader.old.faults reader.new.faults }
 {
     let mut head = [0; 4];
-    let Ok(came) = fill(reader, &mut head) else {
-        return Err(FrameFault::Device);
-    };
+    let came = fill(reader, &mut head)?;
     if came == 0 {
         return Ok(None);
     }
@@ -101,8 +97,6 @@ pub fn read_frame<R: Read>(
     if count > LIMIT {
         return Err(FrameFault::FrameTooLong(count));
     }
-    match read_payload(alloc, reader, count as usize) {
-        Ok(frame) => Ok(Some(frame)),
-        Err(fault) => Err(fault),
-    }
+    let frame = read_payload(alloc, reader, count as usize)?;
+    Ok(Some(frame))
 }

@@ -69,7 +69,7 @@ fn split(alloc: Global, bytes: &[u8]) -> Result<Parts, AllocError>
 {
     let mut frames = Vec::new(alloc);
     let mut used = 0;
-    'frames: loop {
+    loop {
         match front_of(&bytes[used..]) {
             Front::Whole(count) => {
                 frames.push(Frame::of(alloc, &bytes[used + 4..used + 4 + count])?)?;

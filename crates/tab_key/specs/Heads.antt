@@ -3,6 +3,7 @@ use Rattle.std.proofs.Common.{◌≡◌, ℕ, zero, suc, ◌+◌, ◌-◌, ◌*�
 use Rattle.std.specs.Ordering.{ordering_then, MatchOrdering}
 use Rattle.std.specs.Cmp.{nat_cmp_is}
 use Rattle.std.specs.Cmp.Lexicographic.{slice_cmp}
+use Rattle.std.proofs.lemmas.Bool.{ltb-true, ltb-false}
 use Rattle.std.proofs.lemmas.Cmp.{ranked}
 use Rattle.std.proofs.Math.Nat.{mul-le-mul_left}
 
@@ -20,14 +21,8 @@ pub power_above : (k : ℕ) → 0 < 256 ^ k
 power_above zero = omega arith
 power_above (suc k) = omega (arith, power_above k)
 
-lt_is : (n m : ℕ) → nat_lt n m ≡ true → n < m
-lt_is n m h = grind arith
-
-ge_is : (n m : ℕ) → nat_lt n m ≡ false → m ≤ n
-ge_is n m h = grind arith
-
 head_of_byte : (p : Bool) (k b : ℕ) (bs : List ℕ) → nat_lt b 255 ≡ p → head k bs < 256 ^ k → (if p then b * 256 ^ k + head k bs else 256 ^ suc k - 1) < 256 ^ suc k
-head_of_byte true k b bs hp h = omega (arith, two_less (256 ^ k) b 255 (head k bs) 0 h (lt_is b 255 hp))
+head_of_byte true k b bs hp h = omega (arith, two_less (256 ^ k) b 255 (head k bs) 0 h (ltb-true b 255 hp))
 head_of_byte false k b bs hp h = omega (arith, power_above k)
 
 pub head_below : (k : ℕ) (bs : List ℕ) → head k bs < 256 ^ k
@@ -50,6 +45,6 @@ head_less (suc k) (x ∷ xs) (y ∷ ys) h = by (nat_lt x 255) (nat_lt y 255) ref
 
     by : (p q : Bool) → nat_lt x 255 ≡ p → nat_lt y 255 ≡ q → (head k xs < head k ys → slice_cmp nat_cmp xs ys ≡ Less) → (if p then x * 256 ^ k + head k xs else 256 ^ suc k - 1) < (if q then y * 256 ^ k + head k ys else 256 ^ suc k - 1) → ordering_then (nat_cmp x y) (slice_cmp nat_cmp xs ys) ≡ Less
     by true true hp hq f h = at (nat_cmp x y) f (ranked x y (nat_cmp x y) refl) h
-    by true false hp hq f h = ap (λ o. ordering_then o (slice_cmp nat_cmp xs ys)) (sym (nat_cmp_is x y Less (omega (arith, lt_is x 255 hp, ge_is y 255 hq))))
+    by true false hp hq f h = ap (λ o. ordering_then o (slice_cmp nat_cmp xs ys)) (sym (nat_cmp_is x y Less (omega (arith, ltb-true x 255 hp, ltb-false y 255 hq))))
     by false true hp hq f h = absurd (omega (arith, h, head_of_byte true k y ys hq (head_below k ys)))
     by false false hp hq f h = absurd (omega (arith, h))

@@ -15,7 +15,7 @@ use Rattle.tab_session.specs.declared.ended.Ended.{Ended}
 use Rattle.tab_session.specs.declared.ended.Ended.TheVariants.{Damaged, Device, TooLong, NoMemory}
 use Rattle.tab_session.specs.Replays.{fresh, frames_of, IsRun, IsReplaying, Passed, WroteAll, WroteSome, WroteFirst, BeginsTooLong, Served, Replayed, Advances}
 use Rattle.tab_session.proofs.AnsweredAllLemmas.{total, ran_join, frames_join, beginning_after}
-use Rattle.tab_etf.proofs.Known.{Appends-none, Appends-then}
+use Rattle.tab_etf.proofs.KnownBytesLemmas.{Appends-none, Appends-then}
 
 pub replaying_init : (stream : List ℕ) (old : Option (List ℕ)) → IsReplaying stream (Some stream) [] 0 fresh old old
 replaying_init stream old = record {

@@ -14,7 +14,7 @@ use Rattle.tab_model.specs.State.{State}
 use Rattle.tab_session.specs.AnsweredPayloads.{Answered, AnsweredAll, answer_frame, answer_payload, NotPut}
 use Rattle.tab_session.specs.Replays.{frames_of, IsServing, Passed, WroteSome, WroteFirst, WroteBefore, Served, ended_of}
 use Rattle.tab_session.proofs.AnsweredAllLemmas.{total, frames_join, frames_one, beginning_after}
-use Rattle.tab_etf.proofs.Known.{Appends-none, Appends-then, Appends-keeps}
+use Rattle.tab_etf.proofs.KnownBytesLemmas.{Appends-none, Appends-then, Appends-keeps}
 
 pub serving_init : (σ : State) (all : List (List ℕ)) (old : Option (List ℕ)) → IsServing σ σ all all old old []
 serving_init σ all old = record { said = []; goes = λ ss τ r. r; written = []; text = Appends-none old; whole = refl }

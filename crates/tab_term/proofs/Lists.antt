@@ -5,14 +5,11 @@ use Rattle.tab_term.specs.declared.term.Term.{Term}
 use Rattle.std.specs.Str.{IsUtf8, chars}
 use Rattle.std.proofs.Math.Utf8.{encode, encodes}
 use Rattle.std.proofs.lemmas.Str.{length-encode, len_utf8_bounds, encodes-chars}
-use Rattle.tab_term.specs.Data.{PlainTerm, PlainTerms, none, one_more, PlainPairs, no_pair, one_pair, count, pair_count, weight, nodes}
+use Rattle.tab_term.specs.Data.{PlainTerm, PlainTerms, none, one_more, PlainPairs, no_pair, one_pair, count, pair_count, weight, nodes, pair_nodes}
 use Rattle.tab_term.specs.Same.{same, all_same, pairs_same}
 use Rattle.tab_term.specs.View.{term, terms, pairs}
 use Rattle.tab_term.specs.Pattern.{matches, all_match}
-use Rattle.std.proofs.Common.{Equal}
 use Rattle.std.proofs.Math.Bool.{and-false}
-use Rattle.std.specs.Ordering.{ordering_then}
-use Rattle.tab_term.specs.Order.{order, pairs_order}
 
 abbrev pub push : PlainTerms → PlainTerm → PlainTerms
 push none t = one_more t none
@@ -98,17 +95,8 @@ pub count_pairs : (ps : List (Term × Term)) → pair_count (pairs ps) ≡ lengt
 count_pairs [] = refl
 count_pairs (p ∷ ps) = ap suc (count_pairs ps)
 
-pub at_pair : (xs ys : List (Term × Term)) (i : ℕ) (x y : Term × Term) → i < length xs → pair_count (pairs xs) ≡ pair_count (pairs ys) → x ≡ get_or xs i x → y ≡ get_or ys i y
-    → pairs_order (pairs (drop i xs)) (pairs (drop i ys)) ≡ pairs_order (pairs xs) (pairs ys)
-    → pairs_order (pairs xs) (pairs ys) ≡ ordering_then (ordering_then (order (term x.0) (term y.0)) (order (term x.1) (term y.1))) (pairs_order (pairs (drop (i + 1) xs)) (pairs (drop (i + 1) ys)))
-at_pair xs ys i x y hx cnt ex ey inv =
-    let hy : i < length ys = omega (arith, hx, count_pairs xs, count_pairs ys, cnt) in
-    sym inv
-    ∙ at_drop_more (λ us. pairs_order (pairs us) (pairs (drop i ys))) xs i x hx
-    ∙ at_drop_more (λ vs. pairs_order (pairs (get_or xs i x ∷ drop (i + 1) xs)) (pairs vs)) ys i y hy
-    ∙ ap₂ (λ u v. pairs_order (pairs (u ∷ drop (i + 1) xs)) (pairs (v ∷ drop (i + 1) ys))) (sym ex) (sym ey)
-
-pub past_pairs : (xs ys : List (Term × Term)) (i : ℕ) → length xs ≤ i → pair_count (pairs xs) ≡ pair_count (pairs ys) → pairs_order (pairs (drop i xs)) (pairs (drop i ys)) ≡ Equal
-past_pairs xs ys i h cnt =
-    at_drop_all (λ us. pairs_order (pairs us) (pairs (drop i ys))) xs i h
-    ∙ at_drop_all (λ vs. pairs_order no_pair (pairs vs)) ys i (omega (arith, h, count_pairs xs, count_pairs ys, cnt))
+-- a pair weighs no more than all
+pub pair_weight_at : (ps : List (Term × Term)) (i : ℕ) (p : Term × Term) → i < length ps → p ≡ get_or ps i p → weight (term p.0) + weight (term p.1) ≤ pair_nodes (pairs ps)
+pair_weight_at [] i p h e = absurd (omega arith)
+pair_weight_at (q ∷ qs) zero p h e = rw e (omega arith)
+pair_weight_at (q ∷ qs) (suc i) p h e = omega (arith, pair_weight_at qs i p (omega arith) e)

@@ -2,6 +2,7 @@
 use Rattle.std.proofs.Common.{◌≡◌, ℕ, ◌+◌, ◌-◌, ◌*◌, ◌^◌, ◌<◌, ◌≤◌, Bool, true, false, nat_lt, if◌then◌else◌, List, ◌∷◌, length, min, refl, ap, ◌∙◌, Ordering, Less, Equal, Greater, nat_cmp, arith}
 use Rattle.std.specs.Prelude.{ℤ, unsigned_abs}
 use Rattle.std.specs.Ordering.{ordering_then, MatchOrdering}
+use Rattle.std.proofs.lemmas.Bool.{ltb-true, ltb-false}
 use Rattle.std.proofs.lemmas.Cmp.{ranked}
 use Rattle.std.specs.Int.{w32, cast_unsigned}
 use Rattle.tab_term.specs.Data.{PlainTerm, int, atom, tuple, list, bin, map, count, pair_count}
@@ -9,7 +10,7 @@ use Rattle.tab_term.specs.Canon.{canon, tag, int_tag, int_contents, is_byte, fit
 use Rattle.tab_term.specs.Order.{bytes_cmp, order, contents_order, members_order, pairs_order}
 use Rattle.tab_key.specs.Heads.{head, head_below, head_less}
 use Rattle.tab_term.specs.Numbers.{less_is, tie_is}
-use Rattle.tab_term.specs.Compare.{apart, int_tag_at, lt_is, ge_is}
+use Rattle.tab_term.specs.Compare.{apart, int_tag_at}
 use Rattle.tab_term.specs.OrderLaws.{order_is, at_one_tag, bytes_at, fours_at, bigs_at}
 
 -- how long a text is, and its first five bytes
@@ -82,10 +83,10 @@ order_less : (a b : PlainTerm) → number a < number b → order a b ≡ Less
 order_less a b h = by (nat_lt (tag a) (tag b)) (nat_lt (tag b) (tag a)) refl refl
   where
     by : (p q : Bool) → nat_lt (tag a) (tag b) ≡ p → nat_lt (tag b) (tag a) ≡ q → order a b ≡ Less
-    by true _ hp hq = first_less (tag a) (tag b) (contents_order a b) (lt_is (tag a) (tag b) hp)
-    by false true hp hq = absurd (omega (arith, h, lt_is (tag b) (tag a) hq, within (weight b)))
+    by true _ hp hq = first_less (tag a) (tag b) (contents_order a b) (ltb-true (tag a) (tag b) hp)
+    by false true hp hq = absurd (omega (arith, h, ltb-true (tag b) (tag a) hq, within (weight b)))
     by false false hp hq =
-        let e : tag a ≡ tag b = omega (arith, ge_is (tag a) (tag b) hp, ge_is (tag b) (tag a) hq) in
+        let e : tag a ≡ tag b = omega (arith, ltb-false (tag a) (tag b) hp, ltb-false (tag b) (tag a) hq) in
         at_one_tag a b e ∙ contents_less a b e (heavier (weight a) (weight b) (omega (arith, h, e)))
 
 -- so the numbers agree with the order

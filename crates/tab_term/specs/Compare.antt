@@ -1,45 +1,40 @@
 -- The order of terms is that of their spellings, whatever follows them.
-use Rattle.std.proofs.Common.{◌≡◌, ◌≢◌, ℕ, ◌^◌, ◌/◌, ◌<◌, ◌≤◌, Bool, true, false, ◌&&◌, nat_lt, ◌==◌, if◌then◌else◌, List, [], ◌∷◌, ◌++◌, length, refl, sym, ap, ap₂, ◌∙◌, Ordering, nat_cmp, arith, append_assoc}
+use Rattle.std.proofs.Common.{◌≡◌, ◌≢◌, ℕ, ◌^◌, ◌/◌, Bool, true, false, ◌&&◌, nat_lt, ◌==◌, if◌then◌else◌, List, [], ◌∷◌, ◌++◌, length, refl, sym, ap, ap₂, ◌∙◌, Ordering, nat_cmp, arith, append_assoc}
 use Rattle.std.specs.Prelude.{ℤ, unsigned_abs}
 use Rattle.std.specs.Ordering.{ordering_then}
 use Rattle.std.specs.Int.{w16, w32, w64, to_be_bytes, cast_unsigned, byte_at, bytes_high_first}
+use Rattle.std.proofs.lemmas.Bool.{ltb-true, ltb-false}
 use Rattle.std.proofs.lemmas.Nat.{mod_below}
 use Rattle.tab_term.specs.Data.{PlainTerm, int, atom, tuple, list, bin, map, PlainTerms, none, one_more, PlainPairs, no_pair, one_pair, count, pair_count}
 use Rattle.tab_term.specs.Canon.{canon, canons, pair_canons, tag, int_tag, int_contents, atom_tag, atom_length_field, tuple_tag, arity_field, list_tag, list_contents, length_field, wide_length_field, magnitude, is_byte, fits_four, sign_of, is_byte_term, byte_of, all_bytes, bytes_of}
 use Rattle.tab_term.specs.Order.{bytes_cmp, order, by_tag, contents_order, members_order, pairs_order}
 use Rattle.tab_term.specs.Numbers.{then_assoc, then_same, then_equal, equal_is, less_is, greater_is, text_cmp, high_cmp, high_length}
 
-pub lt_is : (n m : ℕ) → nat_lt n m ≡ true → n < m
-lt_is n m h = grind arith
-
-pub ge_is : (n m : ℕ) → nat_lt n m ≡ false → m ≤ n
-ge_is n m h = grind arith
-
 -- ---- lengths
 
 wide_by : (p q : Bool) (n m : ℕ) (u v : List ℕ) → nat_lt n (2 ^ 64) ≡ p → nat_lt m (2 ^ 64) ≡ q → bytes_cmp ((if p then to_be_bytes w64 n else 256 ∷ n ∷ []) ++ u) ((if q then to_be_bytes w64 m else 256 ∷ m ∷ []) ++ v) ≡ ordering_then (nat_cmp n m) (bytes_cmp u v)
-wide_by true true n m u v hn hm = high_cmp 8 n m u v (lt_is n (2 ^ 64) hn) (lt_is m (2 ^ 64) hm)
+wide_by true true n m u v hn hm = high_cmp 8 n m u v (ltb-true n (2 ^ 64) hn) (ltb-true m (2 ^ 64) hm)
 wide_by true false n m u v hn hm =
     ap (λ o. ordering_then o (bytes_cmp (bytes_high_first 7 n ++ u) (m ∷ v))) (less_is (byte_at 7 n) 256 (mod_below (n / 256 ^ 7) 256 (omega arith)))
-    ∙ ap (λ o. ordering_then o (bytes_cmp u v)) (sym (less_is n m (omega (arith, lt_is n (2 ^ 64) hn, ge_is m (2 ^ 64) hm))))
+    ∙ ap (λ o. ordering_then o (bytes_cmp u v)) (sym (less_is n m (omega (arith, ltb-true n (2 ^ 64) hn, ltb-false m (2 ^ 64) hm))))
 wide_by false true n m u v hn hm =
     ap (λ o. ordering_then o (bytes_cmp (n ∷ u) (bytes_high_first 7 m ++ v))) (greater_is 256 (byte_at 7 m) (mod_below (m / 256 ^ 7) 256 (omega arith)))
-    ∙ ap (λ o. ordering_then o (bytes_cmp u v)) (sym (greater_is n m (omega (arith, lt_is m (2 ^ 64) hm, ge_is n (2 ^ 64) hn))))
+    ∙ ap (λ o. ordering_then o (bytes_cmp u v)) (sym (greater_is n m (omega (arith, ltb-true m (2 ^ 64) hm, ltb-false n (2 ^ 64) hn))))
 wide_by false false n m u v hn hm = refl
 
 wide_cmp : (n m : ℕ) (u v : List ℕ) → bytes_cmp (wide_length_field n ++ u) (wide_length_field m ++ v) ≡ ordering_then (nat_cmp n m) (bytes_cmp u v)
 wide_cmp n m u v = wide_by (nat_lt n (2 ^ 64)) (nat_lt m (2 ^ 64)) n m u v refl refl
 
 length_by : (p q : Bool) (n m : ℕ) (u v : List ℕ) → nat_lt n 4294967295 ≡ p → nat_lt m 4294967295 ≡ q → bytes_cmp ((if p then to_be_bytes w32 n else 255 ∷ 255 ∷ 255 ∷ 255 ∷ wide_length_field n) ++ u) ((if q then to_be_bytes w32 m else 255 ∷ 255 ∷ 255 ∷ 255 ∷ wide_length_field m) ++ v) ≡ ordering_then (nat_cmp n m) (bytes_cmp u v)
-length_by true true n m u v hn hm = high_cmp 4 n m u v (omega (arith, lt_is n 4294967295 hn)) (omega (arith, lt_is m 4294967295 hm))
+length_by true true n m u v hn hm = high_cmp 4 n m u v (omega (arith, ltb-true n 4294967295 hn)) (omega (arith, ltb-true m 4294967295 hm))
 length_by true false n m u v hn hm =
-    high_cmp 4 n 4294967295 u (wide_length_field m ++ v) (omega (arith, lt_is n 4294967295 hn)) (omega arith)
-    ∙ ap (λ o. ordering_then o (bytes_cmp u (wide_length_field m ++ v))) (less_is n 4294967295 (lt_is n 4294967295 hn))
-    ∙ ap (λ o. ordering_then o (bytes_cmp u v)) (sym (less_is n m (omega (arith, lt_is n 4294967295 hn, ge_is m 4294967295 hm))))
+    high_cmp 4 n 4294967295 u (wide_length_field m ++ v) (omega (arith, ltb-true n 4294967295 hn)) (omega arith)
+    ∙ ap (λ o. ordering_then o (bytes_cmp u (wide_length_field m ++ v))) (less_is n 4294967295 (ltb-true n 4294967295 hn))
+    ∙ ap (λ o. ordering_then o (bytes_cmp u v)) (sym (less_is n m (omega (arith, ltb-true n 4294967295 hn, ltb-false m 4294967295 hm))))
 length_by false true n m u v hn hm =
-    high_cmp 4 4294967295 m (wide_length_field n ++ u) v (omega arith) (omega (arith, lt_is m 4294967295 hm))
-    ∙ ap (λ o. ordering_then o (bytes_cmp (wide_length_field n ++ u) v)) (greater_is 4294967295 m (lt_is m 4294967295 hm))
-    ∙ ap (λ o. ordering_then o (bytes_cmp u v)) (sym (greater_is n m (omega (arith, lt_is m 4294967295 hm, ge_is n 4294967295 hn))))
+    high_cmp 4 4294967295 m (wide_length_field n ++ u) v (omega arith) (omega (arith, ltb-true m 4294967295 hm))
+    ∙ ap (λ o. ordering_then o (bytes_cmp (wide_length_field n ++ u) v)) (greater_is 4294967295 m (ltb-true m 4294967295 hm))
+    ∙ ap (λ o. ordering_then o (bytes_cmp u v)) (sym (greater_is n m (omega (arith, ltb-true m 4294967295 hm, ltb-false n 4294967295 hn))))
 length_by false false n m u v hn hm = wide_cmp n m u v
 
 pub length_cmp : (n m : ℕ) (u v : List ℕ) → bytes_cmp (length_field n ++ u) (length_field m ++ v) ≡ ordering_then (nat_cmp n m) (bytes_cmp u v)
@@ -62,7 +57,7 @@ atom_by true _ false true n m u v hn hm e = absurd (omega arith)
 atom_by true _ false false n m u v hn hm e = absurd (omega arith)
 atom_by false true true _ n m u v hn hm e = absurd (omega arith)
 atom_by false false true _ n m u v hn hm e = absurd (omega arith)
-atom_by false true false true n m u v hn hm e = high_cmp 2 n m u v (lt_is n (2 ^ 16) hn) (lt_is m (2 ^ 16) hm)
+atom_by false true false true n m u v hn hm e = high_cmp 2 n m u v (ltb-true n (2 ^ 16) hn) (ltb-true m (2 ^ 16) hm)
 atom_by false true false false n m u v hn hm e = absurd (omega arith)
 atom_by false false false true n m u v hn hm e = absurd (omega arith)
 atom_by false false false false n m u v hn hm e = refl
@@ -208,7 +203,7 @@ list_by false true false true xs ys a b u v f hp hr hq hs e =
     let x = both_true (nat_lt (count xs) (2 ^ 16)) (all_bytes xs) hq in
     let y = both_true (nat_lt (count ys) (2 ^ 16)) (all_bytes ys) hs in
     ap₂ bytes_cmp (append_assoc (to_be_bytes w16 (count xs)) (bytes_of xs) u) (append_assoc (to_be_bytes w16 (count ys)) (bytes_of ys) v)
-    ∙ high_cmp 2 (count xs) (count ys) (bytes_of xs ++ u) (bytes_of ys ++ v) (lt_is (count xs) (2 ^ 16) x.0) (lt_is (count ys) (2 ^ 16) y.0)
+    ∙ high_cmp 2 (count xs) (count ys) (bytes_of xs ++ u) (bytes_of ys ++ v) (ltb-true (count xs) (2 ^ 16) x.0) (ltb-true (count ys) (2 ^ 16) y.0)
     ∙ counted (count xs) (count ys) a b (members_order xs ys) (bytes_cmp u v) (bytes_cmp (bytes_of xs ++ u) (bytes_of ys ++ v)) (λ n. bytes_of_cmp xs ys u v x.1 y.1 n)
 list_by false true false false xs ys a b u v f hp hr hq hs e = absurd (omega arith)
 list_by false false false true xs ys a b u v f hp hr hq hs e = absurd (omega arith)

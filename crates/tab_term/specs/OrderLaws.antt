@@ -2,6 +2,7 @@
 use Rattle.std.proofs.Common.{◌≡◌, ◌≢◌, ℕ, ◌+◌, ◌*◌, ◌^◌, ◌%◌, ◌<◌, Bool, true, false, nat_lt, ◌==◌, if◌then◌else◌, List, [], ◌∷◌, ◌++◌, length, refl, sym, ap, ap₂, ◌∙◌, Ordering, Less, Equal, Greater, nat_cmp, arith}
 use Rattle.std.specs.Prelude.{ℤ, pos, negsuc, unsigned_abs}
 use Rattle.std.specs.Ordering.{ordering_then, is_eq}
+use Rattle.std.proofs.lemmas.Bool.{ltb-true}
 use Rattle.std.proofs.lemmas.Bool.Decides.{same_from_decides}
 use Rattle.tab_term.specs.Same.{same, same-Decides}
 use Rattle.std.specs.Str.{bytes_eq}
@@ -20,7 +21,7 @@ use Rattle.tab_term.specs.Data.{PlainTerm, int, atom, tuple, list, bin, map, Pla
 use Rattle.tab_term.specs.Canon.{canon, tag, int_tag, int_contents, magnitude, significant, before_zeros, is_byte, fits_four, sign_of}
 use Rattle.tab_term.specs.Order.{order, by_tag, contents_order, members_order, pairs_order, bytes_cmp}
 use Rattle.tab_term.specs.Numbers.{then_both, equal_is, lists_are, high_cmp, low_value, low_is, then_equal, tie_is}
-use Rattle.tab_term.specs.Compare.{canon_cmp, apart, int_at, int_tag_at, lt_is}
+use Rattle.tab_term.specs.Compare.{canon_cmp, apart, int_at, int_tag_at}
 
 -- ---- integers
 
@@ -38,7 +39,7 @@ significant_value [] = refl
 significant_value (n ∷ ns) = before_value n (significant ns) ∙ ap (λ x. n + 256 * x) (significant_value ns)
 
 magnitude_by : (p : Bool) (n : ℕ) → nat_lt n (2 ^ 128) ≡ p → low_value (if p then significant (to_le_bytes w128 n) else n ∷ []) ≡ n
-magnitude_by true n h = significant_value (to_le_bytes w128 n) ∙ low_is 0 16 n ∙ ap (λ x. x % 256 ^ 16) (div-one n) ∙ mod-eq_of_lt (omega (arith, lt_is n (2 ^ 128) h))
+magnitude_by true n h = significant_value (to_le_bytes w128 n) ∙ low_is 0 16 n ∙ ap (λ x. x % 256 ^ 16) (div-one n) ∙ mod-eq_of_lt (omega (arith, ltb-true n (2 ^ 128) h))
 magnitude_by false n h = omega arith
 
 magnitude_value : (n : ℕ) → low_value (magnitude n) ≡ n
@@ -56,14 +57,14 @@ byte_sign (pos n) h = refl
 byte_sign (negsuc n) h = absurd cc
 
 fits_32 : (x : ℤ) → fits_four x ≡ true → FitsSigned w32 x
-fits_32 (pos n) h = fits_signed_from_abs w32 (pos n) (lt_is n (2 ^ 31) h)
-fits_32 (negsuc n) h = omega (arith, lt_is n (2 ^ 31) h)
+fits_32 (pos n) h = fits_signed_from_abs w32 (pos n) (ltb-true n (2 ^ 31) h)
+fits_32 (negsuc n) h = omega (arith, ltb-true n (2 ^ 31) h)
 
 four_same : (x y : ℤ) → FitsSigned w32 x → FitsSigned w32 y → cast_unsigned w32 x ≡ cast_unsigned w32 y → x ≡ y
 four_same x y hx hy e = sym (to_z-of_z {w = w32} hx) ∙ ap (cast_signed w32) e ∙ to_z-of_z {w = w32} hy
 
 below : (z : ℤ) → fits_four z ≡ true → cast_unsigned w32 z < 256 ^ 4
-below (pos n) h = omega (arith, lt_is n (2 ^ 31) h)
+below (pos n) h = omega (arith, ltb-true n (2 ^ 31) h)
 below (negsuc n) h = omega arith
 
 four_cmp : (x y : ℤ) → fits_four x ≡ true → fits_four y ≡ true → bytes_cmp (to_be_bytes w32 (cast_unsigned w32 x)) (to_be_bytes w32 (cast_unsigned w32 y)) ≡ nat_cmp (cast_unsigned w32 x) (cast_unsigned w32 y)

@@ -7,6 +7,7 @@ use crate::bytes::Bytes;
 use std::alloc::{AllocError, Global};
 use std::marker::Model;
 
+pub mod abbreviation;
 pub mod equality;
 pub mod order;
 pub mod pattern;

@@ -3,108 +3,27 @@
 //! A list is told from a list of bytes by a walk up to its first member that is no byte; everything else stops
 //! at the first difference.
 
-ghost use Rattle.std.specs.Prelude.{◌≡◌, ◌<◌, ◌≤◌, ◌+◌, ◌-◌, ◌*◌, ◌^◌, ◌∷◌, List, ℕ, ◌++◌, length, min, true, unsigned_abs};
+ghost use Rattle.std.specs.Prelude.{◌≡◌, ◌∷◌, List, ℕ, ◌++◌, length, unsigned_abs};
 ghost use Rattle.std.specs.Ordering.{nat_cmp, ordering_then, on};
 ghost use Rattle.std.specs.Cmp.{IsTotalOrder};
 ghost use Rattle.std.specs.declared.cmp.Ordering.TheVariants.{Equal};
 ghost use Rattle.std.specs.Cmp.Lexicographic.{slice_cmp};
-ghost use Rattle.std.specs.Int.{w32, cast_unsigned};
-ghost use Rattle.tab_term.specs.Abbreviations.{weight as weight_of, text_weight as text_weight_of};
-ghost use Rattle.tab_term.specs.Data.{PlainTerm, int, count, pair_count};
-ghost use Rattle.tab_term.specs.View.{term, terms};
-ghost use Rattle.tab_term.specs.Canon.{tag as tag_of, int_tag as int_tag_of, int_contents, list_tag as list_tag_of, all_bytes, is_byte_term as is_byte_term_of, is_byte as is_byte_of, fits_four as fits_four_of, sign_of, magnitude, significant, canon};
+ghost use Rattle.tab_term.specs.Data.{PlainTerm, count, pair_count};
+ghost use Rattle.tab_term.specs.View.{term, terms, pairs as pairs_of};
+ghost use Rattle.tab_term.specs.Canon.{int_tag as int_tag_of, int_contents, sign_of, magnitude, canon};
 ghost use Rattle.tab_term.specs.Order.{order, members_order, pairs_order};
 
 use crate::atom::Atom;
+use crate::spelling::{
+    fits_four, four_bytes_of, is_byte, low_first, sign_byte, significant_of, tag,
+};
 use crate::term::{Pairs, Term, Terms};
 use std::cmp::Ordering;
-use tab_key::{Abbreviate, head};
-
-// A weight takes the low 48 bits of a term's number.
-const WEIGHTS: u64 = 0x1_0000_0000_0000;
-
-// The first bytes of a text take the low 40 bits of its weight.
-const HEADS: u64 = 0x100_0000_0000;
-
-fn is_byte(z: i128) -> bool
-    ensures { result ≡ is_byte_of z }
-{
-    0 <= z && z < 256
-}
-
-fn fits_four(z: i128) -> bool
-    ensures { result ≡ fits_four_of z }
-{
-    -2147483648 <= z && z < 2147483648
-}
-
-fn is_byte_term(t: &Term) -> bool
-    ensures { result ≡ is_byte_term_of (term t.now) }
-{
-    match t {
-        Term::Int(z) => is_byte(*z),
-        _ => false,
-    }
-}
-
-fn are_bytes(ts: &[Term]) -> bool
-    ensures { result ≡ all_bytes (terms ts.now) }
-{
-    for t in ts {
-        if !is_byte_term(t) {
-            return false;
-        }
-    }
-    true
-}
-
-fn list_tag(ts: &Terms) -> u8
-    ensures { result ≡ list_tag_of ts.now }
-{
-    let items = ts.as_slice();
-    if items.len() == 0 {
-        return 106;
-    }
-    if items.len() < 65536 && are_bytes(items) {
-        107
-    } else {
-        108
-    }
-}
-
-fn int_tag(z: i128) -> u8
-    ensures { result ≡ int_tag_of z }
-{
-    if is_byte(z) {
-        97
-    } else if fits_four(z) {
-        98
-    } else {
-        110
-    }
-}
-
-fn tag(t: &Term) -> u8
-    ensures { result ≡ tag_of (term t.now) }
-{
-    match t {
-        Term::Int(z) => int_tag(*z),
-        Term::Atom(a) => if a.as_str().len() < 256 { 119 } else { 118 },
-        Term::Tuple(ts) => if ts.as_slice().len() < 256 { 104 } else { 105 },
-        Term::List(ts) => list_tag(ts),
-        Term::Bin(_) => 109,
-        Term::Map(_) => 116,
-    }
-}
 
 fn compare_bytes(x: &[u8], y: &[u8]) -> Ordering
     ensures { result ≡ ordering_then (nat_cmp (length x.now) (length y.now)) (slice_cmp nat_cmp x.now y.now) }
 {
-    match x.len().cmp(&y.len()) {
-        Ordering::Less => Ordering::Less,
-        Ordering::Greater => Ordering::Greater,
-        Ordering::Equal => x.cmp(y),
-    }
+    x.len().cmp(&y.len()).then_with(|| x.cmp(y))
 }
 
 fn compare_atoms(x: &Atom, y: &Atom) -> Ordering
@@ -113,42 +32,12 @@ fn compare_atoms(x: &Atom, y: &Atom) -> Ordering
     compare_bytes(x.as_str().as_bytes(), y.as_str().as_bytes())
 }
 
-/// The bytes without the zeros at the end.
-#[tactic(auto, using(crate::proofs::Digits::drop_zero, crate::proofs::Digits::no_zero))]
-fn significant_of(bytes: &[u8]) -> &[u8]
-    ensures { result.now ≡ significant bytes.now }
-{
-    let mut n = bytes.len();
-    while n > 0 && bytes[n - 1] == 0 {
-        n -= 1;
-    }
-    &bytes[..n]
-}
-
-fn sign_byte(z: i128) -> u8
-    ensures { result ≡ sign_of z }
-{
-    if z < 0 { 1 } else { 0 }
-}
-
-fn low_first(n: u128) -> [u8; 16]
-    ensures { significant result ≡ magnitude n }
-{
-    n.to_le_bytes()
-}
-
 fn compare_signed(s: u8, a: &[u8], t: u8, b: &[u8]) -> Ordering
     ensures { result ≡ slice_cmp nat_cmp (length a.now ∷ s ∷ a.now) (length b.now ∷ t ∷ b.now) }
 {
-    match a.len().cmp(&b.len()) {
-        Ordering::Less => Ordering::Less,
-        Ordering::Greater => Ordering::Greater,
-        Ordering::Equal => match s.cmp(&t) {
-            Ordering::Less => Ordering::Less,
-            Ordering::Greater => Ordering::Greater,
-            Ordering::Equal => a.cmp(b),
-        },
-    }
+    a.len()
+        .cmp(&b.len())
+        .then_with(|| s.cmp(&t).then_with(|| a.cmp(b)))
 }
 
 fn compare_bigs(x: i128, y: i128) -> Ordering
@@ -164,13 +53,6 @@ fn compare_bigs(x: i128, y: i128) -> Ordering
     )
 }
 
-fn four(z: i128) -> u32
-    requires { fits_four_of z ≡ true }
-    ensures { result ≡ cast_unsigned w32 z }
-{
-    (z as i32).cast_unsigned()
-}
-
 /// Of two integers with one tag.
 #[tactic(auto, using(crate::specs::OrderLaws::bytes_at, crate::specs::OrderLaws::fours_at, crate::specs::OrderLaws::bigs_at))]
 fn compare_ints(x: i128, y: i128) -> Ordering
@@ -181,7 +63,7 @@ fn compare_ints(x: i128, y: i128) -> Ordering
         return x.unsigned_abs().cmp(&y.unsigned_abs());
     }
     if fits_four(x) {
-        return four(x).cmp(&four(y));
+        return four_bytes_of(x).cmp(&four_bytes_of(y));
     }
     compare_bigs(x, y)
 }
@@ -202,11 +84,7 @@ fn compare(a: &Term, b: &Term) -> Ordering
         (Term::Tuple(xs), Term::Tuple(ys)) => compare_all(xs, ys),
         (Term::List(xs), Term::List(ys)) => compare_all(xs, ys),
         (Term::Bin(x), Term::Bin(y)) => compare_bytes(x.as_slice(), y.as_slice()),
-        (Term::Map(xs), Term::Map(ys)) => match compare_lengths(xs, ys) {
-            Ordering::Less => Ordering::Less,
-            Ordering::Greater => Ordering::Greater,
-            Ordering::Equal => compare_pairs(xs, ys),
-        },
+        (Term::Map(xs), Term::Map(ys)) => compare_maps(xs, ys),
         _ => Ordering::Equal,
     }
 }
@@ -218,46 +96,48 @@ fn compare_all(xs: &Terms, ys: &Terms) -> Ordering
 {
     let (xs, ys) = (xs.items.as_slice(), ys.items.as_slice());
     match xs.len().cmp(&ys.len()) {
-        Ordering::Less => Ordering::Less,
-        Ordering::Greater => Ordering::Greater,
         Ordering::Equal => compare_members(xs, ys),
+        unequal => unequal,
     }
 }
 
 #[cycle(order)]
+#[tactic(auto, using(crate::proofs::Lists::weight_at))]
 fn compare_members(xs: &[Term], ys: &[Term]) -> Ordering
     requires { length xs.now ≡ length ys.now }
     ensures { result ≡ members_order (terms xs.now) (terms ys.now) }
 {
     for (i, x) in xs.iter().enumerate() {
-        match compare(x, &ys[i]) {
-            Ordering::Less => return Ordering::Less,
-            Ordering::Greater => return Ordering::Greater,
-            Ordering::Equal => {}
+        let order = compare(x, &ys[i]);
+        if order.is_ne() {
+            return order;
         }
     }
     Ordering::Equal
 }
 
+#[cycle(order)]
 #[tactic(auto, using(crate::proofs::Lists::count_pairs))]
-fn compare_lengths(xs: &Pairs, ys: &Pairs) -> Ordering
-    ensures { result ≡ nat_cmp (pair_count xs.now) (pair_count ys.now) }
+fn compare_maps(xs: &Pairs, ys: &Pairs) -> Ordering
+    ensures { result ≡ ordering_then (nat_cmp (pair_count xs.now) (pair_count ys.now)) (pairs_order xs.now ys.now) }
 {
-    xs.pairs.len().cmp(&ys.pairs.len())
+    let (xs, ys) = (xs.pairs.as_slice(), ys.pairs.as_slice());
+    match xs.len().cmp(&ys.len()) {
+        Ordering::Equal => compare_pairs(xs, ys),
+        unequal => unequal,
+    }
 }
 
 #[cycle(order)]
-#[tactic(auto, using(crate::proofs::Lists::count_pairs))]
-fn compare_pairs(xs: &Pairs, ys: &Pairs) -> Ordering
-    requires { pair_count xs.now ≡ pair_count ys.now }
-    ensures { result ≡ pairs_order xs.now ys.now }
+#[tactic(auto, using(crate::proofs::Lists::pair_weight_at))]
+fn compare_pairs(xs: &[(Term, Term)], ys: &[(Term, Term)]) -> Ordering
+    requires { length xs.now ≡ length ys.now }
+    ensures { result ≡ pairs_order (pairs_of xs.now) (pairs_of ys.now) }
 {
-    let (xs, ys) = (xs.pairs.as_slice(), ys.pairs.as_slice());
     for (i, x) in xs.iter().enumerate() {
-        match compare_pair(x, &ys[i]) {
-            Ordering::Less => return Ordering::Less,
-            Ordering::Greater => return Ordering::Greater,
-            Ordering::Equal => {}
+        let order = compare_pair(x, &ys[i]);
+        if order.is_ne() {
+            return order;
         }
     }
     Ordering::Equal
@@ -268,9 +148,8 @@ fn compare_pair(x: &(Term, Term), y: &(Term, Term)) -> Ordering
     ensures { result ≡ ordering_then (order (term x.now.0) (term y.now.0)) (order (term x.now.1) (term y.now.1)) }
 {
     match compare(&x.0, &y.0) {
-        Ordering::Less => Ordering::Less,
-        Ordering::Greater => Ordering::Greater,
         Ordering::Equal => compare(&x.1, &y.1),
+        unequal => unequal,
     }
 }
 
@@ -323,75 +202,5 @@ impl PartialOrd for Term {
 
     fn partial_cmp(&self, other: &Term) -> Option<Ordering> {
         Some(self.cmp(other))
-    }
-}
-
-fn after_length(length: usize, head: u64) -> u64
-    requires { head < 256 ^ 5 }
-    ensures { result ≡ min (length * 256 ^ 5 + head) (2 ^ 48 - 1) }
-{
-    if length < 256 {
-        length as u64 * HEADS + head
-    } else {
-        WEIGHTS - 1
-    }
-}
-
-fn text_weight(bytes: &[u8]) -> u64
-    ensures { result ≡ min (text_weight_of (length bytes.now) bytes.now) (2 ^ 48 - 1) }
-{
-    after_length(bytes.len(), head(bytes, 5, HEADS))
-}
-
-fn big_weight(z: i128) -> u64
-    ensures { result ≡ min (text_weight_of (length (magnitude (unsigned_abs z))) (sign_of z ∷ magnitude (unsigned_abs z))) (2 ^ 48 - 1) }
-{
-    let bytes = low_first(z.unsigned_abs());
-    let digits = significant_of(&bytes);
-    let below = HEADS / 256;
-    after_length(
-        digits.len(),
-        u64::from(sign_byte(z)) * below + head(digits, 4, below),
-    )
-}
-
-fn int_weight(z: i128) -> u64
-    ensures { result ≡ min (weight_of (int z)) (2 ^ 48 - 1) }
-{
-    if is_byte(z) {
-        z as u64
-    } else if fits_four(z) {
-        u64::from(four(z))
-    } else {
-        big_weight(z)
-    }
-}
-
-// The weight as far as 48 bits hold it.
-#[tactic(auto, using(crate::proofs::Lists::count_terms, crate::proofs::Lists::count_pairs))]
-fn weight(t: &Term) -> u64
-    ensures { result ≡ min (weight_of (term t.now)) (2 ^ 48 - 1) }
-{
-    match t {
-        Term::Int(z) => int_weight(*z),
-        Term::Atom(a) => text_weight(a.as_str().as_bytes()),
-        Term::Bin(b) => text_weight(b.as_slice()),
-        Term::Tuple(ts) | Term::List(ts) => (ts.as_slice().len() as u64).min(WEIGHTS - 1),
-        Term::Map(ps) => (ps.as_slice().len() as u64).min(WEIGHTS - 1),
-    }
-}
-
-/// The tag of the spelling, and what comes next: an integer of up to four bytes; of a longer one, of an atom and of a
-/// binary, how many bytes there are (up to 255) and the first of them; how many elements a tuple, list or map has.
-impl Abbreviate for Term {
-    ghost use Rattle.tab_term.specs.View.{term};
-    ghost use Rattle.tab_term.specs.Abbreviations.{number, spelled_less};
-
-    ghost abbreviation = { λ t. number (term t) };
-
-    ghost agrees = { λ a b h. spelled_less (term a) (term b) h };
-
-    fn abbreviated(&self) -> u64 {
-        u64::from(tag(self)) * WEIGHTS + weight(self)
     }
 }

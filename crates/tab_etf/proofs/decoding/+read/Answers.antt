@@ -1,7 +1,7 @@
 use Rattle.std.proofs.lemmas.Result.{err_from_is_err_and}
 use Rattle.tab_term.specs.View.{terms}
 use Rattle.tab_etf.specs.Reading.{times, term_at}
-use Rattle.tab_etf.proofs.Loop.{goes_on, ends, is_done}
+use Rattle.tab_etf.proofs.TimesLemmas.{goes_on, ends, is_done}
 use Rattle.tab_etf.proofs.decoding.+read.Goals as goal
 
 pub terms_of-returns-in_err-item : goal.terms_of-returns-in_err-item

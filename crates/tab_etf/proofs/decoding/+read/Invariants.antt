@@ -1,7 +1,7 @@
 use Rattle.std.proofs.Common.{◌≡◌, ◌*◌, ◌+◌, ◌-◌}
 use Rattle.tab_term.specs.View.{terms}
 use Rattle.tab_etf.specs.Reading.{times, term_at}
-use Rattle.tab_etf.proofs.Loop.{with_front}
+use Rattle.tab_etf.proofs.TimesLemmas.{with_front}
 use Rattle.tab_etf.proofs.decoding.+read.Given as goal
 
 abbrev pub decreases-term_of : goal.decreases-term_of

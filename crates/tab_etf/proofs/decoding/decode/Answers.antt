@@ -1,7 +1,7 @@
 use Rattle.std.proofs.Common.{ap, subst, ◌∙◌, arith, length}
 use Rattle.tab_term.specs.View.{term}
 use Rattle.tab_etf.specs.Reading.{Decodes, whole}
-use Rattle.tab_etf.proofs.Whole.{is_found, only}
+use Rattle.tab_etf.proofs.DecodeLemmas.{is_found, only}
 use Rattle.tab_etf.proofs.decoding.decode.Goals as goal
 
 pub returns-clause-found : goal.returns-clause-found

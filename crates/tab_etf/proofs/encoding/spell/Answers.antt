@@ -1,24 +1,24 @@
-use Rattle.std.proofs.Common.{◌∙◌, sym}
+use Rattle.std.proofs.Common.{◌∙◌, sym, rules}
 use Rattle.std.proofs.lemmas.List.{append-nil}
-use Rattle.tab_etf.proofs.Output.{puts_as, puts_then, puts_done, puts_cut}
+use Rattle.tab_etf.proofs.WritingLemmas.{writes_as, writes_then, writes_done, writes_sound, writes_cut, writes_rose}
 use Rattle.tab_etf.proofs.encoding.spell.Goals as goal
 
 pub returns-then-has_failed-clause-part : goal.returns-then-has_failed-clause-part
 returns-then-has_failed-clause-part g c =
-    (puts_cut _ _ _ c.new-pending.ensures.sound (sym c.has_failed.ensures ∙ c.if-has_failed.true) c.new-pending.ensures.none
-    (puts_as _ _ _ _ (puts_then _ _ _ _ _ (puts_then _ _ _ _ _ c.put.ensures c.put_outline.ensures) c.write_out.ensures.puts) (append-nil _))).0
+    let all = writes_as (writes_then (writes_then c.put.ensures c.put_outline.ensures) c.write_out.ensures.writes) (append-nil _) in
+    writes_cut c.new-writer.ensures.output all (sym c.has_failed.ensures ∙ c.if-has_failed.true) (search rules)
 
 pub returns-then-has_failed-clause-rose : goal.returns-then-has_failed-clause-rose
 returns-then-has_failed-clause-rose g c =
-    (puts_cut _ _ _ c.new-pending.ensures.sound (sym c.has_failed.ensures ∙ c.if-has_failed.true) c.new-pending.ensures.none
-    (puts_then _ _ _ _ _ (puts_then _ _ _ _ _ c.put.ensures c.put_outline.ensures) c.write_out.ensures.puts)).1
+    let all = writes_then (writes_then c.put.ensures c.put_outline.ensures) c.write_out.ensures.writes in
+    writes_rose c.new-writer.ensures.output all (sym c.has_failed.ensures ∙ c.if-has_failed.true) (search rules)
 
 pub returns-clause-ok : goal.returns-clause-ok
 returns-clause-ok g c =
-    (puts_done _ _ _ c.new-pending.ensures.sound (sym c.has_failed.ensures ∙ c.if-has_failed.false) c.new-pending.ensures.none c.write_out.ensures.none
-    (puts_as _ _ _ _ (puts_then _ _ _ _ _ (puts_then _ _ _ _ _ c.put.ensures c.put_outline.ensures) c.write_out.ensures.puts) (append-nil _))).0
+    let all = writes_as (writes_then (writes_then c.put.ensures c.put_outline.ensures) c.write_out.ensures.writes) (append-nil _) in
+    writes_done c.new-writer.ensures.output all (sym c.has_failed.ensures ∙ c.if-has_failed.false) c.write_out.ensures.none (search rules)
 
 pub returns-clause-same : goal.returns-clause-same
 returns-clause-same g c =
-    (puts_done _ _ _ c.new-pending.ensures.sound (sym c.has_failed.ensures ∙ c.if-has_failed.false) c.new-pending.ensures.none c.write_out.ensures.none
-    (puts_then _ _ _ _ _ (puts_then _ _ _ _ _ c.put.ensures c.put_outline.ensures) c.write_out.ensures.puts)).1
+    let all = writes_then (writes_then c.put.ensures c.put_outline.ensures) c.write_out.ensures.writes in
+    writes_sound c.new-writer.ensures.output all (sym c.has_failed.ensures ∙ c.if-has_failed.false) c.write_out.ensures.none (search rules)

@@ -1,45 +1,41 @@
-use Rattle.std.proofs.Common.{◌≡◌, false, eqb, length, sym, ◌∙◌}
-use Rattle.tab_etf.proofs.Output.{puts_as, puts_then, puts_none}
-use Rattle.tab_etf.proofs.Canonical.{list_empty, list_bytes, list_many, list_others}
+use Rattle.std.proofs.Common.{rules, ap, sym, ◌∙◌, ◌∷◌, ◌++◌, []}
+use Rattle.std.specs.Int.{w16, to_be_bytes}
+use Rattle.tab_term.specs.Canon.{bytes_of, canons, length_field}
+use Rattle.tab_term.specs.Data.{count}
+use Rattle.tab_etf.proofs.WritingLemmas.{writes_as, writes_then, writes_none}
+use Rattle.tab_etf.proofs.CanonLemmas.{list_none, list_bytes, list_others}
 use Rattle.tab_etf.proofs.Elements.{canons_next, pairs_next, no_canons, no_pair_canons}
 use Rattle.tab_term.specs.View.{terms}
 use Rattle.tab_etf.proofs.spelling.+put.Goals as goal
-use Rattle.tab_etf.proofs.spelling.+put.Goals.{put_list-else-items-lt65536-via-then-items-lt65536+else-are_bytes, put_list-else-items-lt65536-via-else-items-lt65536}
 
 pub put_all-loop-t-init : goal.put_all-loop-t-init
-put_all-loop-t-init g t c = puts_as _ _ _ _ (puts_none _) no_canons
+put_all-loop-t-init g t c = writes_as (writes_none _) no_canons
 
 pub put_all-loop-t-preserved : goal.put_all-loop-t-preserved
 put_all-loop-t-preserved g t c =
-    puts_as _ _ _ _ (puts_then _ _ _ _ _ c.loop-t.invariant c.put.ensures) (sym (canons_next c.args.ts.now c.loop-t.t-index c.t-item.result c.loop-t-test.true c.t-item.is))
+    writes_as (writes_then c.loop-t.invariant c.put.ensures) (sym (canons_next c.args.ts.now c.loop-t.t-index c.t-item.result c.loop-t-test.true c.t-item.is))
 
-pub put_list-returns-then-is_empty : goal.put_list-returns-then-is_empty
-put_list-returns-then-is_empty g t c =
-    puts_as _ _ _ _ c.put.ensures
-    (list_empty c.args.ts.now (terms c.as_slice-items.result.now) (length c.as_slice-items.result.now) c.as_slice-items.ensures.items c.as_slice-items.ensures.len
-    (sym c.is_empty.ensures ∙ c.if-is_empty.true))
+pub put_list-returns-in-106 : goal.put_list-returns-in-106
+put_list-returns-in-106 g t c = writes_as c.put.ensures (sym (list_none c.args.ts.now (sym c.list_tag.ensures ∙ c.in-106.is)))
 
-pub put_list-returns-then-are_bytes : goal.put_list-returns-then-are_bytes
-put_list-returns-then-are_bytes g t c =
-    puts_as _ _ _ _ c.put_string.ensures
-    (list_bytes c.args.ts.now (terms c.as_slice-items.result.now) (length c.as_slice-items.result.now) c.as_slice-items.ensures.items c.as_slice-items.ensures.len
-    (sym c.is_empty.ensures ∙ c.if-is_empty.false) c.if-items-lt65536.true (sym c.are_bytes.ensures ∙ c.if-are_bytes.true))
+pub put_list-returns-in-107 : goal.put_list-returns-in-107
+put_list-returns-in-107 g t c =
+    writes_as c.put_string.ensures
+    (ap (λ n. 107 ∷ to_be_bytes w16 n ++ bytes_of (terms c.as_slice-items.result.now)) c.as_slice-items.ensures.len
+    ∙ ap (λ us. 107 ∷ to_be_bytes w16 (count c.args.ts.now) ++ bytes_of us) c.as_slice-items.ensures.items
+    ∙ sym (list_bytes c.args.ts.now (sym c.list_tag.ensures ∙ c.in-107.is)))
 
-pub put_list-returns-else-items-lt65536 : goal.put_list-returns-else-items-lt65536
-put_list-returns-else-items-lt65536 g t c =
-    let some : eqb (length c.as_slice-items.result.now) 0 ≡ false = sym c.is_empty.ensures ∙ c.if-is_empty.false in
-    puts_as _ _ _ _ (puts_then _ _ _ _ _ (puts_then _ _ _ _ _ c.put_tagged.ensures c.put_all.ensures) c.put-else-items-lt65536.ensures)
-    (elim c.else-items-lt65536.branch [
-      | put_list-else-items-lt65536-via-then-items-lt65536+else-are_bytes w ↦
-          list_others c.args.ts.now (terms c.as_slice-items.result.now) (length c.as_slice-items.result.now) c.as_slice-items.ensures.items c.as_slice-items.ensures.len some (sym w.are_bytes.ensures ∙ w.if-are_bytes.false)
-      | put_list-else-items-lt65536-via-else-items-lt65536 w ↦
-          list_many c.args.ts.now (terms c.as_slice-items.result.now) (length c.as_slice-items.result.now) c.as_slice-items.ensures.items c.as_slice-items.ensures.len some w.if-items-lt65536.false
-    ])
+pub put_list-returns-in_default : goal.put_list-returns-in_default
+put_list-returns-in_default g t c =
+    writes_as (writes_then (writes_then c.put_tagged.ensures c.put_all.ensures) c.put-in_default.ensures)
+    (ap (λ n. (108 ∷ length_field n) ++ canons (terms c.as_slice-items.result.now) ++ 106 ∷ []) c.as_slice-items.ensures.len
+    ∙ ap (λ us. (108 ∷ length_field (count c.args.ts.now)) ++ canons us ++ 106 ∷ []) c.as_slice-items.ensures.items
+    ∙ sym (list_others c.args.ts.now (search rules) (search rules)))
 
 pub put_pairs-loop-p-init : goal.put_pairs-loop-p-init
-put_pairs-loop-p-init g t c = puts_as _ _ _ _ (puts_none _) no_pair_canons
+put_pairs-loop-p-init g t c = writes_as (writes_none _) no_pair_canons
 
 pub put_pairs-loop-p-preserved : goal.put_pairs-loop-p-preserved
 put_pairs-loop-p-preserved g t c =
-    puts_as _ _ _ _ (puts_then _ _ _ _ _ (puts_then _ _ _ _ _ c.loop-p.invariant c.put.ensures) c.put-in-loop-p.ensures)
+    writes_as (writes_then (writes_then c.loop-p.invariant c.put.ensures) c.put-in-loop-p.ensures)
     (sym (pairs_next c.args.ps.now c.loop-p.p-index c.p-item.result c.loop-p-test.true c.p-item.is))

@@ -2,7 +2,7 @@ use Rattle.std.proofs.Common.{◌*◌, ◌+◌, take}
 use Rattle.tab_term.specs.Data.{weight, nodes, pair_nodes}
 use Rattle.tab_term.specs.Canon.{canons, pair_canons}
 use Rattle.tab_term.specs.View.{term, terms, pairs}
-use Rattle.tab_etf.specs.Writing.{Puts, output}
+use Rattle.tab_etf.specs.Writing.{Writes}
 use Rattle.tab_etf.proofs.spelling.+put.Given as goal
 
 abbrev pub decreases-put : goal.decreases-put
@@ -24,7 +24,7 @@ abbrev pub decreases-put_pairs : goal.decreases-put_pairs
 decreases-put_pairs g l = 3 * pair_nodes (pairs l.ps.now) + 1
 
 abbrev pub invariant-put_all-loop-t : goal.invariant-put_all-loop-t
-invariant-put_all-loop-t g l = Puts (output g.W.Write.contents l.initial.device l.initial.pending) (output g.W.Write.contents l.device l.pending) (canons (terms (take l.t-index l.ts)))
+invariant-put_all-loop-t g l = Writes g.W.Write.contents l.initial.writer l.writer (canons (terms (take l.t-index l.ts)))
 
 abbrev pub invariant-put_pairs-loop-p : goal.invariant-put_pairs-loop-p
-invariant-put_pairs-loop-p g l = Puts (output g.W.Write.contents l.initial.device l.initial.pending) (output g.W.Write.contents l.device l.pending) (pair_canons (pairs (take l.p-index l.ps)))
+invariant-put_pairs-loop-p g l = Writes g.W.Write.contents l.initial.writer l.writer (pair_canons (pairs (take l.p-index l.ps)))

@@ -9,8 +9,8 @@ pub record IsSplitting (bytes : List ℕ) (fs : List Frame) (used : ℕ) : Type 
   pub goes : GoesOn bytes (contents fs) (drop used bytes)
   pub told : AreTold fs
 
-abbrev pub invariant-frames : goal.invariant-frames
-invariant-frames l = IsSplitting l.bytes l.frames.items l.used
+abbrev pub invariant-loop-count : goal.invariant-loop-count
+invariant-loop-count l = IsSplitting l.bytes l.frames.items l.used
 
-abbrev pub decreases-frames : goal.decreases-frames
-decreases-frames l = length l.bytes - l.used
+abbrev pub decreases-loop-count : goal.decreases-loop-count
+decreases-loop-count l = length l.bytes - l.used

@@ -1,6 +1,6 @@
 use Rattle.std.proofs.Common.{arith, length, drop, ◌-◌}
 use Rattle.std.proofs.lemmas.List.{length-take, length-drop}
-use Rattle.tab_etf.proofs.Known.{Appends-then, take_further}
+use Rattle.tab_etf.proofs.KnownBytesLemmas.{Appends-then, take_further}
 use Rattle.tab_etf.proofs.counted.Counted.put.Goals as goal
 
 pub loop-at-preserved : goal.loop-at-preserved

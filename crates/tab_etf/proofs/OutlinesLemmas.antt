@@ -1,0 +1,48 @@
+-- The canonical spelling of a term that is given by its parts.
+use Rattle.std.proofs.Common.{◌≡◌, ℕ, ◌+◌, List, [], ◌∷◌, ◌++◌, length, refl, sym, ap, ◌∙◌, arith, length-append, Option, Some, None}
+use Rattle.std.proofs.lemmas.List.{append-nil}
+use Rattle.tab_term.specs.Data.{PlainTerm, pair, triple}
+use Rattle.tab_term.specs.Canon.{canon}
+use Rattle.tab_etf.proofs.CanonLemmas as is
+use Rattle.tab_etf.specs.declared.outline.Leaf.{Leaf}
+use Rattle.tab_etf.specs.declared.outline.Outline.{Outline}
+use Rattle.tab_etf.specs.declared.writer.Writer.{Writer}
+use Rattle.tab_etf.specs.Writing.{Writes}
+use Rattle.tab_etf.proofs.WritingLemmas.{writes_as, writes_then}
+use Rattle.tab_etf.specs.Outlines.{leaf_term, body_term, outline_term, under, head_canon}
+
+pub pair_canon : (a b : PlainTerm) → canon (pair a b) ≡ (104 ∷ 2 ∷ []) ++ (canon a ++ canon b)
+unfolding canon
+pair_canon a b = ap (λ (h : List ℕ). h ++ (canon a ++ (canon b ++ []))) (is.tuple_short 2 (omega arith)) ∙ ap (λ (x : List ℕ). 104 ∷ 2 ∷ (canon a ++ x)) (append-nil (canon b))
+
+pub triple_canon : (a b c : PlainTerm) → canon (triple a b c) ≡ (104 ∷ 3 ∷ []) ++ (canon a ++ (canon b ++ canon c))
+unfolding canon
+triple_canon a b c = ap (λ (h : List ℕ). h ++ (canon a ++ (canon b ++ (canon c ++ [])))) (is.tuple_short 3 (omega arith)) ∙ ap (λ (x : List ℕ). 104 ∷ 3 ∷ (canon a ++ (canon b ++ x))) (append-nil (canon c))
+
+pub under_canon : (o : Option Leaf) (t : PlainTerm) → canon (under o t) ≡ head_canon o ++ canon t
+under_canon None t = refl
+under_canon (Some l) t = pair_canon (leaf_term l) t
+
+pub outline_canon : (o : Outline) → canon (outline_term o) ≡ head_canon o.first ++ (head_canon o.second ++ canon (body_term o.body))
+outline_canon o = under_canon o.first (under o.second (body_term o.body)) ∙ ap (λ (x : List ℕ). head_canon o.first ++ x) (under_canon o.second (body_term o.body))
+
+pub pair_length : (a b : PlainTerm) → length (canon (pair a b)) ≡ 2 + length (canon a) + length (canon b)
+pair_length a b = omega (arith, ap length (pair_canon a b), length-append (canon a) (canon b))
+
+pub triple_length : (a b c : PlainTerm) → length (canon (triple a b c)) ≡ 2 + length (canon a) + length (canon b) + length (canon c)
+triple_length a b c = omega (arith, ap length (triple_canon a b c), length-append (canon a) (canon b ++ canon c), length-append (canon b) (canon c))
+
+pub outline_length : (o : Outline) → length (canon (outline_term o)) ≡ length (head_canon o.first) + length (head_canon o.second) + length (canon (body_term o.body))
+outline_length o = omega (arith, ap length (outline_canon o), length-append (head_canon o.first) (head_canon o.second ++ canon (body_term o.body)), length-append (head_canon o.second) (canon (body_term o.body)))
+
+-- ---- what is written, part by part
+
+module _ {W : Type 0} {contents : W → Option (List ℕ)} where
+  pub writes_pair : {a b c d : Writer W} (s t : PlainTerm) → Writes contents a b (104 ∷ 2 ∷ []) → Writes contents b c (canon s) → Writes contents c d (canon t) → Writes contents a d (canon (pair s t))
+  writes_pair s t p q r = writes_as (writes_then p (writes_then q r)) (sym (pair_canon s t))
+
+  pub writes_triple : {a b c d e : Writer W} (s t u : PlainTerm) → Writes contents a b (104 ∷ 3 ∷ []) → Writes contents b c (canon s) → Writes contents c d (canon t) → Writes contents d e (canon u) → Writes contents a e (canon (triple s t u))
+  writes_triple s t u p q r w = writes_as (writes_then p (writes_then q (writes_then r w))) (sym (triple_canon s t u))
+
+  pub writes_outline : {a b c d : Writer W} (o : Outline) → Writes contents a b (head_canon o.first) → Writes contents b c (head_canon o.second) → Writes contents c d (canon (body_term o.body)) → Writes contents a d (canon (outline_term o))
+  writes_outline o p q r = writes_as (writes_then p (writes_then q r)) (sym (outline_canon o))
