@@ -1,13 +1,27 @@
 #!/usr/bin/env python3
 """Requests for `tabd replay` as frames, and its replies as terms, with Python's standard library alone.
 
-    python3 examples/frames.py ask > requests           a session: frames on standard output
-    python3 examples/frames.py ask | tabd replay | python3 examples/frames.py show
+    frames.py ask                 a session that stands in this file, as frames on standard output
+    frames.py ask REQUEST ..      the frames of these requests
+    frames.py ask --file FILE     the frames of a file's lines, each a request; - is standard input
+    frames.py show                the terms of the frames on standard input, a line each
+
+    frames.py ask '(1, "join")' '(1, ("create_table", "t", []))' | tabd replay | frames.py show
 
 A frame is four bytes of length, the highest first, and a payload: the byte 131 and one term of Erlang's external term
-format. Here a str is an atom, an int an integer, a tuple a tuple, a list a list, and bytes a binary.
+format. A request is a Python literal in the form in which `show` prints terms: a str is an atom, an int an integer
+of at most 128 bits, bytes a binary, a tuple a tuple, and a list a list. So {1, {write, {person, 1, <<"alice">>}}} is
+
+    (1, ("write", ("person", 1, b"alice")))
+
+In a file, empty lines and what follows a # outside quotes are skipped. A request that is no such literal is told with
+its number, its line in a file; nothing is written then, and the exit status is 2. It is 2 as well where `show` meets
+bytes that are no frame of a term, after the terms before them. Any term can be asked, also one that is no request.
 """
 
+import argparse
+import ast
+import io
 import struct
 import sys
 
@@ -22,22 +36,48 @@ SESSION = [
 ]
 
 
-def spell(term):
-    if isinstance(term, str):
-        text = term.encode()
+def spell_integer(number):
+    if 0 <= number < 256:
+        return bytes([97, number])
+    if -(2**31) <= number < 2**31:
+        return b"b" + struct.pack(">i", number)
+    if not -(2**127) <= number < 2**127:
+        raise ValueError("an integer of over 128 bits")
+    digits = abs(number).to_bytes(16, "little").rstrip(b"\0")
+    return bytes([110, len(digits), number < 0]) + digits
+
+
+def spell_atom(atom):
+    text = atom.encode()
+    if len(atom) > 255:
+        raise ValueError("an atom of over 255 characters")
+    if len(text) < 256:
         return bytes([119, len(text)]) + text
-    if isinstance(term, int):
-        if 0 <= term < 256:
-            return bytes([97, term])
-        return b"b" + struct.pack(">i", term)
+    return b"v" + struct.pack(">H", len(text)) + text
+
+
+def spell_list(terms):
+    if not terms:
+        return b"j"
+    if len(terms) < 65536 and all(type(term) is int and 0 <= term < 256 for term in terms):
+        return b"k" + struct.pack(">H", len(terms)) + bytes(terms)
+    return b"l" + struct.pack(">I", len(terms)) + b"".join(map(spell, terms)) + b"j"
+
+
+def spell(term):
+    """The one spelling of a term that tabd itself writes."""
+    if type(term) is int:
+        return spell_integer(term)
+    if isinstance(term, str):
+        return spell_atom(term)
     if isinstance(term, bytes):
         return b"m" + struct.pack(">I", len(term)) + term
-    parts = b"".join(spell(part) for part in term)
     if isinstance(term, tuple):
-        return bytes([104, len(term)]) + parts
-    if not term:
-        return b"j"
-    return b"l" + struct.pack(">I", len(term)) + parts + b"j"
+        head = bytes([104, len(term)]) if len(term) < 256 else b"i" + struct.pack(">I", len(term))
+        return head + b"".join(map(spell, term))
+    if isinstance(term, list):
+        return spell_list(term)
+    raise ValueError(f"{term!r} is no atom, integer, binary, tuple or list")
 
 
 def frame(term):
@@ -45,64 +85,115 @@ def frame(term):
     return struct.pack(">I", len(payload)) + payload
 
 
-def many(count, data, at):
-    terms = []
-    for _ in range(count):
-        term, at = read(data, at)
-        terms.append(term)
-    return terms, at
+def take(stream, count):
+    data = stream.read(count)
+    if len(data) < count:
+        raise ValueError("it ends too early")
+    return data
 
 
-def read(data, at):
-    tag, at = data[at], at + 1
+def number(stream, size):
+    return int.from_bytes(take(stream, size), "big")
+
+
+def many(stream, count):
+    return [read(stream) for _ in range(count)]
+
+
+def read(stream):
+    """The term of a spelling that tabd writes."""
+    tag = number(stream, 1)
     if tag == 97:
-        return data[at], at + 1
+        return number(stream, 1)
     if tag == 98:
-        return struct.unpack_from(">i", data, at)[0], at + 4
+        return struct.unpack(">i", take(stream, 4))[0]
     if tag == 110:
-        count, sign = data[at], data[at + 1]
-        number = int.from_bytes(data[at + 2 : at + 2 + count], "little")
-        return (-number if sign else number), at + 2 + count
-    if tag == 119:
-        end = at + 1 + data[at]
-        return data[at + 1 : end].decode(), end
-    if tag == 118:
-        end = at + 2 + struct.unpack_from(">H", data, at)[0]
-        return data[at + 2 : end].decode(), end
-    if tag == 104:
-        terms, at = many(data[at], data, at + 1)
-        return tuple(terms), at
+        count, sign = take(stream, 2)
+        magnitude = int.from_bytes(take(stream, count), "little")
+        return -magnitude if sign else magnitude
+    if tag in (118, 119):
+        return take(stream, number(stream, 2 if tag == 118 else 1)).decode()
+    if tag in (104, 105):
+        return tuple(many(stream, number(stream, 1 if tag == 104 else 4)))
     if tag == 106:
-        return [], at
+        return []
     if tag == 107:
-        end = at + 2 + struct.unpack_from(">H", data, at)[0]
-        return list(data[at + 2 : end]), end
+        return list(take(stream, number(stream, 2)))
     if tag == 108:
-        terms, at = many(struct.unpack_from(">I", data, at)[0], data, at + 4)
-        return terms, at + 1
+        terms = many(stream, number(stream, 4))
+        take(stream, 1)
+        return terms
     if tag == 109:
-        end = at + 4 + struct.unpack_from(">I", data, at)[0]
-        return data[at + 4 : end], end
-    raise ValueError(f"tag {tag}")
+        return take(stream, number(stream, 4))
+    raise ValueError(f"tag {tag} is not read here")
 
 
-def payloads(stream):
-    at = 0
-    while at < len(stream):
-        end = at + 4 + struct.unpack_from(">I", stream, at)[0]
-        yield stream[at + 4 : end]
-        at = end
+def lines_of(path):
+    """The requests of a file: their lines' numbers and texts."""
+    data = sys.stdin.buffer.read() if path == "-" else open(path, "rb").read()
+    lines = enumerate(data.decode().split("\n"), 1)
+    return [(at, line) for at, line in lines if line.strip() and not line.lstrip().startswith("#")]
+
+
+def fail(where, error):
+    print(f"frames.py: {where}: {error}", file=sys.stderr)
+    sys.exit(2)
+
+
+def literal(text):
+    try:
+        return ast.literal_eval(text.strip())
+    except (SyntaxError, ValueError):
+        raise ValueError(f"{text.strip()} is no Python literal") from None
+
+
+def ask(requests, place):
+    """Writes the frames of all requests, or of none."""
+    frames = []
+    for at, text in requests:
+        try:
+            frames.append(frame(literal(text)))
+        except ValueError as error:
+            fail(f"{place} {at}", error)
+        except (RecursionError, MemoryError):
+            fail(f"{place} {at}", "it is too deep")
+    sys.stdout.buffer.write(b"".join(frames))
+
+
+def show(stream):
+    at = 1
+    try:
+        while head := stream.read(1):
+            payload = io.BytesIO(take(stream, int.from_bytes(head + take(stream, 3), "big")))
+            if number(payload, 1) != 131:
+                raise ValueError("its first byte is not 131")
+            print(repr(read(payload)), flush=True)
+            at += 1
+    except ValueError as error:
+        fail(f"frame {at}", error)
 
 
 def main():
-    if sys.argv[1:] == ["ask"]:
-        for request in SESSION:
-            sys.stdout.buffer.write(frame(request))
-    elif sys.argv[1:] == ["show"]:
-        for payload in payloads(sys.stdin.buffer.read()):
-            print(read(payload, 1)[0])
+    form = argparse.RawDescriptionHelpFormatter
+    parser = argparse.ArgumentParser(description=__doc__, formatter_class=form)
+    parser.add_argument("what", choices=["ask", "show"])
+    parser.add_argument("--file", help="requests to ask, a line each; - is standard input")
+    parser.add_argument("request", nargs="*", help="a request to ask, as a Python literal")
+    words = parser.parse_args()
+    if words.request and words.file or words.what == "show" and (words.request or words.file):
+        parser.error("requests are asked by words or by a file, and nothing is asked by show")
+    if words.what == "show":
+        show(sys.stdin.buffer)
+    elif words.file:
+        try:
+            lines = lines_of(words.file)
+        except (OSError, ValueError) as error:
+            fail(words.file, error)
+        ask(lines, "line")
+    elif words.request:
+        ask(list(enumerate(words.request, 1)), "request")
     else:
-        sys.exit("usage: frames.py ask | show")
+        ask([(at, repr(request)) for at, request in enumerate(SESSION, 1)], "request")
 
 
 main()
