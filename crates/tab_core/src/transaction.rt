@@ -1,3 +1,6 @@
+//! A command and an operation on their way into the machine. An owned enum that stays alive across a `?` makes the check
+//! look at each of its variants at each exit; in a struct it is dropped as one.
+
 ghost use Rattle.std.specs.Prelude.{◌≡◌};
 
 use tab_model::{Command, Operation};

@@ -8,6 +8,7 @@ ghost use Rattle.tab_model.specs.State.{is_in};
 ghost use Rattle.tab_locks.specs.Plain.{lock_of};
 ghost use Rattle.tab_locks.specs.Members.{HasMore, SameMembers, Drops};
 ghost use Rattle.tab_locks.specs.Placed.{placed, listed, is_of, conflict_with};
+ghost use Rattle.tab_locks.specs.declared.lock_table.Conflict.TheVariants.{WithYounger, WithOlder};
 
 use crate::index::Index;
 use crate::question::Relation;
@@ -23,6 +24,19 @@ pub enum Conflict {
     Free,
     WithYounger,
     WithOlder,
+}
+
+impl Conflict {
+    /// A conflict, by whether one of the others is older.
+    pub fn with(older: bool) -> Conflict
+        ensures { result ≡ (if older then WithOlder else WithYounger) }
+    {
+        if older {
+            Conflict::WithOlder
+        } else {
+            Conflict::WithYounger
+        }
+    }
 }
 
 /// The locks that are held, each under the age of its owner.
@@ -72,12 +86,9 @@ impl LockTable {
         ensures { result ≡ conflict_with (age, lock_of lock.now) self.now }
     {
         if !self.index.any(Relation::Opposing, age, lock) {
-            Conflict::Free
-        } else if self.index.any(Relation::Blocking, age, lock) {
-            Conflict::WithOlder
-        } else {
-            Conflict::WithYounger
+            return Conflict::Free;
         }
+        Conflict::with(self.index.any(Relation::Blocking, age, lock))
     }
 
     /// Whether some lock is on this table, or on a key of it.
@@ -136,7 +147,7 @@ fn keep(
 {
     locks.reserve(1)?;
     index.add(alloc, age, &lock)?;
-    locks.push(lock)?;
+    locks.push_reserved(lock);
     Ok(())
 }
 

@@ -15,7 +15,7 @@ use Rattle.tab_model.specs.declared.data.Operation.{Operation}
 use Rattle.tab_model.specs.declared.data.Part.{Part}
 use Rattle.tab_model.specs.declared.data.Part.TheVariants as part
 use Rattle.tab_proto.specs.Commands.{operation_term, abort_term, with_first, enclosed, levels, outermost, is_nested, is_part, is_operation}
-use Rattle.tab_proto.specs.Reading.{is_part_term, are_parts, with_all, Spells, RefusesOnlyIf, Says, Adds}
+use Rattle.tab_proto.specs.Reading.{is_part_term, are_parts, with_all, Spells, RefusesOnlyIf, SaysOperations, AddsParts}
 
 all-append : (xs ys : List Part) → list_all is_part xs ≡ true → list_all is_part ys ≡ true → list_all is_part (xs ++ ys) ≡ true
 all-append [] ys h k = k
@@ -29,13 +29,13 @@ with_all-push : (ts : PlainTerms) (t : PlainTerm) (outer : List PlainTerms) → 
 with_all-push none t outer = refl
 with_all-push (one_more u ts) t outer = ap (with_first u) (with_all-push ts t outer)
 
-pub says_none : Says [] none
+pub says_none : SaysOperations [] none
 says_none = record { levels = λ rest. refl; nested = λ n rest. refl; formed = refl }
 
-pub adds_none : (old : List Part) → Adds old old none
+pub adds_none : (old : List Part) → AddsParts old old none
 adds_none old = ([], sym (append-nil old), says_none)
 
-says_then : (xs ys : List Part) (ts : PlainTerms) (t : PlainTerm) → Says xs ts → Says ys (one_more t none) → Says (xs ++ ys) (push ts t)
+says_then : (xs ys : List Part) (ts : PlainTerms) (t : PlainTerm) → SaysOperations xs ts → SaysOperations ys (one_more t none) → SaysOperations (xs ++ ys) (push ts t)
 says_then xs ys ts t h k = record {
   levels = λ rest. ap levels (append_assoc xs ys rest) ∙ h.levels (ys ++ rest) ∙ ap (with_all ts) (k.levels rest) ∙ sym (with_all-push ts t (levels rest));
   nested = λ n rest. ap (is_nested n) (append_assoc xs ys rest) ∙ h.nested n (ys ++ rest) ∙ k.nested n rest;
@@ -46,23 +46,23 @@ says_then xs ys ts t h k = record {
 pub record AreRead (members : PlainTerms) (old now : List Part) (left : List Term) : Type 0 where
   pub done : List Term
   pub whole : terms (done ++ left) ≡ members
-  pub adds : Adds old now (terms done)
+  pub adds : AddsParts old now (terms done)
 
 pub none_read : (members : PlainTerms) (ms : List Term) (old : List Part) → terms ms ≡ members → AreRead members old old ms
 none_read members ms old e = record { done = []; whole = e; adds = adds_none old }
 
-pub one_read : (members : PlainTerms) (old mid new : List Part) (m : Term) (left rest : List Term) → left ≡ m ∷ rest → AreRead members old mid left → Adds mid new (one_more (term m) none) → AreRead members old new rest
+pub one_read : (members : PlainTerms) (old mid new : List Part) (m : Term) (left rest : List Term) → left ≡ m ∷ rest → AreRead members old mid left → AddsParts mid new (one_more (term m) none) → AreRead members old new rest
 one_read members old mid new m left rest is r (ys, f, k) = record {
   done = r.done ++ m ∷ [];
   whole = ap terms (append_assoc r.done (m ∷ []) rest ∙ ap (λ l. r.done ++ l) (sym is)) ∙ r.whole;
   adds = joined r.adds;
 }
   where
-    joined : Adds old mid (terms r.done) → Adds old new (terms (r.done ++ m ∷ []))
-    joined (xs, e, h) = (xs ++ ys, f ∙ ap (λ z. z ++ ys) e ∙ append_assoc old xs ys, subst (Says (xs ++ ys)) (sym (terms-push r.done m)) (says_then xs ys (terms r.done) (term m) h k))
+    joined : AddsParts old mid (terms r.done) → AddsParts old new (terms (r.done ++ m ∷ []))
+    joined (xs, e, h) = (xs ++ ys, f ∙ ap (λ z. z ++ ys) e ∙ append_assoc old xs ys, subst (SaysOperations (xs ++ ys)) (sym (terms-push r.done m)) (says_then xs ys (terms r.done) (term m) h k))
 
-pub all_read : (members : PlainTerms) (old now : List Part) (left : List Term) → left ≡ [] → AreRead members old now left → Adds old now members
-all_read members old now left e r = subst (Adds old now) (ap terms (sym (append-nil r.done) ∙ ap (λ l. r.done ++ l) (sym e)) ∙ r.whole) r.adds
+pub all_read : (members : PlainTerms) (old now : List Part) (left : List Term) → left ≡ [] → AreRead members old now left → AddsParts old now members
+all_read members old now left e r = subst (AddsParts old now) (ap terms (sym (append-nil r.done) ∙ ap (λ l. r.done ++ l) (sym e)) ∙ r.whole) r.adds
 
 -- a member weighs no more than all
 weight_in : (done : List Term) (m : Term) (rest : List Term) → weight (term m) ≤ nodes (terms (done ++ m ∷ rest))
@@ -74,7 +74,7 @@ weight_left members old now m left rest is r =
     subst (λ ts. weight (term m) ≤ nodes ts) (ap (λ l. terms (r.done ++ l)) (sym is) ∙ r.whole) (weight_in r.done m rest)
 
 -- one part
-pub adds_operation : (old new : List Part) (o : Operation) (t : PlainTerm) → new ≡ old ++ part.Do o ∷ [] → operation_term o ≡ t → is_operation o ≡ true → Adds old new (one_more t none)
+pub adds_operation : (old new : List Part) (o : Operation) (t : PlainTerm) → new ≡ old ++ part.Do o ∷ [] → operation_term o ≡ t → is_operation o ≡ true → AddsParts old new (one_more t none)
 adds_operation old new o t e spelled formed = (
   part.Do o ∷ [],
   e,
@@ -85,7 +85,7 @@ adds_operation old new o t e spelled formed = (
     does zero rest = refl
     does (suc n) rest = refl
 
-pub adds_abort : (old new : List Part) (r : Term) → new ≡ old ++ part.Abort r ∷ [] → Adds old new (one_more (abort_term (term r)) none)
+pub adds_abort : (old new : List Part) (r : Term) → new ≡ old ++ part.Abort r ∷ [] → AddsParts old new (one_more (abort_term (term r)) none)
 adds_abort old new r e = (part.Abort r ∷ [], e, record { levels = λ rest. refl; nested = aborts; formed = refl })
   where
     aborts : (n : ℕ) (rest : List Part) → is_nested n (part.Abort r ∷ rest) ≡ is_nested n rest
@@ -97,8 +97,8 @@ inner_first : (ts : PlainTerms) (outer : List PlainTerms) → with_all ts (none 
 inner_first none outer = refl
 inner_first (one_more t ts) outer = ap (with_first t) (inner_first ts outer)
 
-pub adds_inner : (old opened inside new : List Part) (ts : PlainTerms) → opened ≡ old ++ part.Open ∷ [] → Adds opened inside ts → new ≡ inside ++ part.Close ∷ []
-    → Adds old new (one_more (pair (atom (codes "transaction")) (list ts)) none)
+pub adds_inner : (old opened inside new : List Part) (ts : PlainTerms) → opened ≡ old ++ part.Open ∷ [] → AddsParts opened inside ts → new ≡ inside ++ part.Close ∷ []
+    → AddsParts old new (one_more (pair (atom (codes "transaction")) (list ts)) none)
 adds_inner old opened inside new ts e (xs, f, h) g = (
   part.Open ∷ (xs ++ part.Close ∷ []),
   g ∙ ap (λ z. z ++ part.Close ∷ []) (f ∙ ap (λ z. z ++ xs) e ∙ append_assoc old (part.Open ∷ []) xs) ∙ append_assoc old (part.Open ∷ xs) (part.Close ∷ []),
@@ -135,7 +135,7 @@ on_ok (Ok u) A B f h = f h
 on_ok (Err e) A B f h = tt
 
 -- a one-shot of these parts
-pub one_shot_is : (old parts : List Part) (ts us : PlainTerms) (m r : PlainTerm) (n : ℕ) → old ≡ [] → Adds old parts us → us ≡ ts → m ≡ list ts → r ≡ int (pos n) → nat_le n 1000 ≡ true
+pub one_shot_is : (old parts : List Part) (ts us : PlainTerms) (m r : PlainTerm) (n : ℕ) → old ≡ [] → AddsParts old parts us → us ≡ ts → m ≡ list ts → r ≡ int (pos n) → nat_le n 1000 ≡ true
     → Spells (command.OneShot parts n) (triple (atom (codes "transaction")) m r)
 one_shot_is old parts ts us m r n none_before (xs, e, h) same first second few = (
   ap (λ z. triple (atom (codes "transaction")) (list (outermost (levels z))) (int (pos n))) whole

@@ -158,11 +158,11 @@ with_all none outer = outer
 with_all (one_more t ts) outer = with_first t (with_all ts outer)
 
 -- parts that say these operations, whatever follows
-pub record Says (parts : List Part) (ts : PlainTerms) : Type 0 where
+pub record SaysOperations (parts : List Part) (ts : PlainTerms) : Type 0 where
   pub levels : (rest : List Part) → levels (parts ++ rest) ≡ with_all ts (levels rest)
   pub nested : (n : ℕ) (rest : List Part) → is_nested n (parts ++ rest) ≡ is_nested n rest
   pub formed : list_all is_part parts ≡ true
 
 -- parts that say these operations were added
-abbrev pub Adds : List Part → List Part → PlainTerms → Type 0
-Adds old new ts = (parts : List Part) × (new ≡ old ++ parts) × Says parts ts
+abbrev pub AddsParts : List Part → List Part → PlainTerms → Type 0
+AddsParts old new ts = (parts : List Part) × (new ≡ old ++ parts) × SaysOperations parts ts

@@ -5,7 +5,7 @@ ghost use Rattle.tab_term.specs.Data.{atom, none, one_more, pair};
 ghost use Rattle.tab_term.specs.View.{term, terms};
 ghost use Rattle.tab_proto.specs.FirstWords.{unary_text};
 ghost use Rattle.tab_proto.specs.Commands.{is_part};
-ghost use Rattle.tab_proto.specs.Reading.{is_unary_part, is_parts_list, is_part_term, are_parts, is_read_of, is_ternary, RefusesOnlyIf, Says, Adds};
+ghost use Rattle.tab_proto.specs.Reading.{is_unary_part, is_parts_list, is_part_term, are_parts, is_read_of, is_ternary, RefusesOnlyIf, SaysOperations, AddsParts};
 
 use crate::call::{Arguments, Call, call_of};
 use crate::fault::ProtoFault;
@@ -18,7 +18,7 @@ use tab_term::{Atom, Term, Terms};
 #[cycle(parts)]
 #[tactic(auto, using(tab_term::proofs::Lists::weight_at))]
 pub fn push_parts(members: Terms, parts: &mut Vec<Part>) -> Result<(), ProtoFault>
-    ensures ok { OnOk result (Adds parts.old.items parts.new.items members) }
+    ensures ok { OnOk result (AddsParts parts.old.items parts.new.items members) }
     ensures bad { RefusesOnlyIf (are_parts members ≡ false) result }
 {
     for member in members.into_vec() {
@@ -29,7 +29,7 @@ pub fn push_parts(members: Terms, parts: &mut Vec<Part>) -> Result<(), ProtoFaul
 
 #[cycle(parts)]
 fn push_part(member: Term, parts: &mut Vec<Part>) -> Result<(), ProtoFault>
-    ensures ok { OnOk result (Adds parts.old.items parts.new.items (one_more (term member) none)) }
+    ensures ok { OnOk result (AddsParts parts.old.items parts.new.items (one_more (term member) none)) }
     ensures bad { RefusesOnlyIf (is_part_term (term member) ≡ false) result }
 {
     let Call { word, arguments } = call_of(member)?;
@@ -49,7 +49,7 @@ fn push_unary(
     argument: Term,
     parts: &mut Vec<Part>,
 ) -> Result<(), ProtoFault>
-    ensures ok { OnOk result (Adds parts.old.items parts.new.items (one_more (pair (atom word.now) (term argument)) none)) }
+    ensures ok { OnOk result (AddsParts parts.old.items parts.new.items (one_more (pair (atom word.now) (term argument)) none)) }
     ensures bad { RefusesOnlyIf (is_part_term (pair (atom word.now) (term argument)) ≡ false) result }
 {
     match unary_of(word.as_str()) {
@@ -63,7 +63,7 @@ fn push_unary(
 /// An inner transaction.
 #[cycle(parts)]
 fn push_inner(argument: Term, parts: &mut Vec<Part>) -> Result<(), ProtoFault>
-    ensures ok { OnOk result (Adds parts.old.items parts.new.items (one_more (pair (atom (unary_text Unary.Transaction)) (term argument)) none)) }
+    ensures ok { OnOk result (AddsParts parts.old.items parts.new.items (one_more (pair (atom (unary_text Unary.Transaction)) (term argument)) none)) }
     ensures bad { RefusesOnlyIf (is_parts_list (term argument) ≡ false) result }
 {
     let Term::List(members) = argument else {

@@ -76,8 +76,3 @@ fn word_alone(word: &Atom) -> Option<Request>
         _ => None,
     }
 }
-
-/// Two requests with one term are one: the same session asks the same.
-pub fn requests_are_apart()
-    ensures { (m n : ℕ) (a b : RequestOf) → IsRequest a → IsRequest b → request_term m a ≡ request_term n b → (m ≡ n) × (a ≡ b) }
-{}

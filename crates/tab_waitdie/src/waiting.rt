@@ -24,12 +24,9 @@ pub(crate) fn conflicts_in(queue: &[Waiting], age: u64, lock: &Lock) -> Conflict
     ensures { result ≡ conflict_with (age, lock_of lock.now) (queued queue.now) }
 {
     if !any_opposing(queue, age, lock) {
-        Conflict::Free
-    } else if any_blocking(queue, age, lock) {
-        Conflict::WithOlder
-    } else {
-        Conflict::WithYounger
+        return Conflict::Free;
     }
+    Conflict::with(any_blocking(queue, age, lock))
 }
 
 pub(crate) fn any_opposing(queue: &[Waiting], age: u64, lock: &Lock) -> bool

@@ -1,5 +1,5 @@
 use Rattle.tab_proto.proofs.RequestsApart.{requests_apart}
-use Rattle.tab_proto.proofs.requests.requests_are_apart.Goals as goal
+use Rattle.tab_proto.proofs.laws.requests_are_apart.Goals as goal
 
 pub returns : goal.returns
 returns c = requests_apart
