@@ -1,7 +1,7 @@
 -- Which spelling is the canonical one, by cases.
 use Rattle.std.proofs.Common.{◌≡◌, ◌≢◌, ℕ, ◌^◌, ◌<◌, ◌≤◌, ℤ, Bool, true, false, List, [], ◌∷◌, ◌++◌, length, refl, unsigned_abs, arith, ltb, ◌==◌, nat_lt, if◌then◌else◌, ◌&&◌}
 use Rattle.std.specs.Int.{w16, w32, w64, to_be_bytes, cast_unsigned}
-use Rattle.std.proofs.lemmas.Bool.{le-ltb, lt-ltb, ltb-true}
+use Rattle.std.proofs.lemmas.Bool.{and_parts, le-ltb, lt-ltb, ltb-true}
 use Rattle.tab_term.specs.Canon.{is_byte, fits_four, int_tag, int_contents, sign_of, magnitude, length_field, atom_tag, atom_length_field, tuple_tag, arity_field, all_bytes, bytes_of, list_tag, list_contents, canons}
 use Rattle.tab_term.specs.Data.{PlainTerms, count}
 
@@ -79,10 +79,6 @@ at_others true q a b n m = absurd (n refl)
 at_others false true a b n m = absurd (m refl)
 at_others false false a b n m = refl
 
-both : (p q : Bool) → (p && q) ≡ true → (p ≡ true) × (q ≡ true)
-both true q e = (refl, e)
-both false q e = absurd cc
-
 module _ (ts : PlainTerms) where
   abbrev written : List ℕ
   written = list_tag ts ∷ list_contents ts (canons ts)
@@ -105,10 +101,10 @@ module _ (ts : PlainTerms) where
   list_bytes e = (bytes_at e).1
 
   pub list_short : list_tag ts ≡ 107 → count ts < 2 ^ 16
-  list_short e = ltb-true (count ts) (2 ^ 16) (both (nat_lt (count ts) (2 ^ 16)) (all_bytes ts) (bytes_at e).0).0
+  list_short e = ltb-true (count ts) (2 ^ 16) (and_parts (nat_lt (count ts) (2 ^ 16)) (all_bytes ts) (bytes_at e).0).0
 
   pub list_of_bytes : list_tag ts ≡ 107 → all_bytes ts ≡ true
-  list_of_bytes e = (both (nat_lt (count ts) (2 ^ 16)) (all_bytes ts) (bytes_at e).0).1
+  list_of_bytes e = (and_parts (nat_lt (count ts) (2 ^ 16)) (all_bytes ts) (bytes_at e).0).1
 
   pub list_others : list_tag ts ≢ 106 → list_tag ts ≢ 107 → written ≡ 108 ∷ as_terms
   unfolding list_contents

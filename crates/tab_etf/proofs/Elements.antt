@@ -1,5 +1,6 @@
 -- One more element of a list is written.
-use Rattle.std.proofs.Common.{◌≡◌, ℕ, ◌+◌, ◌<◌, List, [], ◌∷◌, ◌++◌, length, take, drop, get_or, refl, sym, ap, ◌∙◌, append_assoc, Bool, true, false, ◌&&◌}
+use Rattle.std.proofs.Common.{◌≡◌, ℕ, ◌+◌, ◌<◌, List, [], ◌∷◌, ◌++◌, length, take, drop, get_or, refl, sym, ap, ◌∙◌, append_assoc, true, ◌&&◌}
+use Rattle.std.proofs.lemmas.Bool.{and_parts}
 use Rattle.std.proofs.lemmas.List.{take_more, append-nil, at_drop_more}
 use Rattle.tab_term.specs.declared.term.Term.{Term}
 use Rattle.tab_term.specs.Data.{none, no_pair}
@@ -21,13 +22,9 @@ bytes-push (u ∷ us) t = ap (λ (r : List ℕ). byte_of (term u) ∷ r) (bytes-
 pub bytes_next : (ts : List Term) (i : ℕ) (t : Term) (b : ℕ) → i < length ts → t ≡ get_or ts i t → b ≡ byte_of (term t) → bytes_of (terms (take (i + 1) ts)) ≡ bytes_of (terms (take i ts)) ++ b ∷ []
 bytes_next ts i t b lt e f = ap (λ us. bytes_of (terms us)) (take_more ts i t lt) ∙ bytes-push (take i ts) (get_or ts i t) ∙ ap (λ c. bytes_of (terms (take i ts)) ++ c ∷ []) (ap (λ u. byte_of (term u)) (sym e) ∙ sym f)
 
-both : (a b : Bool) → (a && b) ≡ true → (a ≡ true) × (b ≡ true)
-both true b e = (refl, e)
-both false b e = absurd cc
-
 pub all_bytes_at : (ts : List Term) (i : ℕ) (t : Term) → i < length ts → t ≡ get_or ts i t → all_bytes (terms (drop i ts)) ≡ true → (is_byte_term (term t) ≡ true) × (all_bytes (terms (drop (i + 1) ts)) ≡ true)
 all_bytes_at ts i t lt e h =
-    both (is_byte_term (term t)) (all_bytes (terms (drop (i + 1) ts)))
+    and_parts (is_byte_term (term t)) (all_bytes (terms (drop (i + 1) ts)))
     (ap (λ u. is_byte_term (term u) && all_bytes (terms (drop (i + 1) ts))) e ∙ sym (at_drop_more (λ us. all_bytes (terms us)) ts i t lt) ∙ h)
 
 pub no_canons : [] ≡ canons none

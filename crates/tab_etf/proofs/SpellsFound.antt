@@ -298,7 +298,7 @@ module _ (l : ℕ) where
         let ts = times_take l read sound a.0.0 a.0.1 b.0 t.0.rest_fits b.1 in
         let end = end_takes b.0.1 c.0 ts.takes.rest_fits c.1 in
         let made : PlainTerm × List ℕ = (list b.0.0, c.0) in
-        let told : Spells (list b.0.0) (((108 ∷ to_be_bytes w32 (count b.0.0)) ++ ts.text) ++ 106 ∷ []) = list_ext (omega (arith, ts.counts, t.1)) ts.spells in
+        let told : Spells (list b.0.0) (((108 ∷ to_be_bytes w32 (count b.0.0)) ++ ts.text) ++ 106 ∷ []) = list_ext {b = ts.text} (omega (arith, ts.counts, t.1)) ts.spells in
         let both = Takes-then bytes (to_be_bytes w32 a.0.0 ++ ts.text) b.0.1 (106 ∷ []) c.0 (Takes-then bytes (to_be_bytes w32 a.0.0) a.0.1 ts.text b.0.1 t.0 ts.takes) end in
         subst (λ (y : PlainTerm × List ℕ). Spelled (suc l) (108 ∷ bytes) y.0 y.1) {x = made} (ok_is made x c.2)
         (record {
