@@ -149,7 +149,7 @@ impl Machine {
         }
     }
 
-    /// StepsOrNoMemory no memory.
+    /// Takes no memory.
     pub fn commit(&mut self) -> Stepped
         ensures { asked self.old command.Commit ≡ record { state = self.new; reply = result.reply; entry = result.entry } }
     {
@@ -208,7 +208,7 @@ impl Machine {
         })
     }
 
-    /// Of a session that has not joined. StepsOrNoMemory no memory.
+    /// Of a session that has not joined. Takes no memory.
     pub fn join(&mut self, session: u32) -> Reply
         ensures { unseated self.old session (Join no_outbox) ≡ nothing self.new result }
     {
@@ -224,7 +224,7 @@ impl Machine {
         Reply::Done
     }
 
-    /// StepsOrNoMemory no memory.
+    /// Takes no memory.
     pub fn leave(&mut self, session: u32) -> Reply
         ensures { outcome self.old [] session Leave ≡ nothing self.new result }
     {

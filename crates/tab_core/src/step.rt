@@ -7,7 +7,7 @@ use tab_model::{Command, Entry, Reply};
 /// What a session asks.
 #[derive(Drop)]
 pub enum Step {
-    /// StepsOrNoMemory a session number greater than all that joined before.
+    /// Takes a session number greater than all that joined before.
     Join,
     /// Ends the session's transaction and the session.
     Leave,
@@ -15,7 +15,7 @@ pub enum Step {
     Do(Command),
     /// Asks again for the lock that the session waits for.
     Retry,
-    /// StepsOrNoMemory the next item of the session's outbox.
+    /// Takes the next item of the session's outbox.
     Take,
 }
 
