@@ -20,12 +20,11 @@ mod table;
 mod tables;
 mod transaction;
 
-pub use served::is_served;
-pub use step::{Step, Stepped};
-
 use crate::machine::Machine;
+pub use served::is_served;
 use std::alloc::{AllocError, Global};
 use std::marker::Model;
+pub use step::{Step, Stepped};
 use tab_model::{Limits, Reply};
 
 /// A core: tables, sessions, and what each of them is told.

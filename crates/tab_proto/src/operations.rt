@@ -38,11 +38,7 @@ pub fn unary_operation(word: Unary, argument: Term) -> Result<Operation, ProtoFa
 }
 
 /// `{read, Tab, Key}`.
-pub fn read_operation(
-    word: &Atom,
-    table: Term,
-    key: Term,
-) -> Result<Operation, ProtoFault>
+pub fn read_operation(word: &Atom, table: Term, key: Term) -> Result<Operation, ProtoFault>
     ensures ok { IfOk result (λ o. SpellsOperation o (triple (atom word.now) (term table) (term key))) }
     ensures bad { RefusesOnlyIf (is_read_of word.now (term table) ≡ false) result }
 {

@@ -44,11 +44,7 @@ fn push_part(member: Term, parts: &mut Vec<Part>) -> Result<(), ProtoFault>
 }
 
 #[cycle(parts)]
-fn push_unary(
-    word: &Atom,
-    argument: Term,
-    parts: &mut Vec<Part>,
-) -> Result<(), ProtoFault>
+fn push_unary(word: &Atom, argument: Term, parts: &mut Vec<Part>) -> Result<(), ProtoFault>
     ensures ok { OnOk result (AddsParts parts.old.items parts.new.items (one_more (pair (atom word.now) (term argument)) none)) }
     ensures bad { RefusesOnlyIf (is_part_term (pair (atom word.now) (term argument)) ≡ false) result }
 {

@@ -1,9 +1,7 @@
 use std::alloc::{AllocError, Global};
 use tab_etf::{Counted, decode};
 use tab_model::{Command, Ending, Item, Level, Limit, Operation, Reply, Schema, TableInfo};
-use tab_proto::{
-    ProtoFault, Request, append_reply, command, read_request, term_of, write_reply,
-};
+use tab_proto::{ProtoFault, Request, append_reply, command, read_request, term_of, write_reply};
 use tab_term::{Atom, Term, Terms};
 
 /// What a request is to be read as. Terms stand as payloads of the external term format.
