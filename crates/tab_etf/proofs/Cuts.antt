@@ -5,7 +5,7 @@ use Rattle.std.proofs.lemmas.List.{take-append-le, drop-append-le, append-nil, m
 use Rattle.std.specs.Int.{w32, from_be_bytes}
 use Rattle.tab_etf.specs.declared.framing.Frame.{Frame}
 use Rattle.tab_etf.specs.Frames.{limit, length_next, IsOver, payload_of, contents, IsTold, AreTold}
-use Rattle.tab_etf.specs.Streams.{behind, after_length, front, Cut, cut_by, cut_at_most, payloads, rest_of, GoesOn, Stops}
+use Rattle.tab_etf.specs.Streams.{payload_and_rest, after_length, front, Cut, cut_by, cut_at_most, payloads, rest_of, GoesOn, Stops}
 
 known : (b : Bool) (m n : ℕ) → cond b None (Some m) ≡ Some n → (b ≡ false) × (m ≡ n)
 known true m n e = absurd cc
@@ -80,7 +80,7 @@ pick false true y x e = absurd cc
 pick false false y x e = cc
 
 -- what stands behind the first payload is shorter
-behind_falls : (m : ℕ) (bytes : List ℕ) (x : List ℕ × List ℕ) → behind m bytes ≡ Some x → length x.1 ≤ length bytes
+behind_falls : (m : ℕ) (bytes : List ℕ) (x : List ℕ × List ℕ) → payload_and_rest m bytes ≡ Some x → length x.1 ≤ length bytes
 behind_falls m bytes x e =
     let k : (take m bytes, drop m bytes) ≡ x = pick (ltb limit m) (ltb (length bytes) m) (take m bytes, drop m bytes) x e in
     subst (λ (y : List ℕ × List ℕ). length y.1 ≤ length bytes) k (omega (arith, length-drop m bytes))

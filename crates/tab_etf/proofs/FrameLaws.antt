@@ -6,7 +6,7 @@ use Rattle.std.proofs.lemmas.Bool.{cases_lt, ltb-false, ltb-true}
 use Rattle.std.proofs.lemmas.List.{take-append-drop, length-take, drop_at, get_or_past}
 use Rattle.std.proofs.lemmas.Nat.{from_be_bytes-to_be_bytes_4}
 use Rattle.tab_etf.specs.Frames.{limit, frame, frames, length_next}
-use Rattle.tab_etf.specs.Streams.{after_length, front, Cut, cut_by, cut_at_most, payloads, rest_of, AreWithin, IsShort, AreFirstFrames}
+use Rattle.tab_etf.specs.Streams.{after_length, front, Cut, cut_by, cut_at_most, payloads, rest_of, AreWithin, IsIncomplete, AreFirstFrames}
 use Rattle.tab_etf.proofs.Cuts.{front_falls, payloads-front, payloads-none}
 use Rattle.tab_etf.proofs.ArrivalsLemmas.{known_front}
 use Rattle.tab_etf.proofs.Fields.{IsBytes, IsBytes-take, IsBytes-drop, wide32}
@@ -101,7 +101,7 @@ no_length : (b : Bool) (m : ℕ) → cond b None (Some m) ≡ None → b ≡ tru
 no_length true m e = refl
 no_length false m e = absurd cc
 
-short_by : (o : Option ℕ) (bytes : List ℕ) → length_next bytes ≡ o → after_length o bytes ≡ None → IsShort bytes o
+short_by : (o : Option ℕ) (bytes : List ℕ) → length_next bytes ≡ o → after_length o bytes ≡ None → IsIncomplete bytes o
 unfolding length_next
 short_by None bytes e f = ltb-true _ _ (no_length (ltb (length bytes) 4) (from_be_bytes w32 (take 4 bytes)) e)
 short_by (Some n) bytes e f =
@@ -111,7 +111,7 @@ short_by (Some n) bytes e f =
       | inr few ↦ inl (omega (arith, ltb-true _ _ few, length-drop 4 bytes))
     ]
 
-short : (bytes : List ℕ) → front bytes ≡ None → IsShort bytes (length_next bytes)
+short : (bytes : List ℕ) → front bytes ≡ None → IsIncomplete bytes (length_next bytes)
 unfolding front
 short bytes e = short_by (length_next bytes) bytes refl e
 

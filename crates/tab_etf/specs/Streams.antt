@@ -2,15 +2,15 @@
 use Rattle.std.specs.Prelude.{◌≡◌, ◌≢◌, ℕ, zero, suc, ◌+◌, ◌<◌, ◌≤◌, List, [], ◌∷◌, ◌++◌, length, take, drop, Option, Some, None, nat_lt, if◌then◌else◌, ◌⊎◌}
 use Rattle.tab_etf.specs.Frames.{limit, frames, length_next}
 
--- a payload of so many bytes, and what stands behind it
-abbrev pub behind : ℕ → List ℕ → Option (List ℕ × List ℕ)
-behind n bytes =
+-- a payload of so many bytes, and the rest
+abbrev pub payload_and_rest : ℕ → List ℕ → Option (List ℕ × List ℕ)
+payload_and_rest n bytes =
     if nat_lt limit n then None
     else (if nat_lt (length bytes) n then None else Some (take n bytes, drop n bytes))
 
 abbrev pub after_length : Option ℕ → List ℕ → Option (List ℕ × List ℕ)
 after_length None bytes = None
-after_length (Some n) bytes = behind n (drop 4 bytes)
+after_length (Some n) bytes = payload_and_rest n (drop 4 bytes)
 
 -- the first payload, and what stands behind it
 unfoldable pub front : List ℕ → Option (List ℕ × List ℕ)
@@ -55,12 +55,12 @@ AreWithin [] = Unit {0}
 AreWithin (p ∷ ps) = (length p ≤ limit) × AreWithin ps
 
 -- no whole frame stands there: no length, fewer bytes than it says, or one over the limit
-abbrev pub IsShort : List ℕ → Option ℕ → Type 0
-IsShort bytes None = length bytes < 4
-IsShort bytes (Some n) = (length bytes < n + 4) ⊎ (limit < n)
+abbrev pub IsIncomplete : List ℕ → Option ℕ → Type 0
+IsIncomplete bytes None = length bytes < 4
+IsIncomplete bytes (Some n) = (length bytes < n + 4) ⊎ (limit < n)
 
 -- the payloads of a stream are the first frames of it, up to where no whole frame stands
 pub record AreFirstFrames (bytes : List ℕ) : Type 0 where
   pub whole : frames (payloads bytes) ++ rest_of bytes ≡ bytes
   pub within : AreWithin (payloads bytes)
-  pub ends : IsShort (rest_of bytes) (length_next (rest_of bytes))
+  pub ends : IsIncomplete (rest_of bytes) (length_next (rest_of bytes))
