@@ -126,16 +126,29 @@ fn compare<K: Key, H: AllocGlobal + Clock>(
         go::<K, Map<K, u64>, H>(rt, Map::new(), &sample, &mut ours)?;
         go::<K, Versions<K>, H>(rt, Versions(Map::new()), &sample, &mut versions)?;
     }
-    for (call, took, beside) in [
+    let size = format!(in alloc; "{entries} {keys}")?;
+    let calls = u64::from(entries).saturating_mul(u64::from(rounds));
+    let lines = [
         ("look-up", ours.look_up, standard.look_up),
         ("insert", ours.insert, standard.insert),
         ("remove", ours.remove, standard.remove),
         ("inserted", versions.insert, standard.insert),
         ("removed", versions.remove, standard.remove),
-    ] {
-        let calls = u64::from(entries).saturating_mul(u64::from(rounds));
-        let name = format!(in alloc; "{call}, {entries} {keys}")?;
-        figures.push(Figure::new(name, Work::CallsBeside(calls, beside), took))?;
+    ];
+    add_figures(alloc, figures, &size, calls, &lines)
+}
+
+/// Of each kind of call: how long it took, and how long the standard map.
+fn add_figures(
+    alloc: Global,
+    figures: &mut Vec<Figure>,
+    size: &str,
+    calls: u64,
+    lines: &[(&str, Duration, Duration)],
+) -> Result<()> {
+    for (call, took, beside) in lines {
+        let name = format!(in alloc; "{call}, {size}")?;
+        figures.push(Figure::new(name, Work::CallsBeside(calls, *beside), *took))?;
     }
     Ok(())
 }
