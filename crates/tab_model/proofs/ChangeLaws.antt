@@ -8,6 +8,7 @@ use Rattle.std.proofs.lemmas.Slice.Eq.{bytes_eq-Decides}
 use Rattle.tab_term.specs.Data.{PlainTerm}
 use Rattle.tab_term.specs.Same.{same}
 use Rattle.tab_term.specs.View.{term}
+use Rattle.tab_term.specs.declared.term.Term.{Term}
 use Rattle.tab_model.specs.Names.{less, before}
 use Rattle.tab_model.specs.Tables.{Rows, key, has_key, at, delete, delete_object, insert, put_bag, put, apply, is_ordered}
 use Rattle.tab_model.specs.Worlds.{World, Table, name_of, find, place, without}
@@ -147,3 +148,28 @@ find-without (u ∷ w) m n = cases (find-without w m n) (bytes_eq (name_of u) m)
 
 pub change_at_key : (kind : Kind) (rows : Rows) (c : Change) (k : PlainTerm) → is_ordered rows ≡ true → at (apply kind rows c) k ≡ (if same (key_of_change c) k then apply kind (at rows k) c else at rows k)
 change_at_key = at-apply
+
+-- ---- what each change leaves at its key
+
+-- the key of a set's record has that record alone
+pub set_written : (rows : Rows) (r : Term) → is_ordered rows ≡ true → at (apply Set rows (change.Write r)) (key (term r)) ≡ term r ∷ []
+set_written rows r o = at-put-set rows (term r) (key (term r)) o ∙ ap (λ b. if b then term r ∷ [] else at rows (key (term r))) (same_refl (key (term r)))
+
+-- a bag's new record comes last
+pub bag_written : (rows : Rows) (r : Term) → is_ordered rows ≡ true → list_any (same (term r)) rows ≡ false → at (apply Bag rows (change.Write r)) (key (term r)) ≡ at rows (key (term r)) ++ term r ∷ []
+bag_written rows r o new =
+    at-put-bag rows (term r) (key (term r)) o ∙ ap (λ b. if b then at rows (key (term r)) else at rows (key (term r)) ++ (if same (key (term r)) (key (term r)) then term r ∷ [] else [])) new
+    ∙ ap (λ b. at rows (key (term r)) ++ (if b then term r ∷ [] else [])) (same_refl (key (term r)))
+
+-- an equal one leaves all as it is
+pub bag_rewritten : (rows : Rows) (r : Term) → list_any (same (term r)) rows ≡ true → apply Bag rows (change.Write r) ≡ rows
+bag_rewritten rows r there = ap (put_bag rows (term r)) there
+
+pub key_deleted : (kind : Kind) (rows : Rows) (t : List ℕ) (k : Term) → at (apply kind rows (change.Delete t k)) (term k) ≡ []
+key_deleted kind rows t k = at-del rows (term k) (term k) ∙ ap (λ b. if b then [] else at rows (term k)) (same_refl (term k))
+
+pub object_deleted : (kind : Kind) (rows : Rows) (r : Term) → at (apply kind rows (change.DeleteObject r)) (key (term r)) ≡ filter (λ x. not (same (term r) x)) (at rows (key (term r)))
+object_deleted kind rows r = filter_swap (has_key (key (term r))) (λ x. not (same (term r) x)) rows
+
+pub kept_elsewhere : (kind : Kind) (rows : Rows) (c : Change) (k : PlainTerm) → is_ordered rows ≡ true → same (key_of_change c) k ≡ false → at (apply kind rows c) k ≡ at rows k
+kept_elsewhere kind rows c k o other = at-apply kind rows c k o ∙ ap (λ b. if b then apply kind (at rows k) c else at rows k) other

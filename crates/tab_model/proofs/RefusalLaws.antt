@@ -1,6 +1,6 @@
 -- What each reply says of the state after it.
-use Rattle.std.proofs.Common.{◌≡◌, ℕ, List, [], ◌∷◌, ◌++◌, Bool, true, false, ◌||◌, ◌&&◌, not, refl, sym, ap, ◌∙◌, subst, append-nil, Option, Some, None}
-use Rattle.std.proofs.Math.Bool.{and-false}
+use Rattle.std.proofs.Common.{◌≡◌, ◌≢◌, ℕ, List, [], ◌∷◌, ◌++◌, Bool, true, false, ◌||◌, ◌&&◌, not, refl, sym, ap, ◌∙◌, subst, append-nil, Option, Some, None}
+use Rattle.std.proofs.Math.Bool.{and-false, and-true}
 use Rattle.std.specs.Prelude.{if◌then◌else◌, is_some, ◌==◌}
 use Rattle.tab_term.specs.View.{term}
 use Rattle.tab_term.specs.declared.term.Term.{Term}
@@ -20,12 +20,12 @@ use Rattle.tab_model.specs.declared.data.InfoItem.TheVariants as item
 use Rattle.tab_model.specs.declared.data.Command.{Command}
 use Rattle.tab_model.specs.declared.data.Command.TheVariants as command
 use Rattle.tab_model.specs.Definitions.{Parsed, Good, Bad, parse_options, fits_def, is_indexed, position}
-use Rattle.tab_model.specs.Worlds.{World, Table, find}
-use Rattle.tab_model.specs.Operations.{table_of, failure_in, failure, answer_at, answer_or, answer}
+use Rattle.tab_model.specs.Worlds.{Table, find}
+use Rattle.tab_model.specs.Operations.{table_of, failure_in, failure, answer_at, answer_or}
 use Rattle.tab_model.specs.Alone.{Mid, start, after, back, next, told}
 use Rattle.tab_model.specs.Locks.{locks_of}
 use Rattle.tab_model.specs.Events.{is_failure}
-use Rattle.tab_model.proofs.Seats.{found, seat_at-change, itself}
+use Rattle.tab_model.proofs.Seats.{found, seat_at-change, itself, differs'}
 use Rattle.tab_model.proofs.StepsBySeat.{locks-more}
 use Rattle.tab_model.proofs.SurvivorsRight.{reply_tells}
 use Rattle.tab_model.specs.Schemas.{is_some_position, bad_parse, create_refusal, remove_refusal, add_refusal, del_refusal, schema_refusal}
@@ -313,38 +313,64 @@ pub after-more : (m : Mid) (xs : List Move) (x : Move) → after m (xs ++ x ∷ 
 after-more m [] x = refl
 after-more m (y ∷ xs) x = after-more (next m y) xs x
 
+-- a request that doesn't wait isn't in the queue
+none_queued : (qs : List Queued) (n : ℕ) → is_some (request_in qs n) ≡ false → without_request qs n ≡ qs
+none_queued [] n e = refl
+none_queued (q ∷ qs) n e = cases (q.session == n) e (none_queued qs n)
+  where
+    cases : (b : Bool) → is_some (if b then Some q else request_in qs n) ≡ false → (is_some (request_in qs n) ≡ false → without_request qs n ≡ qs) → (if b then without_request qs n else q ∷ without_request qs n) ≡ q ∷ qs
+    cases true h ih = cc
+    cases false h ih = ap (λ xs. q ∷ xs) (ih h)
+
+other_seats : (seats : List Seat) (s : Seat) (n m : ℕ) (o : Option Transaction) → seat_at seats n ≡ Some s → m ≢ n → seat_at (change seats (with_transaction s o)) m ≡ seat_at seats m
+other_seats seats s n m o e other =
+    seat_at-change seats (with_transaction s o) s m (ap (seat_at seats) (found seats s n e) ∙ e)
+    ∙ ap (λ b. if b then Some (with_transaction s o) else seat_at seats m) (ap (λ k. m == k) (found seats s n e) ∙ differs' m n other)
+
 -- a move that goes back has ended its level
-level_ended : (σ τ : State) (n : ℕ) (s : Seat) (t : Transaction) (x : Move) (r : Reply) → seat_at σ.seats n ≡ Some s → τ.tables ≡ σ.tables → τ.seats ≡ σ.seats
+level_ended : (σ τ : State) (n : ℕ) (s : Seat) (t : Transaction) (x : Move) (r : Reply) → seat_at σ.seats n ≡ Some s → τ ≡ with_queue σ (without_request σ.queue n)
     → next (mid_of σ t) x ≡ back (mid_of σ t) → ends (mid_of σ t) x ≡ is_empty (mid_of σ t).saved
-    → EndsLevel σ n t x (told (mid_of σ t) x) (record { tables = τ.tables; seats = change τ.seats (with_transaction s (after_move t x (told (mid_of σ t) x) (ends (mid_of σ t) x))); queue = τ.queue; next_age = τ.next_age; commits = τ.commits; greatest = τ.greatest; limits = τ.limits })
-level_ended σ τ n s t x r here tables seats gone ended = record {
-  tables = tables;
-  first = λ e. now ∙ ap (after_move t x (told (mid_of σ t) x)) (ended ∙ e);
-  nested = λ e. now ∙ ap (after_move t x (told (mid_of σ t) x)) (ended ∙ e);
-  back = after-more (start σ.tables t.age) t.moves x ∙ gone;
-  locks = locks-more t.moves x ∙ ap (λ ls. locks_of t.moves ++ ls) (sym (locks-more [] x));
-}
+    → EndsLevel σ n t x (told (mid_of σ t) x) (made τ s t x r).state
+level_ended σ τ n s t x r here is gone ended = subst (λ (υ : State). EndsLevel σ n t x (told (mid_of σ t) x) (made υ s t x r).state) (sym is) at_once
   where
     then_is : Option Transaction
     then_is = after_move t x (told (mid_of σ t) x) (ends (mid_of σ t) x)
 
-    now : transaction_in (seat_at (change τ.seats (with_transaction s then_is)) n) ≡ then_is
-    now = ap (λ (xs : List Seat). transaction_in (seat_at (change xs (with_transaction s then_is)) n)) seats ∙ ap transaction_in (changed_here σ n s here then_is)
+    now : transaction_in (seat_at (change σ.seats (with_transaction s then_is)) n) ≡ then_is
+    now = ap transaction_in (changed_here σ n s here then_is)
+
+    own : (u : Seat) → seat_at σ.seats n ≡ Some u → seat_at (change σ.seats (with_transaction s then_is)) n ≡ Some (with_transaction u (transaction_in (seat_at (change σ.seats (with_transaction s then_is)) n)))
+    own u e = let same : s ≡ u = cc in changed_here σ n s here then_is ∙ (λ i. Some (with_transaction (same i) (sym now i)))
+
+    at_once : EndsLevel σ n t x (told (mid_of σ t) x) (made (with_queue σ (without_request σ.queue n)) s t x r).state
+    at_once = record {
+      tables = refl;
+      first = λ e. now ∙ ap (after_move t x (told (mid_of σ t) x)) (ended ∙ e);
+      nested = λ e. now ∙ ap (after_move t x (told (mid_of σ t) x)) (ended ∙ e);
+      back = after-more (start σ.tables t.age) t.moves x ∙ gone;
+      locks = locks-more t.moves x ∙ ap (λ ls. locks_of t.moves ++ ls) (sym (locks-more [] x));
+      seat = own;
+      others = λ m other. other_seats σ.seats s n m then_is here other;
+      queue = refl;
+      next_age = refl;
+      commits = refl;
+      greatest = refl;
+      limits = refl;
+    }
 
 if_back : (b : Bool) (m n : Mid) → b ≡ true → (if b then m else n) ≡ m
 if_back true m n h = refl
 if_back false m n h = cc
 
 -- a failing operation's move
-failed_made : (σ τ : State) (n : ℕ) (s : Seat) (t : Transaction) (o : Operation) → seat_at σ.seats n ≡ Some s → τ.tables ≡ σ.tables → τ.seats ≡ σ.seats → is_failure (Some (made τ s t (Do o) reply.Done).reply) ≡ true
+failed_made : (σ τ : State) (n : ℕ) (s : Seat) (t : Transaction) (o : Operation) → seat_at σ.seats n ≡ Some s → τ ≡ with_queue σ (without_request σ.queue n) → is_failure (Some (made τ s t (Do o) reply.Done).reply) ≡ true
     → EndsLevel σ n t (Do o) (Some (made τ s t (Do o) reply.Done).reply) (made τ s t (Do o) reply.Done).state
-failed_made σ τ n s t o here tables seats failed =
-    subst (λ (w : World). EndsLevel σ n t (Do o) (Some (answer (after (start w t.age) t.moves).now o)) (record { tables = τ.tables; seats = change τ.seats (with_transaction s (after_move t (Do o) (told (after (start w t.age) t.moves) (Do o)) (ends (after (start w t.age) t.moves) (Do o)))); queue = τ.queue; next_age = τ.next_age; commits = τ.commits; greatest = τ.greatest; limits = τ.limits }))
-    (sym tables)
-    (level_ended σ τ n s t (Do o) reply.Done here tables seats (if_back (is_some (failure (mid_of σ t).now o)) (back (mid_of σ t)) _ fails) (ap (λ b. b && is_empty (mid_of σ t).saved) fails))
+failed_made σ τ n s t o here is failed =
+    subst (λ (υ : State). EndsLevel σ n t (Do o) (Some (made υ s t (Do o) reply.Done).reply) (made υ s t (Do o) reply.Done).state) (sym is)
+    (level_ended σ (with_queue σ (without_request σ.queue n)) n s t (Do o) reply.Done here refl (if_back (is_some (failure (mid_of σ t).now o)) (back (mid_of σ t)) _ fails) (ap (λ b. b && is_empty (mid_of σ t).saved) fails))
   where
     fails : is_some (failure (mid_of σ t).now o) ≡ true
-    fails = ap (λ (w : World). is_some (failure (after (start w t.age) t.moves).now o)) (sym tables) ∙ sym (reply_tells (find (mid_of τ t).now (table_of o)) o) ∙ failed
+    fails = sym (reply_tells (find (mid_of σ t).now (table_of o)) o) ∙ ap (λ (υ : State). is_failure (Some (made υ s t (Do o) reply.Done).reply)) (sym is) ∙ failed
 
 -- what an operation that fails leaves
 pub operation_failed : (σ : State) (over : List ℕ) (n : ℕ) (t : Transaction) (o : Operation) → transaction_at σ n ≡ Some t → is_failure (Some (outcome σ over n (DoCommand (command.Do o))).reply) ≡ true
@@ -352,27 +378,30 @@ pub operation_failed : (σ : State) (over : List ℕ) (n : ℕ) (t : Transaction
 unfolding outcome
 operation_failed σ over n t o mine failed = cases (seat_at σ.seats n) refl mine failed
   where
-    by_answer : (s : Seat) (a : Answer) → seat_at σ.seats n ≡ Some s → is_failure (Some (decided σ s t o a).reply) ≡ true → EndsLevel σ n t (Do o) (Some (decided σ s t o a).reply) (decided σ s t o a).state
-    by_answer s Granted here f = failed_made σ σ n s t o here refl refl f
-    by_answer s Wait here f = cc
-    by_answer s Die here f = cc
+    own_request : (s : Seat) → seat_at σ.seats n ≡ Some s → is_waiting σ s.number ≡ false → σ ≡ with_queue σ (without_request σ.queue n)
+    own_request s here e = ap (with_queue σ) (sym (none_queued σ.queue n (ap (λ k. is_waiting σ k) (sym (found σ.seats s n here)) ∙ e)))
 
-    by_room : (s : Seat) (b : Bool) → seat_at σ.seats n ≡ Some s → is_failure (Some (within σ s t o b).reply) ≡ true → EndsLevel σ n t (Do o) (Some (within σ s t o b).reply) (within σ s t o b).state
-    by_room s false here f = cc
-    by_room s true here f = by_answer s _ here f
+    by_answer : (s : Seat) (a : Answer) → seat_at σ.seats n ≡ Some s → is_waiting σ s.number ≡ false → is_failure (Some (decided σ s t o a).reply) ≡ true → EndsLevel σ n t (Do o) (Some (decided σ s t o a).reply) (decided σ s t o a).state
+    by_answer s Granted here w f = failed_made σ σ n s t o here (own_request s here w) f
+    by_answer s Wait here w f = cc
+    by_answer s Die here w f = cc
 
-    by_transaction : (s : Seat) (x : Option Transaction) → seat_at σ.seats n ≡ Some s → x ≡ Some t → is_failure (Some (operate σ s o x).reply) ≡ true → EndsLevel σ n t (Do o) (Some (operate σ s o x).reply) (operate σ s o x).state
-    by_transaction s None here e f = cc
-    by_transaction s (Some u) here e f = let same : t ≡ u = cc in
-        subst (λ (v : Transaction). is_failure (Some (operate σ s o (Some v)).reply) ≡ true → EndsLevel σ n t (Do o) (Some (operate σ s o (Some v)).reply) (operate σ s o (Some v)).state) same (λ g. by_room s _ here g) f
+    by_room : (s : Seat) (b : Bool) → seat_at σ.seats n ≡ Some s → is_waiting σ s.number ≡ false → is_failure (Some (within σ s t o b).reply) ≡ true → EndsLevel σ n t (Do o) (Some (within σ s t o b).reply) (within σ s t o b).state
+    by_room s false here w f = cc
+    by_room s true here w f = by_answer s _ here w f
 
-    by_wait : (s : Seat) (b : Bool) → seat_at σ.seats n ≡ Some s → s.transaction ≡ Some t → is_failure (Some (command_if σ over s (command.Do o) b).reply) ≡ true → EndsLevel σ n t (Do o) (Some (command_if σ over s (command.Do o) b).reply) (command_if σ over s (command.Do o) b).state
-    by_wait s true here e f = cc
-    by_wait s false here e f = by_transaction s s.transaction here e f
+    by_transaction : (s : Seat) (x : Option Transaction) → seat_at σ.seats n ≡ Some s → is_waiting σ s.number ≡ false → x ≡ Some t → is_failure (Some (operate σ s o x).reply) ≡ true → EndsLevel σ n t (Do o) (Some (operate σ s o x).reply) (operate σ s o x).state
+    by_transaction s None here w e f = cc
+    by_transaction s (Some u) here w e f = let same : t ≡ u = cc in
+        subst (λ (v : Transaction). is_failure (Some (operate σ s o (Some v)).reply) ≡ true → EndsLevel σ n t (Do o) (Some (operate σ s o (Some v)).reply) (operate σ s o (Some v)).state) same (λ g. by_room s _ here w g) f
+
+    by_wait : (s : Seat) (b : Bool) → (is_waiting σ s.number && true) ≡ b → seat_at σ.seats n ≡ Some s → s.transaction ≡ Some t → is_failure (Some (command_if σ over s (command.Do o) b).reply) ≡ true → EndsLevel σ n t (Do o) (Some (command_if σ over s (command.Do o) b).reply) (command_if σ over s (command.Do o) b).state
+    by_wait s true w here e f = cc
+    by_wait s false w here e f = by_transaction s s.transaction here (sym (and-true (is_waiting σ s.number)) ∙ w) e f
 
     cases : (x : Option Seat) → seat_at σ.seats n ≡ x → transaction_in x ≡ Some t → is_failure (Some (by_seat σ over n (DoCommand (command.Do o)) x).reply) ≡ true → EndsLevel σ n t (Do o) (Some (by_seat σ over n (DoCommand (command.Do o)) x).reply) (by_seat σ over n (DoCommand (command.Do o)) x).state
     cases None here e f = cc
-    cases (Some s) here e f = by_wait s _ here e f
+    cases (Some s) here e f = by_wait s _ refl here e f
 
 -- what a queued operation that fails leaves
 pub retry_failed : (σ : State) (over : List ℕ) (n : ℕ) (t : Transaction) (q : Queued) → transaction_at σ n ≡ Some t → request_in σ.queue n ≡ Some q → is_failure (Some (outcome σ over n Retry).reply) ≡ true
@@ -382,7 +411,7 @@ retry_failed σ over n t q mine asked failed = cases (seat_at σ.seats n) refl m
   where
     by_turn : (s : Seat) (b : Bool) → seat_at σ.seats n ≡ Some s → is_failure (Some (retried σ s t q.operation b).reply) ≡ true → EndsLevel σ n t (Do q.operation) (Some (retried σ s t q.operation b).reply) (retried σ s t q.operation b).state
     by_turn s false here f = cc
-    by_turn s true here f = failed_made σ (with_queue σ (without_request σ.queue s.number)) n s t q.operation here refl refl f
+    by_turn s true here f = failed_made σ (with_queue σ (without_request σ.queue s.number)) n s t q.operation here (ap (λ k. with_queue σ (without_request σ.queue k)) (found σ.seats s n here)) f
 
     by_transaction : (s : Seat) (x : Option Transaction) → seat_at σ.seats n ≡ Some s → x ≡ Some t → is_failure (Some (retry_in σ s q.operation x).reply) ≡ true → EndsLevel σ n t (Do q.operation) (Some (retry_in σ s q.operation x).reply) (retry_in σ s q.operation x).state
     by_transaction s None here e f = cc
@@ -407,7 +436,7 @@ aborted σ over n t r mine = cases (seat_at σ.seats n) refl mine
     by_transaction s None here e = cc
     by_transaction s (Some u) here e = let same : t ≡ u = cc in
         subst (λ (v : Transaction). EndsLevel σ n t Undo None (abort σ s r (Some v)).state) same
-        (level_ended σ (with_queue σ (without_request σ.queue s.number)) n s t Undo (reply.UserAbort r) here refl refl refl refl)
+        (level_ended σ (with_queue σ (without_request σ.queue s.number)) n s t Undo (reply.UserAbort r) here (ap (λ k. with_queue σ (without_request σ.queue k)) (found σ.seats s n here)) refl refl)
 
     by_wait : (s : Seat) (b : Bool) → b ≡ false → seat_at σ.seats n ≡ Some s → s.transaction ≡ Some t → EndsLevel σ n t Undo None (command_if σ over s (command.Abort r) b).state
     by_wait s true g here e = cc

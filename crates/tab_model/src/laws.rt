@@ -1,16 +1,19 @@
 //! Laws of the definitions. Each is the contract of a function that does nothing.
 
-ghost use Rattle.std.specs.Prelude.{◌≡◌, ◌≢◌, ◌<◌, ◌↔◌, ◌⊎◌, ℕ, List, [], ◌∷◌, ◌++◌, true, false, if◌then◌else◌, Some, None, map};
-ghost use Rattle.std.specs.List.{list_any};
+ghost use Rattle.std.specs.Prelude.{◌≡◌, ◌≢◌, ◌<◌, ◌↔◌, ◌⊎◌, ℕ, List, [], ◌∷◌, ◌++◌, true, false, not, if◌then◌else◌, Some, None, map};
+ghost use Rattle.std.specs.List.{filter, list_any};
 ghost use Rattle.tab_term.specs.Data.{PlainTerm, PlainTerms};
 ghost use Rattle.tab_term.specs.Same.{same};
+ghost use Rattle.tab_term.specs.View.{term};
 ghost use Rattle.tab_term.specs.declared.term.Term.{Term};
 ghost use Rattle.tab_model.specs.declared.data.Change.{Change};
+ghost use Rattle.tab_model.specs.declared.data.Change.TheVariants as change;
 ghost use Rattle.tab_model.specs.declared.data.Entry.{Entry};
 ghost use Rattle.tab_model.specs.declared.data.Entry.TheVariants.{Subscribed};
 ghost use Rattle.tab_model.specs.declared.data.Event.{Event};
 ghost use Rattle.tab_model.specs.declared.data.Item.{Item};
 ghost use Rattle.tab_model.specs.declared.data.Kind.{Kind};
+ghost use Rattle.tab_model.specs.declared.data.Kind.TheVariants as kind;
 ghost use Rattle.tab_model.specs.declared.data.Level.{Level};
 ghost use Rattle.tab_model.specs.declared.data.Limits.{Limits};
 ghost use Rattle.tab_model.specs.declared.data.Move.{Move};
@@ -20,7 +23,7 @@ ghost use Rattle.tab_model.specs.declared.data.Reply.TheVariants as reply;
 ghost use Rattle.tab_model.specs.declared.data.Schema.{Schema};
 ghost use Rattle.tab_model.specs.declared.data.Command.TheVariants as command;
 ghost use Rattle.tab_model.specs.Names.{terms_list};
-ghost use Rattle.tab_model.specs.Tables.{Rows, at, apply, applied, is_ordered, SameTable};
+ghost use Rattle.tab_model.specs.Tables.{Rows, key, at, apply, applied, is_ordered, SameTable};
 ghost use Rattle.tab_model.specs.Operations.{key_of_change};
 ghost use Rattle.tab_model.specs.Worlds.{World, Table, find, rows_of, IsOrderedWorld};
 ghost use Rattle.tab_model.specs.Alone.{start, after, replies};
@@ -69,6 +72,19 @@ pub fn steps_keep_what_holds()
 pub fn tables_are_lists()
     ensures change { (kind : Kind) (rows : Rows) (c : Change) (k : PlainTerm) → is_ordered rows ≡ true → at (apply kind rows c) k ≡ (if same (key_of_change c) k then apply kind (at rows k) c else at rows k) }
     ensures lists { (xs ys : Rows) → is_ordered xs ≡ true → is_ordered ys ≡ true → SameTable xs ys → xs ≡ ys }
+{}
+
+/// What a change leaves at its key. A set's write leaves that record alone; a bag's write of a new record comes last, and
+/// of an equal one leaves the table as it is; a deletion leaves nothing; a deletion of a record leaves the others in their
+/// order. At each other key all stays.
+#[tactic(auto, using(crate::proofs::ChangeLaws::set_written, crate::proofs::ChangeLaws::bag_written, crate::proofs::ChangeLaws::bag_rewritten, crate::proofs::ChangeLaws::kept_elsewhere))]
+pub fn what_a_change_leaves()
+    ensures set { (rows : Rows) (r : Term) → is_ordered rows ≡ true → at (apply kind.Set rows (change.Write r)) (key (term r)) ≡ term r ∷ [] }
+    ensures bag_new { (rows : Rows) (r : Term) → is_ordered rows ≡ true → list_any (same (term r)) rows ≡ false → at (apply kind.Bag rows (change.Write r)) (key (term r)) ≡ at rows (key (term r)) ++ term r ∷ [] }
+    ensures bag_equal { (rows : Rows) (r : Term) → list_any (same (term r)) rows ≡ true → apply kind.Bag rows (change.Write r) ≡ rows }
+    ensures deleted { (kind : Kind) (rows : Rows) (t : List ℕ) (k : Term) → at (apply kind rows (change.Delete t k)) (term k) ≡ [] }
+    ensures object_deleted { (kind : Kind) (rows : Rows) (r : Term) → at (apply kind rows (change.DeleteObject r)) (key (term r)) ≡ filter (λ x. not (same (term r) x)) (at rows (key (term r))) }
+    ensures elsewhere { (kind : Kind) (rows : Rows) (c : Change) (k : PlainTerm) → is_ordered rows ≡ true → same (key_of_change c) k ≡ false → at (apply kind rows c) k ≡ at rows k }
 {}
 
 /// What a transaction was told stays right when another commits whose locks do not conflict with its own.
@@ -145,7 +161,8 @@ pub fn refusals_change_nothing()
 
 /// An operation that fails, at once or when it is retried, and an abort end the innermost level alone: the transaction is
 /// over where that is level 1; else it stays open with its locks, at most the operation's more, on the tables that the
-/// level began with.
+/// level began with. The session's queued request is gone; the rest of its seat, all other seats, all other requests, the
+/// tables and the numbers stay.
 #[tactic(auto)]
 pub fn levels_end_alone()
     ensures failed { (σ : State) (over : List ℕ) (n : ℕ) (t : Transaction) (o : Operation) → transaction_at σ n ≡ Some t → is_failure (Some (outcome σ over n (DoCommand (command.Do o))).reply) ≡ true → EndsLevel σ n t (Do o) (Some (outcome σ over n (DoCommand (command.Do o))).reply) (outcome σ over n (DoCommand (command.Do o))).state }
