@@ -1,0 +1,590 @@
+-- What callers know is what the core has: their open transactions and queued operations, and the log.
+use Rattle.std.proofs.Common.{◌≡◌, ℕ, ◌+◌, ◌<◌, ◌≤◌, List, [], ◌∷◌, ◌++◌, Bool, true, false, ◌&&◌, ◌||◌, not, refl, sym, ap, ◌∙◌, subst, arith, Option, Some, None}
+use Rattle.std.proofs.Math.Bool.{and-true}
+use Rattle.std.specs.Prelude.{◌==◌, if◌then◌else◌, is_some, map}
+use Rattle.std.proofs.lemmas.Bool.Decides.{nat_tests}
+use Rattle.tab_term.specs.View.{term}
+use Rattle.tab_term.specs.declared.term.Term.{Term}
+use Rattle.tab_model.specs.declared.data.Operation.{Operation}
+use Rattle.tab_model.specs.declared.data.Operation.TheVariants as op
+use Rattle.tab_model.specs.declared.data.Move.{Move}
+use Rattle.tab_model.specs.declared.data.Move.TheVariants.{Do, Open, Close, Undo}
+use Rattle.tab_model.specs.declared.data.Reply.{Reply}
+use Rattle.tab_model.specs.declared.data.Reply.TheVariants as reply
+use Rattle.tab_model.specs.declared.data.Limit.TheVariants as limit
+use Rattle.tab_model.specs.declared.data.Limits.{Limits}
+use Rattle.tab_model.specs.declared.data.Item.{Item}
+use Rattle.tab_model.specs.declared.data.Level.{Level}
+use Rattle.tab_model.specs.declared.data.Entry.{Entry}
+use Rattle.tab_model.specs.declared.data.Entry.TheVariants.{Subscribed, Unsubscribed}
+use Rattle.tab_model.specs.declared.data.Schema.{Schema}
+use Rattle.tab_model.specs.declared.data.Schema.TheVariants.{Create, Remove, AddIndex, DelIndex}
+use Rattle.tab_model.specs.declared.data.Command.{Command}
+use Rattle.tab_model.specs.declared.data.Command.TheVariants as command
+use Rattle.tab_model.specs.declared.data.Part.{Part}
+use Rattle.tab_model.specs.Definitions.{Parsed, Good, Bad, parse_options, fits_def, is_indexed, position}
+use Rattle.tab_model.specs.Worlds.{World, Table, find}
+use Rattle.tab_model.specs.Operations.{table_of, failure_in, failure, answer_at, answer_or}
+use Rattle.tab_model.specs.Alone.{Mid, start, after, replies, back_to, back, next, told}
+use Rattle.tab_model.specs.Ages.{Answer, Granted, Wait, Die}
+use Rattle.tab_model.specs.Schemas.{is_some_position, bad_parse, create_refusal, remove_refusal, add_refusal, del_refusal, schema_refusal, removed}
+use Rattle.tab_model.specs.State.{Transaction, Outbox, Watch, Seat, Queued, State, new, seat_at, transaction_in, moves_in, told_in_transaction, age_in, transaction_at, request_in, without_request, is_waiting, level_in, mid_of}
+use Rattle.tab_model.specs.Outcome.{Ask, Join, Leave, Retry, Take, DoCommand, Outcome, outcome, nothing, with_transaction, with_queue, change, without_seat, more, ends, after_move, said, made, emptied, decided, within, operate, retry_in, retry, opened, nested, begin, one_shot, abort, given, batch_to, end_to, unwatched, commit_at, commit, events_now, schema_if, schema, marked, subscribe_refusal, subscribe, unsubscribe, do_command, command_if, give, leave, seated, fresh, join, unseated, by_seat}
+use Rattle.tab_model.specs.Outcome as core
+use Rattle.tab_model.specs.Run.{Call, outcome_of, after_all, entries, log_of, replies_of, AllJoinEmpty}
+use Rattle.tab_model.specs.Log.{IsLegal}
+use Rattle.tab_model.specs.Callers.{Caller, Callers, newcomers, did, afresh, Said, Made, says, operated, retried, begun, hears_command, hears, commit_told, schema_told, done_told, command_told, entry_told, told_one, callers_after, log_told, AreHeard}
+use Rattle.tab_model.proofs.Seats.{eq_true, itself, found, seat_at-change, seat_at-push, seat_at-without, seat_at-map, mapped}
+use Rattle.tab_model.proofs.Schedules.{schedule_legal, schedule_told}
+use Rattle.tab_model.proofs.SoundSteps.{given_same, unwatched_same}
+
+-- a step of one session: all others' transactions and requests stay, and its own are what its caller then knows
+record Keeps (σ : State) (n : ℕ) (k : Caller) (τ : State) : Type 0 where
+  then_open : Option Transaction
+  then_queued : Option Queued
+  transactions : (m : ℕ) → transaction_at τ m ≡ (if m == n then then_open else transaction_at σ m)
+  requests : (m : ℕ) → request_in τ.queue m ≡ (if m == n then then_queued else request_in σ.queue m)
+  own : (t : Transaction) → then_open ≡ Some t → k.transaction ≡ t
+  asked : (q : Queued) → then_queued ≡ Some q → k.queued ≡ Some q.operation
+  aged : k.transaction.age < τ.next_age
+  later : σ.next_age ≤ τ.next_age
+
+keeps_heard : (σ τ : State) (n : ℕ) (k : Caller) (ks : Callers) → AreHeard σ ks → Keeps σ n k τ → AreHeard τ (λ m. if m == n then k else ks m)
+keeps_heard σ τ n k ks heard keeps = record {
+  known = λ m t e. known_if m t (m == n) (sym (keeps.transactions m) ∙ e);
+  waits = λ m q e. waits_if m q (m == n) (sym (keeps.requests m) ∙ e);
+  aged = λ m. aged_if m (m == n);
+}
+  where
+    known_if : (m : ℕ) (t : Transaction) (b : Bool) → (if b then keeps.then_open else transaction_at σ m) ≡ Some t → Caller.transaction (if b then k else ks m) ≡ t
+    known_if m t true e = keeps.own t e
+    known_if m t false e = heard.known m t e
+
+    waits_if : (m : ℕ) (q : Queued) (b : Bool) → (if b then keeps.then_queued else request_in σ.queue m) ≡ Some q → Caller.queued (if b then k else ks m) ≡ Some q.operation
+    waits_if m q true e = keeps.asked q e
+    waits_if m q false e = heard.waits m q e
+
+    aged_if : (m : ℕ) (b : Bool) → Transaction.age (Caller.transaction (if b then k else ks m)) < τ.next_age
+    aged_if m true = keeps.aged
+    aged_if m false = let a = heard.aged m in let b = keeps.later in omega (arith, a, b)
+
+-- ---- look-ups
+
+same_if : {A : Type 0} (f : ℕ → A) (m n : ℕ) → f m ≡ (if m == n then f n else f m)
+same_if f m n = cases (m == n) refl
+  where
+    cases : (b : Bool) → (m == n) ≡ b → f m ≡ (if b then f n else f m)
+    cases true e = ap f (eq_true m n e)
+    cases false e = refl
+
+transaction_if : (b : Bool) (x y : Option Seat) → transaction_in (if b then x else y) ≡ (if b then transaction_in x else transaction_in y)
+transaction_if true x y = refl
+transaction_if false x y = refl
+
+request_in-without : (qs : List Queued) (n m : ℕ) → request_in (without_request qs n) m ≡ (if m == n then None else request_in qs m)
+request_in-without [] n m = grind (arith, nat_tests)
+request_in-without (q ∷ qs) n m = grind (arith, nat_tests, request_in-without qs n m)
+
+request_in-push : (qs : List Queued) (q : Queued) (m : ℕ) → request_in qs q.session ≡ None → request_in (qs ++ q ∷ []) m ≡ (if m == q.session then Some q else request_in qs m)
+request_in-push [] q m e = grind (arith, nat_tests)
+request_in-push (p ∷ qs) q m e = grind (arith, nat_tests, request_in-push qs q m)
+
+-- a seat that keeps its number
+changed_transactions : (seats : List Seat) (s x : Seat) (n : ℕ) → seat_at seats n ≡ Some s → x.number ≡ s.number → (m : ℕ) → transaction_in (seat_at (change seats x) m) ≡ (if m == n then x.transaction else transaction_in (seat_at seats m))
+changed_transactions seats s x n here num m =
+    let same : x.number ≡ n = num ∙ found seats s n here in
+    ap transaction_in (seat_at-change seats x s m (ap (seat_at seats) same ∙ here))
+    ∙ ap (λ (k : ℕ). transaction_in (if m == k then Some x else seat_at seats m)) same
+    ∙ transaction_if (m == n) (Some x) (seat_at seats m)
+
+mapped_transaction : (f : Seat → Seat) → ((s : Seat) → ((f s).number ≡ s.number) × ((f s).transaction ≡ s.transaction)) → (seats : List Seat) (m : ℕ) → transaction_in (seat_at (map f seats) m) ≡ transaction_in (seat_at seats m)
+unfolding mapped
+mapped_transaction f h seats m = ap transaction_in (seat_at-map f (λ s. (h s).0) seats m) ∙ cases (seat_at seats m)
+  where
+    cases : (o : Option Seat) → transaction_in (mapped f o) ≡ transaction_in o
+    cases None = refl
+    cases (Some s) = (h s).1
+
+-- ---- replies
+
+-- a transaction's age is its moves'
+back-age : (m : Mid) (ws : List World) → (back_to m ws).age ≡ m.age
+back-age m [] = refl
+back-age m (w ∷ ws) = refl
+
+next-age : (m : Mid) (x : Move) → (next m x).age ≡ m.age
+next-age m (Do o) = cases (is_some (failure m.now o)) _ refl
+  where
+    cases : (b : Bool) (n : Mid) → n.age ≡ m.age → Mid.age (if b then back m else n) ≡ m.age
+    cases true n e = back-age m m.saved
+    cases false n e = e
+next-age m Open = refl
+next-age m Close = refl
+next-age m Undo = back-age m m.saved
+
+after-age : (m : Mid) (xs : List Move) → (after m xs).age ≡ m.age
+after-age m [] = refl
+after-age m (x ∷ xs) = after-age (next m x) xs ∙ next-age m x
+
+-- an operation's answer says that it was made
+either : (b : Bool) (r : Reply) (t : Table) (o : Operation) → says r ≡ Made → says (answer_at t o) ≡ Made → says (answer_or (if b then None else Some r) (Some t) o) ≡ Made
+either true r t o f g = g
+either false r t o f g = f
+
+answers : (x : Option Table) (o : Operation) → says (answer_or (failure_in x o) x o) ≡ Made
+answers None o = refl
+answers (Some t) (op.Read n k) = refl
+answers (Some t) (op.ReadForWrite n k) = refl
+answers (Some t) (op.Write r) = either (fits_def t.def (term r)) (reply.BadType (t.def).name r) t (op.Write r) refl refl
+answers (Some t) (op.Delete n k) = refl
+answers (Some t) (op.DeleteObject r) = either (fits_def t.def (term r)) (reply.BadType (t.def).name r) t (op.DeleteObject r) refl refl
+answers (Some t) (op.IndexRead n x a) = either (is_indexed t.def (position t.def (term a))) (reply.NoIndex n a) t (op.IndexRead n x a) refl refl
+answers (Some t) (op.MatchObject p) = either (fits_def t.def (term p)) (reply.BadType (t.def).name p) t (op.MatchObject p) refl refl
+answers (Some t) (op.AllKeys n) = refl
+answers (Some t) (op.ReadLockTable n) = refl
+answers (Some t) (op.WriteLockTable n) = refl
+
+-- ---- one session's step
+
+-- a step is heard: what the caller then knows is what the core then has, and so is the entry
+record IsHeard (σ : State) (n : ℕ) (k : Caller) (over : List ℕ) (a : Ask) (o : Outcome) : Type 0 where
+  keeps : Keeps σ n (hears k a o.reply) o.state
+  entry : entry_told n over k a o.reply ≡ o.entry
+
+abbrev WaitsFor : State → ℕ → Caller → Option Queued → Type 0
+WaitsFor σ n k p = (q : Queued) → p ≡ Some q → k.queued ≡ Some q.operation
+
+abbrev Knows : Caller → Option Transaction → Type 0
+Knows k o = (t : Transaction) → o ≡ Some t → k.transaction ≡ t
+
+-- nothing changes
+kept : (σ : State) (n : ℕ) (k : Caller) → WaitsFor σ n k (request_in σ.queue n) → k.transaction.age < σ.next_age → Knows k (transaction_at σ n) → Keeps σ n k σ
+kept σ n k waits aged mine = record {
+  then_open = transaction_at σ n;
+  then_queued = request_in σ.queue n;
+  transactions = λ m. same_if (transaction_at σ) m n;
+  requests = λ m. same_if (request_in σ.queue) m n;
+  own = mine;
+  asked = waits;
+  aged = aged;
+  later = omega arith;
+}
+
+none_of : (o : Option Queued) → is_some o ≡ false → o ≡ None
+none_of None e = refl
+none_of (Some q) e = cc
+
+below_differs : (a b : ℕ) → a < b → (a == b) ≡ false
+below_differs a b h = grind (arith, nat_tests)
+
+-- a refusal of a schema command, or of a subscription, is no entry
+abbrev NoEntry : (Reply → Option Entry) → Option Reply → Type 0
+NoEntry f None = Unit {0}
+NoEntry f (Some r) = f r ≡ None
+
+parsed_none : (over : List ℕ) (c : Schema) (t : List ℕ) (p : Parsed) → NoEntry (schema_told over c) (bad_parse t p)
+parsed_none over c t (Good d) = tt
+parsed_none over c t (Bad x) = refl
+
+if_none : (f : Reply → Option Entry) (b : Bool) (r : Reply) → f r ≡ None → NoEntry f (if b then Some r else None)
+if_none f true r h = h
+if_none f false r h = tt
+
+none_if : (f : Reply → Option Entry) (b : Bool) (r : Reply) → f r ≡ None → NoEntry f (if b then None else Some r)
+none_if f true r h = tt
+none_if f false r h = h
+
+schema_none : (over : List ℕ) (w : World) (c : Schema) → NoEntry (schema_told over c) (schema_refusal w c)
+schema_none over w (Create t os) = cases (find w t)
+  where
+    cases : (x : Option Table) → NoEntry (schema_told over (Create t os)) (create_refusal t os x)
+    cases (Some x) = refl
+    cases None = parsed_none over (Create t os) t (parse_options t os)
+schema_none over w (Remove t) = cases (find w t)
+  where
+    cases : (x : Option Table) → NoEntry (schema_told over (Remove t)) (remove_refusal t x)
+    cases (Some x) = tt
+    cases None = refl
+schema_none over w (AddIndex t a) = cases (find w t)
+  where
+    cases : (x : Option Table) → NoEntry (schema_told over (AddIndex t a)) (add_refusal t a x)
+    cases None = refl
+    cases (Some x) = if_none (schema_told over (AddIndex t a)) (not (is_some_position (position x.def (term a))) || is_indexed x.def (position x.def (term a))) _ refl
+schema_none over w (DelIndex t a) = cases (find w t)
+  where
+    cases : (x : Option Table) → NoEntry (schema_told over (DelIndex t a)) (del_refusal t a x)
+    cases None = refl
+    cases (Some x) = none_if (schema_told over (DelIndex t a)) (is_indexed x.def (position x.def (term a))) _ refl
+
+subscribe_none : (e : Entry) (σ : State) (s : Seat) (t : List ℕ) → NoEntry (done_told e) (subscribe_refusal σ s t)
+subscribe_none e σ s t = cases (is_some s.overflow) (is_some (find σ.tables t)) (is_some (level_in s.watching t))
+  where
+    cases : (a b c : Bool) → NoEntry (done_told e) (if a then Some reply.OverflowUntold else (if not b then Some (reply.SubNoTable t) else (if c then Some (reply.AlreadySubscribed t) else None)))
+    cases true b c = refl
+    cases false false c = refl
+    cases false true true = refl
+    cases false true false = tt
+
+-- a joined session
+module _ (σ : State) (s : Seat) (k : Caller) (here : seat_at σ.seats s.number ≡ Some s) (waits : WaitsFor σ s.number k (request_in σ.queue s.number)) (aged : k.transaction.age < σ.next_age) (mine : Knows k s.transaction) where
+  mine_at : Knows k (transaction_at σ s.number)
+  mine_at t e = mine t (sym (ap transaction_in here) ∙ e)
+
+  stay : Keeps σ s.number k σ
+  stay = kept σ s.number k waits aged mine_at
+
+  abbrev Heard : List ℕ → Ask → Outcome → Type 0
+  Heard over a o = IsHeard σ s.number k over a o
+
+  -- nothing is done
+  nothing_heard : (over : List ℕ) (a : Ask) (r : Reply) → hears k a r ≡ k → entry_told s.number over k a r ≡ None → Heard over a (nothing σ r)
+  nothing_heard over a r h e = record { keeps = subst (λ (x : Caller). Keeps σ s.number x σ) (sym h) stay; entry = e }
+
+  -- its seat and the queue change
+  seat_kept : (τ : State) (x : Seat) (k' : Caller) (p : Option Queued) → x.number ≡ s.number → τ.seats ≡ change σ.seats x → σ.next_age ≤ τ.next_age
+      → ((m : ℕ) → request_in τ.queue m ≡ (if m == s.number then p else request_in σ.queue m)) → WaitsFor σ s.number k' p
+      → Knows k' x.transaction → k'.transaction.age < τ.next_age → Keeps σ s.number k' τ
+  seat_kept τ x k' p num seats later requests asked own below = record {
+    then_open = x.transaction;
+    then_queued = p;
+    transactions = λ m. ap (λ (xs : List Seat). transaction_in (seat_at xs m)) seats ∙ changed_transactions σ.seats s x s.number here num m;
+    requests = requests;
+    own = own;
+    asked = asked;
+    aged = below;
+    later = later;
+  }
+
+  same_requests : (m : ℕ) → request_in σ.queue m ≡ (if m == s.number then request_in σ.queue s.number else request_in σ.queue m)
+  same_requests m = same_if (request_in σ.queue) m s.number
+
+  -- a move is made
+  made_kept : (qs : List Queued) (p : Option Queued) (t : Transaction) (x : Move) (r : Reply) → s.transaction ≡ Some t → ((m : ℕ) → request_in qs m ≡ (if m == s.number then p else request_in σ.queue m)) → WaitsFor σ s.number k p
+      → Keeps σ s.number (did k x (told (mid_of σ t) x)) (made (with_queue σ qs) s t x r).state
+  made_kept qs p t x r e requests asked = seat_kept (made (with_queue σ qs) s t x r).state (with_transaction s (after_move t x (told (mid_of σ t) x) (ends (mid_of σ t) x))) _ p refl refl (omega arith) requests asked (λ u. own u (ends (mid_of σ t) x)) aged
+    where
+      own : (u : Transaction) (b : Bool) → after_move t x (told (mid_of σ t) x) b ≡ Some u → (did k x (told (mid_of σ t) x)).transaction ≡ u
+      own u true h = cc
+      own u false h = let same : more t x (told (mid_of σ t) x) ≡ u = cc in ap (λ (v : Transaction). more v x (told (mid_of σ t) x)) (mine t e) ∙ same
+
+  decided_heard : (over : List ℕ) (t : Transaction) (o : Operation) (a : Answer) → s.transaction ≡ Some t → is_waiting σ s.number ≡ false → Heard over (DoCommand (command.Do o)) (decided σ s t o a)
+  decided_heard over t o Granted e free = record {
+    keeps = subst (λ (z : Said). Keeps σ s.number (operated k o (made σ s t (Do o) reply.Done).reply z) (made σ s t (Do o) reply.Done).state) (sym (answers (find (mid_of σ t).now (table_of o)) o))
+        (made_kept σ.queue (request_in σ.queue s.number) t (Do o) reply.Done e same_requests waits);
+    entry = refl;
+  }
+  decided_heard over t o Wait e free = record {
+    keeps = record {
+      then_open = transaction_at σ s.number;
+      then_queued = Some (record { session = s.number; age = t.age; operation = o });
+      transactions = λ m. same_if (transaction_at σ) m s.number;
+      requests = λ m. request_in-push σ.queue (record { session = s.number; age = t.age; operation = o }) m (none_of (request_in σ.queue s.number) free);
+      own = mine_at;
+      asked = λ q h. let same : record { session = s.number; age = t.age; operation = o } ≡ q = cc in ap (λ (z : Queued). Some z.operation) same;
+      aged = aged;
+      later = omega arith;
+    };
+    entry = refl;
+  }
+  decided_heard over t o Die e free = record {
+    keeps = seat_kept (decided σ s t o Die).state (with_transaction s (Some (emptied t))) (afresh k k.transaction.age) (request_in σ.queue s.number) refl refl (omega arith) same_requests waits
+        (λ u h. let same : emptied t ≡ u = cc in ap (λ (v : Transaction). emptied v) (mine t e) ∙ same) aged;
+    entry = refl;
+  }
+
+  within_heard : (over : List ℕ) (t : Transaction) (o : Operation) (b : Bool) → s.transaction ≡ Some t → is_waiting σ s.number ≡ false → Heard over (DoCommand (command.Do o)) (within σ s t o b)
+  within_heard over t o false e free = nothing_heard over (DoCommand (command.Do o)) _ refl refl
+  within_heard over t o true e free = decided_heard over t o _ e free
+
+  operate_heard : (over : List ℕ) (o : Operation) (x : Option Transaction) → s.transaction ≡ x → is_waiting σ s.number ≡ false → Heard over (DoCommand (command.Do o)) (operate σ s o x)
+  operate_heard over o None e free = nothing_heard over (DoCommand (command.Do o)) _ refl refl
+  operate_heard over o (Some t) e free = within_heard over t o _ e free
+
+  retried_heard : (over : List ℕ) (t : Transaction) (q : Queued) (b : Bool) → s.transaction ≡ Some t → request_in σ.queue s.number ≡ Some q → Heard over Retry (core.retried σ s t q.operation b)
+  retried_heard over t q false e asked = nothing_heard over Retry _ refl refl
+  retried_heard over t q true e asked = record {
+    keeps = subst (λ (z : Said). Keeps σ s.number (retried k R z k.queued) τ) (sym (answers (find (mid_of σ t).now (table_of q.operation)) q.operation))
+        (subst (λ (z : Option Operation). Keeps σ s.number (retried k R Made z) τ) (sym (waits q asked))
+        (made_kept (without_request σ.queue s.number) None t (Do q.operation) reply.Done e (request_in-without σ.queue s.number) (λ p h. cc)));
+    entry = refl;
+  }
+    where
+      τ : State
+      τ = (core.retried σ s t q.operation true).state
+
+      R : Reply
+      R = (core.retried σ s t q.operation true).reply
+
+  retry_in_heard : (over : List ℕ) (q : Queued) (x : Option Transaction) → s.transaction ≡ x → request_in σ.queue s.number ≡ Some q → Heard over Retry (retry_in σ s q.operation x)
+  retry_in_heard over q None e asked = nothing_heard over Retry _ refl refl
+  retry_in_heard over q (Some t) e asked = retried_heard over t q _ e asked
+
+  retry_heard : (over : List ℕ) (q : Option Queued) → request_in σ.queue s.number ≡ q → Heard over Retry (retry σ s q)
+  retry_heard over None asked = nothing_heard over Retry _ refl refl
+  retry_heard over (Some q) asked = retry_in_heard over q s.transaction refl asked
+
+  -- an outermost begin is told the next age, which no transaction had
+  opened_kept : Keeps σ s.number (begun k (reply.Tid σ.next_age)) (opened σ s true).state
+  opened_kept = subst (λ (b : Bool). Keeps σ s.number (if b then did k Open (Some (reply.Tid σ.next_age)) else afresh k σ.next_age) (opened σ s true).state) (sym (below_differs k.transaction.age σ.next_age aged))
+      (seat_kept (opened σ s true).state (with_transaction s (Some (record { age = σ.next_age; moves = []; told = [] }))) (afresh k σ.next_age) (request_in σ.queue s.number) refl refl (omega arith) same_requests waits
+      (λ u h. cc) (omega arith))
+
+  open_heard : (over : List ℕ) (a : Ask) (b : Bool) → ((r : Reply) → hears k a r ≡ begun k r) → ((r : Reply) → entry_told s.number over k a r ≡ None) → Heard over a (opened σ s b)
+  open_heard over a false h e = nothing_heard over a _ (h (reply.SystemLimit limit.Ages)) (e (reply.SystemLimit limit.Ages))
+  open_heard over a true h e = record { keeps = subst (λ (x : Caller). Keeps σ s.number x (opened σ s true).state) (sym (h (reply.Tid σ.next_age))) opened_kept; entry = e (reply.Tid σ.next_age) }
+
+  nested_heard : (over : List ℕ) (t : Transaction) (a b : Bool) → s.transaction ≡ Some t → Heard over (DoCommand command.Begin) (nested σ s t a b)
+  nested_heard over t false b e = nothing_heard over (DoCommand command.Begin) _ refl refl
+  nested_heard over t true false e = nothing_heard over (DoCommand command.Begin) _ refl refl
+  nested_heard over t true true e = record {
+    keeps = subst (λ (b : Bool). Keeps σ s.number (if b then did k Open (Some (reply.Tid (mid_of σ t).age)) else afresh k (mid_of σ t).age) (made σ s t Open reply.Done).state) (sym own_age)
+        (made_kept σ.queue (request_in σ.queue s.number) t Open reply.Done e same_requests waits);
+    entry = refl;
+  }
+    where
+      own_age : (k.transaction.age == (mid_of σ t).age) ≡ true
+      own_age = ap (λ (a : ℕ). k.transaction.age == a) (after-age (start σ.tables t.age) t.moves ∙ sym (ap (λ (v : Transaction). v.age) (mine t e))) ∙ itself k.transaction.age
+
+  begin_heard : (over : List ℕ) (x : Option Transaction) → s.transaction ≡ x → Heard over (DoCommand command.Begin) (begin σ s x)
+  begin_heard over None e = open_heard over (DoCommand command.Begin) _ (λ r. refl) (λ r. refl)
+  begin_heard over (Some t) e = nested_heard over t _ _ e
+
+  one_shot_heard : (over : List ℕ) (parts : List Part) (retries : ℕ) (x : Option Transaction) → Heard over (DoCommand (command.OneShot parts retries)) (one_shot σ s x)
+  one_shot_heard over parts retries None = open_heard over (DoCommand (command.OneShot parts retries)) _ (λ r. refl) (λ r. refl)
+  one_shot_heard over parts retries (Some t) = nothing_heard over (DoCommand (command.OneShot parts retries)) _ refl refl
+
+  abort_heard : (over : List ℕ) (r : Term) (x : Option Transaction) → s.transaction ≡ x → Heard over (DoCommand (command.Abort r)) (abort σ s r x)
+  abort_heard over r None e = nothing_heard over (DoCommand (command.Abort r)) _ refl refl
+  abort_heard over r (Some t) e = record {
+    keeps = made_kept (without_request σ.queue s.number) None t Undo (reply.UserAbort r) e (request_in-without σ.queue s.number) (λ p h. cc);
+    entry = refl;
+  }
+
+  -- a commit's entry has the moves that its caller knows
+  commit_at_heard : (over : List ℕ) (t : Transaction) (b : Bool) → s.transaction ≡ Some t → Heard over (DoCommand command.Commit) (commit_at σ over s t b)
+  commit_at_heard over t false e = record { keeps = made_kept σ.queue (request_in σ.queue s.number) t Close reply.Done e same_requests waits; entry = refl }
+  commit_at_heard over t true e = record {
+    keeps = record {
+      then_open = None;
+      then_queued = request_in σ.queue s.number;
+      transactions = λ m. mapped_transaction f same (change σ.seats (with_transaction s None)) m ∙ changed_transactions σ.seats s (with_transaction s None) s.number here refl m;
+      requests = same_requests;
+      own = λ u h. cc;
+      asked = waits;
+      aged = aged;
+      later = omega arith;
+    };
+    entry = ap (λ (v : Transaction). commit_told s.number over (record { transaction = v; queued = k.queued }) (reply.Atomic (σ.commits + 1))) (mine t e);
+  }
+    where
+      f : Seat → Seat
+      f x = given (σ.commits + 1) over (batch_to (σ.commits + 1) (events_now σ t) x) x
+
+      same : (x : Seat) → ((f x).number ≡ x.number) × ((f x).transaction ≡ x.transaction)
+      same x = given_same (σ.commits + 1) over (batch_to (σ.commits + 1) (events_now σ t) x) x
+
+  commit_heard : (over : List ℕ) (x : Option Transaction) → s.transaction ≡ x → Heard over (DoCommand command.Commit) (commit σ over s x)
+  commit_heard over None e = nothing_heard over (DoCommand command.Commit) _ refl refl
+  commit_heard over (Some t) e = commit_at_heard over t _ e
+
+  schema_if_heard : (over : List ℕ) (c : Schema) (r : Option Reply) (busy room : Bool) → NoEntry (schema_told over c) r → Heard over (DoCommand (command.Schema c)) (schema_if σ over c r busy room)
+  schema_if_heard over c (Some r) busy room h = nothing_heard over (DoCommand (command.Schema c)) r refl h
+  schema_if_heard over c None true room h = nothing_heard over (DoCommand (command.Schema c)) _ refl refl
+  schema_if_heard over c None false false h = nothing_heard over (DoCommand (command.Schema c)) _ refl refl
+  schema_if_heard over c None false true h = record {
+    keeps = record {
+      then_open = transaction_at σ s.number;
+      then_queued = request_in σ.queue s.number;
+      transactions = λ m. mapped_transaction f same σ.seats m ∙ same_if (transaction_at σ) m s.number;
+      requests = same_requests;
+      own = mine_at;
+      asked = waits;
+      aged = aged;
+      later = omega arith;
+    };
+    entry = refl;
+  }
+    where
+      f : Seat → Seat
+      f x = given (σ.commits + 1) over (end_to (removed c) x) (unwatched (removed c) x)
+
+      same : (x : Seat) → ((f x).number ≡ x.number) × ((f x).transaction ≡ x.transaction)
+      same x = let a = given_same (σ.commits + 1) over (end_to (removed c) x) (unwatched (removed c) x) in let b = unwatched_same (removed c) x in (a.0 ∙ b.0, a.1 ∙ b.1)
+
+  schema_heard : (over : List ℕ) (c : Schema) (x : Option Transaction) → Heard over (DoCommand (command.Schema c)) (schema σ over c x)
+  schema_heard over c (Some t) = nothing_heard over (DoCommand (command.Schema c)) _ refl refl
+  schema_heard over c None = schema_if_heard over c (schema_refusal σ.tables c) _ _ (schema_none over σ.tables c)
+
+  -- its seat has the same transaction
+  same_kept : (x : Seat) → x.number ≡ s.number → x.transaction ≡ s.transaction → (τ : State) → τ.seats ≡ change σ.seats x → τ.queue ≡ σ.queue → τ.next_age ≡ σ.next_age → Keeps σ s.number k τ
+  same_kept x num same τ seats queue next = seat_kept τ x k (request_in σ.queue s.number) num seats (omega (arith, next)) (λ m. ap (λ (qs : List Queued). request_in qs m) queue ∙ same_requests m) waits
+      (λ u h. mine u (sym same ∙ h)) (subst (λ (a : ℕ). k.transaction.age < a) (sym next) aged)
+
+  marked_heard : (over : List ℕ) (c : Command) (full : Bool) (ws : List Watch) (x : Item) (e : Entry) → ((r : Reply) → hears_command k c r ≡ k) → ((r : Reply) → command_told s.number over k c r ≡ done_told e r) → Heard over (DoCommand c) (marked σ full s ws x e)
+  marked_heard over c true ws x e h g = record {
+    keeps = subst (λ (y : Caller). Keeps σ s.number y (marked σ true s ws x e).state) (sym (h reply.OutboxFull)) (same_kept _ refl refl (marked σ true s ws x e).state refl refl refl);
+    entry = g reply.OutboxFull;
+  }
+  marked_heard over c false ws x e h g = record {
+    keeps = subst (λ (y : Caller). Keeps σ s.number y (marked σ false s ws x e).state) (sym (h reply.SubscribedHere)) (same_kept _ refl refl (marked σ false s ws x e).state refl refl refl);
+    entry = g reply.SubscribedHere;
+  }
+
+  subscribe_heard : (over : List ℕ) (t : List ℕ) (l : Level) (dump : Bool) (r : Option Reply) → NoEntry (done_told (Subscribed s.number t l dump)) r → Heard over (DoCommand (command.Subscribe t l dump)) (subscribe σ over s t l dump r)
+  subscribe_heard over t l dump (Some r) h = nothing_heard over (DoCommand (command.Subscribe t l dump)) r refl h
+  subscribe_heard over t l dump None h = marked_heard over (command.Subscribe t l dump) _ _ _ (Subscribed s.number t l dump) (λ r. refl) (λ r. refl)
+
+  unsubscribe_heard : (over : List ℕ) (t : List ℕ) (l : Level) (b : Bool) → Heard over (DoCommand (command.Unsubscribe t l)) (unsubscribe σ over s t b)
+  unsubscribe_heard over t l false = nothing_heard over (DoCommand (command.Unsubscribe t l)) _ refl refl
+  unsubscribe_heard over t l true = marked_heard over (command.Unsubscribe t l) _ _ _ (Unsubscribed s.number t) (λ r. refl) (λ r. refl)
+
+  do_heard : (over : List ℕ) (c : Command) → (is_waiting σ s.number && not (core.is_abort c)) ≡ false → Heard over (DoCommand c) (do_command σ over s c)
+  do_heard over (command.Schema c) free = schema_heard over c s.transaction
+  do_heard over (command.TableInfo t i) free = nothing_heard over (DoCommand (command.TableInfo t i)) _ refl refl
+  do_heard over command.Begin free = begin_heard over s.transaction refl
+  do_heard over command.Commit free = commit_heard over s.transaction refl
+  do_heard over (command.Abort r) free = abort_heard over r s.transaction refl
+  do_heard over (command.Do o) free = operate_heard over o s.transaction refl (sym (and-true (is_waiting σ s.number)) ∙ free)
+  do_heard over (command.Subscribe t l dump) free = subscribe_heard over t l dump _ (subscribe_none (Subscribed s.number t l dump) σ s t)
+  do_heard over (command.Unsubscribe t l) free = unsubscribe_heard over t l _
+  do_heard over (command.OneShot parts retries) free = one_shot_heard over parts retries s.transaction
+
+  -- who waits is told so of every other command
+  waiting_now : (over : List ℕ) (c : Command) → (hears_command k c reply.WaitingNow ≡ k) × (command_told s.number over k c reply.WaitingNow ≡ None)
+  waiting_now over (command.Schema c) = (refl, refl)
+  waiting_now over (command.TableInfo t i) = (refl, refl)
+  waiting_now over command.Begin = (refl, refl)
+  waiting_now over command.Commit = (refl, refl)
+  waiting_now over (command.Abort r) = (refl, refl)
+  waiting_now over (command.Do o) = (refl, refl)
+  waiting_now over (command.Subscribe t l dump) = (refl, refl)
+  waiting_now over (command.Unsubscribe t l) = (refl, refl)
+  waiting_now over (command.OneShot parts retries) = (refl, refl)
+
+  command_heard : (over : List ℕ) (c : Command) (b : Bool) → (is_waiting σ s.number && not (core.is_abort c)) ≡ b → Heard over (DoCommand c) (command_if σ over s c b)
+  command_heard over c true free = nothing_heard over (DoCommand c) _ (waiting_now over c).0 (waiting_now over c).1
+  command_heard over c false free = do_heard over c free
+
+  give_heard : (over : List ℕ) (xs : List Item) (l : Option ℕ) → Heard over Take (give σ s xs l)
+  give_heard over (x ∷ xs) l = record { keeps = same_kept _ refl refl (give σ s (x ∷ xs) l).state refl refl refl; entry = refl }
+  give_heard over [] None = nothing_heard over Take _ refl refl
+  give_heard over [] (Some m) = record { keeps = same_kept _ refl refl (give σ s [] (Some m)).state refl refl refl; entry = refl }
+
+  leave_heard : (over : List ℕ) → Heard over Leave (leave σ s)
+  leave_heard over = record {
+    keeps = record {
+      then_open = None;
+      then_queued = None;
+      transactions = λ m. ap transaction_in (seat_at-without σ.seats s.number m) ∙ transaction_if (m == s.number) None (seat_at σ.seats m);
+      requests = request_in-without σ.queue s.number;
+      own = λ u h. cc;
+      asked = λ q h. cc;
+      aged = aged;
+      later = omega arith;
+    };
+    entry = refl;
+  }
+
+  seated_heard : (over : List ℕ) (a : Ask) → Heard over a (seated σ over s a)
+  seated_heard over (Join b) = nothing_heard over (Join b) _ refl refl
+  seated_heard over Leave = leave_heard over
+  seated_heard over Retry = retry_heard over _ refl
+  seated_heard over Take = give_heard over _ _
+  seated_heard over (DoCommand c) = command_heard over c _ refl
+
+-- one that is not joined
+module _ (σ : State) (n : ℕ) (k : Caller) (none : seat_at σ.seats n ≡ None) (waits : WaitsFor σ n k (request_in σ.queue n)) (aged : k.transaction.age < σ.next_age) where
+  absent : Keeps σ n k σ
+  absent = kept σ n k waits aged (λ t h. let gone : transaction_at σ n ≡ None = ap transaction_in none in cc)
+
+  refused_heard : (over : List ℕ) (a : Ask) (r : Reply) → hears k a r ≡ k → entry_told n over k a r ≡ None → IsHeard σ n k over a (nothing σ r)
+  refused_heard over a r h e = record { keeps = subst (λ (x : Caller). Keeps σ n x σ) (sym h) absent; entry = e }
+
+  join_heard : (over : List ℕ) (b : Outbox) (above room : Bool) → IsHeard σ n k over (Join b) (join σ n b above room)
+  join_heard over b false room = refused_heard over (Join b) _ refl refl
+  join_heard over b true false = refused_heard over (Join b) _ refl refl
+  join_heard over b true true = record {
+    keeps = record {
+      then_open = None;
+      then_queued = request_in σ.queue n;
+      transactions = λ m. ap transaction_in (seat_at-push σ.seats (fresh n b) m none) ∙ transaction_if (m == n) (Some (fresh n b)) (seat_at σ.seats m);
+      requests = λ m. same_if (request_in σ.queue) m n;
+      own = λ u h. cc;
+      asked = waits;
+      aged = aged;
+      later = omega arith;
+    };
+    entry = refl;
+  }
+
+  bad_session : (over : List ℕ) (c : Command) → (hears_command k c reply.BadSession ≡ k) × (command_told n over k c reply.BadSession ≡ None)
+  bad_session over (command.Schema c) = (refl, refl)
+  bad_session over (command.TableInfo t i) = (refl, refl)
+  bad_session over command.Begin = (refl, refl)
+  bad_session over command.Commit = (refl, refl)
+  bad_session over (command.Abort r) = (refl, refl)
+  bad_session over (command.Do o) = (refl, refl)
+  bad_session over (command.Subscribe t l dump) = (refl, refl)
+  bad_session over (command.Unsubscribe t l) = (refl, refl)
+  bad_session over (command.OneShot parts retries) = (refl, refl)
+
+  unseated_heard : (over : List ℕ) (a : Ask) → IsHeard σ n k over a (unseated σ n a)
+  unseated_heard over (Join b) = join_heard over b _ _
+  unseated_heard over Leave = refused_heard over Leave _ refl refl
+  unseated_heard over Retry = refused_heard over Retry _ refl refl
+  unseated_heard over Take = refused_heard over Take _ refl refl
+  unseated_heard over (DoCommand c) = refused_heard over (DoCommand c) _ (bad_session over c).0 (bad_session over c).1
+
+-- ---- steps and schedules
+
+step_is_heard : (σ : State) (over : List ℕ) (n : ℕ) (a : Ask) (ks : Callers) → AreHeard σ ks → IsHeard σ n (ks n) over a (outcome σ over n a)
+unfolding outcome
+step_is_heard σ over n a ks heard = cases (seat_at σ.seats n) refl
+  where
+    at_seat : (s : Seat) (m : ℕ) → s.number ≡ m → seat_at σ.seats m ≡ Some s → IsHeard σ s.number (ks s.number) over a (seated σ over s a)
+    at_seat s m num here =
+        let own : seat_at σ.seats s.number ≡ Some s = ap (seat_at σ.seats) num ∙ here in
+        seated_heard σ s (ks s.number) own (λ q e. heard.waits s.number q e) (heard.aged s.number) (λ t e. heard.known s.number t (ap transaction_in own ∙ e)) over a
+
+    cases : (o : Option Seat) → seat_at σ.seats n ≡ o → IsHeard σ n (ks n) over a (by_seat σ over n a o)
+    cases None none = unseated_heard σ n (ks n) none (λ q e. heard.waits n q e) (heard.aged n) over a
+    cases (Some s) here = subst (λ (m : ℕ). IsHeard σ m (ks m) over a (seated σ over s a)) (found σ.seats s n here) (at_seat s n (found σ.seats s n here) here)
+
+-- each step keeps callers' knowledge right, and its entry is the one that they tell
+pub step_heard : (σ : State) (ks : Callers) (c : Call) → AreHeard σ ks → AreHeard (outcome_of σ c).state (told_one ks c (outcome_of σ c).reply) × (entry_told c.session c.over (ks c.session) c.ask (outcome_of σ c).reply ≡ (outcome_of σ c).entry)
+step_heard σ ks c heard =
+    let h = step_is_heard σ c.over c.session c.ask ks heard in
+    (keeps_heard σ (outcome_of σ c).state c.session _ ks heard h.keeps, h.entry)
+
+pub run_heard : (σ : State) (ks : Callers) (calls : List Call) → AreHeard σ ks → AreHeard (after_all σ calls) (callers_after ks calls (replies_of σ calls)) × (log_of σ calls ≡ log_told ks calls (replies_of σ calls))
+run_heard σ ks [] heard = (heard, refl)
+run_heard σ ks (c ∷ calls) heard =
+    let h = step_heard σ ks c heard in
+    let rest = run_heard (outcome_of σ c).state (told_one ks c (outcome_of σ c).reply) calls h.0 in
+    (rest.0, λ i. entries (sym h.1 i) ++ rest.1 i)
+
+pub new_heard : (limits : Limits) → AreHeard (new limits) newcomers
+new_heard limits = record { known = λ n t e. cc; waits = λ n q e. cc; aged = λ n. omega arith }
+
+-- for every schedule the log is the one that its callers tell
+pub schedule_log : (limits : Limits) (calls : List Call) → log_of (new limits) calls ≡ log_told newcomers calls (replies_of (new limits) calls)
+schedule_log limits calls = (run_heard (new limits) newcomers calls (new_heard limits)).1
+
+-- and each open transaction is what its caller knows
+pub schedule_open : (limits : Limits) (calls : List Call) (n : ℕ) (t : Transaction) → transaction_at (after_all (new limits) calls) n ≡ Some t → (callers_after newcomers calls (replies_of (new limits) calls) n).transaction ≡ t
+schedule_open limits calls n t e = (run_heard (new limits) newcomers calls (new_heard limits)).0.known n t e
+
+-- and each queued operation the one that its caller was last told to wait for
+pub schedule_queued : (limits : Limits) (calls : List Call) (n : ℕ) (q : Queued) → request_in (after_all (new limits) calls).queue n ≡ Some q → (callers_after newcomers calls (replies_of (new limits) calls) n).queued ≡ Some q.operation
+schedule_queued limits calls n q e = (run_heard (new limits) newcomers calls (new_heard limits)).0.waits n q e
+
+-- what callers were told is legal
+pub schedule_heard_legal : (limits : Limits) (calls : List Call) → AllJoinEmpty calls → IsLegal [] 0 (log_told newcomers calls (replies_of (new limits) calls))
+schedule_heard_legal limits calls empty = subst (λ (log : List Entry). IsLegal [] 0 log) (schedule_log limits calls) (schedule_legal limits calls empty)
+
+-- and right on the tables as they are, in each open transaction
+pub schedule_heard_told : (limits : Limits) (calls : List Call) (n : ℕ) (t : Transaction) → transaction_at (after_all (new limits) calls) n ≡ Some t
+    → let k = (callers_after newcomers calls (replies_of (new limits) calls) n).transaction in replies (start (after_all (new limits) calls).tables k.age) k.moves ≡ k.told
+schedule_heard_told limits calls n t e =
+    subst (λ (v : Transaction). replies (start (after_all (new limits) calls).tables v.age) v.moves ≡ v.told) (sym (schedule_open limits calls n t e))
+    (subst (λ (o : Option Transaction). replies (start (after_all (new limits) calls).tables (age_in o)) (moves_in o) ≡ told_in_transaction o) e (schedule_told limits calls n))

@@ -1,0 +1,5 @@
+use Rattle.tab_model.proofs.CallersLemmas.{step_heard}
+use Rattle.tab_model.proofs.laws.callers_tell_the_log.Goals as goal
+
+pub returns-clause-step : goal.returns-clause-step
+returns-clause-step c = step_heard

@@ -1,0 +1,155 @@
+-- The log as the callers can tell it: read off what they asked and were told, and nothing else (this project's own: the
+-- history that a run shows from outside).
+use Rattle.std.specs.Prelude.{◌≡◌, ℕ, ◌<◌, List, [], ◌∷◌, ◌++◌, ◌==◌, if◌then◌else◌, Option, Some, None}
+use Rattle.tab_model.specs.declared.data.Operation.{Operation}
+use Rattle.tab_model.specs.declared.data.Move.{Move}
+use Rattle.tab_model.specs.declared.data.Move.TheVariants.{Do, Open, Close, Undo}
+use Rattle.tab_model.specs.declared.data.Reply.{Reply}
+use Rattle.tab_model.specs.declared.data.Reply.TheVariants as reply
+use Rattle.tab_model.specs.declared.data.Schema.{Schema}
+use Rattle.tab_model.specs.declared.data.Command.{Command}
+use Rattle.tab_model.specs.declared.data.Command.TheVariants as command
+use Rattle.tab_model.specs.declared.data.Entry.{Entry}
+use Rattle.tab_model.specs.declared.data.Entry.TheVariants.{Committed, Changed, Subscribed, Unsubscribed}
+use Rattle.tab_model.specs.State.{Transaction, Queued, State, transaction_at, request_in}
+use Rattle.tab_model.specs.Outcome.{Ask, Join, Leave, Retry, Take, DoCommand}
+use Rattle.tab_model.specs.Run.{Call, entries}
+
+-- what a session's caller knows: its moves since its outermost begin or its last restart, with what they were told, and the
+-- operation that was last answered waiting
+pub record Caller : Type 0 where
+  pub transaction : Transaction
+  pub queued : Option Operation
+
+-- before its first transaction; ages are from 1 on
+abbrev pub newcomer : Caller
+newcomer = record { transaction = record { age = 0; moves = []; told = [] }; queued = None }
+
+-- a move more, with what it was told
+abbrev pub did : Caller → Move → Option Reply → Caller
+did k x r = record { transaction = record { age = k.transaction.age; moves = k.transaction.moves ++ x ∷ []; told = k.transaction.told ++ r ∷ [] }; queued = k.queued }
+
+-- a transaction of this age with no moves yet
+abbrev pub afresh : Caller → ℕ → Caller
+afresh k age = record { transaction = record { age = age; moves = []; told = [] }; queued = k.queued }
+
+-- what an answer says of the operation that was asked for: it was not made, it waits, it began anew, it was made
+pub data Said : Type 0 where
+  NotMade Waits BeginsAnew Made : Said
+
+abbrev pub says : Reply → Said
+says reply.BadCommand = NotMade
+says reply.NoTransaction = NotMade
+says reply.WaitingNow = NotMade
+says reply.InTransaction = NotMade
+says reply.NotWaiting = NotMade
+says reply.NoMemory = NotMade
+says (reply.SystemLimit l) = NotMade
+says reply.BadSession = NotMade
+says reply.Waiting = Waits
+says reply.Restart = BeginsAnew
+says r = Made
+
+abbrev pub operated : Caller → Operation → Reply → Said → Caller
+operated k o r NotMade = k
+operated k o r Waits = record { transaction = k.transaction; queued = Some o }
+operated k o r BeginsAnew = afresh k k.transaction.age
+operated k o r Made = did k (Do o) (Some r)
+
+-- a retry's answer belongs to the operation that waits
+abbrev pub retried : Caller → Reply → Said → Option Operation → Caller
+retried k r Made (Some o) = did k (Do o) (Some r)
+retried k r x o = k
+
+-- a child's begin is told its transaction's age, an outermost one a new age
+abbrev pub begun : Caller → Reply → Caller
+begun k (reply.Tid age) = if k.transaction.age == age then did k Open (Some (reply.Tid age)) else afresh k age
+begun k r = k
+
+abbrev pub closed : Caller → Reply → Caller
+closed k reply.AtomicOk = did k Close (Some reply.AtomicOk)
+closed k r = k
+
+-- an abort stands bare, without its reason
+abbrev pub undone : Caller → Reply → Caller
+undone k (reply.UserAbort reason) = did k Undo None
+undone k r = k
+
+abbrev pub hears_command : Caller → Command → Reply → Caller
+hears_command k (command.Schema c) r = k
+hears_command k (command.TableInfo t i) r = k
+hears_command k command.Begin r = begun k r
+hears_command k command.Commit r = closed k r
+hears_command k (command.Abort reason) r = undone k r
+hears_command k (command.Do o) r = operated k o r (says r)
+hears_command k (command.Subscribe t l dump) r = k
+hears_command k (command.Unsubscribe t l) r = k
+hears_command k (command.OneShot parts retries) r = begun k r
+
+-- what a caller knows after one step of its own
+abbrev pub hears : Caller → Ask → Reply → Caller
+hears k (Join b) r = k
+hears k Leave r = k
+hears k Retry r = retried k r (says r) k.queued
+hears k Take r = k
+hears k (DoCommand c) r = hears_command k c r
+
+-- the entry of an outermost commit, a schema command, a subscription and its end, where they are told that they are done
+abbrev pub commit_told : ℕ → List ℕ → Caller → Reply → Option Entry
+commit_told n over k (reply.Atomic i) = Some (Committed i n k.transaction.age k.transaction.moves k.transaction.told over)
+commit_told n over k r = None
+
+abbrev pub schema_told : List ℕ → Schema → Reply → Option Entry
+schema_told over c reply.AtomicOk = Some (Changed c over)
+schema_told over c r = None
+
+abbrev pub done_told : Entry → Reply → Option Entry
+done_told e reply.SubscribedHere = Some e
+done_told e r = None
+
+abbrev pub command_told : ℕ → List ℕ → Caller → Command → Reply → Option Entry
+command_told n over k (command.Schema c) r = schema_told over c r
+command_told n over k (command.TableInfo t i) r = None
+command_told n over k command.Begin r = None
+command_told n over k command.Commit r = commit_told n over k r
+command_told n over k (command.Abort reason) r = None
+command_told n over k (command.Do o) r = None
+command_told n over k (command.Subscribe t l dump) r = done_told (Subscribed n t l dump) r
+command_told n over k (command.Unsubscribe t l) r = done_told (Unsubscribed n t) r
+command_told n over k (command.OneShot parts retries) r = None
+
+-- the entry that a step of a caller adds
+abbrev pub entry_told : ℕ → List ℕ → Caller → Ask → Reply → Option Entry
+entry_told n over k (Join b) r = None
+entry_told n over k Leave r = None
+entry_told n over k Retry r = None
+entry_told n over k Take r = None
+entry_told n over k (DoCommand c) r = command_told n over k c r
+
+-- who knows what, by session
+abbrev pub Callers : Type 0
+Callers = ℕ → Caller
+
+abbrev pub newcomers : Callers
+newcomers m = newcomer
+
+abbrev pub told_one : Callers → Call → Reply → Callers
+told_one ks c r m = if m == c.session then hears (ks c.session) c.ask r else ks m
+
+-- what callers know after calls that were answered so
+abbrev pub callers_after : Callers → List Call → List Reply → Callers
+callers_after ks [] rs = ks
+callers_after ks (c ∷ cs) [] = ks
+callers_after ks (c ∷ cs) (r ∷ rs) = callers_after (told_one ks c r) cs rs
+
+-- the log that they tell
+abbrev pub log_told : Callers → List Call → List Reply → List Entry
+log_told ks [] rs = []
+log_told ks (c ∷ cs) [] = []
+log_told ks (c ∷ cs) (r ∷ rs) = entries (entry_told c.session c.over (ks c.session) c.ask r) ++ log_told (told_one ks c r) cs rs
+
+-- each open transaction is what its caller knows, each queued operation the one that its caller was last told to wait for
+pub record AreHeard (σ : State) (ks : Callers) : Type 0 where
+  pub known : (n : ℕ) (t : Transaction) → transaction_at σ n ≡ Some t → (ks n).transaction ≡ t
+  pub waits : (n : ℕ) (q : Queued) → request_in σ.queue n ≡ Some q → (ks n).queued ≡ Some q.operation
+  pub aged : (n : ℕ) → (ks n).transaction.age < σ.next_age
