@@ -15,18 +15,10 @@ returns-then-not-any_opposing c =
     let none = sym c.if-not-any_opposing.true ∙ c.any_opposing.ensures ∙ sym (any_queued (opposes r) ws) in
     λ i. if none i then (if list_any (blocks r) (queued ws) then WithOlder else WithYounger) else Free
 
-pub returns-then-any_blocking : goal.returns-then-any_blocking
-returns-then-any_blocking c =
+pub returns : goal.returns
+returns c =
     let r : Owned = (c.args.age, lock_of c.args.lock.now) in
     let ws = c.args.queue.now in
     let some = sym c.if-not-any_opposing.false ∙ c.any_opposing.ensures ∙ sym (any_queued (opposes r) ws) in
-    let older = sym c.if-any_blocking.true ∙ c.any_blocking.ensures ∙ sym (any_queued (blocks r) ws) in
-    λ i. if some i then (if older i then WithOlder else WithYounger) else Free
-
-pub returns-else-any_blocking : goal.returns-else-any_blocking
-returns-else-any_blocking c =
-    let r : Owned = (c.args.age, lock_of c.args.lock.now) in
-    let ws = c.args.queue.now in
-    let some = sym c.if-not-any_opposing.false ∙ c.any_opposing.ensures ∙ sym (any_queued (opposes r) ws) in
-    let older = sym c.if-any_blocking.false ∙ c.any_blocking.ensures ∙ sym (any_queued (blocks r) ws) in
-    λ i. if some i then (if older i then WithOlder else WithYounger) else Free
+    let older = c.any_blocking.ensures ∙ sym (any_queued (blocks r) ws) in
+    c.with.ensures ∙ (λ i. if some i then (if older i then WithOlder else WithYounger) else Free)
