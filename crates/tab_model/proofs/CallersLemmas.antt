@@ -71,14 +71,14 @@ keeps_heard σ τ n k ks heard keeps = record {
 
 -- ---- look-ups
 
-same_if : {A : Type 0} (f : ℕ → A) (m n : ℕ) → f m ≡ (if m == n then f n else f m)
+pub same_if : {A : Type 0} (f : ℕ → A) (m n : ℕ) → f m ≡ (if m == n then f n else f m)
 same_if f m n = cases (m == n) refl
   where
     cases : (b : Bool) → (m == n) ≡ b → f m ≡ (if b then f n else f m)
     cases true e = ap f (eq_true m n e)
     cases false e = refl
 
-transaction_if : (b : Bool) (x y : Option Seat) → transaction_in (if b then x else y) ≡ (if b then transaction_in x else transaction_in y)
+pub transaction_if : (b : Bool) (x y : Option Seat) → transaction_in (if b then x else y) ≡ (if b then transaction_in x else transaction_in y)
 transaction_if true x y = refl
 transaction_if false x y = refl
 
@@ -91,14 +91,14 @@ request_in-push [] q m e = grind (arith, nat_tests)
 request_in-push (p ∷ qs) q m e = grind (arith, nat_tests, request_in-push qs q m)
 
 -- a seat that keeps its number
-changed_transactions : (seats : List Seat) (s x : Seat) (n : ℕ) → seat_at seats n ≡ Some s → x.number ≡ s.number → (m : ℕ) → transaction_in (seat_at (change seats x) m) ≡ (if m == n then x.transaction else transaction_in (seat_at seats m))
+pub changed_transactions : (seats : List Seat) (s x : Seat) (n : ℕ) → seat_at seats n ≡ Some s → x.number ≡ s.number → (m : ℕ) → transaction_in (seat_at (change seats x) m) ≡ (if m == n then x.transaction else transaction_in (seat_at seats m))
 changed_transactions seats s x n here num m =
     let same : x.number ≡ n = num ∙ found seats s n here in
     ap transaction_in (seat_at-change seats x s m (ap (seat_at seats) same ∙ here))
     ∙ ap (λ (k : ℕ). transaction_in (if m == k then Some x else seat_at seats m)) same
     ∙ transaction_if (m == n) (Some x) (seat_at seats m)
 
-mapped_transaction : (f : Seat → Seat) → ((s : Seat) → ((f s).number ≡ s.number) × ((f s).transaction ≡ s.transaction)) → (seats : List Seat) (m : ℕ) → transaction_in (seat_at (map f seats) m) ≡ transaction_in (seat_at seats m)
+pub mapped_transaction : (f : Seat → Seat) → ((s : Seat) → ((f s).number ≡ s.number) × ((f s).transaction ≡ s.transaction)) → (seats : List Seat) (m : ℕ) → transaction_in (seat_at (map f seats) m) ≡ transaction_in (seat_at seats m)
 unfolding mapped
 mapped_transaction f h seats m = ap transaction_in (seat_at-map f (λ s. (h s).0) seats m) ∙ cases (seat_at seats m)
   where

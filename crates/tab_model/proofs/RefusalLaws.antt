@@ -324,7 +324,7 @@ without-filter (q ∷ qs) n = cases (q.session == n) (without-filter qs n)
     cases false ih = ap (λ xs. q ∷ xs) ih
 
 -- a request that doesn't wait isn't in the queue
-none_queued : (qs : List Queued) (n : ℕ) → is_some (request_in qs n) ≡ false → without_request qs n ≡ qs
+pub none_queued : (qs : List Queued) (n : ℕ) → is_some (request_in qs n) ≡ false → without_request qs n ≡ qs
 none_queued [] n e = refl
 none_queued (q ∷ qs) n e = cases (q.session == n) e (none_queued qs n)
   where

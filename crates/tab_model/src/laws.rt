@@ -34,7 +34,7 @@ ghost use Rattle.tab_model.specs.Ages.{Ages, Owned, Granted, Wait, Die, Covered,
 ghost use Rattle.tab_model.specs.Log.{entered, serial, serial_from, stands, in_force, IsRight, IsLegal, commits_from};
 ghost use Rattle.tab_model.specs.Since.{changes_on, changes_told, deletes, StandsSince, AllStood, AllAged, RowsSince};
 ghost use Rattle.tab_model.specs.Slices.{dump_of, owed, slice, slice_after};
-ghost use Rattle.tab_model.specs.State.{State, Seat, Transaction, Queued, new, seat_at, transaction_at, request_in, age_at, moves_at, told_at, level_in, IsSound};
+ghost use Rattle.tab_model.specs.State.{State, Seat, Transaction, Queued, new, seat_at, transaction_at, request_in, ages_of, age_at, moves_at, told_at, level_in, IsSound};
 ghost use Rattle.tab_model.specs.Outcome.{Ask, Retry, DoCommand, outcome};
 ghost use Rattle.tab_model.specs.Refusals.{AsBefore, standing, counted, requested, queued, empty_again, restarted, Restarts, EndsLevel, IsSole};
 ghost use Rattle.tab_model.specs.Run.{Call, AllJoinEmpty, Begins, leaves, JoinsEmpty, IsTied, outcome_of, after_all, log_of, replies_of, taken_of, entries, taken_now};
@@ -112,13 +112,16 @@ pub fn replies_stay()
     ensures { (w : World) (a b : ℕ) (xs ys : List Move) → IsOrderedWorld w → Apart (locks_of xs) (locks_of ys) → replies (start (after (start w a) xs).now b) ys ≡ replies (start w b) ys }
 {}
 
-/// Whatever is asked, ages rise along every wait, from older to younger: so no chain of waits leads back.
-#[tactic(auto, using(crate::proofs::WaitsHaveNoCycle::request_rises, crate::proofs::WaitsHaveNoCycle::retry_rises, crate::proofs::WaitsHaveNoCycle::forget_rises, crate::proofs::WaitsHaveNoCycle::chain_rises))]
+/// Whatever is asked, ages rise along every wait, from older to younger: so no chain of waits leads back. In every reached
+/// state they do, whoever asked, retried, committed, aborted while it waited, or left.
+#[tactic(auto, using(crate::proofs::WaitsHaveNoCycle::request_rises, crate::proofs::WaitsHaveNoCycle::retry_rises, crate::proofs::WaitsHaveNoCycle::forget_rises, crate::proofs::WaitsHaveNoCycle::chain_rises, crate::proofs::ReachedWaits::schedule_rises))]
 pub fn waits_have_no_cycle()
     ensures request { (g : Ages) (r : Owned) → Rises g → Rises (after_request g r (decide g r)) }
     ensures retry { (g : Ages) (r : Owned) → request_of r.0 g.queue ≡ Some r → Rises g → Rises (after_retry g r (can_retry g r)) }
     ensures forget { (g : Ages) (a : ℕ) → Rises g → Rises (forget g a) }
     ensures chain { (g : Ages) (a b : ℕ) (bs : List ℕ) → Rises g → Chain g a (b ∷ bs) → a < last_of b bs }
+    ensures reached { (limits : Limits) (calls : List Call) → Rises (ages_of (after_all (new limits) calls)) }
+    ensures reached_chain { (limits : Limits) (calls : List Call) (a b : ℕ) (bs : List ℕ) → Chain (ages_of (after_all (new limits) calls)) a (b ∷ bs) → a < last_of b bs }
 {}
 
 /// The updates that no abort and no failure undid, read off a transaction's replies and made one after another, give the
