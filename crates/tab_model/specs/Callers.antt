@@ -13,7 +13,7 @@ use Rattle.tab_model.specs.declared.data.Command.TheVariants as command
 use Rattle.tab_model.specs.declared.data.Entry.{Entry}
 use Rattle.tab_model.specs.declared.data.Entry.TheVariants.{Committed, Changed, Subscribed, Unsubscribed}
 use Rattle.tab_model.specs.State.{Transaction, Queued, State, transaction_at, request_in}
-use Rattle.tab_model.specs.Outcome.{Ask, Join, Leave, Retry, Take, DoCommand}
+use Rattle.tab_model.specs.Outcome.{Ask, Leave, Retry, DoCommand}
 use Rattle.tab_model.specs.Run.{Call, entries}
 
 -- what a session's caller knows: its moves since its outermost begin or its last restart, with what they were told, and the
@@ -77,23 +77,18 @@ undone k (reply.UserAbort reason) = did k Undo None
 undone k r = k
 
 abbrev pub hears_command : Caller → Command → Reply → Caller
-hears_command k (command.Schema c) r = k
-hears_command k (command.TableInfo t i) r = k
 hears_command k command.Begin r = begun k r
 hears_command k command.Commit r = closed k r
 hears_command k (command.Abort reason) r = undone k r
 hears_command k (command.Do o) r = operated k o r (says r)
-hears_command k (command.Subscribe t l dump) r = k
-hears_command k (command.Unsubscribe t l) r = k
 hears_command k (command.OneShot parts retries) r = begun k r
+hears_command k c r = k
 
 -- what a caller knows after one step of its own
 abbrev pub hears : Caller → Ask → Reply → Caller
-hears k (Join b) r = k
-hears k Leave r = k
 hears k Retry r = retried k r (says r) k.queued
-hears k Take r = k
 hears k (DoCommand c) r = hears_command k c r
+hears k a r = k
 
 -- the entry of an outermost commit, a schema command, a subscription and its end, where they are told that they are done
 abbrev pub commit_told : ℕ → List ℕ → Caller → Reply → Option Entry
@@ -110,22 +105,15 @@ done_told e r = None
 
 abbrev pub command_told : ℕ → List ℕ → Caller → Command → Reply → Option Entry
 command_told n over k (command.Schema c) r = schema_told over c r
-command_told n over k (command.TableInfo t i) r = None
-command_told n over k command.Begin r = None
 command_told n over k command.Commit r = commit_told n over k r
-command_told n over k (command.Abort reason) r = None
-command_told n over k (command.Do o) r = None
 command_told n over k (command.Subscribe t l dump) r = done_told (Subscribed n t l dump) r
 command_told n over k (command.Unsubscribe t l) r = done_told (Unsubscribed n t) r
-command_told n over k (command.OneShot parts retries) r = None
+command_told n over k c r = None
 
 -- the entry that a step of a caller adds
 abbrev pub entry_told : ℕ → List ℕ → Caller → Ask → Reply → Option Entry
-entry_told n over k (Join b) r = None
-entry_told n over k Leave r = None
-entry_told n over k Retry r = None
-entry_told n over k Take r = None
 entry_told n over k (DoCommand c) r = command_told n over k c r
+entry_told n over k a r = None
 
 -- a session's requests go, the others' stay in their order
 abbrev pub without_own : ℕ → List Queued → List Queued
@@ -133,17 +121,13 @@ without_own n qs = filter (λ q. not (q.session == n)) qs
 
 -- an operation joins the queue where it is told to wait
 abbrev pub queued_told : ℕ → Caller → Operation → Said → List Queued → List Queued
-queued_told n k o NotMade qs = qs
 queued_told n k o Waits qs = qs ++ record { session = n; age = k.transaction.age; operation = o } ∷ []
-queued_told n k o BeginsAnew qs = qs
-queued_told n k o Made qs = qs
+queued_told n k o x qs = qs
 
 -- it leaves the queue where its answer comes, and where its session aborts or leaves
 abbrev pub answered_told : ℕ → Said → List Queued → List Queued
-answered_told n NotMade qs = qs
-answered_told n Waits qs = qs
-answered_told n BeginsAnew qs = qs
 answered_told n Made qs = without_own n qs
+answered_told n x qs = qs
 
 abbrev pub aborted_told : ℕ → Reply → List Queued → List Queued
 aborted_told n (reply.UserAbort reason) qs = without_own n qs
@@ -154,23 +138,16 @@ left_told n reply.Done qs = without_own n qs
 left_told n r qs = qs
 
 abbrev pub queue_by_command : ℕ → Caller → Command → Reply → List Queued → List Queued
-queue_by_command n k (command.Schema c) r qs = qs
-queue_by_command n k (command.TableInfo t i) r qs = qs
-queue_by_command n k command.Begin r qs = qs
-queue_by_command n k command.Commit r qs = qs
 queue_by_command n k (command.Abort reason) r qs = aborted_told n r qs
 queue_by_command n k (command.Do o) r qs = queued_told n k o (says r) qs
-queue_by_command n k (command.Subscribe t l dump) r qs = qs
-queue_by_command n k (command.Unsubscribe t l) r qs = qs
-queue_by_command n k (command.OneShot parts retries) r qs = qs
+queue_by_command n k c r qs = qs
 
 -- the queue after one step of a caller
 abbrev pub queue_told : ℕ → Caller → Ask → Reply → List Queued → List Queued
-queue_told n k (Join b) r qs = qs
 queue_told n k Leave r qs = left_told n r qs
 queue_told n k Retry r qs = answered_told n (says r) qs
-queue_told n k Take r qs = qs
 queue_told n k (DoCommand c) r qs = queue_by_command n k c r qs
+queue_told n k a r qs = qs
 
 -- the next age after a begin: one more where it was an outermost one
 abbrev pub age_told : Caller → Reply → ℕ → ℕ
@@ -178,22 +155,13 @@ age_told k (reply.Tid age) a = if k.transaction.age == age then a else a + 1
 age_told k r a = a
 
 abbrev pub age_by_command : Caller → Command → Reply → ℕ → ℕ
-age_by_command k (command.Schema c) r a = a
-age_by_command k (command.TableInfo t i) r a = a
 age_by_command k command.Begin r a = age_told k r a
-age_by_command k command.Commit r a = a
-age_by_command k (command.Abort reason) r a = a
-age_by_command k (command.Do o) r a = a
-age_by_command k (command.Subscribe t l dump) r a = a
-age_by_command k (command.Unsubscribe t l) r a = a
 age_by_command k (command.OneShot parts retries) r a = age_told k r a
+age_by_command k c r a = a
 
 abbrev pub next_told : Caller → Ask → Reply → ℕ → ℕ
-next_told k (Join b) r a = a
-next_told k Leave r a = a
-next_told k Retry r a = a
-next_told k Take r a = a
 next_told k (DoCommand c) r a = age_by_command k c r a
+next_told k x r a = a
 
 -- who knows what, by session
 abbrev pub Callers : Type 0
