@@ -33,8 +33,9 @@ use Rattle.tab_model.specs.Outcome.{Ask, Join, Leave, Retry, Take, DoCommand, Ou
 use Rattle.tab_model.specs.Outcome as core
 use Rattle.tab_model.specs.Run.{Call, outcome_of, after_all, entries, log_of, replies_of, AllJoinEmpty}
 use Rattle.tab_model.specs.Log.{IsLegal}
-use Rattle.tab_model.specs.Callers.{Caller, Callers, newcomers, did, afresh, Said, Made, says, operated, retried, begun, hears_command, hears, commit_told, schema_told, done_told, command_told, entry_told, told_one, callers_after, log_told, AreHeard}
+use Rattle.tab_model.specs.Callers.{Caller, Callers, newcomers, did, afresh, Said, Made, says, operated, retried, begun, hears_command, hears, commit_told, schema_told, done_told, command_told, entry_told, queued_told, answered_told, queue_by_command, queue_told, age_told, age_by_command, next_told, told_one, callers_after, log_told, queue_after, next_after, AreHeard}
 use Rattle.tab_model.proofs.Seats.{eq_true, itself, found, seat_at-change, seat_at-push, seat_at-without, seat_at-map, mapped}
+use Rattle.tab_model.proofs.RefusalLaws.{without-filter}
 use Rattle.tab_model.proofs.Schedules.{schedule_legal, schedule_told}
 use Rattle.tab_model.proofs.SoundSteps.{given_same, unwatched_same}
 
@@ -70,14 +71,14 @@ keeps_heard σ τ n k ks heard keeps = record {
 
 -- ---- look-ups
 
-same_if : {A : Type 0} (f : ℕ → A) (m n : ℕ) → f m ≡ (if m == n then f n else f m)
+pub same_if : {A : Type 0} (f : ℕ → A) (m n : ℕ) → f m ≡ (if m == n then f n else f m)
 same_if f m n = cases (m == n) refl
   where
     cases : (b : Bool) → (m == n) ≡ b → f m ≡ (if b then f n else f m)
     cases true e = ap f (eq_true m n e)
     cases false e = refl
 
-transaction_if : (b : Bool) (x y : Option Seat) → transaction_in (if b then x else y) ≡ (if b then transaction_in x else transaction_in y)
+pub transaction_if : (b : Bool) (x y : Option Seat) → transaction_in (if b then x else y) ≡ (if b then transaction_in x else transaction_in y)
 transaction_if true x y = refl
 transaction_if false x y = refl
 
@@ -90,14 +91,14 @@ request_in-push [] q m e = grind (arith, nat_tests)
 request_in-push (p ∷ qs) q m e = grind (arith, nat_tests, request_in-push qs q m)
 
 -- a seat that keeps its number
-changed_transactions : (seats : List Seat) (s x : Seat) (n : ℕ) → seat_at seats n ≡ Some s → x.number ≡ s.number → (m : ℕ) → transaction_in (seat_at (change seats x) m) ≡ (if m == n then x.transaction else transaction_in (seat_at seats m))
+pub changed_transactions : (seats : List Seat) (s x : Seat) (n : ℕ) → seat_at seats n ≡ Some s → x.number ≡ s.number → (m : ℕ) → transaction_in (seat_at (change seats x) m) ≡ (if m == n then x.transaction else transaction_in (seat_at seats m))
 changed_transactions seats s x n here num m =
     let same : x.number ≡ n = num ∙ found seats s n here in
     ap transaction_in (seat_at-change seats x s m (ap (seat_at seats) same ∙ here))
     ∙ ap (λ (k : ℕ). transaction_in (if m == k then Some x else seat_at seats m)) same
     ∙ transaction_if (m == n) (Some x) (seat_at seats m)
 
-mapped_transaction : (f : Seat → Seat) → ((s : Seat) → ((f s).number ≡ s.number) × ((f s).transaction ≡ s.transaction)) → (seats : List Seat) (m : ℕ) → transaction_in (seat_at (map f seats) m) ≡ transaction_in (seat_at seats m)
+pub mapped_transaction : (f : Seat → Seat) → ((s : Seat) → ((f s).number ≡ s.number) × ((f s).transaction ≡ s.transaction)) → (seats : List Seat) (m : ℕ) → transaction_in (seat_at (map f seats) m) ≡ transaction_in (seat_at seats m)
 unfolding mapped
 mapped_transaction f h seats m = ap transaction_in (seat_at-map f (λ s. (h s).0) seats m) ∙ cases (seat_at seats m)
   where
@@ -150,6 +151,8 @@ answers (Some t) (op.WriteLockTable n) = refl
 record IsHeard (σ : State) (n : ℕ) (k : Caller) (over : List ℕ) (a : Ask) (o : Outcome) : Type 0 where
   keeps : Keeps σ n (hears k a o.reply) o.state
   entry : entry_told n over k a o.reply ≡ o.entry
+  queue : queue_told n k a o.reply σ.queue ≡ o.state.queue
+  next : next_told k a o.reply σ.next_age ≡ o.state.next_age
 
 abbrev WaitsFor : State → ℕ → Caller → Option Queued → Type 0
 WaitsFor σ n k p = (q : Queued) → p ≡ Some q → k.queued ≡ Some q.operation
@@ -237,8 +240,8 @@ module _ (σ : State) (s : Seat) (k : Caller) (here : seat_at σ.seats s.number 
   Heard over a o = IsHeard σ s.number k over a o
 
   -- nothing is done
-  nothing_heard : (over : List ℕ) (a : Ask) (r : Reply) → hears k a r ≡ k → entry_told s.number over k a r ≡ None → Heard over a (nothing σ r)
-  nothing_heard over a r h e = record { keeps = subst (λ (x : Caller). Keeps σ s.number x σ) (sym h) stay; entry = e }
+  nothing_heard : (over : List ℕ) (a : Ask) (r : Reply) → hears k a r ≡ k → entry_told s.number over k a r ≡ None → queue_told s.number k a r σ.queue ≡ σ.queue → next_told k a r σ.next_age ≡ σ.next_age → Heard over a (nothing σ r)
+  nothing_heard over a r h e q x = record { keeps = subst (λ (y : Caller). Keeps σ s.number y σ) (sym h) stay; entry = e; queue = q; next = x }
 
   -- its seat and the queue change
   seat_kept : (τ : State) (x : Seat) (k' : Caller) (p : Option Queued) → x.number ≡ s.number → τ.seats ≡ change σ.seats x → σ.next_age ≤ τ.next_age
@@ -272,6 +275,8 @@ module _ (σ : State) (s : Seat) (k : Caller) (here : seat_at σ.seats s.number 
     keeps = subst (λ (z : Said). Keeps σ s.number (operated k o (made σ s t (Do o) reply.Done).reply z) (made σ s t (Do o) reply.Done).state) (sym (answers (find (mid_of σ t).now (table_of o)) o))
         (made_kept σ.queue (request_in σ.queue s.number) t (Do o) reply.Done e same_requests waits);
     entry = refl;
+    queue = ap (λ (z : Said). queued_told s.number k o z σ.queue) (answers (find (mid_of σ t).now (table_of o)) o);
+    next = refl;
   }
   decided_heard over t o Wait e free = record {
     keeps = record {
@@ -285,28 +290,34 @@ module _ (σ : State) (s : Seat) (k : Caller) (here : seat_at σ.seats s.number 
       later = omega arith;
     };
     entry = refl;
+    queue = ap (λ (v : Transaction). σ.queue ++ record { session = s.number; age = v.age; operation = o } ∷ []) (mine t e);
+    next = refl;
   }
   decided_heard over t o Die e free = record {
     keeps = seat_kept (decided σ s t o Die).state (with_transaction s (Some (emptied t))) (afresh k k.transaction.age) (request_in σ.queue s.number) refl refl (omega arith) same_requests waits
         (λ u h. let same : emptied t ≡ u = cc in ap (λ (v : Transaction). emptied v) (mine t e) ∙ same) aged;
     entry = refl;
+    queue = refl;
+    next = refl;
   }
 
   within_heard : (over : List ℕ) (t : Transaction) (o : Operation) (b : Bool) → s.transaction ≡ Some t → is_waiting σ s.number ≡ false → Heard over (DoCommand (command.Do o)) (within σ s t o b)
-  within_heard over t o false e free = nothing_heard over (DoCommand (command.Do o)) _ refl refl
+  within_heard over t o false e free = nothing_heard over (DoCommand (command.Do o)) _ refl refl refl refl
   within_heard over t o true e free = decided_heard over t o _ e free
 
   operate_heard : (over : List ℕ) (o : Operation) (x : Option Transaction) → s.transaction ≡ x → is_waiting σ s.number ≡ false → Heard over (DoCommand (command.Do o)) (operate σ s o x)
-  operate_heard over o None e free = nothing_heard over (DoCommand (command.Do o)) _ refl refl
+  operate_heard over o None e free = nothing_heard over (DoCommand (command.Do o)) _ refl refl refl refl
   operate_heard over o (Some t) e free = within_heard over t o _ e free
 
   retried_heard : (over : List ℕ) (t : Transaction) (q : Queued) (b : Bool) → s.transaction ≡ Some t → request_in σ.queue s.number ≡ Some q → Heard over Retry (core.retried σ s t q.operation b)
-  retried_heard over t q false e asked = nothing_heard over Retry _ refl refl
+  retried_heard over t q false e asked = nothing_heard over Retry _ refl refl refl refl
   retried_heard over t q true e asked = record {
     keeps = subst (λ (z : Said). Keeps σ s.number (retried k R z k.queued) τ) (sym (answers (find (mid_of σ t).now (table_of q.operation)) q.operation))
         (subst (λ (z : Option Operation). Keeps σ s.number (retried k R Made z) τ) (sym (waits q asked))
         (made_kept (without_request σ.queue s.number) None t (Do q.operation) reply.Done e (request_in-without σ.queue s.number) (λ p h. cc)));
     entry = refl;
+    queue = ap (λ (z : Said). answered_told s.number z σ.queue) (answers (find (mid_of σ t).now (table_of q.operation)) q.operation) ∙ sym (without-filter σ.queue s.number);
+    next = refl;
   }
     where
       τ : State
@@ -316,11 +327,11 @@ module _ (σ : State) (s : Seat) (k : Caller) (here : seat_at σ.seats s.number 
       R = (core.retried σ s t q.operation true).reply
 
   retry_in_heard : (over : List ℕ) (q : Queued) (x : Option Transaction) → s.transaction ≡ x → request_in σ.queue s.number ≡ Some q → Heard over Retry (retry_in σ s q.operation x)
-  retry_in_heard over q None e asked = nothing_heard over Retry _ refl refl
+  retry_in_heard over q None e asked = nothing_heard over Retry _ refl refl refl refl
   retry_in_heard over q (Some t) e asked = retried_heard over t q _ e asked
 
   retry_heard : (over : List ℕ) (q : Option Queued) → request_in σ.queue s.number ≡ q → Heard over Retry (retry σ s q)
-  retry_heard over None asked = nothing_heard over Retry _ refl refl
+  retry_heard over None asked = nothing_heard over Retry _ refl refl refl refl
   retry_heard over (Some q) asked = retry_in_heard over q s.transaction refl asked
 
   -- an outermost begin is told the next age, which no transaction had
@@ -329,40 +340,50 @@ module _ (σ : State) (s : Seat) (k : Caller) (here : seat_at σ.seats s.number 
       (seat_kept (opened σ s true).state (with_transaction s (Some (record { age = σ.next_age; moves = []; told = [] }))) (afresh k σ.next_age) (request_in σ.queue s.number) refl refl (omega arith) same_requests waits
       (λ u h. cc) (omega arith))
 
-  open_heard : (over : List ℕ) (a : Ask) (b : Bool) → ((r : Reply) → hears k a r ≡ begun k r) → ((r : Reply) → entry_told s.number over k a r ≡ None) → Heard over a (opened σ s b)
-  open_heard over a false h e = nothing_heard over a _ (h (reply.SystemLimit limit.Ages)) (e (reply.SystemLimit limit.Ages))
-  open_heard over a true h e = record { keeps = subst (λ (x : Caller). Keeps σ s.number x (opened σ s true).state) (sym (h (reply.Tid σ.next_age))) opened_kept; entry = e (reply.Tid σ.next_age) }
+  open_heard : (over : List ℕ) (a : Ask) (b : Bool) → ((r : Reply) → hears k a r ≡ begun k r) → ((r : Reply) → entry_told s.number over k a r ≡ None) → ((r : Reply) → queue_told s.number k a r σ.queue ≡ σ.queue)
+      → ((r : Reply) → next_told k a r σ.next_age ≡ age_told k r σ.next_age) → Heard over a (opened σ s b)
+  open_heard over a false h e q x = nothing_heard over a _ (h (reply.SystemLimit limit.Ages)) (e (reply.SystemLimit limit.Ages)) (q (reply.SystemLimit limit.Ages)) (x (reply.SystemLimit limit.Ages))
+  open_heard over a true h e q x = record {
+    keeps = subst (λ (y : Caller). Keeps σ s.number y (opened σ s true).state) (sym (h (reply.Tid σ.next_age))) opened_kept;
+    entry = e (reply.Tid σ.next_age);
+    queue = q (reply.Tid σ.next_age);
+    next = x (reply.Tid σ.next_age) ∙ ap (λ (b : Bool). if b then σ.next_age else σ.next_age + 1) (below_differs k.transaction.age σ.next_age aged);
+  }
 
   nested_heard : (over : List ℕ) (t : Transaction) (a b : Bool) → s.transaction ≡ Some t → Heard over (DoCommand command.Begin) (nested σ s t a b)
-  nested_heard over t false b e = nothing_heard over (DoCommand command.Begin) _ refl refl
-  nested_heard over t true false e = nothing_heard over (DoCommand command.Begin) _ refl refl
+  nested_heard over t false b e = nothing_heard over (DoCommand command.Begin) _ refl refl refl refl
+  nested_heard over t true false e = nothing_heard over (DoCommand command.Begin) _ refl refl refl refl
   nested_heard over t true true e = record {
     keeps = subst (λ (b : Bool). Keeps σ s.number (if b then did k Open (Some (reply.Tid (mid_of σ t).age)) else afresh k (mid_of σ t).age) (made σ s t Open reply.Done).state) (sym own_age)
         (made_kept σ.queue (request_in σ.queue s.number) t Open reply.Done e same_requests waits);
     entry = refl;
+    queue = refl;
+    next = ap (λ (b : Bool). if b then σ.next_age else σ.next_age + 1) own_age;
   }
     where
       own_age : (k.transaction.age == (mid_of σ t).age) ≡ true
       own_age = ap (λ (a : ℕ). k.transaction.age == a) (after-age (start σ.tables t.age) t.moves ∙ sym (ap (λ (v : Transaction). v.age) (mine t e))) ∙ itself k.transaction.age
 
   begin_heard : (over : List ℕ) (x : Option Transaction) → s.transaction ≡ x → Heard over (DoCommand command.Begin) (begin σ s x)
-  begin_heard over None e = open_heard over (DoCommand command.Begin) _ (λ r. refl) (λ r. refl)
+  begin_heard over None e = open_heard over (DoCommand command.Begin) _ (λ r. refl) (λ r. refl) (λ r. refl) (λ r. refl)
   begin_heard over (Some t) e = nested_heard over t _ _ e
 
   one_shot_heard : (over : List ℕ) (parts : List Part) (retries : ℕ) (x : Option Transaction) → Heard over (DoCommand (command.OneShot parts retries)) (one_shot σ s x)
-  one_shot_heard over parts retries None = open_heard over (DoCommand (command.OneShot parts retries)) _ (λ r. refl) (λ r. refl)
-  one_shot_heard over parts retries (Some t) = nothing_heard over (DoCommand (command.OneShot parts retries)) _ refl refl
+  one_shot_heard over parts retries None = open_heard over (DoCommand (command.OneShot parts retries)) _ (λ r. refl) (λ r. refl) (λ r. refl) (λ r. refl)
+  one_shot_heard over parts retries (Some t) = nothing_heard over (DoCommand (command.OneShot parts retries)) _ refl refl refl refl
 
   abort_heard : (over : List ℕ) (r : Term) (x : Option Transaction) → s.transaction ≡ x → Heard over (DoCommand (command.Abort r)) (abort σ s r x)
-  abort_heard over r None e = nothing_heard over (DoCommand (command.Abort r)) _ refl refl
+  abort_heard over r None e = nothing_heard over (DoCommand (command.Abort r)) _ refl refl refl refl
   abort_heard over r (Some t) e = record {
     keeps = made_kept (without_request σ.queue s.number) None t Undo (reply.UserAbort r) e (request_in-without σ.queue s.number) (λ p h. cc);
     entry = refl;
+    queue = sym (without-filter σ.queue s.number);
+    next = refl;
   }
 
   -- a commit's entry has the moves that its caller knows
   commit_at_heard : (over : List ℕ) (t : Transaction) (b : Bool) → s.transaction ≡ Some t → Heard over (DoCommand command.Commit) (commit_at σ over s t b)
-  commit_at_heard over t false e = record { keeps = made_kept σ.queue (request_in σ.queue s.number) t Close reply.Done e same_requests waits; entry = refl }
+  commit_at_heard over t false e = record { keeps = made_kept σ.queue (request_in σ.queue s.number) t Close reply.Done e same_requests waits; entry = refl; queue = refl; next = refl }
   commit_at_heard over t true e = record {
     keeps = record {
       then_open = None;
@@ -375,6 +396,8 @@ module _ (σ : State) (s : Seat) (k : Caller) (here : seat_at σ.seats s.number 
       later = omega arith;
     };
     entry = ap (λ (v : Transaction). commit_told s.number over (record { transaction = v; queued = k.queued }) (reply.Atomic (σ.commits + 1))) (mine t e);
+    queue = refl;
+    next = refl;
   }
     where
       f : Seat → Seat
@@ -384,13 +407,13 @@ module _ (σ : State) (s : Seat) (k : Caller) (here : seat_at σ.seats s.number 
       same x = given_same (σ.commits + 1) over (batch_to (σ.commits + 1) (events_now σ t) x) x
 
   commit_heard : (over : List ℕ) (x : Option Transaction) → s.transaction ≡ x → Heard over (DoCommand command.Commit) (commit σ over s x)
-  commit_heard over None e = nothing_heard over (DoCommand command.Commit) _ refl refl
+  commit_heard over None e = nothing_heard over (DoCommand command.Commit) _ refl refl refl refl
   commit_heard over (Some t) e = commit_at_heard over t _ e
 
   schema_if_heard : (over : List ℕ) (c : Schema) (r : Option Reply) (busy room : Bool) → NoEntry (schema_told over c) r → Heard over (DoCommand (command.Schema c)) (schema_if σ over c r busy room)
-  schema_if_heard over c (Some r) busy room h = nothing_heard over (DoCommand (command.Schema c)) r refl h
-  schema_if_heard over c None true room h = nothing_heard over (DoCommand (command.Schema c)) _ refl refl
-  schema_if_heard over c None false false h = nothing_heard over (DoCommand (command.Schema c)) _ refl refl
+  schema_if_heard over c (Some r) busy room h = nothing_heard over (DoCommand (command.Schema c)) r refl h refl refl
+  schema_if_heard over c None true room h = nothing_heard over (DoCommand (command.Schema c)) _ refl refl refl refl
+  schema_if_heard over c None false false h = nothing_heard over (DoCommand (command.Schema c)) _ refl refl refl refl
   schema_if_heard over c None false true h = record {
     keeps = record {
       then_open = transaction_at σ s.number;
@@ -403,6 +426,8 @@ module _ (σ : State) (s : Seat) (k : Caller) (here : seat_at σ.seats s.number 
       later = omega arith;
     };
     entry = refl;
+    queue = refl;
+    next = refl;
   }
     where
       f : Seat → Seat
@@ -412,7 +437,7 @@ module _ (σ : State) (s : Seat) (k : Caller) (here : seat_at σ.seats s.number 
       same x = let a = given_same (σ.commits + 1) over (end_to (removed c) x) (unwatched (removed c) x) in let b = unwatched_same (removed c) x in (a.0 ∙ b.0, a.1 ∙ b.1)
 
   schema_heard : (over : List ℕ) (c : Schema) (x : Option Transaction) → Heard over (DoCommand (command.Schema c)) (schema σ over c x)
-  schema_heard over c (Some t) = nothing_heard over (DoCommand (command.Schema c)) _ refl refl
+  schema_heard over c (Some t) = nothing_heard over (DoCommand (command.Schema c)) _ refl refl refl refl
   schema_heard over c None = schema_if_heard over c (schema_refusal σ.tables c) _ _ (schema_none over σ.tables c)
 
   -- its seat has the same transaction
@@ -420,27 +445,31 @@ module _ (σ : State) (s : Seat) (k : Caller) (here : seat_at σ.seats s.number 
   same_kept x num same τ seats queue next = seat_kept τ x k (request_in σ.queue s.number) num seats (omega (arith, next)) (λ m. ap (λ (qs : List Queued). request_in qs m) queue ∙ same_requests m) waits
       (λ u h. mine u (sym same ∙ h)) (subst (λ (a : ℕ). k.transaction.age < a) (sym next) aged)
 
-  marked_heard : (over : List ℕ) (c : Command) (full : Bool) (ws : List Watch) (x : Item) (e : Entry) → ((r : Reply) → hears_command k c r ≡ k) → ((r : Reply) → command_told s.number over k c r ≡ done_told e r) → Heard over (DoCommand c) (marked σ full s ws x e)
-  marked_heard over c true ws x e h g = record {
+  marked_heard : (over : List ℕ) (c : Command) (full : Bool) (ws : List Watch) (x : Item) (e : Entry) → ((r : Reply) → hears_command k c r ≡ k) → ((r : Reply) → command_told s.number over k c r ≡ done_told e r) → ((r : Reply) → queue_by_command s.number k c r σ.queue ≡ σ.queue) → ((r : Reply) → age_by_command k c r σ.next_age ≡ σ.next_age) → Heard over (DoCommand c) (marked σ full s ws x e)
+  marked_heard over c true ws x e h g q y = record {
     keeps = subst (λ (y : Caller). Keeps σ s.number y (marked σ true s ws x e).state) (sym (h reply.OutboxFull)) (same_kept _ refl refl (marked σ true s ws x e).state refl refl refl);
     entry = g reply.OutboxFull;
+    queue = q reply.OutboxFull;
+    next = y reply.OutboxFull;
   }
-  marked_heard over c false ws x e h g = record {
+  marked_heard over c false ws x e h g q y = record {
     keeps = subst (λ (y : Caller). Keeps σ s.number y (marked σ false s ws x e).state) (sym (h reply.SubscribedHere)) (same_kept _ refl refl (marked σ false s ws x e).state refl refl refl);
     entry = g reply.SubscribedHere;
+    queue = q reply.SubscribedHere;
+    next = y reply.SubscribedHere;
   }
 
   subscribe_heard : (over : List ℕ) (t : List ℕ) (l : Level) (dump : Bool) (r : Option Reply) → NoEntry (done_told (Subscribed s.number t l dump)) r → Heard over (DoCommand (command.Subscribe t l dump)) (subscribe σ over s t l dump r)
-  subscribe_heard over t l dump (Some r) h = nothing_heard over (DoCommand (command.Subscribe t l dump)) r refl h
-  subscribe_heard over t l dump None h = marked_heard over (command.Subscribe t l dump) _ _ _ (Subscribed s.number t l dump) (λ r. refl) (λ r. refl)
+  subscribe_heard over t l dump (Some r) h = nothing_heard over (DoCommand (command.Subscribe t l dump)) r refl h refl refl
+  subscribe_heard over t l dump None h = marked_heard over (command.Subscribe t l dump) _ _ _ (Subscribed s.number t l dump) (λ r. refl) (λ r. refl) (λ r. refl) (λ r. refl)
 
   unsubscribe_heard : (over : List ℕ) (t : List ℕ) (l : Level) (b : Bool) → Heard over (DoCommand (command.Unsubscribe t l)) (unsubscribe σ over s t b)
-  unsubscribe_heard over t l false = nothing_heard over (DoCommand (command.Unsubscribe t l)) _ refl refl
-  unsubscribe_heard over t l true = marked_heard over (command.Unsubscribe t l) _ _ _ (Unsubscribed s.number t) (λ r. refl) (λ r. refl)
+  unsubscribe_heard over t l false = nothing_heard over (DoCommand (command.Unsubscribe t l)) _ refl refl refl refl
+  unsubscribe_heard over t l true = marked_heard over (command.Unsubscribe t l) _ _ _ (Unsubscribed s.number t) (λ r. refl) (λ r. refl) (λ r. refl) (λ r. refl)
 
   do_heard : (over : List ℕ) (c : Command) → (is_waiting σ s.number && not (core.is_abort c)) ≡ false → Heard over (DoCommand c) (do_command σ over s c)
   do_heard over (command.Schema c) free = schema_heard over c s.transaction
-  do_heard over (command.TableInfo t i) free = nothing_heard over (DoCommand (command.TableInfo t i)) _ refl refl
+  do_heard over (command.TableInfo t i) free = nothing_heard over (DoCommand (command.TableInfo t i)) _ refl refl refl refl
   do_heard over command.Begin free = begin_heard over s.transaction refl
   do_heard over command.Commit free = commit_heard over s.transaction refl
   do_heard over (command.Abort r) free = abort_heard over r s.transaction refl
@@ -450,25 +479,25 @@ module _ (σ : State) (s : Seat) (k : Caller) (here : seat_at σ.seats s.number 
   do_heard over (command.OneShot parts retries) free = one_shot_heard over parts retries s.transaction
 
   -- who waits is told so of every other command
-  waiting_now : (over : List ℕ) (c : Command) → (hears_command k c reply.WaitingNow ≡ k) × (command_told s.number over k c reply.WaitingNow ≡ None)
-  waiting_now over (command.Schema c) = (refl, refl)
-  waiting_now over (command.TableInfo t i) = (refl, refl)
-  waiting_now over command.Begin = (refl, refl)
-  waiting_now over command.Commit = (refl, refl)
-  waiting_now over (command.Abort r) = (refl, refl)
-  waiting_now over (command.Do o) = (refl, refl)
-  waiting_now over (command.Subscribe t l dump) = (refl, refl)
-  waiting_now over (command.Unsubscribe t l) = (refl, refl)
-  waiting_now over (command.OneShot parts retries) = (refl, refl)
+  waiting_now : (over : List ℕ) (c : Command) → (hears_command k c reply.WaitingNow ≡ k) × (command_told s.number over k c reply.WaitingNow ≡ None) × (queue_by_command s.number k c reply.WaitingNow σ.queue ≡ σ.queue) × (age_by_command k c reply.WaitingNow σ.next_age ≡ σ.next_age)
+  waiting_now over (command.Schema c) = (refl, refl, refl, refl)
+  waiting_now over (command.TableInfo t i) = (refl, refl, refl, refl)
+  waiting_now over command.Begin = (refl, refl, refl, refl)
+  waiting_now over command.Commit = (refl, refl, refl, refl)
+  waiting_now over (command.Abort r) = (refl, refl, refl, refl)
+  waiting_now over (command.Do o) = (refl, refl, refl, refl)
+  waiting_now over (command.Subscribe t l dump) = (refl, refl, refl, refl)
+  waiting_now over (command.Unsubscribe t l) = (refl, refl, refl, refl)
+  waiting_now over (command.OneShot parts retries) = (refl, refl, refl, refl)
 
   command_heard : (over : List ℕ) (c : Command) (b : Bool) → (is_waiting σ s.number && not (core.is_abort c)) ≡ b → Heard over (DoCommand c) (command_if σ over s c b)
-  command_heard over c true free = nothing_heard over (DoCommand c) _ (waiting_now over c).0 (waiting_now over c).1
+  command_heard over c true free = nothing_heard over (DoCommand c) _ (waiting_now over c).0 (waiting_now over c).1 (waiting_now over c).2 (waiting_now over c).3
   command_heard over c false free = do_heard over c free
 
   give_heard : (over : List ℕ) (xs : List Item) (l : Option ℕ) → Heard over Take (give σ s xs l)
-  give_heard over (x ∷ xs) l = record { keeps = same_kept _ refl refl (give σ s (x ∷ xs) l).state refl refl refl; entry = refl }
-  give_heard over [] None = nothing_heard over Take _ refl refl
-  give_heard over [] (Some m) = record { keeps = same_kept _ refl refl (give σ s [] (Some m)).state refl refl refl; entry = refl }
+  give_heard over (x ∷ xs) l = record { keeps = same_kept _ refl refl (give σ s (x ∷ xs) l).state refl refl refl; entry = refl; queue = refl; next = refl }
+  give_heard over [] None = nothing_heard over Take _ refl refl refl refl
+  give_heard over [] (Some m) = record { keeps = same_kept _ refl refl (give σ s [] (Some m)).state refl refl refl; entry = refl; queue = refl; next = refl }
 
   leave_heard : (over : List ℕ) → Heard over Leave (leave σ s)
   leave_heard over = record {
@@ -483,10 +512,12 @@ module _ (σ : State) (s : Seat) (k : Caller) (here : seat_at σ.seats s.number 
       later = omega arith;
     };
     entry = refl;
+    queue = sym (without-filter σ.queue s.number);
+    next = refl;
   }
 
   seated_heard : (over : List ℕ) (a : Ask) → Heard over a (seated σ over s a)
-  seated_heard over (Join b) = nothing_heard over (Join b) _ refl refl
+  seated_heard over (Join b) = nothing_heard over (Join b) _ refl refl refl refl
   seated_heard over Leave = leave_heard over
   seated_heard over Retry = retry_heard over _ refl
   seated_heard over Take = give_heard over _ _
@@ -497,12 +528,12 @@ module _ (σ : State) (n : ℕ) (k : Caller) (none : seat_at σ.seats n ≡ None
   absent : Keeps σ n k σ
   absent = kept σ n k waits aged (λ t h. let gone : transaction_at σ n ≡ None = ap transaction_in none in cc)
 
-  refused_heard : (over : List ℕ) (a : Ask) (r : Reply) → hears k a r ≡ k → entry_told n over k a r ≡ None → IsHeard σ n k over a (nothing σ r)
-  refused_heard over a r h e = record { keeps = subst (λ (x : Caller). Keeps σ n x σ) (sym h) absent; entry = e }
+  refused_heard : (over : List ℕ) (a : Ask) (r : Reply) → hears k a r ≡ k → entry_told n over k a r ≡ None → queue_told n k a r σ.queue ≡ σ.queue → next_told k a r σ.next_age ≡ σ.next_age → IsHeard σ n k over a (nothing σ r)
+  refused_heard over a r h e q x = record { keeps = subst (λ (y : Caller). Keeps σ n y σ) (sym h) absent; entry = e; queue = q; next = x }
 
   join_heard : (over : List ℕ) (b : Outbox) (above room : Bool) → IsHeard σ n k over (Join b) (join σ n b above room)
-  join_heard over b false room = refused_heard over (Join b) _ refl refl
-  join_heard over b true false = refused_heard over (Join b) _ refl refl
+  join_heard over b false room = refused_heard over (Join b) _ refl refl refl refl
+  join_heard over b true false = refused_heard over (Join b) _ refl refl refl refl
   join_heard over b true true = record {
     keeps = record {
       then_open = None;
@@ -515,25 +546,27 @@ module _ (σ : State) (n : ℕ) (k : Caller) (none : seat_at σ.seats n ≡ None
       later = omega arith;
     };
     entry = refl;
+    queue = refl;
+    next = refl;
   }
 
-  bad_session : (over : List ℕ) (c : Command) → (hears_command k c reply.BadSession ≡ k) × (command_told n over k c reply.BadSession ≡ None)
-  bad_session over (command.Schema c) = (refl, refl)
-  bad_session over (command.TableInfo t i) = (refl, refl)
-  bad_session over command.Begin = (refl, refl)
-  bad_session over command.Commit = (refl, refl)
-  bad_session over (command.Abort r) = (refl, refl)
-  bad_session over (command.Do o) = (refl, refl)
-  bad_session over (command.Subscribe t l dump) = (refl, refl)
-  bad_session over (command.Unsubscribe t l) = (refl, refl)
-  bad_session over (command.OneShot parts retries) = (refl, refl)
+  bad_session : (over : List ℕ) (c : Command) → (hears_command k c reply.BadSession ≡ k) × (command_told n over k c reply.BadSession ≡ None) × (queue_by_command n k c reply.BadSession σ.queue ≡ σ.queue) × (age_by_command k c reply.BadSession σ.next_age ≡ σ.next_age)
+  bad_session over (command.Schema c) = (refl, refl, refl, refl)
+  bad_session over (command.TableInfo t i) = (refl, refl, refl, refl)
+  bad_session over command.Begin = (refl, refl, refl, refl)
+  bad_session over command.Commit = (refl, refl, refl, refl)
+  bad_session over (command.Abort r) = (refl, refl, refl, refl)
+  bad_session over (command.Do o) = (refl, refl, refl, refl)
+  bad_session over (command.Subscribe t l dump) = (refl, refl, refl, refl)
+  bad_session over (command.Unsubscribe t l) = (refl, refl, refl, refl)
+  bad_session over (command.OneShot parts retries) = (refl, refl, refl, refl)
 
   unseated_heard : (over : List ℕ) (a : Ask) → IsHeard σ n k over a (unseated σ n a)
   unseated_heard over (Join b) = join_heard over b _ _
-  unseated_heard over Leave = refused_heard over Leave _ refl refl
-  unseated_heard over Retry = refused_heard over Retry _ refl refl
-  unseated_heard over Take = refused_heard over Take _ refl refl
-  unseated_heard over (DoCommand c) = refused_heard over (DoCommand c) _ (bad_session over c).0 (bad_session over c).1
+  unseated_heard over Leave = refused_heard over Leave _ refl refl refl refl
+  unseated_heard over Retry = refused_heard over Retry _ refl refl refl refl
+  unseated_heard over Take = refused_heard over Take _ refl refl refl refl
+  unseated_heard over (DoCommand c) = refused_heard over (DoCommand c) _ (bad_session over c).0 (bad_session over c).1 (bad_session over c).2 (bad_session over c).3
 
 -- ---- steps and schedules
 
@@ -577,6 +610,25 @@ schedule_open limits calls n t e = (run_heard (new limits) newcomers calls (new_
 -- and each queued operation the one that its caller was last told to wait for
 pub schedule_queued : (limits : Limits) (calls : List Call) (n : ℕ) (q : Queued) → request_in (after_all (new limits) calls).queue n ≡ Some q → (callers_after newcomers calls (replies_of (new limits) calls) n).queued ≡ Some q.operation
 schedule_queued limits calls n q e = (run_heard (new limits) newcomers calls (new_heard limits)).0.waits n q e
+
+-- the queue and the next age are those that callers tell
+run_queue : (σ : State) (ks : Callers) (calls : List Call) → AreHeard σ ks → (after_all σ calls).queue ≡ queue_after ks σ.queue calls (replies_of σ calls)
+run_queue σ ks [] heard = refl
+run_queue σ ks (c ∷ calls) heard =
+    run_queue (outcome_of σ c).state (told_one ks c (outcome_of σ c).reply) calls (step_heard σ ks c heard).0
+    ∙ ap (λ qs. queue_after (told_one ks c (outcome_of σ c).reply) qs calls (replies_of (outcome_of σ c).state calls)) (sym (step_is_heard σ c.over c.session c.ask ks heard).queue)
+
+run_next : (σ : State) (ks : Callers) (calls : List Call) → AreHeard σ ks → (after_all σ calls).next_age ≡ next_after ks σ.next_age calls (replies_of σ calls)
+run_next σ ks [] heard = refl
+run_next σ ks (c ∷ calls) heard =
+    run_next (outcome_of σ c).state (told_one ks c (outcome_of σ c).reply) calls (step_heard σ ks c heard).0
+    ∙ ap (λ a. next_after (told_one ks c (outcome_of σ c).reply) a calls (replies_of (outcome_of σ c).state calls)) (sym (step_is_heard σ c.over c.session c.ask ks heard).next)
+
+pub schedule_queue : (limits : Limits) (calls : List Call) → (after_all (new limits) calls).queue ≡ queue_after newcomers [] calls (replies_of (new limits) calls)
+schedule_queue limits calls = run_queue (new limits) newcomers calls (new_heard limits)
+
+pub schedule_next : (limits : Limits) (calls : List Call) → (after_all (new limits) calls).next_age ≡ next_after newcomers 1 calls (replies_of (new limits) calls)
+schedule_next limits calls = run_next (new limits) newcomers calls (new_heard limits)
 
 -- what callers were told is legal
 pub schedule_heard_legal : (limits : Limits) (calls : List Call) → AllJoinEmpty calls → IsLegal [] 0 (log_told newcomers calls (replies_of (new limits) calls))

@@ -1,6 +1,7 @@
 -- What each reply says of the state after it.
 use Rattle.std.proofs.Common.{◌≡◌, ◌≢◌, ℕ, List, [], ◌∷◌, ◌++◌, Bool, true, false, ◌||◌, ◌&&◌, not, refl, sym, ap, ◌∙◌, subst, append-nil, Option, Some, None}
 use Rattle.std.proofs.Math.Bool.{and-false, and-true}
+use Rattle.std.specs.List.{filter}
 use Rattle.std.specs.Prelude.{if◌then◌else◌, is_some, ◌==◌}
 use Rattle.tab_term.specs.View.{term}
 use Rattle.tab_term.specs.declared.term.Term.{Term}
@@ -313,8 +314,17 @@ pub after-more : (m : Mid) (xs : List Move) (x : Move) → after m (xs ++ x ∷ 
 after-more m [] x = refl
 after-more m (y ∷ xs) x = after-more (next m y) xs x
 
+-- a session's requests go, the others' stay in their order
+pub without-filter : (qs : List Queued) (n : ℕ) → without_request qs n ≡ filter (λ q. not (q.session == n)) qs
+without-filter [] n = refl
+without-filter (q ∷ qs) n = cases (q.session == n) (without-filter qs n)
+  where
+    cases : (b : Bool) → without_request qs n ≡ filter (λ q. not (q.session == n)) qs → (if b then without_request qs n else q ∷ without_request qs n) ≡ (if not b then q ∷ filter (λ q. not (q.session == n)) qs else filter (λ q. not (q.session == n)) qs)
+    cases true ih = ih
+    cases false ih = ap (λ xs. q ∷ xs) ih
+
 -- a request that doesn't wait isn't in the queue
-none_queued : (qs : List Queued) (n : ℕ) → is_some (request_in qs n) ≡ false → without_request qs n ≡ qs
+pub none_queued : (qs : List Queued) (n : ℕ) → is_some (request_in qs n) ≡ false → without_request qs n ≡ qs
 none_queued [] n e = refl
 none_queued (q ∷ qs) n e = cases (q.session == n) e (none_queued qs n)
   where
@@ -351,7 +361,7 @@ level_ended σ τ n s t x r here is gone ended = subst (λ (υ : State). EndsLev
       locks = locks-more t.moves x ∙ ap (λ ls. locks_of t.moves ++ ls) (sym (locks-more [] x));
       seat = own;
       others = λ m other. other_seats σ.seats s n m then_is here other;
-      queue = refl;
+      queue = without-filter σ.queue n;
       next_age = refl;
       commits = refl;
       greatest = refl;

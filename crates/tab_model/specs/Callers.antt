@@ -1,6 +1,7 @@
 -- The log as the callers can tell it: read off what they asked and were told, and nothing else (this project's own: the
 -- history that a run shows from outside).
-use Rattle.std.specs.Prelude.{◌≡◌, ℕ, ◌<◌, List, [], ◌∷◌, ◌++◌, ◌==◌, if◌then◌else◌, Option, Some, None}
+use Rattle.std.specs.Prelude.{◌≡◌, ℕ, ◌<◌, ◌+◌, not, List, [], ◌∷◌, ◌++◌, ◌==◌, if◌then◌else◌, Option, Some, None}
+use Rattle.std.specs.List.{filter}
 use Rattle.tab_model.specs.declared.data.Operation.{Operation}
 use Rattle.tab_model.specs.declared.data.Move.{Move}
 use Rattle.tab_model.specs.declared.data.Move.TheVariants.{Do, Open, Close, Undo}
@@ -12,7 +13,7 @@ use Rattle.tab_model.specs.declared.data.Command.TheVariants as command
 use Rattle.tab_model.specs.declared.data.Entry.{Entry}
 use Rattle.tab_model.specs.declared.data.Entry.TheVariants.{Committed, Changed, Subscribed, Unsubscribed}
 use Rattle.tab_model.specs.State.{Transaction, Queued, State, transaction_at, request_in}
-use Rattle.tab_model.specs.Outcome.{Ask, Join, Leave, Retry, Take, DoCommand}
+use Rattle.tab_model.specs.Outcome.{Ask, Leave, Retry, DoCommand}
 use Rattle.tab_model.specs.Run.{Call, entries}
 
 -- what a session's caller knows: its moves since its outermost begin or its last restart, with what they were told, and the
@@ -76,23 +77,18 @@ undone k (reply.UserAbort reason) = did k Undo None
 undone k r = k
 
 abbrev pub hears_command : Caller → Command → Reply → Caller
-hears_command k (command.Schema c) r = k
-hears_command k (command.TableInfo t i) r = k
 hears_command k command.Begin r = begun k r
 hears_command k command.Commit r = closed k r
 hears_command k (command.Abort reason) r = undone k r
 hears_command k (command.Do o) r = operated k o r (says r)
-hears_command k (command.Subscribe t l dump) r = k
-hears_command k (command.Unsubscribe t l) r = k
 hears_command k (command.OneShot parts retries) r = begun k r
+hears_command k c r = k
 
 -- what a caller knows after one step of its own
 abbrev pub hears : Caller → Ask → Reply → Caller
-hears k (Join b) r = k
-hears k Leave r = k
 hears k Retry r = retried k r (says r) k.queued
-hears k Take r = k
 hears k (DoCommand c) r = hears_command k c r
+hears k a r = k
 
 -- the entry of an outermost commit, a schema command, a subscription and its end, where they are told that they are done
 abbrev pub commit_told : ℕ → List ℕ → Caller → Reply → Option Entry
@@ -109,22 +105,63 @@ done_told e r = None
 
 abbrev pub command_told : ℕ → List ℕ → Caller → Command → Reply → Option Entry
 command_told n over k (command.Schema c) r = schema_told over c r
-command_told n over k (command.TableInfo t i) r = None
-command_told n over k command.Begin r = None
 command_told n over k command.Commit r = commit_told n over k r
-command_told n over k (command.Abort reason) r = None
-command_told n over k (command.Do o) r = None
 command_told n over k (command.Subscribe t l dump) r = done_told (Subscribed n t l dump) r
 command_told n over k (command.Unsubscribe t l) r = done_told (Unsubscribed n t) r
-command_told n over k (command.OneShot parts retries) r = None
+command_told n over k c r = None
 
 -- the entry that a step of a caller adds
 abbrev pub entry_told : ℕ → List ℕ → Caller → Ask → Reply → Option Entry
-entry_told n over k (Join b) r = None
-entry_told n over k Leave r = None
-entry_told n over k Retry r = None
-entry_told n over k Take r = None
 entry_told n over k (DoCommand c) r = command_told n over k c r
+entry_told n over k a r = None
+
+-- a session's requests go, the others' stay in their order
+abbrev pub without_own : ℕ → List Queued → List Queued
+without_own n qs = filter (λ q. not (q.session == n)) qs
+
+-- an operation joins the queue where it is told to wait
+abbrev pub queued_told : ℕ → Caller → Operation → Said → List Queued → List Queued
+queued_told n k o Waits qs = qs ++ record { session = n; age = k.transaction.age; operation = o } ∷ []
+queued_told n k o x qs = qs
+
+-- it leaves the queue where its answer comes, and where its session aborts or leaves
+abbrev pub answered_told : ℕ → Said → List Queued → List Queued
+answered_told n Made qs = without_own n qs
+answered_told n x qs = qs
+
+abbrev pub aborted_told : ℕ → Reply → List Queued → List Queued
+aborted_told n (reply.UserAbort reason) qs = without_own n qs
+aborted_told n r qs = qs
+
+abbrev pub left_told : ℕ → Reply → List Queued → List Queued
+left_told n reply.Done qs = without_own n qs
+left_told n r qs = qs
+
+abbrev pub queue_by_command : ℕ → Caller → Command → Reply → List Queued → List Queued
+queue_by_command n k (command.Abort reason) r qs = aborted_told n r qs
+queue_by_command n k (command.Do o) r qs = queued_told n k o (says r) qs
+queue_by_command n k c r qs = qs
+
+-- the queue after one step of a caller
+abbrev pub queue_told : ℕ → Caller → Ask → Reply → List Queued → List Queued
+queue_told n k Leave r qs = left_told n r qs
+queue_told n k Retry r qs = answered_told n (says r) qs
+queue_told n k (DoCommand c) r qs = queue_by_command n k c r qs
+queue_told n k a r qs = qs
+
+-- the next age after a begin: one more where it was an outermost one
+abbrev pub age_told : Caller → Reply → ℕ → ℕ
+age_told k (reply.Tid age) a = if k.transaction.age == age then a else a + 1
+age_told k r a = a
+
+abbrev pub age_by_command : Caller → Command → Reply → ℕ → ℕ
+age_by_command k command.Begin r a = age_told k r a
+age_by_command k (command.OneShot parts retries) r a = age_told k r a
+age_by_command k c r a = a
+
+abbrev pub next_told : Caller → Ask → Reply → ℕ → ℕ
+next_told k (DoCommand c) r a = age_by_command k c r a
+next_told k x r a = a
 
 -- who knows what, by session
 abbrev pub Callers : Type 0
@@ -147,6 +184,18 @@ abbrev pub log_told : Callers → List Call → List Reply → List Entry
 log_told ks [] rs = []
 log_told ks (c ∷ cs) [] = []
 log_told ks (c ∷ cs) (r ∷ rs) = entries (entry_told c.session c.over (ks c.session) c.ask r) ++ log_told (told_one ks c r) cs rs
+
+-- the queue that they tell
+abbrev pub queue_after : Callers → List Queued → List Call → List Reply → List Queued
+queue_after ks qs [] rs = qs
+queue_after ks qs (c ∷ cs) [] = qs
+queue_after ks qs (c ∷ cs) (r ∷ rs) = queue_after (told_one ks c r) (queue_told c.session (ks c.session) c.ask r qs) cs rs
+
+-- the next age that they tell
+abbrev pub next_after : Callers → ℕ → List Call → List Reply → ℕ
+next_after ks a [] rs = a
+next_after ks a (c ∷ cs) [] = a
+next_after ks a (c ∷ cs) (r ∷ rs) = next_after (told_one ks c r) (next_told (ks c.session) c.ask r a) cs rs
 
 -- each open transaction is what its caller knows, each queued operation the one that its caller was last told to wait for
 pub record AreHeard (σ : State) (ks : Callers) : Type 0 where

@@ -1,5 +1,6 @@
 -- What stands after a refusal, a wait, a restart, and the end of a level.
-use Rattle.std.specs.Prelude.{◌≡◌, ◌≢◌, ℕ, List, [], ◌∷◌, ◌++◌, true, false, Option, Some, None}
+use Rattle.std.specs.Prelude.{◌≡◌, ◌≢◌, ℕ, List, [], ◌∷◌, ◌++◌, true, false, not, ◌==◌, Option, Some, None}
+use Rattle.std.specs.List.{filter}
 use Rattle.tab_model.specs.declared.data.Operation.{Operation}
 use Rattle.tab_model.specs.declared.data.Reply.{Reply}
 use Rattle.tab_model.specs.declared.data.Reply.TheVariants as reply
@@ -7,7 +8,7 @@ use Rattle.tab_model.specs.declared.data.Command.TheVariants as command
 use Rattle.tab_model.specs.declared.data.Move.{Move}
 use Rattle.tab_model.specs.Alone.{start, after, back}
 use Rattle.tab_model.specs.Locks.{locks_of}
-use Rattle.tab_model.specs.State.{Transaction, Seat, Queued, State, seat_at, without_request, transaction_in, transaction_at, mid_of}
+use Rattle.tab_model.specs.State.{Transaction, Seat, Queued, State, seat_at, transaction_in, transaction_at, mid_of}
 use Rattle.tab_model.specs.Outcome.{Ask, DoCommand, with_transaction, with_seat, with_queue, refused, emptied, more, is_empty}
 
 -- what a reply says of the state after it (this project's own rule, but for a restart: Mnesia User's Guide,
@@ -77,9 +78,9 @@ pub record EndsLevel (σ : State) (n : ℕ) (t : Transaction) (x : Move) (r : Op
   pub back : after (start σ.tables t.age) (t.moves ++ x ∷ []) ≡ back (mid_of σ t)
   pub locks : locks_of (t.moves ++ x ∷ []) ≡ locks_of t.moves ++ locks_of (x ∷ [])
   -- all else stays: the rest of its seat, the others', the queue but for its own request, the numbers
-  pub seat : (s : Seat) → seat_at σ.seats n ≡ Some s → seat_at τ.seats n ≡ Some (with_transaction s (transaction_at τ n))
+  pub seat : (s : Seat) → seat_at σ.seats n ≡ Some s → seat_at τ.seats n ≡ Some (record { number = s.number; transaction = transaction_at τ n; watching = s.watching; outbox = s.outbox; overflow = s.overflow })
   pub others : (m : ℕ) → m ≢ n → seat_at τ.seats m ≡ seat_at σ.seats m
-  pub queue : τ.queue ≡ without_request σ.queue n
+  pub queue : τ.queue ≡ filter (λ q. not (q.session == n)) σ.queue
   pub next_age : τ.next_age ≡ σ.next_age
   pub commits : τ.commits ≡ σ.commits
   pub greatest : τ.greatest ≡ σ.greatest

@@ -34,11 +34,11 @@ ghost use Rattle.tab_model.specs.Ages.{Ages, Owned, Granted, Wait, Die, Covered,
 ghost use Rattle.tab_model.specs.Log.{entered, serial, serial_from, stands, in_force, IsRight, IsLegal, commits_from};
 ghost use Rattle.tab_model.specs.Since.{changes_on, changes_told, deletes, StandsSince, AllStood, AllAged, RowsSince};
 ghost use Rattle.tab_model.specs.Slices.{dump_of, owed, slice, slice_after};
-ghost use Rattle.tab_model.specs.State.{State, Seat, Transaction, Queued, new, seat_at, transaction_at, request_in, age_at, moves_at, told_at, level_in, IsSound};
+ghost use Rattle.tab_model.specs.State.{State, Seat, Transaction, Queued, new, seat_at, transaction_at, request_in, ages_of, age_at, moves_at, told_at, level_in, IsSound};
 ghost use Rattle.tab_model.specs.Outcome.{Ask, Retry, DoCommand, outcome};
 ghost use Rattle.tab_model.specs.Refusals.{AsBefore, standing, counted, requested, queued, empty_again, restarted, Restarts, EndsLevel, IsSole};
 ghost use Rattle.tab_model.specs.Run.{Call, AllJoinEmpty, Begins, leaves, JoinsEmpty, IsTied, outcome_of, after_all, log_of, replies_of, taken_of, entries, taken_now};
-ghost use Rattle.tab_model.specs.Callers.{Callers, newcomers, entry_told, told_one, callers_after, log_told, AreHeard};
+ghost use Rattle.tab_model.specs.Callers.{Callers, newcomers, entry_told, told_one, callers_after, log_told, queue_after, next_after, AreHeard};
 
 /// For every schedule of steps: commits are numbered in order and were told what they are told alone in that order;
 /// the tables are those of running them so; each open transaction was told what it is told alone on the tables as they
@@ -59,15 +59,18 @@ pub fn every_schedule()
 
 /// For every schedule the log is the one that its callers can tell, who see what they asked and were told and nothing of the
 /// state. So what they were told is legal. Each open transaction's moves and replies are those that its caller knows, and
-/// right on the tables as they are now; each queued operation is the one that its caller was last told to wait for. Each
-/// step keeps that, and its entry is the one that its caller tells.
-#[tactic(auto, using(crate::proofs::CallersLemmas::new_heard, crate::proofs::CallersLemmas::schedule_log, crate::proofs::CallersLemmas::schedule_open, crate::proofs::CallersLemmas::schedule_queued, crate::proofs::CallersLemmas::schedule_heard_legal, crate::proofs::CallersLemmas::schedule_heard_told))]
+/// right on the tables as they are now; each queued operation is the one that its caller was last told to wait for. The queue
+/// is the operations told to wait that were not answered since, dropped by an abort or left; the next age is one more than
+/// the outermost begins. Each step keeps what callers know, and its entry is the one that its caller tells.
+#[tactic(auto, using(crate::proofs::CallersLemmas::new_heard, crate::proofs::CallersLemmas::schedule_log, crate::proofs::CallersLemmas::schedule_open, crate::proofs::CallersLemmas::schedule_queued, crate::proofs::CallersLemmas::schedule_heard_legal, crate::proofs::CallersLemmas::schedule_heard_told, crate::proofs::CallersLemmas::schedule_queue, crate::proofs::CallersLemmas::schedule_next))]
 pub fn callers_tell_the_log()
     ensures log { (limits : Limits) (calls : List Call) → log_of (new limits) calls ≡ log_told newcomers calls (replies_of (new limits) calls) }
     ensures legal { (limits : Limits) (calls : List Call) → AllJoinEmpty calls → IsLegal [] 0 (log_told newcomers calls (replies_of (new limits) calls)) }
     ensures open { (limits : Limits) (calls : List Call) (n : ℕ) (t : Transaction) → transaction_at (after_all (new limits) calls) n ≡ Some t → (callers_after newcomers calls (replies_of (new limits) calls) n).transaction ≡ t }
     ensures told { (limits : Limits) (calls : List Call) (n : ℕ) (t : Transaction) → transaction_at (after_all (new limits) calls) n ≡ Some t → let k = (callers_after newcomers calls (replies_of (new limits) calls) n).transaction in replies (start (after_all (new limits) calls).tables k.age) k.moves ≡ k.told }
     ensures queued { (limits : Limits) (calls : List Call) (n : ℕ) (q : Queued) → request_in (after_all (new limits) calls).queue n ≡ Some q → (callers_after newcomers calls (replies_of (new limits) calls) n).queued ≡ Some q.operation }
+    ensures queue { (limits : Limits) (calls : List Call) → (after_all (new limits) calls).queue ≡ queue_after newcomers [] calls (replies_of (new limits) calls) }
+    ensures next_age { (limits : Limits) (calls : List Call) → (after_all (new limits) calls).next_age ≡ next_after newcomers 1 calls (replies_of (new limits) calls) }
     ensures new_heard { (limits : Limits) → AreHeard (new limits) newcomers }
     ensures step { (σ : State) (ks : Callers) (c : Call) → AreHeard σ ks → AreHeard (outcome_of σ c).state (told_one ks c (outcome_of σ c).reply) × (entry_told c.session c.over (ks c.session) c.ask (outcome_of σ c).reply ≡ (outcome_of σ c).entry) }
 {}
@@ -109,13 +112,16 @@ pub fn replies_stay()
     ensures { (w : World) (a b : ℕ) (xs ys : List Move) → IsOrderedWorld w → Apart (locks_of xs) (locks_of ys) → replies (start (after (start w a) xs).now b) ys ≡ replies (start w b) ys }
 {}
 
-/// Whatever is asked, ages rise along every wait, from older to younger: so no chain of waits leads back.
-#[tactic(auto, using(crate::proofs::WaitsHaveNoCycle::request_rises, crate::proofs::WaitsHaveNoCycle::retry_rises, crate::proofs::WaitsHaveNoCycle::forget_rises, crate::proofs::WaitsHaveNoCycle::chain_rises))]
+/// Whatever is asked, ages rise along every wait, from older to younger: so no chain of waits leads back. In every reached
+/// state they do, whoever asked, retried, committed, aborted while it waited, or left.
+#[tactic(auto, using(crate::proofs::WaitsHaveNoCycle::request_rises, crate::proofs::WaitsHaveNoCycle::retry_rises, crate::proofs::WaitsHaveNoCycle::forget_rises, crate::proofs::WaitsHaveNoCycle::chain_rises, crate::proofs::ReachedWaits::schedule_rises))]
 pub fn waits_have_no_cycle()
     ensures request { (g : Ages) (r : Owned) → Rises g → Rises (after_request g r (decide g r)) }
     ensures retry { (g : Ages) (r : Owned) → request_of r.0 g.queue ≡ Some r → Rises g → Rises (after_retry g r (can_retry g r)) }
     ensures forget { (g : Ages) (a : ℕ) → Rises g → Rises (forget g a) }
     ensures chain { (g : Ages) (a b : ℕ) (bs : List ℕ) → Rises g → Chain g a (b ∷ bs) → a < last_of b bs }
+    ensures reached { (limits : Limits) (calls : List Call) → Rises (ages_of (after_all (new limits) calls)) }
+    ensures reached_chain { (limits : Limits) (calls : List Call) (a b : ℕ) (bs : List ℕ) → Chain (ages_of (after_all (new limits) calls)) a (b ∷ bs) → a < last_of b bs }
 {}
 
 /// The updates that no abort and no failure undid, read off a transaction's replies and made one after another, give the
