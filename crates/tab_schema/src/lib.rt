@@ -1,0 +1,13 @@
+//! Definitions of tables: what the options of `create_table` give or which of them is at fault, which records fit, and
+//! which position an attribute has (Mnesia Reference Manual, `create_table/2`; that other options are refused, and the
+//! order of faults: this project's own rule).
+#![tactic(auto)]
+
+mod attributes;
+mod definition;
+mod fault;
+mod options;
+
+pub use definition::{fits, position, with_index, without_index};
+pub use fault::DefFault;
+pub use options::parse_options;
