@@ -3,8 +3,6 @@
 #![tactic(auto)]
 
 #[cfg(test)]
-mod hex;
-#[cfg(test)]
 mod payloads;
 #[cfg(test)]
 mod streams;

@@ -1,9 +1,9 @@
 //! Payloads: which are terms, and which fault the others have.
 
-use crate::hex::bytes;
 use std::alloc::Global;
 use std::test::Fail;
 use tab_etf::{EtfFault, Fault, append_frame, decode, encode, encoded_len};
+use tab_fixtures::bytes;
 use tab_term::{Atom, Bytes, Term, Terms};
 
 #[derive(Clone, Copy)]

@@ -1,10 +1,10 @@
 //! Frames: cut anywhere, and over devices that fail.
 
-use crate::hex::bytes;
 use std::alloc::{AllocError, Global};
-use std::io::{self, Read, Write};
+use std::io::Write;
 use std::test::Fail;
 use tab_etf::{Broken, Counted, Frame, FrameFault, Splitter, decode, read_frame, write_frame};
+use tab_fixtures::{Device, bytes};
 
 /// Frames of terms.
 const FRAMES: [&str; 7] = [
@@ -122,49 +122,17 @@ fn a_stream_that_ends_inside_a_frame_is_cut_off(rt: HostRuntime) -> Result<(), F
     Ok(())
 }
 
-/// A device that takes or gives a few bytes at once, and fails at one of its calls.
-#[derive(Drop)]
-struct Failing<T> {
-    inner: T,
-    left: u32,
-}
-
-impl<T> Failing<T> {
-    fn turn(&mut self, len: usize) -> io::Result<usize> {
-        if self.left == 0 {
-            return Err(io::Error::from(io::ErrorKind::Interrupted));
-        }
-        self.left -= 1;
-        Ok(len.min(7))
-    }
-}
-
-impl<T: Read> Read for Failing<T> {
-    fn read(&mut self, buf: &mut [u8]) -> io::Result<usize> {
-        let len = self.turn(buf.len())?.min(buf.len());
-        self.inner.read(&mut buf[..len])
-    }
-}
-
-impl<T: Write> Write for Failing<T> {
-    fn write(&mut self, buf: &[u8]) -> io::Result<usize> {
-        let len = self.turn(buf.len())?.min(buf.len());
-        self.inner.write(&buf[..len])
-    }
-
-    fn flush(&mut self) -> io::Result<()> {
-        self.turn(0)?;
-        Ok(())
-    }
-}
-
 #[test]
 fn a_reader_fails_at_each_call(rt: HostRuntime) -> Result<(), Fail> {
     let alloc = rt.alloc();
     let stream = stream(alloc)?;
     for left in 0..20u32 {
         let inner = stream.as_slice();
-        let mut reader = Counted::new(Failing { inner, left });
+        let mut reader = Counted::new(Device {
+            inner,
+            size: 7,
+            left,
+        });
         let mut out = Vec::new(alloc);
         let mut fault = None;
         for _ in 0..9 {
@@ -186,8 +154,9 @@ fn a_reader_fails_at_each_call(rt: HostRuntime) -> Result<(), Fail> {
         );
     }
     let inner = stream.as_slice();
-    let mut reader = Counted::new(Failing {
+    let mut reader = Counted::new(Device {
         inner,
+        size: 7,
         left: u32::MAX,
     });
     for _ in 0..8 {
@@ -217,7 +186,11 @@ fn a_writer_fails_at_each_call(rt: HostRuntime) -> Result<(), Fail> {
     }
     for left in 0..22u32 {
         let inner: Vec<u8> = Vec::new(alloc);
-        let mut writer = Counted::new(Failing { inner, left });
+        let mut writer = Counted::new(Device {
+            inner,
+            size: 7,
+            left,
+        });
         let mut answer = Ok(());
         for term in &terms {
             answer = write_frame(&mut writer, term);
@@ -248,7 +221,11 @@ fn a_writer_fails_at_each_call(rt: HostRuntime) -> Result<(), Fail> {
         "all frames"
     );
     let inner: Vec<u8> = Vec::new(alloc);
-    let mut broken = Counted::new(Failing { inner, left: 0 });
+    let mut broken = Counted::new(Device {
+        inner,
+        size: 7,
+        left: 0,
+    });
     assert_eq!(rt; broken.flush(), Err(Broken));
     assert_eq!(rt; broken.faults(), 1);
     Ok(())

@@ -45,6 +45,7 @@ is_among tab n seen (o ∷ os) = is_among tab n (with_name seen (option_name tab
     cases true false c v rest p = refl
     cases false true c v rest p = refl
     cases false false c v rest p = p
+
     named : (m : Option (List ℕ)) → (has_name (with_name seen m) n || is_some (first_value tab n os)) ≡ (has_name seen n || is_some (if is_option n m then Some (value_in (term o)) else first_value tab n os))
     named None = refl
     named (Some s) = cases (is_option n (Some s)) (has_name seen n) (is_some (first_value tab n os)) (value_in (term o)) (first_value tab n os) refl

@@ -1,7 +1,7 @@
-use std::alloc::{AllocError, Global};
-use std::io::{self, Read, Write};
+use std::alloc::Global;
 use std::test::Fail;
 use tab_etf::Counted;
+use tab_fixtures::{Device, bytes};
 use tab_session::{Ended, replay};
 
 /// A stream and its replies, as hexadecimal digits; `3*00` stands for three such groups. Another program, which shares
@@ -94,75 +94,7 @@ const ROWS: [Row; 13] = [
     },
 ];
 
-fn bytes(alloc: Global, text: &str) -> Result<Vec<u8>, AllocError> {
-    let mut out = Vec::new(alloc);
-    for word in text.split_whitespace() {
-        let (count, digits) = match word.split_once('*') {
-            Some((count, digits)) => (count.parse::<u32>().unwrap_or(0), digits),
-            None => (1, word),
-        };
-        for _ in 0..count {
-            push_hex(&mut out, digits)?;
-        }
-    }
-    Ok(out)
-}
-
-fn push_hex(out: &mut Vec<u8>, digits: &str) -> Result<(), AllocError> {
-    for pair in digits.as_bytes().chunks(2) {
-        let byte = pair
-            .iter()
-            .fold(0u8, |sum, digit| (sum << 4) | value(*digit));
-        out.push(byte)?;
-    }
-    Ok(())
-}
-
-fn value(digit: u8) -> u8 {
-    match digit {
-        b'0'..=b'9' => digit - b'0',
-        _ => (digit & 15).wrapping_add(9),
-    }
-}
-
-/// A device that takes or gives a few bytes at once, and fails at the call after so many.
-#[derive(Drop)]
-struct Device<T> {
-    inner: T,
-    size: usize,
-    left: u32,
-}
-
-impl<T> Device<T> {
-    fn turn(&mut self, len: usize) -> io::Result<usize> {
-        if self.left == 0 {
-            return Err(io::Error::from(io::ErrorKind::Interrupted));
-        }
-        self.left -= 1;
-        Ok(len.min(self.size))
-    }
-}
-
-impl<T: Read> Read for Device<T> {
-    fn read(&mut self, buf: &mut [u8]) -> io::Result<usize> {
-        let len = self.turn(buf.len())?.min(buf.len());
-        self.inner.read(&mut buf[..len])
-    }
-}
-
-impl<T: Write> Write for Device<T> {
-    fn write(&mut self, buf: &[u8]) -> io::Result<usize> {
-        let len = self.turn(buf.len())?.min(buf.len());
-        self.inner.write(&buf[..len])
-    }
-
-    fn flush(&mut self) -> io::Result<()> {
-        self.turn(0)?;
-        Ok(())
-    }
-}
-
-/// Replays a stream on such devices, which fail after so many calls, and gives what was written.
+/// Replays a stream on devices that take or give `size` bytes at once and fail after so many calls, and gives what was written.
 fn run(
     alloc: Global,
     input: &[u8],

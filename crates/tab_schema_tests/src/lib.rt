@@ -1,0 +1,6 @@
+//! Tests of tab_schema's public calls.
+
+#![tactic(auto)]
+
+#[cfg(test)]
+mod tests;
