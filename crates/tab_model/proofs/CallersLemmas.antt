@@ -32,7 +32,7 @@ use Rattle.tab_model.specs.Outcome.{Ask, Join, Leave, Retry, Take, DoCommand, Ou
 use Rattle.tab_model.specs.Outcome as core
 use Rattle.tab_model.specs.Run.{Call, outcome_of, after_all, entries, log_of, replies_of, AllJoinEmpty}
 use Rattle.tab_model.specs.Log.{IsLegal}
-use Rattle.tab_model.specs.Callers.{Caller, Callers, newcomers, did, afresh, Said, Made, says, operated, retried, begun, hears_command, hears, commit_told, schema_told, done_told, command_told, entry_told, queued_told, answered_told, queue_by_command, queue_told, age_told, age_by_command, next_told, told_one, callers_after, log_told, queue_after, next_after, AreHeard}
+use Rattle.tab_model.specs.Callers.{Caller, Callers, newcomers, did, afresh, AnswerKind, Made, kind_of, operated, retried, begun, hears_command, hears, commit_told, schema_told, done_told, command_told, entry_told, queued_told, answered_told, queue_by_command, queue_told, age_told, age_by_command, next_told, told_one, callers_after, log_told, queue_after, next_after, AreHeard}
 use Rattle.tab_model.proofs.Seats.{eq_true, itself, found, seat_at-change, seat_at-push, seat_at-without, seat_at-map, mapped}
 use Rattle.tab_model.proofs.OperationAnswers.{answers}
 use Rattle.tab_model.proofs.RefusalLaws.{without-filter}
@@ -128,8 +128,8 @@ after-age m [] = refl
 after-age m (x ∷ xs) = after-age (next m x) xs ∙ next-age m x
 
 -- an operation's answer says that it was made
-is_made : (x : Option Table) (o : Operation) → says (answer_or (failure_in x o) x o) ≡ Made
-is_made = answers (λ f r. says r ≡ Made) (record { no_table = λ t. refl; bad_type = λ t r. refl; no_index = λ t a. refl; found = λ rs. refl; done = refl })
+is_made : (x : Option Table) (o : Operation) → kind_of (answer_or (failure_in x o) x o) ≡ Made
+is_made = answers (λ f r. kind_of r ≡ Made) (record { no_table = λ t. refl; bad_type = λ t r. refl; no_index = λ t a. refl; found = λ rs. refl; done = refl })
 
 -- ---- one session's step
 
@@ -258,10 +258,10 @@ module _ (σ : State) (s : Seat) (k : Caller) (here : seat_at σ.seats s.number 
 
   decided_heard : (over : List ℕ) (t : Transaction) (o : Operation) (a : Answer) → s.transaction ≡ Some t → is_waiting σ s.number ≡ false → Heard over (DoCommand (command.Do o)) (decided σ s t o a)
   decided_heard over t o Granted e free = record {
-    keeps = subst (λ (z : Said). Keeps σ s.number (operated k o (made σ s t (Do o) reply.Done).reply z) (made σ s t (Do o) reply.Done).state) (sym (is_made (find (mid_of σ t).now (table_of o)) o))
+    keeps = subst (λ (z : AnswerKind). Keeps σ s.number (operated k o (made σ s t (Do o) reply.Done).reply z) (made σ s t (Do o) reply.Done).state) (sym (is_made (find (mid_of σ t).now (table_of o)) o))
         (made_kept σ.queue (request_in σ.queue s.number) t (Do o) reply.Done e same_requests waits);
     entry = refl;
-    queue = ap (λ (z : Said). queued_told s.number k o z σ.queue) (is_made (find (mid_of σ t).now (table_of o)) o);
+    queue = ap (λ (z : AnswerKind). queued_told s.number k o z σ.queue) (is_made (find (mid_of σ t).now (table_of o)) o);
     next = refl;
   }
   decided_heard over t o Wait e free = record {
@@ -298,11 +298,11 @@ module _ (σ : State) (s : Seat) (k : Caller) (here : seat_at σ.seats s.number 
   retried_heard : (over : List ℕ) (t : Transaction) (q : Queued) (b : Bool) → s.transaction ≡ Some t → request_in σ.queue s.number ≡ Some q → Heard over Retry (core.retried σ s t q.operation b)
   retried_heard over t q false e asked = nothing_heard over Retry _ refl refl refl refl
   retried_heard over t q true e asked = record {
-    keeps = subst (λ (z : Said). Keeps σ s.number (retried k R z k.queued) τ) (sym (is_made (find (mid_of σ t).now (table_of q.operation)) q.operation))
+    keeps = subst (λ (z : AnswerKind). Keeps σ s.number (retried k R z k.queued) τ) (sym (is_made (find (mid_of σ t).now (table_of q.operation)) q.operation))
         (subst (λ (z : Option Operation). Keeps σ s.number (retried k R Made z) τ) (sym (waits q asked))
         (made_kept (without_request σ.queue s.number) None t (Do q.operation) reply.Done e (request_in-without σ.queue s.number) (λ p h. cc)));
     entry = refl;
-    queue = ap (λ (z : Said). answered_told s.number z σ.queue) (is_made (find (mid_of σ t).now (table_of q.operation)) q.operation) ∙ sym (without-filter σ.queue s.number);
+    queue = ap (λ (z : AnswerKind). answered_told s.number z σ.queue) (is_made (find (mid_of σ t).now (table_of q.operation)) q.operation) ∙ sym (without-filter σ.queue s.number);
     next = refl;
   }
     where

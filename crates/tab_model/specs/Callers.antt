@@ -35,30 +35,30 @@ abbrev pub afresh : Caller → ℕ → Caller
 afresh k age = record { transaction = record { age = age; moves = []; told = [] }; queued = k.queued }
 
 -- what an answer says of the operation that was asked for: it was not made, it waits, it began anew, it was made
-pub data Said : Type 0 where
-  NotMade Waits BeginsAnew Made : Said
+pub data AnswerKind : Type 0 where
+  NotMade Waits BeginsAnew Made : AnswerKind
 
-abbrev pub says : Reply → Said
-says reply.BadCommand = NotMade
-says reply.NoTransaction = NotMade
-says reply.WaitingNow = NotMade
-says reply.InTransaction = NotMade
-says reply.NotWaiting = NotMade
-says reply.NoMemory = NotMade
-says (reply.SystemLimit l) = NotMade
-says reply.BadSession = NotMade
-says reply.Waiting = Waits
-says reply.Restart = BeginsAnew
-says r = Made
+abbrev pub kind_of : Reply → AnswerKind
+kind_of reply.BadCommand = NotMade
+kind_of reply.NoTransaction = NotMade
+kind_of reply.WaitingNow = NotMade
+kind_of reply.InTransaction = NotMade
+kind_of reply.NotWaiting = NotMade
+kind_of reply.NoMemory = NotMade
+kind_of (reply.SystemLimit l) = NotMade
+kind_of reply.BadSession = NotMade
+kind_of reply.Waiting = Waits
+kind_of reply.Restart = BeginsAnew
+kind_of r = Made
 
-abbrev pub operated : Caller → Operation → Reply → Said → Caller
+abbrev pub operated : Caller → Operation → Reply → AnswerKind → Caller
 operated k o r NotMade = k
 operated k o r Waits = record { transaction = k.transaction; queued = Some o }
 operated k o r BeginsAnew = afresh k k.transaction.age
 operated k o r Made = did k (Do o) (Some r)
 
 -- a retry's answer belongs to the operation that waits
-abbrev pub retried : Caller → Reply → Said → Option Operation → Caller
+abbrev pub retried : Caller → Reply → AnswerKind → Option Operation → Caller
 retried k r Made (Some o) = did k (Do o) (Some r)
 retried k r x o = k
 
@@ -80,13 +80,13 @@ abbrev pub hears_command : Caller → Command → Reply → Caller
 hears_command k command.Begin r = begun k r
 hears_command k command.Commit r = closed k r
 hears_command k (command.Abort reason) r = undone k r
-hears_command k (command.Do o) r = operated k o r (says r)
+hears_command k (command.Do o) r = operated k o r (kind_of r)
 hears_command k (command.OneShot parts retries) r = begun k r
 hears_command k c r = k
 
 -- what a caller knows after one step of its own
 abbrev pub hears : Caller → Ask → Reply → Caller
-hears k Retry r = retried k r (says r) k.queued
+hears k Retry r = retried k r (kind_of r) k.queued
 hears k (DoCommand c) r = hears_command k c r
 hears k a r = k
 
@@ -120,12 +120,12 @@ abbrev pub without_own : ℕ → List Queued → List Queued
 without_own n qs = filter (λ q. not (q.session == n)) qs
 
 -- an operation joins the queue where it is told to wait
-abbrev pub queued_told : ℕ → Caller → Operation → Said → List Queued → List Queued
+abbrev pub queued_told : ℕ → Caller → Operation → AnswerKind → List Queued → List Queued
 queued_told n k o Waits qs = qs ++ record { session = n; age = k.transaction.age; operation = o } ∷ []
 queued_told n k o x qs = qs
 
 -- it leaves the queue where its answer comes, and where its session aborts or leaves
-abbrev pub answered_told : ℕ → Said → List Queued → List Queued
+abbrev pub answered_told : ℕ → AnswerKind → List Queued → List Queued
 answered_told n Made qs = without_own n qs
 answered_told n x qs = qs
 
@@ -139,13 +139,13 @@ left_told n r qs = qs
 
 abbrev pub queue_by_command : ℕ → Caller → Command → Reply → List Queued → List Queued
 queue_by_command n k (command.Abort reason) r qs = aborted_told n r qs
-queue_by_command n k (command.Do o) r qs = queued_told n k o (says r) qs
+queue_by_command n k (command.Do o) r qs = queued_told n k o (kind_of r) qs
 queue_by_command n k c r qs = qs
 
 -- the queue after one step of a caller
 abbrev pub queue_told : ℕ → Caller → Ask → Reply → List Queued → List Queued
 queue_told n k Leave r qs = left_told n r qs
-queue_told n k Retry r qs = answered_told n (says r) qs
+queue_told n k Retry r qs = answered_told n (kind_of r) qs
 queue_told n k (DoCommand c) r qs = queue_by_command n k c r qs
 queue_told n k a r qs = qs
 
