@@ -257,6 +257,12 @@ pub row_aborted_child : told_in (joins 1 ∷ creates 1 (codes "t") none ∷ subs
 unfolding outcome canon int_contents
 row_aborted_child = refl
 
+-- a child that a failing operation ends: its write has no event and isn't in the table
+pub row_failed_child : told_in (joins 1 ∷ creates 1 (codes "t") none ∷ subscribes 1 (codes "t") ∷ takes 1 ∷ begins 1 ∷ writes 1 (codes "t") 1 (codes "a") ∷ begins 1 ∷ writes 1 (codes "t") 2 (codes "b") ∷ reads 1 (codes "nosuch") 1 ∷ commits 1 ∷ takes 1 ∷ takes 1 ∷ begins 1 ∷ reads 1 (codes "t") 2 ∷ reads 1 (codes "t") 1 ∷ [])
+    ≡ reply.Done ∷ reply.AtomicOk ∷ reply.SubscribedHere ∷ reply.Taken (Began (codes "t") Simple None) ∷ reply.Tid 1 ∷ reply.Done ∷ reply.Tid 1 ∷ reply.Done ∷ reply.NoTable (codes "nosuch") ∷ reply.Atomic 1 ∷ reply.Taken (Batch 1 (plain_terms (event (write1 (codes "t") 1 (codes "a")) ∷ []))) ∷ reply.Empty ∷ reply.Tid 2 ∷ reply.Found none ∷ reply.Found (plain_terms (rec (codes "t") 1 (codes "a") ∷ [])) ∷ []
+unfolding outcome canon int_contents
+row_failed_child = refl
+
 -- a table's deletion ends the subscriptions to it, and to no other
 pub row_deletion_ends : in_force 1 (Subscribed 1 (codes "t") Simple false ∷ Subscribed 1 (codes "u") Detailed false ∷ Changed (Remove (codes "t")) [] ∷ []) (codes "t") ≡ None
 row_deletion_ends = refl
