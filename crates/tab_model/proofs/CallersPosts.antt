@@ -43,11 +43,11 @@ abbrev Quiet : ℕ → Option Entry → Type 0
 Quiet commits e = (n : ℕ) (p : Post) → post_by_entry n commits e p ≡ p
 
 -- an answer that tells nothing of its session's post
-abbrev Leaves : Ask → Reply → Type 0
-Leaves a r = (p : Post) → post_by_answer a r p ≡ p
+abbrev TellsNothing : Ask → Reply → Type 0
+TellsNothing a r = (p : Post) → post_by_answer a r p ≡ p
 
 -- of a command only a refused mark tells something
-other_answer : (c : Command) (r : Reply) → ((p : Post) → post_marked r p ≡ p) → Leaves (DoCommand c) r
+other_answer : (c : Command) (r : Reply) → ((p : Post) → post_marked r p ≡ p) → TellsNothing (DoCommand c) r
 other_answer (command.Schema c) r h p = refl
 other_answer (command.TableInfo t i) r h p = refl
 other_answer command.Begin r h p = refl
@@ -63,13 +63,13 @@ if_same true x y e = e
 if_same false x y e = refl
 
 -- the seats stay
-stays_posted : (σ : State) (m : ℕ) (a : Ask) (o : Outcome) → o.state.seats ≡ σ.seats → o.state.commits ≡ σ.commits → o.entry ≡ None → Leaves a o.reply → IsPosted σ m a o
+stays_posted : (σ : State) (m : ℕ) (a : Ask) (o : Outcome) → o.state.seats ≡ σ.seats → o.state.commits ≡ σ.commits → o.entry ≡ None → TellsNothing a o.reply → IsPosted σ m a o
 stays_posted σ m a o seats commits none calm = record {
   commits = commits ∙ ap (λ e. commits_from σ.commits (entries e)) (sym none);
   posts = λ n p has x e. has x (ap (λ xs. seat_at xs n) (sym seats) ∙ e) ∙ sym (if_same (n == m) _ p (calm p)) ∙ ap (λ z. post_by_entry n σ.commits z (if n == m then post_by_answer a o.reply p else p)) (sym none);
 }
 
-nothing_posted : (σ : State) (m : ℕ) (a : Ask) (r : Reply) → Leaves a r → IsPosted σ m a (nothing σ r)
+nothing_posted : (σ : State) (m : ℕ) (a : Ask) (r : Reply) → TellsNothing a r → IsPosted σ m a (nothing σ r)
 nothing_posted σ m a r calm = stays_posted σ m a (nothing σ r) refl refl refl calm
 
 -- an item that a post is handed, and may refuse
@@ -134,7 +134,7 @@ module _ (σ : State) (s : Seat) (here : seat_at σ.seats s.number ≡ Some s) w
   retry_posted None = nothing_posted σ s.number Retry _ (λ p. refl)
   retry_posted (Some q) = retry_in_posted q.operation s.transaction
 
-  opened_posted : (a : Ask) (b : Bool) → ((r : Reply) → Leaves a r) → Posted a (opened σ s b)
+  opened_posted : (a : Ask) (b : Bool) → ((r : Reply) → TellsNothing a r) → Posted a (opened σ s b)
   opened_posted a false calm = nothing_posted σ s.number a _ (calm _)
   opened_posted a true calm = own_posted a (opened σ s true) _ refl refl (sym (calm _ _)) refl (λ n p. refl)
 
@@ -234,10 +234,10 @@ module _ (σ : State) (s : Seat) (here : seat_at σ.seats s.number ≡ Some s) w
   command_posted over c true = nothing_posted σ s.number _ _ (other_answer c reply.WaitingNow (λ p. refl))
   command_posted over c false = do_posted over c
 
-  give_posted : (xs : List Item) (l : Option ℕ) → s.overflow ≡ l → Posted Take (give σ s xs l)
-  give_posted (x ∷ xs) l e = own_posted Take (give σ s (x ∷ xs) l) _ refl refl refl refl (λ n p. refl)
-  give_posted [] None e = nothing_posted σ s.number Take _ (λ p. refl)
-  give_posted [] (Some i) e = own_posted Take (give σ s [] (Some i)) _ refl refl refl refl (λ n p. refl)
+  give_posted : (xs : List Item) (l : Option ℕ) → Posted Take (give σ s xs l)
+  give_posted (x ∷ xs) l = own_posted Take (give σ s (x ∷ xs) l) _ refl refl refl refl (λ n p. refl)
+  give_posted [] None = nothing_posted σ s.number Take _ (λ p. refl)
+  give_posted [] (Some i) = own_posted Take (give σ s [] (Some i)) _ refl refl refl refl (λ n p. refl)
 
   leave_posted : Posted Leave (leave σ s)
   leave_posted = record { commits = refl; posts = λ n p has x e. cases n p has x (n == s.number) (sym (seat_at-without σ.seats s.number n) ∙ e) }
@@ -250,7 +250,7 @@ module _ (σ : State) (s : Seat) (here : seat_at σ.seats s.number ≡ Some s) w
   seated_posted over (Join b) = nothing_posted σ s.number _ _ (λ p. refl)
   seated_posted over Leave = leave_posted
   seated_posted over Retry = retry_posted _
-  seated_posted over Take = give_posted _ _ refl
+  seated_posted over Take = give_posted _ _
   seated_posted over (DoCommand c) = command_posted over c _
 
 -- one that is not joined

@@ -63,8 +63,9 @@ pub fn every_schedule()
 /// is the operations told to wait that were not answered since, dropped by an abort or left; the next age is one more than
 /// the outermost begins. An overflow that a session was not told yet is its last one, with the number of its commit or, where
 /// the mark of a deletion was refused, of the next commit; a Take that is told an overflow is told that one. A post's refusals
-/// are those of its own puts since its session joined. Each step keeps what callers know, and its entry is the one that its
-/// caller tells.
+/// are those of its own puts: as many as it was handed in with, and one more, up to the greatest 64 bit number, for each mark
+/// that its session is told doesn't fit, and for each overflow. Each step keeps what callers know, and its entry is the one
+/// that its caller tells.
 #[tactic(auto, using(crate::proofs::CallersLemmas::new_heard, crate::proofs::CallersLemmas::schedule_log, crate::proofs::CallersLemmas::schedule_open, crate::proofs::CallersLemmas::schedule_queued, crate::proofs::CallersLemmas::schedule_heard_legal, crate::proofs::CallersLemmas::schedule_heard_told, crate::proofs::CallersLemmas::schedule_queue, crate::proofs::CallersLemmas::schedule_next, crate::proofs::CallersPosts::schedule_overflow, crate::proofs::CallersPosts::schedule_told_overflow, crate::proofs::CallersPosts::schedule_refusals))]
 pub fn callers_tell_the_log()
     ensures log { (limits : Limits) (calls : List Call) → log_of (new limits) calls ≡ log_told newcomers calls (replies_of (new limits) calls) }
