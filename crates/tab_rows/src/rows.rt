@@ -73,6 +73,13 @@ impl Rows {
         })
     }
 
+    /// Whether they are of a set or a bag.
+    pub fn kind(&self) -> Kind
+        ensures { result ≡ self.now.0 }
+    {
+        self.kind
+    }
+
     /// How many records there are.
     pub fn size(&self) -> usize
         ensures { result ≡ length self.now.1 }

@@ -1,0 +1,3 @@
+pub mod IndexOfLemmas
+pub mod RowsLemmas
+pub mod CopiesLemmas

@@ -1,0 +1,22 @@
+-- A table's records with their indexes.
+use Rattle.std.specs.Prelude.{◌≡◌, ℕ, List, [], ◌∷◌, true, map}
+use Rattle.std.specs.List.{All}
+use Rattle.tab_index.specs.declared.index.Index.{Index}
+use Rattle.tab_index.specs.IndexOf.{IsIndexOf}
+use Rattle.tab_model.specs.declared.data.Kind.{Kind}
+use Rattle.tab_model.specs.declared.data.TableDef.{TableDef}
+use Rattle.tab_model.specs.Tables.{Rows, is_ordered}
+
+abbrev pub positions : List Index → List ℕ
+positions indexes = map (λ i. i.position) indexes
+
+-- each is an index of these records
+abbrev pub AreIndexesOf : Rows → List Index → Type 0
+AreIndexesOf rows indexes = All (λ i. IsIndexOf rows i.position i.keys) indexes
+
+-- what a table keeps
+pub record IsIndexed (def : TableDef) (rows : Kind × Rows) (indexes : List Index) : Type 0 where
+  pub kind : rows.0 ≡ def.kind
+  pub ordered : is_ordered rows.1 ≡ true
+  pub positions_are : positions indexes ≡ def.indexes
+  pub indexes_are : AreIndexesOf rows.1 indexes

@@ -1,0 +1,234 @@
+//! One index of a table's records: for each value that records have at a position, the keys of those records.
+
+ghost use Rattle.std.specs.Prelude.{◌≡◌, ℕ, [], ◌∷◌, ◌++◌, not, ◌&&◌, IfOk, OnOk, IsTrue, map, true};
+ghost use Rattle.std.specs.List.{filter, list_any};
+ghost use Rattle.tab_term.specs.Order.{term_cmp};
+ghost use Rattle.tab_term.specs.Data.{list as list_of, none as no_terms};
+ghost use Rattle.tab_term.specs.Same.{same};
+ghost use Rattle.tab_term.specs.View.{term, terms};
+ghost use Rattle.tab_model.specs.Names.{plain_terms, terms_list};
+ghost use Rattle.tab_model.specs.Tables.{at, key as key_of_row, apply, put as put_in, delete as delete_in, delete_object as delete_object_in, is_ordered};
+ghost use Rattle.tab_model.specs.WholeTables.{element as element_of, index_read};
+ghost use Rattle.tab_model.specs.declared.data.Kind.TheVariants as kind;
+ghost use Rattle.tab_map.specs.Entries.{lookup, Ascends};
+ghost use Rattle.tab_index.specs.IndexOf.{keys_in, IsIndexOf, IsWith, IsWithout, has_value};
+
+use crate::element::{element, key, nothing};
+use std::alloc::{AllocError, Global};
+use tab_map::{Map, Set};
+use tab_model::{Change, Kind};
+use tab_rows::Rows;
+use tab_term::{Term, Terms};
+
+/// An index at a position: each value with the keys of the records that have it there.
+pub struct Index {
+    pub position: u64,
+    keys: Map<Term, Set<Term>>,
+}
+
+// A derived Drop would be taken apart, field by field, at each exit of each caller.
+impl Drop for Index {
+    fn drop(self) {
+        let Index { position: _, keys } = self;
+        drop(keys);
+    }
+}
+
+impl Index {
+    /// An index of no records.
+    pub fn new(position: u64) -> Index
+        ensures position { result.position ≡ position }
+        ensures index { IsIndexOf [] result.position result.keys }
+    {
+        Index {
+            position,
+            keys: Map::new(),
+        }
+    }
+
+    /// The same index, in constant time.
+    pub fn share(&self) -> Result<Index, AllocError>
+        ensures { IfOk result (λ index. index ≡ self.now) }
+    {
+        Ok(Index {
+            position: self.position,
+            keys: self.keys.share()?,
+        })
+    }
+
+    // The keys of the value.
+    fn keys_of(&self, value: &Term) -> Result<Set<Term>, AllocError>
+        ensures keys { IfOk result (λ keys. keys ≡ keys_in (lookup term_cmp value.now self.now.keys)) }
+        ensures ascends { Ascends term_cmp self.now.keys }
+    {
+        match self.keys.get(value) {
+            Some(keys) => keys.share(),
+            None => Ok(Set::new()),
+        }
+    }
+
+    /// Puts the key to the value.
+    fn put(&mut self, alloc: Global, value: &Term, key: &Term) -> Result<(), AllocError>
+        ensures position { self.new.position ≡ self.old.position }
+        ensures ok { OnOk result (IsWith self.old.keys self.new.keys (term value.now) (term key.now)) }
+    {
+        let mut keys = self.keys_of(value)?;
+        if keys.contains(key) {
+            return Ok(());
+        }
+        keys.insert(alloc, key.try_clone(alloc)?)?;
+        self.keys.insert(alloc, value.try_clone(alloc)?, keys)
+    }
+
+    /// Takes the key from the value, and a value that has no other key with it.
+    fn take(&mut self, alloc: Global, value: &Term, key: &Term) -> Result<(), AllocError>
+        ensures position { self.new.position ≡ self.old.position }
+        ensures ok { OnOk result (IsWithout self.old.keys self.new.keys (term value.now) (term key.now)) }
+    {
+        let Some(keys) = self.keys.get(value) else {
+            return Ok(());
+        };
+        if !keys.contains(key) {
+            return Ok(());
+        }
+        let left = keys.removed(alloc, key)?;
+        if left.is_empty() {
+            return self.keys.remove(alloc, value);
+        }
+        let value = value.try_clone(alloc)?;
+        self.keys.insert(alloc, value, left)
+    }
+
+    /// Adds what a record has at the position.
+    pub fn add(&mut self, alloc: Global, row: &Term) -> Result<(), AllocError>
+        ensures position { self.new.position ≡ self.old.position }
+        ensures ok { OnOk result (IsWith self.old.keys self.new.keys (element_of self.old.position (term row.now)) (key_of_row (term row.now))) }
+    {
+        let none = nothing(alloc);
+        self.put(alloc, element(row, self.position, &none), key(row, &none))
+    }
+
+    // Takes out what the key's records have at the position.
+    fn forget(&mut self, alloc: Global, rows: &Rows, key: &Term) -> Result<(), AllocError>
+        requires { IsIndexOf rows.now.1 self.old.position self.old.keys }
+        ensures position { self.new.position ≡ self.old.position }
+        ensures ok { OnOk result (IsIndexOf (delete_in rows.now.1 (term key.now)) self.new.position self.new.keys) }
+    {
+        let none = nothing(alloc);
+        for row in rows.at(key) {
+            self.take(alloc, element(row, self.position, &none), key)?;
+        }
+        Ok(())
+    }
+
+    // A set's write, whose record takes the place of its key's records.
+    fn replace(&mut self, alloc: Global, rows: &Rows, row: &Term) -> Result<(), AllocError>
+        requires index { IsIndexOf rows.now.1 self.old.position self.old.keys }
+        requires ordered { is_ordered rows.now.1 ≡ true }
+        ensures position { self.new.position ≡ self.old.position }
+        ensures ok { OnOk result (IsIndexOf (put_in kind.Set rows.now.1 (term row.now)) self.new.position self.new.keys) }
+    {
+        let none = nothing(alloc);
+        let key = key(row, &none);
+        if self.has_only(rows.at(key), element(row, self.position, &none), &none) {
+            return Ok(());
+        }
+        self.forget(alloc, rows, key)?;
+        self.add(alloc, row)
+    }
+
+    // Whether there is one record, and it has the value.
+    fn has_only(&self, records: &[Term], value: &Term, none: &Term) -> bool
+        requires { term none.now ≡ list_of no_terms }
+        ensures { IsTrue result → map (element_of self.now.position) (terms_list (terms records.now)) ≡ term value.now ∷ [] }
+    {
+        match records {
+            [only] => element(only, self.position, none) == value,
+            _ => false,
+        }
+    }
+
+    // A deletion of a record. The key stays where another of its records has the value.
+    fn forget_object(&mut self, alloc: Global, rows: &Rows, row: &Term) -> Result<(), AllocError>
+        requires index { IsIndexOf rows.now.1 self.old.position self.old.keys }
+        requires ordered { is_ordered rows.now.1 ≡ true }
+        ensures position { self.new.position ≡ self.old.position }
+        ensures ok { OnOk result (IsIndexOf (delete_object_in rows.now.1 (term row.now)) self.new.position self.new.keys) }
+    {
+        let none = nothing(alloc);
+        let key = key(row, &none);
+        let value = element(row, self.position, &none);
+        if self.has_another(rows.at(key), row, value, &none) {
+            return Ok(());
+        }
+        self.take(alloc, value, key)
+    }
+
+    // Whether a record that isn't this one has the value.
+    fn has_another(&self, records: &[Term], row: &Term, value: &Term, none: &Term) -> bool
+        requires { term none.now ≡ list_of no_terms }
+        ensures { result ≡ list_any (has_value self.now.position (term value.now)) (delete_object_in (terms_list (terms records.now)) (term row.now)) }
+    {
+        for other in records {
+            if row == other {
+                continue;
+            }
+            if element(other, self.position, none) == value {
+                return true;
+            }
+        }
+        false
+    }
+
+    /// Makes the index of `rows` that of the rows after the change.
+    pub fn change(&mut self, alloc: Global, rows: &Rows, change: &Change) -> Result<(), AllocError>
+        requires index { IsIndexOf rows.now.1 self.old.position self.old.keys }
+        requires ordered { is_ordered rows.now.1 ≡ true }
+        ensures position { self.new.position ≡ self.old.position }
+        ensures ok { OnOk result (IsIndexOf (apply rows.now.0 rows.now.1 change.now) self.new.position self.new.keys) }
+    {
+        match change {
+            Change::Write(row) => match rows.kind() {
+                Kind::Set => self.replace(alloc, rows, row),
+                Kind::Bag => self.add(alloc, row),
+            },
+            Change::Delete(_, key) => self.forget(alloc, rows, key),
+            Change::DeleteObject(row) => self.forget_object(alloc, rows, row),
+        }
+    }
+
+    /// Copies of the records that have the value: by keys, and of each key in the order of their insertion.
+    pub fn read(&self, alloc: Global, rows: &Rows, value: &Term) -> Result<Terms, AllocError>
+        requires index { IsIndexOf rows.now.1 self.now.position self.now.keys }
+        requires ordered { is_ordered rows.now.1 ≡ true }
+        ensures { IfOk result (λ found. found ≡ plain_terms (index_read rows.now.1 self.now.position (term value.now))) }
+    {
+        let mut found = Vec::new(alloc);
+        if let Some(keys) = self.keys.get(value) {
+            for key in keys.iter() {
+                self.append(alloc, &mut found, rows.at(key), value)?;
+            }
+        }
+        Ok(Terms::from_vec(found))
+    }
+
+    // Appends copies of those records that have the value.
+    fn append(
+        &self,
+        alloc: Global,
+        found: &mut Vec<Term>,
+        records: &[Term],
+        value: &Term,
+    ) -> Result<(), AllocError>
+        ensures { OnOk result (terms_list (terms found.new.items) ≡ terms_list (terms found.old.items) ++ index_read (terms_list (terms records.now)) self.now.position (term value.now)) }
+    {
+        let none = nothing(alloc);
+        for row in records {
+            if element(row, self.position, &none) != value {
+                continue;
+            }
+            found.push(row.try_clone(alloc)?)?;
+        }
+        Ok(())
+    }
+}

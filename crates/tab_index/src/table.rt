@@ -1,0 +1,218 @@
+ghost use Rattle.std.specs.Prelude.{◌≡◌, [], IfOk, OnOk, true, if◌then◌else◌, Some, None, length, map};
+ghost use Rattle.std.specs.List.{All};
+ghost use Rattle.tab_term.specs.View.{term, terms};
+ghost use Rattle.tab_model.specs.Names.{plain_terms};
+ghost use Rattle.tab_model.specs.Tables.{at, keys as keys_of_rows, apply as apply_in, applied as applied_in, is_ordered};
+ghost use Rattle.tab_model.specs.WholeTables.{index_read as index_read_in, match_object as match_object_in};
+ghost use Rattle.tab_model.specs.Definitions.{has_number};
+ghost use Rattle.tab_model.specs.Worlds.{with_rows, with_def};
+ghost use Rattle.tab_rows.specs.Joined.{joined, IsInOrder};
+ghost use Rattle.tab_index.specs.Indexed.{positions, AreIndexesOf};
+
+use crate::index::Index;
+use crate::matching;
+use std::alloc::{AllocError, Global};
+use std::marker::Model;
+use std::sync::Arc;
+use tab_map::Iter;
+use tab_model::{Change, Numbers, TableDef};
+use tab_rows::Rows;
+use tab_term::{Term, Terms};
+
+/// A table: its definition, which its versions share, its records, and their indexes.
+pub struct IndexedTable {
+    def: Arc<TableDef, Global>,
+    rows: Rows,
+    // One for each position of the definition, in their order.
+    indexes: Vec<Index>,
+}
+
+impl Model for IndexedTable {
+    ghost use Rattle.std.specs.Coded.{codes};
+    ghost use Rattle.tab_term.specs.Code.{term_code};
+    ghost use Rattle.tab_model.specs.Worlds.{Table as TableOfWorld};
+    ghost use Rattle.tab_index.specs.Indexed.{IsIndexed};
+
+    ghost Value = { TableOfWorld };
+
+    ghost coded = { Prim.hlevel (codes, term_code) };
+
+    ghost view = { λ a. record { def = a.def.value; rows = a.rows.1 } };
+
+    ghost invariant = { λ a. IsIndexed a.def.value a.rows a.indexes.items };
+}
+
+// A derived Drop would be taken apart, field by field, at each exit of each caller.
+impl Drop for IndexedTable {
+    fn drop(self) {
+        let IndexedTable { def, rows, indexes } = self;
+        drop(def);
+        drop(rows);
+        drop(indexes);
+    }
+}
+
+impl IndexedTable {
+    /// A table without records.
+    pub fn new(alloc: Global, def: TableDef) -> Result<IndexedTable, AllocError>
+        ensures { IfOk result (λ table. table ≡ record { def = def; rows = [] }) }
+    {
+        let rows = Rows::new(def.kind);
+        let indexes = empty_indexes(alloc, &def.indexes)?;
+        Ok(IndexedTable {
+            def: Arc::new(alloc, def)?,
+            rows,
+            indexes,
+        })
+    }
+
+    /// The same table, in a time that the number of indexes bounds.
+    pub fn share(&self, alloc: Global) -> Result<IndexedTable, AllocError>
+        ensures { IfOk result (λ table. table ≡ self.now) }
+    {
+        Ok(IndexedTable {
+            def: Arc::try_clone(&self.def)?,
+            rows: self.rows.share()?,
+            indexes: shared_indexes(alloc, &self.indexes)?,
+        })
+    }
+
+    pub fn def(&self) -> &TableDef
+        ensures { result.now ≡ self.now.def }
+    {
+        &self.def
+    }
+
+    /// How many records there are.
+    pub fn size(&self) -> usize
+        ensures { result ≡ length self.now.rows }
+    {
+        self.rows.size()
+    }
+
+    /// The keys in their order, each with its records in the order of their insertion.
+    pub fn walk<'a>(&'a self) -> Iter<'a, Term, Terms>
+        ensures records { joined result ≡ self.now.rows }
+        ensures order { IsInOrder result }
+    {
+        self.rows.walk()
+    }
+
+    /// Copies of the keys, each once, in their order.
+    pub fn keys(&self, alloc: Global) -> Result<Terms, AllocError>
+        ensures { IfOk result (λ keys. keys ≡ plain_terms (keys_of_rows self.now.rows)) }
+    {
+        self.rows.keys(alloc)
+    }
+
+    /// The records of the key, in the order of their insertion, without memory.
+    pub fn at(&self, key: &Term) -> &[Term]
+        ensures { terms result.now ≡ plain_terms (at self.now.rows (term key.now)) }
+    {
+        self.rows.at(key)
+    }
+
+    /// Copies of the records of the key, in the order of their insertion.
+    pub fn read(&self, alloc: Global, key: &Term) -> Result<Terms, AllocError>
+        ensures { IfOk result (λ records. records ≡ plain_terms (at self.now.rows (term key.now))) }
+    {
+        self.rows.read(alloc, key)
+    }
+
+    /// Copies of the records that have the value at the position, by keys, and of each key in the order of their
+    /// insertion. None where the position has no index.
+    pub fn index_read(
+        &self,
+        alloc: Global,
+        position: u64,
+        value: &Term,
+    ) -> Result<Option<Terms>, AllocError>
+        ensures { IfOk result (λ found. found ≡ (if has_number self.now.def.indexes position then Some (plain_terms (index_read_in self.now.rows position (term value.now))) else None)) }
+    {
+        for index in &self.indexes {
+            if index.position == position {
+                return Ok(Some(index.read(alloc, &self.rows, value)?));
+            }
+        }
+        Ok(None)
+    }
+
+    /// Copies of the records that fit the pattern, by keys, and of each key in the order of their insertion. Where no
+    /// `'_'` stands in the pattern's key, no other key is looked at.
+    pub fn match_object(&self, alloc: Global, pattern: &Term) -> Result<Terms, AllocError>
+        ensures { IfOk result (λ found. found ≡ plain_terms (match_object_in self.now.rows (term pattern.now))) }
+    {
+        matching::match_object(alloc, &self.rows, pattern)
+    }
+
+    /// The table after the changes, in turn. This one stays as it was, and shares what did not change.
+    pub fn updated(&self, alloc: Global, changes: &[Change]) -> Result<IndexedTable, AllocError>
+        ensures { IfOk result (λ table. table ≡ with_rows self.now (applied_in self.now.def.kind self.now.rows changes.now)) }
+    {
+        self.share(alloc)?.applied(alloc, changes)
+    }
+
+    /// The table after the changes, in turn, in place where nothing is shared. An error drops the table.
+    pub fn applied(self, alloc: Global, changes: &[Change]) -> Result<IndexedTable, AllocError>
+        ensures { IfOk result (λ table. table ≡ with_rows self (applied_in self.def.kind self.rows changes.now)) }
+    {
+        let IndexedTable {
+            def,
+            mut rows,
+            mut indexes,
+        } = self;
+        for change in changes {
+            change_indexes(alloc, &mut indexes, &rows, change)?;
+            change_rows(alloc, &mut rows, change)?;
+        }
+        Ok(IndexedTable { def, rows, indexes })
+    }
+}
+
+fn empty_indexes(alloc: Global, numbers: &Numbers) -> Result<Vec<Index>, AllocError>
+    ensures positions { IfOk result (λ indexes. positions indexes.items ≡ numbers.now) }
+    ensures indexes { IfOk result (λ indexes. AreIndexesOf [] indexes.items) }
+{
+    let mut indexes = Vec::with_capacity(alloc, numbers.items.len())?;
+    for position in &numbers.items {
+        indexes.push(Index::new(*position))?;
+    }
+    Ok(indexes)
+}
+
+fn shared_indexes(alloc: Global, indexes: &Vec<Index>) -> Result<Vec<Index>, AllocError>
+    ensures { IfOk result (λ same. same.items ≡ indexes.now.items) }
+{
+    let mut same = Vec::with_capacity(alloc, indexes.len())?;
+    for index in indexes {
+        same.push(index.share()?)?;
+    }
+    Ok(same)
+}
+
+fn change_indexes(
+    alloc: Global,
+    indexes: &mut Vec<Index>,
+    rows: &Rows,
+    change: &Change,
+) -> Result<(), AllocError>
+    requires indexes { AreIndexesOf rows.now.1 indexes.old.items }
+    requires ordered { is_ordered rows.now.1 ≡ true }
+    ensures positions { OnOk result (positions indexes.new.items ≡ positions indexes.old.items) }
+    ensures indexes { OnOk result (AreIndexesOf (apply_in rows.now.0 rows.now.1 change.now) indexes.new.items) }
+{
+    for index in indexes.iter_mut() {
+        index.change(alloc, rows, change)?;
+    }
+    Ok(())
+}
+
+fn change_rows(alloc: Global, rows: &mut Rows, change: &Change) -> Result<(), AllocError>
+    ensures { OnOk result (rows.new ≡ (rows.old.0, apply_in rows.old.0 rows.old.1 change.now)) }
+{
+    match change {
+        Change::Write(row) => rows.put(alloc, row.try_clone(alloc)?),
+        Change::Delete(_, key) => rows.delete(alloc, key),
+        Change::DeleteObject(row) => rows.delete_object(alloc, row),
+    }
+}
