@@ -6,10 +6,10 @@ use Rattle.std.specs.Ordering.{match_ordering, ordering_reverse, is_lt, is_eq}
 use Rattle.std.specs.Cmp.{IsTotalOrder}
 use Rattle.std.proofs.lemmas.Cmp.{nat_list_cmp_total}
 use Rattle.tab_term.specs.OrderLaws.{matches_bytes}
-use Rattle.tab_map.specs.Entries.{lookup, insert_entry, AllAbove, Ascends}
-use Rattle.tab_map.proofs.AscendsLemmas.{ascends_insert}
+use Rattle.tab_map.specs.Entries.{lookup, insert_entry, remove_entry, AllAbove, Ascends}
+use Rattle.tab_map.proofs.AscendsLemmas.{ascends_insert, ascends_remove}
 use Rattle.tab_model.specs.Names.{before}
-use Rattle.tab_model.specs.Worlds.{Table, name_of, find, place}
+use Rattle.tab_model.specs.Worlds.{Table, name_of, find, place, without}
 use Rattle.tab_core.specs.Named.{Entry, world_of, AllNamed, AreNamed}
 use Rattle.tab_term.specs.Order.{bytes_cmp}
 
@@ -68,3 +68,45 @@ all_named_insert (e ∷ es) x h k = cases (all_named_insert es x h k.1) (bytes_c
 
 pub named_insert : (es : List Entry) (t : Table) (n : List ℕ) → n ≡ name_of t → AreNamed es → AreNamed (insert_entry bytes_cmp (n, t) es)
 named_insert es t n e w = record { ascends = ascends_insert nat_list_cmp_total (n, t) es w.ascends; named = all_named_insert es (n, t) (sym e) w.named }
+
+at_all : (n k : List ℕ) (es : List Entry) → bytes_cmp n k ≡ Equal → AllAbove bytes_cmp k es → AllAbove bytes_cmp n es
+at_all n k [] h a = tt
+at_all n k (e ∷ es) h a = (IsTotalOrder.congr nat_list_cmp_total n k e.0 h ∙ a.0, at_all n k es h a.1)
+
+-- a table goes
+without_above : (n : List ℕ) (es : List Entry) → AllAbove bytes_cmp n es → AllNamed es → without (world_of es) n ≡ world_of es
+without_above n [] a k = refl
+without_above n (e ∷ es) a k =
+    ap (λ b. if b then without (world_of es) n else e.1 ∷ without (world_of es) n) (ap (λ m. bytes_eq m n) k.0 ∙ not_equal e.0 n Greater (flipped n e.0 Less a.0) refl)
+    ∙ ap (λ w. e.1 ∷ w) (without_above n es a.1 k.1)
+
+pub gone : (es : List Entry) (n : List ℕ) → AreNamed es → world_of (remove_entry bytes_cmp n es) ≡ without (world_of es) n
+gone es n w = go es w.ascends w.named
+  where
+    go : (es : List Entry) → Ascends bytes_cmp es → AllNamed es → world_of (remove_entry bytes_cmp n es) ≡ without (world_of es) n
+    go [] s k = refl
+    go (e ∷ es) s k = cases (go es s.1 k.1) (bytes_cmp n e.0) refl
+      where
+        cases : world_of (remove_entry bytes_cmp n es) ≡ without (world_of es) n → (o : Ordering) → bytes_cmp n e.0 ≡ o
+            → world_of (match_ordering o (e ∷ es) es (e ∷ remove_entry bytes_cmp n es)) ≡ (if bytes_eq (name_of e.1) n then without (world_of es) n else e.1 ∷ without (world_of es) n)
+        cases ih Less h =
+            ap (λ v. e.1 ∷ v) (sym (without_above n es (below_all n e.0 es h s.0) k.1))
+            ∙ sym (ap (λ b. if b then without (world_of es) n else e.1 ∷ without (world_of es) n) (ap (λ m. bytes_eq m n) k.0 ∙ not_equal e.0 n Greater (flipped n e.0 Less h) refl))
+        cases ih Equal h =
+            sym (without_above n es (at_all n e.0 es h s.0) k.1)
+            ∙ sym (ap (λ b. if b then without (world_of es) n else e.1 ∷ without (world_of es) n) (ap (λ m. bytes_eq m n) k.0 ∙ matches_bytes e.0 n ∙ ap is_eq (flipped n e.0 Equal h)))
+        cases ih Greater h =
+            ap (λ v. e.1 ∷ v) ih
+            ∙ sym (ap (λ b. if b then without (world_of es) n else e.1 ∷ without (world_of es) n) (ap (λ m. bytes_eq m n) k.0 ∙ not_equal e.0 n Less (flipped n e.0 Greater h) refl))
+
+all_named_remove : (es : List Entry) (n : List ℕ) → AllNamed es → AllNamed (remove_entry bytes_cmp n es)
+all_named_remove [] n k = tt
+all_named_remove (e ∷ es) n k = cases (all_named_remove es n k.1) (bytes_cmp n e.0)
+  where
+    cases : AllNamed (remove_entry bytes_cmp n es) → (o : Ordering) → AllNamed (match_ordering o (e ∷ es) es (e ∷ remove_entry bytes_cmp n es))
+    cases ih Less = k
+    cases ih Equal = k.1
+    cases ih Greater = (k.0, ih)
+
+pub named_remove : (es : List Entry) (n : List ℕ) → AreNamed es → AreNamed (remove_entry bytes_cmp n es)
+named_remove es n w = record { ascends = ascends_remove nat_list_cmp_total n es w.ascends; named = all_named_remove es n w.named }

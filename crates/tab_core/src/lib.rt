@@ -1,7 +1,7 @@
 //! The core: a machine of steps over tables, sessions and their transactions.
 //!
 //! Contracts see a core as one plain state (`State` of tab_model), and a step is a function of it (`outcome`). So far
-//! one session is served, with one level of transaction, and the commands that `is_served` names.
+//! one session is served, with one level of transaction, and all commands but subscriptions and one-shots.
 
 #![tactic(auto)]
 
@@ -12,11 +12,11 @@ ghost use Rattle.tab_model.specs.State.{new, IsSound};
 ghost use Rattle.tab_model.specs.Run.{IsTied};
 ghost use Rattle.tab_core.specs.Runs.{ask_of, asks_of, serves_step, AllServed, StepsTo, StepsOrNoMemory, RunsTo, taken_in};
 
+mod definitions;
 mod machine;
 mod operate;
 mod served;
 mod step;
-mod table;
 mod tables;
 mod transaction;
 

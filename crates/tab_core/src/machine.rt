@@ -2,28 +2,24 @@
 
 ghost use Rattle.std.specs.Prelude.{◌≡◌, ◌+◌, ◌≤◌, [], IfOk, OnErr, true, false};
 ghost use Rattle.tab_model.specs.declared.data.Command.TheVariants as command;
-ghost use Rattle.tab_model.specs.declared.data.Schema.TheVariants as schema;
-ghost use Rattle.tab_term.specs.Data.{none};
-ghost use Rattle.tab_model.specs.Definitions.{parse_options, Good};
 ghost use Rattle.tab_model.specs.State.{new};
 ghost use Rattle.tab_core.specs.Runs.{StepsTo, ask_of, serves_step};
-ghost use Rattle.tab_model.specs.Outcome.{Ask, Join, Leave, Retry, Take, DoCommand, nothing, unseated, outcome};
-ghost use Rattle.tab_core.specs.Served.{serves, serves_operation};
+ghost use Rattle.tab_model.specs.Outcome.{Ask, Join, Leave, Retry, Take, DoCommand, nothing, unseated, outcome, has_room};
+ghost use Rattle.tab_core.specs.Served.{serves};
 ghost use Rattle.tab_core.specs.Single.{asked, no_outbox, IsAlone};
 
+use crate::definitions::{Redefined, redefined, table_info};
 use crate::operate::{Effect, Performed, perform};
 use crate::step::{Step, Stepped};
-use crate::table::Table;
 use crate::tables::Tables;
-use crate::transaction::{Pending, Request};
+use crate::transaction::{Pending, PendingSchema, Request};
 use std::alloc::{AllocError, Global};
 use std::marker::Model;
 use std::mem;
 use tab_model::{
-    Atoms, Command, Entry, Kind, Limit, Limits, Move, Moves, Numbers, Replies, Reply, Schema,
-    TableDef,
+    Command, Entry, InfoItem, Limit, Limits, Move, Moves, Numbers, Replies, Reply, Schema,
 };
-use tab_term::{Atom, Term, Terms};
+use tab_term::{Atom, Term};
 
 /// At most one session, and one level of its transaction.
 #[derive(Drop)]
@@ -115,7 +111,6 @@ impl Machine {
     }
 
     pub fn operate(&mut self, pending: Pending) -> Result<Reply, AllocError>
-        requires { serves_operation pending.operation ≡ true }
         ensures ok { IfOk result (λ r. asked self.old (command.Do pending.operation) ≡ nothing self.new r) }
         ensures err { OnErr result (self.new ≡ self.old) }
     {
@@ -179,8 +174,8 @@ impl Machine {
         }
     }
 
-    pub fn create(&mut self, name: Atom) -> Result<Stepped, AllocError>
-        ensures ok { IfOk result (λ s. asked self.old (command.Schema (schema.Create name none)) ≡ record { state = self.new; reply = s.reply; entry = s.entry }) }
+    pub fn schema(&mut self, pending: PendingSchema) -> Result<Stepped, AllocError>
+        ensures ok { IfOk result (λ s. asked self.old (command.Schema pending.schema) ≡ record { state = self.new; reply = s.reply; entry = s.entry }) }
         ensures err { OnErr result (self.new ≡ self.old) }
     {
         if self.session.is_none() {
@@ -189,23 +184,43 @@ impl Machine {
         if self.open.is_some() {
             return Ok(Stepped::without_entry(Reply::InTransaction));
         }
-        if self.tables.get(&name).is_some() {
-            return Ok(Stepped::without_entry(Reply::AlreadyExists(name)));
+        match redefined(self.alloc, &self.tables, &pending.schema)? {
+            Redefined::Refused(reply) => Ok(Stepped::without_entry(reply)),
+            Redefined::Done(_) if !self.has_room(&pending.schema) => {
+                Ok(Stepped::without_entry(Reply::SystemLimit(Limit::Tables)))
+            }
+            Redefined::Done(tables) => {
+                self.tables = tables;
+                Ok(Stepped {
+                    reply: Reply::AtomicOk,
+                    entry: Some(Entry::Changed(
+                        pending.into_schema(),
+                        Numbers {
+                            items: Vec::new(self.alloc),
+                        },
+                    )),
+                })
+            }
         }
-        if !self.tables.has_room(self.limits.tables) {
-            return Ok(Stepped::without_entry(Reply::SystemLimit(Limit::Tables)));
+    }
+
+    /// Whether the limit of tables lets the command pass.
+    fn has_room(&self, command: &Schema) -> bool
+        ensures { result ≡ has_room self.now command.now }
+    {
+        match command {
+            Schema::Create(_, _) => self.tables.has_room(self.limits.tables),
+            _ => true,
         }
-        let table = Table::new(self.alloc, default_definition(self.alloc, &name)?)?;
-        self.tables = self.tables.placed(self.alloc, table)?;
-        Ok(Stepped {
-            reply: Reply::AtomicOk,
-            entry: Some(Entry::Changed(
-                Schema::Create(name, Terms::from_vec(Vec::new(self.alloc))),
-                Numbers {
-                    items: Vec::new(self.alloc),
-                },
-            )),
-        })
+    }
+
+    pub fn table_info(&self, name: &Atom, item: InfoItem) -> Result<Reply, AllocError>
+        ensures { IfOk result (λ r. asked self.now (command.TableInfo name.now item) ≡ nothing self.now r) }
+    {
+        if self.session.is_none() {
+            return Ok(Reply::BadSession);
+        }
+        table_info(self.alloc, &self.tables, name, item)
     }
 
     /// Of a session that has not joined. Takes no memory.
@@ -263,7 +278,10 @@ impl Machine {
             Command::Do(operation) => Ok(Stepped::without_entry(self.operate(Pending {
                 operation,
             })?)),
-            Command::Schema(Schema::Create(name, _)) => self.create(name),
+            Command::Schema(schema) => self.schema(PendingSchema { schema }),
+            Command::TableInfo(name, item) => {
+                Ok(Stepped::without_entry(self.table_info(&name, item)?))
+            }
             _ => unreachable!(),
         }
     }
@@ -312,21 +330,4 @@ impl Machine {
             Reply::BadSession
         }
     }
-}
-
-/// The definition of a table that is created without options: a set of the attributes `key` and `val`.
-fn default_definition(alloc: Global, name: &Atom) -> Result<TableDef, AllocError>
-    ensures { IfOk result (λ def. parse_options name.now none ≡ Good def) }
-{
-    let mut attributes = Vec::with_capacity(alloc, 2)?;
-    attributes.push(Atom::from_short_text(alloc, "key")?)?;
-    attributes.push(Atom::from_short_text(alloc, "val")?)?;
-    Ok(TableDef {
-        name: name.try_clone(alloc)?,
-        kind: Kind::Set,
-        attributes: Atoms { items: attributes },
-        indexes: Numbers {
-            items: Vec::new(alloc),
-        },
-    })
 }

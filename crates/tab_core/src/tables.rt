@@ -1,17 +1,17 @@
 ghost use Rattle.std.specs.Prelude.{◌≡◌, [], IfOk, nat_lt, length};
 ghost use Rattle.std.specs.Option.{option_copied};
-ghost use Rattle.tab_model.specs.Worlds.{find, place};
+ghost use Rattle.tab_model.specs.Worlds.{find, place, without as without_table};
 
-use crate::table::Table;
 use std::alloc::{AllocError, Global};
 use std::marker::Model;
+use tab_index::IndexedTable;
 use tab_map::Map;
 use tab_term::Atom;
 
 /// All tables, by name. Sharing them takes constant time.
 #[derive(Drop)]
 pub struct Tables {
-    by_name: Map<Atom, Table>,
+    by_name: Map<Atom, IndexedTable>,
 }
 
 impl Model for Tables {
@@ -47,19 +47,28 @@ impl Tables {
         })
     }
 
-    pub fn get(&self, name: &Atom) -> Option<&Table>
+    pub fn get(&self, name: &Atom) -> Option<&IndexedTable>
         ensures { option_copied result ≡ find self.now name.now }
     {
         self.by_name.get(name)
     }
 
     /// The tables with this one in the place of the one of its name, or among them. These stay as they were.
-    pub fn placed(&self, alloc: Global, table: Table) -> Result<Tables, AllocError>
+    pub fn placed(&self, alloc: Global, table: IndexedTable) -> Result<Tables, AllocError>
         ensures { IfOk result (λ tables. tables ≡ place self.now table) }
     {
         let name = table.def().name.try_clone(alloc)?;
         Ok(Tables {
             by_name: self.by_name.inserted(alloc, name, table)?,
+        })
+    }
+
+    /// The tables without the one of this name. These stay as they were.
+    pub fn without(&self, alloc: Global, name: &Atom) -> Result<Tables, AllocError>
+        ensures { IfOk result (λ tables. tables ≡ without_table self.now name.now) }
+    {
+        Ok(Tables {
+            by_name: self.by_name.removed(alloc, name)?,
         })
     }
 

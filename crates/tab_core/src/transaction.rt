@@ -1,9 +1,9 @@
-//! A command and an operation on their way into the machine. An owned enum that stays alive across a `?` makes the check
+//! A command, a schema command and an operation on their way into the machine. An owned enum that stays alive across a `?` makes the check
 //! look at each of its variants at each exit; in a struct it is dropped as one.
 
 ghost use Rattle.std.specs.Prelude.{◌≡◌};
 
-use tab_model::{Command, Operation};
+use tab_model::{Command, Operation, Schema};
 
 /// An operation that waits for its place in the trace.
 #[derive(Drop)]
@@ -32,5 +32,20 @@ impl Pending {
     {
         let Pending { operation } = self;
         operation
+    }
+}
+
+/// A schema command that waits for its place in the log.
+#[derive(Drop)]
+pub struct PendingSchema {
+    pub schema: Schema,
+}
+
+impl PendingSchema {
+    pub fn into_schema(self) -> Schema
+        ensures { result ≡ self.schema }
+    {
+        let PendingSchema { schema } = self;
+        schema
     }
 }
