@@ -196,4 +196,5 @@ def main():
         ask([(at, repr(request)) for at, request in enumerate(SESSION, 1)], "request")
 
 
-main()
+if __name__ == "__main__":
+    main()

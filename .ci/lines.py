@@ -1,0 +1,140 @@
+#!/usr/bin/env python3
+"""Runs the built program over command lines and sessions, and compares exit status, standard output and standard error.
+
+    lines.py PROGRAM
+
+What stands between the proved function `run` and the operating system has no contract: the words of the process, its
+streams, its status. Expected values are written here by hand, or stand in the tests of tab_session, which another program
+made. One line tells each case that differs; the last line is `N passed, M failed`, and the status 1 where one failed.
+"""
+
+import os
+import re
+import subprocess
+import sys
+
+HERE = os.path.dirname(os.path.abspath(__file__))
+sys.path.insert(0, os.path.join(HERE, "..", "examples"))
+from frames import frame  # noqa: E402
+
+ROWS = os.path.join(HERE, "..", "crates", "tab_session_tests", "src", "tests.rt")
+DAMAGED = b"tabd: damaged input\n"
+DEVICE = b"tabd: device\n"
+LONGEST = 1_048_576
+GREATEST = 4_294_967_295
+
+# Words, the status, and what standard output and standard error begin with; where a text is empty, nothing stands there.
+WORDS = [
+    ([], 2, b"", b"A server of named in-memory tables"),
+    (["nosuch"], 2, b"", b"error: "),
+    (["replay", "nosuch"], 2, b"", b"error: "),
+    (["--nosuch"], 2, b"", b"error: "),
+    ([b"\xff\xfe"], 2, b"", b"error: "),
+    (["--version"], 0, b"tabd 0.1.0\n", b""),
+    (["--help"], 0, b"A server of named in-memory tables", b""),
+    (["replay", "--help"], 0, b"Answers the frames of standard input", b""),
+]
+
+
+def frames(*terms):
+    return b"".join(frame(term) for term in terms)
+
+
+def bytes_of(text):
+    """The bytes of a text such as `83 3*6801`, as the tests write them."""
+    out = b""
+    for word in text.split():
+        count, _, digits = word.rpartition("*")
+        out += bytes.fromhex(digits) * int(count or 1)
+    return out
+
+
+def rows():
+    """The streams of tab_session's tests: name, input, output, and how the run ends."""
+    text = open(ROWS, encoding="utf-8").read()
+    row = re.compile(r'name: "(.*?)",\s*ended: (.*?),\s*input: "(.*?)",\s*output: "(.*?)",', re.S)
+    ends = {"Ok(())": (0, b""), "Err(Ended::Damaged)": (3, DAMAGED)}
+    return [(name, bytes_of(given), bytes_of(told), *ends[ended]) for name, ended, given, told in row.findall(text)]
+
+
+def longest(size):
+    """A session that writes a record in a payload of so many bytes."""
+    start = [(1, "join"), (1, ("create_table", "t", [])), (1, "begin")]
+    bare = len(frame((1, ("write", ("t", 1, b""))))) - 4
+    return frames(*start, (1, ("write", ("t", 1, bytes(size - bare)))))
+
+
+def commits(count):
+    """As many transactions of one write, and what is answered."""
+    asked = [(1, "join"), (1, ("create_table", "t", []))]
+    told = [(1, "ok"), (1, ("atomic", "ok"))]
+    for number in range(1, count + 1):
+        asked += [(1, "begin"), (1, ("write", ("t", number % 7, number))), (1, "commit")]
+        told += [(1, ("tid", number)), (1, "ok"), (1, ("atomic", number))]
+    return frames(*asked), frames(*told)
+
+
+def streams():
+    """Name, input, output, status and standard error of a replay."""
+    begun = frames((1, "ok"), (1, ("atomic", "ok")), (1, ("tid", 1)))
+    return rows() + [
+        ("the greatest session", frames((GREATEST, "join")), frames((GREATEST, "ok")), 0, b""),
+        ("the longest payload", longest(LONGEST), begun + frames((1, "ok")), 0, b""),
+        ("a payload that is too long", longest(LONGEST + 1), begun, 3, DAMAGED),
+        ("10,000 commits", *commits(10_000), 0, b""),
+    ]
+
+
+def run(program, words, **streams):
+    done = subprocess.run([program, *words], stderr=subprocess.PIPE, timeout=100, check=False, **streams)
+    return done.returncode, done.stdout, done.stderr
+
+
+def is_told(wanted, found):
+    return found.startswith(wanted) if wanted else not found
+
+
+def word_faults(program):
+    for words, status, out, err in WORDS:
+        found = run(program, words, stdin=subprocess.DEVNULL, stdout=subprocess.PIPE)
+        right = found[0] == status and is_told(out, found[1]) and is_told(err, found[2])
+        yield None if right else f"{words}: {found}"
+
+
+def stream_faults(program):
+    for name, given, told, status, err in streams():
+        found = run(program, ["replay"], input=given, stdout=subprocess.PIPE)
+        yield None if found == (status, told, err) else f"{name}: status {found[0]}, {len(found[1])} bytes, {found[2]}"
+
+
+def device_faults(program):
+    """A reply that can't be written, and an input that can't be read."""
+    asked = frames((1, "join"))
+    if os.path.exists("/dev/full"):
+        with open("/dev/full", "wb") as full:
+            status, _, err = run(program, ["replay"], input=asked, stdout=full)
+            yield None if (status, err) == (1, DEVICE) else f"a full output: {status}, {err}"
+    end, start = os.pipe()
+    os.close(end)
+    status, _, err = run(program, ["replay"], input=asked, stdout=start)
+    os.close(start)
+    yield None if (status, err) == (1, DEVICE) else f"an output that no one reads: {status}, {err}"
+    folder = os.open(HERE, os.O_RDONLY)
+    found = run(program, ["replay"], stdin=folder, stdout=subprocess.PIPE)
+    os.close(folder)
+    yield None if found == (1, b"", DEVICE) else f"a folder as input: {found}"
+
+
+def main():
+    if len(sys.argv) != 2:
+        sys.exit(__doc__)
+    program = os.path.abspath(sys.argv[1])
+    tried = [fault for faults in (word_faults, stream_faults, device_faults) for fault in faults(program)]
+    failed = [fault for fault in tried if fault]
+    for fault in failed:
+        print(fault)
+    print(f"{len(tried) - len(failed)} passed, {len(failed)} failed")
+    sys.exit(1 if failed else 0)
+
+
+main()
