@@ -6,7 +6,6 @@ use Rattle.std.proofs.lemmas.Bool.Decides.{nat_tests}
 use Rattle.tab_term.specs.View.{term}
 use Rattle.tab_term.specs.declared.term.Term.{Term}
 use Rattle.tab_model.specs.declared.data.Operation.{Operation}
-use Rattle.tab_model.specs.declared.data.Operation.TheVariants as op
 use Rattle.tab_model.specs.declared.data.Move.{Move}
 use Rattle.tab_model.specs.declared.data.Move.TheVariants.{Do, Open, Close, Undo}
 use Rattle.tab_model.specs.declared.data.Reply.{Reply}
@@ -22,9 +21,9 @@ use Rattle.tab_model.specs.declared.data.Schema.TheVariants.{Create, Remove, Add
 use Rattle.tab_model.specs.declared.data.Command.{Command}
 use Rattle.tab_model.specs.declared.data.Command.TheVariants as command
 use Rattle.tab_model.specs.declared.data.Part.{Part}
-use Rattle.tab_model.specs.Definitions.{Parsed, Good, Bad, parse_options, fits_def, is_indexed, position}
+use Rattle.tab_model.specs.Definitions.{Parsed, Good, Bad, parse_options, is_indexed, position}
 use Rattle.tab_model.specs.Worlds.{World, Table, find}
-use Rattle.tab_model.specs.Operations.{table_of, failure_in, failure, answer_at, answer_or}
+use Rattle.tab_model.specs.Operations.{table_of, failure_in, failure, answer_or}
 use Rattle.tab_model.specs.Alone.{Mid, start, after, replies, back_to, back, next, told}
 use Rattle.tab_model.specs.Ages.{Answer, Granted, Wait, Die}
 use Rattle.tab_model.specs.Schemas.{is_some_position, bad_parse, create_refusal, remove_refusal, add_refusal, del_refusal, schema_refusal, removed}
@@ -33,8 +32,9 @@ use Rattle.tab_model.specs.Outcome.{Ask, Join, Leave, Retry, Take, DoCommand, Ou
 use Rattle.tab_model.specs.Outcome as core
 use Rattle.tab_model.specs.Run.{Call, outcome_of, after_all, entries, log_of, replies_of, AllJoinEmpty}
 use Rattle.tab_model.specs.Log.{IsLegal}
-use Rattle.tab_model.specs.Callers.{Caller, Callers, newcomers, did, afresh, Said, Made, says, operated, retried, begun, hears_command, hears, commit_told, schema_told, done_told, command_told, entry_told, queued_told, answered_told, queue_by_command, queue_told, age_told, age_by_command, next_told, told_one, callers_after, log_told, queue_after, next_after, AreHeard}
+use Rattle.tab_model.specs.Callers.{Caller, Callers, newcomers, did, afresh, AnswerKind, Made, kind_of, operated, retried, begun, hears_command, hears, commit_told, schema_told, done_told, command_told, entry_told, queued_told, answered_told, queue_by_command, queue_told, age_told, age_by_command, next_told, told_one, callers_after, log_told, queue_after, next_after, AreHeard}
 use Rattle.tab_model.proofs.Seats.{eq_true, itself, found, seat_at-change, seat_at-push, seat_at-without, seat_at-map, mapped}
+use Rattle.tab_model.proofs.OperationAnswers.{answers}
 use Rattle.tab_model.proofs.RefusalLaws.{without-filter}
 use Rattle.tab_model.proofs.Schedules.{schedule_legal, schedule_told}
 use Rattle.tab_model.proofs.SoundSteps.{given_same, unwatched_same}
@@ -128,22 +128,8 @@ after-age m [] = refl
 after-age m (x ∷ xs) = after-age (next m x) xs ∙ next-age m x
 
 -- an operation's answer says that it was made
-either : (b : Bool) (r : Reply) (t : Table) (o : Operation) → says r ≡ Made → says (answer_at t o) ≡ Made → says (answer_or (if b then None else Some r) (Some t) o) ≡ Made
-either true r t o f g = g
-either false r t o f g = f
-
-answers : (x : Option Table) (o : Operation) → says (answer_or (failure_in x o) x o) ≡ Made
-answers None o = refl
-answers (Some t) (op.Read n k) = refl
-answers (Some t) (op.ReadForWrite n k) = refl
-answers (Some t) (op.Write r) = either (fits_def t.def (term r)) (reply.BadType (t.def).name r) t (op.Write r) refl refl
-answers (Some t) (op.Delete n k) = refl
-answers (Some t) (op.DeleteObject r) = either (fits_def t.def (term r)) (reply.BadType (t.def).name r) t (op.DeleteObject r) refl refl
-answers (Some t) (op.IndexRead n x a) = either (is_indexed t.def (position t.def (term a))) (reply.NoIndex n a) t (op.IndexRead n x a) refl refl
-answers (Some t) (op.MatchObject p) = either (fits_def t.def (term p)) (reply.BadType (t.def).name p) t (op.MatchObject p) refl refl
-answers (Some t) (op.AllKeys n) = refl
-answers (Some t) (op.ReadLockTable n) = refl
-answers (Some t) (op.WriteLockTable n) = refl
+is_made : (x : Option Table) (o : Operation) → kind_of (answer_or (failure_in x o) x o) ≡ Made
+is_made = answers (λ f r. kind_of r ≡ Made) (record { no_table = λ t. refl; bad_type = λ t r. refl; no_index = λ t a. refl; found = λ rs. refl; done = refl })
 
 -- ---- one session's step
 
@@ -272,10 +258,10 @@ module _ (σ : State) (s : Seat) (k : Caller) (here : seat_at σ.seats s.number 
 
   decided_heard : (over : List ℕ) (t : Transaction) (o : Operation) (a : Answer) → s.transaction ≡ Some t → is_waiting σ s.number ≡ false → Heard over (DoCommand (command.Do o)) (decided σ s t o a)
   decided_heard over t o Granted e free = record {
-    keeps = subst (λ (z : Said). Keeps σ s.number (operated k o (made σ s t (Do o) reply.Done).reply z) (made σ s t (Do o) reply.Done).state) (sym (answers (find (mid_of σ t).now (table_of o)) o))
+    keeps = subst (λ (z : AnswerKind). Keeps σ s.number (operated k o (made σ s t (Do o) reply.Done).reply z) (made σ s t (Do o) reply.Done).state) (sym (is_made (find (mid_of σ t).now (table_of o)) o))
         (made_kept σ.queue (request_in σ.queue s.number) t (Do o) reply.Done e same_requests waits);
     entry = refl;
-    queue = ap (λ (z : Said). queued_told s.number k o z σ.queue) (answers (find (mid_of σ t).now (table_of o)) o);
+    queue = ap (λ (z : AnswerKind). queued_told s.number k o z σ.queue) (is_made (find (mid_of σ t).now (table_of o)) o);
     next = refl;
   }
   decided_heard over t o Wait e free = record {
@@ -312,11 +298,11 @@ module _ (σ : State) (s : Seat) (k : Caller) (here : seat_at σ.seats s.number 
   retried_heard : (over : List ℕ) (t : Transaction) (q : Queued) (b : Bool) → s.transaction ≡ Some t → request_in σ.queue s.number ≡ Some q → Heard over Retry (core.retried σ s t q.operation b)
   retried_heard over t q false e asked = nothing_heard over Retry _ refl refl refl refl
   retried_heard over t q true e asked = record {
-    keeps = subst (λ (z : Said). Keeps σ s.number (retried k R z k.queued) τ) (sym (answers (find (mid_of σ t).now (table_of q.operation)) q.operation))
+    keeps = subst (λ (z : AnswerKind). Keeps σ s.number (retried k R z k.queued) τ) (sym (is_made (find (mid_of σ t).now (table_of q.operation)) q.operation))
         (subst (λ (z : Option Operation). Keeps σ s.number (retried k R Made z) τ) (sym (waits q asked))
         (made_kept (without_request σ.queue s.number) None t (Do q.operation) reply.Done e (request_in-without σ.queue s.number) (λ p h. cc)));
     entry = refl;
-    queue = ap (λ (z : Said). answered_told s.number z σ.queue) (answers (find (mid_of σ t).now (table_of q.operation)) q.operation) ∙ sym (without-filter σ.queue s.number);
+    queue = ap (λ (z : AnswerKind). answered_told s.number z σ.queue) (is_made (find (mid_of σ t).now (table_of q.operation)) q.operation) ∙ sym (without-filter σ.queue s.number);
     next = refl;
   }
     where

@@ -6,7 +6,6 @@ use Rattle.std.specs.Prelude.{if◌then◌else◌, is_some, ◌==◌}
 use Rattle.tab_term.specs.View.{term}
 use Rattle.tab_term.specs.declared.term.Term.{Term}
 use Rattle.tab_model.specs.declared.data.Operation.{Operation}
-use Rattle.tab_model.specs.declared.data.Operation.TheVariants as op
 use Rattle.tab_model.specs.declared.data.Move.{Move}
 use Rattle.tab_model.specs.declared.data.Move.TheVariants.{Do, Open, Close, Undo}
 use Rattle.tab_model.specs.declared.data.Reply.{Reply}
@@ -20,14 +19,15 @@ use Rattle.tab_model.specs.declared.data.InfoItem.{InfoItem}
 use Rattle.tab_model.specs.declared.data.InfoItem.TheVariants as item
 use Rattle.tab_model.specs.declared.data.Command.{Command}
 use Rattle.tab_model.specs.declared.data.Command.TheVariants as command
-use Rattle.tab_model.specs.Definitions.{Parsed, Good, Bad, parse_options, fits_def, is_indexed, position}
+use Rattle.tab_model.specs.Definitions.{Parsed, Good, Bad, parse_options, is_indexed, position}
 use Rattle.tab_model.specs.Worlds.{Table, find}
-use Rattle.tab_model.specs.Operations.{table_of, failure_in, failure, answer_at, answer_or}
+use Rattle.tab_model.specs.Operations.{table_of, failure}
 use Rattle.tab_model.specs.Alone.{Mid, start, after, back, next, told}
 use Rattle.tab_model.specs.Locks.{locks_of}
 use Rattle.tab_model.specs.Events.{is_failure}
 use Rattle.tab_model.proofs.Seats.{found, seat_at-change, itself, differs'}
 use Rattle.tab_model.proofs.StepsBySeat.{locks-more}
+use Rattle.tab_model.proofs.OperationAnswers.{answers}
 use Rattle.tab_model.proofs.SurvivorsRight.{reply_tells}
 use Rattle.tab_model.specs.Schemas.{is_some_position, bad_parse, create_refusal, remove_refusal, add_refusal, del_refusal, schema_refusal}
 use Rattle.tab_model.specs.Ages.{Answer, Granted, Wait, Die}
@@ -47,25 +47,8 @@ abbrev Fair : State → Option Seat → List Queued → Outcome → Type 0
 Fair σ s q o = Stands (standing o.reply) σ s q o.state
 
 -- the reply to a move is no refusal
-either : (b : Bool) (r : Reply) (t : Table) (o : Operation) → standing r ≡ Changes → standing (answer_at t o) ≡ Changes → standing (answer_or (if b then None else Some r) (Some t) o) ≡ Changes
-either true r t o f g = g
-either false r t o f g = f
-
-answers : (x : Option Table) (o : Operation) → standing (answer_or (failure_in x o) x o) ≡ Changes
-answers None o = refl
-answers (Some t) (op.Read n k) = refl
-answers (Some t) (op.ReadForWrite n k) = refl
-answers (Some t) (op.Write r) = either (fits_def t.def (term r)) (reply.BadType (t.def).name r) t (op.Write r) refl refl
-answers (Some t) (op.Delete n k) = refl
-answers (Some t) (op.DeleteObject r) = either (fits_def t.def (term r)) (reply.BadType (t.def).name r) t (op.DeleteObject r) refl refl
-answers (Some t) (op.IndexRead n x a) = either (is_indexed t.def (position t.def (term a))) (reply.NoIndex n a) t (op.IndexRead n x a) refl refl
-answers (Some t) (op.MatchObject p) = either (fits_def t.def (term p)) (reply.BadType (t.def).name p) t (op.MatchObject p) refl refl
-answers (Some t) (op.AllKeys n) = refl
-answers (Some t) (op.ReadLockTable n) = refl
-answers (Some t) (op.WriteLockTable n) = refl
-
 pub move_answers : (m : Mid) (x : Move) (r : Reply) → standing r ≡ Changes → standing (said (told m x) r) ≡ Changes
-move_answers m (Do o) r h = answers (find m.now (table_of o)) o
+move_answers m (Do o) r h = answers (λ f x. standing x ≡ Changes) (record { no_table = λ t. refl; bad_type = λ t r. refl; no_index = λ t a. refl; found = λ rs. refl; done = refl }) (find m.now (table_of o)) o
 move_answers m Open r h = refl
 move_answers m Close r h = refl
 move_answers m Undo r h = h

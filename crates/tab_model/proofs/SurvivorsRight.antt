@@ -1,37 +1,19 @@
 -- The surviving updates of a transaction, one after another, give the tables that it leaves; and what they leave of one table.
 use Rattle.std.proofs.Common.{◌≡◌, ℕ, List, [], ◌∷◌, ◌++◌, Bool, true, false, refl, ap, ◌∙◌, subst, Option, Some, None}
 use Rattle.std.specs.Prelude.{if◌then◌else◌, is_some, map}
-use Rattle.tab_term.specs.View.{term}
 use Rattle.tab_model.specs.declared.data.Operation.{Operation}
-use Rattle.tab_model.specs.declared.data.Operation.TheVariants as op
 use Rattle.tab_model.specs.declared.data.Move.{Move}
 use Rattle.tab_model.specs.declared.data.Move.TheVariants.{Do, Open, Close, Undo}
-use Rattle.tab_model.specs.declared.data.Reply.{Reply}
-use Rattle.tab_model.specs.declared.data.Reply.TheVariants as reply
 use Rattle.tab_model.specs.declared.data.Change.{Change}
-use Rattle.tab_model.specs.Definitions.{fits_def, is_indexed, position}
 use Rattle.tab_model.specs.Worlds.{World, Table, find}
-use Rattle.tab_model.specs.Operations.{table_of, failure_in, failure, answer_at, answer_or, answer, change_of_op, change_by, change_world, effect}
+use Rattle.tab_model.specs.Operations.{table_of, failure_in, failure, answer_or, answer, change_of_op, change_by, change_world, effect}
 use Rattle.tab_model.specs.Alone.{Mid, start, forgotten, back_to, back, next, after, replies}
+use Rattle.tab_model.proofs.OperationAnswers.{answers}
 use Rattle.tab_model.specs.Events.{drop_level, top_level, is_failure, with_change, survivors, surviving, change_all}
-
-either : (b : Bool) (r : Reply) (t : Table) (o : Operation) → is_failure (Some r) ≡ true → is_failure (Some (answer_at t o)) ≡ false → is_failure (Some (answer_or (if b then None else Some r) (Some t) o)) ≡ is_some (if b then None else Some r)
-either true r t o f g = g
-either false r t o f g = f
 
 -- a reply tells whether the operation failed
 pub reply_tells : (x : Option Table) (o : Operation) → is_failure (Some (answer_or (failure_in x o) x o)) ≡ is_some (failure_in x o)
-reply_tells None o = refl
-reply_tells (Some t) (op.Read n k) = refl
-reply_tells (Some t) (op.ReadForWrite n k) = refl
-reply_tells (Some t) (op.Write r) = either (fits_def t.def (term r)) (reply.BadType (t.def).name r) t (op.Write r) refl refl
-reply_tells (Some t) (op.Delete n k) = refl
-reply_tells (Some t) (op.DeleteObject r) = either (fits_def t.def (term r)) (reply.BadType (t.def).name r) t (op.DeleteObject r) refl refl
-reply_tells (Some t) (op.IndexRead n x a) = either (is_indexed t.def (position t.def (term a))) (reply.NoIndex n a) t (op.IndexRead n x a) refl refl
-reply_tells (Some t) (op.MatchObject p) = either (fits_def t.def (term p)) (reply.BadType (t.def).name p) t (op.MatchObject p) refl refl
-reply_tells (Some t) (op.AllKeys n) = refl
-reply_tells (Some t) (op.ReadLockTable n) = refl
-reply_tells (Some t) (op.WriteLockTable n) = refl
+reply_tells = answers (λ f r. is_failure (Some r) ≡ is_some f) (record { no_table = λ t. refl; bad_type = λ t r. refl; no_index = λ t a. refl; found = λ rs. refl; done = refl })
 
 change_all-push : (w : World) (cs : List Change) (c : Change) → change_all w (cs ++ c ∷ []) ≡ change_world (change_all w cs) c
 change_all-push w [] c = refl

@@ -1,5 +1,5 @@
 -- Worked rows, by computing.
-use Rattle.std.proofs.Common.{◌≡◌, ℕ, List, [], ◌∷◌, refl, Some, None, true, false}
+use Rattle.std.proofs.Common.{◌≡◌, ℕ, List, [], ◌∷◌, ◌++◌, refl, Some, None, true, false}
 use Rattle.std.specs.Prelude.{codes, pos, negsuc}
 use Rattle.tab_term.specs.Data.{PlainTerm, int, atom, list, PlainTerms, none, one_more, pair, triple}
 use Rattle.tab_term.specs.declared.term.Term.TheVariants as is
@@ -24,6 +24,7 @@ use Rattle.tab_model.specs.declared.data.Entry.TheVariants.{Changed, Subscribed}
 use Rattle.tab_model.specs.Log.{in_force}
 use Rattle.tab_model.specs.Outcome.{outcome, Retry, Leave, DoCommand}
 use Rattle.tab_model.specs.Run.{Call, replies_of}
+use Rattle.tab_model.specs.Callers.{newcomers, no_post, post_after}
 use Rattle.tab_model.proofs.WorkedFixtures.{num, record_of, rec, joins, joins_with, creates, call, call_over, does, begins, commits, writes, reads, subscribes, takes, told_in, bag}
 
 abbrev event : PlainTerm → PlainTerm
@@ -84,6 +85,18 @@ pub row_outbox_full : told_in (joins_with 1 1 ∷ creates 1 (codes "t") none ∷
     ≡ reply.Done ∷ reply.AtomicOk ∷ reply.AtomicOk ∷ reply.SubscribedHere ∷ reply.OutboxFull ∷ reply.OutboxFull ∷ reply.AtomicOk ∷ reply.Taken (Began (codes "t") Simple None) ∷ reply.Overflow 1 ∷ reply.Empty ∷ []
 unfolding outcome canon int_contents
 row_outbox_full = refl
+
+-- the post that callers tell of there: two marks and a deletion's mark were refused, and the overflow is then told
+abbrev full_run : List Call
+full_run = joins_with 1 1 ∷ creates 1 (codes "t") none ∷ creates 1 (codes "u") none ∷ subscribes 1 (codes "t") ∷ call_over 1 (DoCommand (command.Subscribe (codes "u") Simple false)) (1 ∷ []) ∷ call_over 1 (DoCommand (command.Unsubscribe (codes "t") Simple)) (1 ∷ []) ∷ call_over 1 (DoCommand (command.Schema (Remove (codes "t")))) (1 ∷ []) ∷ takes 1 ∷ []
+
+pub row_refusals_counted : post_after 1 newcomers 0 no_post full_run (told_in full_run) ≡ record { refusals = 3; overflow = Some 1 }
+unfolding outcome canon int_contents
+row_refusals_counted = refl
+
+pub row_overflow_told : post_after 1 newcomers 0 no_post (full_run ++ takes 1 ∷ []) (told_in (full_run ++ takes 1 ∷ [])) ≡ record { refusals = 3; overflow = None }
+unfolding outcome canon int_contents
+row_overflow_told = refl
 
 pub row_definitions : told_in (joins 1 ∷ creates 1 (codes "t") none ∷ creates 1 (codes "t") none ∷ creates 1 (codes "v") (one_more (pair (atom (codes "type")) (atom (codes "ordered_set"))) none) ∷ creates 1 (codes "v") (one_more (pair (atom (codes "attributes")) (list (one_more (atom (codes "k")) none))) none) ∷ call 1 (DoCommand (command.Schema (Remove (codes "v")))) ∷ [])
     ≡ reply.Done ∷ reply.AtomicOk ∷ reply.AlreadyExists (codes "t") ∷ reply.BadDefinition (codes "v") (is.Tuple (one_more (atom (codes "type")) (one_more (atom (codes "ordered_set")) none))) ∷ reply.BadDefinition (codes "v") (is.Atom (codes "attributes")) ∷ reply.NoTable (codes "v") ∷ []
@@ -256,6 +269,12 @@ pub row_aborted_child : told_in (joins 1 ∷ creates 1 (codes "t") none ∷ subs
     ≡ reply.Done ∷ reply.AtomicOk ∷ reply.SubscribedHere ∷ reply.Taken (Began (codes "t") Simple None) ∷ reply.Tid 1 ∷ reply.Done ∷ reply.Tid 1 ∷ reply.Done ∷ reply.UserAbort (is.Atom (codes "why")) ∷ reply.Atomic 1 ∷ reply.Taken (Batch 1 (plain_terms (event (write1 (codes "t") 1 (codes "a")) ∷ []))) ∷ reply.Empty ∷ []
 unfolding outcome canon int_contents
 row_aborted_child = refl
+
+-- a child that a failing operation ends: its write has no event and isn't in the table
+pub row_failed_child : told_in (joins 1 ∷ creates 1 (codes "t") none ∷ subscribes 1 (codes "t") ∷ takes 1 ∷ begins 1 ∷ writes 1 (codes "t") 1 (codes "a") ∷ begins 1 ∷ writes 1 (codes "t") 2 (codes "b") ∷ reads 1 (codes "nosuch") 1 ∷ commits 1 ∷ takes 1 ∷ takes 1 ∷ begins 1 ∷ reads 1 (codes "t") 2 ∷ reads 1 (codes "t") 1 ∷ [])
+    ≡ reply.Done ∷ reply.AtomicOk ∷ reply.SubscribedHere ∷ reply.Taken (Began (codes "t") Simple None) ∷ reply.Tid 1 ∷ reply.Done ∷ reply.Tid 1 ∷ reply.Done ∷ reply.NoTable (codes "nosuch") ∷ reply.Atomic 1 ∷ reply.Taken (Batch 1 (plain_terms (event (write1 (codes "t") 1 (codes "a")) ∷ []))) ∷ reply.Empty ∷ reply.Tid 2 ∷ reply.Found none ∷ reply.Found (plain_terms (rec (codes "t") 1 (codes "a") ∷ [])) ∷ []
+unfolding outcome canon int_contents
+row_failed_child = refl
 
 -- a table's deletion ends the subscriptions to it, and to no other
 pub row_deletion_ends : in_force 1 (Subscribed 1 (codes "t") Simple false ∷ Subscribed 1 (codes "u") Detailed false ∷ Changed (Remove (codes "t")) [] ∷ []) (codes "t") ≡ None

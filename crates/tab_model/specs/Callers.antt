@@ -1,6 +1,6 @@
 -- The log as the callers can tell it: read off what they asked and were told, and nothing else (this project's own: the
 -- history that a run shows from outside).
-use Rattle.std.specs.Prelude.{◌≡◌, ℕ, ◌<◌, ◌+◌, not, List, [], ◌∷◌, ◌++◌, ◌==◌, if◌then◌else◌, Option, Some, None}
+use Rattle.std.specs.Prelude.{◌≡◌, ℕ, ◌<◌, ◌+◌, ◌-◌, ◌^◌, min, not, List, [], ◌∷◌, ◌++◌, ◌==◌, if◌then◌else◌, Option, Some, None}
 use Rattle.std.specs.List.{filter}
 use Rattle.tab_model.specs.declared.data.Operation.{Operation}
 use Rattle.tab_model.specs.declared.data.Move.{Move}
@@ -12,8 +12,9 @@ use Rattle.tab_model.specs.declared.data.Command.{Command}
 use Rattle.tab_model.specs.declared.data.Command.TheVariants as command
 use Rattle.tab_model.specs.declared.data.Entry.{Entry}
 use Rattle.tab_model.specs.declared.data.Entry.TheVariants.{Committed, Changed, Subscribed, Unsubscribed}
-use Rattle.tab_model.specs.State.{Transaction, Queued, State, transaction_at, request_in}
-use Rattle.tab_model.specs.Outcome.{Ask, Leave, Retry, DoCommand}
+use Rattle.tab_model.specs.Log.{has_session, commits_from}
+use Rattle.tab_model.specs.State.{Transaction, Outbox, Queued, State, transaction_at, request_in}
+use Rattle.tab_model.specs.Outcome.{Ask, Join, Leave, Retry, Take, DoCommand}
 use Rattle.tab_model.specs.Run.{Call, entries}
 
 -- what a session's caller knows: its moves since its outermost begin or its last restart, with what they were told, and the
@@ -35,30 +36,30 @@ abbrev pub afresh : Caller → ℕ → Caller
 afresh k age = record { transaction = record { age = age; moves = []; told = [] }; queued = k.queued }
 
 -- what an answer says of the operation that was asked for: it was not made, it waits, it began anew, it was made
-pub data Said : Type 0 where
-  NotMade Waits BeginsAnew Made : Said
+pub data AnswerKind : Type 0 where
+  NotMade Waits BeginsAnew Made : AnswerKind
 
-abbrev pub says : Reply → Said
-says reply.BadCommand = NotMade
-says reply.NoTransaction = NotMade
-says reply.WaitingNow = NotMade
-says reply.InTransaction = NotMade
-says reply.NotWaiting = NotMade
-says reply.NoMemory = NotMade
-says (reply.SystemLimit l) = NotMade
-says reply.BadSession = NotMade
-says reply.Waiting = Waits
-says reply.Restart = BeginsAnew
-says r = Made
+abbrev pub kind_of : Reply → AnswerKind
+kind_of reply.BadCommand = NotMade
+kind_of reply.NoTransaction = NotMade
+kind_of reply.WaitingNow = NotMade
+kind_of reply.InTransaction = NotMade
+kind_of reply.NotWaiting = NotMade
+kind_of reply.NoMemory = NotMade
+kind_of (reply.SystemLimit l) = NotMade
+kind_of reply.BadSession = NotMade
+kind_of reply.Waiting = Waits
+kind_of reply.Restart = BeginsAnew
+kind_of r = Made
 
-abbrev pub operated : Caller → Operation → Reply → Said → Caller
+abbrev pub operated : Caller → Operation → Reply → AnswerKind → Caller
 operated k o r NotMade = k
 operated k o r Waits = record { transaction = k.transaction; queued = Some o }
 operated k o r BeginsAnew = afresh k k.transaction.age
 operated k o r Made = did k (Do o) (Some r)
 
 -- a retry's answer belongs to the operation that waits
-abbrev pub retried : Caller → Reply → Said → Option Operation → Caller
+abbrev pub retried : Caller → Reply → AnswerKind → Option Operation → Caller
 retried k r Made (Some o) = did k (Do o) (Some r)
 retried k r x o = k
 
@@ -80,13 +81,13 @@ abbrev pub hears_command : Caller → Command → Reply → Caller
 hears_command k command.Begin r = begun k r
 hears_command k command.Commit r = closed k r
 hears_command k (command.Abort reason) r = undone k r
-hears_command k (command.Do o) r = operated k o r (says r)
+hears_command k (command.Do o) r = operated k o r (kind_of r)
 hears_command k (command.OneShot parts retries) r = begun k r
 hears_command k c r = k
 
 -- what a caller knows after one step of its own
 abbrev pub hears : Caller → Ask → Reply → Caller
-hears k Retry r = retried k r (says r) k.queued
+hears k Retry r = retried k r (kind_of r) k.queued
 hears k (DoCommand c) r = hears_command k c r
 hears k a r = k
 
@@ -120,12 +121,12 @@ abbrev pub without_own : ℕ → List Queued → List Queued
 without_own n qs = filter (λ q. not (q.session == n)) qs
 
 -- an operation joins the queue where it is told to wait
-abbrev pub queued_told : ℕ → Caller → Operation → Said → List Queued → List Queued
+abbrev pub queued_told : ℕ → Caller → Operation → AnswerKind → List Queued → List Queued
 queued_told n k o Waits qs = qs ++ record { session = n; age = k.transaction.age; operation = o } ∷ []
 queued_told n k o x qs = qs
 
 -- it leaves the queue where its answer comes, and where its session aborts or leaves
-abbrev pub answered_told : ℕ → Said → List Queued → List Queued
+abbrev pub answered_told : ℕ → AnswerKind → List Queued → List Queued
 answered_told n Made qs = without_own n qs
 answered_told n x qs = qs
 
@@ -139,13 +140,13 @@ left_told n r qs = qs
 
 abbrev pub queue_by_command : ℕ → Caller → Command → Reply → List Queued → List Queued
 queue_by_command n k (command.Abort reason) r qs = aborted_told n r qs
-queue_by_command n k (command.Do o) r qs = queued_told n k o (says r) qs
+queue_by_command n k (command.Do o) r qs = queued_told n k o (kind_of r) qs
 queue_by_command n k c r qs = qs
 
 -- the queue after one step of a caller
 abbrev pub queue_told : ℕ → Caller → Ask → Reply → List Queued → List Queued
 queue_told n k Leave r qs = left_told n r qs
-queue_told n k Retry r qs = answered_told n (says r) qs
+queue_told n k Retry r qs = answered_told n (kind_of r) qs
 queue_told n k (DoCommand c) r qs = queue_by_command n k c r qs
 queue_told n k a r qs = qs
 
@@ -163,6 +164,61 @@ abbrev pub next_told : Caller → Ask → Reply → ℕ → ℕ
 next_told k (DoCommand c) r a = age_by_command k c r a
 next_told k x r a = a
 
+-- what callers can tell of a session's post: how often it refused, and an overflow that its session was not told yet
+pub record Post : Type 0 where
+  pub refusals : ℕ
+  pub overflow : Option ℕ
+
+-- before its session joins
+abbrev pub no_post : Post
+no_post = record { refusals = 0; overflow = None }
+
+-- one refusal more, up to the greatest 64 bit number
+abbrev pub next_refusals : ℕ → ℕ
+next_refusals refusals = min (refusals + 1) (2 ^ 64 - 1)
+
+-- a post that refuses an entry's item overflows; an overflow that was not told before it is forgotten
+abbrev pub overflowing : ℕ → Post → Post
+overflowing i p = record { refusals = next_refusals p.refusals; overflow = Some i }
+
+-- after an entry, with so many commits before it: an overflow has the number of its commit, or of the next one where it is
+-- the mark of a deletion that is refused
+abbrev pub post_by_entry : ℕ → ℕ → Option Entry → Post → Post
+post_by_entry n commits (Some (Committed i m age xs rs over)) p = if has_session over n then overflowing i p else p
+post_by_entry n commits (Some (Changed c over)) p = if has_session over n then overflowing (commits + 1) p else p
+post_by_entry n commits e p = p
+
+-- a join that is done hands the post in, with its refusals so far
+abbrev pub post_joined : Outbox → Reply → Post → Post
+post_joined b reply.Done p = record { refusals = b.refusals; overflow = None }
+post_joined b r p = p
+
+-- a Take that is answered by the overflow tells it
+abbrev pub post_taken : Reply → Post → Post
+post_taken (reply.Overflow i) p = record { refusals = p.refusals; overflow = None }
+post_taken r p = p
+
+-- a mark that the post refuses is no overflow
+abbrev pub post_marked : Reply → Post → Post
+post_marked reply.OutboxFull p = record { refusals = next_refusals p.refusals; overflow = p.overflow }
+post_marked r p = p
+
+abbrev pub post_by_command : Command → Reply → Post → Post
+post_by_command (command.Subscribe t l dump) r p = post_marked r p
+post_by_command (command.Unsubscribe t l) r p = post_marked r p
+post_by_command c r p = p
+
+-- a post after an answer to its own session
+abbrev pub post_by_answer : Ask → Reply → Post → Post
+post_by_answer (Join b) r p = post_joined b r p
+post_by_answer Take r p = post_taken r p
+post_by_answer (DoCommand c) r p = post_by_command c r p
+post_by_answer a r p = p
+
+-- session n's post after one step of session m, and the step's entry
+abbrev pub post_told : ℕ → ℕ → ℕ → Ask → Reply → Option Entry → Post → Post
+post_told n commits m a r e p = post_by_entry n commits e (if n == m then post_by_answer a r p else p)
+
 -- who knows what, by session
 abbrev pub Callers : Type 0
 Callers = ℕ → Caller
@@ -172,6 +228,9 @@ newcomers m = newcomer
 
 abbrev pub told_one : Callers → Call → Reply → Callers
 told_one ks c r m = if m == c.session then hears (ks c.session) c.ask r else ks m
+
+abbrev pub told_entry : Callers → Call → Reply → Option Entry
+told_entry ks c r = entry_told c.session c.over (ks c.session) c.ask r
 
 -- what callers know after calls that were answered so
 abbrev pub callers_after : Callers → List Call → List Reply → Callers
@@ -183,7 +242,7 @@ callers_after ks (c ∷ cs) (r ∷ rs) = callers_after (told_one ks c r) cs rs
 abbrev pub log_told : Callers → List Call → List Reply → List Entry
 log_told ks [] rs = []
 log_told ks (c ∷ cs) [] = []
-log_told ks (c ∷ cs) (r ∷ rs) = entries (entry_told c.session c.over (ks c.session) c.ask r) ++ log_told (told_one ks c r) cs rs
+log_told ks (c ∷ cs) (r ∷ rs) = entries (told_entry ks c r) ++ log_told (told_one ks c r) cs rs
 
 -- the queue that they tell
 abbrev pub queue_after : Callers → List Queued → List Call → List Reply → List Queued
@@ -196,6 +255,13 @@ abbrev pub next_after : Callers → ℕ → List Call → List Reply → ℕ
 next_after ks a [] rs = a
 next_after ks a (c ∷ cs) [] = a
 next_after ks a (c ∷ cs) (r ∷ rs) = next_after (told_one ks c r) (next_told (ks c.session) c.ask r a) cs rs
+
+-- the post of a session that they tell; so many commits were before
+abbrev pub post_after : ℕ → Callers → ℕ → Post → List Call → List Reply → Post
+post_after n ks commits p [] rs = p
+post_after n ks commits p (c ∷ cs) [] = p
+post_after n ks commits p (c ∷ cs) (r ∷ rs) =
+    post_after n (told_one ks c r) (commits_from commits (entries (told_entry ks c r))) (post_told n commits c.session c.ask r (told_entry ks c r) p) cs rs
 
 -- each open transaction is what its caller knows, each queued operation the one that its caller was last told to wait for
 pub record AreHeard (σ : State) (ks : Callers) : Type 0 where

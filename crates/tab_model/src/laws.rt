@@ -35,10 +35,10 @@ ghost use Rattle.tab_model.specs.Log.{entered, serial, serial_from, stands, in_f
 ghost use Rattle.tab_model.specs.Since.{changes_on, changes_told, deletes, StandsSince, AllStood, AllAged, RowsSince};
 ghost use Rattle.tab_model.specs.Slices.{dump_of, owed, slice, slice_after};
 ghost use Rattle.tab_model.specs.State.{State, Seat, Transaction, Queued, new, seat_at, transaction_at, request_in, ages_of, age_at, moves_at, told_at, level_in, IsSound};
-ghost use Rattle.tab_model.specs.Outcome.{Ask, Retry, DoCommand, outcome};
+ghost use Rattle.tab_model.specs.Outcome.{Ask, Retry, Take, DoCommand, outcome};
 ghost use Rattle.tab_model.specs.Refusals.{AsBefore, standing, counted, requested, queued, empty_again, restarted, Restarts, EndsLevel, IsSole};
 ghost use Rattle.tab_model.specs.Run.{Call, AllJoinEmpty, Begins, leaves, JoinsEmpty, IsTied, outcome_of, after_all, log_of, replies_of, taken_of, entries, taken_now};
-ghost use Rattle.tab_model.specs.Callers.{Callers, newcomers, entry_told, told_one, callers_after, log_told, queue_after, next_after, AreHeard};
+ghost use Rattle.tab_model.specs.Callers.{Callers, newcomers, entry_told, told_one, callers_after, log_told, queue_after, next_after, no_post, post_after, AreHeard};
 
 /// For every schedule of steps: commits are numbered in order and were told what they are told alone in that order;
 /// the tables are those of running them so; each open transaction was told what it is told alone on the tables as they
@@ -61,8 +61,12 @@ pub fn every_schedule()
 /// state. So what they were told is legal. Each open transaction's moves and replies are those that its caller knows, and
 /// right on the tables as they are now; each queued operation is the one that its caller was last told to wait for. The queue
 /// is the operations told to wait that were not answered since, dropped by an abort or left; the next age is one more than
-/// the outermost begins. Each step keeps what callers know, and its entry is the one that its caller tells.
-#[tactic(auto, using(crate::proofs::CallersLemmas::new_heard, crate::proofs::CallersLemmas::schedule_log, crate::proofs::CallersLemmas::schedule_open, crate::proofs::CallersLemmas::schedule_queued, crate::proofs::CallersLemmas::schedule_heard_legal, crate::proofs::CallersLemmas::schedule_heard_told, crate::proofs::CallersLemmas::schedule_queue, crate::proofs::CallersLemmas::schedule_next))]
+/// the outermost begins. An overflow that a session was not told yet is its last one, with the number of its commit or, where
+/// the mark of a deletion was refused, of the next commit; a Take that is told an overflow is told that one. A post's refusals
+/// are those of its own puts: as many as it was handed in with, and one more, up to the greatest 64 bit number, for each mark
+/// that its session is told doesn't fit, and for each overflow. Each step keeps what callers know, and its entry is the one
+/// that its caller tells.
+#[tactic(auto, using(crate::proofs::CallersLemmas::new_heard, crate::proofs::CallersLemmas::schedule_log, crate::proofs::CallersLemmas::schedule_open, crate::proofs::CallersLemmas::schedule_queued, crate::proofs::CallersLemmas::schedule_heard_legal, crate::proofs::CallersLemmas::schedule_heard_told, crate::proofs::CallersLemmas::schedule_queue, crate::proofs::CallersLemmas::schedule_next, crate::proofs::CallersPosts::schedule_overflow, crate::proofs::CallersPosts::schedule_told_overflow, crate::proofs::CallersPosts::schedule_refusals))]
 pub fn callers_tell_the_log()
     ensures log { (limits : Limits) (calls : List Call) → log_of (new limits) calls ≡ log_told newcomers calls (replies_of (new limits) calls) }
     ensures legal { (limits : Limits) (calls : List Call) → AllJoinEmpty calls → IsLegal [] 0 (log_told newcomers calls (replies_of (new limits) calls)) }
@@ -71,6 +75,9 @@ pub fn callers_tell_the_log()
     ensures queued { (limits : Limits) (calls : List Call) (n : ℕ) (q : Queued) → request_in (after_all (new limits) calls).queue n ≡ Some q → (callers_after newcomers calls (replies_of (new limits) calls) n).queued ≡ Some q.operation }
     ensures queue { (limits : Limits) (calls : List Call) → (after_all (new limits) calls).queue ≡ queue_after newcomers [] calls (replies_of (new limits) calls) }
     ensures next_age { (limits : Limits) (calls : List Call) → (after_all (new limits) calls).next_age ≡ next_after newcomers 1 calls (replies_of (new limits) calls) }
+    ensures overflow { (limits : Limits) (calls : List Call) (n : ℕ) (s : Seat) → seat_at (after_all (new limits) calls).seats n ≡ Some s → s.overflow ≡ (post_after n newcomers 0 no_post calls (replies_of (new limits) calls)).overflow }
+    ensures told_overflow { (limits : Limits) (calls : List Call) (over : List ℕ) (n i : ℕ) → (outcome (after_all (new limits) calls) over n Take).reply ≡ reply.Overflow i → (post_after n newcomers 0 no_post calls (replies_of (new limits) calls)).overflow ≡ Some i }
+    ensures refusals { (limits : Limits) (calls : List Call) (n : ℕ) (s : Seat) → seat_at (after_all (new limits) calls).seats n ≡ Some s → s.outbox.refusals ≡ (post_after n newcomers 0 no_post calls (replies_of (new limits) calls)).refusals }
     ensures new_heard { (limits : Limits) → AreHeard (new limits) newcomers }
     ensures step { (σ : State) (ks : Callers) (c : Call) → AreHeard σ ks → AreHeard (outcome_of σ c).state (told_one ks c (outcome_of σ c).reply) × (entry_told c.session c.over (ks c.session) c.ask (outcome_of σ c).reply ≡ (outcome_of σ c).entry) }
 {}
