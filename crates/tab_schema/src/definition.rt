@@ -4,7 +4,7 @@ ghost use Rattle.std.specs.Prelude.{◌≡◌, ◌||◌, ◌+◌, pos, length, I
 ghost use Rattle.tab_term.specs.Data.{atom as atom_of, int as int_of};
 ghost use Rattle.tab_term.specs.Same.{same};
 ghost use Rattle.tab_term.specs.View.{term};
-ghost use Rattle.tab_model.specs.Definitions.{fits_def, position as position_of, position_from, add_number as plus, less_number as minus, with_indexes};
+ghost use Rattle.tab_model.specs.Definitions.{fits_def, position as position_of, position_from, add_number as plus, has_number, less_number as minus, with_indexes};
 
 use std::alloc::{AllocError, Global};
 use tab_model::{Atoms, Numbers, TableDef};
@@ -55,6 +55,18 @@ fn is_number(named: &Term, number: usize) -> bool
         Term::Int(int) => *int == number as i128,
         _ => false,
     }
+}
+
+/// Whether there is an index at this position.
+pub fn has_index(def: &TableDef, position: usize) -> bool
+    ensures { result ≡ has_number def.now.indexes position }
+{
+    for index in &def.indexes.items {
+        if *index == position as u64 {
+            return true;
+        }
+    }
+    false
 }
 
 /// The definition with an index at this position too.

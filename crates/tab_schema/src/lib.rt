@@ -8,6 +8,6 @@ mod definition;
 mod fault;
 mod options;
 
-pub use definition::{fits, position, with_index, without_index};
+pub use definition::{fits, has_index, position, with_index, without_index};
 pub use fault::DefFault;
-pub use options::parse_options;
+pub use options::{index_fault, parse_options};

@@ -40,7 +40,7 @@ pub fn parse_options(alloc: Global, table: &Atom, options: &[Term]) -> Result<Ta
     match value_of(table, "index", options) {
         None => Ok(def),
         Some(Term::List(entries)) => indexed(alloc, def, entries.as_slice()),
-        Some(other) => Err(index_fault(alloc, other)),
+        Some(other) => Err(DefFault::Bad(index_fault(alloc, other)?)),
     }
 }
 
@@ -156,7 +156,7 @@ fn indexed(alloc: Global, def: TableDef, entries: &[Term]) -> Result<TableDef, D
         }
     }
     match fault {
-        Some(entry) => Err(index_fault(alloc, entry)),
+        Some(entry) => Err(DefFault::Bad(index_fault(alloc, entry)?)),
         None => Ok(TableDef {
             indexes: Numbers { items: indexes },
             ..def
@@ -164,17 +164,8 @@ fn indexed(alloc: Global, def: TableDef, entries: &[Term]) -> Result<TableDef, D
     }
 }
 
-/// `{index, X}`.
-fn index_fault(alloc: Global, named: &Term) -> DefFault
-    ensures { Blames (λ what. what ≡ pair (atom_of (codes "index")) (term named.now)) result }
-{
-    match pair_of_index(alloc, named) {
-        Ok(pair) => DefFault::Bad(pair),
-        Err(_) => DefFault::NoMemory,
-    }
-}
-
-fn pair_of_index(alloc: Global, named: &Term) -> Result<Term, AllocError>
+/// `{index, X}`, which tells of X that it names no attribute that an index can be on.
+pub fn index_fault(alloc: Global, named: &Term) -> Result<Term, AllocError>
     ensures { IfOk result (λ t. term t ≡ pair (atom_of (codes "index")) (term named.now)) }
 {
     let mut parts = Vec::with_capacity(alloc, 2)?;
