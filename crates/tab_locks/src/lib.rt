@@ -12,8 +12,6 @@ mod laws;
 mod lock_table;
 mod on_table;
 mod question;
-#[cfg(test)]
-mod tests;
 
 pub use laws::a_lock_more_is_one_member_more;
 pub use lock_table::{Conflict, LockTable};

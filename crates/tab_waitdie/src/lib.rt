@@ -6,8 +6,6 @@
 #![tactic(auto)]
 
 mod ages;
-#[cfg(test)]
-mod tests;
 mod waiting;
 
 pub use ages::{Ages, Answer, Retried, no_chain_of_waits_leads_back};

@@ -3,8 +3,8 @@
 ghost use Rattle.std.specs.Prelude.{◌<◌};
 
 use super::{Asked, request, retry, table};
-use crate::{Ages, Answer, Retried};
 use std::alloc::{AllocError, Global};
+use tab_waitdie::{Ages, Answer, Retried};
 
 #[derive(Drop)]
 struct Plain {

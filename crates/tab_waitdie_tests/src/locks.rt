@@ -1,5 +1,7 @@
-use crate::{Conflict, LockTable};
+//! The lock table, step by step.
+
 use std::alloc::{AllocError, Global};
+use tab_locks::{Conflict, LockTable};
 use tab_model::{Lock, Mode, What};
 use tab_term::{Atom, Term};
 

@@ -1,7 +1,9 @@
-use crate::{Ages, Answer, Retried};
+//! Requests and retries, call by call.
+
 use std::alloc::{AllocError, Global};
 use tab_model::{Lock, Mode, What};
 use tab_term::{Atom, Term};
+use tab_waitdie::{Ages, Answer, Retried};
 
 mod plain;
 
