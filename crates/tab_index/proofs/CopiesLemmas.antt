@@ -25,7 +25,7 @@ copied_before copies new copy t rest p q = ap (λ z. list_of z ++ rest) p ∙ mo
     moved (u ∷ ts) = ap (λ z. term u ∷ z) (moved ts)
 
 module _ (test : PlainTerm → Bool) where
-  next : (records : List Term) (i : ℕ) (item : Term) (passes : Bool) → i < length records → item ≡ get_or records i item → test (term item) ≡ passes
+  pub next : (records : List Term) (i : ℕ) (item : Term) (passes : Bool) → i < length records → item ≡ get_or records i item → test (term item) ≡ passes
       → filter test (list_of (drop i records)) ≡ (if passes then term item ∷ filter test (list_of (drop (i + 1) records)) else filter test (list_of (drop (i + 1) records)))
   next records i item passes h is k =
       at_drop_more (λ us. filter test (list_of us)) records i item h
