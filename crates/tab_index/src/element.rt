@@ -10,7 +10,6 @@ use std::marker::Model;
 use tab_term::{Term, Terms};
 
 /// What stands where a record has no element: the empty list.
-#[derive(Drop)]
 pub struct Nothing {
     list: Term,
 }
@@ -29,6 +28,14 @@ impl Model for Nothing {
     ghost view = { λ a. term a.list };
 
     ghost invariant = { λ a. term a.list ≡ list_of no_terms };
+}
+
+// A derived Drop would be taken apart, variant by variant, at each exit of each caller.
+impl Drop for Nothing {
+    fn drop(self) {
+        let Nothing { list } = self;
+        drop(list);
+    }
 }
 
 impl Nothing {
