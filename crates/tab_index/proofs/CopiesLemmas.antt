@@ -8,6 +8,7 @@ use Rattle.tab_term.specs.View.{term, terms}
 use Rattle.tab_term.specs.Data.{PlainTerm, PlainTerms}
 use Rattle.tab_model.specs.Names.{plain_terms, terms_list}
 use Rattle.tab_model.specs.Tables.{Rows}
+use Rattle.tab_rows.proofs.Cells.{plain-list}
 
 abbrev pub list_of : List Term → Rows
 list_of ts = terms_list (terms ts)
@@ -15,6 +16,9 @@ list_of ts = terms_list (terms ts)
 pub round : (xs : Rows) → terms_list (plain_terms xs) ≡ xs
 round [] = refl
 round (x ∷ xs) = ap (λ ys. x ∷ ys) (round xs)
+
+pub all_copied : (copies : List Term) (all : Rows) (found : PlainTerms) → found ≡ terms copies → list_of copies ≡ all → found ≡ plain_terms all
+all_copied copies all found p h = p ∙ sym (plain-list (terms copies)) ∙ ap plain_terms h
 
 -- one more copy, before what is left
 copied_before : (copies new : List Term) (copy t : Term) (rest : Rows) → new ≡ copies ++ copy ∷ [] → copy ≡ t → list_of new ++ rest ≡ list_of copies ++ (term t ∷ rest)

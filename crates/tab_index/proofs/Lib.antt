@@ -1,3 +1,4 @@
 pub mod IndexOfLemmas
 pub mod RowsLemmas
 pub mod CopiesLemmas
+pub mod ReadLemmas

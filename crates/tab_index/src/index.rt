@@ -201,10 +201,11 @@ impl Index {
         ensures { IfOk result (λ found. found ≡ plain_terms (index_read rows.now.1 self.now.position (term value.now))) }
     {
         let mut found = Vec::new(alloc);
-        if let Some(keys) = self.keys.get(value) {
-            for key in keys.iter() {
-                self.append(alloc, &mut found, rows.at(key), value)?;
-            }
+        let Some(keys) = self.keys.get(value) else {
+            return Ok(Terms::from_vec(found));
+        };
+        for key in keys.iter() {
+            self.append(alloc, &mut found, rows.at(key), value)?;
         }
         Ok(Terms::from_vec(found))
     }
