@@ -2,3 +2,4 @@ pub mod IndexOfLemmas
 pub mod RowsLemmas
 pub mod CopiesLemmas
 pub mod ReadLemmas
+pub mod BoundKeyLemmas
