@@ -8,6 +8,7 @@ use Rattle.tab_term.specs.View.{term, terms}
 use Rattle.tab_term.specs.Data.{PlainTerm, PlainTerms}
 use Rattle.tab_model.specs.Names.{plain_terms, terms_list}
 use Rattle.tab_model.specs.Tables.{Rows}
+use Rattle.tab_rows.proofs.Cells.{plain-list}
 
 abbrev pub list_of : List Term → Rows
 list_of ts = terms_list (terms ts)
@@ -15,6 +16,9 @@ list_of ts = terms_list (terms ts)
 pub round : (xs : Rows) → terms_list (plain_terms xs) ≡ xs
 round [] = refl
 round (x ∷ xs) = ap (λ ys. x ∷ ys) (round xs)
+
+pub all_copied : (copies : List Term) (all : Rows) (found : PlainTerms) → found ≡ terms copies → list_of copies ≡ all → found ≡ plain_terms all
+all_copied copies all found p h = p ∙ sym (plain-list (terms copies)) ∙ ap plain_terms h
 
 -- one more copy, before what is left
 copied_before : (copies new : List Term) (copy t : Term) (rest : Rows) → new ≡ copies ++ copy ∷ [] → copy ≡ t → list_of new ++ rest ≡ list_of copies ++ (term t ∷ rest)
@@ -25,7 +29,7 @@ copied_before copies new copy t rest p q = ap (λ z. list_of z ++ rest) p ∙ mo
     moved (u ∷ ts) = ap (λ z. term u ∷ z) (moved ts)
 
 module _ (test : PlainTerm → Bool) where
-  next : (records : List Term) (i : ℕ) (item : Term) (passes : Bool) → i < length records → item ≡ get_or records i item → test (term item) ≡ passes
+  pub next : (records : List Term) (i : ℕ) (item : Term) (passes : Bool) → i < length records → item ≡ get_or records i item → test (term item) ≡ passes
       → filter test (list_of (drop i records)) ≡ (if passes then term item ∷ filter test (list_of (drop (i + 1) records)) else filter test (list_of (drop (i + 1) records)))
   next records i item passes h is k =
       at_drop_more (λ us. filter test (list_of us)) records i item h

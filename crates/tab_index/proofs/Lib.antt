@@ -1,3 +1,5 @@
 pub mod IndexOfLemmas
 pub mod RowsLemmas
 pub mod CopiesLemmas
+pub mod ReadLemmas
+pub mod BoundKeyLemmas

@@ -3,7 +3,6 @@
 ghost use Rattle.std.specs.Prelude.{◌≡◌, ℕ, [], ◌∷◌, ◌++◌, not, ◌&&◌, IfOk, OnOk, IsTrue, map, true};
 ghost use Rattle.std.specs.List.{filter, list_any};
 ghost use Rattle.tab_term.specs.Order.{term_cmp};
-ghost use Rattle.tab_term.specs.Data.{list as list_of, none as no_terms};
 ghost use Rattle.tab_term.specs.Same.{same};
 ghost use Rattle.tab_term.specs.View.{term, terms};
 ghost use Rattle.tab_model.specs.Names.{plain_terms, terms_list};
@@ -13,7 +12,7 @@ ghost use Rattle.tab_model.specs.declared.data.Kind.TheVariants as kind;
 ghost use Rattle.tab_map.specs.Entries.{lookup, Ascends};
 ghost use Rattle.tab_index.specs.IndexOf.{keys_in, IsIndexOf, IsWith, IsWithout, has_value};
 
-use crate::element::{element, key, nothing};
+use crate::element::{Nothing, element, key};
 use std::alloc::{AllocError, Global};
 use tab_map::{Map, Set};
 use tab_model::{Change, Kind};
@@ -104,8 +103,8 @@ impl Index {
         ensures position { self.new.position ≡ self.old.position }
         ensures ok { OnOk result (IsWith self.old.keys self.new.keys (element_of self.old.position (term row.now)) (key_of_row (term row.now))) }
     {
-        let none = nothing(alloc);
-        self.put(alloc, element(row, self.position, &none), key(row, &none))
+        let nothing = Nothing::new(alloc);
+        self.put(alloc, element(row, self.position, &nothing), key(row, &nothing))
     }
 
     // Takes out what the key's records have at the position.
@@ -114,9 +113,9 @@ impl Index {
         ensures position { self.new.position ≡ self.old.position }
         ensures ok { OnOk result (IsIndexOf (delete_in rows.now.1 (term key.now)) self.new.position self.new.keys) }
     {
-        let none = nothing(alloc);
+        let nothing = Nothing::new(alloc);
         for row in rows.at(key) {
-            self.take(alloc, element(row, self.position, &none), key)?;
+            self.take(alloc, element(row, self.position, &nothing), key)?;
         }
         Ok(())
     }
@@ -128,9 +127,9 @@ impl Index {
         ensures position { self.new.position ≡ self.old.position }
         ensures ok { OnOk result (IsIndexOf (put_in kind.Set rows.now.1 (term row.now)) self.new.position self.new.keys) }
     {
-        let none = nothing(alloc);
-        let key = key(row, &none);
-        if self.has_only(rows.at(key), element(row, self.position, &none), &none) {
+        let nothing = Nothing::new(alloc);
+        let key = key(row, &nothing);
+        if self.has_only(rows.at(key), element(row, self.position, &nothing), &nothing) {
             return Ok(());
         }
         self.forget(alloc, rows, key)?;
@@ -138,12 +137,11 @@ impl Index {
     }
 
     // Whether there is one record, and it has the value.
-    fn has_only(&self, records: &[Term], value: &Term, none: &Term) -> bool
-        requires { term none.now ≡ list_of no_terms }
+    fn has_only(&self, records: &[Term], value: &Term, nothing: &Nothing) -> bool
         ensures { IsTrue result → map (element_of self.now.position) (terms_list (terms records.now)) ≡ term value.now ∷ [] }
     {
         match records {
-            [only] => element(only, self.position, none) == value,
+            [only] => element(only, self.position, nothing) == value,
             _ => false,
         }
     }
@@ -155,25 +153,24 @@ impl Index {
         ensures position { self.new.position ≡ self.old.position }
         ensures ok { OnOk result (IsIndexOf (delete_object_in rows.now.1 (term row.now)) self.new.position self.new.keys) }
     {
-        let none = nothing(alloc);
-        let key = key(row, &none);
-        let value = element(row, self.position, &none);
-        if self.has_another(rows.at(key), row, value, &none) {
+        let nothing = Nothing::new(alloc);
+        let key = key(row, &nothing);
+        let value = element(row, self.position, &nothing);
+        if self.has_another(rows.at(key), row, value, &nothing) {
             return Ok(());
         }
         self.take(alloc, value, key)
     }
 
     // Whether a record that isn't this one has the value.
-    fn has_another(&self, records: &[Term], row: &Term, value: &Term, none: &Term) -> bool
-        requires { term none.now ≡ list_of no_terms }
+    fn has_another(&self, records: &[Term], row: &Term, value: &Term, nothing: &Nothing) -> bool
         ensures { result ≡ list_any (has_value self.now.position (term value.now)) (delete_object_in (terms_list (terms records.now)) (term row.now)) }
     {
         for other in records {
             if row == other {
                 continue;
             }
-            if element(other, self.position, none) == value {
+            if element(other, self.position, nothing) == value {
                 return true;
             }
         }
@@ -204,10 +201,11 @@ impl Index {
         ensures { IfOk result (λ found. found ≡ plain_terms (index_read rows.now.1 self.now.position (term value.now))) }
     {
         let mut found = Vec::new(alloc);
-        if let Some(keys) = self.keys.get(value) {
-            for key in keys.iter() {
-                self.append(alloc, &mut found, rows.at(key), value)?;
-            }
+        let Some(keys) = self.keys.get(value) else {
+            return Ok(Terms::from_vec(found));
+        };
+        for key in keys.iter() {
+            self.append(alloc, &mut found, rows.at(key), value)?;
         }
         Ok(Terms::from_vec(found))
     }
@@ -222,9 +220,9 @@ impl Index {
     ) -> Result<(), AllocError>
         ensures { OnOk result (terms_list (terms found.new.items) ≡ terms_list (terms found.old.items) ++ index_read (terms_list (terms records.now)) self.now.position (term value.now)) }
     {
-        let none = nothing(alloc);
+        let nothing = Nothing::new(alloc);
         for row in records {
-            if element(row, self.position, &none) != value {
+            if element(row, self.position, &nothing) != value {
                 continue;
             }
             found.push(row.try_clone(alloc)?)?;

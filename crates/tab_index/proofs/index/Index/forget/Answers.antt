@@ -1,0 +1,35 @@
+use Rattle.std.proofs.Common.{◌≡◌, ◌+◌, drop, sym, ap, ap₂, ◌∙◌, subst, arith}
+use Rattle.tab_term.specs.View.{term}
+use Rattle.tab_model.specs.Names.{terms_list}
+use Rattle.tab_model.specs.Tables.{at, delete}
+use Rattle.tab_model.specs.WholeTables.{element}
+use Rattle.tab_index.specs.IndexOf.{IsWithout, IsIndexOf, has_pair}
+use Rattle.tab_index.proofs.CopiesLemmas.{list_of, round}
+use Rattle.tab_index.proofs.RowsLemmas.{one_gone, none_else, all_gone}
+use Rattle.tab_index.proofs.index.Index.forget.Goals as goal
+
+pub loop-row-preserved : goal.loop-row-preserved
+loop-row-preserved c =
+    let p = c.args.self.now.position in
+    let k = c.args.key.now in
+    let es = c.loop-row.self.keys in
+    let fs = c.take.new.self.keys in
+    let value = c.element.ensures ∙ ap (λ q. element q (term c.row-item.result)) c.loop-row.invariant.position in
+    let less = subst (λ x. IsWithout es fs x (term k)) value c.in_ok-take.ensures.ok in
+    record {
+      position = c.take.ensures.position ∙ c.loop-row.invariant.position;
+      pairs = λ v j. one_gone p c.at-row-items.result.now c.loop-row.row-index c.row-item.result k es fs v j _ c.loop-row-test.true c.row-item.is less (c.loop-row.invariant.pairs v j);
+      filled = less.filled c.loop-row.invariant.filled;
+    }
+
+pub returns-clause-ok : goal.returns-clause-ok
+returns-clause-ok c =
+    let p = c.args.self.now.position in
+    let k = c.args.key.now in
+    let rows = c.args.rows.now.1 in
+    let es = c.args.self.now.keys in
+    let fs = c.loop-row.self.keys in
+    let items = c.at-row-items.result.now in
+    subst (λ q. IsIndexOf (delete rows (term k)) q fs) (sym c.loop-row.invariant.position)
+    (all_gone p rows (list_of items) k es fs (ap terms_list c.at-row-items.ensures ∙ round (at rows (term k))) c.requires c.loop-row.invariant.filled
+      (λ v j. none_else p items c.loop-row.row-index k v j (has_pair fs v j) c.loop-row-test.false ∙ c.loop-row.invariant.pairs v j))

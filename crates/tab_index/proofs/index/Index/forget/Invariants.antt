@@ -1,0 +1,15 @@
+use Rattle.std.proofs.Common.{◌≡◌, drop}
+use Rattle.tab_term.specs.declared.term.Term.{Term}
+use Rattle.tab_term.specs.View.{term}
+use Rattle.tab_index.specs.IndexOf.{has_pair, IsFilled}
+use Rattle.tab_index.proofs.CopiesLemmas.{list_of}
+use Rattle.tab_index.proofs.RowsLemmas.{unless}
+use Rattle.tab_index.proofs.index.Index.forget.Given as goal
+
+-- once the other records are done, the pairs are those that are left when all are
+abbrev pub invariant-loop-row : goal.invariant-loop-row
+invariant-loop-row l = record {
+  position : l.self.position ≡ l.fn.self.position;
+  pairs : (v j : Term) → unless l.fn.self.position (list_of (drop l.row-index l.row-items)) l.key v j (has_pair l.self.keys v j) ≡ unless l.fn.self.position (list_of l.row-items) l.key v j (has_pair l.fn.self.keys v j);
+  filled : IsFilled l.self.keys;
+}
