@@ -1,3 +1,4 @@
+pub mod InfoLemmas
 pub mod NamedLemmas
 pub mod RunsLemmas
 pub mod SingleLemmas

@@ -109,4 +109,4 @@ all_named_remove (e ∷ es) n k = cases (all_named_remove es n k.1) (bytes_cmp n
     cases ih Greater = (k.0, ih)
 
 pub named_remove : (es : List Entry) (n : List ℕ) → AreNamed es → AreNamed (remove_entry bytes_cmp n es)
-named_remove es n w = record { ascends = ascends_remove nat_list_cmp_total n es w.ascends; named = all_named_remove es n w.named }
+named_remove es n w = record { ascends = ascends_remove bytes_cmp n es w.ascends; named = all_named_remove es n w.named }

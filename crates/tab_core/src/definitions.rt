@@ -1,8 +1,10 @@
 //! Schema commands, and what is told of tables.
 
-ghost use Rattle.std.specs.Prelude.{◌≡◌, IfOk, Some};
+ghost use Rattle.std.specs.Prelude.{◌≡◌, IfOk};
+ghost use Rattle.tab_model.specs.declared.data.Reply.TheVariants as reply;
 ghost use Rattle.tab_model.specs.declared.data.Schema.TheVariants as schema;
-ghost use Rattle.tab_model.specs.Names.{names as names_of, numbers as numbers_of};
+ghost use Rattle.tab_term.specs.View.{term};
+ghost use Rattle.tab_model.specs.Names.{names as names_of, number as number_of, numbers as numbers_of};
 ghost use Rattle.tab_model.specs.Outcome.{table_info as info_of, info_at};
 ghost use Rattle.tab_model.specs.Worlds.{find};
 ghost use Rattle.tab_core.specs.Redefines.{Redefines};
@@ -11,7 +13,7 @@ use crate::tables::Tables;
 use std::alloc::{AllocError, Global};
 use tab_index::IndexedTable;
 use tab_model::{Atoms, InfoItem, Numbers, Reply, Schema, TableInfo};
-use tab_schema::{DefFault, index_fault, parse_options, position};
+use tab_schema::{DefFault, has_index, index_fault, parse_options, position};
 use tab_term::{Atom, Term, Terms};
 
 /// What a schema command comes to, but for locks and limits.
@@ -22,7 +24,7 @@ pub enum Redefined {
 }
 
 /// The tables after a schema command. These stay as they were.
-pub fn redefined(
+pub fn redefine(
     alloc: Global,
     tables: &Tables,
     command: &Schema,
@@ -82,7 +84,7 @@ fn add_index(
         return Ok(Redefined::Refused(Reply::NoTable(name.try_clone(alloc)?)));
     };
     match position(table.def(), attribute) {
-        Some(position) if !table.is_indexed(position as u64) => {
+        Some(position) if !has_index(table.def(), position) => {
             let indexed = table.add_index(alloc, position as u64)?;
             Ok(Redefined::Done(tables.placed(alloc, indexed)?))
         }
@@ -106,7 +108,7 @@ fn del_index(
         return Ok(Redefined::Refused(Reply::NoTable(name.try_clone(alloc)?)));
     };
     match position(table.def(), attribute) {
-        Some(position) if table.is_indexed(position as u64) => {
+        Some(position) if has_index(table.def(), position) => {
             let bare = table.del_index(alloc, position as u64)?;
             Ok(Redefined::Done(tables.placed(alloc, bare)?))
         }
@@ -159,7 +161,13 @@ fn numbers(alloc: Global, positions: &Numbers) -> Result<Terms, AllocError>
 {
     let mut terms = Vec::with_capacity(alloc, positions.items.len())?;
     for position in &positions.items {
-        terms.push(Term::Int(*position as i128))?;
+        terms.push(number_term(*position))?;
     }
     Ok(Terms::from_vec(terms))
+}
+
+fn number_term(number: u64) -> Term
+    ensures { term result ≡ number_of number }
+{
+    Term::Int(number as i128)
 }

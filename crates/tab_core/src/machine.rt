@@ -8,7 +8,7 @@ ghost use Rattle.tab_model.specs.Outcome.{Ask, Join, Leave, Retry, Take, DoComma
 ghost use Rattle.tab_core.specs.Served.{serves};
 ghost use Rattle.tab_core.specs.Single.{asked, no_outbox, IsAlone};
 
-use crate::definitions::{Redefined, redefined, table_info};
+use crate::definitions::{Redefined, redefine, table_info};
 use crate::operate::{Effect, Performed, perform};
 use crate::step::{Step, Stepped};
 use crate::tables::Tables;
@@ -184,7 +184,7 @@ impl Machine {
         if self.open.is_some() {
             return Ok(Stepped::without_entry(Reply::InTransaction));
         }
-        match redefined(self.alloc, &self.tables, &pending.schema)? {
+        match redefine(self.alloc, &self.tables, &pending.schema)? {
             Redefined::Refused(reply) => Ok(Stepped::without_entry(reply)),
             Redefined::Done(_) if !self.has_room(&pending.schema) => {
                 Ok(Stepped::without_entry(Reply::SystemLimit(Limit::Tables)))

@@ -134,11 +134,11 @@ fn perform_in(
     requires { find tables.now (table_of_operation operation.now) ≡ Some table.now }
     ensures { IfOk result (Performs tables.now operation.now) }
 {
-    match answer(alloc, table, operation)? {
+    match answered(alloc, table, operation)? {
         Answer::Failed(reply) => Ok(Performed::Failed(reply)),
         Answer::Found(found) => {
             let told = found.try_clone(alloc)?;
-            let tables = effect(alloc, tables, table, operation)?;
+            let tables = tables_after(alloc, tables, table, operation)?;
             Ok(Performed::Done(Effect {
                 reply: found.into_reply(),
                 told: told.into_reply(),
@@ -149,7 +149,7 @@ fn perform_in(
 }
 
 /// What an operation answers on its table.
-fn answer(
+fn answered(
     alloc: Global,
     table: &IndexedTable,
     operation: &Operation,
@@ -216,7 +216,7 @@ fn bad_type(alloc: Global, table: &IndexedTable, row: &Term) -> Result<Reply, Al
 }
 
 /// The tables after an operation that doesn't fail.
-fn effect(
+fn tables_after(
     alloc: Global,
     tables: &Tables,
     table: &IndexedTable,
