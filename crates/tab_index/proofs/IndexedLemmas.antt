@@ -1,8 +1,12 @@
 -- Lists of indexes: their positions, and what they are of.
-use Rattle.std.proofs.Common.{◌≡◌, ◌≢◌, ℕ, ◌+◌, ◌<◌, ◌≤◌, List, [], ◌∷◌, ◌++◌, length, take, drop, get_or, map, sym, ap, ◌∙◌, subst, append_assoc, arith, get_or-set_other, get_or-set_same, below_more}
+use Rattle.std.proofs.Common.{◌≡◌, ◌≢◌, Bool, true, false, refl, ℕ, ◌+◌, ◌<◌, ◌≤◌, List, [], ◌∷◌, ◌++◌, length, take, drop, get_or, map, sym, ap, ◌∙◌, subst, append_assoc, arith, get_or-set_other, get_or-set_same, below_more}
 use Rattle.std.proofs.Math.ListN.{set}
 use Rattle.std.proofs.Math.Seq.{take-append_seam}
-use Rattle.std.proofs.lemmas.List.{at_drop_more, map-append, length-set}
+use Rattle.std.specs.Prelude.{if◌then◌else◌, eqb, nat_lt}
+use Rattle.std.proofs.lemmas.Bool.{eq-eqb, eqb-true}
+use Rattle.std.proofs.lemmas.List.{at_drop_more, map-append, length-set, take-append-drop}
+use Rattle.std.proofs.lemmas.List.Elements.{All-append, All-take, All-cons, All-drop}
+use Rattle.tab_model.specs.Definitions.{add_number, less_number}
 use Rattle.tab_model.specs.Tables.{Rows}
 use Rattle.tab_index.specs.IndexOf.{IsIndexOf}
 use Rattle.tab_index.specs.declared.index.Index.{Index}
@@ -46,3 +50,42 @@ others_left rows xs i y before = λ k d l h.
 -- all are changed, and the vector has them
 pub all_done : (rows : Rows) (xs rest : List Index) (n i : ℕ) → n ≡ length xs → length xs ≤ i → FirstAreOf rows xs i → AreIndexesOf rows (take n (xs ++ rest))
 all_done rows xs rest n i is h done = subst (AreIndexesOf rows) (sym (ap (λ m. take m (xs ++ rest)) is ∙ take-append_seam xs rest)) (λ k d l. done k d (omega arith))
+
+-- ---- positions
+
+pub number_there : (p q : ℕ) (ps : List ℕ) → q ≡ p → add_number p (q ∷ ps) ≡ q ∷ ps
+number_there p q ps e = ap (λ b. if b then q ∷ ps else (if nat_lt p q then p ∷ q ∷ ps else q ∷ add_number p ps)) (eq-eqb p q (sym e))
+
+-- the position is that of the next index
+pub place_there : (p : ℕ) (xs : List Index) (n : ℕ) (x : Index) → n < length xs → x.position ≡ p → x ≡ get_or xs n x
+    → add_number p (positions xs) ≡ positions (take n xs) ++ add_number p (positions (drop n xs)) → add_number p (positions xs) ≡ positions xs
+place_there p xs n x h e is before =
+    before
+    ∙ ap (λ z. positions (take n xs) ++ z)
+      (at_drop_more (λ ys. add_number p (positions ys)) xs n x h ∙ ap (λ y. add_number p (y.position ∷ positions (drop (n + 1) xs))) (sym is)
+        ∙ number_there p x.position (positions (drop (n + 1) xs)) e ∙ ap (λ y. y.position ∷ positions (drop (n + 1) xs)) is ∙ sym (at_drop_more positions xs n x h))
+    ∙ sym (map-append (λ j. j.position) (take n xs) (drop n xs)) ∙ ap positions (take-append-drop n xs)
+
+number_other : (p q : ℕ) (ps : List ℕ) → (q ≡ p → ⊥) → less_number p (q ∷ ps) ≡ q ∷ less_number p ps
+number_other p q ps n = cases (eqb p q) refl
+  where
+    cases : (b : Bool) → eqb p q ≡ b → (if b then less_number p ps else q ∷ less_number p ps) ≡ q ∷ less_number p ps
+    cases true e = absurd (n (sym (eqb-true p q e)))
+    cases false e = refl
+
+-- one more of the indexes at other positions
+pub other_kept : (p : ℕ) (xs others new : List Index) (i : ℕ) (x y : Index) (all : List ℕ) → i < length xs → x ≡ get_or xs i x → (x.position ≡ p → ⊥) → y ≡ x → new ≡ others ++ y ∷ []
+    → positions others ++ less_number p (positions (drop i xs)) ≡ all → positions new ++ less_number p (positions (drop (i + 1) xs)) ≡ all
+other_kept p xs others new i x y all h is n e more before =
+    ap (λ z. positions z ++ rest) more ∙ ap (λ z. z ++ rest) (map-append (λ j. j.position) others (y ∷ []))
+    ∙ append_assoc (positions others) (y.position ∷ []) rest
+    ∙ ap (λ z. positions others ++ (z.position ∷ rest)) e
+    ∙ ap (λ z. positions others ++ z) (sym (at_drop_more (λ ys. less_number p (positions ys)) xs i x h ∙ ap (λ z. less_number p (z.position ∷ positions (drop (i + 1) xs))) (sym is) ∙ number_other p x.position (positions (drop (i + 1) xs)) n))
+    ∙ before
+  where
+    rest : List ℕ
+    rest = less_number p (positions (drop (i + 1) xs))
+
+-- an index put at a place
+pub put_at : (rows : Rows) (xs : List Index) (n : ℕ) (y : Index) → AreIndexesOf rows xs → IsOf rows y → AreIndexesOf rows (take n xs ++ y ∷ drop n xs)
+put_at rows xs n y h here = All-append (IsOf rows) (take n xs) (y ∷ drop n xs) (All-take (IsOf rows) n xs h) (All-cons (IsOf rows) y (drop n xs) here (All-drop (IsOf rows) n xs h))

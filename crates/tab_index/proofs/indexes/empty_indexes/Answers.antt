@@ -3,7 +3,7 @@ use Rattle.std.proofs.lemmas.List.Elements.{All-push}
 use Rattle.tab_index.specs.Indexed.{AreIndexesOf}
 use Rattle.tab_index.specs.IndexOf.{IsIndexOf}
 use Rattle.tab_index.proofs.IndexedLemmas.{next_position}
-use Rattle.tab_index.proofs.table.empty_indexes.Goals as goal
+use Rattle.tab_index.proofs.indexes.empty_indexes.Goals as goal
 
 pub loop-position-preserved : goal.loop-position-preserved
 loop-position-preserved c =
