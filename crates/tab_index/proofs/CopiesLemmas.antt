@@ -1,8 +1,8 @@
 -- Records that a loop copies, or leaves out, one after another.
-use Rattle.std.proofs.Common.{◌≡◌, ℕ, ◌+◌, ◌<◌, List, [], ◌∷◌, ◌++◌, Bool, true, false, length, drop, get_or, refl, sym, ap, ◌∙◌, append-nil, append_assoc}
+use Rattle.std.proofs.Common.{◌≡◌, ℕ, ◌+◌, ◌<◌, List, [], ◌∷◌, ◌++◌, Bool, true, false, length, take, drop, get_or, refl, sym, ap, ◌∙◌, append-nil, append_assoc}
 use Rattle.std.specs.Prelude.{if◌then◌else◌}
 use Rattle.std.specs.List.{filter}
-use Rattle.std.proofs.lemmas.List.{at_drop_more}
+use Rattle.std.proofs.lemmas.List.{at_drop_more, take_more}
 use Rattle.tab_term.specs.declared.term.Term.{Term}
 use Rattle.tab_term.specs.View.{term, terms}
 use Rattle.tab_term.specs.Data.{PlainTerm, PlainTerms}
@@ -19,6 +19,14 @@ round (x ∷ xs) = ap (λ ys. x ∷ ys) (round xs)
 
 pub all_copied : (copies : List Term) (all : Rows) (found : PlainTerms) → found ≡ terms copies → list_of copies ≡ all → found ≡ plain_terms all
 all_copied copies all found p h = p ∙ sym (plain-list (terms copies)) ∙ ap plain_terms h
+
+-- the records up to the next
+pub one_taken : (records : List Term) (i : ℕ) (item : Term) → i < length records → item ≡ get_or records i item → list_of (take (i + 1) records) ≡ list_of (take i records) ++ term item ∷ []
+one_taken records i item h is = ap list_of (take_more records i item h) ∙ pushed (take i records) ∙ ap (λ t. list_of (take i records) ++ term t ∷ []) (sym is)
+  where
+    pushed : (ts : List Term) → list_of (ts ++ get_or records i item ∷ []) ≡ list_of ts ++ term (get_or records i item) ∷ []
+    pushed [] = refl
+    pushed (u ∷ ts) = ap (λ z. term u ∷ z) (pushed ts)
 
 -- one more copy, before what is left
 copied_before : (copies new : List Term) (copy t : Term) (rest : Rows) → new ≡ copies ++ copy ∷ [] → copy ≡ t → list_of new ++ rest ≡ list_of copies ++ (term t ∷ rest)

@@ -3,3 +3,4 @@ pub mod RowsLemmas
 pub mod CopiesLemmas
 pub mod ReadLemmas
 pub mod BoundKeyLemmas
+pub mod IndexedLemmas

@@ -1,5 +1,6 @@
 -- A table's records with their indexes.
-use Rattle.std.specs.Prelude.{◌≡◌, ℕ, List, [], ◌∷◌, true, map}
+use Rattle.std.specs.Prelude.{◌≡◌, ◌≤◌, ℕ, List, [], ◌∷◌, ◌++◌, true, map, length, take, drop}
+use Rattle.tab_model.specs.Definitions.{add_number}
 use Rattle.std.specs.List.{All}
 use Rattle.tab_index.specs.declared.index.Index.{Index}
 use Rattle.tab_index.specs.IndexOf.{IsIndexOf}
@@ -13,6 +14,11 @@ positions indexes = map (λ i. i.position) indexes
 -- each is an index of these records
 abbrev pub AreIndexesOf : Rows → List Index → Type 0
 AreIndexesOf rows indexes = All (λ i. IsIndexOf rows i.position i.keys) indexes
+
+-- where a new position belongs among those of indexes
+pub record IsPlace (indexes : List Index) (p n : ℕ) : Type 0 where
+  pub within : n ≤ length indexes
+  pub added : add_number p (positions indexes) ≡ positions (take n indexes) ++ p ∷ positions (drop n indexes)
 
 -- what a table keeps
 pub record IsIndexed (def : TableDef) (rows : Kind × Rows) (indexes : List Index) : Type 0 where

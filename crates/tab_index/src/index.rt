@@ -6,7 +6,7 @@ ghost use Rattle.tab_term.specs.Order.{term_cmp};
 ghost use Rattle.tab_term.specs.Same.{same};
 ghost use Rattle.tab_term.specs.View.{term, terms};
 ghost use Rattle.tab_model.specs.Names.{plain_terms, terms_list};
-ghost use Rattle.tab_model.specs.Tables.{at, key as key_of_row, apply, put as put_in, delete as delete_in, delete_object as delete_object_in, is_ordered};
+ghost use Rattle.tab_model.specs.Tables.{Rows as RowsOf, key as key_of_row, apply, put as put_in, delete as delete_in, delete_object as delete_object_in, is_ordered};
 ghost use Rattle.tab_model.specs.WholeTables.{element as element_of, index_read};
 ghost use Rattle.tab_model.specs.declared.data.Kind.TheVariants as kind;
 ghost use Rattle.tab_map.specs.Entries.{lookup, Ascends};
@@ -105,6 +105,29 @@ impl Index {
     {
         let nothing = Nothing::new(alloc);
         self.put(alloc, element(row, self.position, &nothing), key(row, &nothing))
+    }
+
+    /// The index of these records at the position, in one walk.
+    pub fn of(alloc: Global, position: u64, rows: &Rows) -> Result<Index, AllocError>
+        ensures position { IfOk result (λ index. index.position ≡ position) }
+        ensures index { IfOk result (λ index. IsIndexOf rows.now.1 index.position index.keys) }
+    {
+        let mut index = Index::new(position);
+        for (_, records) in rows.walk() {
+            index.add_all(alloc, records.as_slice())?;
+        }
+        Ok(index)
+    }
+
+    // Adds what each of these records has at the position.
+    fn add_all(&mut self, alloc: Global, records: &[Term]) -> Result<(), AllocError>
+        ensures position { self.new.position ≡ self.old.position }
+        ensures ok { OnOk result ((rows : RowsOf) → IsIndexOf rows self.old.position self.old.keys → IsIndexOf (rows ++ terms_list (terms records.now)) self.new.position self.new.keys) }
+    {
+        for row in records {
+            self.add(alloc, row)?;
+        }
+        Ok(())
     }
 
     // Takes out what the key's records have at the position.

@@ -8,6 +8,7 @@
 mod definition;
 mod element;
 mod index;
+mod indexes;
 mod matching;
 mod table;
 

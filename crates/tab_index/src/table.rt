@@ -4,18 +4,20 @@ ghost use Rattle.tab_term.specs.View.{term, terms};
 ghost use Rattle.tab_model.specs.Names.{plain_terms};
 ghost use Rattle.tab_model.specs.Tables.{at, keys as keys_of_rows, apply as apply_in, applied as applied_in, is_ordered};
 ghost use Rattle.tab_model.specs.WholeTables.{index_read as index_read_in, match_object as match_object_in};
-ghost use Rattle.tab_model.specs.Definitions.{has_number};
+ghost use Rattle.tab_model.specs.Definitions.{has_number, with_indexes, add_number, less_number};
 ghost use Rattle.tab_model.specs.Worlds.{with_rows, with_def};
 ghost use Rattle.tab_rows.specs.Joined.{joined, IsInOrder};
 ghost use Rattle.tab_index.specs.Indexed.{positions, AreIndexesOf};
 
+use crate::definition::with_positions;
 use crate::index::Index;
+use crate::indexes::{empty_indexes, new_place, other_indexes, positions_of, shared_indexes};
 use crate::matching;
 use std::alloc::{AllocError, Global};
 use std::marker::Model;
 use std::sync::Arc;
 use tab_map::Iter;
-use tab_model::{Change, Numbers, TableDef};
+use tab_model::{Change, TableDef};
 use tab_rows::Rows;
 use tab_term::{Term, Terms};
 
@@ -145,6 +147,40 @@ impl IndexedTable {
         matching::match_object(alloc, &self.rows, pattern)
     }
 
+    /// The table with an index at the position, which is made in one walk. Where there is one already, the same table.
+    pub fn add_index(&self, alloc: Global, position: u64) -> Result<IndexedTable, AllocError>
+        ensures { IfOk result (λ table. table ≡ with_def self.now (with_indexes self.now.def (add_number position self.now.def.indexes))) }
+    {
+        let Some(place) = new_place(&self.indexes, position) else {
+            return self.share(alloc);
+        };
+        let index = Index::of(alloc, position, &self.rows)?;
+        let mut indexes = shared_indexes(alloc, &self.indexes)?;
+        indexes.insert(place, index)?;
+        self.with_indexes(alloc, indexes)
+    }
+
+    /// The table without an index at the position.
+    pub fn del_index(&self, alloc: Global, position: u64) -> Result<IndexedTable, AllocError>
+        ensures { IfOk result (λ table. table ≡ with_def self.now (with_indexes self.now.def (less_number position self.now.def.indexes))) }
+    {
+        let indexes = other_indexes(alloc, &self.indexes, position)?;
+        self.with_indexes(alloc, indexes)
+    }
+
+    fn with_indexes(&self, alloc: Global, indexes: Vec<Index>) -> Result<IndexedTable, AllocError>
+        requires { AreIndexesOf self.now.rows indexes.items }
+        ensures { IfOk result (λ table. table ≡ with_def self.now (with_indexes self.now.def (positions indexes.items))) }
+    {
+        let numbers = positions_of(alloc, &indexes)?;
+        let def = with_positions(alloc, &self.def, numbers)?;
+        Ok(IndexedTable {
+            def: Arc::new(alloc, def)?,
+            rows: self.rows.share()?,
+            indexes,
+        })
+    }
+
     /// The table after the changes, in turn. This one stays as it was, and shares what did not change.
     pub fn updated(&self, alloc: Global, changes: &[Change]) -> Result<IndexedTable, AllocError>
         ensures { IfOk result (λ table. table ≡ with_rows self.now (applied_in self.now.def.kind self.now.rows changes.now)) }
@@ -167,27 +203,6 @@ impl IndexedTable {
         }
         Ok(IndexedTable { def, rows, indexes })
     }
-}
-
-fn empty_indexes(alloc: Global, numbers: &Numbers) -> Result<Vec<Index>, AllocError>
-    ensures positions { IfOk result (λ indexes. positions indexes.items ≡ numbers.now) }
-    ensures indexes { IfOk result (λ indexes. AreIndexesOf [] indexes.items) }
-{
-    let mut indexes = Vec::with_capacity(alloc, numbers.items.len())?;
-    for position in &numbers.items {
-        indexes.push(Index::new(*position))?;
-    }
-    Ok(indexes)
-}
-
-fn shared_indexes(alloc: Global, indexes: &Vec<Index>) -> Result<Vec<Index>, AllocError>
-    ensures { IfOk result (λ same. same.items ≡ indexes.now.items) }
-{
-    let mut same = Vec::with_capacity(alloc, indexes.len())?;
-    for index in indexes {
-        same.push(index.share()?)?;
-    }
-    Ok(same)
 }
 
 fn change_indexes(

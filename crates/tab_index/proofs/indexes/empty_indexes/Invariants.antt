@@ -1,6 +1,6 @@
 use Rattle.std.proofs.Common.{◌≡◌, ◌++◌, [], drop}
 use Rattle.tab_index.specs.Indexed.{positions, AreIndexesOf}
-use Rattle.tab_index.proofs.table.empty_indexes.Given as goal
+use Rattle.tab_index.proofs.indexes.empty_indexes.Given as goal
 
 abbrev pub invariant-loop-position : goal.invariant-loop-position
 invariant-loop-position l = record {

@@ -1,0 +1,28 @@
+use Rattle.std.proofs.Common.{◌≡◌, ◌+◌, ◌∷◌, drop, sym, ap, ap₂, ◌∙◌, subst, true}
+use Rattle.std.proofs.lemmas.List.{at_drop_more}
+use Rattle.tab_model.specs.Tables.{apply, applied, is_ordered}
+use Rattle.tab_model.proofs.ChangeLaws.{ordered-apply}
+use Rattle.tab_index.specs.Indexed.{IsIndexed, AreIndexesOf}
+use Rattle.tab_index.proofs.table.IndexedTable.applied.Goals as goal
+
+pub loop-change-preserved : goal.loop-change-preserved
+loop-change-preserved c =
+    let was = c.loop-change.rows in
+    let new = c.change_rows.new.rows in
+    let kind = c.self.inside.def.value.kind in
+    let change = c.change-item.result in
+    let kept = c.loop-change.invariant.kept in
+    let changes = c.args.changes.now in
+    let i = c.loop-change.change-index in
+    let rows = ap (λ v. v.1) c.in_ok-change_rows.ensures in
+    record {
+      kept = record {
+        kind = ap (λ v. v.0) c.in_ok-change_rows.ensures ∙ kept.kind;
+        ordered = ap is_ordered rows ∙ ordered-apply was.0 was.1 change kept.ordered;
+        positions_are = c.in_ok-change_indexes.ensures.positions ∙ kept.positions_are;
+        indexes_are = subst (λ r. AreIndexesOf r c.change_indexes.new.indexes.items) (sym rows) c.in_ok-change_indexes.ensures.indexes;
+      };
+      rows_are =
+          ap (λ r. applied kind r (drop (i + 1) changes)) (rows ∙ ap₂ (λ k d. apply k was.1 d) kept.kind c.change-item.is)
+          ∙ sym (at_drop_more (applied kind was.1) changes i change c.loop-change-test.true) ∙ c.loop-change.invariant.rows_are;
+    }

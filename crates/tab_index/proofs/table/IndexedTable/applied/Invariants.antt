@@ -1,0 +1,11 @@
+use Rattle.std.proofs.Common.{◌≡◌, drop}
+use Rattle.tab_model.specs.Tables.{applied}
+use Rattle.tab_index.specs.Indexed.{IsIndexed}
+use Rattle.tab_index.proofs.table.IndexedTable.applied.Given as goal
+
+-- the changes that are left lead to the same records
+abbrev pub invariant-loop-change : goal.invariant-loop-change
+invariant-loop-change l = record {
+  kept : IsIndexed l.def.value l.rows l.indexes.items;
+  rows_are : applied l.def.value.kind l.rows.1 (drop l.change-index l.changes) ≡ applied l.def.value.kind l.initial.rows.1 l.changes;
+}

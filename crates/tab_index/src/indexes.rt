@@ -1,0 +1,75 @@
+//! Lists of indexes, one for each position.
+
+ghost use Rattle.std.specs.Prelude.{◌≡◌, [], IfOk, MatchOption};
+ghost use Rattle.tab_model.specs.Definitions.{add_number, less_number};
+ghost use Rattle.tab_model.specs.Tables.{Rows as RowsOf};
+ghost use Rattle.tab_index.specs.Indexed.{positions, AreIndexesOf, IsPlace};
+
+use crate::index::Index;
+use std::alloc::{AllocError, Global};
+use tab_model::Numbers;
+
+pub fn empty_indexes(alloc: Global, numbers: &Numbers) -> Result<Vec<Index>, AllocError>
+    ensures positions { IfOk result (λ indexes. positions indexes.items ≡ numbers.now) }
+    ensures indexes { IfOk result (λ indexes. AreIndexesOf [] indexes.items) }
+{
+    let mut indexes = Vec::with_capacity(alloc, numbers.items.len())?;
+    for position in &numbers.items {
+        indexes.push(Index::new(*position))?;
+    }
+    Ok(indexes)
+}
+
+pub fn shared_indexes(alloc: Global, indexes: &[Index]) -> Result<Vec<Index>, AllocError>
+    ensures { IfOk result (λ same. same.items ≡ indexes.now) }
+{
+    let mut same = Vec::with_capacity(alloc, indexes.len())?;
+    for index in indexes {
+        same.push(index.share()?)?;
+    }
+    Ok(same)
+}
+
+/// Where the index of a new position belongs. None where the position is there.
+pub fn new_place(indexes: &[Index], position: u64) -> Option<usize>
+    ensures { MatchOption result (add_number position (positions indexes.now) ≡ positions indexes.now) (λ n. IsPlace indexes.now position n) }
+{
+    for (n, index) in indexes.iter().enumerate() {
+        if index.position == position {
+            return None;
+        }
+        if position < index.position {
+            return Some(n);
+        }
+    }
+    Some(indexes.len())
+}
+
+/// The indexes that aren't at the position, which share all with these.
+pub fn other_indexes(
+    alloc: Global,
+    indexes: &[Index],
+    position: u64,
+) -> Result<Vec<Index>, AllocError>
+    ensures positions { IfOk result (λ others. positions others.items ≡ less_number position (positions indexes.now)) }
+    ensures indexes { IfOk result (λ others. (rows : RowsOf) → AreIndexesOf rows indexes.now → AreIndexesOf rows others.items) }
+{
+    let mut others = Vec::with_capacity(alloc, indexes.len())?;
+    for index in indexes {
+        if index.position == position {
+            continue;
+        }
+        others.push(index.share()?)?;
+    }
+    Ok(others)
+}
+
+pub fn positions_of(alloc: Global, indexes: &[Index]) -> Result<Vec<u64>, AllocError>
+    ensures { IfOk result (λ numbers. numbers.items ≡ positions indexes.now) }
+{
+    let mut numbers = Vec::with_capacity(alloc, indexes.len())?;
+    for index in indexes {
+        numbers.push(index.position)?;
+    }
+    Ok(numbers)
+}
