@@ -5,7 +5,6 @@
 
 #![tactic(auto)]
 
-mod definition;
 mod element;
 mod index;
 mod indexes;

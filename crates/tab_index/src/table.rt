@@ -9,7 +9,6 @@ ghost use Rattle.tab_model.specs.Worlds.{with_rows, with_def};
 ghost use Rattle.tab_rows.specs.Joined.{joined, IsInOrder};
 ghost use Rattle.tab_index.specs.Indexed.{positions, AreIndexesOf};
 
-use crate::definition::with_positions;
 use crate::index::Index;
 use crate::indexes::{empty_indexes, new_place, other_indexes, positions_of, shared_indexes};
 use crate::matching;
@@ -19,6 +18,7 @@ use std::sync::Arc;
 use tab_map::Iter;
 use tab_model::{Change, TableDef};
 use tab_rows::Rows;
+use tab_schema::with_positions;
 use tab_term::{Term, Terms};
 
 /// A table: its definition, which its versions share, its records, and their indexes.

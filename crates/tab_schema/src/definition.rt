@@ -4,7 +4,7 @@ ghost use Rattle.std.specs.Prelude.{◌≡◌, ◌||◌, ◌+◌, pos, length, I
 ghost use Rattle.tab_term.specs.Data.{atom as atom_of, int as int_of};
 ghost use Rattle.tab_term.specs.Same.{same};
 ghost use Rattle.tab_term.specs.View.{term};
-ghost use Rattle.tab_model.specs.Definitions.{fits_def, position as position_of, position_from, add_number as plus, has_number, less_number as minus, with_indexes};
+ghost use Rattle.tab_model.specs.Definitions.{fits_def, position as position_of, position_from, add_number as plus, has_number, with_indexes};
 
 use std::alloc::{AllocError, Global};
 use tab_model::{Atoms, Numbers, TableDef};
@@ -69,30 +69,13 @@ pub fn has_index(def: &TableDef, position: usize) -> bool
     false
 }
 
-/// The definition with an index at this position too.
-pub fn with_index(alloc: Global, def: &TableDef, position: usize) -> Result<TableDef, AllocError>
-    ensures { IfOk result (λ d. d ≡ with_indexes def.now (plus position def.now.indexes)) }
-{
-    let mut indexes = copy_of_numbers(alloc, def.indexes.items.as_slice())?;
-    add_number(&mut indexes, position as u64)?;
-    copy_with(alloc, def, indexes)
-}
-
-/// The definition without an index at this position.
-pub fn without_index(alloc: Global, def: &TableDef, position: usize) -> Result<TableDef, AllocError>
-    ensures { IfOk result (λ d. d ≡ with_indexes def.now (minus position def.now.indexes)) }
-{
-    let mut indexes = Vec::new(alloc);
-    for index in &def.indexes.items {
-        if *index != position as u64 {
-            indexes.push(*index)?;
-        }
-    }
-    copy_with(alloc, def, indexes)
-}
-
-fn copy_with(alloc: Global, def: &TableDef, indexes: Vec<u64>) -> Result<TableDef, AllocError>
-    ensures { IfOk result (λ d. d ≡ with_indexes def.now indexes.items) }
+/// The definition with these positions of indexes in the place of its own.
+pub fn with_positions(
+    alloc: Global,
+    def: &TableDef,
+    positions: Vec<u64>,
+) -> Result<TableDef, AllocError>
+    ensures { IfOk result (λ d. d ≡ with_indexes def.now positions.items) }
 {
     let mut attributes = Vec::with_capacity(alloc, def.attributes.items.len())?;
     for attribute in &def.attributes.items {
@@ -102,16 +85,8 @@ fn copy_with(alloc: Global, def: &TableDef, indexes: Vec<u64>) -> Result<TableDe
         name: def.name.try_clone(alloc)?,
         kind: def.kind,
         attributes: Atoms { items: attributes },
-        indexes: Numbers { items: indexes },
+        indexes: Numbers { items: positions },
     })
-}
-
-fn copy_of_numbers(alloc: Global, numbers: &[u64]) -> Result<Vec<u64>, AllocError>
-    ensures { IfOk result (λ copy. copy.items ≡ numbers.now) }
-{
-    let mut copy = Vec::with_capacity(alloc, numbers.len() + 1)?;
-    copy.extend_from_slice(numbers)?;
-    Ok(copy)
 }
 
 /// Puts a number into an ascending list, once.

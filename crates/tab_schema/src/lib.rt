@@ -8,6 +8,6 @@ mod definition;
 mod fault;
 mod options;
 
-pub use definition::{fits, has_index, position, with_index, without_index};
+pub use definition::{fits, has_index, position, with_positions};
 pub use fault::DefFault;
 pub use options::{index_fault, parse_options};

@@ -1,7 +1,7 @@
 use Shape::{Atom, Int, List, Tuple};
 use tab_fixtures::{Shape, atom, build, build_all};
 use tab_model::{Kind, TableDef};
-use tab_schema::{DefFault, fits, parse_options, position, with_index, without_index};
+use tab_schema::{DefFault, fits, has_index, parse_options, position, with_positions};
 
 /// What options of a table `v` give: type, attributes and indexes, or what is wrong.
 enum Wanted {
@@ -132,16 +132,9 @@ fn records_fit_and_attributes_have_positions(rt: HostRuntime) {
         assert_eq!(rt; fits(&def, &term), *is_fit, "line {line}");
         assert_eq!(rt; position(&def, &term), *place, "line {line}");
     }
-    let two = with_index(alloc, &with_index(alloc, &def, 4).expect(&rt, "memory"), 3).expect(
-        &rt, "memory",
-    );
-    assert!(rt;
-        is_def(&two, Kind::Set, &["k", "v", "w"], &[3, 4]),
-        "indexes at 3 and 4"
-    );
-    let one = without_index(alloc, &two, 3).expect(&rt, "memory");
-    assert!(rt;
-        is_def(&one, Kind::Set, &["k", "v", "w"], &[4]),
-        "an index at 4"
-    );
+    let mut positions = Vec::new(alloc);
+    positions.push(3).expect(&rt, "memory");
+    let indexed = with_positions(alloc, &def, positions).expect(&rt, "memory");
+    assert!(rt; is_def(&indexed, Kind::Set, &["k", "v", "w"], &[3]), "an index at 3");
+    assert!(rt; has_index(&indexed, 3) && !has_index(&indexed, 4), "at 3 alone");
 }
