@@ -7,7 +7,11 @@ use std::alloc::{AllocError, Global};
 use tab_model::{Atoms, Numbers, TableDef};
 
 /// The definition with these positions of indexes.
-pub fn with_positions(alloc: Global, def: &TableDef, positions: Vec<u64>) -> Result<TableDef, AllocError>
+pub fn with_positions(
+    alloc: Global,
+    def: &TableDef,
+    positions: Vec<u64>,
+) -> Result<TableDef, AllocError>
     ensures { IfOk result (λ new. new ≡ with_indexes def.now positions.items) }
 {
     let name = def.name.try_clone(alloc)?;
