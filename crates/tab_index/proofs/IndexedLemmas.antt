@@ -62,8 +62,8 @@ pub place_there : (p : ℕ) (xs : List Index) (n : ℕ) (x : Index) → n < leng
 place_there p xs n x h e is before =
     before
     ∙ ap (λ z. positions (take n xs) ++ z)
-      (at_drop_more (λ ys. add_number p (positions ys)) xs n x h ∙ ap (λ y. add_number p (y.position ∷ positions (drop (n + 1) xs))) (sym is)
-        ∙ number_there p x.position (positions (drop (n + 1) xs)) e ∙ ap (λ y. y.position ∷ positions (drop (n + 1) xs)) is ∙ sym (at_drop_more positions xs n x h))
+    (at_drop_more (λ ys. add_number p (positions ys)) xs n x h ∙ ap (λ y. add_number p (y.position ∷ positions (drop (n + 1) xs))) (sym is)
+    ∙ number_there p x.position (positions (drop (n + 1) xs)) e ∙ ap (λ y. y.position ∷ positions (drop (n + 1) xs)) is ∙ sym (at_drop_more positions xs n x h))
     ∙ sym (map-append (λ j. j.position) (take n xs) (drop n xs)) ∙ ap positions (take-append-drop n xs)
 
 number_other : (p q : ℕ) (ps : List ℕ) → (q ≡ p → ⊥) → less_number p (q ∷ ps) ≡ q ∷ less_number p ps

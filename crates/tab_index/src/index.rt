@@ -104,7 +104,11 @@ impl Index {
         ensures ok { OnOk result (IsWith self.old.keys self.new.keys (element_of self.old.position (term row.now)) (key_of_row (term row.now))) }
     {
         let nothing = Nothing::new(alloc);
-        self.put(alloc, element(row, self.position, &nothing), key(row, &nothing))
+        self.put(
+            alloc,
+            element(row, self.position, &nothing),
+            key(row, &nothing),
+        )
     }
 
     /// The index of these records at the position, in one walk.
@@ -152,7 +156,11 @@ impl Index {
     {
         let nothing = Nothing::new(alloc);
         let key = key(row, &nothing);
-        if self.has_only(rows.at(key), element(row, self.position, &nothing), &nothing) {
+        if self.has_only(
+            rows.at(key),
+            element(row, self.position, &nothing),
+            &nothing,
+        ) {
             return Ok(());
         }
         self.forget(alloc, rows, key)?;

@@ -18,7 +18,7 @@ returns-in-Some c =
     let bound = sym c.bound_key.ensures ∙ ap (λ o. option_map term (option_copied o)) c.in-Some.is in
     all_copied c.append.new.found.items _ c.from_vec.result c.from_vec.ensures
     (c.in_ok-append.ensures ∙ ap (λ z. list_of z ++ match_object (list_of c.at.result.now) p) c.new-found.ensures.items
-      ∙ ap (λ z. match_object z p) (ap terms_list c.at.ensures ∙ round (at rows k)) ∙ at_bound_key p k rows bound)
+    ∙ ap (λ z. match_object z p) (ap terms_list c.at.ensures ∙ round (at rows k)) ∙ at_bound_key p k rows bound)
 
 pub returns : goal.returns
 returns c =

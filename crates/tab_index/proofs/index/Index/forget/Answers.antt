@@ -32,4 +32,4 @@ returns-clause-ok c =
     let items = c.at-row-items.result.now in
     subst (λ q. IsIndexOf (delete rows (term k)) q fs) (sym c.loop-row.invariant.position)
     (all_gone p rows (list_of items) k es fs (ap terms_list c.at-row-items.ensures ∙ round (at rows (term k))) c.requires c.loop-row.invariant.filled
-      (λ v j. none_else p items c.loop-row.row-index k v j (has_pair fs v j) c.loop-row-test.false ∙ c.loop-row.invariant.pairs v j))
+    (λ v j. none_else p items c.loop-row.row-index k v j (has_pair fs v j) c.loop-row-test.false ∙ c.loop-row.invariant.pairs v j))

@@ -29,5 +29,5 @@ returns-clause-ok c =
     let other = ap₂ (λ x xs. any_has p x (delete_object xs (term r))) (sym c.element-value.ensures) (sym cells) ∙ sym c.has_another.ensures ∙ c.if-has_another.false in
     on_ok_weaker c.take.result
     (λ w. subst (λ q. IsIndexOf (delete_object rows (term r)) q fs) (sym c.take.ensures.position)
-      (object_gone p rows r es fs c.requires.ordered other c.requires.index (subst (λ x. IsWithout es fs x (key (term r))) c.element-value.ensures (subst (λ k. IsWithout es fs (term c.element-value.result.now) k) c.key-key.ensures w))))
+    (object_gone p rows r es fs c.requires.ordered other c.requires.index (subst (λ x. IsWithout es fs x (key (term r))) c.element-value.ensures (subst (λ k. IsWithout es fs (term c.element-value.result.now) k) c.key-key.ensures w))))
     c.take.ensures.ok

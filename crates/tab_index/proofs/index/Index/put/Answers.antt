@@ -21,5 +21,5 @@ returns-clause-ok c =
     let made = c.in_ok-insert.ensures.ok ∙ ap (λ x. insert_key term_cmp x ks) c.in_ok-try_clone.ensures in
     on_ok_weaker c.insert-2.result
     (λ h. subst (λ fs. IsWith es fs (term v) (term k)) (sym (h ∙ ap₂ (λ x y. insert_entry term_cmp (x, y) es) c.in_ok-try_clone-2.ensures made))
-      (with_new es v k ks c.in_ok-keys.ensures.ascends c.contains.ensures.ascends c.in_ok-keys.ensures.keys))
+    (with_new es v k ks c.in_ok-keys.ensures.ascends c.contains.ensures.ascends c.in_ok-keys.ensures.keys))
     c.insert-2.ensures.ok

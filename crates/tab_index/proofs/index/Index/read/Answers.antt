@@ -36,5 +36,5 @@ returns c =
     let copies = list_of c.loop-key.found.items in
     all_copied c.loop-key.found.items _ c.from_vec-2.result c.from_vec-2.ensures
     (sym (append-nil copies) ∙ ap (λ z. copies ++ joined (answers rows p (term v) z)) (sym c.in-None.ensures.steps.0) ∙ c.loop-key.invariant
-      ∙ ap (λ z. joined (answers rows p (term v) z)) all
-      ∙ answers_are rows p c.args.self.now.keys v c.in-Some.keys.now c.requires.ordered c.requires.index c.iter-key-items.ensures.ascends (ap keys_in found))
+    ∙ ap (λ z. joined (answers rows p (term v) z)) all
+    ∙ answers_are rows p c.args.self.now.keys v c.in-Some.keys.now c.requires.ordered c.requires.index c.iter-key-items.ensures.ascends (ap keys_in found))

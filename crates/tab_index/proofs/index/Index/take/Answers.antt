@@ -29,7 +29,7 @@ returns-then-is_empty-clause-ok c =
     let found = ap option_copied (sym c.in-Some.is) ∙ c.get.ensures.value in
     on_ok_weaker c.remove.result
     (λ h. subst (λ fs. IsWithout es fs (term v) (term k)) (sym h)
-      (without_last es v k c.in-Some.keys.now c.get.ensures.ascends c.contains.ensures.ascends found (sym c.in_ok-left.ensures ∙ c.is_empty.ensures.empty.0 c.if-is_empty.true)))
+    (without_last es v k c.in-Some.keys.now c.get.ensures.ascends c.contains.ensures.ascends found (sym c.in_ok-left.ensures ∙ c.is_empty.ensures.empty.0 c.if-is_empty.true)))
     c.remove.ensures.ok
 
 pub returns-clause-ok : goal.returns-clause-ok
@@ -41,6 +41,6 @@ returns-clause-ok c =
     let is = ap (λ x. insert_entry term_cmp (x, c.in_ok-left.left) es) c.in_ok-value.ensures ∙ ap (λ ks. insert_entry term_cmp (v, ks) es) c.in_ok-left.ensures in
     on_ok_weaker c.insert.result
     (λ h. subst (λ fs. IsWithout es fs (term v) (term k)) (sym (h ∙ is))
-      (without_one es v k c.in-Some.keys.now c.get.ensures.ascends c.contains.ensures.ascends found
-        (λ e. false≢true (sym c.if-is_empty.false ∙ c.is_empty.ensures.empty.1 (c.in_ok-left.ensures ∙ e)))))
+    (without_one es v k c.in-Some.keys.now c.get.ensures.ascends c.contains.ensures.ascends found
+    (λ e. false≢true (sym c.if-is_empty.false ∙ c.is_empty.ensures.empty.1 (c.in_ok-left.ensures ∙ e)))))
     c.insert.ensures.ok
