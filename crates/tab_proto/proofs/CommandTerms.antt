@@ -1,11 +1,11 @@
 -- The term of every command is known as a command's.
-use Rattle.std.proofs.Common.{◌≡◌, ◌≢◌, List, [], ◌∷◌, Bool, true, false, ◌&&◌, refl, sym, ap, ◌∙◌}
+use Rattle.std.proofs.Common.{◌≡◌, List, [], ◌∷◌, Bool, true, false, refl}
 use Rattle.std.specs.Prelude.{Result, Ok, Err, IfOk}
 use Rattle.std.specs.Prelude.{codes, ◌||◌}
 use Rattle.std.specs.Str.{bytes_eq}
 use Rattle.std.specs.List.{list_all}
-use Rattle.std.proofs.lemmas.Bool.{false≢true, and_from, and_parts}
-use Rattle.tab_term.specs.Data.{PlainTerm, atom, tuple, PlainTerms, none, one_more}
+use Rattle.std.proofs.lemmas.Bool.{and_from, and_parts}
+use Rattle.tab_term.specs.Data.{PlainTerm, atom, tuple, PlainTerms}
 use Rattle.tab_proto.specs.declared.request.Request.{Request}
 use Rattle.tab_proto.specs.declared.request.Request.TheVariants as request
 use Rattle.tab_proto.specs.Requests.{asked_term, IsRequest, is_asked}
@@ -23,8 +23,6 @@ use Rattle.tab_model.specs.declared.data.Command.{Command}
 use Rattle.tab_model.specs.declared.data.Command.TheVariants as command
 use Rattle.tab_proto.specs.Commands.{term_of, operation_term, schema_term, level_word, item_word, with_first, enclosed, levels, outermost, is_command, is_operation, is_schema, is_part, is_nested}
 use Rattle.tab_proto.specs.Reading.{is_level, is_item, is_part_term, are_parts, is_command_term}
-use Rattle.tab_proto.specs.declared.fault.ProtoFault.{ProtoFault}
-use Rattle.tab_proto.specs.declared.fault.ProtoFault.TheVariants.{BadCommand, NoMemory}
 
 -- ---- the members of a one-shot
 
@@ -101,7 +99,8 @@ command_is_known command.Begin h = refl
 command_is_known command.Commit h = refl
 command_is_known (command.Abort r) h = refl
 command_is_known (command.Do o) h = operation_is_known o h
-command_is_known (command.Subscribe t l dump) h = level_is l
+command_is_known (command.Subscribe t l true) h = and_from _ _ (level_is l) refl
+command_is_known (command.Subscribe t l false) h = level_is l
 command_is_known (command.Unsubscribe t l) h = level_is l
 command_is_known (command.OneShot parts retries) h =
     let p = and_parts (Rattle.std.specs.Prelude.nat_le retries 1000) _ h in

@@ -1,6 +1,6 @@
 -- A request is read back from its term, so two requests with one term are one.
-use Rattle.std.proofs.Common.{◌≡◌, ℕ, zero, suc, ℤ, pos, List, [], ◌∷◌, ◌++◌, length, Bool, true, false, ◌&&◌, refl, sym, ap, ◌∙◌, append_assoc, arith, Option, Some, None}
-use Rattle.std.specs.Prelude.{codes, if◌then◌else◌, not, nat_le}
+use Rattle.std.proofs.Common.{◌≡◌, ℕ, zero, suc, ℤ, pos, List, [], ◌∷◌, ◌++◌, length, true, false, refl, sym, ap, ◌∙◌, append_assoc, arith, Option, Some}
+use Rattle.std.specs.Prelude.{codes, if◌then◌else◌, nat_le}
 use Rattle.std.specs.Str.{bytes_eq}
 use Rattle.std.specs.List.{list_all}
 use Rattle.std.proofs.lemmas.Bool.{and_parts}
@@ -9,7 +9,6 @@ use Rattle.tab_term.specs.View.{term}
 use Rattle.tab_term.specs.declared.term.Term.{Term}
 use Rattle.tab_model.specs.declared.data.Operation.{Operation}
 use Rattle.tab_model.specs.declared.data.Operation.TheVariants as op
-use Rattle.tab_model.specs.declared.data.Schema.{Schema}
 use Rattle.tab_model.specs.declared.data.Schema.TheVariants as schema
 use Rattle.tab_model.specs.declared.data.Level.{Level}
 use Rattle.tab_model.specs.declared.data.Level.TheVariants.{Simple, Detailed}
@@ -28,7 +27,7 @@ use Rattle.tab_proto.specs.declared.first_words.Unary.TheVariants as unary
 use Rattle.tab_proto.specs.declared.first_words.Binary.{Binary}
 use Rattle.tab_proto.specs.declared.first_words.Binary.TheVariants as binary
 use Rattle.tab_proto.specs.FirstWords.{unary_in, binary_in}
-use Rattle.tab_proto.specs.Commands.{term_of, abort_term, operation_term, schema_term, level_word, item_word, with_first, enclosed, levels, outermost, is_command, is_nested, is_part}
+use Rattle.tab_proto.specs.Commands.{term_of, abort_term, operation_term, level_word, item_word, with_first, enclosed, levels, outermost, is_command, is_nested, is_part}
 use Rattle.tab_proto.specs.Requests.{asked_term, request_term, number_in, IsRequest}
 
 -- ---- operations
@@ -199,6 +198,7 @@ abbrev binary_back : Option Binary → PlainTerm → PlainTerm → Command
 binary_back (Some binary.AddTableIndex) x y = command.Schema (schema.AddIndex (name_back x) (held y))
 binary_back (Some binary.CreateTable) x y = command.Schema (schema.Create (name_back x) (items_back y))
 binary_back (Some binary.DelTableIndex) x y = command.Schema (schema.DelIndex (name_back x) (held y))
+binary_back (Some binary.Subscribe) x y = watch_back (λ t l. command.Subscribe t l true) x
 binary_back (Some binary.TableInfo) x y = command.TableInfo (name_back x) (item_back y)
 binary_back (Some binary.Transaction) x y = command.OneShot (inner_parts x) (number_back y)
 binary_back b x y = command.Do (op.Read (name_back x) (held y))
@@ -246,7 +246,7 @@ command_back command.Begin h = refl
 command_back command.Commit h = refl
 command_back (command.Abort r) h = ap command.Abort (held_term r)
 command_back (command.Do o) h = do_back o
-command_back (command.Subscribe t l true) h = absurd cc
+command_back (command.Subscribe t l true) h = ap (λ x. command.Subscribe t x true) (level_is l)
 command_back (command.Subscribe t l false) h = ap (λ x. command.Subscribe t x false) (level_is l)
 command_back (command.Unsubscribe t l) h = ap (command.Unsubscribe t) (level_is l)
 command_back (command.OneShot parts retries) h =
@@ -296,7 +296,8 @@ request_back (request.Do c) h = command_asked c ∙ ap request.Do (command_back 
     command_asked command.Commit = refl
     command_asked (command.Abort r) = refl
     command_asked (command.Do o) = operation_asked o
-    command_asked (command.Subscribe t l dump) = refl
+    command_asked (command.Subscribe t l true) = refl
+    command_asked (command.Subscribe t l false) = refl
     command_asked (command.Unsubscribe t l) = refl
     command_asked (command.OneShot parts retries) = refl
 

@@ -45,6 +45,11 @@ abbrev pub is_watch : PlainTerm → Bool
 is_watch (tuple (one_more (atom w) (one_more (atom t) (one_more l none)))) = bytes_eq w (codes "table") && is_level l
 is_watch t = false
 
+-- a subscription's word for a mark that carries the records
+abbrev pub is_dump : PlainTerm → Bool
+is_dump (atom w) = bytes_eq w (codes "dump")
+is_dump t = false
+
 abbrev pub is_item : PlainTerm → Bool
 is_item (atom w) = bytes_eq w (codes "type") || (bytes_eq w (codes "attributes") || (bytes_eq w (codes "index") || bytes_eq w (codes "size")))
 is_item t = false
@@ -108,6 +113,7 @@ is_binary (Some binary.AddTableIndex) x y = is_atom x && is_attribute y
 is_binary (Some binary.CreateTable) x y = is_atom x && is_list y
 is_binary (Some binary.DelTableIndex) x y = is_atom x && is_attribute y
 is_binary (Some binary.Read) x y = is_atom x
+is_binary (Some binary.Subscribe) x y = is_watch x && is_dump y
 is_binary (Some binary.TableInfo) x y = is_atom x && is_item y
 is_binary (Some binary.Transaction) x y = is_parts_list x && is_retries y
 

@@ -1,5 +1,5 @@
 -- The terms of requests (this project's own rule): a session's number, and a command or a word for what isn't one.
-use Rattle.std.specs.Prelude.{◌≡◌, ◌≢◌, ◌≤◌, ◌<◌, ℤ, Option, Some, None, ℕ, List, Bool, true, false, ◌||◌, ◌&&◌, codes, pos, Result, Ok, Err}
+use Rattle.std.specs.Prelude.{◌≡◌, ◌≢◌, ◌≤◌, ◌<◌, ℤ, Option, Some, None, ℕ, List, Bool, true, false, ◌||◌, codes, pos, Result, Ok, Err}
 use Rattle.std.specs.Str.{bytes_eq}
 use Rattle.tab_term.specs.Data.{PlainTerm, int, atom, tuple, none, one_more, pair}
 use Rattle.tab_proto.specs.declared.request.Request.{Request}

@@ -4,9 +4,9 @@ ghost use Rattle.std.specs.Prelude.{◌≡◌, ◌≢◌, ◌&&◌, IfOk, true, 
 ghost use Rattle.tab_term.specs.Data.{int, atom, pair, triple};
 ghost use Rattle.tab_term.specs.View.{term};
 ghost use Rattle.tab_model.specs.declared.data.Command.{Command as CommandOf};
-ghost use Rattle.tab_proto.specs.Commands.{term_of, is_command, level_word, item_word};
+ghost use Rattle.tab_proto.specs.Commands.{term_of, is_command, item_word, level_word, watch_term};
 ghost use Rattle.tab_proto.specs.FirstWords.{unary_in, binary_in};
-ghost use Rattle.tab_proto.specs.Reading.{is_command_term, is_one_word, is_unary, is_binary, is_watch, is_level, is_item, is_retries, is_parts_list, Spells, RefusesOnlyIf};
+ghost use Rattle.tab_proto.specs.Reading.{is_command_term, is_one_word, is_unary, is_binary, is_watch, is_dump, is_level, is_item, is_retries, is_parts_list, Spells, RefusesOnlyIf};
 ghost use Rattle.tab_proto.specs.declared.fault.ProtoFault.TheVariants.{BadCommand};
 
 use crate::arguments::{attribute_of, elements_of, name_of};
@@ -81,7 +81,7 @@ fn unary(word: &Atom, argument: Term) -> Result<Command, ProtoFault>
 
 /// `{table, Tab, Level}`.
 fn watch_of(held: Term) -> Result<(Atom, Level), ProtoFault>
-    ensures ok { IfOk result (λ w. term held ≡ triple (atom (codes "table")) (atom w.0) (level_word w.1)) }
+    ensures ok { IfOk result (λ w. term held ≡ watch_term w.0 w.1) }
     ensures bad { RefusesOnlyIf (is_watch (term held) ≡ false) result }
 {
     let Call { word, arguments } = call_of(held)?;
@@ -125,10 +125,29 @@ fn binary(alloc: Global, word: &Atom, first: Term, second: Term) -> Result<Comma
             attribute_of(second)?,
         ))),
         Some(Binary::Read) => Ok(Command::Do(Operation::Read(name_of(first)?, second))),
+        Some(Binary::Subscribe) => dump_subscription(first, &second),
         Some(Binary::TableInfo) => Ok(Command::TableInfo(name_of(first)?, item_of(&second)?)),
         Some(Binary::Transaction) => one_shot(alloc, first, &second),
         None => Err(ProtoFault::BadCommand),
     }
+}
+
+/// `{subscribe, {table, Tab, Level}, dump}`.
+fn dump_subscription(watched: Term, dump: &Term) -> Result<Command, ProtoFault>
+    ensures ok { IfOk result (λ c. Spells c (triple (atom (codes "subscribe")) (term watched) (term dump.now))) }
+    ensures bad { RefusesOnlyIf ((is_watch (term watched) && is_dump (term dump.now)) ≡ false) result }
+{
+    if !asks_dump(dump) {
+        return Err(ProtoFault::BadCommand);
+    }
+    let (table, level) = watch_of(watched)?;
+    Ok(Command::Subscribe(table, level, true))
+}
+
+fn asks_dump(held: &Term) -> bool
+    ensures { result ≡ is_dump (term held.now) }
+{
+    matches!(held, Term::Atom(word) if word.as_str() == "dump")
 }
 
 fn item_of(held: &Term) -> Result<InfoItem, ProtoFault>
