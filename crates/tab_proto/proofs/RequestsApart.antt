@@ -30,7 +30,7 @@ use Rattle.tab_proto.specs.FirstWords.{unary_in, binary_in}
 use Rattle.tab_proto.specs.Commands.{term_of, abort_term, operation_term, level_word, item_word, with_first, enclosed, levels, outermost, is_command, is_nested, is_part}
 use Rattle.tab_proto.specs.Requests.{asked_term, request_term, number_in, IsRequest}
 
--- ---- operations
+-- ---- what a term asks
 
 abbrev name_back : PlainTerm → List ℕ
 name_back (atom name) = name
@@ -50,7 +50,11 @@ unary_operation (Some unary.ReadLockTable) x = op.ReadLockTable (name_back x)
 unary_operation (Some unary.WriteLockTable) x = op.WriteLockTable (name_back x)
 unary_operation u x = op.AllKeys (name_back x)
 
--- ---- the parts of a one-shot
+abbrev operation_of : PlainTerm → Operation
+operation_of (tuple (one_more (atom w) (one_more x none))) = unary_operation (unary_in w) x
+operation_of (tuple (one_more (atom w) (one_more x (one_more y none)))) = op.Read (name_back x) (held y)
+operation_of (tuple (one_more (atom w) (one_more x (one_more y (one_more z none))))) = op.IndexRead (name_back x) (held y) (held z)
+operation_of t = op.AllKeys []
 
 abbrev unary_parts : Option Unary → List Part → PlainTerm → List Part
 unary_parts (Some unary.Abort) inner x = part.Abort (held x) ∷ []
@@ -71,98 +75,6 @@ abbrev mutual
   all_parts : PlainTerms → List Part
   all_parts none = []
   all_parts (one_more t ts) = parts_of t ++ all_parts ts
-
-operation_back : (o : Operation) → parts_of (operation_term o) ≡ part.Do o ∷ []
-operation_back (op.Read t k) = ap (λ x. part.Do (op.Read t x) ∷ []) (held_term k)
-operation_back (op.ReadForWrite t k) = ap (λ x. part.Do (op.ReadForWrite t x) ∷ []) (held_term k)
-operation_back (op.Write r) = ap (λ x. part.Do (op.Write x) ∷ []) (held_term r)
-operation_back (op.Delete t k) = ap (λ x. part.Do (op.Delete t x) ∷ []) (held_term k)
-operation_back (op.DeleteObject r) = ap (λ x. part.Do (op.DeleteObject x) ∷ []) (held_term r)
-operation_back (op.IndexRead t x a) = λ i. part.Do (op.IndexRead t (held_term x i) (held_term a i)) ∷ []
-operation_back (op.MatchObject p) = ap (λ x. part.Do (op.MatchObject x) ∷ []) (held_term p)
-operation_back (op.AllKeys t) = refl
-operation_back (op.ReadLockTable t) = refl
-operation_back (op.WriteLockTable t) = refl
-
--- lists that stand open, innermost first, as parts
-abbrev flat : List PlainTerms → List Part
-flat [] = []
-flat (ts ∷ []) = all_parts ts
-flat (ts ∷ us ∷ outer) = all_parts ts ++ part.Close ∷ flat (us ∷ outer)
-
-flat_first : (t : PlainTerm) (ls : List PlainTerms) (n : ℕ) → length ls ≡ suc n → flat (with_first t ls) ≡ parts_of t ++ flat ls
-flat_first t [] n h = absurd (omega arith)
-flat_first t (ts ∷ []) n h = refl
-flat_first t (ts ∷ us ∷ outer) n h = append_assoc (parts_of t) (all_parts ts) (part.Close ∷ flat (us ∷ outer))
-
-length_first : (t : PlainTerm) (ls : List PlainTerms) → length (with_first t ls) ≡ length ls
-length_first t [] = refl
-length_first t (ts ∷ outer) = refl
-
-flat_enclosed : (ls : List PlainTerms) (n : ℕ) → length ls ≡ suc (suc n) → flat (enclosed ls) ≡ part.Open ∷ flat ls
-flat_enclosed [] n h = absurd (omega arith)
-flat_enclosed (ts ∷ []) n h = absurd (omega arith)
-flat_enclosed (ts ∷ us ∷ outer) n h =
-    flat_first (pair (atom (codes "transaction")) (list ts)) (us ∷ outer) (length outer) refl ∙ ap (λ ps. part.Open ∷ ps) (append_assoc (all_parts ts) (part.Close ∷ []) (flat (us ∷ outer)))
-
-length_enclosed : (ls : List PlainTerms) (n : ℕ) → length ls ≡ suc (suc n) → length (enclosed ls) ≡ suc n
-length_enclosed [] n h = absurd (omega arith)
-length_enclosed (ts ∷ outer) n h = length_first (pair (atom (codes "transaction")) (list ts)) outer ∙ omega (arith, h)
-
-flat_opened : (ls : List PlainTerms) (n : ℕ) → length ls ≡ suc n → flat (none ∷ ls) ≡ part.Close ∷ flat ls
-flat_opened [] n h = absurd (omega arith)
-flat_opened (ts ∷ outer) n h = refl
-
--- the lists of parts that leave n transactions open before them
-record AreLevels (n : ℕ) (parts : List Part) : Type 0 where
-  pub count : length (levels parts) ≡ suc n
-  pub back : flat (levels parts) ≡ parts
-
-levels_does : (n : ℕ) (o : Operation) (parts : List Part) → AreLevels n parts → AreLevels n (part.Do o ∷ parts)
-levels_does n o parts l = record {
-  count = length_first (operation_term o) (levels parts) ∙ l.count;
-  back = flat_first (operation_term o) (levels parts) n l.count ∙ ap (λ ps. ps ++ flat (levels parts)) (operation_back o) ∙ ap (λ ps. part.Do o ∷ ps) l.back;
-}
-
-levels_abort : (n : ℕ) (r : Term) (parts : List Part) → AreLevels n parts → AreLevels n (part.Abort r ∷ parts)
-levels_abort n r parts l = record {
-  count = length_first (abort_term (term r)) (levels parts) ∙ l.count;
-  back = flat_first (abort_term (term r)) (levels parts) n l.count ∙ ap (λ x. part.Abort x ∷ flat (levels parts)) (held_term r) ∙ ap (λ ps. part.Abort r ∷ ps) l.back;
-}
-
-levels_open : (n : ℕ) (parts : List Part) → AreLevels (suc n) parts → AreLevels n (part.Open ∷ parts)
-levels_open n parts l = record {
-  count = length_enclosed (levels parts) n l.count;
-  back = flat_enclosed (levels parts) n l.count ∙ ap (λ ps. part.Open ∷ ps) l.back;
-}
-
-levels_close : (n : ℕ) (parts : List Part) → AreLevels n parts → AreLevels (suc n) (part.Close ∷ parts)
-levels_close n parts l = record {
-  count = ap suc l.count;
-  back = flat_opened (levels parts) n l.count ∙ ap (λ ps. part.Close ∷ ps) l.back;
-}
-
-levels_back : (n : ℕ) (parts : List Part) → is_nested n parts ≡ true → AreLevels n parts
-levels_back zero [] h = record { count = refl; back = refl }
-levels_back (suc n) [] h = absurd cc
-levels_back zero (part.Do o ∷ parts) h = levels_does zero o parts (levels_back zero parts h)
-levels_back (suc n) (part.Do o ∷ parts) h = levels_does (suc n) o parts (levels_back (suc n) parts h)
-levels_back zero (part.Abort r ∷ parts) h = levels_abort zero r parts (levels_back zero parts h)
-levels_back (suc n) (part.Abort r ∷ parts) h = levels_abort (suc n) r parts (levels_back (suc n) parts h)
-levels_back zero (part.Open ∷ parts) h = levels_open zero parts (levels_back (suc zero) parts h)
-levels_back (suc n) (part.Open ∷ parts) h = levels_open (suc n) parts (levels_back (suc (suc n)) parts h)
-levels_back zero (part.Close ∷ parts) h = absurd cc
-levels_back (suc n) (part.Close ∷ parts) h = levels_close n parts (levels_back n parts h)
-
-outermost_back : (ls : List PlainTerms) → length ls ≡ 1 → all_parts (outermost ls) ≡ flat ls
-outermost_back [] h = absurd (omega arith)
-outermost_back (ts ∷ []) h = refl
-outermost_back (ts ∷ us ∷ outer) h = absurd (omega arith)
-
-pub parts_back : (parts : List Part) → is_nested 0 parts ≡ true → all_parts (outermost (levels parts)) ≡ parts
-parts_back parts h = let l = levels_back 0 parts h in outermost_back (levels parts) l.count ∙ l.back
-
--- ---- commands
 
 abbrev number_back : PlainTerm → ℕ
 number_back (int (pos n)) = n
@@ -214,17 +126,118 @@ command_of (atom w) = if bytes_eq w (codes "begin") then command.Begin else comm
 command_of (tuple ts) = call_back ts
 command_of t = command.Begin
 
-do_back : (o : Operation) → command_of (operation_term o) ≡ command.Do o
-do_back (op.Read t k) = ap (λ x. command.Do (op.Read t x)) (held_term k)
-do_back (op.ReadForWrite t k) = ap (λ x. command.Do (op.ReadForWrite t x)) (held_term k)
-do_back (op.Write r) = ap (λ x. command.Do (op.Write x)) (held_term r)
-do_back (op.Delete t k) = ap (λ x. command.Do (op.Delete t x)) (held_term k)
-do_back (op.DeleteObject r) = ap (λ x. command.Do (op.DeleteObject x)) (held_term r)
-do_back (op.IndexRead t x a) = λ i. command.Do (op.IndexRead t (held_term x i) (held_term a i))
-do_back (op.MatchObject p) = ap (λ x. command.Do (op.MatchObject x)) (held_term p)
-do_back (op.AllKeys t) = refl
-do_back (op.ReadLockTable t) = refl
-do_back (op.WriteLockTable t) = refl
+abbrev word_back : List ℕ → Request
+word_back w =
+    if bytes_eq w (codes "join") then request.Join
+    else (if bytes_eq w (codes "leave") then request.Leave
+    else (if bytes_eq w (codes "retry") then request.Retry
+    else (if bytes_eq w (codes "take") then request.Take else request.Do (command_of (atom w)))))
+
+abbrev request_of : PlainTerm → Request
+request_of (atom w) = word_back w
+request_of t = request.Do (command_of t)
+
+-- ---- an operation, as itself, as a part, as a command and as a request
+
+record IsReadBack (o : Operation) : Type 0 where
+  pub same : operation_of (operation_term o) ≡ o
+  pub part : parts_of (operation_term o) ≡ part.Do (operation_of (operation_term o)) ∷ []
+  pub command : command_of (operation_term o) ≡ command.Do (operation_of (operation_term o))
+  pub asked : request_of (operation_term o) ≡ request.Do (command_of (operation_term o))
+
+operation_back : (o : Operation) → IsReadBack o
+operation_back (op.Read t k) = record { same = ap (op.Read t) (held_term k); part = refl; command = refl; asked = refl }
+operation_back (op.ReadForWrite t k) = record { same = ap (op.ReadForWrite t) (held_term k); part = refl; command = refl; asked = refl }
+operation_back (op.Write r) = record { same = ap op.Write (held_term r); part = refl; command = refl; asked = refl }
+operation_back (op.Delete t k) = record { same = ap (op.Delete t) (held_term k); part = refl; command = refl; asked = refl }
+operation_back (op.DeleteObject r) = record { same = ap op.DeleteObject (held_term r); part = refl; command = refl; asked = refl }
+operation_back (op.IndexRead t x a) = record { same = λ i. op.IndexRead t (held_term x i) (held_term a i); part = refl; command = refl; asked = refl }
+operation_back (op.MatchObject p) = record { same = ap op.MatchObject (held_term p); part = refl; command = refl; asked = refl }
+operation_back (op.AllKeys t) = record { same = refl; part = refl; command = refl; asked = refl }
+operation_back (op.ReadLockTable t) = record { same = refl; part = refl; command = refl; asked = refl }
+operation_back (op.WriteLockTable t) = record { same = refl; part = refl; command = refl; asked = refl }
+
+-- ---- the parts of a one-shot
+
+-- lists that stand open, innermost first, as parts
+abbrev flat : List PlainTerms → List Part
+flat [] = []
+flat (ts ∷ []) = all_parts ts
+flat (ts ∷ us ∷ outer) = all_parts ts ++ part.Close ∷ flat (us ∷ outer)
+
+flat_first : (t : PlainTerm) (ls : List PlainTerms) (n : ℕ) → length ls ≡ suc n → flat (with_first t ls) ≡ parts_of t ++ flat ls
+flat_first t [] n h = absurd (omega arith)
+flat_first t (ts ∷ []) n h = refl
+flat_first t (ts ∷ us ∷ outer) n h = append_assoc (parts_of t) (all_parts ts) (part.Close ∷ flat (us ∷ outer))
+
+length_first : (t : PlainTerm) (ls : List PlainTerms) → length (with_first t ls) ≡ length ls
+length_first t [] = refl
+length_first t (ts ∷ outer) = refl
+
+flat_enclosed : (ls : List PlainTerms) (n : ℕ) → length ls ≡ suc (suc n) → flat (enclosed ls) ≡ part.Open ∷ flat ls
+flat_enclosed [] n h = absurd (omega arith)
+flat_enclosed (ts ∷ []) n h = absurd (omega arith)
+flat_enclosed (ts ∷ us ∷ outer) n h =
+    flat_first (pair (atom (codes "transaction")) (list ts)) (us ∷ outer) (length outer) refl ∙ ap (λ ps. part.Open ∷ ps) (append_assoc (all_parts ts) (part.Close ∷ []) (flat (us ∷ outer)))
+
+length_enclosed : (ls : List PlainTerms) (n : ℕ) → length ls ≡ suc (suc n) → length (enclosed ls) ≡ suc n
+length_enclosed [] n h = absurd (omega arith)
+length_enclosed (ts ∷ outer) n h = length_first (pair (atom (codes "transaction")) (list ts)) outer ∙ omega (arith, h)
+
+flat_opened : (ls : List PlainTerms) (n : ℕ) → length ls ≡ suc n → flat (none ∷ ls) ≡ part.Close ∷ flat ls
+flat_opened [] n h = absurd (omega arith)
+flat_opened (ts ∷ outer) n h = refl
+
+-- the lists of parts that leave n transactions open before them
+record AreLevels (n : ℕ) (parts : List Part) : Type 0 where
+  pub count : length (levels parts) ≡ suc n
+  pub back : flat (levels parts) ≡ parts
+
+levels_does : (n : ℕ) (o : Operation) (parts : List Part) → AreLevels n parts → AreLevels n (part.Do o ∷ parts)
+levels_does n o parts l = record {
+  count = length_first (operation_term o) (levels parts) ∙ l.count;
+  back = flat_first (operation_term o) (levels parts) n l.count ∙ ap (λ ps. ps ++ flat (levels parts)) ((operation_back o).part ∙ ap (λ x. part.Do x ∷ []) (operation_back o).same) ∙ ap (λ ps. part.Do o ∷ ps) l.back;
+}
+
+levels_abort : (n : ℕ) (r : Term) (parts : List Part) → AreLevels n parts → AreLevels n (part.Abort r ∷ parts)
+levels_abort n r parts l = record {
+  count = length_first (abort_term (term r)) (levels parts) ∙ l.count;
+  back = flat_first (abort_term (term r)) (levels parts) n l.count ∙ ap (λ x. part.Abort x ∷ flat (levels parts)) (held_term r) ∙ ap (λ ps. part.Abort r ∷ ps) l.back;
+}
+
+levels_open : (n : ℕ) (parts : List Part) → AreLevels (suc n) parts → AreLevels n (part.Open ∷ parts)
+levels_open n parts l = record {
+  count = length_enclosed (levels parts) n l.count;
+  back = flat_enclosed (levels parts) n l.count ∙ ap (λ ps. part.Open ∷ ps) l.back;
+}
+
+levels_close : (n : ℕ) (parts : List Part) → AreLevels n parts → AreLevels (suc n) (part.Close ∷ parts)
+levels_close n parts l = record {
+  count = ap suc l.count;
+  back = flat_opened (levels parts) n l.count ∙ ap (λ ps. part.Close ∷ ps) l.back;
+}
+
+levels_back : (n : ℕ) (parts : List Part) → is_nested n parts ≡ true → AreLevels n parts
+levels_back zero [] h = record { count = refl; back = refl }
+levels_back (suc n) [] h = absurd cc
+levels_back zero (part.Do o ∷ parts) h = levels_does zero o parts (levels_back zero parts h)
+levels_back (suc n) (part.Do o ∷ parts) h = levels_does (suc n) o parts (levels_back (suc n) parts h)
+levels_back zero (part.Abort r ∷ parts) h = levels_abort zero r parts (levels_back zero parts h)
+levels_back (suc n) (part.Abort r ∷ parts) h = levels_abort (suc n) r parts (levels_back (suc n) parts h)
+levels_back zero (part.Open ∷ parts) h = levels_open zero parts (levels_back (suc zero) parts h)
+levels_back (suc n) (part.Open ∷ parts) h = levels_open (suc n) parts (levels_back (suc (suc n)) parts h)
+levels_back zero (part.Close ∷ parts) h = absurd cc
+levels_back (suc n) (part.Close ∷ parts) h = levels_close n parts (levels_back n parts h)
+
+outermost_back : (ls : List PlainTerms) → length ls ≡ 1 → all_parts (outermost ls) ≡ flat ls
+outermost_back [] h = absurd (omega arith)
+outermost_back (ts ∷ []) h = refl
+outermost_back (ts ∷ us ∷ outer) h = absurd (omega arith)
+
+pub parts_back : (parts : List Part) → is_nested 0 parts ≡ true → all_parts (outermost (levels parts)) ≡ parts
+parts_back parts h = let l = levels_back 0 parts h in outermost_back (levels parts) l.count ∙ l.back
+
+-- ---- commands
 
 level_is : (l : Level) → level_back (level_word l) ≡ l
 level_is Simple = refl
@@ -245,7 +258,7 @@ command_back (command.TableInfo t i) h = ap (command.TableInfo t) (item_is i)
 command_back command.Begin h = refl
 command_back command.Commit h = refl
 command_back (command.Abort r) h = ap command.Abort (held_term r)
-command_back (command.Do o) h = do_back o
+command_back (command.Do o) h = (operation_back o).command ∙ ap command.Do (operation_back o).same
 command_back (command.Subscribe t l true) h = ap (λ x. command.Subscribe t x true) (level_is l)
 command_back (command.Subscribe t l false) h = ap (λ x. command.Subscribe t x false) (level_is l)
 command_back (command.Unsubscribe t l) h = ap (command.Unsubscribe t) (level_is l)
@@ -256,17 +269,6 @@ command_back (command.OneShot parts retries) h =
 
 -- ---- requests
 
-abbrev word_back : List ℕ → Request
-word_back w =
-    if bytes_eq w (codes "join") then request.Join
-    else (if bytes_eq w (codes "leave") then request.Leave
-    else (if bytes_eq w (codes "retry") then request.Retry
-    else (if bytes_eq w (codes "take") then request.Take else request.Do (command_of (atom w)))))
-
-abbrev request_of : PlainTerm → Request
-request_of (atom w) = word_back w
-request_of t = request.Do (command_of t)
-
 request_back : (r : Request) → IsRequest r → request_of (asked_term r) ≡ r
 request_back request.Join h = refl
 request_back request.Leave h = refl
@@ -274,18 +276,6 @@ request_back request.Retry h = refl
 request_back request.Take h = refl
 request_back (request.Do c) h = command_asked c ∙ ap request.Do (command_back c h)
   where
-    operation_asked : (o : Operation) → request_of (operation_term o) ≡ request.Do (command_of (operation_term o))
-    operation_asked (op.Read t k) = refl
-    operation_asked (op.ReadForWrite t k) = refl
-    operation_asked (op.Write r) = refl
-    operation_asked (op.Delete t k) = refl
-    operation_asked (op.DeleteObject r) = refl
-    operation_asked (op.IndexRead t x a) = refl
-    operation_asked (op.MatchObject p) = refl
-    operation_asked (op.AllKeys t) = refl
-    operation_asked (op.ReadLockTable t) = refl
-    operation_asked (op.WriteLockTable t) = refl
-
     command_asked : (c : Command) → request_of (term_of c) ≡ request.Do (command_of (term_of c))
     command_asked (command.Schema (schema.Create t options)) = refl
     command_asked (command.Schema (schema.Remove t)) = refl
@@ -295,7 +285,7 @@ request_back (request.Do c) h = command_asked c ∙ ap request.Do (command_back 
     command_asked command.Begin = refl
     command_asked command.Commit = refl
     command_asked (command.Abort r) = refl
-    command_asked (command.Do o) = operation_asked o
+    command_asked (command.Do o) = (operation_back o).asked
     command_asked (command.Subscribe t l true) = refl
     command_asked (command.Subscribe t l false) = refl
     command_asked (command.Unsubscribe t l) = refl
