@@ -1,7 +1,7 @@
 -- The canonical spelling of a term that is given by its parts.
 use Rattle.std.proofs.Common.{◌≡◌, ℕ, ◌+◌, List, [], ◌∷◌, ◌++◌, length, refl, sym, ap, ◌∙◌, arith, length-append, Option, Some, None}
 use Rattle.std.proofs.lemmas.List.{append-nil}
-use Rattle.tab_term.specs.Data.{PlainTerm, pair, triple}
+use Rattle.tab_term.specs.Data.{PlainTerm, tuple, none, one_more, pair, triple}
 use Rattle.tab_term.specs.Canon.{canon}
 use Rattle.tab_etf.proofs.CanonLemmas as is
 use Rattle.tab_etf.specs.declared.outline.Leaf.{Leaf}
@@ -19,6 +19,13 @@ pub triple_canon : (a b c : PlainTerm) → canon (triple a b c) ≡ (104 ∷ 3 �
 unfolding canon
 triple_canon a b c = ap (λ (h : List ℕ). h ++ (canon a ++ (canon b ++ (canon c ++ [])))) (is.tuple_short 3 (omega arith)) ∙ ap (λ (x : List ℕ). 104 ∷ 3 ∷ (canon a ++ (canon b ++ x))) (append-nil (canon c))
 
+abbrev four : PlainTerm → PlainTerm → PlainTerm → PlainTerm → PlainTerm
+four a b c d = tuple (one_more a (one_more b (one_more c (one_more d none))))
+
+pub four_canon : (a b c d : PlainTerm) → canon (four a b c d) ≡ (104 ∷ 4 ∷ []) ++ (canon a ++ (canon b ++ (canon c ++ canon d)))
+unfolding canon
+four_canon a b c d = ap (λ (h : List ℕ). h ++ (canon a ++ (canon b ++ (canon c ++ (canon d ++ []))))) (is.tuple_short 4 (omega arith)) ∙ ap (λ (x : List ℕ). 104 ∷ 4 ∷ (canon a ++ (canon b ++ (canon c ++ x)))) (append-nil (canon d))
+
 pub under_canon : (o : Option Leaf) (t : PlainTerm) → canon (under o t) ≡ head_canon o ++ canon t
 under_canon None t = refl
 under_canon (Some l) t = pair_canon (leaf_term l) t
@@ -32,6 +39,9 @@ pair_length a b = omega (arith, ap length (pair_canon a b), length-append (canon
 pub triple_length : (a b c : PlainTerm) → length (canon (triple a b c)) ≡ 2 + length (canon a) + length (canon b) + length (canon c)
 triple_length a b c = omega (arith, ap length (triple_canon a b c), length-append (canon a) (canon b ++ canon c), length-append (canon b) (canon c))
 
+pub four_length : (a b c d : PlainTerm) → length (canon (four a b c d)) ≡ 2 + length (canon a) + length (canon b) + length (canon c) + length (canon d)
+four_length a b c d = omega (arith, ap length (four_canon a b c d), length-append (canon a) (canon b ++ (canon c ++ canon d)), length-append (canon b) (canon c ++ canon d), length-append (canon c) (canon d))
+
 pub outline_length : (o : Outline) → length (canon (outline_term o)) ≡ length (head_canon o.first) + length (head_canon o.second) + length (canon (body_term o.body))
 outline_length o = omega (arith, ap length (outline_canon o), length-append (head_canon o.first) (head_canon o.second ++ canon (body_term o.body)), length-append (head_canon o.second) (canon (body_term o.body)))
 
@@ -43,6 +53,9 @@ module _ {W : Type 0} {contents : W → Option (List ℕ)} where
 
   pub writes_triple : {a b c d e : Writer W} (s t u : PlainTerm) → Writes contents a b (104 ∷ 3 ∷ []) → Writes contents b c (canon s) → Writes contents c d (canon t) → Writes contents d e (canon u) → Writes contents a e (canon (triple s t u))
   writes_triple s t u p q r w = writes_as (writes_then p (writes_then q (writes_then r w))) (sym (triple_canon s t u))
+
+  pub writes_four : {a b c d e f : Writer W} (s t u v : PlainTerm) → Writes contents a b (104 ∷ 4 ∷ []) → Writes contents b c (canon s) → Writes contents c d (canon t) → Writes contents d e (canon u) → Writes contents e f (canon v) → Writes contents a f (canon (four s t u v))
+  writes_four s t u v p q r w x = writes_as (writes_then p (writes_then q (writes_then r (writes_then w x)))) (sym (four_canon s t u v))
 
   pub writes_outline : {a b c d : Writer W} (o : Outline) → Writes contents a b (head_canon o.first) → Writes contents b c (head_canon o.second) → Writes contents c d (canon (body_term o.body)) → Writes contents a d (canon (outline_term o))
   writes_outline o p q r = writes_as (writes_then p (writes_then q r)) (sym (outline_canon o))

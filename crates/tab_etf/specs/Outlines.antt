@@ -1,7 +1,7 @@
--- Terms that are given by their parts: an atom's text, a number, a term, the elements of a list; a tuple of two or three of
+-- Terms that are given by their parts: an atom's text, a number, a term, the elements of a list; a tuple of two to four of
 -- these; and pairs around it.
 use Rattle.std.specs.Prelude.{ℕ, pos, ◌<◌, ◌^◌, List, [], ◌∷◌, Option, Some, None, length}
-use Rattle.tab_term.specs.Data.{PlainTerm, int, atom, list, pair, triple}
+use Rattle.tab_term.specs.Data.{PlainTerm, int, atom, tuple, list, none, one_more, pair, triple}
 use Rattle.tab_term.specs.Canon.{canon}
 use Rattle.tab_term.specs.View.{term}
 use Rattle.tab_etf.specs.declared.outline.Leaf.{Leaf}
@@ -20,6 +20,7 @@ abbrev pub body_term : Body → PlainTerm
 body_term (body.One a) = leaf_term a
 body_term (body.Two a b) = pair (leaf_term a) (leaf_term b)
 body_term (body.Three a b c) = triple (leaf_term a) (leaf_term b) (leaf_term c)
+body_term (body.Four a b c d) = tuple (one_more (leaf_term a) (one_more (leaf_term b) (one_more (leaf_term c) (one_more (leaf_term d) none))))
 
 -- {Leaf, Term}, or the term alone
 abbrev pub under : Option Leaf → PlainTerm → PlainTerm
@@ -43,6 +44,7 @@ abbrev pub IsShortBody : Body → Type 0
 IsShortBody (body.One a) = IsShort a
 IsShortBody (body.Two a b) = IsShort a × IsShort b
 IsShortBody (body.Three a b c) = IsShort a × IsShort b × IsShort c
+IsShortBody (body.Four a b c d) = IsShort a × IsShort b × IsShort c × IsShort d
 
 abbrev pub IsShortHead : Option Leaf → Type 0
 IsShortHead None = Unit {0}

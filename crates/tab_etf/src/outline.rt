@@ -29,6 +29,7 @@ pub enum Body<'a> {
     One(Leaf<'a>),
     Two(Leaf<'a>, Leaf<'a>),
     Three(Leaf<'a>, Leaf<'a>, Leaf<'a>),
+    Four(Leaf<'a>, Leaf<'a>, Leaf<'a>, Leaf<'a>),
 }
 
 /// A body, where it is named in a pair with the second part, and that in a pair with the first: `{first, {second, body}}`.
@@ -63,7 +64,7 @@ fn put_head<W: Write>(writer: &mut Writer<W>, head: &Option<Leaf>)
     }
 }
 
-#[tactic(auto, using(crate::proofs::OutlinesLemmas::writes_pair, crate::proofs::OutlinesLemmas::writes_triple))]
+#[tactic(auto, using(crate::proofs::OutlinesLemmas::writes_pair, crate::proofs::OutlinesLemmas::writes_triple, crate::proofs::OutlinesLemmas::writes_four))]
 fn put_body<W: Write>(writer: &mut Writer<W>, body: &Body)
     requires { IsShortBody body.now }
     ensures { Writes W.contents writer.old writer.new (canon (body_term body.now)) }
@@ -80,6 +81,13 @@ fn put_body<W: Write>(writer: &mut Writer<W>, body: &Body)
             put_leaf(writer, first);
             put_leaf(writer, second);
             put_leaf(writer, third);
+        }
+        Body::Four(first, second, third, fourth) => {
+            writer.put(&[SMALL_TUPLE_EXT, 4]);
+            put_leaf(writer, first);
+            put_leaf(writer, second);
+            put_leaf(writer, third);
+            put_leaf(writer, fourth);
         }
     }
 }
@@ -118,7 +126,7 @@ fn head_len(head: &Option<Leaf>) -> u64
     }
 }
 
-#[tactic(auto, using(crate::proofs::OutlinesLemmas::pair_length, crate::proofs::OutlinesLemmas::triple_length))]
+#[tactic(auto, using(crate::proofs::OutlinesLemmas::pair_length, crate::proofs::OutlinesLemmas::triple_length, crate::proofs::OutlinesLemmas::four_length))]
 fn body_len(body: &Body) -> u64
     requires { IsShortBody body.now }
     ensures { result ≡ min (length (canon (body_term body.now))) u64.MAX }
@@ -131,6 +139,11 @@ fn body_len(body: &Body) -> u64
         Body::Three(first, second, third) => leaf_len(first)
             .saturating_add(leaf_len(second))
             .saturating_add(leaf_len(third))
+            .saturating_add(2),
+        Body::Four(first, second, third, fourth) => leaf_len(first)
+            .saturating_add(leaf_len(second))
+            .saturating_add(leaf_len(third))
+            .saturating_add(leaf_len(fourth))
             .saturating_add(2),
     }
 }

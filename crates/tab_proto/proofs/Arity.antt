@@ -1,6 +1,6 @@
 -- Tuples that are taken apart have the wanted number of elements.
-use Rattle.std.proofs.Common.{◌≡◌, ◌≢◌, ℕ, Bool, false, refl}
-use Rattle.tab_term.specs.Data.{PlainTerm, atom, tuple, PlainTerms, none, one_more, count}
+use Rattle.std.proofs.Common.{◌≡◌, ◌≢◌, false, refl}
+use Rattle.tab_term.specs.Data.{atom, tuple, PlainTerms, none, one_more, count}
 use Rattle.tab_proto.specs.Reading.{is_call_term, is_pair}
 
 pub not_pair : (ts : PlainTerms) → count ts ≢ 2 → is_pair (tuple ts) ≡ false

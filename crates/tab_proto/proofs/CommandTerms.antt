@@ -1,11 +1,11 @@
 -- The term of every command is known as a command's.
-use Rattle.std.proofs.Common.{◌≡◌, ◌≢◌, List, [], ◌∷◌, Bool, true, false, ◌&&◌, refl, sym, ap, ◌∙◌}
+use Rattle.std.proofs.Common.{◌≡◌, List, [], ◌∷◌, Bool, true, false, refl, ◌∙◌}
 use Rattle.std.specs.Prelude.{Result, Ok, Err, IfOk}
 use Rattle.std.specs.Prelude.{codes, ◌||◌}
 use Rattle.std.specs.Str.{bytes_eq}
 use Rattle.std.specs.List.{list_all}
-use Rattle.std.proofs.lemmas.Bool.{false≢true, and_from, and_parts}
-use Rattle.tab_term.specs.Data.{PlainTerm, atom, tuple, PlainTerms, none, one_more}
+use Rattle.std.proofs.lemmas.Bool.{and_from, and_parts}
+use Rattle.tab_term.specs.Data.{PlainTerm, atom, tuple, PlainTerms}
 use Rattle.tab_proto.specs.declared.request.Request.{Request}
 use Rattle.tab_proto.specs.declared.request.Request.TheVariants as request
 use Rattle.tab_proto.specs.Requests.{asked_term, IsRequest, is_asked}
@@ -23,22 +23,24 @@ use Rattle.tab_model.specs.declared.data.Command.{Command}
 use Rattle.tab_model.specs.declared.data.Command.TheVariants as command
 use Rattle.tab_proto.specs.Commands.{term_of, operation_term, schema_term, level_word, item_word, with_first, enclosed, levels, outermost, is_command, is_operation, is_schema, is_part, is_nested}
 use Rattle.tab_proto.specs.Reading.{is_level, is_item, is_part_term, are_parts, is_command_term}
-use Rattle.tab_proto.specs.declared.fault.ProtoFault.{ProtoFault}
-use Rattle.tab_proto.specs.declared.fault.ProtoFault.TheVariants.{BadCommand, NoMemory}
 
 -- ---- the members of a one-shot
 
-operation_part : (o : Operation) → is_operation o ≡ true → is_part_term (operation_term o) ≡ true
-operation_part (op.Read t k) h = refl
-operation_part (op.ReadForWrite t k) h = refl
-operation_part (op.Write r) h = h
-operation_part (op.Delete t k) h = refl
-operation_part (op.DeleteObject r) h = h
-operation_part (op.IndexRead t x a) h = h
-operation_part (op.MatchObject p) h = h
-operation_part (op.AllKeys t) h = refl
-operation_part (op.ReadLockTable t) h = refl
-operation_part (op.WriteLockTable t) h = refl
+record IsKnown (o : Operation) : Type 0 where
+  pub part : is_part_term (operation_term o) ≡ is_operation o
+  pub command : is_command_term (operation_term o) ≡ is_operation o
+
+operation_is_known : (o : Operation) → IsKnown o
+operation_is_known (op.Read t k) = record { part = refl; command = refl }
+operation_is_known (op.ReadForWrite t k) = record { part = refl; command = refl }
+operation_is_known (op.Write r) = record { part = refl; command = refl }
+operation_is_known (op.Delete t k) = record { part = refl; command = refl }
+operation_is_known (op.DeleteObject r) = record { part = refl; command = refl }
+operation_is_known (op.IndexRead t x a) = record { part = refl; command = refl }
+operation_is_known (op.MatchObject p) = record { part = refl; command = refl }
+operation_is_known (op.AllKeys t) = record { part = refl; command = refl }
+operation_is_known (op.ReadLockTable t) = record { part = refl; command = refl }
+operation_is_known (op.WriteLockTable t) = record { part = refl; command = refl }
 
 abbrev AllParts : List PlainTerms → Type 0
 AllParts [] = Unit {0}
@@ -54,7 +56,7 @@ enclosed_is (ts ∷ outer) h = first_is _ outer h.0 h.1
 
 levels_are : (parts : List Part) → list_all is_part parts ≡ true → AllParts (levels parts)
 levels_are [] h = (refl, tt)
-levels_are (part.Do o ∷ parts) h = let p = and_parts (is_operation o) (list_all is_part parts) h in first_is (operation_term o) (levels parts) (operation_part o p.0) (levels_are parts p.1)
+levels_are (part.Do o ∷ parts) h = let p = and_parts (is_operation o) (list_all is_part parts) h in first_is (operation_term o) (levels parts) ((operation_is_known o).part ∙ p.0) (levels_are parts p.1)
 levels_are (part.Abort r ∷ parts) h = first_is _ (levels parts) refl (levels_are parts h)
 levels_are (part.Open ∷ parts) h = enclosed_is (levels parts) (levels_are parts h)
 levels_are (part.Close ∷ parts) h = (refl, levels_are parts h)
@@ -76,18 +78,6 @@ item_is item.Attributes = refl
 item_is item.Index = refl
 item_is item.Size = refl
 
-operation_is_known : (o : Operation) → is_operation o ≡ true → is_command_term (operation_term o) ≡ true
-operation_is_known (op.Read t k) h = refl
-operation_is_known (op.ReadForWrite t k) h = refl
-operation_is_known (op.Write r) h = h
-operation_is_known (op.Delete t k) h = refl
-operation_is_known (op.DeleteObject r) h = h
-operation_is_known (op.IndexRead t x a) h = h
-operation_is_known (op.MatchObject p) h = h
-operation_is_known (op.AllKeys t) h = refl
-operation_is_known (op.ReadLockTable t) h = refl
-operation_is_known (op.WriteLockTable t) h = refl
-
 schema_is_known : (s : Schema) → is_schema s ≡ true → is_command_term (schema_term s) ≡ true
 schema_is_known (schema.Create t options) h = refl
 schema_is_known (schema.Remove t) h = refl
@@ -100,8 +90,9 @@ command_is_known (command.TableInfo t i) h = item_is i
 command_is_known command.Begin h = refl
 command_is_known command.Commit h = refl
 command_is_known (command.Abort r) h = refl
-command_is_known (command.Do o) h = operation_is_known o h
-command_is_known (command.Subscribe t l dump) h = level_is l
+command_is_known (command.Do o) h = (operation_is_known o).command ∙ h
+command_is_known (command.Subscribe t l true) h = and_from _ _ (level_is l) refl
+command_is_known (command.Subscribe t l false) h = level_is l
 command_is_known (command.Unsubscribe t l) h = level_is l
 command_is_known (command.OneShot parts retries) h =
     let p = and_parts (Rattle.std.specs.Prelude.nat_le retries 1000) _ h in

@@ -1,12 +1,11 @@
 -- Parts one after another, and the operations that they say.
-use Rattle.std.proofs.Common.{◌≡◌, ℕ, suc, zero, ◌+◌, ◌<◌, ◌≤◌, List, [], ◌∷◌, ◌++◌, Bool, true, false, ◌&&◌, refl, sym, ap, ◌∙◌, subst, append-nil, append_assoc, take, length, get_or}
+use Rattle.std.proofs.Common.{◌≡◌, ℕ, suc, zero, ◌≤◌, List, [], ◌∷◌, ◌++◌, Bool, true, false, ◌&&◌, refl, sym, ap, ◌∙◌, subst, append-nil, append_assoc}
 use Rattle.std.proofs.Common.{arith, Result, Ok, Err, OnOk}
 use Rattle.tab_proto.specs.declared.fault.ProtoFault.{ProtoFault}
 use Rattle.tab_proto.specs.declared.fault.ProtoFault.TheVariants.{BadCommand, NoMemory}
 use Rattle.std.specs.Prelude.{codes, pos, nat_le}
 use Rattle.tab_model.specs.declared.data.Command.TheVariants as command
 use Rattle.std.specs.List.{list_all}
-use Rattle.std.proofs.lemmas.List.{take_more}
 use Rattle.tab_term.specs.Data.{PlainTerm, int, atom, list, PlainTerms, none, one_more, pair, triple, weight, nodes}
 use Rattle.tab_term.specs.View.{term, terms}
 use Rattle.tab_term.specs.declared.term.Term.{Term}

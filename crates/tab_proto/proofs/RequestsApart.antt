@@ -1,6 +1,6 @@
 -- A request is read back from its term, so two requests with one term are one.
-use Rattle.std.proofs.Common.{◌≡◌, ℕ, zero, suc, ℤ, pos, List, [], ◌∷◌, ◌++◌, length, Bool, true, false, ◌&&◌, refl, sym, ap, ◌∙◌, append_assoc, arith, Option, Some, None}
-use Rattle.std.specs.Prelude.{codes, if◌then◌else◌, not, nat_le}
+use Rattle.std.proofs.Common.{◌≡◌, ℕ, zero, suc, ℤ, pos, List, [], ◌∷◌, ◌++◌, length, true, false, refl, sym, ap, ◌∙◌, append_assoc, arith, Option, Some}
+use Rattle.std.specs.Prelude.{codes, if◌then◌else◌, nat_le}
 use Rattle.std.specs.Str.{bytes_eq}
 use Rattle.std.specs.List.{list_all}
 use Rattle.std.proofs.lemmas.Bool.{and_parts}
@@ -9,7 +9,6 @@ use Rattle.tab_term.specs.View.{term}
 use Rattle.tab_term.specs.declared.term.Term.{Term}
 use Rattle.tab_model.specs.declared.data.Operation.{Operation}
 use Rattle.tab_model.specs.declared.data.Operation.TheVariants as op
-use Rattle.tab_model.specs.declared.data.Schema.{Schema}
 use Rattle.tab_model.specs.declared.data.Schema.TheVariants as schema
 use Rattle.tab_model.specs.declared.data.Level.{Level}
 use Rattle.tab_model.specs.declared.data.Level.TheVariants.{Simple, Detailed}
@@ -28,10 +27,10 @@ use Rattle.tab_proto.specs.declared.first_words.Unary.TheVariants as unary
 use Rattle.tab_proto.specs.declared.first_words.Binary.{Binary}
 use Rattle.tab_proto.specs.declared.first_words.Binary.TheVariants as binary
 use Rattle.tab_proto.specs.FirstWords.{unary_in, binary_in}
-use Rattle.tab_proto.specs.Commands.{term_of, abort_term, operation_term, schema_term, level_word, item_word, with_first, enclosed, levels, outermost, is_command, is_nested, is_part}
+use Rattle.tab_proto.specs.Commands.{term_of, abort_term, operation_term, level_word, item_word, with_first, enclosed, levels, outermost, is_command, is_nested, is_part}
 use Rattle.tab_proto.specs.Requests.{asked_term, request_term, number_in, IsRequest}
 
--- ---- operations
+-- ---- what a term asks
 
 abbrev name_back : PlainTerm → List ℕ
 name_back (atom name) = name
@@ -51,7 +50,11 @@ unary_operation (Some unary.ReadLockTable) x = op.ReadLockTable (name_back x)
 unary_operation (Some unary.WriteLockTable) x = op.WriteLockTable (name_back x)
 unary_operation u x = op.AllKeys (name_back x)
 
--- ---- the parts of a one-shot
+abbrev operation_of : PlainTerm → Operation
+operation_of (tuple (one_more (atom w) (one_more x none))) = unary_operation (unary_in w) x
+operation_of (tuple (one_more (atom w) (one_more x (one_more y none)))) = op.Read (name_back x) (held y)
+operation_of (tuple (one_more (atom w) (one_more x (one_more y (one_more z none))))) = op.IndexRead (name_back x) (held y) (held z)
+operation_of t = op.AllKeys []
 
 abbrev unary_parts : Option Unary → List Part → PlainTerm → List Part
 unary_parts (Some unary.Abort) inner x = part.Abort (held x) ∷ []
@@ -73,17 +76,88 @@ abbrev mutual
   all_parts none = []
   all_parts (one_more t ts) = parts_of t ++ all_parts ts
 
-operation_back : (o : Operation) → parts_of (operation_term o) ≡ part.Do o ∷ []
-operation_back (op.Read t k) = ap (λ x. part.Do (op.Read t x) ∷ []) (held_term k)
-operation_back (op.ReadForWrite t k) = ap (λ x. part.Do (op.ReadForWrite t x) ∷ []) (held_term k)
-operation_back (op.Write r) = ap (λ x. part.Do (op.Write x) ∷ []) (held_term r)
-operation_back (op.Delete t k) = ap (λ x. part.Do (op.Delete t x) ∷ []) (held_term k)
-operation_back (op.DeleteObject r) = ap (λ x. part.Do (op.DeleteObject x) ∷ []) (held_term r)
-operation_back (op.IndexRead t x a) = λ i. part.Do (op.IndexRead t (held_term x i) (held_term a i)) ∷ []
-operation_back (op.MatchObject p) = ap (λ x. part.Do (op.MatchObject x) ∷ []) (held_term p)
-operation_back (op.AllKeys t) = refl
-operation_back (op.ReadLockTable t) = refl
-operation_back (op.WriteLockTable t) = refl
+abbrev number_back : PlainTerm → ℕ
+number_back (int (pos n)) = n
+number_back t = 0
+
+abbrev items_back : PlainTerm → PlainTerms
+items_back (list ts) = ts
+items_back t = none
+
+abbrev level_back : PlainTerm → Level
+level_back (atom w) = if bytes_eq w (codes "simple") then Simple else Detailed
+level_back t = Simple
+
+abbrev item_back : PlainTerm → InfoItem
+item_back (atom w) =
+    if bytes_eq w (codes "type") then item.Kind
+    else (if bytes_eq w (codes "attributes") then item.Attributes
+    else (if bytes_eq w (codes "index") then item.Index else item.Size))
+item_back t = item.Size
+
+abbrev watch_back : (List ℕ → Level → Command) → PlainTerm → Command
+watch_back f (tuple (one_more w (one_more t (one_more l none)))) = f (name_back t) (level_back l)
+watch_back f t = command.Begin
+
+abbrev unary_back : Option Unary → PlainTerm → Command
+unary_back (Some unary.Abort) x = command.Abort (held x)
+unary_back (Some unary.DeleteTable) x = command.Schema (schema.Remove (name_back x))
+unary_back (Some unary.Subscribe) x = watch_back (λ t l. command.Subscribe t l false) x
+unary_back (Some unary.Unsubscribe) x = watch_back command.Unsubscribe x
+unary_back u x = command.Do (unary_operation u x)
+
+abbrev binary_back : Option Binary → PlainTerm → PlainTerm → Command
+binary_back (Some binary.AddTableIndex) x y = command.Schema (schema.AddIndex (name_back x) (held y))
+binary_back (Some binary.CreateTable) x y = command.Schema (schema.Create (name_back x) (items_back y))
+binary_back (Some binary.DelTableIndex) x y = command.Schema (schema.DelIndex (name_back x) (held y))
+binary_back (Some binary.Subscribe) x y = watch_back (λ t l. command.Subscribe t l true) x
+binary_back (Some binary.TableInfo) x y = command.TableInfo (name_back x) (item_back y)
+binary_back (Some binary.Transaction) x y = command.OneShot (inner_parts x) (number_back y)
+binary_back b x y = command.Do (op.Read (name_back x) (held y))
+
+abbrev call_back : PlainTerms → Command
+call_back (one_more (atom w) (one_more x none)) = unary_back (unary_in w) x
+call_back (one_more (atom w) (one_more x (one_more y none))) = binary_back (binary_in w) x y
+call_back (one_more (atom w) (one_more x (one_more y (one_more z none)))) = command.Do (op.IndexRead (name_back x) (held y) (held z))
+call_back ts = command.Begin
+
+abbrev command_of : PlainTerm → Command
+command_of (atom w) = if bytes_eq w (codes "begin") then command.Begin else command.Commit
+command_of (tuple ts) = call_back ts
+command_of t = command.Begin
+
+abbrev word_back : List ℕ → Request
+word_back w =
+    if bytes_eq w (codes "join") then request.Join
+    else (if bytes_eq w (codes "leave") then request.Leave
+    else (if bytes_eq w (codes "retry") then request.Retry
+    else (if bytes_eq w (codes "take") then request.Take else request.Do (command_of (atom w)))))
+
+abbrev request_of : PlainTerm → Request
+request_of (atom w) = word_back w
+request_of t = request.Do (command_of t)
+
+-- ---- an operation, as itself, as a part, as a command and as a request
+
+record IsReadBack (o : Operation) : Type 0 where
+  pub same : operation_of (operation_term o) ≡ o
+  pub part : parts_of (operation_term o) ≡ part.Do (operation_of (operation_term o)) ∷ []
+  pub command : command_of (operation_term o) ≡ command.Do (operation_of (operation_term o))
+  pub asked : request_of (operation_term o) ≡ request.Do (command_of (operation_term o))
+
+operation_back : (o : Operation) → IsReadBack o
+operation_back (op.Read t k) = record { same = ap (op.Read t) (held_term k); part = refl; command = refl; asked = refl }
+operation_back (op.ReadForWrite t k) = record { same = ap (op.ReadForWrite t) (held_term k); part = refl; command = refl; asked = refl }
+operation_back (op.Write r) = record { same = ap op.Write (held_term r); part = refl; command = refl; asked = refl }
+operation_back (op.Delete t k) = record { same = ap (op.Delete t) (held_term k); part = refl; command = refl; asked = refl }
+operation_back (op.DeleteObject r) = record { same = ap op.DeleteObject (held_term r); part = refl; command = refl; asked = refl }
+operation_back (op.IndexRead t x a) = record { same = λ i. op.IndexRead t (held_term x i) (held_term a i); part = refl; command = refl; asked = refl }
+operation_back (op.MatchObject p) = record { same = ap op.MatchObject (held_term p); part = refl; command = refl; asked = refl }
+operation_back (op.AllKeys t) = record { same = refl; part = refl; command = refl; asked = refl }
+operation_back (op.ReadLockTable t) = record { same = refl; part = refl; command = refl; asked = refl }
+operation_back (op.WriteLockTable t) = record { same = refl; part = refl; command = refl; asked = refl }
+
+-- ---- the parts of a one-shot
 
 -- lists that stand open, innermost first, as parts
 abbrev flat : List PlainTerms → List Part
@@ -122,7 +196,7 @@ record AreLevels (n : ℕ) (parts : List Part) : Type 0 where
 levels_does : (n : ℕ) (o : Operation) (parts : List Part) → AreLevels n parts → AreLevels n (part.Do o ∷ parts)
 levels_does n o parts l = record {
   count = length_first (operation_term o) (levels parts) ∙ l.count;
-  back = flat_first (operation_term o) (levels parts) n l.count ∙ ap (λ ps. ps ++ flat (levels parts)) (operation_back o) ∙ ap (λ ps. part.Do o ∷ ps) l.back;
+  back = flat_first (operation_term o) (levels parts) n l.count ∙ ap (λ ps. ps ++ flat (levels parts)) ((operation_back o).part ∙ ap (λ x. part.Do x ∷ []) (operation_back o).same) ∙ ap (λ ps. part.Do o ∷ ps) l.back;
 }
 
 levels_abort : (n : ℕ) (r : Term) (parts : List Part) → AreLevels n parts → AreLevels n (part.Abort r ∷ parts)
@@ -165,67 +239,6 @@ parts_back parts h = let l = levels_back 0 parts h in outermost_back (levels par
 
 -- ---- commands
 
-abbrev number_back : PlainTerm → ℕ
-number_back (int (pos n)) = n
-number_back t = 0
-
-abbrev items_back : PlainTerm → PlainTerms
-items_back (list ts) = ts
-items_back t = none
-
-abbrev level_back : PlainTerm → Level
-level_back (atom w) = if bytes_eq w (codes "simple") then Simple else Detailed
-level_back t = Simple
-
-abbrev item_back : PlainTerm → InfoItem
-item_back (atom w) =
-    if bytes_eq w (codes "type") then item.Kind
-    else (if bytes_eq w (codes "attributes") then item.Attributes
-    else (if bytes_eq w (codes "index") then item.Index else item.Size))
-item_back t = item.Size
-
-abbrev watch_back : (List ℕ → Level → Command) → PlainTerm → Command
-watch_back f (tuple (one_more w (one_more t (one_more l none)))) = f (name_back t) (level_back l)
-watch_back f t = command.Begin
-
-abbrev unary_back : Option Unary → PlainTerm → Command
-unary_back (Some unary.Abort) x = command.Abort (held x)
-unary_back (Some unary.DeleteTable) x = command.Schema (schema.Remove (name_back x))
-unary_back (Some unary.Subscribe) x = watch_back (λ t l. command.Subscribe t l false) x
-unary_back (Some unary.Unsubscribe) x = watch_back command.Unsubscribe x
-unary_back u x = command.Do (unary_operation u x)
-
-abbrev binary_back : Option Binary → PlainTerm → PlainTerm → Command
-binary_back (Some binary.AddTableIndex) x y = command.Schema (schema.AddIndex (name_back x) (held y))
-binary_back (Some binary.CreateTable) x y = command.Schema (schema.Create (name_back x) (items_back y))
-binary_back (Some binary.DelTableIndex) x y = command.Schema (schema.DelIndex (name_back x) (held y))
-binary_back (Some binary.TableInfo) x y = command.TableInfo (name_back x) (item_back y)
-binary_back (Some binary.Transaction) x y = command.OneShot (inner_parts x) (number_back y)
-binary_back b x y = command.Do (op.Read (name_back x) (held y))
-
-abbrev call_back : PlainTerms → Command
-call_back (one_more (atom w) (one_more x none)) = unary_back (unary_in w) x
-call_back (one_more (atom w) (one_more x (one_more y none))) = binary_back (binary_in w) x y
-call_back (one_more (atom w) (one_more x (one_more y (one_more z none)))) = command.Do (op.IndexRead (name_back x) (held y) (held z))
-call_back ts = command.Begin
-
-abbrev command_of : PlainTerm → Command
-command_of (atom w) = if bytes_eq w (codes "begin") then command.Begin else command.Commit
-command_of (tuple ts) = call_back ts
-command_of t = command.Begin
-
-do_back : (o : Operation) → command_of (operation_term o) ≡ command.Do o
-do_back (op.Read t k) = ap (λ x. command.Do (op.Read t x)) (held_term k)
-do_back (op.ReadForWrite t k) = ap (λ x. command.Do (op.ReadForWrite t x)) (held_term k)
-do_back (op.Write r) = ap (λ x. command.Do (op.Write x)) (held_term r)
-do_back (op.Delete t k) = ap (λ x. command.Do (op.Delete t x)) (held_term k)
-do_back (op.DeleteObject r) = ap (λ x. command.Do (op.DeleteObject x)) (held_term r)
-do_back (op.IndexRead t x a) = λ i. command.Do (op.IndexRead t (held_term x i) (held_term a i))
-do_back (op.MatchObject p) = ap (λ x. command.Do (op.MatchObject x)) (held_term p)
-do_back (op.AllKeys t) = refl
-do_back (op.ReadLockTable t) = refl
-do_back (op.WriteLockTable t) = refl
-
 level_is : (l : Level) → level_back (level_word l) ≡ l
 level_is Simple = refl
 level_is Detailed = refl
@@ -245,8 +258,8 @@ command_back (command.TableInfo t i) h = ap (command.TableInfo t) (item_is i)
 command_back command.Begin h = refl
 command_back command.Commit h = refl
 command_back (command.Abort r) h = ap command.Abort (held_term r)
-command_back (command.Do o) h = do_back o
-command_back (command.Subscribe t l true) h = absurd cc
+command_back (command.Do o) h = (operation_back o).command ∙ ap command.Do (operation_back o).same
+command_back (command.Subscribe t l true) h = ap (λ x. command.Subscribe t x true) (level_is l)
 command_back (command.Subscribe t l false) h = ap (λ x. command.Subscribe t x false) (level_is l)
 command_back (command.Unsubscribe t l) h = ap (command.Unsubscribe t) (level_is l)
 command_back (command.OneShot parts retries) h =
@@ -256,17 +269,6 @@ command_back (command.OneShot parts retries) h =
 
 -- ---- requests
 
-abbrev word_back : List ℕ → Request
-word_back w =
-    if bytes_eq w (codes "join") then request.Join
-    else (if bytes_eq w (codes "leave") then request.Leave
-    else (if bytes_eq w (codes "retry") then request.Retry
-    else (if bytes_eq w (codes "take") then request.Take else request.Do (command_of (atom w)))))
-
-abbrev request_of : PlainTerm → Request
-request_of (atom w) = word_back w
-request_of t = request.Do (command_of t)
-
 request_back : (r : Request) → IsRequest r → request_of (asked_term r) ≡ r
 request_back request.Join h = refl
 request_back request.Leave h = refl
@@ -274,18 +276,6 @@ request_back request.Retry h = refl
 request_back request.Take h = refl
 request_back (request.Do c) h = command_asked c ∙ ap request.Do (command_back c h)
   where
-    operation_asked : (o : Operation) → request_of (operation_term o) ≡ request.Do (command_of (operation_term o))
-    operation_asked (op.Read t k) = refl
-    operation_asked (op.ReadForWrite t k) = refl
-    operation_asked (op.Write r) = refl
-    operation_asked (op.Delete t k) = refl
-    operation_asked (op.DeleteObject r) = refl
-    operation_asked (op.IndexRead t x a) = refl
-    operation_asked (op.MatchObject p) = refl
-    operation_asked (op.AllKeys t) = refl
-    operation_asked (op.ReadLockTable t) = refl
-    operation_asked (op.WriteLockTable t) = refl
-
     command_asked : (c : Command) → request_of (term_of c) ≡ request.Do (command_of (term_of c))
     command_asked (command.Schema (schema.Create t options)) = refl
     command_asked (command.Schema (schema.Remove t)) = refl
@@ -295,8 +285,9 @@ request_back (request.Do c) h = command_asked c ∙ ap request.Do (command_back 
     command_asked command.Begin = refl
     command_asked command.Commit = refl
     command_asked (command.Abort r) = refl
-    command_asked (command.Do o) = operation_asked o
-    command_asked (command.Subscribe t l dump) = refl
+    command_asked (command.Do o) = (operation_back o).asked
+    command_asked (command.Subscribe t l true) = refl
+    command_asked (command.Subscribe t l false) = refl
     command_asked (command.Unsubscribe t l) = refl
     command_asked (command.OneShot parts retries) = refl
 

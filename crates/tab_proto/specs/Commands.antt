@@ -1,6 +1,7 @@
 -- The terms of commands: each is a call of the Mnesia Reference Manual with the function's name as its first word.
--- (That begin and commit are calls of their own, and the parts of a one-shot, are this project's own rules.)
-use Rattle.std.specs.Prelude.{ℕ, zero, suc, List, [], ◌∷◌, Bool, true, false, not, ◌&&◌, nat_le, codes, pos}
+-- (That begin and commit are calls of their own, the parts of a one-shot, and a subscription's `dump` are this project's own
+-- rules.)
+use Rattle.std.specs.Prelude.{ℕ, zero, suc, List, [], ◌∷◌, Bool, true, false, ◌&&◌, nat_le, codes, pos}
 use Rattle.std.specs.List.{list_all}
 use Rattle.tab_term.specs.Data.{PlainTerm, int, atom, tuple, list, PlainTerms, none, one_more, pair, triple}
 use Rattle.tab_term.specs.View.{term}
@@ -42,6 +43,10 @@ abbrev pub level_word : Level → PlainTerm
 level_word Simple = atom (codes "simple")
 level_word Detailed = atom (codes "detailed")
 
+-- what is subscribed to
+abbrev pub watch_term : List ℕ → Level → PlainTerm
+watch_term t l = triple (atom (codes "table")) (atom t) (level_word l)
+
 abbrev pub item_word : InfoItem → PlainTerm
 item_word item.Kind = atom (codes "type")
 item_word item.Attributes = atom (codes "attributes")
@@ -81,8 +86,9 @@ term_of command.Begin = atom (codes "begin")
 term_of command.Commit = atom (codes "commit")
 term_of (command.Abort r) = abort_term (term r)
 term_of (command.Do o) = operation_term o
-term_of (command.Subscribe t l dump) = pair (atom (codes "subscribe")) (triple (atom (codes "table")) (atom t) (level_word l))
-term_of (command.Unsubscribe t l) = pair (atom (codes "unsubscribe")) (triple (atom (codes "table")) (atom t) (level_word l))
+term_of (command.Subscribe t l false) = pair (atom (codes "subscribe")) (watch_term t l)
+term_of (command.Subscribe t l true) = triple (atom (codes "subscribe")) (watch_term t l) (atom (codes "dump"))
+term_of (command.Unsubscribe t l) = pair (atom (codes "unsubscribe")) (watch_term t l)
 term_of (command.OneShot parts retries) = triple (atom (codes "transaction")) (list (outermost (levels parts))) (int (pos retries))
 
 -- a record or a pattern: a tuple of arity 2 or more whose first element is an atom, the table's name
@@ -126,6 +132,5 @@ is_nested n (part.Abort r ∷ parts) = is_nested n parts
 abbrev pub is_command : Command → Bool
 is_command (command.Schema c) = is_schema c
 is_command (command.Do o) = is_operation o
-is_command (command.Subscribe t l dump) = not dump  -- a term asks for no copy of the records with its mark
 is_command (command.OneShot parts retries) = nat_le retries 1000 && (is_nested 0 parts && list_all is_part parts)
 is_command c = true

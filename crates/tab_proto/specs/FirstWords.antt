@@ -33,11 +33,12 @@ binary_text binary.AddTableIndex = codes "add_table_index"
 binary_text binary.CreateTable = codes "create_table"
 binary_text binary.DelTableIndex = codes "del_table_index"
 binary_text binary.Read = codes "read"
+binary_text binary.Subscribe = codes "subscribe"
 binary_text binary.TableInfo = codes "table_info"
 binary_text binary.Transaction = codes "transaction"
 
 abbrev pub all_binary : List Binary
-all_binary = binary.AddTableIndex ∷ binary.CreateTable ∷ binary.DelTableIndex ∷ binary.Read ∷ binary.TableInfo ∷ binary.Transaction ∷ []
+all_binary = binary.AddTableIndex ∷ binary.CreateTable ∷ binary.DelTableIndex ∷ binary.Read ∷ binary.Subscribe ∷ binary.TableInfo ∷ binary.Transaction ∷ []
 
 abbrev pub binary_in : List ℕ → Option Binary
 binary_in w = find (λ b. bytes_eq w (binary_text b)) all_binary

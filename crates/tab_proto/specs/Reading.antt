@@ -45,6 +45,11 @@ abbrev pub is_watch : PlainTerm → Bool
 is_watch (tuple (one_more (atom w) (one_more (atom t) (one_more l none)))) = bytes_eq w (codes "table") && is_level l
 is_watch t = false
 
+-- a subscription's word for a mark that carries the records
+abbrev pub is_dump : PlainTerm → Bool
+is_dump (atom w) = bytes_eq w (codes "dump")
+is_dump t = false
+
 abbrev pub is_item : PlainTerm → Bool
 is_item (atom w) = bytes_eq w (codes "type") || (bytes_eq w (codes "attributes") || (bytes_eq w (codes "index") || bytes_eq w (codes "size")))
 is_item t = false
@@ -108,6 +113,7 @@ is_binary (Some binary.AddTableIndex) x y = is_atom x && is_attribute y
 is_binary (Some binary.CreateTable) x y = is_atom x && is_list y
 is_binary (Some binary.DelTableIndex) x y = is_atom x && is_attribute y
 is_binary (Some binary.Read) x y = is_atom x
+is_binary (Some binary.Subscribe) x y = is_watch x && is_dump y
 is_binary (Some binary.TableInfo) x y = is_atom x && is_item y
 is_binary (Some binary.Transaction) x y = is_parts_list x && is_retries y
 
@@ -140,17 +146,26 @@ is_command_term (atom w) = is_one_word w
 is_command_term (tuple ts) = is_call ts
 is_command_term t = false
 
+-- {transaction, Ops, Retries}, whatever the members of Ops are
+abbrev pub is_one_shot_term : PlainTerm → Bool
+is_one_shot_term (tuple (one_more (atom w) (one_more x (one_more y none)))) = bytes_eq w (codes "transaction") && (is_list x && is_retries y)
+is_one_shot_term t = false
+
 abbrev pub SpellsOperation : Operation → PlainTerm → Type 0
 SpellsOperation o t = (operation_term o ≡ t) × (is_operation o ≡ true)
 
 abbrev pub Spells : Command → PlainTerm → Type 0
 Spells c t = (term_of c ≡ t) × (is_command c ≡ true)
 
--- what comes with BadCommand
+-- what comes with BadCommand, and what with NoMemory
+abbrev pub FailsOnlyIf : {A : Type 0} → Type 0 → Type 0 → Result A ProtoFault → Type 0
+FailsOnlyIf P M (Ok a) = Unit {0}
+FailsOnlyIf P M (Err BadCommand) = P
+FailsOnlyIf P M (Err NoMemory) = M
+
+-- what comes with BadCommand, where any call may be refused for memory
 abbrev pub RefusesOnlyIf : {A : Type 0} → Type 0 → Result A ProtoFault → Type 0
-RefusesOnlyIf P (Ok a) = Unit {0}
-RefusesOnlyIf P (Err BadCommand) = P
-RefusesOnlyIf P (Err NoMemory) = Unit {0}
+RefusesOnlyIf P r = FailsOnlyIf P (Unit {0}) r
 
 -- these operations stand first in the innermost transaction that is open before
 abbrev pub with_all : PlainTerms → List PlainTerms → List PlainTerms

@@ -18,7 +18,7 @@ use Rattle.tab_model.specs.declared.data.Reply.TheVariants as reply
 use Rattle.tab_model.specs.Names.{number}
 use Rattle.tab_etf.specs.declared.outline.Outline.{Outline}
 use Rattle.tab_etf.specs.Outlines.{outline_term, IsShortOutline}
-use Rattle.tab_proto.specs.Commands.{level_word}
+use Rattle.tab_proto.specs.Commands.{four, level_word}
 
 abbrev pub error : PlainTerm → PlainTerm
 error reason = pair (atom (codes "error")) reason
@@ -48,9 +48,9 @@ info_term (info.Attributes ns) = list ns
 info_term (info.Index ns) = list ns
 info_term (info.Size n) = number n
 
--- the records that a mark may carry are no part of its term
 abbrev pub item_term : Item → PlainTerm
-item_term (Began t l dump) = triple (atom (codes "mnesia_table_begin")) (atom t) (level_word l)
+item_term (Began t l None) = triple (atom (codes "mnesia_table_begin")) (atom t) (level_word l)
+item_term (Began t l (Some records)) = four (atom (codes "mnesia_table_begin")) (atom t) (level_word l) (list records)
 item_term (Batch n events) = triple (atom (codes "batch")) (number n) (list events)
 item_term (Ended t e) = triple (atom (codes "mnesia_table_end")) (atom t) (atom (ending_word e))
 

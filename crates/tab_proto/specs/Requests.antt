@@ -1,5 +1,5 @@
 -- The terms of requests (this project's own rule): a session's number, and a command or a word for what isn't one.
-use Rattle.std.specs.Prelude.{◌≡◌, ◌≢◌, ◌≤◌, ◌<◌, ℤ, Option, Some, None, ℕ, List, Bool, true, false, ◌||◌, ◌&&◌, codes, pos, Result, Ok, Err}
+use Rattle.std.specs.Prelude.{◌≡◌, ◌≢◌, ◌≤◌, ◌<◌, ℤ, Option, Some, None, ℕ, List, Bool, true, false, ◌||◌, codes, pos, Result, Ok, Err}
 use Rattle.std.specs.Str.{bytes_eq}
 use Rattle.tab_term.specs.Data.{PlainTerm, int, atom, tuple, none, one_more, pair}
 use Rattle.tab_proto.specs.declared.request.Request.{Request}
@@ -7,7 +7,7 @@ use Rattle.tab_proto.specs.declared.request.Request.TheVariants as request
 use Rattle.tab_proto.specs.declared.fault.ProtoFault.{ProtoFault}
 use Rattle.tab_proto.specs.declared.fault.ProtoFault.TheVariants.{BadCommand, NoMemory}
 use Rattle.tab_proto.specs.Commands.{term_of, is_command}
-use Rattle.tab_proto.specs.Reading.{is_one_word, is_call}
+use Rattle.tab_proto.specs.Reading.{is_one_word, is_call, is_one_shot_term}
 
 abbrev pub asked_term : Request → PlainTerm
 asked_term request.Join = atom (codes "join")
@@ -49,8 +49,16 @@ is_asked (atom w) = is_word_alone w
 is_asked (tuple ts) = is_call ts
 is_asked t = false
 
--- what this term asks, refused only where `known` is false
+-- {Session, {transaction, Ops, Retries}}
+pub record AsksOneShot (t : PlainTerm) : Type 0 where
+  pub session : ℕ
+  pub asked : PlainTerm
+  pub is : t ≡ pair (int (pos session)) asked
+  pub numbered : IsSession session
+  pub one_shot : is_one_shot_term asked ≡ true
+
+-- what this term asks, refused only where `known` is false; only a one-shot may want for memory
 abbrev pub ReadsAs : PlainTerm → Bool → Result Request ProtoFault → Type 0
 ReadsAs t known (Ok r) = (asked_term r ≡ t) × IsRequest r
 ReadsAs t known (Err BadCommand) = known ≡ false
-ReadsAs t known (Err NoMemory) = Unit {0}
+ReadsAs t known (Err NoMemory) = is_one_shot_term t ≡ true

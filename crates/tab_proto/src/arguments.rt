@@ -1,44 +1,44 @@
 //! The arguments of a request, taken out of its term where they have the form that a command wants.
 
-ghost use Rattle.std.specs.Prelude.{◌≡◌, IfOk, true, false};
+ghost use Rattle.std.specs.Prelude.{◌≡◌, IfOk, OnErr, true, false};
 ghost use Rattle.tab_term.specs.Data.{atom, list, pair};
 ghost use Rattle.tab_term.specs.View.{term};
 ghost use Rattle.tab_proto.specs.Commands.{is_row as is_row_of, is_attribute as is_attribute_of};
-ghost use Rattle.tab_proto.specs.Reading.{is_atom, is_list, is_place, RefusesOnlyIf};
+ghost use Rattle.tab_proto.specs.Reading.{is_atom, is_list, is_place};
 
 use crate::call::pair_of;
-use crate::fault::ProtoFault;
+use crate::fault::NoCommand;
 use tab_term::{Atom, Term, Terms};
 
 /// A table's name.
-pub fn name_of(argument: Term) -> Result<Atom, ProtoFault>
+pub fn name_of(argument: Term) -> Result<Atom, NoCommand>
     ensures ok { IfOk result (λ a. term argument ≡ atom a) }
-    ensures bad { RefusesOnlyIf (is_atom (term argument) ≡ false) result }
+    ensures bad { OnErr result (is_atom (term argument) ≡ false) }
 {
     match argument {
         Term::Atom(name) => Ok(name),
-        _ => Err(ProtoFault::BadCommand),
+        _ => Err(NoCommand),
     }
 }
 
 /// The elements of a list.
-pub fn elements_of(argument: Term) -> Result<Terms, ProtoFault>
+pub fn elements_of(argument: Term) -> Result<Terms, NoCommand>
     ensures ok { IfOk result (λ ts. term argument ≡ list ts) }
-    ensures bad { RefusesOnlyIf (is_list (term argument) ≡ false) result }
+    ensures bad { OnErr result (is_list (term argument) ≡ false) }
 {
     match argument {
         Term::List(elements) => Ok(elements),
-        _ => Err(ProtoFault::BadCommand),
+        _ => Err(NoCommand),
     }
 }
 
 /// A record or a pattern: a tuple of arity 2 or more whose first element is an atom.
-pub fn row_of(argument: Term) -> Result<Term, ProtoFault>
+pub fn row_of(argument: Term) -> Result<Term, NoCommand>
     ensures ok { IfOk result (λ t. (t ≡ argument) × (is_row_of (term argument) ≡ true)) }
-    ensures bad { RefusesOnlyIf (is_row_of (term argument) ≡ false) result }
+    ensures bad { OnErr result (is_row_of (term argument) ≡ false) }
 {
     if !is_row(&argument) {
-        return Err(ProtoFault::BadCommand);
+        return Err(NoCommand);
     }
     Ok(argument)
 }
@@ -53,20 +53,20 @@ fn is_row(argument: &Term) -> bool
 }
 
 /// An attribute: its name or its position.
-pub fn attribute_of(argument: Term) -> Result<Term, ProtoFault>
+pub fn attribute_of(argument: Term) -> Result<Term, NoCommand>
     ensures ok { IfOk result (λ t. (t ≡ argument) × (is_attribute_of (term argument) ≡ true)) }
-    ensures bad { RefusesOnlyIf (is_attribute_of (term argument) ≡ false) result }
+    ensures bad { OnErr result (is_attribute_of (term argument) ≡ false) }
 {
     if !matches!(argument, Term::Atom(_) | Term::Int(_)) {
-        return Err(ProtoFault::BadCommand);
+        return Err(NoCommand);
     }
     Ok(argument)
 }
 
 /// `{Tab, Key}`.
-pub fn place_of(argument: Term) -> Result<(Atom, Term), ProtoFault>
+pub fn place_of(argument: Term) -> Result<(Atom, Term), NoCommand>
     ensures ok { IfOk result (λ p. term argument ≡ pair (atom p.0) (term p.1)) }
-    ensures bad { RefusesOnlyIf (is_place (term argument) ≡ false) result }
+    ensures bad { OnErr result (is_place (term argument) ≡ false) }
 {
     let (table, key) = pair_of(argument)?;
     Ok((name_of(table)?, key))

@@ -1,11 +1,11 @@
 //! A tuple that begins with a word, as the calls of the manuals do: the word, and the arguments behind it.
 
-ghost use Rattle.std.specs.Prelude.{◌≡◌, IfOk, false};
+ghost use Rattle.std.specs.Prelude.{◌≡◌, IfOk, OnErr, false};
 ghost use Rattle.tab_term.specs.Data.{atom, pair};
 ghost use Rattle.tab_term.specs.View.{term};
-ghost use Rattle.tab_proto.specs.Reading.{call_term, is_call_term, is_atom, is_pair, RefusesOnlyIf};
+ghost use Rattle.tab_proto.specs.Reading.{call_term, is_call_term, is_atom, is_pair};
 
-use crate::fault::ProtoFault;
+use crate::fault::NoCommand;
 use tab_term::{Atom, Term};
 
 /// One to three arguments; no command has more.
@@ -23,12 +23,12 @@ pub struct Call {
 }
 
 /// Takes a term apart, and copies nothing.
-pub fn call_of(held: Term) -> Result<Call, ProtoFault>
+pub fn call_of(held: Term) -> Result<Call, NoCommand>
     ensures ok { IfOk result (λ call. term held ≡ call_term call) }
-    ensures bad { RefusesOnlyIf (is_call_term (term held) ≡ false) result }
+    ensures bad { OnErr result (is_call_term (term held) ≡ false) }
 {
     let Term::Tuple(parts) = held else {
-        return Err(ProtoFault::BadCommand);
+        return Err(NoCommand);
     };
     let mut parts = parts.into_vec();
     match parts.len() {
@@ -47,32 +47,32 @@ pub fn call_of(held: Term) -> Result<Call, ProtoFault>
             let first = parts.remove(1);
             worded(parts.remove(0), Arguments::Three(first, second, third))
         }
-        _ => Err(ProtoFault::BadCommand),
+        _ => Err(NoCommand),
     }
 }
 
 /// Takes a pair apart.
-pub fn pair_of(held: Term) -> Result<(Term, Term), ProtoFault>
+pub fn pair_of(held: Term) -> Result<(Term, Term), NoCommand>
     ensures ok { IfOk result (λ p. term held ≡ pair (term p.0) (term p.1)) }
-    ensures bad { RefusesOnlyIf (is_pair (term held) ≡ false) result }
+    ensures bad { OnErr result (is_pair (term held) ≡ false) }
 {
     let Term::Tuple(parts) = held else {
-        return Err(ProtoFault::BadCommand);
+        return Err(NoCommand);
     };
     let mut parts = parts.into_vec();
     if parts.len() != 2 {
-        return Err(ProtoFault::BadCommand);
+        return Err(NoCommand);
     }
     let second = parts.remove(1);
     Ok((parts.remove(0), second))
 }
 
-fn worded(word: Term, arguments: Arguments) -> Result<Call, ProtoFault>
+fn worded(word: Term, arguments: Arguments) -> Result<Call, NoCommand>
     ensures ok { IfOk result (λ call. (term word ≡ atom call.word) × (call.arguments ≡ arguments)) }
-    ensures bad { RefusesOnlyIf (is_atom (term word) ≡ false) result }
+    ensures bad { OnErr result (is_atom (term word) ≡ false) }
 {
     match word {
         Term::Atom(word) => Ok(Call { word, arguments }),
-        _ => Err(ProtoFault::BadCommand),
+        _ => Err(NoCommand),
     }
 }

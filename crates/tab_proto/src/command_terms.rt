@@ -3,7 +3,7 @@
 ghost use Rattle.std.specs.Prelude.{◌≡◌, ◌≤◌, length, IfOk, codes};
 ghost use Rattle.tab_term.specs.Data.{atom, pair as pair_of, triple as triple_of};
 ghost use Rattle.tab_term.specs.View.{term};
-ghost use Rattle.tab_proto.specs.Commands.{term_of as term_of_command, schema_term as schema_term_of, operation_term as operation_term_of, level_word as level_word_of, item_word as item_word_of, four as four_of};
+ghost use Rattle.tab_proto.specs.Commands.{term_of as term_of_command, schema_term as schema_term_of, operation_term as operation_term_of, watch_term as watch_term_of, item_word as item_word_of, four as four_of};
 
 use crate::building::{name, number, pair, triple, word, worded};
 use crate::levels::operations_of;
@@ -26,9 +26,7 @@ pub fn term_of(alloc: Global, command: &Command) -> Result<Term, AllocError>
         Command::Commit => word(alloc, "commit"),
         Command::Abort(reason) => worded(alloc, "abort", reason.try_clone(alloc)?),
         Command::Do(operation) => operation_term(alloc, operation),
-        Command::Subscribe(table, level, _) => {
-            worded(alloc, "subscribe", watch_term(alloc, table, *level)?)
-        }
+        Command::Subscribe(table, level, dump) => { subscription_term(alloc, table, *level, *dump) }
         Command::Unsubscribe(table, level) => {
             worded(alloc, "unsubscribe", watch_term(alloc, table, *level)?)
         }
@@ -130,9 +128,26 @@ fn index_term(
     Ok(Term::Tuple(Terms::from_vec(parts)))
 }
 
+/// `{subscribe, {table, Tab, Level}}`, and `dump` behind it where a dump is asked.
+fn subscription_term(
+    alloc: Global,
+    table: &Atom,
+    level: Level,
+    dump: bool,
+) -> Result<Term, AllocError>
+    ensures { IfOk result (λ t. term t ≡ term_of_command (Command.Subscribe table.now level dump)) }
+{
+    let watched = watch_term(alloc, table, level)?;
+    if !dump {
+        return worded(alloc, "subscribe", watched);
+    }
+    let first = word(alloc, "subscribe")?;
+    triple(alloc, first, watched, word(alloc, "dump")?)
+}
+
 /// `{table, Tab, Level}`.
 fn watch_term(alloc: Global, table: &Atom, level: Level) -> Result<Term, AllocError>
-    ensures { IfOk result (λ t. term t ≡ triple_of (atom (codes "table")) (atom table.now) (level_word_of level)) }
+    ensures { IfOk result (λ t. term t ≡ watch_term_of table.now level) }
 {
     let level = word(alloc, level_word(level))?;
     called_at(alloc, "table", table, level)

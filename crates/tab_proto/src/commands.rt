@@ -1,17 +1,17 @@
 //! Commands from terms.
 
-ghost use Rattle.std.specs.Prelude.{◌≡◌, ◌≢◌, ◌&&◌, IfOk, true, Err, nat_le, pos, codes, false};
+ghost use Rattle.std.specs.Prelude.{◌≡◌, ◌≢◌, ◌&&◌, IfOk, OnErr, true, Err, nat_le, pos, codes, false};
 ghost use Rattle.tab_term.specs.Data.{int, atom, pair, triple};
 ghost use Rattle.tab_term.specs.View.{term};
 ghost use Rattle.tab_model.specs.declared.data.Command.{Command as CommandOf};
-ghost use Rattle.tab_proto.specs.Commands.{term_of, is_command, level_word, item_word};
+ghost use Rattle.tab_proto.specs.Commands.{term_of, is_command, item_word, level_word, watch_term};
 ghost use Rattle.tab_proto.specs.FirstWords.{unary_in, binary_in};
-ghost use Rattle.tab_proto.specs.Reading.{is_command_term, is_one_word, is_unary, is_binary, is_watch, is_level, is_item, is_retries, is_parts_list, Spells, RefusesOnlyIf};
+ghost use Rattle.tab_proto.specs.Reading.{is_command_term, is_one_word, is_unary, is_binary, is_watch, is_dump, is_level, is_item, is_retries, is_list, is_parts_list, is_one_shot_term, Spells, FailsOnlyIf};
 ghost use Rattle.tab_proto.specs.declared.fault.ProtoFault.TheVariants.{BadCommand};
 
 use crate::arguments::{attribute_of, elements_of, name_of};
 use crate::call::{Arguments, Call, call_of};
-use crate::fault::ProtoFault;
+use crate::fault::{NoCommand, ProtoFault};
 use crate::first_words::{Binary, Unary, binary_of, unary_of};
 use crate::operations::{index_operation, unary_operation};
 use crate::parts::push_parts;
@@ -33,14 +33,14 @@ pub fn command(alloc: Global, held: &Term) -> Result<Command, ProtoFault>
 /// The command that a term is, made of the term's own parts.
 pub fn read_command(alloc: Global, held: Term) -> Result<Command, ProtoFault>
     ensures ok { IfOk result (λ c. Spells c (term held)) }
-    ensures bad { RefusesOnlyIf (is_command_term (term held) ≡ false) result }
+    ensures fails { FailsOnlyIf (is_command_term (term held) ≡ false) (is_one_shot_term (term held) ≡ true) result }
 {
     if let Term::Atom(word) = &held {
-        return one_word(word);
+        return Ok(one_word(word)?);
     }
     let Call { word, arguments } = call_of(held)?;
     match arguments {
-        Arguments::One(argument) => unary(&word, argument),
+        Arguments::One(argument) => Ok(unary(&word, argument)?),
         Arguments::Two(first, second) => binary(alloc, &word, first, second),
         Arguments::Three(table, value, attribute) => {
             Ok(Command::Do(index_operation(&word, table, value, attribute)?))
@@ -48,20 +48,20 @@ pub fn read_command(alloc: Global, held: Term) -> Result<Command, ProtoFault>
     }
 }
 
-fn one_word(word: &Atom) -> Result<Command, ProtoFault>
+fn one_word(word: &Atom) -> Result<Command, NoCommand>
     ensures ok { IfOk result (λ c. Spells c (atom word.now)) }
-    ensures bad { RefusesOnlyIf (is_one_word word.now ≡ false) result }
+    ensures bad { OnErr result (is_one_word word.now ≡ false) }
 {
     match word.as_str() {
         "begin" => Ok(Command::Begin),
         "commit" => Ok(Command::Commit),
-        _ => Err(ProtoFault::BadCommand),
+        _ => Err(NoCommand),
     }
 }
 
-fn unary(word: &Atom, argument: Term) -> Result<Command, ProtoFault>
+fn unary(word: &Atom, argument: Term) -> Result<Command, NoCommand>
     ensures ok { IfOk result (λ c. Spells c (pair (atom word.now) (term argument))) }
-    ensures bad { RefusesOnlyIf (is_unary (unary_in word.now) (term argument) ≡ false) result }
+    ensures bad { OnErr result (is_unary (unary_in word.now) (term argument) ≡ false) }
 {
     match unary_of(word.as_str()) {
         Some(Unary::Abort) => Ok(Command::Abort(argument)),
@@ -75,41 +75,41 @@ fn unary(word: &Atom, argument: Term) -> Result<Command, ProtoFault>
             Ok(Command::Unsubscribe(table, level))
         }
         Some(word) => Ok(Command::Do(unary_operation(word, argument)?)),
-        None => Err(ProtoFault::BadCommand),
+        None => Err(NoCommand),
     }
 }
 
 /// `{table, Tab, Level}`.
-fn watch_of(held: Term) -> Result<(Atom, Level), ProtoFault>
-    ensures ok { IfOk result (λ w. term held ≡ triple (atom (codes "table")) (atom w.0) (level_word w.1)) }
-    ensures bad { RefusesOnlyIf (is_watch (term held) ≡ false) result }
+fn watch_of(held: Term) -> Result<(Atom, Level), NoCommand>
+    ensures ok { IfOk result (λ w. term held ≡ watch_term w.0 w.1) }
+    ensures bad { OnErr result (is_watch (term held) ≡ false) }
 {
     let Call { word, arguments } = call_of(held)?;
     match arguments {
         Arguments::Two(table, level) if word.as_str() == "table" => {
             Ok((name_of(table)?, level_of(&level)?))
         }
-        _ => Err(ProtoFault::BadCommand),
+        _ => Err(NoCommand),
     }
 }
 
-fn level_of(held: &Term) -> Result<Level, ProtoFault>
+fn level_of(held: &Term) -> Result<Level, NoCommand>
     ensures ok { IfOk result (λ l. term held.now ≡ level_word l) }
-    ensures bad { RefusesOnlyIf (is_level (term held.now) ≡ false) result }
+    ensures bad { OnErr result (is_level (term held.now) ≡ false) }
 {
     let Term::Atom(word) = held else {
-        return Err(ProtoFault::BadCommand);
+        return Err(NoCommand);
     };
     match word.as_str() {
         "simple" => Ok(Level::Simple),
         "detailed" => Ok(Level::Detailed),
-        _ => Err(ProtoFault::BadCommand),
+        _ => Err(NoCommand),
     }
 }
 
 fn binary(alloc: Global, word: &Atom, first: Term, second: Term) -> Result<Command, ProtoFault>
     ensures ok { IfOk result (λ c. Spells c (triple (atom word.now) (term first) (term second))) }
-    ensures bad { RefusesOnlyIf (is_binary (binary_in word.now) (term first) (term second) ≡ false) result }
+    ensures fails { FailsOnlyIf (is_binary (binary_in word.now) (term first) (term second) ≡ false) (is_one_shot_term (triple (atom word.now) (term first) (term second)) ≡ true) result }
 {
     match binary_of(word.as_str()) {
         Some(Binary::AddTableIndex) => Ok(Command::Schema(Schema::AddIndex(
@@ -125,32 +125,51 @@ fn binary(alloc: Global, word: &Atom, first: Term, second: Term) -> Result<Comma
             attribute_of(second)?,
         ))),
         Some(Binary::Read) => Ok(Command::Do(Operation::Read(name_of(first)?, second))),
+        Some(Binary::Subscribe) => Ok(dump_subscription(first, &second)?),
         Some(Binary::TableInfo) => Ok(Command::TableInfo(name_of(first)?, item_of(&second)?)),
         Some(Binary::Transaction) => one_shot(alloc, first, &second),
         None => Err(ProtoFault::BadCommand),
     }
 }
 
-fn item_of(held: &Term) -> Result<InfoItem, ProtoFault>
+/// `{subscribe, {table, Tab, Level}, dump}`.
+fn dump_subscription(watched: Term, dump: &Term) -> Result<Command, NoCommand>
+    ensures ok { IfOk result (λ c. Spells c (triple (atom (codes "subscribe")) (term watched) (term dump.now))) }
+    ensures bad { OnErr result ((is_watch (term watched) && is_dump (term dump.now)) ≡ false) }
+{
+    if !asks_dump(dump) {
+        return Err(NoCommand);
+    }
+    let (table, level) = watch_of(watched)?;
+    Ok(Command::Subscribe(table, level, true))
+}
+
+fn asks_dump(held: &Term) -> bool
+    ensures { result ≡ is_dump (term held.now) }
+{
+    matches!(held, Term::Atom(word) if word.as_str() == "dump")
+}
+
+fn item_of(held: &Term) -> Result<InfoItem, NoCommand>
     ensures ok { IfOk result (λ i. term held.now ≡ item_word i) }
-    ensures bad { RefusesOnlyIf (is_item (term held.now) ≡ false) result }
+    ensures bad { OnErr result (is_item (term held.now) ≡ false) }
 {
     let Term::Atom(word) = held else {
-        return Err(ProtoFault::BadCommand);
+        return Err(NoCommand);
     };
     match word.as_str() {
         "type" => Ok(InfoItem::Kind),
         "attributes" => Ok(InfoItem::Attributes),
         "index" => Ok(InfoItem::Index),
         "size" => Ok(InfoItem::Size),
-        _ => Err(ProtoFault::BadCommand),
+        _ => Err(NoCommand),
     }
 }
 
 /// `{transaction, Ops, Retries}`.
 fn one_shot(alloc: Global, members: Term, retries: &Term) -> Result<Command, ProtoFault>
     ensures ok { IfOk result (λ c. Spells c (triple (atom (codes "transaction")) (term members) (term retries.now))) }
-    ensures bad { RefusesOnlyIf ((is_parts_list (term members) && is_retries (term retries.now)) ≡ false) result }
+    ensures fails { FailsOnlyIf ((is_parts_list (term members) && is_retries (term retries.now)) ≡ false) ((is_list (term members) && is_retries (term retries.now)) ≡ true) result }
 {
     let Term::List(members) = members else {
         return Err(ProtoFault::BadCommand);
@@ -162,12 +181,12 @@ fn one_shot(alloc: Global, members: Term, retries: &Term) -> Result<Command, Pro
 }
 
 /// How often a one-shot may restart: 0 to 1,000.
-fn retries_of(held: &Term) -> Result<u64, ProtoFault>
+fn retries_of(held: &Term) -> Result<u64, NoCommand>
     ensures ok { IfOk result (λ n. (term held.now ≡ int (pos n)) × (nat_le n 1000 ≡ true)) }
-    ensures bad { RefusesOnlyIf (is_retries (term held.now) ≡ false) result }
+    ensures bad { OnErr result (is_retries (term held.now) ≡ false) }
 {
     match held {
         Term::Int(number @ 0..=1000) => Ok(*number as u64),
-        _ => Err(ProtoFault::BadCommand),
+        _ => Err(NoCommand),
     }
 }

@@ -13,6 +13,21 @@ pub enum ProtoFault {
     NoMemory,
 }
 
+/// The term is none of the commands. Reading that takes no memory has no other fault.
+#[derive(Clone, Copy)]
+pub struct NoCommand;
+
+impl From<NoCommand> for ProtoFault {
+    ghost use Rattle.std.specs.Prelude.{◌≡◌};
+    ghost use Rattle.tab_proto.specs.declared.fault.ProtoFault.TheVariants.{BadCommand};
+
+    ghost from_gives = { λ _ fault. fault ≡ BadCommand };
+
+    fn from(_: NoCommand) -> ProtoFault {
+        ProtoFault::BadCommand
+    }
+}
+
 impl<T: Drop> From<AllocFailed<T>> for ProtoFault {
     ghost use Rattle.std.specs.Prelude.{◌≡◌};
     ghost use Rattle.tab_proto.specs.declared.fault.ProtoFault.TheVariants.{NoMemory};

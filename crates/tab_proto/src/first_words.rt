@@ -28,6 +28,7 @@ pub enum Binary {
     CreateTable,
     DelTableIndex,
     Read,
+    Subscribe,
     TableInfo,
     Transaction,
 }
@@ -63,6 +64,7 @@ pub fn binary_of(word: &str) -> Option<Binary>
         "create_table" => Some(Binary::CreateTable),
         "del_table_index" => Some(Binary::DelTableIndex),
         "read" => Some(Binary::Read),
+        "subscribe" => Some(Binary::Subscribe),
         "table_info" => Some(Binary::TableInfo),
         "transaction" => Some(Binary::Transaction),
         _ => None,

@@ -1,22 +1,22 @@
 //! Operations from terms.
 
-ghost use Rattle.std.specs.Prelude.{◌≡◌, IfOk, false};
+ghost use Rattle.std.specs.Prelude.{◌≡◌, IfOk, OnErr, false};
 ghost use Rattle.tab_term.specs.Data.{atom, pair, triple};
 ghost use Rattle.tab_term.specs.View.{term};
 ghost use Rattle.tab_proto.specs.Commands.{four};
 ghost use Rattle.tab_proto.specs.FirstWords.{unary_text};
-ghost use Rattle.tab_proto.specs.Reading.{is_unary_operation, is_read_of, is_ternary, SpellsOperation, RefusesOnlyIf};
+ghost use Rattle.tab_proto.specs.Reading.{is_unary_operation, is_read_of, is_ternary, SpellsOperation};
 
 use crate::arguments::{attribute_of, name_of, place_of, row_of};
-use crate::fault::ProtoFault;
+use crate::fault::NoCommand;
 use crate::first_words::Unary;
 use tab_model::Operation;
 use tab_term::{Atom, Term};
 
 /// The operation of a word with one argument.
-pub fn unary_operation(word: Unary, argument: Term) -> Result<Operation, ProtoFault>
+pub fn unary_operation(word: Unary, argument: Term) -> Result<Operation, NoCommand>
     ensures ok { IfOk result (λ o. SpellsOperation o (pair (atom (unary_text word)) (term argument))) }
-    ensures bad { RefusesOnlyIf (is_unary_operation word (term argument) ≡ false) result }
+    ensures bad { OnErr result (is_unary_operation word (term argument) ≡ false) }
 {
     match word {
         Unary::Write => Ok(Operation::Write(row_of(argument)?)),
@@ -33,17 +33,17 @@ pub fn unary_operation(word: Unary, argument: Term) -> Result<Operation, ProtoFa
         Unary::AllKeys => Ok(Operation::AllKeys(name_of(argument)?)),
         Unary::ReadLockTable => Ok(Operation::ReadLockTable(name_of(argument)?)),
         Unary::WriteLockTable => Ok(Operation::WriteLockTable(name_of(argument)?)),
-        _ => Err(ProtoFault::BadCommand),
+        _ => Err(NoCommand),
     }
 }
 
 /// `{read, Tab, Key}`.
-pub fn read_operation(word: &Atom, table: Term, key: Term) -> Result<Operation, ProtoFault>
+pub fn read_operation(word: &Atom, table: Term, key: Term) -> Result<Operation, NoCommand>
     ensures ok { IfOk result (λ o. SpellsOperation o (triple (atom word.now) (term table) (term key))) }
-    ensures bad { RefusesOnlyIf (is_read_of word.now (term table) ≡ false) result }
+    ensures bad { OnErr result (is_read_of word.now (term table) ≡ false) }
 {
     if word.as_str() != "read" {
-        return Err(ProtoFault::BadCommand);
+        return Err(NoCommand);
     }
     let table = name_of(table)?;
     Ok(Operation::Read(table, key))
@@ -55,12 +55,12 @@ pub fn index_operation(
     table: Term,
     value: Term,
     attribute: Term,
-) -> Result<Operation, ProtoFault>
+) -> Result<Operation, NoCommand>
     ensures ok { IfOk result (λ o. SpellsOperation o (four (atom word.now) (term table) (term value) (term attribute))) }
-    ensures bad { RefusesOnlyIf (is_ternary word.now (term table) (term attribute) ≡ false) result }
+    ensures bad { OnErr result (is_ternary word.now (term table) (term attribute) ≡ false) }
 {
     if word.as_str() != "index_read" {
-        return Err(ProtoFault::BadCommand);
+        return Err(NoCommand);
     }
     let table = name_of(table)?;
     let attribute = attribute_of(attribute)?;

@@ -1,6 +1,6 @@
 //! Replies, written without a term being built.
 
-ghost use Rattle.std.specs.Prelude.{codes, pos, ◌≡◌, ◌≤◌, ◌<◌, ◌++◌, ◌∷◌, ◌↔◌, length, OnOk, OnErr, IfErr, Err, Option, ℕ};
+ghost use Rattle.std.specs.Prelude.{codes, pos, ◌≡◌, ◌≤◌, ◌<◌, ◌++◌, ◌∷◌, ◌↔◌, length, OnOk, OnErr, IfErr, Err, Option, Some, ℕ};
 ghost use Rattle.std.specs.Io.KnownBytes.{Appends};
 ghost use Rattle.tab_term.specs.Canon.{canon};
 ghost use Rattle.tab_term.specs.Data.{atom, int, list, pair as pair_of, triple as triple_of};
@@ -16,7 +16,7 @@ use tab_etf::{
     Body, Counted, EncodeFault, FrameFault, Leaf, Outline, append_outline, write_outline,
 };
 use tab_model::{Ending, Item, Kind, Level, Limit, Reply, TableInfo};
-use tab_term::{Atom, Term};
+use tab_term::{Atom, Term, Terms};
 
 /// Writes the frame of `{Session, Reply}`, or of `{reply, Reply}` where no session is named.
 ///
@@ -233,13 +233,14 @@ fn item_outline(item: &Item) -> Outline<'_>
     ensures { IsOutlineOf result (item_term_of item.now) }
 {
     match item {
-        Item::Began(table, level, _) => {
+        Item::Began(table, level, None) => {
             told_of(
                 "mnesia_table_begin",
                 named(table),
                 Leaf::Word(level_word(*level)),
             )
         }
+        Item::Began(table, level, Some(records)) => dump_outline(table, *level, records),
         Item::Batch(commits, events) => {
             told_of("batch", Leaf::Number(*commits), Leaf::List(events))
         }
@@ -250,6 +251,22 @@ fn item_outline(item: &Item) -> Outline<'_>
                 Leaf::Word(ending_word(*ending)),
             )
         }
+    }
+}
+
+/// `{mnesia_table_begin, Tab, Level, Records}`.
+fn dump_outline<'a>(table: &'a Atom, level: Level, records: &'a Terms) -> Outline<'a>
+    ensures { IsOutlineOf result (item_term_of (Item.Began table.now level (Some records.now))) }
+{
+    Outline {
+        first: None,
+        second: None,
+        body: Body::Four(
+            Leaf::Word("mnesia_table_begin"),
+            named(table),
+            Leaf::Word(level_word(level)),
+            Leaf::List(records),
+        ),
     }
 }
 

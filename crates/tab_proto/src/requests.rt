@@ -3,10 +3,10 @@
 ghost use Rattle.std.specs.Prelude.{◌≡◌, ◌≢◌, ℕ, pos, IfOk, IfSome, IfNone, Err};
 ghost use Rattle.tab_term.specs.Data.{atom};
 ghost use Rattle.tab_term.specs.View.{term};
-ghost use Rattle.tab_proto.specs.Requests.{asked_term, request_term, IsSession, IsNumbered, HasNoNumber, IsRequest, is_asked, is_word_alone, ReadsAs};
+ghost use Rattle.tab_proto.specs.Requests.{asked_term, request_term, IsSession, IsNumbered, HasNoNumber, IsRequest, is_asked, is_word_alone, ReadsAs, AsksOneShot};
 ghost use Rattle.tab_proto.specs.Reading.{is_one_word};
 ghost use Rattle.tab_proto.specs.declared.request.Request.{Request as RequestOf};
-ghost use Rattle.tab_proto.specs.declared.fault.ProtoFault.TheVariants.{BadCommand};
+ghost use Rattle.tab_proto.specs.declared.fault.ProtoFault.TheVariants.{BadCommand, NoMemory};
 
 use crate::call::pair_of;
 use crate::commands::read_command;
@@ -16,9 +16,10 @@ use std::alloc::Global;
 use tab_term::{Atom, Term};
 
 /// A session's number and what it asks, from `{Session, X}`. Session numbers are 1 to 4,294,967,295. Every other term is
-/// BadCommand. Records and keys are taken out of the term, and not copied.
+/// BadCommand. Records and keys are taken out of the term, and not copied; only the parts of a one-shot take memory.
 pub fn read_request(alloc: Global, held: Term) -> Result<(u32, Request), ProtoFault>
     ensures ok { IfOk result (λ r. (request_term r.0 r.1 ≡ term held) × IsSession r.0 × IsRequest r.1) }
+    ensures memory { result ≡ Err NoMemory → AsksOneShot (term held) }
     ensures only { (session : ℕ) (r : RequestOf) → IsSession session → IsRequest r → request_term session r ≡ term held → result ≢ Err BadCommand }
 {
     let Some(session) = session_of(&held) else {

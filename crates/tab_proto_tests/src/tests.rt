@@ -16,11 +16,13 @@ enum Wanted {
     Abort(&'static [u8]),
     Read(&'static str, i128),
     Write(&'static [u8]),
+    /// At level `simple`, with a dump.
+    Dump(&'static str),
     Bad,
 }
 
 /// Payloads, the session of each, and what it asks.
-const REQUESTS: [(&[u8], u32, Wanted); 26] = [
+const REQUESTS: [(&[u8], u32, Wanted); 29] = [
     (b"\x83h\x02a\x01w\x04join", 1, Wanted::Join),
     (b"\x83h\x02a\x02w\x05leave", 2, Wanted::Leave),
     (b"\x83h\x02a\x03w\x05retry", 3, Wanted::Retry),
@@ -56,6 +58,11 @@ const REQUESTS: [(&[u8], u32, Wanted); 26] = [
         1,
         Wanted::Write(b"\x83h\x02w\x01ta\x01"),
     ),
+    (
+        b"\x83h\x02a\x01h\x03w\x09subscribeh\x03w\x05tablew\x01tw\x06simplew\x04dump",
+        1,
+        Wanted::Dump("t"),
+    ),
     // Session numbers are 1 to 4,294,967,295.
     (b"\x83h\x02a\x00w\x05begin", 0, Wanted::Bad),
     (
@@ -86,6 +93,17 @@ const REQUESTS: [(&[u8], u32, Wanted); 26] = [
     (b"\x83h\x02a\x01h\x02w\x04readw\x01t", 0, Wanted::Bad),
     (b"\x83h\x02a\x01h\x03w\x05aborta\x01a\x02", 0, Wanted::Bad),
     (b"\x83h\x02a\x01a\x01", 0, Wanted::Bad),
+    // Another word than `dump` there, and no word.
+    (
+        b"\x83h\x02a\x01h\x03w\x09subscribeh\x03w\x05tablew\x01tw\x06simplew\x03foo",
+        0,
+        Wanted::Bad,
+    ),
+    (
+        b"\x83h\x02a\x01h\x03w\x09subscribeh\x03w\x05tablew\x01tw\x06simplem\x00\x00\x00\x04dump",
+        0,
+        Wanted::Bad,
+    ),
 ];
 
 fn is_held(alloc: Global, held: &Term, payload: &[u8]) -> bool {
@@ -104,6 +122,9 @@ fn is_command(alloc: Global, command: &Command, wanted: &Wanted) -> bool {
         (Command::Abort(reason), Wanted::Abort(payload)) => is_held(alloc, reason, payload),
         (Command::Do(Operation::Read(table, Term::Int(key))), Wanted::Read(name, number)) => {
             table.as_str() == *name && key == number
+        }
+        (Command::Subscribe(table, Level::Simple, true), Wanted::Dump(name)) => {
+            table.as_str() == *name
         }
         (Command::Do(Operation::Write(row)), Wanted::Write(payload)) => is_held(
             alloc, row, payload,
@@ -137,7 +158,7 @@ fn requests_are_read(rt: HostRuntime) {
 }
 
 /// Payloads of replies: the one of each line is that of `sample` at its number.
-const PAYLOADS: [&[u8]; 15] = [
+const PAYLOADS: [&[u8]; 16] = [
     b"\x83w\x02ok",
     b"\x83h\x02w\x03tida\x01",
     b"\x83h\x02w\x06atomica\x02",
@@ -153,6 +174,7 @@ const PAYLOADS: [&[u8]; 15] = [
     b"\x83l\x00\x00\x00\x01w\x01aj",
     b"\x83h\x03w\x10mnesia_table_endw\x01tw\x07deleted",
     b"\x83h\x03w\x12mnesia_table_beginw\x01tw\x08detailed",
+    b"\x83h\x04w\x12mnesia_table_beginw\x01tw\x06simplel\x00\x00\x00\x02h\x03w\x01ta\x01w\x01ah\x03w\x01ta\x02w\x01bj",
 ];
 
 fn name(alloc: Global, text: &'static str) -> Result<Atom, AllocError> {
@@ -160,6 +182,19 @@ fn name(alloc: Global, text: &'static str) -> Result<Atom, AllocError> {
         Ok(atom) => Ok(atom),
         Err(_) => Atom::from_short_text(alloc, ""),
     }
+}
+
+/// `{t, 1, a}` and `{t, 2, b}`.
+fn dumped(alloc: Global) -> Result<Vec<Term>, AllocError> {
+    let mut rows = Vec::new(alloc);
+    for (key, text) in [(1, "a"), (2, "b")] {
+        let mut row = Vec::new(alloc);
+        row.push(Term::Atom(name(alloc, "t")?))?;
+        row.push(Term::Int(key))?;
+        row.push(Term::Atom(name(alloc, text)?))?;
+        rows.push(Term::Tuple(Terms::from_vec(row)))?;
+    }
+    Ok(rows)
 }
 
 fn sample(alloc: Global, line: usize) -> Result<Reply, AllocError> {
@@ -190,7 +225,11 @@ fn sample(alloc: Global, line: usize) -> Result<Reply, AllocError> {
             Reply::Told(TableInfo::Attributes(Terms::from_vec(names)))
         }
         13 => Reply::Taken(Item::Ended(name(alloc, "t")?, Ending::Deleted)),
-        _ => Reply::Taken(Item::Began(name(alloc, "t")?, Level::Detailed, None)),
+        14 => Reply::Taken(Item::Began(name(alloc, "t")?, Level::Detailed, None)),
+        _ => {
+            let records = Some(Terms::from_vec(dumped(alloc)?));
+            Reply::Taken(Item::Began(name(alloc, "t")?, Level::Simple, records))
+        }
     })
 }
 
@@ -233,7 +272,7 @@ fn replies_are_spelled(rt: HostRuntime) {
 }
 
 /// Payloads of every command.
-const COMMANDS: [&[u8]; 21] = [
+const COMMANDS: [&[u8]; 22] = [
     b"\x83h\x03w\x0ccreate_tablew\x01tl\x00\x00\x00\x01h\x02w\x04typew\x03bagj",
     b"\x83h\x02w\x0cdelete_tablew\x01t",
     b"\x83h\x03w\x0fadd_table_indexw\x01tw\x01a",
@@ -253,13 +292,14 @@ const COMMANDS: [&[u8]; 21] = [
     b"\x83h\x02w\x0fread_lock_tablew\x01t",
     b"\x83h\x02w\x10write_lock_tablew\x01t",
     b"\x83h\x02w\x09subscribeh\x03w\x05tablew\x01tw\x06simple",
+    b"\x83h\x03w\x09subscribeh\x03w\x05tablew\x01tw\x08detailedw\x04dump",
     b"\x83h\x02w\x0bunsubscribeh\x03w\x05tablew\x01tw\x08detailed",
     b"\x83h\x03w\x0btransactionl\x00\x00\x00\x03h\x02w\x05writeh\x02w\x01ta\x01h\x02w\x0btransactionl\x00\x00\x00\x01h\x02w\x05abortw\x02nojh\x03w\x04readw\x01ta\x01jb\x00\x00\x03\xe8",
 ];
 
 /// Payloads of terms that are near to commands: too many restarts, an inner transaction with restarts, a word in a tuple, a
-/// level, an item and an attribute that are none, a key without its table.
-const NO_COMMANDS: [&[u8]; 7] = [
+/// level, an item and an attribute that are none, a key without its table, another word than `dump`, an end with a dump.
+const NO_COMMANDS: [&[u8]; 9] = [
     b"\x83h\x03w\x0btransactionjb\x00\x00\x03\xe9",
     b"\x83h\x03w\x0btransactionl\x00\x00\x00\x01h\x03w\x0btransactionja\x00ja\x00",
     b"\x83h\x03w\x0btransactionl\x00\x00\x00\x01h\x01w\x05beginja\x00",
@@ -267,6 +307,8 @@ const NO_COMMANDS: [&[u8]; 7] = [
     b"\x83h\x03w\x0atable_infow\x01tw\x04cost",
     b"\x83h\x04w\x0aindex_readw\x01tw\x01vm\x00\x00\x00\x01a",
     b"\x83h\x03w\x05wreadw\x01ta\x01",
+    b"\x83h\x03w\x09subscribeh\x03w\x05tablew\x01tw\x06simplew\x03foo",
+    b"\x83h\x03w\x0bunsubscribeh\x03w\x05tablew\x01tw\x06simplew\x04dump",
 ];
 
 /// The term of the command that a term is.

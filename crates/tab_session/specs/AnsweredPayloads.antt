@@ -19,7 +19,7 @@ use Rattle.tab_core.specs.Served.{serves}
 use Rattle.tab_core.specs.Single.{no_outbox}
 use Rattle.tab_proto.specs.declared.request.Request.{Request}
 use Rattle.tab_proto.specs.declared.request.Request.TheVariants as request
-use Rattle.tab_proto.specs.Requests.{request_term, IsSession, IsRequest, IsNumbered, HasNoNumber}
+use Rattle.tab_proto.specs.Requests.{request_term, IsSession, IsRequest, IsNumbered, HasNoNumber, AsksOneShot}
 use Rattle.tab_proto.specs.Replies.{response}
 use Rattle.tab_session.specs.declared.answered.Answer.{Answer}
 
@@ -81,17 +81,27 @@ abbrev pub AnsweredRead : State → Result PlainTerm Stop → Answer → State �
 AnsweredRead σ (Err f) x μ = (x ≡ record { session = 0; reply = BadTerm }) × (μ ≡ σ)
 AnsweredRead σ (Ok t) x μ = AnsweredTerm σ t x μ
 
--- under the session that asked, or under 0
-abbrev pub IsUnder : PlainTerm → ℕ → Type 0
-IsUnder t session = (session ≡ 0) ⊎ IsNumbered t session
+-- the term is a request that is served
+pub record AsksServed (t : PlainTerm) : Type 0 where
+  pub session : ℕ
+  pub asked : Request
+  pub spelled : request_term session asked ≡ t
+  pub served : IsServedRequest asked
 
-abbrev pub IsUnderRead : Result PlainTerm Stop → ℕ → Type 0
-IsUnderRead (Err f) session = session ≡ 0
-IsUnderRead (Ok t) session = IsUnder t session
+-- what takes memory once its payload is decoded: the parts of a one-shot, and a step
+abbrev pub TakesMemory : PlainTerm → ℕ → Type 0
+TakesMemory t session = IsNumbered t session × (AsksOneShot t ⊎ AsksServed t)
 
 -- refused for memory, with nothing changed
-abbrev pub RefusedTerm : State → PlainTerm → Answer → State → Type 0
-RefusedTerm σ t x μ = (x.reply ≡ NoMemory) × (μ ≡ σ) × IsUnder t x.session
+pub record RefusedTerm (σ : State) (t : PlainTerm) (x : Answer) (μ : State) : Type 0 where
+  pub reply : x.reply ≡ NoMemory
+  pub same : μ ≡ σ
+  pub under : TakesMemory t x.session
+
+-- under 0 where the payload could not be decoded for want of memory
+abbrev pub IsUnderRead : Result PlainTerm Stop → ℕ → Type 0
+IsUnderRead (Err f) session = session ≡ 0
+IsUnderRead (Ok t) session = (session ≡ 0) ⊎ TakesMemory t session
 
 pub record Refused (σ : State) (read : Result PlainTerm Stop) (x : Answer) (μ : State) : Type 0 where
   pub reply : x.reply ≡ NoMemory

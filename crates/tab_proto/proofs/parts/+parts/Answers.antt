@@ -1,7 +1,7 @@
-use Rattle.std.proofs.Common.{ap, sym, subst, ◌∙◌, arith, length}
+use Rattle.std.proofs.Common.{ap, sym, subst, arith, length}
 use Rattle.std.proofs.lemmas.Result.{err_from_is_err_and}
 use Rattle.std.specs.Prelude.{codes}
-use Rattle.tab_term.specs.Data.{atom, list, none, one_more, pair}
+use Rattle.tab_term.specs.Data.{atom, none, one_more, pair}
 use Rattle.tab_term.specs.View.{term}
 use Rattle.tab_proto.specs.Reading.{AddsParts}
 use Rattle.tab_proto.proofs.PartsLemmas.{adds_inner, on_ok, one_read, refuses_list}
