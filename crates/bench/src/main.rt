@@ -1,7 +1,7 @@
 //! Measures what the documents say of speed.
 //!
-//! `bench codec`, `bench order`, `bench map` and `bench locks` each print a line for each figure, and take a number: of
-//! entries for the map, of rounds for the others. `bench check` takes each measurement once, small, and prints no time.
+//! `bench codec`, `bench order`, `bench map`, `bench tables` and `bench locks` each print a line for each figure, and take a
+//! number: of entries for the map, of records for the tables, of rounds for the others. `bench check` takes each measurement once, small, and prints no time.
 #![tactic(auto)]
 
 mod codec;
@@ -10,6 +10,7 @@ mod locks;
 mod map;
 mod order;
 mod samples;
+mod tables;
 
 use anyhow::{Context, Result, bail};
 use figure::Figure;
@@ -29,9 +30,13 @@ fn main(rt: HostRuntime) -> Result<()> {
             Some(entries) => map_at(&rt, &[entries]),
             None => map_at(&rt, &[1_000, 100_000, 1_000_000]),
         },
+        Some("tables") => match number {
+            Some(records) => tables_at(&rt, &[records]),
+            None => tables_at(&rt, &[1_000, 100_000, 1_000_000]),
+        },
         Some("locks") => locks_at(&rt, &[10, 1_000, 60_000], number.unwrap_or(100_000)),
         Some("check") => check(&rt),
-        _ => bail!("bench codec|order|map|locks [NUMBER], or bench check"),
+        _ => bail!("bench codec|order|map|tables|locks [NUMBER], or bench check"),
     }
 }
 
@@ -51,6 +56,13 @@ fn map_at<H: AllocGlobal + Clock + Print>(rt: &H, sizes: &[u32]) -> Result<()> {
     Ok(())
 }
 
+fn tables_at<H: AllocGlobal + Clock + Print>(rt: &H, sizes: &[u32]) -> Result<()> {
+    for records in sizes {
+        tell(rt, &tables::measure(rt, *records)?)?;
+    }
+    Ok(())
+}
+
 fn locks_at<H: AllocGlobal + Clock + Print>(rt: &H, sizes: &[u32], rounds: u32) -> Result<()> {
     for held in sizes {
         tell(rt, &locks::measure(rt, *held, rounds)?)?;
@@ -66,6 +78,8 @@ fn check<H: AllocGlobal + Clock + Print>(rt: &H) -> Result<()> {
     println!(rt; "order: ok")?;
     map::measure(rt, 1_000, 1)?;
     println!(rt; "map: ok")?;
+    tables::measure(rt, 100)?;
+    println!(rt; "tables: ok")?;
     locks::measure(rt, 10, 100)?;
     println!(rt; "locks: ok")?;
     Ok(())

@@ -1,0 +1,176 @@
+//! A table beside the standard map of the same records, in the same run.
+
+use crate::figure::{Figure, Work};
+use crate::samples::{atom, shuffled};
+use anyhow::{Result, bail, ensure};
+use std::alloc::Global;
+use std::collections::BTreeMap;
+use std::rt::Clock;
+use std::time::{Duration, Instant};
+use tab_index::IndexedTable;
+use tab_model::Change;
+use tab_schema::parse_options;
+use tab_term::{Term, Terms};
+
+/// How many calls of a kind are timed.
+const CALLS: u32 = 20_000;
+
+/// The position of the value in a record `{person, Key, Value}`.
+const VALUE: u64 = 3;
+
+/// The records of both, and what changes: each is written again with another value.
+#[derive(Drop)]
+struct Sample {
+    keys: Vec<Term>,
+    records: Vec<Term>,
+    writes: Vec<Change>,
+}
+
+/// At this many records: a look-up, a new version of the table with one record written, without an index and with one, and
+/// a look-up by the index, each beside the standard map's `get` or `insert` in place.
+pub fn measure<H: AllocGlobal + Clock>(rt: &H, records: u32) -> Result<Vec<Figure>> {
+    let alloc = rt.alloc();
+    let calls = records.min(CALLS);
+    let numbers = shuffled(alloc, records, 1)?;
+    let plain = filled(alloc, &writes(alloc, &numbers, 0)?)?;
+    let indexed = plain.add_index(alloc, VALUE)?;
+    let sample = sample_of(alloc, &shuffled(alloc, calls, 2)?)?;
+    let mut standard = standard_of(alloc, &numbers)?;
+    let got = standard_reads(rt, &standard, &sample)?;
+    let read = reads(rt, &plain, &sample)?;
+    let found = index_reads(rt, &indexed, &sample)?;
+    let put = standard_writes(rt, &mut standard, &sample)?;
+    let lines = [
+        ("read", read, got),
+        ("index_read", found, got),
+        ("updated", versions(rt, plain, &sample)?, put),
+        ("updated with an index", versions(rt, indexed, &sample)?, put),
+    ];
+    let mut figures = Vec::new(alloc);
+    for (call, took, beside) in &lines {
+        let name = format!(in alloc; "{call}, {records} records")?;
+        figures.push(Figure::new(
+            name,
+            Work::CallsBeside(u64::from(calls), *beside),
+            *took,
+        ))?;
+    }
+    Ok(figures)
+}
+
+fn record(alloc: Global, key: u64, value: u64) -> Result<Term> {
+    let name = Term::Atom(atom(alloc, "person")?);
+    let items = vec![in alloc; name, Term::Int(i128::from(key)), Term::Int(i128::from(value))]?;
+    Ok(Term::Tuple(Terms::from_vec(items)))
+}
+
+/// A write of each key with a value that is so much above it.
+fn writes(alloc: Global, numbers: &[u64], above: u64) -> Result<Vec<Change>> {
+    let mut writes = Vec::new(alloc);
+    for number in numbers {
+        let value = number.wrapping_add(above);
+        writes.push(Change::Write(record(alloc, *number, value)?))?;
+    }
+    Ok(writes)
+}
+
+fn sample_of(alloc: Global, numbers: &[u64]) -> Result<Sample> {
+    let mut keys = Vec::new(alloc);
+    let mut records = Vec::new(alloc);
+    for number in numbers {
+        keys.push(Term::Int(i128::from(*number)))?;
+        records.push(record(alloc, *number, number.wrapping_add(1))?)?;
+    }
+    let writes = writes(alloc, numbers, 1)?;
+    Ok(Sample {
+        keys,
+        records,
+        writes,
+    })
+}
+
+/// A set of the attributes `key` and `val`.
+fn filled(alloc: Global, writes: &[Change]) -> Result<IndexedTable> {
+    let Ok(def) = parse_options(alloc, &atom(alloc, "person")?, &[]) else {
+        bail!("a table without options is refused");
+    };
+    Ok(IndexedTable::new(alloc, def)?.applied(alloc, writes)?)
+}
+
+fn standard_of(alloc: Global, numbers: &[u64]) -> Result<BTreeMap<Term, Term>> {
+    let mut standard = BTreeMap::new(alloc);
+    for number in numbers {
+        standard.insert(
+            Term::Int(i128::from(*number)),
+            record(alloc, *number, *number)?,
+        )?;
+    }
+    Ok(standard)
+}
+
+fn standard_reads<H: Clock>(
+    rt: &H,
+    standard: &BTreeMap<Term, Term>,
+    sample: &Sample,
+) -> Result<Duration> {
+    let start = Instant::now(rt)?;
+    for key in &sample.keys {
+        ensure!(standard.get(key).is_some(), "the standard map lost a record");
+    }
+    Ok(start.elapsed(rt)?)
+}
+
+fn standard_writes<H: AllocGlobal + Clock>(
+    rt: &H,
+    standard: &mut BTreeMap<Term, Term>,
+    sample: &Sample,
+) -> Result<Duration> {
+    let alloc = rt.alloc();
+    let start = Instant::now(rt)?;
+    for (key, record) in sample.keys.iter().zip(&sample.records) {
+        standard.insert(key.try_clone(alloc)?, record.try_clone(alloc)?)?;
+    }
+    Ok(start.elapsed(rt)?)
+}
+
+fn reads<H: Clock>(rt: &H, table: &IndexedTable, sample: &Sample) -> Result<Duration> {
+    let start = Instant::now(rt)?;
+    for key in &sample.keys {
+        ensure!(table.at(key).len() == 1, "a record is not found");
+    }
+    Ok(start.elapsed(rt)?)
+}
+
+fn index_reads<H: AllocGlobal + Clock>(
+    rt: &H,
+    table: &IndexedTable,
+    sample: &Sample,
+) -> Result<Duration> {
+    let alloc = rt.alloc();
+    let start = Instant::now(rt)?;
+    for value in &sample.keys {
+        let Some(found) = table.index_read(alloc, VALUE, value)? else {
+            bail!("there is no index");
+        };
+        ensure!(found.as_slice().len() == 1, "a value is not found");
+    }
+    Ok(start.elapsed(rt)?)
+}
+
+/// A new version for each write, while the last one still stands.
+fn versions<H: AllocGlobal + Clock>(
+    rt: &H,
+    table: IndexedTable,
+    sample: &Sample,
+) -> Result<Duration> {
+    let alloc = rt.alloc();
+    let size = table.size();
+    let mut latest = table;
+    let start = Instant::now(rt)?;
+    for write in sample.writes.chunks(1) {
+        latest = latest.updated(alloc, write)?;
+    }
+    let took = start.elapsed(rt)?;
+    ensure!(latest.size() == size, "a write added a record");
+    Ok(took)
+}
