@@ -1,15 +1,14 @@
 -- What fits a pattern with a bound key has that key.
-use Rattle.std.proofs.Common.{◌≡◌, List, [], ◌∷◌, Bool, true, false, ◌&&◌, ◌||◌, Option, Some, None, refl, sym, ap, ap₂, ◌∙◌}
+use Rattle.std.proofs.Common.{◌≡◌, [], ◌∷◌, Bool, true, false, ◌&&◌, ◌||◌, Some, None, refl, sym, ap, ap₂, ◌∙◌}
 use Rattle.std.specs.Prelude.{if◌then◌else◌}
 use Rattle.std.specs.Cmp.{IsEquivalence}
-use Rattle.std.specs.List.{filter}
 use Rattle.std.proofs.lemmas.Bool.{false≢true, and_parts}
 use Rattle.tab_term.specs.Data.{PlainTerm, int, atom, tuple, list, bin, map, PlainTerms, none, one_more}
-use Rattle.tab_term.specs.Pattern.{matches, all_match, has_wildcard, any_wildcard, is_wildcard}
+use Rattle.tab_term.specs.Pattern.{matches, all_match, has_wildcard, any_wildcard}
 use Rattle.tab_term.specs.Same.{same, all_same, same_equiv}
-use Rattle.tab_model.specs.Tables.{Rows, key, has_key, at}
+use Rattle.tab_model.specs.Tables.{Rows, has_key, at}
 use Rattle.tab_model.specs.WholeTables.{match_object}
-use Rattle.tab_index.specs.BoundKey.{bound_key, bound_second}
+use Rattle.tab_index.specs.BoundKey.{bound_key}
 
 neither : (a b : Bool) → (a || b) ≡ false → (a ≡ false) × (b ≡ false)
 neither true b h = absurd (false≢true (sym h))

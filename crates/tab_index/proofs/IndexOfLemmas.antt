@@ -1,10 +1,9 @@
 -- Which pairs stand in an index after the keys of one value change.
-use Rattle.std.proofs.Common.{◌≡◌, ◌≢◌, List, [], ◌∷◌, Bool, true, false, not, ◌&&◌, ◌||◌, Option, Some, None, Ordering, Less, Equal, Greater, refl, sym, ap, ◌∙◌, map}
+use Rattle.std.proofs.Common.{◌≡◌, ◌≢◌, List, [], ◌∷◌, Bool, true, false, not, ◌&&◌, ◌||◌, Some, None, Ordering, Less, Equal, Greater, refl, sym, ap, ◌∙◌, map}
 use Rattle.std.specs.Prelude.{if◌then◌else◌, is_some}
 use Rattle.std.specs.Ordering.{match_ordering, is_eq}
 use Rattle.tab_term.specs.declared.term.Term.{Term}
 use Rattle.tab_term.specs.declared.term.Term.TheVariants as is
-use Rattle.tab_term.specs.Data.{PlainTerm}
 use Rattle.tab_term.specs.Order.{term_cmp}
 use Rattle.tab_term.specs.OrderLaws.{matches_same}
 use Rattle.tab_term.specs.Same.{same, same-Decides}

@@ -1,5 +1,5 @@
 -- The records of a value's keys, one key after another, are the records that have the value.
-use Rattle.std.proofs.Common.{◌≡◌, ◌≢◌, ℕ, List, [], ◌∷◌, ◌++◌, Bool, true, false, ◌||◌, Option, Some, None, Ordering, Less, Equal, Greater, refl, sym, ap, ◌∙◌, subst, map, append-nil, append_assoc}
+use Rattle.std.proofs.Common.{◌≡◌, ℕ, List, [], ◌∷◌, ◌++◌, Bool, true, false, ◌||◌, Some, None, Ordering, Less, Equal, Greater, refl, sym, ap, ◌∙◌, subst, map, append_assoc}
 use Rattle.std.specs.Prelude.{if◌then◌else◌}
 use Rattle.std.specs.List.{filter, list_any, list_all}
 use Rattle.std.specs.Ordering.{match_ordering}
@@ -10,12 +10,11 @@ use Rattle.tab_term.specs.declared.term.Term.{Term}
 use Rattle.tab_term.specs.Data.{PlainTerm, PlainTerms}
 use Rattle.tab_term.specs.Order.{term_cmp}
 use Rattle.tab_term.specs.OrderLaws.{canon_same}
-use Rattle.tab_term.specs.Same.{same, same-Decides}
 use Rattle.tab_term.specs.View.{term}
 use Rattle.tab_term.proofs.Total.{term_total}
 use Rattle.tab_map.specs.Entries.{lookup, AllAbove, Ascends}
 use Rattle.tab_map.specs.KeyList.{contains_key, AllKeysAbove, KeysAscend}
-use Rattle.tab_model.specs.Names.{plain_terms, terms_list}
+use Rattle.tab_model.specs.Names.{plain_terms}
 use Rattle.tab_model.specs.Shapes.{held}
 use Rattle.tab_model.specs.Tables.{Rows, has_key, at, is_ordered}
 use Rattle.tab_model.specs.WholeTables.{index_read}
@@ -24,8 +23,7 @@ use Rattle.tab_model.proofs.TableLaws.{same_lists, ordered-filter}
 use Rattle.tab_rows.specs.Joined.{joined, IsKeyed, AllKeyed}
 use Rattle.tab_rows.proofs.Cells.{found_in, at-joined, ordered-joined}
 use Rattle.tab_index.specs.IndexOf.{Entry, keys_in, has_value, IsIndexOf}
-use Rattle.tab_index.proofs.CopiesLemmas.{list_of, round}
-use Rattle.tab_index.proofs.IndexOfLemmas.{one_term}
+use Rattle.tab_index.proofs.CopiesLemmas.{round}
 
 -- each key with its records that have the value
 abbrev pub answers : Rows → ℕ → PlainTerm → List Term → List (Term × PlainTerms)

@@ -2,8 +2,7 @@
 use Rattle.std.proofs.Common.{◌≡◌, ℕ, ◌+◌, ◌<◌, ◌≤◌, length, drop, get_or, List, [], ◌∷◌, ◌++◌, Bool, true, false, not, ◌&&◌, ◌||◌, refl, sym, ap, ap₂, ◌∙◌, map}
 use Rattle.std.specs.Prelude.{if◌then◌else◌}
 use Rattle.std.specs.Cmp.{IsEquivalence}
-use Rattle.std.specs.List.{filter, list_any}
-use Rattle.std.proofs.lemmas.Bool.{false≢true}
+use Rattle.std.specs.List.{list_any}
 use Rattle.std.proofs.lemmas.List.{at_drop_more, at_drop_all}
 use Rattle.std.proofs.lemmas.List.Elements.{filter-append}
 use Rattle.std.proofs.lemmas.List.Folds.{list_any-append}
@@ -11,11 +10,11 @@ use Rattle.tab_term.specs.declared.term.Term.{Term}
 use Rattle.tab_term.specs.Data.{PlainTerm}
 use Rattle.tab_term.specs.Same.{same, same_equiv}
 use Rattle.tab_term.specs.View.{term}
-use Rattle.tab_model.specs.Tables.{Rows, key, has_key, at, put, put_bag, delete, delete_object, apply, is_ordered}
+use Rattle.tab_model.specs.Tables.{Rows, key, has_key, at, put, delete, delete_object, is_ordered}
 use Rattle.tab_model.specs.WholeTables.{element}
 use Rattle.tab_model.specs.declared.data.Kind.TheVariants.{Set, Bag}
 use Rattle.tab_model.specs.declared.data.Change.TheVariants as change
-use Rattle.tab_model.proofs.TableLaws.{same_true, same_refl, at-del, at-put-set, at-put-bag}
+use Rattle.tab_model.proofs.TableLaws.{same_true, at-del, at-put-set, at-put-bag}
 use Rattle.tab_model.proofs.ChangeLaws.{any_at, change_at_key}
 use Rattle.tab_index.proofs.CopiesLemmas.{list_of}
 use Rattle.tab_index.specs.IndexOf.{Entry, has_pair, has_value, is_pair, IsFilled, IsIndexOf, IsWith, IsWithout}

@@ -1,5 +1,5 @@
 -- A table's records with their indexes.
-use Rattle.std.specs.Prelude.{◌≡◌, ◌≤◌, ℕ, List, [], ◌∷◌, ◌++◌, true, map, length, take, drop}
+use Rattle.std.specs.Prelude.{◌≡◌, ◌≤◌, ℕ, List, ◌∷◌, ◌++◌, true, map, length, take, drop}
 use Rattle.tab_model.specs.Definitions.{add_number}
 use Rattle.std.specs.List.{All}
 use Rattle.tab_index.specs.declared.index.Index.{Index}

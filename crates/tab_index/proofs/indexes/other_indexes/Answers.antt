@@ -1,4 +1,4 @@
-use Rattle.std.proofs.Common.{◌∷◌, [], ◌++◌, sym, subst, get_or}
+use Rattle.std.proofs.Common.{sym, subst}
 use Rattle.std.proofs.lemmas.List.Elements.{All-push}
 use Rattle.tab_index.specs.declared.index.Index.{Index}
 use Rattle.tab_index.specs.IndexOf.{IsIndexOf}

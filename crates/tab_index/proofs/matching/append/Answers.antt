@@ -1,4 +1,4 @@
-use Rattle.std.proofs.Common.{sym, ap, ◌∙◌}
+use Rattle.std.proofs.Common.{sym, ◌∙◌}
 use Rattle.tab_term.specs.Pattern.{matches}
 use Rattle.tab_term.specs.View.{term}
 use Rattle.tab_index.proofs.CopiesLemmas.{kept}

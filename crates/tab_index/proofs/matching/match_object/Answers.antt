@@ -1,4 +1,4 @@
-use Rattle.std.proofs.Common.{◌++◌, Some, sym, ap, ◌∙◌, append-nil}
+use Rattle.std.proofs.Common.{◌++◌, sym, ap, ◌∙◌, append-nil}
 use Rattle.std.specs.Option.{option_copied}
 use Rattle.std.specs.Prelude.{option_map}
 use Rattle.tab_term.specs.View.{term}

@@ -1,8 +1,7 @@
-use Rattle.std.proofs.Common.{◌≡◌, ℕ, ◌<◌, ◌≤◌, get_or, sym, ap, ◌∙◌, subst, arith}
+use Rattle.std.proofs.Common.{◌≡◌, ℕ, ◌<◌, ◌≤◌, sym, ap, ◌∙◌, subst, arith}
 use Rattle.std.proofs.Math.Seq.{map-set_same}
 use Rattle.tab_model.specs.Tables.{apply}
 use Rattle.tab_index.specs.declared.index.Index.{Index}
-use Rattle.tab_index.specs.IndexOf.{IsIndexOf}
 use Rattle.tab_index.specs.Indexed.{positions, AreIndexesOf}
 use Rattle.tab_index.proofs.IndexedLemmas.{one_done, others_left, all_done}
 use Rattle.tab_index.proofs.table.change_indexes.Goals as goal

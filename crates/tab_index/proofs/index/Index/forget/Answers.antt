@@ -1,4 +1,4 @@
-use Rattle.std.proofs.Common.{◌≡◌, ◌+◌, drop, sym, ap, ap₂, ◌∙◌, subst, arith}
+use Rattle.std.proofs.Common.{sym, ap, ◌∙◌, subst}
 use Rattle.tab_term.specs.View.{term}
 use Rattle.tab_model.specs.Names.{terms_list}
 use Rattle.tab_model.specs.Tables.{at, delete}

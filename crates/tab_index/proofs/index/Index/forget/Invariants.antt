@@ -1,6 +1,5 @@
 use Rattle.std.proofs.Common.{◌≡◌, drop}
 use Rattle.tab_term.specs.declared.term.Term.{Term}
-use Rattle.tab_term.specs.View.{term}
 use Rattle.tab_index.specs.IndexOf.{has_pair, IsFilled}
 use Rattle.tab_index.proofs.CopiesLemmas.{list_of}
 use Rattle.tab_index.proofs.RowsLemmas.{unless}

@@ -1,9 +1,8 @@
-use Rattle.std.proofs.Common.{◌≡◌, sym, ap, ap₂, ◌∙◌, subst}
+use Rattle.std.proofs.Common.{sym, ap, ap₂, ◌∙◌, subst}
 use Rattle.std.proofs.lemmas.Result.{on_ok_weaker}
 use Rattle.tab_term.specs.View.{term}
 use Rattle.tab_model.specs.Names.{terms_list}
 use Rattle.tab_model.specs.Tables.{at, key, delete_object}
-use Rattle.tab_model.specs.WholeTables.{element}
 use Rattle.tab_index.specs.IndexOf.{IsIndexOf, IsWithout}
 use Rattle.tab_index.proofs.CopiesLemmas.{round}
 use Rattle.tab_index.proofs.RowsLemmas.{any_has, object_shared, object_gone}

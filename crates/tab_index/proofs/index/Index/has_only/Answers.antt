@@ -1,7 +1,5 @@
-use Rattle.std.proofs.Common.{◌≡◌, ◌<◌, ◌≤◌, List, [], ◌∷◌, length, get_or, map, refl, sym, ap, ◌∙◌, arith}
+use Rattle.std.proofs.Common.{◌≡◌, ◌<◌, ◌≤◌, List, [], ◌∷◌, length, get_or, map, sym, ap, ◌∙◌, arith}
 use Rattle.tab_term.specs.declared.term.Term.{Term}
-use Rattle.tab_term.specs.Same.{same}
-use Rattle.tab_term.specs.View.{term}
 use Rattle.tab_model.specs.WholeTables.{element}
 use Rattle.tab_model.proofs.TableLaws.{same_true}
 use Rattle.tab_index.proofs.CopiesLemmas.{list_of}

@@ -1,7 +1,7 @@
 use Rattle.std.proofs.Common.{◌++◌, sym, ap, ◌∙◌, append-nil}
 use Rattle.std.specs.Option.{option_copied}
-use Rattle.tab_term.specs.View.{term, terms}
-use Rattle.tab_model.specs.Names.{plain_terms, terms_list}
+use Rattle.tab_term.specs.View.{term}
+use Rattle.tab_model.specs.Names.{terms_list}
 use Rattle.tab_model.specs.Tables.{at}
 use Rattle.tab_model.specs.WholeTables.{index_read}
 use Rattle.tab_rows.specs.Joined.{joined}

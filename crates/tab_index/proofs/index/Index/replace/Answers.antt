@@ -1,8 +1,8 @@
-use Rattle.std.proofs.Common.{◌≡◌, ◌∷◌, [], map, sym, ap, ◌∙◌, subst}
+use Rattle.std.proofs.Common.{◌∷◌, [], map, sym, ap, ◌∙◌, subst}
 use Rattle.std.proofs.lemmas.Result.{on_ok_weaker}
 use Rattle.tab_term.specs.View.{term}
 use Rattle.tab_model.specs.Names.{terms_list}
-use Rattle.tab_model.specs.Tables.{at, key, put, delete}
+use Rattle.tab_model.specs.Tables.{at, put, delete}
 use Rattle.tab_model.specs.WholeTables.{element}
 use Rattle.tab_model.specs.declared.data.Kind.TheVariants.{Set}
 use Rattle.tab_index.specs.IndexOf.{IsIndexOf}

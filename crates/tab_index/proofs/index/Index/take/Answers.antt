@@ -1,11 +1,11 @@
-use Rattle.std.proofs.Common.{◌≡◌, false, refl, sym, ap, ◌∙◌, subst}
+use Rattle.std.proofs.Common.{sym, ap, ◌∙◌, subst}
 use Rattle.std.specs.Option.{option_copied}
 use Rattle.std.proofs.lemmas.Bool.{false≢true}
 use Rattle.std.proofs.lemmas.Result.{on_ok_weaker}
 use Rattle.tab_term.specs.Order.{term_cmp}
 use Rattle.tab_term.specs.View.{term}
-use Rattle.tab_map.specs.Entries.{insert_entry, remove_entry}
-use Rattle.tab_map.specs.KeyList.{contains_key, remove_key}
+use Rattle.tab_map.specs.Entries.{insert_entry}
+use Rattle.tab_map.specs.KeyList.{contains_key}
 use Rattle.tab_index.specs.IndexOf.{keys_in, IsWithout}
 use Rattle.tab_index.proofs.IndexOfLemmas.{without_one, without_last, without_none}
 use Rattle.tab_index.proofs.index.Index.take.Goals as goal

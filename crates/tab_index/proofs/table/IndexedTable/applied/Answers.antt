@@ -1,8 +1,8 @@
-use Rattle.std.proofs.Common.{◌≡◌, ◌+◌, ◌∷◌, drop, sym, ap, ap₂, ◌∙◌, subst, true}
+use Rattle.std.proofs.Common.{◌+◌, drop, sym, ap, ap₂, ◌∙◌, subst}
 use Rattle.std.proofs.lemmas.List.{at_drop_more}
 use Rattle.tab_model.specs.Tables.{apply, applied, is_ordered}
 use Rattle.tab_model.proofs.ChangeLaws.{ordered-apply}
-use Rattle.tab_index.specs.Indexed.{IsIndexed, AreIndexesOf}
+use Rattle.tab_index.specs.Indexed.{AreIndexesOf}
 use Rattle.tab_index.proofs.table.IndexedTable.applied.Goals as goal
 
 pub loop-change-preserved : goal.loop-change-preserved

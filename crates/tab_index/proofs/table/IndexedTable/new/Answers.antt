@@ -1,4 +1,4 @@
-use Rattle.std.proofs.Common.{[], refl, sym, ap, ◌∙◌, subst}
+use Rattle.std.proofs.Common.{sym, ap, ◌∙◌, subst}
 use Rattle.tab_model.specs.Tables.{is_ordered}
 use Rattle.tab_index.specs.Indexed.{AreIndexesOf}
 use Rattle.tab_index.proofs.table.IndexedTable.new.Goals as goal

@@ -1,4 +1,4 @@
-use Rattle.std.proofs.Common.{sym, ap, ap₂, ◌∙◌, subst}
+use Rattle.std.proofs.Common.{sym, ap, ◌∙◌, subst}
 use Rattle.tab_model.specs.Definitions.{with_indexes}
 use Rattle.tab_model.specs.Tables.{is_ordered}
 use Rattle.tab_index.specs.Indexed.{positions, AreIndexesOf}
