@@ -44,23 +44,27 @@ pub fn measure<H: AllocGlobal + Clock>(rt: &H, records: u32) -> Result<Vec<Figur
         ("read", read, got),
         ("index_read", found, got),
         ("updated", versions(rt, plain, &sample)?, put),
-        ("updated with an index", versions(rt, indexed, &sample)?, put),
+        (
+            "updated with an index",
+            versions(rt, indexed, &sample)?,
+            put,
+        ),
     ];
     let mut figures = Vec::new(alloc);
     for (call, took, beside) in &lines {
         let name = format!(in alloc; "{call}, {records} records")?;
-        figures.push(Figure::new(
-            name,
-            Work::CallsBeside(u64::from(calls), *beside),
-            *took,
-        ))?;
+        figures.push(Figure::new(name, Work::CallsBeside(u64::from(calls), *beside), *took))?;
     }
     Ok(figures)
 }
 
 fn record(alloc: Global, key: u64, value: u64) -> Result<Term> {
     let name = Term::Atom(atom(alloc, "person")?);
-    let items = vec![in alloc; name, Term::Int(i128::from(key)), Term::Int(i128::from(value))]?;
+    let items = vec![in alloc;
+        name,
+        Term::Int(i128::from(key)),
+        Term::Int(i128::from(value)),
+    ]?;
     Ok(Term::Tuple(Terms::from_vec(items)))
 }
 
@@ -115,7 +119,10 @@ fn standard_reads<H: Clock>(
 ) -> Result<Duration> {
     let start = Instant::now(rt)?;
     for key in &sample.keys {
-        ensure!(standard.get(key).is_some(), "the standard map lost a record");
+        ensure!(
+            standard.get(key).is_some(),
+            "the standard map lost a record"
+        );
     }
     Ok(start.elapsed(rt)?)
 }

@@ -24,11 +24,7 @@ pub enum Redefined {
 }
 
 /// The tables after a schema command. These stay as they were.
-pub fn redefine(
-    alloc: Global,
-    tables: &Tables,
-    command: &Schema,
-) -> Result<Redefined, AllocError>
+pub fn redefine(alloc: Global, tables: &Tables, command: &Schema) -> Result<Redefined, AllocError>
     ensures { IfOk result (Redefines tables.now command.now) }
 {
     match command {

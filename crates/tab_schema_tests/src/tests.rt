@@ -135,6 +135,12 @@ fn records_fit_and_attributes_have_positions(rt: HostRuntime) {
     let mut positions = Vec::new(alloc);
     positions.push(3).expect(&rt, "memory");
     let indexed = with_positions(alloc, &def, positions).expect(&rt, "memory");
-    assert!(rt; is_def(&indexed, Kind::Set, &["k", "v", "w"], &[3]), "an index at 3");
-    assert!(rt; has_index(&indexed, 3) && !has_index(&indexed, 4), "at 3 alone");
+    assert!(rt;
+        is_def(&indexed, Kind::Set, &["k", "v", "w"], &[3]),
+        "an index at 3"
+    );
+    assert!(rt;
+        has_index(&indexed, 3) && !has_index(&indexed, 4),
+        "at 3 alone"
+    );
 }
