@@ -25,7 +25,7 @@ GREATEST = 4_294_967_295
 
 # Words, the status, and what standard output and standard error begin with; where a text is empty, nothing stands there.
 WORDS = [
-    ([], 2, b"", b"A server of named in-memory tables"),
+    ([], 2, b"", b"error: "),
     (["nosuch"], 2, b"", b"error: "),
     (["replay", "nosuch"], 2, b"", b"error: "),
     (["--nosuch"], 2, b"", b"error: "),
