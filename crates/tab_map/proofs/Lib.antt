@@ -11,3 +11,4 @@ pub mod FromLastLemmas
 pub mod EntriesLeftLemmas
 pub mod KeyListLemmas
 pub mod Crossing
+pub mod RevisedLemmas

@@ -11,7 +11,7 @@ use Rattle.tab_map.specs.declared.Tree.TheVariants.{Node}
 use Rattle.tab_map.specs.Entries.{lookup, insert_entry, remove_entry, entries_from, entries_above, AllAbove, Ascends}
 use Rattle.tab_map.specs.InOrder.{spread, separators, entries, HasBranch}
 use Rattle.tab_map.specs.Places.{IsPast, IsBelow, HasAt, IsGap}
-use Rattle.tab_map.proofs.EntriesLemmas.{IsNode, lookup_less, lookup_greater, from_greater, above_greater, inserted_less, inserted_equal, inserted_greater, removed_less, removed_equal, removed_greater}
+use Rattle.tab_map.proofs.EntriesLemmas.{IsNode, lookup_less, lookup_equal, lookup_greater, from_greater, above_greater, inserted_less, inserted_equal, inserted_greater, removed_less, removed_equal, removed_greater}
 use Rattle.tab_map.proofs.AscendsLemmas.{last_two, above_back, ascends_back, not_empty}
 use Rattle.tab_map.proofs.PlacesLemmas.{get_seam, head_is, past_before}
 
@@ -243,6 +243,11 @@ module _ {K V : Type 0} {cmp : K → K → Ordering} (o : IsTotalOrder cmp) wher
       let h = branch_is o x.0 bs n m b f p s in
       set_branch x.0 bs n m b h.0 b.below x
       ∙ sym (ap (insert_entry cmp x) h.0.whole ∙ past_insert o x h.0.before (spread (b ∷ h.0.after) m) h.0.passes h.0.sorted ∙ ap (λ z. spread h.0.before z) (inserted_equal o x h.0.node h.1).is)
+
+  pub found_value : (k : K) (bs : List (Branch K V)) (n : ℕ) (m : List (K × V)) (b : Branch K V) → HasAt cmp k (separators bs) n → slice_get bs n ≡ Some b → Ascends cmp (spread bs m) → lookup cmp k (spread bs m) ≡ Some b.entry.1
+  found_value k bs n m b f p s =
+      let h = branch_is o k bs n m b f p s in
+      ap (lookup cmp k) h.0.whole ∙ past_lookup o k h.0.before (spread (b ∷ h.0.after) m) h.0.passes h.0.sorted ∙ lookup_equal o k h.0.node h.1
 
   pub child_remove : (k : K) (bs : List (Branch K V)) (n : ℕ) (m : List (K × V)) (b : Branch K V) → IsGap cmp k (separators bs) n → slice_get bs n ≡ Some b → Ascends cmp (spread bs m) → spread (slice_set bs n record { below = remove_entry cmp k b.below; entry = b.entry }) m ≡ remove_entry cmp k (spread bs m)
   child_remove k bs n m b f p s =

@@ -3,3 +3,4 @@ pub mod InOrder
 pub mod KeyList
 pub mod Places
 pub mod TreeFalls
+pub mod Revised

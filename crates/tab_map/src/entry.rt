@@ -1,6 +1,7 @@
 //! An entry of a map, which the nodes of several maps may hold, and a key that is sought among entries.
-ghost use Rattle.std.specs.Prelude.{◌≡◌, IfOk};
+ghost use Rattle.std.specs.Prelude.{◌≡◌, IfOk, OnOk, OnErr};
 
+use crate::revision::Revise;
 use std::alloc::{AllocError, Global};
 use std::cmp::Ordering;
 use std::marker::Model;
@@ -50,6 +51,30 @@ impl<K: Abbreviate + Drop, V: Drop> Entry<K, V> {
         ensures { result.now ≡ self.now }
     {
         &self.pair
+    }
+
+    /// Gives the entry this key and what becomes of its value, in place where no other map holds it.
+    pub fn revise<R: Revise<V> + Drop>(
+        &mut self,
+        alloc: Global,
+        key: K,
+        revision: R,
+    ) -> Result<(), AllocError>
+        ensures ok { OnOk result (self.new ≡ (key, R.becomes revision self.old.1)) }
+        ensures err { OnErr result (self.new ≡ self.old) }
+    {
+        match Arc::get_mut(&mut self.pair) {
+            Some(pair) => {
+                revision.revise(alloc, &mut pair.1)?;
+                self.abbreviation = key.abbreviated();
+                pair.0 = key;
+            }
+            None => {
+                let value = revision.revised(alloc, &self.pair.1)?;
+                *self = Entry::new(alloc, (key, value))?;
+            }
+        }
+        Ok(())
     }
 
     /// The entry's key, to be sought among other entries.

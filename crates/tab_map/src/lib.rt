@@ -19,12 +19,14 @@ mod in_place;
 mod iter;
 mod merge;
 mod removal;
+mod revision;
 mod row;
 mod set;
 mod split;
 
 use entry::{Entry, Sought};
 pub use iter::Iter;
+pub use revision::Revise;
 pub use set::{Keys, Set};
 use std::alloc::{AllocError, Global};
 use std::marker::Model;

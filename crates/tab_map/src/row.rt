@@ -4,8 +4,10 @@ ghost use Rattle.std.specs.Option.{option_copied};
 ghost use Rattle.std.specs.Ordering.{ordering_reverse};
 ghost use Rattle.tab_map.specs.Entries.{Ascends, lookup, insert_entry, remove_entry, entries_from, entries_above};
 ghost use Rattle.tab_map.specs.Places.{HasAt, IsGap};
+ghost use Rattle.tab_map.specs.Revised.{revised_at};
 
 use crate::entry::{Entry, Sought};
+use crate::revision::Revise;
 use std::alloc::{AllocError, Global};
 use std::cmp::Ordering;
 use tab_key::Abbreviate;
@@ -91,6 +93,24 @@ pub fn put<K: Abbreviate + Drop, V: Drop>(
     match found {
         Ok(n) => items[n] = entry,
         Err(n) => items.insert(n, entry)?,
+    }
+    Ok(())
+}
+
+pub fn revise<K: Abbreviate + Drop, V: Drop, R: Revise<V> + Drop>(
+    alloc: Global,
+    items: &mut Vec<Entry<K, V>>,
+    key: K,
+    revision: R,
+) -> Result<(), AllocError>
+    requires { Ascends K.cmp items.old.items }
+    ensures ok { OnOk result (items.new.items ≡ revised_at K.cmp (R.becomes revision) key items.old.items) }
+    ensures err { OnErr result (items.new.items ≡ items.old.items) }
+{
+    let found = place(items, &Sought::new(&key));
+    match found {
+        Ok(n) => items[n].revise(alloc, key, revision)?,
+        Err(_) => return Ok(()),
     }
     Ok(())
 }

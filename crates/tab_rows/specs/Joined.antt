@@ -3,9 +3,9 @@ use Rattle.std.specs.Prelude.{◌≡◌, ◌≢◌, ℕ, List, [], ◌∷◌, �
 use Rattle.std.specs.List.{list_all}
 use Rattle.tab_term.specs.declared.term.Term.{Term}
 use Rattle.tab_term.specs.View.{term}
-use Rattle.tab_term.specs.Data.{PlainTerms}
+use Rattle.tab_term.specs.Data.{PlainTerm, PlainTerms}
 use Rattle.tab_map.specs.Entries.{Ascends}
-use Rattle.tab_model.specs.Names.{terms_list}
+use Rattle.tab_model.specs.Names.{plain_terms, terms_list}
 use Rattle.tab_model.specs.Tables.{Rows, has_key}
 use Rattle.tab_term.specs.Order.{term_cmp}
 
@@ -30,6 +30,10 @@ AllKeyed (e ∷ es) = IsKeyed e × AllKeyed es
 pub record IsInOrder (es : List Entry) : Type 0 where
   pub ascends : Ascends term_cmp es
   pub keyed : AllKeyed es
+
+-- records with one more after them
+abbrev pub followed_by : PlainTerms → PlainTerm → PlainTerms
+followed_by records row = plain_terms (terms_list records ++ row ∷ [])
 
 -- what a table keeps: its records by key, and how many they are
 pub record IsKept (es : List Entry) (size : ℕ) : Type 0 where

@@ -5,7 +5,9 @@
 
 #![tactic(auto)]
 
+mod append;
 mod rows;
 
+pub use append::Append;
 pub use rows::Rows;
 pub use tab_model::Kind;

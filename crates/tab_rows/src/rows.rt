@@ -7,6 +7,7 @@ ghost use Rattle.tab_model.specs.Names.{plain_terms, terms_list};
 ghost use Rattle.tab_model.specs.Tables.{at, key as key_of_row, put as put_in, delete as delete_in, delete_object as delete_object_in, keys as keys_of_rows};
 ghost use Rattle.tab_rows.specs.Joined.{joined, IsInOrder};
 
+use crate::append::Append;
 use std::alloc::{AllocError, Global};
 use std::marker::Model;
 use tab_map::{Iter, Map};
@@ -150,9 +151,8 @@ impl Rows {
         ensures err { OnErr result (self.new ≡ self.old) }
     {
         let size = one_more(self.size - self.count_at(&key))?;
-        let mut only = Vec::with_capacity(alloc, 1)?;
-        only.push_reserved(row);
-        self.records.insert(alloc, key, Terms::from_vec(only))?;
+        let records = only(alloc, row)?;
+        self.records.insert(alloc, key, records)?;
         self.size = size;
         Ok(())
     }
@@ -163,11 +163,27 @@ impl Rows {
         ensures ok { OnOk result (self.new ≡ (self.old.0, put_in self.old.0 self.old.1 (term row))) }
         ensures err { OnErr result (self.new ≡ self.old) }
     {
-        if contains(self.at(&key), &row) {
+        let Some(records) = self.records.get(&key) else {
+            return self.add_first(alloc, key, row);
+        };
+        if contains(records.as_slice(), &row) {
             return Ok(());
         }
         let size = one_more(self.size)?;
-        let records = copies_and(alloc, self.at(&key), row)?;
+        self.records.revise(alloc, key, Append { row })?;
+        self.size = size;
+        Ok(())
+    }
+
+    fn add_first(&mut self, alloc: Global, key: Term, row: Term) -> Result<(), AllocError>
+        requires keyed { term key ≡ key_of_row (term row) }
+        requires kind { self.old.0 ≡ Kind.Bag }
+        requires absent { at self.old.1 (term key) ≡ [] }
+        ensures ok { OnOk result (self.new ≡ (self.old.0, put_in self.old.0 self.old.1 (term row))) }
+        ensures err { OnErr result (self.new ≡ self.old) }
+    {
+        let size = one_more(self.size)?;
+        let records = only(alloc, row)?;
         self.records.insert(alloc, key, records)?;
         self.size = size;
         Ok(())
@@ -221,12 +237,12 @@ fn contains(records: &[Term], row: &Term) -> bool
     false
 }
 
-fn copies_and(alloc: Global, records: &[Term], row: Term) -> Result<Terms, AllocError>
-    ensures { IfOk result (λ all. terms_list all ≡ terms_list (terms records.now) ++ term row ∷ []) }
+fn only(alloc: Global, row: Term) -> Result<Terms, AllocError>
+    ensures { IfOk result (λ records. terms_list records ≡ term row ∷ []) }
 {
-    let mut all = copies(alloc, records)?.into_vec();
-    all.push(row)?;
-    Ok(Terms::from_vec(all))
+    let mut records = Vec::with_capacity(alloc, 1)?;
+    records.push_reserved(row);
+    Ok(Terms::from_vec(records))
 }
 
 fn copies_but(alloc: Global, records: &[Term], row: &Term) -> Result<Terms, AllocError>
