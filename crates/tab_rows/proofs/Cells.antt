@@ -25,7 +25,7 @@ use Rattle.tab_model.specs.declared.data.Change.TheVariants as change
 use Rattle.tab_model.specs.declared.data.Change.{Change}
 use Rattle.tab_model.proofs.TableLaws.{same_true, same_refl, same_lists}
 use Rattle.tab_model.proofs.ChangeLaws.{at-apply, ordered-apply, none_left, at_end, any_at}
-use Rattle.tab_rows.specs.Joined.{Entry, joined, IsKeyed, AllKeyed, IsInOrder}
+use Rattle.tab_rows.specs.Joined.{Entry, joined, IsKeyed, AllKeyed, IsInOrder, followed_by}
 use Rattle.tab_rows.proofs.LookUps.{lookup_above, lookup_insert, lookup_remove}
 use Rattle.tab_model.proofs.ShapeLaws.{term_held}
 use Rattle.tab_term.specs.Order.{term_cmp}
@@ -264,6 +264,14 @@ found_keyed es k o = ap (list_all (has_key (term k))) (sym (at-joined es k o.asc
     all_filter [] = refl
     all_filter (x ∷ rows) = cases x rows (all_filter rows) (has_key (term k) x) refl
 
+listed : (xs : Rows) → terms_list (plain_terms xs) ≡ xs
+listed [] = refl
+listed (x ∷ xs) = ap (λ ys. x ∷ ys) (listed xs)
+
+-- what stands at a key, with one more
+pub followed : (ts : PlainTerms) (x : PlainTerm) → terms_list (followed_by ts x) ≡ terms_list ts ++ x ∷ []
+followed ts x = listed (terms_list ts ++ x ∷ [])
+
 -- a bag's write of another record
 pub put_new : (es : List Entry) (k r : Term) (ts us : PlainTerms) → term k ≡ key (term r) → IsInOrder es → ts ≡ plain_terms (at (joined es) (term k)) → false ≡ list_any (same (term r)) (terms_list ts)
     → terms_list us ≡ terms_list ts ++ term r ∷ [] → Writes Bag es (insert_entry term_cmp (k, us) es) r
@@ -295,6 +303,10 @@ put_new es k r ts us rk o before absent is = record {
 
     ended : insert (term r) (found_in (lookup term_cmp k es)) ≡ found_in (lookup term_cmp k es) ++ term r ∷ []
     ended = subst (λ (xs : Rows). insert (term r) xs ≡ xs ++ term r ∷ []) (ap (λ j. at (joined es) j) (sym rk) ∙ at-joined es k o.ascends o.keyed) (at_end (joined es) (term r))
+
+-- a bag's first record of its key
+pub put_first : (es : List Entry) (k r : Term) (us : PlainTerms) → term k ≡ key (term r) → IsInOrder es → at (joined es) (term k) ≡ [] → terms_list us ≡ term r ∷ [] → Writes Bag es (insert_entry term_cmp (k, us) es) r
+put_first es k r us rk o absent is = put_new es k r Rattle.tab_term.specs.Data.none us rk o (sym (ap plain_terms absent)) refl is
 
 -- a deletion
 pub deleted : (kind : Kind) (es : List Entry) (k : Term) → IsInOrder es → joined (remove_entry term_cmp k es) ≡ delete (joined es) (term k)

@@ -8,9 +8,14 @@ use Rattle.tab_term.specs.Data.{PlainTerm, PlainTerms}
 use Rattle.tab_term.specs.Same.{same}
 use Rattle.tab_model.specs.Names.{plain_terms, terms_list}
 use Rattle.tab_model.specs.Tables.{Rows, delete_object}
-use Rattle.tab_rows.specs.Joined.{Entry}
+use Rattle.tab_rows.specs.Joined.{Entry, followed_by}
 use Rattle.tab_rows.proofs.Cells.{plain-list}
 use Rattle.tab_rows.proofs.KeysLemmas.{entry_keys}
+
+-- one more after them
+pub terms_snoc : (ts : List Term) (t : Term) → terms (ts ++ t ∷ []) ≡ followed_by (terms ts) (term t)
+terms_snoc [] t = refl
+terms_snoc (u ∷ ts) t = ap (Rattle.tab_term.specs.Data.one_more (term u)) (terms_snoc ts t)
 
 -- one more copy, before what is left
 copied_before : (copies new : List Term) (copy t : Term) (rest : Rows) → new ≡ copies ++ copy ∷ [] → copy ≡ t → terms_list (terms new) ++ rest ≡ terms_list (terms copies) ++ (term t ∷ rest)

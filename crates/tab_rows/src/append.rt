@@ -4,6 +4,7 @@ ghost use Rattle.tab_term.specs.View.{term, terms};
 ghost use Rattle.tab_model.specs.Names.{plain_terms, terms_list};
 ghost use Rattle.tab_rows.specs.Joined.{followed_by};
 
+use crate::rows::copies;
 use std::alloc::{AllocError, Global};
 use std::mem;
 use tab_map::Revise;
@@ -41,10 +42,7 @@ fn push(alloc: Global, records: &mut Terms, row: Term) -> Result<(), AllocError>
 fn copies_and(alloc: Global, records: &[Term], row: Term) -> Result<Terms, AllocError>
     ensures { IfOk result (λ all. all ≡ followed_by (terms records.now) (term row)) }
 {
-    let mut all = Vec::with_capacity(alloc, records.len().saturating_add(1))?;
-    for record in records {
-        all.push(record.try_clone(alloc)?)?;
-    }
+    let mut all = copies(alloc, records)?.into_vec();
     all.push(row)?;
     Ok(Terms::from_vec(all))
 }

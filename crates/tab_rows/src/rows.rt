@@ -270,7 +270,7 @@ fn copy_of_key(alloc: Global, row: &Term) -> Result<Term, AllocError>
     }
 }
 
-fn copies(alloc: Global, records: &[Term]) -> Result<Terms, AllocError>
+pub fn copies(alloc: Global, records: &[Term]) -> Result<Terms, AllocError>
     ensures { IfOk result (λ copy. copy ≡ terms records.now) }
 {
     let mut copies = Vec::with_capacity(alloc, records.len())?;

@@ -1,6 +1,5 @@
-use Rattle.std.proofs.Common.{◌-◌, ◌+◌, length, ◌∷◌, [], ◌++◌, ap, sym, ◌∙◌, subst}
-use Rattle.tab_term.specs.View.{term, terms}
-use Rattle.tab_model.specs.Names.{terms_list}
+use Rattle.std.proofs.Common.{◌-◌, ◌+◌, length, ap, sym, ◌∙◌, subst}
+use Rattle.tab_term.specs.View.{term}
 use Rattle.tab_model.specs.Tables.{at, put}
 use Rattle.tab_rows.specs.Joined.{joined, IsKept}
 use Rattle.tab_rows.proofs.Cells.{Writes, put_set}
@@ -9,18 +8,18 @@ use Rattle.tab_rows.proofs.rows.Rows.set.Goals as goal
 
 pub invariant_of-self-2 : goal.invariant_of-self-2
 invariant_of-self-2 c =
-    let only = ap terms_list (c.from_vec.ensures ∙ ap terms (c.push_reserved.ensures.items ∙ ap (λ xs. xs ++ c.args.row ∷ []) c.in_ok-only.ensures.items)) in
-    let written = put_set c.self.inside.records c.args.key c.args.row c.from_vec.result c.requires.keyed c.self.invariant.order only in
+    let only = c.in_ok-records.ensures in
+    let written = put_set c.self.inside.records c.args.key c.args.row c.in_ok-records.records c.requires.keyed c.self.invariant.order only in
     let before = c.count_at.ensures.count ∙ ap (λ v. length (at v.1 (term c.args.key))) (sym c.self.view_is) in
     subst (λ es. IsKept es c.in_ok-size.size) (sym (c.in_ok-insert.ensures.ok)) record {
       order = Writes.order written;
-      counted = counted_insert c.self.inside.records c.args.key c.from_vec.result _ c.count_at.result _ c.self.invariant before (c.in_ok-size.ensures ∙ ap (λ n. c.self.inside.size - c.count_at.result + n) (sym (ap length only)));
+      counted = counted_insert c.self.inside.records c.args.key c.in_ok-records.records _ c.count_at.result _ c.self.invariant before (c.in_ok-size.ensures ∙ ap (λ n. c.self.inside.size - c.count_at.result + n) (sym (ap length only)));
     }
 
 pub returns-clause-ok : goal.returns-clause-ok
 returns-clause-ok c =
-    let only = ap terms_list (c.from_vec.ensures ∙ ap terms (c.push_reserved.ensures.items ∙ ap (λ xs. xs ++ c.args.row ∷ []) c.in_ok-only.ensures.items)) in
-    let written = put_set c.self.inside.records c.args.key c.args.row c.from_vec.result c.requires.keyed c.self.invariant.order only in
+    let only = c.in_ok-records.ensures in
+    let written = put_set c.self.inside.records c.args.key c.args.row c.in_ok-records.records c.requires.keyed c.self.invariant.order only in
     ap (λ rows. (c.self.inside.kind, rows)) (ap joined (c.in_ok-insert.ensures.ok) ∙ Writes.list written)
     ∙ ap (λ k. (c.self.inside.kind, put k (joined c.self.inside.records) (term c.args.row))) (sym (ap (λ v. v.0) c.self.view_is ∙ c.requires.kind))
     ∙ ap (λ v. (v.0, put v.0 v.1 (term c.args.row))) c.self.view_is
