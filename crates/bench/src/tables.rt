@@ -15,6 +15,9 @@ use tab_term::{Term, Terms};
 /// How many calls of a kind are timed.
 const CALLS: u32 = 20_000;
 
+/// How many records a bag's key has before as many more are written there.
+const OF_ONE_KEY: u64 = 1_000;
+
 /// The position of the value in a record `{person, Key, Value}`.
 const VALUE: u64 = 3;
 
@@ -27,7 +30,8 @@ struct Sample {
 }
 
 /// At this many records: a look-up, a new version of the table with one record written, without an index and with one, and
-/// a look-up by the index, each beside the standard map's `get` or `insert` in place.
+/// a look-up by the index, each beside the standard map's `get` or `insert` in place; and writes of one key of a bag, which
+/// `records` doesn't change.
 pub fn measure<H: AllocGlobal + Clock>(rt: &H, records: u32) -> Result<Vec<Figure>> {
     let alloc = rt.alloc();
     let calls = records.min(CALLS);
@@ -55,7 +59,32 @@ pub fn measure<H: AllocGlobal + Clock>(rt: &H, records: u32) -> Result<Vec<Figur
         let name = format!(in alloc; "{call}, {records} records")?;
         figures.push(Figure::new(name, Work::CallsBeside(u64::from(calls), *beside), *took))?;
     }
+    let name = format!(in alloc; "writes of a bag's key, from {OF_ONE_KEY} records")?;
+    figures.push(Figure::new(name, Work::Calls(OF_ONE_KEY), bag_writes(rt)?))?;
     Ok(figures)
+}
+
+fn bag_writes<H: AllocGlobal + Clock>(rt: &H) -> Result<Duration> {
+    let alloc = rt.alloc();
+    let option = Terms::from_vec(vec![in alloc;
+        Term::Atom(atom(alloc, "type")?),
+        Term::Atom(atom(alloc, "bag")?),
+    ]?);
+    let options = vec![in alloc; Term::Tuple(option)]?;
+    let Ok(def) = parse_options(alloc, &atom(alloc, "person")?, &options) else {
+        bail!("a bag is refused");
+    };
+    let mut writes = Vec::new(alloc);
+    for value in 0..OF_ONE_KEY * 2 {
+        writes.push(Change::Write(record(alloc, 1, value)?))?;
+    }
+    let (first, then) = writes.split_at(writes.len() / 2);
+    let bag = IndexedTable::new(alloc, def)?.applied(alloc, first)?;
+    let start = Instant::now(rt)?;
+    let bag = bag.applied(alloc, then)?;
+    let took = start.elapsed(rt)?;
+    ensure!(bag.size() == writes.len(), "a bag lost a record");
+    Ok(took)
 }
 
 fn record(alloc: Global, key: u64, value: u64) -> Result<Term> {
