@@ -10,7 +10,7 @@ use Rattle.tab_term.specs.View.{term}
 use Rattle.tab_term.specs.Same.{same, same-Decides}
 use Rattle.tab_term.specs.OrderLaws.{matches_same}
 use Rattle.tab_locks.specs.Members.{HasMore, SameMembers, Drops}
-use Rattle.tab_locks.specs.Spots.{Holding, KeySpot, key_spots, stands_on_key}
+use Rattle.tab_locks.specs.Spots.{Holding, KeySpot, key_spots, stands_on_key, is_holding}
 use Rattle.tab_locks.proofs.Passing.{any_same, any_map, any_and, any_flat_map}
 use Rattle.tab_locks.proofs.Lookups.{found_any}
 use Rattle.tab_locks.proofs.MapMembers.{more_mapped, dropped_mapped, kept_mapped, spelled_found, spelled_more, spelled_same, spelled_new, spelled_dropped, spelled_kept, spelled_pruned}
@@ -48,17 +48,17 @@ same_at k v w es new l is e = spelled_same term_cmp term_total spell k v w es ne
 pub new_at : (k j : Term) (x : Holding) (v : List Holding) (es new : Entries) → j ≡ k → lookup (is_at (term_cmp k)) es ≡ None → new ≡ insert_entry term_cmp es j v → HasMore x [] v → HasMore (term k, x) (key_spots es) (key_spots new)
 new_at k j x v es new e l is h = spelled_new term_cmp term_total spell k (term k, x) v es new l (is ∙ ap (λ z. insert_entry term_cmp es z v) e) (more_mapped (λ (h : Holding). (term k, h)) x [] v h)
 
-others_stay : (k : Term) (age : ℕ) (e : Term × List Holding) → is_at (term_cmp k) e.0 ≡ false → Drops (stands_on_key (term k) age) (spell e.0 e.1) (spell e.0 e.1)
-others_stay k age e n = kept_mapped (λ (h : Holding). (term e.0, h)) (stands_on_key (term k) age) e.1 (λ h. ap (λ b. b && (h.0 == age)) (sym (is_key k e.0) ∙ n))
+others_stay : (k : Term) (r : Holding) (e : Term × List Holding) → is_at (term_cmp k) e.0 ≡ false → Drops (stands_on_key (term k) r) (spell e.0 e.1) (spell e.0 e.1)
+others_stay k r e n = kept_mapped (λ (h : Holding). (term e.0, h)) (stands_on_key (term k) r) e.1 (λ h. ap (λ b. b && is_holding r h) (sym (is_key k e.0) ∙ n))
 
-pub dropped_at : (k : Term) (age : ℕ) (v w : List Holding) (es new : Entries) → IsStrictlySortedBy term_cmp (keys_of es) → lookup (is_at (term_cmp k)) es ≡ Some v → new ≡ set_value (is_at (term_cmp k)) es w
-    → Drops (λ h. h.0 == age) v w → Drops (stands_on_key (term k) age) (key_spots es) (key_spots new)
-dropped_at k age v w es new s l is h = spelled_dropped term_cmp term_total spell k (stands_on_key (term k) age) v w es new s l is
-    (λ j t. dropped_mapped (λ (h : Holding). (term j, h)) (stands_on_key (term k) age) (λ h. h.0 == age) v w h (λ x. ap (λ b. b && (x.0 == age)) (sym (is_key k j) ∙ t)))
-    (others_stay k age)
+pub dropped_at : (k : Term) (r : Holding) (v w : List Holding) (es new : Entries) → IsStrictlySortedBy term_cmp (keys_of es) → lookup (is_at (term_cmp k)) es ≡ Some v → new ≡ set_value (is_at (term_cmp k)) es w
+    → Drops (is_holding r) v w → Drops (stands_on_key (term k) r) (key_spots es) (key_spots new)
+dropped_at k r v w es new s l is h = spelled_dropped term_cmp term_total spell k (stands_on_key (term k) r) v w es new s l is
+    (λ j t. dropped_mapped (λ (h : Holding). (term j, h)) (stands_on_key (term k) r) (is_holding r) v w h (λ x. ap (λ b. b && is_holding r x) (sym (is_key k j) ∙ t)))
+    (others_stay k r)
 
-pub none_at : (k : Term) (age : ℕ) (es : Entries) → lookup (is_at (term_cmp k)) es ≡ None → Drops (stands_on_key (term k) age) (key_spots es) (key_spots es)
-none_at k age es l = spelled_kept term_cmp term_total spell k (stands_on_key (term k) age) es l (others_stay k age)
+pub none_at : (k : Term) (r : Holding) (es : Entries) → lookup (is_at (term_cmp k)) es ≡ None → Drops (stands_on_key (term k) r) (key_spots es) (key_spots es)
+none_at k r es l = spelled_kept term_cmp term_total spell k (stands_on_key (term k) r) es l (others_stay k r)
 
 pub pruned_at : (k : Term) (es new : Entries) → lookup (is_at (term_cmp k)) es ≡ Some [] → new ≡ remove_entry (is_at (term_cmp k)) es → SameMembers (key_spots es) (key_spots new)
 pruned_at k es new l is = spelled_pruned term_cmp term_total spell k [] es new l is (λ j. refl)

@@ -16,7 +16,7 @@ use Rattle.tab_model.specs.declared.data.Lock as code
 use Rattle.tab_model.specs.Locks.{Part, All, Key}
 use Rattle.tab_model.specs.Ages.{Owned, without}
 use Rattle.tab_locks.specs.Plain.{lock_of}
-use Rattle.tab_locks.specs.Spots.{same_part, stands_at}
+use Rattle.tab_locks.specs.Spots.{same_part, same_mode, stands_at}
 use Rattle.tab_locks.specs.Placed.{placed, owned_by, listed, is_of}
 use Rattle.tab_locks.proofs.Passing.{or_swap, any_never}
 use Rattle.tab_model.proofs.Seats.{itself}
@@ -151,8 +151,12 @@ same_part_itself : (part : Part) → same_part part part ≡ true
 same_part_itself All = refl
 same_part_itself (Key k) = same_equiv.refl k
 
+same_mode_itself : (b : Bool) → same_mode b b ≡ true
+same_mode_itself true = refl
+same_mode_itself false = refl
+
 stands_itself : (age : ℕ) (l : code.Lock) → stands_at age (lock_of l) (age, lock_of l) ≡ true
-stands_itself age l = (λ i. bytes_equiv.refl l.table i && (same_part_itself (lock_of l).part i && itself age i))
+stands_itself age l = (λ i. bytes_equiv.refl l.table i && (same_part_itself (lock_of l).part i && (itself age i && same_mode_itself (lock_of l).write i)))
 
 -- an owner's locks are all on the places of its locks
 own_gone : (p : Owned → Bool) (age : ℕ) (first ls : List code.Lock) → list_any (λ x. p x && not (is_of age (first ++ ls) x)) (owned_by age ls) ≡ false
@@ -170,7 +174,7 @@ own_gone p age first (l ∷ ls) =
 -- no other owner's are
 other_kept : (age : ℕ) (locks : List code.Lock) (x : Owned) → (x.0 == age) ≡ false → is_of age locks x ≡ false
 other_kept age locks x h = any_never (λ l. stands_at age (lock_of l) x) locks
-    (λ l. (λ i. bytes_eq l.table (x.1).table && (same_part (lock_of l).part (x.1).part && h i)) ∙ ap (λ b. bytes_eq l.table (x.1).table && b) (and-false (same_part (lock_of l).part (x.1).part)) ∙ and-false (bytes_eq l.table (x.1).table))
+    (λ l. (λ i. bytes_eq l.table (x.1).table && (same_part (lock_of l).part (x.1).part && (h i && same_mode (lock_of l).write (x.1).write))) ∙ ap (λ b. bytes_eq l.table (x.1).table && b) (and-false (same_part (lock_of l).part (x.1).part)) ∙ and-false (bytes_eq l.table (x.1).table))
 
 others_kept : (p : Owned → Bool) (age k : ℕ) (locks ls : List code.Lock) → (k == age) ≡ false → list_any (λ x. p x && not (is_of age locks x)) (owned_by k ls) ≡ list_any p (owned_by k ls)
 others_kept p age k locks [] h = refl

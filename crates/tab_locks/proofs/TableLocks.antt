@@ -89,12 +89,12 @@ pub new_in : (t u : List ℕ) (x : Spot) (v : List Spot) (es new : Entries) → 
 new_in t u x v es new e l is h = spelled_new bytes_cmp nat_list_cmp_total locks_on t (x.1.0, lock t x.0 x.1.1) v es new l (is ∙ ap (λ z. insert_entry bytes_cmp es z v) e) (more_mapped (λ (s : Spot). (s.1.0, lock t s.0 s.1.1)) x [] v h)
 
 others_stay : (age : ℕ) (t : List ℕ) (part : Part) (write : Bool) (e : List ℕ × List Spot) → is_at (bytes_cmp t) e.0 ≡ false → Drops (stands_at age (lock t part write)) (locks_on e.0 e.1) (locks_on e.0 e.1)
-others_stay age t part write e n = kept_mapped (λ (s : Spot). (s.1.0, lock e.0 s.0 s.1.1)) (stands_at age (lock t part write)) e.1 (λ s. ap (λ b. b && stands_on part age s) (sym (is_table t e.0) ∙ n))
+others_stay age t part write e n = kept_mapped (λ (s : Spot). (s.1.0, lock e.0 s.0 s.1.1)) (stands_at age (lock t part write)) e.1 (λ s. ap (λ b. b && stands_on part (age, write) s) (sym (is_table t e.0) ∙ n))
 
 pub dropped_in : (age : ℕ) (t : List ℕ) (part : Part) (write : Bool) (v w : List Spot) (es new : Entries) → IsStrictlySortedBy bytes_cmp (keys_of es) → lookup (is_at (bytes_cmp t)) es ≡ Some v → new ≡ set_value (is_at (bytes_cmp t)) es w
-    → Drops (stands_on part age) v w → Drops (stands_at age (lock t part write)) (locks_in es) (locks_in new)
+    → Drops (stands_on part (age, write)) v w → Drops (stands_at age (lock t part write)) (locks_in es) (locks_in new)
 dropped_in age t part write v w es new s l is h = spelled_dropped bytes_cmp nat_list_cmp_total locks_on t (stands_at age (lock t part write)) v w es new s l is
-    (λ u e. dropped_mapped (λ (z : Spot). (z.1.0, lock u z.0 z.1.1)) (stands_at age (lock t part write)) (stands_on part age) v w h (λ z. ap (λ b. b && stands_on part age z) (sym (is_table t u) ∙ e)))
+    (λ u e. dropped_mapped (λ (z : Spot). (z.1.0, lock u z.0 z.1.1)) (stands_at age (lock t part write)) (stands_on part (age, write)) v w h (λ z. ap (λ b. b && stands_on part (age, write) z) (sym (is_table t u) ∙ e)))
     (others_stay age t part write)
 
 pub none_in : (age : ℕ) (t : List ℕ) (part : Part) (write : Bool) (es : Entries) → lookup (is_at (bytes_cmp t)) es ≡ None → Drops (stands_at age (lock t part write)) (locks_in es) (locks_in es)

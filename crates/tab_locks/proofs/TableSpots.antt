@@ -11,7 +11,7 @@ use Rattle.tab_locks.specs.declared.question.Relation.{Relation}
 use Rattle.tab_locks.specs.declared.question.Relation.TheVariants.{Opposing, Blocking, Covering}
 use Rattle.tab_locks.specs.Questions.{reaches}
 use Rattle.tab_locks.specs.Members.{HasMore, SameMembers, Drops}
-use Rattle.tab_locks.specs.Spots.{Holding, Spot, KeySpot, spots_of, stands_on, stands_on_key}
+use Rattle.tab_locks.specs.Spots.{Holding, Spot, KeySpot, spots_of, stands_on, stands_on_key, is_holding}
 use Rattle.tab_locks.proofs.Passing.{or_swap, any_same, any_map, any_and}
 
 pub any_spots : (p : Spot → Bool) (all : List Holding) (keys : List KeySpot) → list_any p (spots_of all keys) ≡ (list_any (λ h. p (All, h)) all || list_any (λ s. p (Key s.0, s.1)) keys)
@@ -63,14 +63,14 @@ more_on_key key x all keys new h = λ p.
 pub same_on_keys : (all : List Holding) (keys new : List KeySpot) → SameMembers keys new → SameMembers (spots_of all keys) (spots_of all new)
 same_on_keys all keys new h = λ p. any_spots p all new ∙ (λ i. list_any (λ y. p (All, y)) all || h (λ s. p (Key s.0, s.1)) i) ∙ sym (any_spots p all keys)
 
-pub dropped_on_all : (age : ℕ) (all new : List Holding) (keys : List KeySpot) → Drops (λ h. h.0 == age) all new → Drops (stands_on All age) (spots_of all keys) (spots_of new keys)
-dropped_on_all age all new keys h = λ p.
+pub dropped_on_all : (r : Holding) (all new : List Holding) (keys : List KeySpot) → Drops (is_holding r) all new → Drops (stands_on All r) (spots_of all keys) (spots_of new keys)
+dropped_on_all r all new keys h = λ p.
     any_spots p new keys
     ∙ (λ i. h (λ y. p (All, y)) i || any_same (λ s. p (Key s.0, s.1)) (λ s. p (Key s.0, s.1) && true) keys (λ s. sym (and-true (p (Key s.0, s.1)))) i)
-    ∙ sym (any_spots (λ s. p s && not (stands_on All age s)) all keys)
+    ∙ sym (any_spots (λ s. p s && not (stands_on All r s)) all keys)
 
-pub dropped_on_key : (key : PlainTerm) (age : ℕ) (all : List Holding) (keys new : List KeySpot) → Drops (stands_on_key key age) keys new → Drops (stands_on (Key key) age) (spots_of all keys) (spots_of all new)
-dropped_on_key key age all keys new h = λ p.
+pub dropped_on_key : (key : PlainTerm) (r : Holding) (all : List Holding) (keys new : List KeySpot) → Drops (stands_on_key key r) keys new → Drops (stands_on (Key key) r) (spots_of all keys) (spots_of all new)
+dropped_on_key key r all keys new h = λ p.
     any_spots p all new
     ∙ (λ i. any_same (λ y. p (All, y)) (λ y. p (All, y) && true) all (λ y. sym (and-true (p (All, y)))) i || h (λ s. p (Key s.0, s.1)) i)
-    ∙ sym (any_spots (λ s. p s && not (stands_on (Key key) age s)) all keys)
+    ∙ sym (any_spots (λ s. p s && not (stands_on (Key key) r s)) all keys)

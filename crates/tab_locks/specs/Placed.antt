@@ -1,5 +1,5 @@
 -- The held locks as one list: owners by ascending age, each owner's locks in the order of granting.
-use Rattle.std.specs.Prelude.{ℕ, List, [], ◌∷◌, Bool, nat_lt, if◌then◌else◌, map}
+use Rattle.std.specs.Prelude.{ℕ, List, [], ◌∷◌, Bool, not, ◌&&◌, ◌==◌, nat_lt, if◌then◌else◌, map}
 use Rattle.std.specs.Global.{Vec}
 use Rattle.std.specs.List.{flat_map, list_any}
 use Rattle.std.specs.Ordering.{nat_cmp}
@@ -17,6 +17,11 @@ abbrev pub placed : Owned → List Owned → List Owned
 placed x [] = x ∷ []
 placed x (y ∷ ys) = if nat_lt x.0 y.0 then x ∷ y ∷ ys else y ∷ placed x ys
 
+-- an owner's last lock less
+abbrev pub without_last : ℕ → List Owned → List Owned
+without_last age [] = []
+without_last age (x ∷ xs) = if (x.0 == age) && not (list_any (λ y. y.0 == age) xs) then xs else x ∷ without_last age xs
+
 abbrev pub owned_by : ℕ → List code.Lock → List Owned
 owned_by age locks = map (λ l. (age, lock_of l)) locks
 
@@ -28,7 +33,7 @@ pub record IsIndexed (owners : BTreeMap ℕ (Vec code.Lock)) (index : List Owned
   pub ordered : IsOrdered nat_cmp owners
   pub indexed : SameMembers (listed owners.entries) index
 
--- of this owner, on the table and part of one of these locks
+-- of this owner, and one of these locks
 abbrev pub is_of : ℕ → List code.Lock → Owned → Bool
 is_of age locks x = list_any (λ l. stands_at age (lock_of l) x) locks
 

@@ -1,5 +1,5 @@
 -- The locks that an index has, spelled out with their places.
-use Rattle.std.specs.Prelude.{ℕ, List, ◌++◌, Bool, true, false, ◌&&◌, ◌==◌, map}
+use Rattle.std.specs.Prelude.{ℕ, List, ◌++◌, Bool, true, false, not, ◌&&◌, ◌==◌, map}
 use Rattle.std.specs.List.{flat_map}
 use Rattle.std.specs.Str.{bytes_eq}
 use Rattle.tab_term.specs.declared.term.Term.{Term}
@@ -41,12 +41,23 @@ same_part All All = true
 same_part (Key j) (Key k) = same j k
 same_part a b = false
 
--- of this owner, on this key; on this part; on the table and part of this lock
-abbrev pub stands_on_key : PlainTerm → ℕ → KeySpot → Bool
-stands_on_key key age s = same key s.0 && (s.1.0 == age)
+-- the same owner, and the same mode
+abbrev pub same_mode : Bool → Bool → Bool
+same_mode true w = w
+same_mode false w = not w
 
-abbrev pub stands_on : Part → ℕ → Spot → Bool
-stands_on part age s = same_part part s.0 && (s.1.0 == age)
+abbrev pub is_holding : Holding → Holding → Bool
+is_holding h x = (x.0 == h.0) && same_mode h.1 x.1
+
+abbrev pub same_lock : Lock → Lock → Bool
+same_lock l m = bytes_eq l.table m.table && (same_mode l.write m.write && same_part l.part m.part)
+
+-- of this owner and mode, on this key; on this part; on the table and part of this lock
+abbrev pub stands_on_key : PlainTerm → Holding → KeySpot → Bool
+stands_on_key key h s = same key s.0 && is_holding h s.1
+
+abbrev pub stands_on : Part → Holding → Spot → Bool
+stands_on part h s = same_part part s.0 && is_holding h s.1
 
 abbrev pub stands_at : ℕ → Lock → Owned → Bool
-stands_at age l x = bytes_eq l.table x.1.table && (same_part l.part x.1.part && (x.0 == age))
+stands_at age l x = bytes_eq l.table x.1.table && (same_part l.part x.1.part && is_holding (age, l.write) (x.0, x.1.write))

@@ -1,7 +1,8 @@
-ghost use Rattle.std.specs.Prelude.{◌≡◌, ◌==◌, [], OnOk, OnErr, IfOk, true};
+ghost use Rattle.std.specs.Prelude.{◌≡◌, [], OnOk, OnErr, IfOk, true};
 ghost use Rattle.std.specs.List.{list_any};
 ghost use Rattle.tab_locks.specs.Questions.{fits};
 ghost use Rattle.tab_locks.specs.Members.{HasMore, Drops};
+ghost use Rattle.tab_locks.specs.Spots.{is_holding};
 
 use crate::question::Question;
 use std::alloc::{AllocError, Global};
@@ -70,11 +71,14 @@ impl Holders {
         Ok(())
     }
 
-    pub fn remove(&mut self, age: u64)
-        ensures { Drops (λ h. h.0 == age) self.old self.new }
+    pub fn remove(&mut self, age: u64, write: bool)
+        ensures { Drops (is_holding (age, write)) self.old self.new }
     {
-        self.readers.remove(&age);
-        self.writers.remove(&age);
+        if write {
+            self.writers.remove(&age);
+        } else {
+            self.readers.remove(&age);
+        }
     }
 }
 

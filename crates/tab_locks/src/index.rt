@@ -89,7 +89,7 @@ impl Index {
         }
     }
 
-    /// Takes an owner away from the table and part of a lock, in both modes.
+    /// Takes an owner away from the table and part of a lock, in its mode.
     pub fn remove(&mut self, age: u64, lock: &Lock)
         ensures { Drops (stands_at age (lock_of lock.now)) self.old self.new }
     {
@@ -101,7 +101,7 @@ impl Index {
         ensures { Drops (stands_at age (lock_of lock.now)) self.old self.new }
     {
         if let Some(spots) = self.tables.get_mut(&lock.table) {
-            spots.remove(&lock.what, age);
+            spots.remove(&lock.what, age, is_write(lock.mode));
         }
     }
 

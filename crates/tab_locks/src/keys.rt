@@ -91,18 +91,18 @@ impl Keys {
         }
     }
 
-    pub fn remove(&mut self, key: &Term, age: u64)
-        ensures { Drops (stands_on_key (term key.now) age) self.old self.new }
+    pub fn remove(&mut self, key: &Term, age: u64, write: bool)
+        ensures { Drops (stands_on_key (term key.now) (age, write)) self.old self.new }
     {
-        self.remove_holder(key, age);
+        self.remove_holder(key, age, write);
         self.prune(key);
     }
 
-    fn remove_holder(&mut self, key: &Term, age: u64)
-        ensures { Drops (stands_on_key (term key.now) age) self.old self.new }
+    fn remove_holder(&mut self, key: &Term, age: u64, write: bool)
+        ensures { Drops (stands_on_key (term key.now) (age, write)) self.old self.new }
     {
         if let Some(holders) = self.holders.get_mut(key) {
-            holders.remove(age);
+            holders.remove(age, write);
         }
     }
 

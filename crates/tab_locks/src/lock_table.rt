@@ -5,9 +5,10 @@ ghost use Rattle.std.specs.Ordering.{nat_cmp};
 ghost use Rattle.std.specs.Str.{bytes_eq};
 ghost use Rattle.tab_model.specs.Ages.{covers_own, without};
 ghost use Rattle.tab_model.specs.State.{is_in};
-ghost use Rattle.tab_locks.specs.Plain.{lock_of};
+ghost use Rattle.tab_locks.specs.Plain.{lock_of, part_of};
+ghost use Rattle.tab_locks.specs.Spots.{same_part, same_lock};
 ghost use Rattle.tab_locks.specs.Members.{HasMore, SameMembers, Drops};
-ghost use Rattle.tab_locks.specs.Placed.{placed, listed, is_of, conflict_with};
+ghost use Rattle.tab_locks.specs.Placed.{placed, without_last, listed, is_of, conflict_with};
 ghost use Rattle.tab_locks.specs.declared.lock_table.Conflict.TheVariants.{WithYounger, WithOlder};
 
 use crate::index::Index;
@@ -15,7 +16,7 @@ use crate::question::Relation;
 use std::alloc::{AllocError, Global};
 use std::collections::BTreeMap;
 use std::marker::Model;
-use tab_model::Lock;
+use tab_model::{Lock, What};
 use tab_term::Atom;
 
 /// Whose locks a request conflicts with.
@@ -98,15 +99,31 @@ impl LockTable {
         self.index.is_locked(table)
     }
 
-    /// Holds a lock once more, also one that is held already.
+    /// Holds a lock once more, also one that is held already. `unhold` undoes it.
     pub fn hold(&mut self, age: u64, lock: Lock) -> Result<(), AllocError>
         ensures ok { OnOk result (self.new ≡ placed (age, lock_of lock) self.old) }
+        ensures undo { OnOk result (without_last age self.new ≡ self.old) }
         ensures err { OnErr result (self.new ≡ self.old) }
     {
         open(&mut self.owners, self.alloc, age)?;
         match self.owners.get_mut(&age) {
             Some(locks) => keep(locks, &mut self.index, self.alloc, age, lock),
             None => unreachable!(),
+        }
+    }
+
+    /// Gives the lock back that this owner was granted last. It takes no memory.
+    pub fn unhold(&mut self, age: u64)
+        ensures { self.new ≡ without_last age self.old }
+    {
+        let Some(locks) = self.owners.get_mut(&age) else {
+            return;
+        };
+        let Some(last) = locks.pop() else {
+            return;
+        };
+        if !has_equal(locks, &last) {
+            self.index.remove(age, &last);
         }
     }
 
@@ -149,6 +166,29 @@ fn keep(
     index.add(alloc, age, &lock)?;
     locks.push_reserved(lock);
     Ok(())
+}
+
+/// Whether one of these is on the same table and part, in the same mode.
+fn has_equal(locks: &[Lock], lock: &Lock) -> bool
+    ensures { result ≡ list_any (λ l. same_lock (lock_of l) (lock_of lock.now)) locks.now }
+{
+    locks.iter().any(|other| is_equal(other, lock))
+}
+
+fn is_equal(lock: &Lock, other: &Lock) -> bool
+    ensures { result ≡ same_lock (lock_of lock.now) (lock_of other.now) }
+{
+    lock.table == other.table && lock.mode == other.mode && is_same(&lock.what, &other.what)
+}
+
+fn is_same(what: &What, other: &What) -> bool
+    ensures { result ≡ same_part (part_of what.now) (part_of other.now) }
+{
+    match (what, other) {
+        (What::All, What::All) => true,
+        (What::Key(key), What::Key(another)) => key == another,
+        _ => false,
+    }
 }
 
 fn release(index: &mut Index, age: u64, locks: &[Lock])

@@ -79,12 +79,12 @@ impl OnTable {
         }
     }
 
-    pub fn remove(&mut self, what: &What, age: u64)
-        ensures { Drops (stands_on (part_of what.now) age) self.old self.new }
+    pub fn remove(&mut self, what: &What, age: u64, write: bool)
+        ensures { Drops (stands_on (part_of what.now) (age, write)) self.old self.new }
     {
         match what {
-            What::All => self.all.remove(age),
-            What::Key(key) => self.keys.remove(key, age),
+            What::All => self.all.remove(age, write),
+            What::Key(key) => self.keys.remove(key, age, write),
         }
     }
 }

@@ -1,11 +1,11 @@
-use Rattle.std.proofs.Common.{sym, ap, ◌∙◌, subst, ℕ, List}
+use Rattle.std.proofs.Common.{sym, ap, ◌∙◌, subst, ℕ, List, Bool}
 use Rattle.std.specs.Option.{option_copied_mut}
 use Rattle.std.specs.BTreeMap.{BTreeMap}
 use Rattle.tab_model.specs.Ages.{Owned}
 use Rattle.tab_locks.specs.declared.index.Index.TheInside.{Inside}
 use Rattle.tab_locks.specs.Members.{Drops}
 use Rattle.tab_locks.specs.Plain.{is_write, lock_of, part_of}
-use Rattle.tab_locks.specs.Spots.{Spot, locks_in, stands_at}
+use Rattle.tab_locks.specs.Spots.{Spot, locks_in, stands_on, stands_at}
 use Rattle.tab_locks.proofs.TableLocks.{dropped_in, none_in}
 use Rattle.tab_locks.proofs.index.Index.remove_spot.Goals as goal
 use Rattle.tab_locks.proofs.index.Index.remove_spot.Goals.{in-Some, in_default}
@@ -22,7 +22,8 @@ returns c =
           let found = sym (ap option_copied_mut (sym w.in-Some.is) ∙ c.get_mut.ensures.value) in
           let new = (c.get_mut.follows.lender w.remove.new.self).entries in
           subst after (sym w.self-inside-is)
-          (dropped_in c.args.age l.table (part_of l.what) (is_write l.mode) w.in-Some.spots.now w.remove.new.self es new c.self.invariant found (c.get_mut.follows.holds w.remove.new.self).0 w.remove.ensures)
+          (let gone = λ (b : Bool). Drops (stands_on (part_of l.what) (c.args.age, b)) w.in-Some.spots.now w.remove.new.self in
+          dropped_in c.args.age l.table (part_of l.what) (is_write l.mode) w.in-Some.spots.now w.remove.new.self es new c.self.invariant found (c.get_mut.follows.holds w.remove.new.self).0 (subst gone w.is_write.ensures w.remove.ensures))
       | in_default w ↦
           let missing = sym (ap option_copied_mut (sym w.in_default.is) ∙ c.get_mut.ensures.value) in
           let at_none = λ (m : BTreeMap (List ℕ) (List Spot)). Drops gone (locks_in es) (locks_in m.entries) in
