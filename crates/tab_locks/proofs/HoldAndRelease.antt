@@ -12,8 +12,9 @@ use Rattle.tab_model.specs.Ages.{Owned}
 use Rattle.tab_locks.specs.Members.{HasMore, SameMembers, Drops}
 use Rattle.tab_locks.specs.Plain.{lock_of}
 use Rattle.tab_locks.specs.Spots.{stands_at}
-use Rattle.tab_locks.specs.Placed.{placed, listed, is_of}
+use Rattle.tab_locks.specs.Placed.{placed, without_last, listed, is_of}
 use Rattle.tab_locks.proofs.Passing.{any_same}
+use Rattle.tab_locks.proofs.WithoutLast.{placed_undone}
 use Rattle.tab_locks.proofs.Listing.{any_placed, listed_more, listed_same, released}
 
 abbrev Entries : Type 0
@@ -28,6 +29,10 @@ module _ {T E : Type 0} (age : ℕ) (l : code.Lock) (v w : Vec code.Lock) (es ne
   pub listed_on_err : (r : Result T E) (held : List Owned) → w.items ≡ (if is_ok r then v.items ++ l ∷ [] else v.items) → listed es ≡ held → OnErr r (listed new ≡ held)
   listed_on_err (Ok t) held items is = tt
   listed_on_err (Err e) held items is = ap listed set ∙ listed_same age v w es found items ∙ is
+
+  pub undone_on_ok : (r : Result T E) (held : List Owned) → w.items ≡ (if is_ok r then v.items ++ l ∷ [] else v.items) → listed es ≡ held → OnOk r (without_last age (listed new) ≡ held)
+  undone_on_ok (Ok t) held items is = ap (without_last age) (ap listed set ∙ listed_more age l v w es ordered found items) ∙ placed_undone age l v es ordered found ∙ is
+  undone_on_ok (Err e) held items is = tt
 
   pub still_indexed : (r : Result T E) (index after : List Owned) → w.items ≡ (if is_ok r then v.items ++ l ∷ [] else v.items) → SameMembers (listed es) index
       → OnOk r (HasMore (age, lock_of l) index after) → OnErr r (SameMembers index after) → SameMembers (listed new) after

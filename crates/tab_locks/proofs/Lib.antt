@@ -8,3 +8,4 @@ pub mod TableSpots
 pub mod TableLocks
 pub mod Listing
 pub mod HoldAndRelease
+pub mod WithoutLast

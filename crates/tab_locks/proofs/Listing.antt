@@ -21,7 +21,7 @@ use Rattle.tab_locks.specs.Placed.{placed, owned_by, listed, is_of}
 use Rattle.tab_locks.proofs.Passing.{or_swap, any_never}
 use Rattle.tab_model.proofs.Seats.{itself}
 
-abbrev Entries : Type 0
+abbrev pub Entries : Type 0
 Entries = List (ℕ × Vec code.Lock)
 
 -- ---- ages
@@ -29,22 +29,22 @@ Entries = List (ℕ × Vec code.Lock)
 equal_is : (a b : ℕ) → nat_cmp a b ≡ Equal → a ≡ b
 equal_is a b h = grind (arith, nat_tests)
 
-tied_is : (a b : ℕ) → is_eq (nat_cmp a b) ≡ true → a ≡ b
+pub tied_is : (a b : ℕ) → is_eq (nat_cmp a b) ≡ true → a ≡ b
 tied_is a b h = grind (arith, nat_tests)
 
-apart_is : (a b : ℕ) → is_eq (nat_cmp a b) ≡ false → (b == a) ≡ false
+pub apart_is : (a b : ℕ) → is_eq (nat_cmp a b) ≡ false → (b == a) ≡ false
 apart_is a b h = grind (arith, nat_tests)
 
 less_is : (a b : ℕ) → nat_cmp a b ≡ Less → nat_lt a b ≡ true
 less_is a b h = grind (arith, nat_tests)
 
-less_apart : (a b : ℕ) → nat_cmp a b ≡ Less → (b == a) ≡ false
+pub less_apart : (a b : ℕ) → nat_cmp a b ≡ Less → (b == a) ≡ false
 less_apart a b h = grind (arith, nat_tests)
 
 not_less : (a b : ℕ) → nat_cmp a b ≡ Less → nat_lt b a ≡ false
 not_less a b h = grind (arith, nat_tests)
 
-not_itself : (a : ℕ) → nat_lt a a ≡ false
+pub not_itself : (a : ℕ) → nat_lt a a ≡ false
 not_itself a = grind (arith, nat_tests)
 
 -- ---- one lock more
@@ -61,13 +61,13 @@ any_placed p x (y ∷ ys) = by (nat_lt x.0 y.0) (any_placed p x ys)
     by true ih = refl
     by false ih = (λ i. p y || ih i) ∙ or_swap (p y) (p x) (list_any p ys)
 
-placed_past : (x : Owned) (age : ℕ) (ls : List code.Lock) (ys : List Owned) → nat_lt x.0 age ≡ false → placed x (owned_by age ls ++ ys) ≡ owned_by age ls ++ placed x ys
+pub placed_past : (x : Owned) (age : ℕ) (ls : List code.Lock) (ys : List Owned) → nat_lt x.0 age ≡ false → placed x (owned_by age ls ++ ys) ≡ owned_by age ls ++ placed x ys
 placed_past x age [] ys h = refl
 placed_past x age (l ∷ ls) ys h =
     (λ i. if h i then x ∷ (age, lock_of l) ∷ (owned_by age ls ++ ys) else (age, lock_of l) ∷ placed x (owned_by age ls ++ ys))
     ∙ ap (λ zs. (age, lock_of l) ∷ zs) (placed_past x age ls ys h)
 
-placed_first : (x : Owned) (es : Entries) → AllByRecursion (λ k. nat_cmp x.0 k ≡ Less) (keys_of es) → placed x (listed es) ≡ x ∷ listed es
+pub placed_first : (x : Owned) (es : Entries) → AllByRecursion (λ k. nat_cmp x.0 k ≡ Less) (keys_of es) → placed x (listed es) ≡ x ∷ listed es
 placed_first x [] h = refl
 placed_first x (e ∷ es) h = by (e.1).items (placed_first x es h.1)
   where
@@ -75,12 +75,12 @@ placed_first x (e ∷ es) h = by (e.1).items (placed_first x es h.1)
     by [] ih = ih
     by (l ∷ ls) ih = λ i. if less_is x.0 e.0 h.0 i then x ∷ (e.0, lock_of l) ∷ (owned_by e.0 ls ++ listed es) else (e.0, lock_of l) ∷ placed x (owned_by e.0 ls ++ listed es)
 
-owned_more : (age : ℕ) (ls : List code.Lock) (l : code.Lock) → owned_by age (ls ++ l ∷ []) ≡ owned_by age ls ++ (age, lock_of l) ∷ []
+pub owned_more : (age : ℕ) (ls : List code.Lock) (l : code.Lock) → owned_by age (ls ++ l ∷ []) ≡ owned_by age ls ++ (age, lock_of l) ∷ []
 owned_more age [] l = refl
 owned_more age (k ∷ ls) l = ap (λ zs. (age, lock_of k) ∷ zs) (owned_more age ls l)
 
 -- a key that is found later is not below the first
-found_later : (k age : ℕ) (v : Vec code.Lock) (es : Entries) → lookup (is_at (nat_cmp age)) es ≡ Some v → AllByRecursion (λ j. nat_cmp k j ≡ Less) (keys_of es) → nat_lt age k ≡ false
+pub found_later : (k age : ℕ) (v : Vec code.Lock) (es : Entries) → lookup (is_at (nat_cmp age)) es ≡ Some v → AllByRecursion (λ j. nat_cmp k j ≡ Less) (keys_of es) → nat_lt age k ≡ false
 found_later k age v [] l h = absurd cc
 found_later k age v (e ∷ es) l h = by (is_eq (nat_cmp age e.0)) refl l (λ n. found_later k age v es n h.1)
   where
@@ -155,7 +155,7 @@ same_mode_itself : (b : Bool) → same_mode b b ≡ true
 same_mode_itself true = refl
 same_mode_itself false = refl
 
-stands_itself : (age : ℕ) (l : code.Lock) → stands_at age (lock_of l) (age, lock_of l) ≡ true
+pub stands_itself : (age : ℕ) (l : code.Lock) → stands_at age (lock_of l) (age, lock_of l) ≡ true
 stands_itself age l = (λ i. bytes_equiv.refl l.table i && (same_part_itself (lock_of l).part i && (itself age i && same_mode_itself (lock_of l).write i)))
 
 -- an owner's locks are all on the places of its locks
@@ -176,13 +176,13 @@ other_kept : (age : ℕ) (locks : List code.Lock) (x : Owned) → (x.0 == age) �
 other_kept age locks x h = any_never (λ l. stands_at age (lock_of l) x) locks
     (λ l. (λ i. bytes_eq l.table (x.1).table && (same_part (lock_of l).part (x.1).part && (h i && same_mode (lock_of l).write (x.1).write))) ∙ ap (λ b. bytes_eq l.table (x.1).table && b) (and-false (same_part (lock_of l).part (x.1).part)) ∙ and-false (bytes_eq l.table (x.1).table))
 
-others_kept : (p : Owned → Bool) (age k : ℕ) (locks ls : List code.Lock) → (k == age) ≡ false → list_any (λ x. p x && not (is_of age locks x)) (owned_by k ls) ≡ list_any p (owned_by k ls)
+pub others_kept : (p : Owned → Bool) (age k : ℕ) (locks ls : List code.Lock) → (k == age) ≡ false → list_any (λ x. p x && not (is_of age locks x)) (owned_by k ls) ≡ list_any p (owned_by k ls)
 others_kept p age k locks [] h = refl
 others_kept p age k locks (l ∷ ls) h =
     let x : Owned = (k, lock_of l) in
     λ i. (ap (λ b. p x && not b) (other_kept age locks x h) ∙ and-true (p x)) i || others_kept p age k locks ls h i
 
-all_kept : (p : Owned → Bool) (age : ℕ) (locks : List code.Lock) (es : Entries) → AllByRecursion (λ k. nat_cmp age k ≡ Less) (keys_of es) → list_any (λ x. p x && not (is_of age locks x)) (listed es) ≡ list_any p (listed es)
+pub all_kept : (p : Owned → Bool) (age : ℕ) (locks : List code.Lock) (es : Entries) → AllByRecursion (λ k. nat_cmp age k ≡ Less) (keys_of es) → list_any (λ x. p x && not (is_of age locks x)) (listed es) ≡ list_any p (listed es)
 all_kept p age locks [] h = refl
 all_kept p age locks (e ∷ es) h =
     list_any-append (λ x. p x && not (is_of age locks x)) (owned_by e.0 (e.1).items) (listed es)

@@ -50,7 +50,7 @@ abbrev pub is_holding : Holding → Holding → Bool
 is_holding h x = (x.0 == h.0) && same_mode h.1 x.1
 
 abbrev pub same_lock : Lock → Lock → Bool
-same_lock l m = bytes_eq l.table m.table && (same_mode l.write m.write && same_part l.part m.part)
+same_lock l m = bytes_eq l.table m.table && (same_part l.part m.part && same_mode l.write m.write)
 
 -- of this owner and mode, on this key; on this part; on the table and part of this lock
 abbrev pub stands_on_key : PlainTerm → Holding → KeySpot → Bool

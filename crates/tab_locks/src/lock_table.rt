@@ -170,15 +170,15 @@ fn keep(
 
 /// Whether one of these is on the same table and part, in the same mode.
 fn has_equal(locks: &[Lock], lock: &Lock) -> bool
-    ensures { result ≡ list_any (λ l. same_lock (lock_of l) (lock_of lock.now)) locks.now }
+    ensures { result ≡ list_any (λ l. same_lock (lock_of lock.now) (lock_of l)) locks.now }
 {
-    locks.iter().any(|other| is_equal(other, lock))
+    locks.iter().any(|other| is_equal(lock, other))
 }
 
 fn is_equal(lock: &Lock, other: &Lock) -> bool
     ensures { result ≡ same_lock (lock_of lock.now) (lock_of other.now) }
 {
-    lock.table == other.table && lock.mode == other.mode && is_same(&lock.what, &other.what)
+    lock.table == other.table && is_same(&lock.what, &other.what) && lock.mode == other.mode
 }
 
 fn is_same(what: &What, other: &What) -> bool

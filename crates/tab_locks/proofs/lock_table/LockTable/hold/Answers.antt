@@ -1,7 +1,7 @@
 use Rattle.std.proofs.Common.{sym, ap, ◌∙◌}
 use Rattle.std.specs.List.{list_any}
 use Rattle.std.specs.Option.{option_copied_mut}
-use Rattle.tab_locks.proofs.HoldAndRelease.{listed_on_ok, listed_on_err, still_indexed}
+use Rattle.tab_locks.proofs.HoldAndRelease.{listed_on_ok, listed_on_err, undone_on_ok, still_indexed}
 use Rattle.tab_locks.proofs.lock_table.LockTable.hold.Goals as goal
 
 pub invariant_of-self-in-Some : goal.invariant_of-self-in-Some
@@ -29,4 +29,12 @@ returns-clause-err c =
     let wrote = c.get_mut.follows.holds w in
     let found = sym (ap option_copied_mut (sym c.in-Some.is) ∙ c.get_mut.ensures.value) in
     listed_on_err c.args.age c.args.lock c.in-Some.locks.now w c.open.new.owners.entries (c.get_mut.follows.lender w).entries c.in_ok-open.ensures.ordered found wrote.0
+    c.keep.result c.args.self.now c.keep.ensures.locks (c.in_ok-open.ensures.listed ∙ c.self.view_is)
+
+pub returns-clause-undo : goal.returns-clause-undo
+returns-clause-undo c =
+    let w = c.keep.new.locks in
+    let wrote = c.get_mut.follows.holds w in
+    let found = sym (ap option_copied_mut (sym c.in-Some.is) ∙ c.get_mut.ensures.value) in
+    undone_on_ok c.args.age c.args.lock c.in-Some.locks.now w c.open.new.owners.entries (c.get_mut.follows.lender w).entries c.in_ok-open.ensures.ordered found wrote.0
     c.keep.result c.args.self.now c.keep.ensures.locks (c.in_ok-open.ensures.listed ∙ c.self.view_is)
