@@ -1,11 +1,13 @@
 -- Ages rise along every wait after each call. Where a lock stands in the held list doesn't matter.
-use Rattle.std.proofs.Common.{◌≡◌, ℕ, ◌<◌, List, [], ◌∷◌, ◌++◌, Bool, true, refl, sym, ap, ◌∙◌, subst, Some, arith}
+use Rattle.std.proofs.Common.{◌≡◌, ℕ, ◌<◌, List, [], ◌∷◌, ◌++◌, Bool, true, false, ◌||◌, ◌&&◌, not, refl, sym, ap, ◌∙◌, subst, Some, arith}
+use Rattle.std.specs.Prelude.{◌==◌, if◌then◌else◌}
+use Rattle.std.specs.List.{list_any}
 use Rattle.std.proofs.lemmas.Bool.Decides.{nat_tests}
 use Rattle.tab_model.specs.Ages as plain
 use Rattle.tab_model.specs.Ages.{Owned, Ages, blocks, decide, request_of, without, after_request, can_retry, after_retry, RisesAfter, Rises, Chain, last_of}
 use Rattle.tab_model.proofs.WaitsHaveNoCycle.{request_rises, retry_rises, fewer_rises, chain_rises}
 use Rattle.tab_locks.specs.Members.{SameMembers}
-use Rattle.tab_locks.specs.Placed.{placed}
+use Rattle.tab_locks.specs.Placed.{placed, without_last}
 use Rattle.tab_locks.proofs.Passing.{any_more}
 use Rattle.tab_locks.proofs.Listing.{any_placed}
 use Rattle.tab_waitdie.specs.declared.ages.Answer.{Answer}
@@ -41,6 +43,24 @@ retried_rises g a r is free h =
 
 pub retried_is : (g : Ages) (a : ℕ) (r : Owned) → request_of a g.queue ≡ Some r → ages (placed r g.held) (without a g.queue) ≡ ages (placed r g.held) (without r.0 g.queue)
 retried_is g a r is = ap (λ n. ages (placed r g.held) (without n g.queue)) (sym (found_age a g.queue r is))
+
+-- with fewer held locks
+fewer_held : (p : Owned → Bool) (age : ℕ) (xs : List Owned) → list_any p xs ≡ false → list_any p (without_last age xs) ≡ false
+fewer_held p age [] h = refl
+fewer_held p age (x ∷ xs) h = by (p x) (list_any p xs) h (fewer_held p age xs) ((x.0 == age) && not (list_any (λ y. y.0 == age) xs)) refl refl
+  where
+    by : (a b : Bool) → (a || b) ≡ false → (list_any p xs ≡ false → list_any p (without_last age xs) ≡ false) → (c : Bool) → p x ≡ a → list_any p xs ≡ b
+        → list_any p (if c then xs else x ∷ without_last age xs) ≡ false
+    by true b h ih c e f = absurd cc
+    by false b h ih true e f = f ∙ h
+    by false b h ih false e f = λ i. e i || ih (f ∙ h) i
+
+less_rises : (age : ℕ) (held earlier queue : List Owned) → RisesAfter held earlier queue → RisesAfter (without_last age held) earlier queue
+less_rises age held earlier [] h = tt
+less_rises age held earlier (x ∷ queue) h = (fewer_held (blocks x) age held h.0, h.1, less_rises age held (earlier ++ x ∷ []) queue h.2)
+
+pub unheld_rises : (g : Ages) (age : ℕ) → Rises g → Rises (ages (without_last age g.held) g.queue)
+unheld_rises g age h = less_rises age g.held [] g.queue h
 
 pub dropped_rises : (g : Ages) (a : ℕ) → Rises g → Rises (ages g.held (without a g.queue))
 dropped_rises g a h = fewer_rises a g.held g.held [] [] g.queue h (λ x p q. (p, refl))

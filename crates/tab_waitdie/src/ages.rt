@@ -3,6 +3,8 @@ ghost use Rattle.std.specs.List.{list_any};
 ghost use Rattle.tab_model.specs.Ages.{Ages as ages_record, Chain, all_of, can_retry, decide as decision, forget as forgotten, last_of, opposes, request_of, without};
 ghost use Rattle.tab_locks.specs.Plain.{lock_of};
 ghost use Rattle.tab_model.specs.State.{is_in};
+ghost use Rattle.tab_locks.specs.Placed.{without_last};
+ghost use Rattle.tab_waitdie.specs.declared.ages.Answer.TheVariants.{Granted};
 ghost use Rattle.tab_waitdie.specs.Queue.{owned, queued};
 ghost use Rattle.tab_waitdie.specs.Decisions.{answer_of, after_answer, is_granted, after_retried, ages, answer_to as answer_by};
 
@@ -77,6 +79,7 @@ impl Ages {
         requires { request_of age self.old.queue ≡ None }
         ensures answer { IfOk result (λ a. answer_of a ≡ decision self.old (age, lock_of lock)) }
         ensures after { IfOk result (λ a. self.new ≡ after_answer self.old (age, lock_of lock) a) }
+        ensures undo { IfOk result (λ a. a ≡ Granted → without_last age self.new.held ≡ self.old.held) }
         ensures err { OnErr result (self.new ≡ self.old) }
     {
         let answer = self.decide(age, &lock);
@@ -116,6 +119,13 @@ impl Ages {
         self.locks.hold(age, lock)?;
         drop_requests(queue, age);
         Ok(Retried::Granted)
+    }
+
+    /// Gives the lock back that this owner was granted last, as where what it was for can't be done. It takes no memory.
+    pub fn unhold(&mut self, age: u64)
+        ensures { self.new ≡ ages (without_last age self.old.held) self.old.queue }
+    {
+        self.locks.unhold(age);
     }
 
     /// Takes a queued request away, if there is one, and nothing else.
