@@ -1,8 +1,8 @@
 -- The locks on one table, as one list.
-use Rattle.std.proofs.Common.{◌≡◌, ℕ, List, Bool, true, ◌||◌, ◌&&◌, not, refl, sym, ap, ◌∙◌}
+use Rattle.std.proofs.Common.{◌≡◌, List, Bool, true, ◌||◌, ◌&&◌, not, refl, sym, ap, ◌∙◌}
 use Rattle.std.proofs.Math.Bool.{and-true, or_assoc}
 use Rattle.std.proofs.lemmas.List.Folds.{list_any-append}
-use Rattle.std.specs.Prelude.{map, ◌==◌}
+use Rattle.std.specs.Prelude.{map}
 use Rattle.std.specs.List.{list_any}
 use Rattle.tab_term.specs.Data.{PlainTerm}
 use Rattle.tab_term.specs.Same.{same, same_equiv}

@@ -1,5 +1,5 @@
 -- An owner's last lock less: the list of all, and the index.
-use Rattle.std.proofs.Common.{◌≡◌, ℕ, List, [], ◌∷◌, ◌++◌, Bool, true, false, ◌||◌, ◌&&◌, not, cond, refl, sym, ap, ◌∙◌, subst, Option, Some, None, Less, nat_cmp, append_assoc, length, arith}
+use Rattle.std.proofs.Common.{◌≡◌, ℕ, List, [], ◌∷◌, ◌++◌, Bool, true, false, ◌||◌, ◌&&◌, not, cond, refl, sym, ap, ◌∙◌, subst, Some, None, Less, nat_cmp, append_assoc, length, arith}
 use Rattle.std.specs.Prelude.{◌==◌, if◌then◌else◌}
 use Rattle.std.specs.Global.{Vec}
 use Rattle.std.specs.List.{list_any, AllByRecursion}
@@ -21,7 +21,7 @@ use Rattle.tab_locks.specs.Members.{SameMembers, Drops}
 use Rattle.tab_locks.specs.Plain.{lock_of}
 use Rattle.tab_locks.specs.Spots.{same_part, same_mode, same_lock, stands_at}
 use Rattle.tab_locks.specs.Placed.{placed, without_last, owned_by, listed, is_of}
-use Rattle.tab_locks.proofs.Passing.{any_same, or_swap, or_twice}
+use Rattle.tab_locks.proofs.Passing.{any_same}
 use Rattle.tab_locks.proofs.Listing.{Entries, tied_is, apart_is, less_apart, not_itself, owned_more, placed_first, placed_past, found_later, others_kept, all_kept, stands_itself}
 
 abbrev of_age : ℕ → Owned → Bool

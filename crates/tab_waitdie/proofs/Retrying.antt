@@ -1,15 +1,24 @@
 -- A retry: the request that it is about, whether it is free, and what moving it leaves.
-use Rattle.std.proofs.Common.{◌≡◌, ℕ, ◌<◌, List, [], ◌∷◌, ◌++◌, Bool, true, not, sym, ap, ◌∙◌, subst, Option, Some, take, length, get_or, arith}
+use Rattle.std.proofs.Common.{◌≡◌, ℕ, ◌<◌, List, [], ◌∷◌, ◌++◌, Bool, true, not, sym, ap, ◌∙◌, subst, Option, None, Some, refl, take, length, get_or, arith}
 use Rattle.std.specs.Prelude.{IfSome}
 use Rattle.std.specs.List.{list_any}
 use Rattle.tab_model.specs.declared.data.Lock as code
-use Rattle.tab_model.specs.Ages.{Owned, opposes, before, request_of, without, can_retry, Rises}
+use Rattle.tab_model.specs.Ages.{Owned, Ages, opposes, before, request_of, without, can_retry, Rises}
 use Rattle.tab_locks.specs.Placed.{placed}
 use Rattle.tab_locks.specs.Plain.{lock_of}
 use Rattle.tab_waitdie.specs.declared.waiting.Waiting.{Waiting}
 use Rattle.tab_waitdie.specs.Queue.{owned, queued, ages_of}
 use Rattle.tab_waitdie.specs.Decisions.{ages}
-use Rattle.tab_waitdie.proofs.Rising.{found_age, retried_rises}
+use Rattle.tab_waitdie.proofs.Rising.{found_age, granted_rises}
+
+-- a grant whose request then goes
+pub granted_and_gone : (old mid last : Ages) (age : ℕ) → IfSome (request_of age old.queue) (λ r. mid ≡ ages (placed r old.held) old.queue) → last ≡ ages mid.held (without age mid.queue)
+    → IfSome (request_of age old.queue) (λ r. last ≡ ages (placed r old.held) (without r.0 old.queue))
+granted_and_gone old mid last age granted gone = by (request_of age old.queue) refl granted
+  where
+    by : (o : Option Owned) → request_of age old.queue ≡ o → IfSome o (λ r. mid ≡ ages (placed r old.held) old.queue) → IfSome o (λ r. last ≡ ages (placed r old.held) (without r.0 old.queue))
+    by None e h = tt
+    by (Some r) e h = gone ∙ (λ i. ages (h i).held (without age (h i).queue)) ∙ ap (λ n. ages (placed r old.held) (without n old.queue)) (sym (found_age age old.queue r e))
 
 -- at this place stands the first request of this age
 pub record IsPlace (age at : ℕ) (ws : List Waiting) : Type 0 where
@@ -48,12 +57,13 @@ module _ (age at : ℕ) (held : List Owned) (ws : List Waiting) (place : IsPlace
     moves : (age, lock_of l) ≡ owned w
     moves = λ i. (sym age_is i, lock_of (copied i))
 
-    pub moved_rises : (b : Bool) → TellsFree b held at ws → b ≡ true → Rises (ages_of held ws) → Rises (ages (placed (age, lock_of l) held) (without age (queued ws)))
-    moved_rises b free is h =
-        let P : Owned → Type 0 = λ x. Rises (ages (placed x held) (without age (queued ws))) in
-        subst P (sym moves) (retried_rises (ages_of held ws) age (owned w) is_request (ap (λ v. can_retry (ages_of held ws) (owned v)) item ∙ sym (told_at b w free) ∙ is) h)
+    pub granted : IfSome (request_of age (queued ws)) (λ r. can_retry (ages_of held ws) r ≡ true) → Rises (ages_of held ws) → Rises (ages (placed (age, lock_of l) held) (queued ws))
+    granted free h =
+        let P : Owned → Type 0 = λ x. Rises (ages (placed x held) (queued ws)) in
+        let Q : Option Owned → Type 0 = λ o. IfSome o (λ r. can_retry (ages_of held ws) r ≡ true) in
+        subst P (sym moves) (granted_rises (ages_of held ws) age (owned w) is_request (subst Q is_request free) h)
 
-    pub moved : IfSome (request_of age (queued ws)) (λ r. ages (placed (age, lock_of l) held) (without age (queued ws)) ≡ ages (placed r held) (without r.0 (queued ws)))
-    moved =
-        let P : Option Owned → Type 0 = λ o. IfSome o (λ r. ages (placed (age, lock_of l) held) (without age (queued ws)) ≡ ages (placed r held) (without r.0 (queued ws))) in
-        subst P (sym is_request) (λ i. ages (placed (moves i) held) (without (sym age_is i) (queued ws)))
+    pub grants : IfSome (request_of age (queued ws)) (λ r. ages (placed (age, lock_of l) held) (queued ws) ≡ ages (placed r held) (queued ws))
+    grants =
+        let P : Option Owned → Type 0 = λ o. IfSome o (λ r. ages (placed (age, lock_of l) held) (queued ws) ≡ ages (placed r held) (queued ws)) in
+        subst P (sym is_request) (λ i. ages (placed (moves i) held) (queued ws))

@@ -1,9 +1,9 @@
-ghost use Rattle.std.specs.Prelude.{◌≡◌, ◌<◌, ◌∷◌, ◌++◌, ℕ, List, [], None, IfOk, IfSome, IsSome, OnErr, is_some, length, not, slice_index_or, take};
+ghost use Rattle.std.specs.Prelude.{◌≡◌, ◌<◌, ◌∷◌, ◌++◌, ℕ, List, [], true, None, IfOk, OnOk, IfSome, IsSome, OnErr, is_some, length, not, slice_index_or, take};
 ghost use Rattle.std.specs.List.{list_any};
 ghost use Rattle.tab_model.specs.Ages.{Ages as ages_record, Chain, all_of, can_retry, decide as decision, forget as forgotten, last_of, opposes, request_of, without};
 ghost use Rattle.tab_locks.specs.Plain.{lock_of};
 ghost use Rattle.tab_model.specs.State.{is_in};
-ghost use Rattle.tab_locks.specs.Placed.{without_last};
+ghost use Rattle.tab_locks.specs.Placed.{placed, without_last};
 ghost use Rattle.tab_waitdie.specs.declared.ages.Answer.TheVariants.{Granted};
 ghost use Rattle.tab_waitdie.specs.Queue.{owned, queued};
 ghost use Rattle.tab_waitdie.specs.Decisions.{answer_of, after_answer, is_granted, after_retried, ages, answer_to as answer_by};
@@ -110,15 +110,35 @@ impl Ages {
         ensures after { IfSome (request_of age self.old.queue) (λ r. IfOk result (λ a. self.new ≡ after_retried self.old r a)) }
         ensures err { OnErr result (self.new ≡ self.old) }
     {
-        let queue = &mut self.queue;
-        let at = place_of(queue, age);
-        if !is_free(&self.locks, queue, at) {
+        if !self.may_go(age) {
             return Ok(Retried::Wait);
         }
-        let lock = copy_of(self.alloc, &queue[at].lock)?;
-        self.locks.hold(age, lock)?;
-        drop_requests(queue, age);
+        self.grant(age)?;
+        self.drop_wait(age);
         Ok(Retried::Granted)
+    }
+
+    /// Whether a retry of the queued request is granted. It takes no memory.
+    pub fn may_go(&self, age: u64) -> bool
+        requires { IsSome (request_of age self.now.queue) }
+        ensures { IfSome (request_of age self.now.queue) (λ r. result ≡ can_retry self.now r) }
+    {
+        let at = place_of(&self.queue, age);
+        is_free(&self.locks, &self.queue, at)
+    }
+
+    /// Holds the lock of a queued request, which stays queued: for who has work to do between the two that can fail.
+    pub fn grant(&mut self, age: u64) -> Result<(), AllocError>
+        requires queued { IsSome (request_of age self.old.queue) }
+        requires free { IfSome (request_of age self.old.queue) (λ r. can_retry self.old r ≡ true) }
+        ensures ok { IfSome (request_of age self.old.queue) (λ r. OnOk result (self.new ≡ ages (placed r self.old.held) self.old.queue)) }
+        ensures undo { OnOk result (without_last age self.new.held ≡ self.old.held) }
+        ensures err { OnErr result (self.new ≡ self.old) }
+    {
+        let at = place_of(&self.queue, age);
+        let lock = copy_of(self.alloc, &self.queue[at].lock)?;
+        self.locks.hold(age, lock)?;
+        Ok(())
     }
 
     /// Gives the lock back that this owner was granted last, as where what it was for can't be done. It takes no memory.

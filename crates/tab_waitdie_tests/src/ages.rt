@@ -72,6 +72,24 @@ fn retry(ages: &mut Ages, age: u64) -> Result<Option<Retried>, AllocError> {
     Ok(Some(answer))
 }
 
+/// The same in its steps, with a grant that is undone in between.
+fn retry_in_steps(ages: &mut Ages, age: u64) -> Result<Option<Retried>, AllocError> {
+    if !ages.waits(age) {
+        return Ok(None);
+    }
+    if !ages.may_go(age) {
+        return Ok(Some(Retried::Wait));
+    }
+    ages.grant(age)?;
+    ages.unhold(age);
+    if !ages.waits(age) || !ages.may_go(age) {
+        return Ok(None);
+    }
+    ages.grant(age)?;
+    ages.drop_wait(age);
+    Ok(Some(Retried::Granted))
+}
+
 fn goes(alloc: Global, ages: &mut Ages, call: &Call) -> Result<bool, AllocError> {
     match call {
         Call::Request(age, key, write, answer) => {

@@ -11,12 +11,13 @@ type Asked = (&'static str, Option<i128>, Mode);
 enum Step {
     Hold(u64, Asked),
     Release(u64),
+    Unhold(u64),
     Covered(u64, Asked, bool),
     Conflicts(u64, Asked, Conflict),
     Locked(&'static str, bool),
 }
 
-const STEPS: [Step; 25] = [
+const STEPS: [Step; 37] = [
     Step::Conflicts(2, ("t", Some(5), Mode::Write), Conflict::Free),
     Step::Hold(3, ("t", Some(5), Mode::Read)),
     Step::Hold(3, ("t", Some(5), Mode::Read)),
@@ -42,6 +43,18 @@ const STEPS: [Step; 25] = [
     Step::Release(2),
     Step::Locked("u", false),
     Step::Conflicts(3, ("u", None, Mode::Write), Conflict::Free),
+    Step::Hold(5, ("v", Some(1), Mode::Read)),
+    Step::Hold(5, ("v", Some(1), Mode::Write)),
+    Step::Unhold(5),
+    Step::Covered(5, ("v", Some(1), Mode::Write), false),
+    Step::Covered(5, ("v", Some(1), Mode::Read), true),
+    Step::Hold(5, ("v", Some(1), Mode::Read)),
+    Step::Unhold(5),
+    Step::Covered(5, ("v", Some(1), Mode::Read), true),
+    Step::Unhold(5),
+    Step::Locked("v", false),
+    Step::Unhold(5),
+    Step::Locked("v", false),
 ];
 
 fn name_of(alloc: Global, table: &str) -> Result<Atom, AllocError> {
@@ -69,6 +82,10 @@ fn goes(alloc: Global, locks: &mut LockTable, step: &Step) -> Result<bool, Alloc
         }
         Step::Release(age) => {
             locks.release_all(*age);
+            Ok(true)
+        }
+        Step::Unhold(age) => {
+            locks.unhold(*age);
             Ok(true)
         }
         Step::Covered(age, asked, answer) => {

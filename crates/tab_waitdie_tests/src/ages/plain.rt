@@ -2,7 +2,7 @@
 
 ghost use Rattle.std.specs.Prelude.{◌<◌};
 
-use super::{Asked, request, retry, table};
+use super::{Asked, request, retry, retry_in_steps, table};
 use std::alloc::{AllocError, Global};
 use tab_waitdie::{Ages, Answer, Retried};
 
@@ -47,6 +47,20 @@ impl Plain {
             Answer::Die => {}
         }
         Ok(answer)
+    }
+
+    fn unhold(&mut self, age: u64) {
+        let mut last = None;
+        for (place, other) in self.held.iter().enumerate() {
+            if other.age == age {
+                last = Some(place);
+            }
+        }
+        if let Some(place) = last
+            && place < self.held.len()
+        {
+            self.held.remove(place);
+        }
     }
 
     fn retry(&mut self, age: u64) -> Result<Option<Retried>, AllocError> {
@@ -124,7 +138,7 @@ fn agrees(
     tally: &mut Tally,
 ) -> Result<bool, AllocError> {
     let asked = numbers.asked();
-    match numbers.below(6) {
+    match numbers.below(7) {
         0 => {
             ages.forget(asked.age);
             plain.held.retain(|other| other.age != asked.age);
@@ -137,8 +151,17 @@ fn agrees(
             plain.queue.retain(|other| other.age != asked.age);
             Ok(true)
         }
+        2 => {
+            ages.unhold(asked.age);
+            plain.unhold(asked.age);
+            Ok(true)
+        }
         _ => {
-            let retried = retry(ages, asked.age)?;
+            let retried = if asked.write {
+                retry_in_steps(ages, asked.age)?
+            } else {
+                retry(ages, asked.age)?
+            };
             let answer = request(alloc, ages, asked)?;
             tally.count(answer, retried);
             let expected = plain.retry(asked.age)?;

@@ -1,7 +1,7 @@
-use Rattle.std.proofs.Common.{ap, sym, subst, ◌≡◌, ◌∙◌, ◌&&◌, not, Bool, true, false}
+use Rattle.std.proofs.Common.{ap, sym, subst, ◌∙◌, ◌&&◌, not, Bool, true, false}
 use Rattle.std.specs.List.{list_any}
 use Rattle.tab_locks.specs.Members.{Drops}
-use Rattle.tab_locks.specs.Spots.{Holding, holdings, is_holding}
+use Rattle.tab_locks.specs.Spots.{holdings, is_holding}
 use Rattle.tab_locks.proofs.Holdings.{reader_gone, writer_gone}
 use Rattle.tab_locks.proofs.holders.Holders.remove.Goals as goal
 

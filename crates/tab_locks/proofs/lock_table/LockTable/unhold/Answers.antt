@@ -1,14 +1,13 @@
-use Rattle.std.proofs.Common.{sym, ap, ◌∙◌, ◌≡◌, ◌++◌, ◌∷◌, [], subst, List, append-nil, arith}
+use Rattle.std.proofs.Common.{sym, ap, ◌∙◌, subst, append-nil, arith}
 use Rattle.std.specs.BTreeMap.{BTreeMap}
 use Rattle.std.specs.Global.{Vec}
 use Rattle.std.specs.List.{list_any}
 use Rattle.std.specs.Option.{option_copied_mut}
 use Rattle.tab_model.specs.declared.data.Lock as code
-use Rattle.tab_model.specs.Ages.{Owned}
 use Rattle.tab_locks.specs.Plain.{lock_of}
 use Rattle.tab_locks.specs.Spots.{same_lock}
 use Rattle.tab_locks.specs.Members.{SameMembers}
-use Rattle.tab_locks.specs.Placed.{listed, without_last, IsIndexed}
+use Rattle.tab_locks.specs.Placed.{listed, without_last}
 use Rattle.tab_locks.proofs.Listing.{listed_same}
 use Rattle.tab_locks.proofs.WithoutLast.{absent_last, empty_last, listed_less, still_marked, marked_again}
 use Rattle.tab_locks.proofs.lock_table.LockTable.unhold.Goals as goal
