@@ -27,9 +27,6 @@ starts σ steps h = record { log = []; onward = λ rs more τ r. r; served = h }
 pub takes_of : (σ μ : State) (n : ℕ) (a : Ask) (s : Stepped) → StepsTo σ n a s μ → StepsOrNoMemory σ (n, a) s.reply (entries s.entry) μ
 takes_of σ μ n a s m = inl (ap (λ o. o.state) m, ap (λ o. o.reply) m, ap (λ o. entries o.entry) m)
 
-pub takes_none : (σ μ : State) (a : ℕ × Ask) → μ ≡ σ → StepsOrNoMemory σ a reply.NoMemory [] μ
-takes_none σ μ a h = inr (refl, refl, h)
-
 pub goes_on : (first σ μ : State) (all rest : List (ℕ × Step)) (s : ℕ × Step) (told : List Reply) (r : Reply) (es : List Entry) → StepsOrNoMemory σ (s.0, ask_of s.1) r es μ → IsRunning first σ all (s ∷ rest) told → IsRunning first μ all rest (told ++ r ∷ [])
 goes_on first σ μ all rest s told r es t h = record {
   log = h.log ++ es;
@@ -79,7 +76,7 @@ step_takes σ μ s r es log taken (inl (st, rp, en)) sound tied = (
       (subst (λ (q : Reply). IsTied (outcome σ [] s.0 (ask_of s.1)).state (log ++ entries (outcome σ [] s.0 (ask_of s.1)).entry) (λ m. taken m ++ taken_now m s.0 q)) rp
       (step_tied σ log taken [] s.0 (ask_of s.1) sound (joins_empty s.1) tied))),
 )
-step_takes σ μ s r es log taken (inr (rp, en, st)) sound tied = (
+step_takes σ μ s r es log taken (inr (takes, rp, en, st)) sound tied = (
   subst IsSound (sym st) sound,
   subst (λ (l : List Entry). IsTied μ (log ++ l) (λ m. taken m ++ taken_now m s.0 r)) (sym en) (quiet_tied σ μ s.0 r log taken st (ap item_of rp) tied),
 )

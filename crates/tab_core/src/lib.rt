@@ -5,12 +5,12 @@
 
 #![tactic(auto)]
 
-ghost use Rattle.std.specs.Prelude.{◌≡◌, ◌≤◌, ◌<◌, ◌++◌, ℕ, suc, List, IfOk, OnErr, true, vec_len, vec_capacity, ◌∷◌, []};
+ghost use Rattle.std.specs.Prelude.{◌≡◌, ◌≤◌, ◌<◌, ◌++◌, ℕ, suc, List, IfOk, IsOk, OnErr, true, vec_len, vec_capacity, ◌∷◌, []};
 ghost use Rattle.tab_model.specs.declared.data.Entry.{Entry as EntryOf};
 ghost use Rattle.tab_model.specs.declared.data.Item.{Item as ItemOf};
 ghost use Rattle.tab_model.specs.State.{new, IsSound};
 ghost use Rattle.tab_model.specs.Run.{IsTied};
-ghost use Rattle.tab_core.specs.Runs.{ask_of, asks_of, serves_step, AllServed, StepsTo, StepsOrNoMemory, RunsTo, taken_in};
+ghost use Rattle.tab_core.specs.Runs.{ask_of, asks_of, serves_step, AllServed, StepsTo, StepsOrNoMemory, RunsTo, taken_in, takes_no_memory};
 
 mod definitions;
 mod machine;
@@ -62,10 +62,11 @@ impl Core {
         }
     }
 
-    /// One step of a session, whole or, where memory is refused, not at all.
+    /// One step of a session, whole or, where memory that it takes is refused, not at all.
     pub fn step(&mut self, session: u32, step: Step) -> Result<Stepped, AllocError>
         requires { serves_step step ≡ true }
         ensures done { IfOk result (λ s. StepsTo self.old session (ask_of step) s self.new) }
+        ensures free { takes_no_memory self.old session (ask_of step) ≡ true → IsOk result }
         ensures err { OnErr result (self.new ≡ self.old) }
         ensures sound { IsSound self.new }
     {

@@ -1,9 +1,9 @@
 //! The machine of one session: each step, command by command.
 
-ghost use Rattle.std.specs.Prelude.{◌≡◌, ◌+◌, ◌≤◌, [], IfOk, OnErr, true, false};
+ghost use Rattle.std.specs.Prelude.{◌≡◌, ◌+◌, ◌≤◌, [], IfOk, IsOk, OnErr, true, false};
 ghost use Rattle.tab_model.specs.declared.data.Command.TheVariants as command;
 ghost use Rattle.tab_model.specs.State.{new};
-ghost use Rattle.tab_core.specs.Runs.{StepsTo, ask_of, serves_step};
+ghost use Rattle.tab_core.specs.Runs.{StepsTo, ask_of, serves_step, takes_no_memory};
 ghost use Rattle.tab_model.specs.Outcome.{Ask, Join, Leave, Retry, Take, DoCommand, nothing, unseated, outcome, has_room};
 ghost use Rattle.tab_core.specs.Served.{serves};
 ghost use Rattle.tab_core.specs.Single.{asked, no_outbox, IsAlone};
@@ -266,6 +266,7 @@ impl Machine {
     pub fn command(&mut self, session: u32, request: Request) -> Result<Stepped, AllocError>
         requires { serves request.command ≡ true }
         ensures ok { IfOk result (λ s. outcome self.old [] session (DoCommand request.command) ≡ record { state = self.new; reply = s.reply; entry = s.entry }) }
+        ensures free { takes_no_memory self.old session (DoCommand request.command) ≡ true → IsOk result }
         ensures err { OnErr result (self.new ≡ self.old) }
     {
         if !self.is_seated(session) {
@@ -289,6 +290,7 @@ impl Machine {
     pub fn step(&mut self, session: u32, step: Step) -> Result<Stepped, AllocError>
         requires { serves_step step ≡ true }
         ensures done { IfOk result (λ s. StepsTo self.old session (ask_of step) s self.new) }
+        ensures free { takes_no_memory self.old session (ask_of step) ≡ true → IsOk result }
         ensures err { OnErr result (self.new ≡ self.old) }
     {
         match step {

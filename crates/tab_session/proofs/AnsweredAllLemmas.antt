@@ -16,12 +16,12 @@ use Rattle.tab_session.specs.Replays.{frames_of, IsRun}
 abbrev unasked : Answer
 unasked = record { session = 0; reply = NoMemory }
 
-under : (read : Result PlainTerm Stop) → IsUnderRead read 0
-under (Ok t) = inl refl
-under (Err f) = refl
+under : (σ : State) (read : Result PlainTerm Stop) → IsUnderRead σ read 0
+under σ (Ok t) = inl refl
+under σ (Err f) = refl
 
 refused : (σ : State) (p : List ℕ) → Answered σ p unasked σ
-refused σ p = inr (record { reply = refl; same = refl; under = under (whole p) })
+refused σ p = inr (record { reply = refl; same = refl; under = under σ (whole p) })
 
 -- any payloads can be answered
 pub total : (σ : State) (ps : List (List ℕ)) → (rs : List Answer) × IsRun σ ps rs

@@ -32,9 +32,9 @@ answered σ μ t n a r spelled number formed (inl (served, inl made)) =
     inl (inr (record { asked = a; spelled = spelled; session = number; served = record { formed = formed; served = served }; made = made }))
 answered σ μ t n a r spelled number formed (inl (served, inr refused)) =
     inr (record {
-      reply = refused.0;
-      same = refused.1;
-      under = ((number, ap number_in (sym spelled)), inr (record { session = n; asked = a; spelled = spelled; served = record { formed = formed; served = served } }));
+      reply = refused.1;
+      same = refused.2;
+      under = ((number, ap number_in (sym spelled)), inr (record { session = n; asked = a; spelled = spelled; served = record { formed = formed; served = served }; takes = refused.0 }));
     })
 answered σ μ t n a r spelled number formed (inr (unserved, bad, same)) =
     inl (inl (record {

@@ -15,6 +15,7 @@ use Rattle.tab_model.specs.declared.data.Reply.{Reply}
 use Rattle.tab_model.specs.declared.data.Reply.TheVariants.{BadTerm, BadCommand, NoMemory, Waiting, Restart}
 use Rattle.tab_model.specs.declared.data.Item.{Item}
 use Rattle.tab_model.specs.Run.{taken_now}
+use Rattle.tab_core.specs.Runs.{takes_no_memory}
 use Rattle.tab_core.specs.Served.{serves}
 use Rattle.tab_core.specs.Single.{no_outbox}
 use Rattle.tab_proto.specs.declared.request.Request.{Request}
@@ -48,9 +49,9 @@ pub record IsStepMade (σ : State) (session : ℕ) (a : Request) (r : Reply) (μ
   pub entry : Option Entry
   pub made : outcome σ [] session (ask_for a) ≡ record { state = μ; reply = r; entry = entry }
 
--- or it was refused for memory, with nothing changed
+-- or it was refused for memory that it takes, with nothing changed
 abbrev pub StepMadeOrRefused : State → ℕ → Request → Reply → State → Type 0
-StepMadeOrRefused σ session a r μ = IsStepMade σ session a r μ ⊎ (r ≡ NoMemory) × (μ ≡ σ)
+StepMadeOrRefused σ session a r μ = IsStepMade σ session a r μ ⊎ (takes_no_memory σ session (ask_for a) ≡ false) × (r ≡ NoMemory) × (μ ≡ σ)
 
 -- a request is answered by its step, or refused as one that is not served
 abbrev pub RepliesTo : State → ℕ → Request → Reply → State → Type 0
@@ -81,32 +82,33 @@ abbrev pub AnsweredRead : State → Result PlainTerm Stop → Answer → State �
 AnsweredRead σ (Err f) x μ = (x ≡ record { session = 0; reply = BadTerm }) × (μ ≡ σ)
 AnsweredRead σ (Ok t) x μ = AnsweredTerm σ t x μ
 
--- the term is a request that is served
-pub record AsksServed (t : PlainTerm) : Type 0 where
+-- the term is a request that is served, and takes memory
+pub record AsksServed (σ : State) (t : PlainTerm) : Type 0 where
   pub session : ℕ
   pub asked : Request
   pub spelled : request_term session asked ≡ t
   pub served : IsServedRequest asked
+  pub takes : takes_no_memory σ session (ask_for asked) ≡ false
 
--- what takes memory once its payload is decoded: the parts of a one-shot, and a step
-abbrev pub TakesMemory : PlainTerm → ℕ → Type 0
-TakesMemory t session = IsNumbered t session × (AsksOneShot t ⊎ AsksServed t)
+-- what takes memory once its payload is decoded: the parts of a one-shot, and a step that takes some
+abbrev pub TakesMemory : State → PlainTerm → ℕ → Type 0
+TakesMemory σ t session = IsNumbered t session × (AsksOneShot t ⊎ AsksServed σ t)
 
 -- refused for memory, with nothing changed
 pub record RefusedTerm (σ : State) (t : PlainTerm) (x : Answer) (μ : State) : Type 0 where
   pub reply : x.reply ≡ NoMemory
   pub same : μ ≡ σ
-  pub under : TakesMemory t x.session
+  pub under : TakesMemory σ t x.session
 
 -- under 0 where the payload could not be decoded for want of memory
-abbrev pub IsUnderRead : Result PlainTerm Stop → ℕ → Type 0
-IsUnderRead (Err f) session = session ≡ 0
-IsUnderRead (Ok t) session = (session ≡ 0) ⊎ TakesMemory t session
+abbrev pub IsUnderRead : State → Result PlainTerm Stop → ℕ → Type 0
+IsUnderRead σ (Err f) session = session ≡ 0
+IsUnderRead σ (Ok t) session = (session ≡ 0) ⊎ TakesMemory σ t session
 
 pub record Refused (σ : State) (read : Result PlainTerm Stop) (x : Answer) (μ : State) : Type 0 where
   pub reply : x.reply ≡ NoMemory
   pub same : μ ≡ σ
-  pub under : IsUnderRead read x.session
+  pub under : IsUnderRead σ read x.session
 
 abbrev pub Answered : State → List ℕ → Answer → State → Type 0
 Answered σ payload x μ = AnsweredRead σ (whole payload) x μ ⊎ Refused σ (whole payload) x μ
