@@ -13,7 +13,8 @@ struct Case {
     rows: Option<&'static [&'static [u8]]>,
 }
 
-const MARK: &[u8] = b"\x83h\x04w\x12mnesia_table_beginw\x01tw\x06simplel\x00\x00\x00\x02h\x03w\x01ta\x01w\x01ah\x03w\x01ta\x02w\x01bj";
+const MARK: &[u8] =
+    b"\x83h\x04w\x12mnesia_table_beginw\x01tw\x06simplel\x00\x00\x00\x02h\x03w\x01ta\x01w\x01ah\x03w\x01ta\x02w\x01bj";
 
 const DELETE_1: &[u8] =
     b"\x83h\x02w\x12mnesia_table_eventh\x03w\x06deleteh\x02w\x01ta\x01h\x02w\x03tida\x02";
@@ -108,10 +109,9 @@ fn all_records(alloc: Global, rows: &Rows) -> Result<Terms, AllocError> {
 
 fn are(alloc: Global, records: &[Term], payloads: &[&[u8]]) -> bool {
     records.len() == payloads.len()
-        && records
-            .iter()
-            .zip(payloads.iter())
-            .all(|(row, payload)| decode(alloc, payload).is_ok_and(|wanted| *row == wanted))
+        && records.iter().zip(payloads.iter()).all(|(row, payload)| decode(
+            alloc, payload,
+        ).is_ok_and(|wanted| *row == wanted))
 }
 
 fn has(alloc: Global, rows: Option<&Rows>, wanted: Option<&[&[u8]]>) -> Result<bool, AllocError> {

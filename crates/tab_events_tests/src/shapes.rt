@@ -104,7 +104,10 @@ fn events_have_their_bytes(rt: HostRuntime) {
             assert!(rt; out.as_slice() == bytes, "shape, case {number}");
             let row = decode(alloc, ROW).expect(&rt, "a term");
             let change = change_of(alloc, &shaped).expect(&rt, "memory");
-            assert!(rt; is_it(&case.update, change, &row), "change_of, case {number}");
+            assert!(rt;
+                is_it(&case.update, change, &row),
+                "change_of, case {number}"
+            );
         }
     }
 }
