@@ -1,0 +1,75 @@
+-- What is owed for a commit or for a table's deletion, and its delivery (this project's own).
+use Rattle.std.specs.Prelude.{◌≡◌, ℕ, List, [], ◌∷◌, Bool, true, false, Option, Some, None, length, nat_le, IfSome}
+use Rattle.tab_model.specs.declared.data.Item.{Item}
+use Rattle.tab_model.specs.Log.{has_session}
+use Rattle.tab_model.specs.State.{Outbox, without_watch}
+use Rattle.tab_model.specs.Outcome.{pushed}
+use Rattle.tab_subs.specs.Subscribers.{Subscriber, overflowed, given}
+
+-- the number of an overflow, the items of each subscriber in their order, and the table that is gone
+pub record Owed : Type 0 where
+  pub number : ℕ
+  pub items : List (List Item)
+  pub ended : Option (List ℕ)
+
+-- there are none past the last
+abbrev pub first_of : List (List Item) → List Item
+first_of [] = []
+first_of (x ∷ xs) = x
+
+abbrev pub rest_of : List (List Item) → List (List Item)
+rest_of [] = []
+rest_of (x ∷ xs) = xs
+
+abbrev pub unwatched : Option (List ℕ) → Subscriber → Subscriber
+unwatched None s = s
+unwatched (Some t) s = record { number = s.number; watching = without_watch s.watching t; outbox = s.outbox; overflow = s.overflow }
+
+-- who refused is in the first list
+abbrev pub given_all : ℕ → List ℕ → Option (List ℕ) → List (List Item) → List Subscriber → List Subscriber
+given_all n over t items [] = []
+given_all n over t items (s ∷ ss) = given n over (first_of items) (unwatched t s) ∷ given_all n over t (rest_of items) ss
+
+-- an item is refused where the post's capacity says so, if it has one; and nothing is refused where nothing is owed
+abbrev pub IsDecided : Bool → List Item → Outbox → Type 0
+IsDecided b [] o = b ≡ false
+IsDecided b (x ∷ xs) o = IfSome o.capacity (λ c. b ≡ nat_le c (length o.items))
+
+abbrev pub AreDecided : List ℕ → List (List Item) → List Subscriber → Type 0
+AreDecided over items [] = Unit {0}
+AreDecided over items (s ∷ ss) = IsDecided (has_session over s.number) (first_of items) s.outbox × AreDecided over (rest_of items) ss
+
+-- what a delivery leaves, and who overflowed in it
+pub record Delivers (owed : Owed) (old new : List Subscriber) (over : List ℕ) : Type 0 where
+  pub given : new ≡ given_all owed.number over owed.ended owed.items old
+  pub decided : AreDecided over owed.items old
+
+-- ---- one after another
+
+abbrev pub received : ℕ → Bool → List Item → Subscriber → Subscriber
+received n true items s = overflowed n s
+received n false items s = record { number = s.number; watching = s.watching; outbox = pushed s.outbox items; overflow = s.overflow }
+
+abbrev pub first_bit : List Bool → Bool
+first_bit [] = false
+first_bit (b ∷ bs) = b
+
+abbrev pub rest_bits : List Bool → List Bool
+rest_bits [] = []
+rest_bits (b ∷ bs) = bs
+
+abbrev pub given_by : ℕ → List Bool → Option (List ℕ) → List (List Item) → List Subscriber → List Subscriber
+given_by n bs t items [] = []
+given_by n bs t items (s ∷ ss) = received n (first_bit bs) (first_of items) (unwatched t s) ∷ given_by n (rest_bits bs) t (rest_of items) ss
+
+abbrev pub joined_if : Bool → ℕ → List ℕ → List ℕ
+joined_if true n ns = n ∷ ns
+joined_if false n ns = ns
+
+abbrev pub refusing : List Bool → List Subscriber → List ℕ
+refusing bs [] = []
+refusing bs (s ∷ ss) = joined_if (first_bit bs) s.number (refusing (rest_bits bs) ss)
+
+abbrev pub AreDecidedBy : List Bool → List (List Item) → List Subscriber → Type 0
+AreDecidedBy bs items [] = Unit {0}
+AreDecidedBy bs items (s ∷ ss) = IsDecided (first_bit bs) (first_of items) s.outbox × AreDecidedBy (rest_bits bs) (rest_of items) ss

@@ -1,0 +1,165 @@
+//! All sessions' subscriptions.
+
+ghost use Rattle.std.specs.Prelude.{◌≡◌, ◌<◌, ◌∷◌, ◌++◌, [], ℕ, Some, None, IfOk, IfSome, OnOk, OnErr, MatchOption, length, nat_le, map};
+ghost use Rattle.tab_model.specs.State.{without_watch};
+ghost use Rattle.tab_model.specs.declared.data.Item.TheVariants as Item;
+ghost use Rattle.tab_model.specs.declared.data.Ending.TheVariants as Ending;
+ghost use Rattle.tab_subs.specs.Subscribers.{Subscriber, fresh, at, without, taken_from, level_of, overflow_of, watched, higher as higher_of, StandsAt, Marks, AllBelow, numbers};
+
+use crate::answers::{Marked, Taken};
+use crate::seat::Seat;
+use std::alloc::{AllocError, Global};
+use std::marker::Model;
+use tab_events::Level;
+use tab_outbox::Post;
+use tab_term::{Atom, Terms};
+
+/// The joined sessions, in the order of their numbers.
+#[derive(Drop)]
+pub struct Subs<P: Post> {
+    seats: Vec<Seat<P>>,
+}
+
+impl<P: Post> Model for Subs<P> {
+    ghost use Rattle.std.specs.Prelude.{List};
+    ghost use Rattle.std.specs.Coded.{codes};
+    ghost use Rattle.tab_term.specs.Code.{terms_code, pairs_code};
+    ghost use Rattle.tab_subs.specs.Subscribers.{Subscriber, Ascends, numbers};
+
+    ghost Value = { List Subscriber };
+
+    ghost coded = { Prim.hlevel (codes, terms_code, pairs_code) };
+
+    ghost view = { λ a. a.seats.items };
+
+    ghost invariant = { λ a. Ascends (numbers a.seats.items) };
+}
+
+impl<P: Post + Drop> Subs<P> {
+    /// Nobody.
+    pub fn new(alloc: Global) -> Subs<P>
+        ensures { result ≡ [] }
+    {
+        Subs {
+            seats: Vec::new(alloc),
+        }
+    }
+
+    /// A session joins, with its post. Its number is above all that are joined.
+    pub fn join(&mut self, alloc: Global, session: u64, post: P) -> Result<(), AllocError>
+        requires above { AllBelow session (numbers self.old) }
+        ensures ok { OnOk result (self.new ≡ self.old ++ fresh session (P.outbox post) ∷ []) }
+        ensures err { OnErr result (self.new ≡ self.old) }
+    {
+        self.seats.reserve(1)?;
+        self.seats.push_reserved(Seat::new(alloc, session, post));
+        Ok(())
+    }
+
+    /// A session leaves, and its post is dropped.
+    pub fn leave(&mut self, session: u64)
+        ensures { self.new ≡ without self.old session }
+    {
+        self.seats.retain(|seat| seat.number() != session);
+    }
+
+    fn place(&self, session: u64) -> Option<usize>
+        ensures { MatchOption result (at self.now session ≡ None) (StandsAt self.now session) }
+    {
+        for (place, seat) in self.seats.iter().enumerate() {
+            if seat.number() == session {
+                return Some(place);
+            }
+        }
+        None
+    }
+
+    /// What the session takes next. None of one that isn't joined.
+    pub fn take(&mut self, session: u64) -> Option<Taken>
+        ensures { (self.new, result) ≡ taken_from self.old (at self.old session) }
+    {
+        let Some(place) = self.place(session) else {
+            return None;
+        };
+        Some(self.seats[place].take())
+    }
+
+    /// The session watches the table, with its begin mark put into its post, which may refuse it. None of one that isn't
+    /// joined.
+    pub fn subscribe(
+        &mut self,
+        alloc: Global,
+        session: u64,
+        table: Atom,
+        level: Level,
+        dump: Option<Terms>,
+    ) -> Result<Option<Marked>, AllocError>
+        ensures ok { IfOk result (λ m. Marks self.old (at self.old session) (λ s. record { table = table; level = level } ∷ s.watching) (Item.Began table level dump) m self.new) }
+        ensures err { OnErr result (self.new ≡ self.old) }
+    {
+        let Some(place) = self.place(session) else {
+            return Ok(None);
+        };
+        let marked = self.seats[place].subscribe(alloc, table, level, dump)?;
+        Ok(Some(marked))
+    }
+
+    /// The session watches the table no more, with its end mark put into its post, which may refuse it. None of one that
+    /// isn't joined.
+    pub fn unsubscribe(
+        &mut self,
+        alloc: Global,
+        session: u64,
+        table: &Atom,
+    ) -> Result<Option<Marked>, AllocError>
+        ensures ok { IfOk result (λ m. Marks self.old (at self.old session) (λ s. without_watch s.watching table.now) (Item.Ended table.now Ending.Unsubscribed) m self.new) }
+        ensures err { OnErr result (self.new ≡ self.old) }
+    {
+        let Some(place) = self.place(session) else {
+            return Ok(None);
+        };
+        let marked = self.seats[place].unsubscribe(alloc, table)?;
+        Ok(Some(marked))
+    }
+
+    /// At which level the session watches the table.
+    pub fn level(&self, session: u64, table: &Atom) -> Option<Level>
+        ensures { result ≡ level_of (at self.now session) table.now }
+    {
+        let Some(place) = self.place(session) else {
+            return None;
+        };
+        self.seats[place].level(table)
+    }
+
+    /// The number of the session's overflow, where it was not told yet.
+    pub fn overflow(&self, session: u64) -> Option<u64>
+        ensures { result ≡ overflow_of (at self.now session) }
+    {
+        let Some(place) = self.place(session) else {
+            return None;
+        };
+        self.seats[place].overflow()
+    }
+
+    /// The highest level at which a session watches the table.
+    pub fn watched(&self, table: &Atom) -> Option<Level>
+        ensures { result ≡ watched self.now table.now }
+    {
+        let mut highest = None;
+        for seat in self.seats.iter() {
+            highest = higher(highest, seat.level(table));
+        }
+        highest
+    }
+}
+
+fn higher(one: Option<Level>, other: Option<Level>) -> Option<Level>
+    ensures { result ≡ higher_of one other }
+{
+    match (one, other) {
+        (Some(Level::Detailed), _) | (_, Some(Level::Detailed)) => Some(Level::Detailed),
+        (None, None) => None,
+        _ => Some(Level::Simple),
+    }
+}
