@@ -5,9 +5,11 @@
 #![tactic(auto)]
 
 mod answers;
+mod prepared;
 mod seat;
 mod subs;
 mod watched;
 
 pub use answers::{Marked, Taken};
+pub use prepared::Prepared;
 pub use subs::Subs;

@@ -4,6 +4,9 @@ ghost use Rattle.std.specs.Prelude.{◌≡◌, [], ◌∷◌, Bool, Some, None, 
 ghost use Rattle.tab_model.specs.State.{level_in, without_watch};
 ghost use Rattle.tab_model.specs.declared.data.Item.TheVariants as Item;
 ghost use Rattle.tab_model.specs.declared.data.Ending.TheVariants as Ending;
+ghost use Rattle.std.specs.Prelude.{option_to_list};
+ghost use Rattle.std.specs.Option.{option_copied};
+ghost use Rattle.tab_subs.specs.Deliveries.{received, unwatched, IsDecided};
 ghost use Rattle.tab_subs.specs.Subscribers.{fresh, take as take_of, marked, is_full};
 
 use crate::answers::{Marked, Taken};
@@ -113,5 +116,25 @@ impl<P: Post + Drop> Seat<P> {
         }
         forget(&mut self.watching, table);
         Ok(Marked::Told)
+    }
+
+    /// Puts an item that is owed, unless the post refuses it, which ends all subscriptions. Where a table is gone, it is
+    /// watched no more. Answers whether the item was refused.
+    pub fn receive(&mut self, number: u64, item: Option<Item>, ended: Option<&Atom>) -> bool
+        ensures received { self.new ≡ received number result (option_to_list item) (unwatched (option_copied ended.entry) self.old) }
+        ensures decided { IsDecided result (option_to_list item) self.old.outbox }
+    {
+        if let Some(table) = ended {
+            forget(&mut self.watching, table);
+        }
+        let Some(item) = item else {
+            return false;
+        };
+        if self.post.put(item).is_ok() {
+            return false;
+        }
+        self.watching.clear();
+        self.overflow = Some(number);
+        true
     }
 }

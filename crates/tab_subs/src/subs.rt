@@ -4,13 +4,16 @@ ghost use Rattle.std.specs.Prelude.{◌≡◌, ◌<◌, ◌∷◌, ◌++◌, [],
 ghost use Rattle.tab_model.specs.State.{without_watch};
 ghost use Rattle.tab_model.specs.declared.data.Item.TheVariants as Item;
 ghost use Rattle.tab_model.specs.declared.data.Ending.TheVariants as Ending;
+ghost use Rattle.tab_subs.specs.Deliveries.{Delivers};
 ghost use Rattle.tab_subs.specs.Subscribers.{Subscriber, fresh, at, without, taken_from, level_of, overflow_of, watched, higher as higher_of, StandsAt, Marks, AllBelow, numbers};
 
 use crate::answers::{Marked, Taken};
+use crate::prepared::{Prepared, next_due};
 use crate::seat::Seat;
 use std::alloc::{AllocError, Global};
 use std::marker::Model;
 use tab_events::Level;
+use tab_model::Numbers;
 use tab_outbox::Post;
 use tab_term::{Atom, Terms};
 
@@ -120,6 +123,27 @@ impl<P: Post + Drop> Subs<P> {
         };
         let marked = self.seats[place].unsubscribe(alloc, table)?;
         Ok(Some(marked))
+    }
+
+    /// Puts what is owed, in the order of the sessions' numbers, and answers who overflowed: an item that a post refuses
+    /// ends its session's subscriptions.
+    pub fn deliver(&mut self, prepared: Prepared) -> Numbers
+        ensures { Delivers prepared self.old self.new result }
+    {
+        let Prepared {
+            number,
+            mut due,
+            mut over,
+            ended,
+        } = prepared;
+        for seat in self.seats.iter_mut() {
+            let refused = seat.receive(number, next_due(&mut due), ended.as_ref());
+            if !refused {
+                continue;
+            }
+            over.push_reserved(seat.number());
+        }
+        Numbers { items: over }
     }
 
     /// At which level the session watches the table.
