@@ -1,3 +1,4 @@
 mod Places
 mod Watching
 mod Delivering
+mod Batches

@@ -7,6 +7,7 @@
 mod answers;
 mod prepared;
 mod seat;
+mod shaped;
 mod subs;
 mod watched;
 

@@ -1,8 +1,9 @@
 //! What is owed, ready to be delivered.
 
-ghost use Rattle.std.specs.Prelude.{◌≡◌, ◌+◌, ◌≤◌, map, option_to_list, IsSome, length};
+ghost use Rattle.std.specs.Prelude.{◌≡◌, ◌+◌, ◌≤◌, map, option_to_list, IfOk, IsSome, length};
 ghost use Rattle.tab_subs.specs.Deliveries.{first_of, rest_of};
 
+use std::alloc::{AllocError, Global};
 use std::collections::VecDeque;
 use std::marker::Model;
 use tab_events::Item;
@@ -31,6 +32,24 @@ impl Model for Prepared {
     ghost view = { λ a. record { number = a.number; items = map option_to_list a.due.items; ended = a.ended } };
 
     ghost invariant = { λ a. (a.over.items ≡ []) × (length a.due.items ≤ vec_capacity a.over) };
+}
+
+/// With room for all of them to overflow.
+pub fn with_room(
+    alloc: Global,
+    number: u64,
+    due: VecDeque<Option<Item>>,
+    ended: Option<Atom>,
+) -> Result<Prepared, AllocError>
+    ensures { IfOk result (λ p. p ≡ record { number = number; items = map option_to_list due.items; ended = ended }) }
+{
+    let over = Vec::with_capacity(alloc, due.len())?;
+    Ok(Prepared {
+        number,
+        due,
+        over,
+        ended,
+    })
 }
 
 /// The item of the next subscriber.

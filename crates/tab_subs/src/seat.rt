@@ -1,6 +1,7 @@
 //! A session with what it watches and the post that it takes from.
 
-ghost use Rattle.std.specs.Prelude.{◌≡◌, [], ◌∷◌, Bool, Some, None, IfOk, IfSome, OnErr, length, nat_le};
+ghost use Rattle.std.specs.Prelude.{◌≡◌, [], ◌∷◌, Bool, Some, None, IfOk, IfSome, OnOk, OnErr, length, nat_le};
+ghost use Rattle.tab_model.specs.Slices.{batch_for, end_for};
 ghost use Rattle.tab_model.specs.State.{level_in, without_watch};
 ghost use Rattle.tab_model.specs.declared.data.Item.TheVariants as Item;
 ghost use Rattle.tab_model.specs.declared.data.Ending.TheVariants as Ending;
@@ -10,6 +11,7 @@ ghost use Rattle.tab_subs.specs.Deliveries.{received, unwatched, IsDecided};
 ghost use Rattle.tab_subs.specs.Subscribers.{fresh, take as take_of, marked, is_full};
 
 use crate::answers::{Marked, Taken};
+use crate::shaped::Shaped;
 use crate::watched::{Watched, forget, level_of};
 use std::alloc::{AllocError, Global};
 use std::marker::Model;
@@ -136,5 +138,38 @@ impl<P: Post + Drop> Seat<P> {
         self.watching.clear();
         self.overflow = Some(number);
         true
+    }
+
+    /// The events of a commit that the session is owed, at its levels.
+    pub fn batch(
+        &self,
+        alloc: Global,
+        commit: u64,
+        events: &mut Vec<Shaped<'_>>,
+    ) -> Result<Option<Item>, AllocError>
+        ensures item { IfOk result (λ item. option_to_list item ≡ batch_for (level_in self.now.watching) commit events.old.items) }
+        ensures events { OnOk result (events.new.items ≡ events.old.items) }
+    {
+        let mut told = Vec::new(alloc);
+        for event in events.iter_mut() {
+            let Some(level) = self.level(event.table()) else {
+                continue;
+            };
+            told.push(event.term(alloc, level)?)?;
+        }
+        if told.is_empty() {
+            return Ok(None);
+        }
+        Ok(Some(Item::Batch(commit, Terms::from_vec(told))))
+    }
+
+    /// The mark of a table's deletion, where the session watches it.
+    pub fn end_mark(&self, alloc: Global, table: &Atom) -> Result<Option<Item>, AllocError>
+        ensures { IfOk result (λ item. option_to_list item ≡ end_for (level_in self.now.watching) (Some table.now)) }
+    {
+        if self.level(table).is_none() {
+            return Ok(None);
+        }
+        Ok(Some(Item::Ended(table.try_clone(alloc)?, Ending::Deleted)))
     }
 }

@@ -1,18 +1,21 @@
 //! All sessions' subscriptions.
 
 ghost use Rattle.std.specs.Prelude.{◌≡◌, ◌<◌, ◌∷◌, ◌++◌, [], ℕ, Some, None, IfOk, IfSome, OnOk, OnErr, MatchOption, length, nat_le, map};
-ghost use Rattle.tab_model.specs.State.{without_watch};
+ghost use Rattle.tab_model.specs.Slices.{batch_for, end_for};
+ghost use Rattle.tab_model.specs.State.{level_in, without_watch};
 ghost use Rattle.tab_model.specs.declared.data.Item.TheVariants as Item;
 ghost use Rattle.tab_model.specs.declared.data.Ending.TheVariants as Ending;
 ghost use Rattle.tab_subs.specs.Deliveries.{Delivers};
 ghost use Rattle.tab_subs.specs.Subscribers.{Subscriber, fresh, at, without, taken_from, level_of, overflow_of, watched, higher as higher_of, StandsAt, Marks, AllBelow, numbers};
 
 use crate::answers::{Marked, Taken};
-use crate::prepared::{Prepared, next_due};
+use crate::prepared::{Prepared, next_due, with_room};
 use crate::seat::Seat;
+use crate::shaped::Shaped;
 use std::alloc::{AllocError, Global};
+use std::collections::VecDeque;
 use std::marker::Model;
-use tab_events::Level;
+use tab_events::{Event, Level};
 use tab_model::Numbers;
 use tab_outbox::Post;
 use tab_term::{Atom, Terms};
@@ -125,6 +128,40 @@ impl<P: Post + Drop> Subs<P> {
         Ok(Some(marked))
     }
 
+    /// What a commit owes: to each session the events of the tables that it watches, at its levels, as one item. The
+    /// number is the commit's.
+    pub fn prepare(
+        &self,
+        alloc: Global,
+        commit: u64,
+        events: &[Event],
+    ) -> Result<Prepared, AllocError>
+        ensures { IfOk result (λ p. p ≡ record { number = commit; items = map (λ s. batch_for (level_in s.watching) commit events.now) self.now; ended = None }) }
+    {
+        let mut shaped = unshaped(alloc, events)?;
+        let mut due = VecDeque::with_capacity(alloc, self.seats.len())?;
+        for seat in self.seats.iter() {
+            due.push_back(seat.batch(alloc, commit, &mut shaped)?)?;
+        }
+        with_room(alloc, commit, due, None)
+    }
+
+    /// What a table's deletion owes: an end mark to each session that watches it. The number is that of the next commit.
+    pub fn prepare_end(
+        &self,
+        alloc: Global,
+        table: &Atom,
+        commit: u64,
+    ) -> Result<Prepared, AllocError>
+        ensures { IfOk result (λ p. p ≡ record { number = commit; items = map (λ s. end_for (level_in s.watching) (Some table.now)) self.now; ended = Some table.now }) }
+    {
+        let mut due = VecDeque::with_capacity(alloc, self.seats.len())?;
+        for seat in self.seats.iter() {
+            due.push_back(seat.end_mark(alloc, table)?)?;
+        }
+        with_room(alloc, commit, due, Some(table.try_clone(alloc)?))
+    }
+
     /// Puts what is owed, in the order of the sessions' numbers, and answers who overflowed: an item that a post refuses
     /// ends its session's subscriptions.
     pub fn deliver(&mut self, prepared: Prepared) -> Numbers
@@ -186,4 +223,14 @@ fn higher(one: Option<Level>, other: Option<Level>) -> Option<Level>
         (None, None) => None,
         _ => Some(Level::Simple),
     }
+}
+
+fn unshaped<'a>(alloc: Global, events: &'a [Event]) -> Result<Vec<Shaped<'a>>, AllocError>
+    ensures { IfOk result (λ shaped. shaped.items ≡ events.now) }
+{
+    let mut shaped = Vec::with_capacity(alloc, events.len())?;
+    for event in events {
+        shaped.push(Shaped::new(event))?;
+    }
+    Ok(shaped)
 }
