@@ -8,7 +8,7 @@ use Rattle.tab_model.specs.declared.data.Item.{Item}
 use Rattle.tab_model.specs.Log.{has_session}
 use Rattle.tab_model.specs.State.{Outbox}
 use Rattle.tab_subs.specs.Subscribers.{Subscriber, overflowed, given, numbers, Ascends, AllAbove}
-use Rattle.tab_subs.specs.Deliveries.{first_of, rest_of, unwatched, given_all, received, first_bit, rest_bits, given_by, joined_if, refusing, IsDecided, AreDecided, AreDecidedBy, Owed, Delivers}
+use Rattle.tab_subs.specs.Deliveries.{first_of, rest_of, unwatched, given_all, received, first_bit, rest_bits, given_by, joined_if, those_in, refusing, IsDecided, AreDecided, AreDecidedBy, Owed, Delivers}
 
 -- ---- who refused is in the list of those who did, and nobody else
 
@@ -81,6 +81,10 @@ by_session over bs n t items (s ∷ ss) a =
     ap₂ (λ x xs. x ∷ xs) (sym (given_is n over (first_of items) (unwatched t s) (first_bit bs) (ap (has_session over) (number-unwatched t s) ∙ a.0)))
     (by_session over (rest_bits bs) n t (rest_of items) ss a.1)
 
+who_refused : (over : List ℕ) (bs : List Bool) (ss : List Subscriber) → Agree over bs ss → refusing bs ss ≡ those_in over ss
+who_refused over bs [] a = refl
+who_refused over bs (s ∷ ss) a = ap₂ (λ b ns. joined_if b s.number ns) (sym a.0) (who_refused over (rest_bits bs) ss a.1)
+
 decided_by_session : (over : List ℕ) (bs : List Bool) (items : List (List Item)) (ss : List Subscriber) → Agree over bs ss → AreDecidedBy bs items ss → AreDecided over items ss
 decided_by_session over bs items [] a d = tt
 decided_by_session over bs items (s ∷ ss) a d =
@@ -141,6 +145,7 @@ all_taken (x ∷ ss) (suc i) le = ap (λ vs. x ∷ vs) (all_taken ss i (omega ar
 pub all_given : (owed : Owed) (old : List Subscriber) (over : List ℕ) (due : List (List Item)) (now : List Subscriber) (i : ℕ) → length now ≤ i → Ascends (numbers old)
     → IsUnderWay owed.number owed.ended owed.items old over due now i → Delivers owed old now over
 all_given owed old over due now i le up way = record {
+  over_are = sym over_bits ∙ who_refused over way.bits old same;
   given = sym given_bits ∙ by_session over way.bits owed.number owed.ended owed.items old same;
   decided = decided_by_session over way.bits owed.items old same bits_decided;
 }

@@ -39,8 +39,18 @@ abbrev pub AreDecided : List ℕ → List (List Item) → List Subscriber → Ty
 AreDecided over items [] = Unit {0}
 AreDecided over items (s ∷ ss) = IsDecided (has_session over s.number) (first_of items) s.outbox × AreDecided over (rest_of items) ss
 
+abbrev pub joined_if : Bool → ℕ → List ℕ → List ℕ
+joined_if true n ns = n ∷ ns
+joined_if false n ns = ns
+
+-- the subscribers that are in the list, in their order
+abbrev pub those_in : List ℕ → List Subscriber → List ℕ
+those_in over [] = []
+those_in over (s ∷ ss) = joined_if (has_session over s.number) s.number (those_in over ss)
+
 -- what a delivery leaves, and who overflowed in it
 pub record Delivers (owed : Owed) (old new : List Subscriber) (over : List ℕ) : Type 0 where
+  pub over_are : over ≡ those_in over old
   pub given : new ≡ given_all owed.number over owed.ended owed.items old
   pub decided : AreDecided over owed.items old
 
@@ -61,10 +71,6 @@ rest_bits (b ∷ bs) = bs
 abbrev pub given_by : ℕ → List Bool → Option (List ℕ) → List (List Item) → List Subscriber → List Subscriber
 given_by n bs t items [] = []
 given_by n bs t items (s ∷ ss) = received n (first_bit bs) (first_of items) (unwatched t s) ∷ given_by n (rest_bits bs) t (rest_of items) ss
-
-abbrev pub joined_if : Bool → ℕ → List ℕ → List ℕ
-joined_if true n ns = n ∷ ns
-joined_if false n ns = ns
 
 abbrev pub refusing : List Bool → List Subscriber → List ℕ
 refusing bs [] = []

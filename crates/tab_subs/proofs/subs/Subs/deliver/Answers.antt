@@ -78,7 +78,7 @@ returns g c =
     let due = map option_to_list c.loop-seat.due.items in
     let i = c.loop-seat.seat-index in
     let way =
-        subst (λ n. IsUnderWay n owed.ended owed.items old over due now i) (ap (λ (o : Owed). o.number) c.prepared.view_is)
-        (subst (λ t. IsUnderWay c.prepared.inside.number t owed.items old over due now i) (ap (λ (o : Owed). o.ended) c.prepared.view_is) c.loop-seat.invariant.way) in
+    subst (λ n. IsUnderWay n owed.ended owed.items old over due now i) (ap (λ (o : Owed). o.number) c.prepared.view_is)
+    (subst (λ t. IsUnderWay c.prepared.inside.number t owed.items old over due now i) (ap (λ (o : Owed). o.ended) c.prepared.view_is) c.loop-seat.invariant.way) in
     let done = all_given owed old over due now i (past i _ _ c.loop-seat.auto.seat-items c.loop-seat-test.false) (subst (λ ss. Ascends (numbers ss)) c.self.view_is c.self.invariant) way in
     subst (λ z. Delivers owed old z over) (sym (written_back now (drop (length now) c.self.inside.seats.items) c.self.inside.seats.len (c.loop-seat.auto.seat-items ∙ c.deref_mut-seat-items.ensures.len))) done

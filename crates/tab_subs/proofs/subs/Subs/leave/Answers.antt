@@ -1,4 +1,4 @@
-use Rattle.std.proofs.Common.{◌≡◌, ap, sym, ◌∙◌, subst, not, rules}
+use Rattle.std.proofs.Common.{ap, sym, ◌∙◌, subst, not, rules}
 use Rattle.std.specs.Prelude.{◌==◌}
 use Rattle.std.proofs.lemmas.Fn.{filter_same}
 use Rattle.tab_subs.specs.Subscribers.{Subscriber, Ascends, numbers, without}
