@@ -8,7 +8,29 @@ use Rattle.tab_model.specs.declared.data.Item.{Item}
 use Rattle.tab_model.specs.Log.{has_session}
 use Rattle.tab_model.specs.State.{Outbox}
 use Rattle.tab_subs.specs.Subscribers.{Subscriber, overflowed, given, numbers, Ascends, AllAbove}
-use Rattle.tab_subs.specs.Deliveries.{first_of, rest_of, unwatched, given_all, received, first_bit, rest_bits, given_by, joined_if, those_in, refusing, IsDecided, AreDecided, AreDecidedBy, Owed, Delivers}
+use Rattle.tab_subs.specs.Deliveries.{first_of, rest_of, unwatched, given_all, received, joined_if, those_in, IsDecided, AreDecided, Owed, Delivers}
+
+-- ---- by who refused, one after another
+
+abbrev pub first_bit : List Bool → Bool
+first_bit [] = false
+first_bit (b ∷ bs) = b
+
+abbrev pub rest_bits : List Bool → List Bool
+rest_bits [] = []
+rest_bits (b ∷ bs) = bs
+
+abbrev pub given_by : ℕ → List Bool → Option (List ℕ) → List (List Item) → List Subscriber → List Subscriber
+given_by n bs t items [] = []
+given_by n bs t items (s ∷ ss) = received n (first_bit bs) (first_of items) (unwatched t s) ∷ given_by n (rest_bits bs) t (rest_of items) ss
+
+abbrev pub refusing : List Bool → List Subscriber → List ℕ
+refusing bs [] = []
+refusing bs (s ∷ ss) = joined_if (first_bit bs) s.number (refusing (rest_bits bs) ss)
+
+abbrev pub AreDecidedBy : List Bool → List (List Item) → List Subscriber → Type 0
+AreDecidedBy bs items [] = Unit {0}
+AreDecidedBy bs items (s ∷ ss) = IsDecided (first_bit bs) (first_of items) s.outbox × AreDecidedBy (rest_bits bs) (rest_of items) ss
 
 -- ---- who refused is in the list of those who did, and nobody else
 

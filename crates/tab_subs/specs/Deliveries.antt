@@ -54,28 +54,7 @@ pub record Delivers (owed : Owed) (old new : List Subscriber) (over : List ℕ) 
   pub given : new ≡ given_all owed.number over owed.ended owed.items old
   pub decided : AreDecided over owed.items old
 
--- ---- one after another
-
+-- one subscriber after its item, which its post refused or not
 abbrev pub received : ℕ → Bool → List Item → Subscriber → Subscriber
 received n true items s = overflowed n s
 received n false items s = record { number = s.number; watching = s.watching; outbox = pushed s.outbox items; overflow = s.overflow }
-
-abbrev pub first_bit : List Bool → Bool
-first_bit [] = false
-first_bit (b ∷ bs) = b
-
-abbrev pub rest_bits : List Bool → List Bool
-rest_bits [] = []
-rest_bits (b ∷ bs) = bs
-
-abbrev pub given_by : ℕ → List Bool → Option (List ℕ) → List (List Item) → List Subscriber → List Subscriber
-given_by n bs t items [] = []
-given_by n bs t items (s ∷ ss) = received n (first_bit bs) (first_of items) (unwatched t s) ∷ given_by n (rest_bits bs) t (rest_of items) ss
-
-abbrev pub refusing : List Bool → List Subscriber → List ℕ
-refusing bs [] = []
-refusing bs (s ∷ ss) = joined_if (first_bit bs) s.number (refusing (rest_bits bs) ss)
-
-abbrev pub AreDecidedBy : List Bool → List (List Item) → List Subscriber → Type 0
-AreDecidedBy bs items [] = Unit {0}
-AreDecidedBy bs items (s ∷ ss) = IsDecided (first_bit bs) (first_of items) s.outbox × AreDecidedBy (rest_bits bs) (rest_of items) ss
