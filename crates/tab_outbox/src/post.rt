@@ -1,6 +1,6 @@
 //! Where items are put.
 
-ghost use Rattle.std.specs.Prelude.{◌≡◌, List, [], ◌∷◌, OnOk, IfErr, IfSome, MatchOption, is_err, length, nat_le};
+ghost use Rattle.std.specs.Prelude.{◌≡◌, [], ◌∷◌, OnOk, IfErr, IfSome, MatchOption, is_err, length, nat_le};
 ghost use Rattle.tab_model.specs.State.{Outbox};
 ghost use Rattle.tab_model.specs.Outcome.{pushed, refused, takable};
 ghost use Rattle.tab_outbox.specs.Posts.{refused_item, GivesFirst};

@@ -44,10 +44,10 @@ impl RingPost {
 }
 
 impl Post for RingPost {
-    ghost use Rattle.std.specs.Prelude.{◌≡◌, [], ◌∷◌, length, nat_le, refl, OnOk, IfErr, IfSome, MatchOption, is_err};
+    ghost use Rattle.std.specs.Prelude.{◌≡◌, [], ◌∷◌, length, nat_le, refl, OnOk, IfErr, is_err};
     ghost use Rattle.std.proofs.Common.{◌∙◌};
-    ghost use Rattle.tab_model.specs.Outcome.{pushed, refused, takable};
-    ghost use Rattle.tab_outbox.specs.Posts.{as_outbox, refused_item, GivesFirst, IsFull};
+    ghost use Rattle.tab_model.specs.Outcome.{pushed, refused};
+    ghost use Rattle.tab_outbox.specs.Posts.{as_outbox, refused_item, IsFull};
 
     ghost outbox = { λ s. as_outbox s };
 

@@ -1,6 +1,6 @@
 //! A session with what it watches and the post that it takes from.
 
-ghost use Rattle.std.specs.Prelude.{◌≡◌, [], ◌∷◌, Bool, Some, None, IfOk, IfSome, OnOk, OnErr, length, nat_le};
+ghost use Rattle.std.specs.Prelude.{◌≡◌, ◌∷◌, Some, None, IfOk, IfSome, OnOk, OnErr, length, nat_le};
 ghost use Rattle.tab_model.specs.Slices.{batch_for, end_for};
 ghost use Rattle.tab_model.specs.State.{level_in, without_watch};
 ghost use Rattle.tab_model.specs.declared.data.Item.TheVariants as Item;
