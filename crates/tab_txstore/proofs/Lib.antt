@@ -1,0 +1,3 @@
+pub mod TouchLemmas
+pub mod FitsLemmas
+pub mod MergedLemmas

@@ -1,0 +1,3 @@
+pub mod Overlays
+pub mod Stores
+pub mod Merged
