@@ -6,6 +6,12 @@
 
 #![tactic(auto)]
 
+mod change;
 mod laws;
+mod left;
+mod levels;
+mod merged;
+mod store;
 
 pub use laws::{a_store_fits, a_store_shows, keys_are_seen};
+pub use store::{Finished, TxStore};
