@@ -5,11 +5,16 @@ ghost use Rattle.tab_model.specs.declared.data.Move.TheVariants.{Do, Open as Ope
 ghost use Rattle.tab_model.specs.declared.data.Reply.TheVariants as told_of;
 ghost use Rattle.tab_model.specs.Events.{is_failure as is_failure_of};
 ghost use Rattle.tab_model.specs.State.{count_moves};
-ghost use Rattle.tab_txstore.specs.Overlays.{touched, seen_at};
+ghost use Rattle.tab_term.specs.Order.{term_cmp};
+ghost use Rattle.tab_map.specs.Entries.{Ascends};
+ghost use Rattle.tab_rows.specs.Joined.{IsInOrder, joined as joined_rows};
+ghost use Rattle.tab_txstore.specs.Merged.{merged as merged_of};
+ghost use Rattle.tab_txstore.specs.Overlays.{Touched, touched, seen_at};
 ghost use Rattle.tab_txstore.specs.Stores.{no_store, store_next};
 
 use crate::left::copies;
 use crate::levels::Levels;
+use crate::merged::Merged;
 use std::alloc::{AllocError, Global};
 use std::marker::Model;
 use tab_index::IndexedTable;
@@ -250,6 +255,13 @@ impl TxStore {
         ensures { terms result.now ≡ plain_terms (seen_at (touched self.now.levels.now.overlay lent.now.def.name) lent.now.rows (term key.now)) }
     {
         self.levels.seen(lent, key)
+    }
+
+    // A lent table's walk with the touched keys among it, without memory.
+    pub(crate) fn merged<'a>(&'a self, lent: &'a IndexedTable) -> Merged<'a>
+        ensures { (es : Touched) × (joined_rows es ≡ lent.now.rows) × IsInOrder es × Ascends term_cmp (touched self.now.levels.now.overlay lent.now.def.name) × (result ≡ merged_of (touched self.now.levels.now.overlay lent.now.def.name) es) }
+    {
+        self.levels.merged(lent)
     }
 
     /// Copies of what stands at a key of a lent table for the transaction.
