@@ -1,0 +1,34 @@
+use Rattle.std.proofs.Common.{ap, sym, ◌∙◌, subst}
+use Rattle.std.specs.Option.{option_copied}
+use Rattle.tab_model.specs.Names.{plain_terms}
+use Rattle.tab_model.specs.Worlds.{Table}
+use Rattle.tab_term.specs.Order.{bytes_cmp}
+use Rattle.tab_term.specs.View.{term, terms}
+use Rattle.tab_map.specs.Entries.{lookup}
+use Rattle.tab_txstore.specs.Overlays.{touched, seen_at}
+use Rattle.tab_txstore.specs.Stores.{Levels}
+use Rattle.tab_txstore.proofs.LeftLemmas.{seen_found, seen_lent, seen_apart}
+use Rattle.tab_txstore.proofs.levels.Levels.seen.Goals as goal
+
+pub returns-in-Some-get : goal.returns-in-Some-get
+returns-in-Some-get c =
+    c.as_slice.ensures.items
+    ∙ seen_found c.self.inside.overlay c.args.lent.now.def.name c.args.lent.now.rows c.args.key.now c.in-Some.keys.now c.in-Some-get.records.now
+    (ap option_copied (sym c.in-Some.is) ∙ c.get.ensures.value ∙ ap (λ d. lookup bytes_cmp (Rattle.tab_model.specs.declared.data.TableDef.TableDef.name d) c.self.inside.overlay) c.def.ensures)
+    (ap option_copied (sym c.in-Some-get.is) ∙ c.get-in-Some.ensures.value)
+    ∙ ap (λ (l : Levels). plain_terms (seen_at (touched l.now.overlay c.args.lent.now.def.name) c.args.lent.now.rows (term c.args.key.now))) c.self.view_is
+
+pub returns-in-None-get : goal.returns-in-None-get
+returns-in-None-get c =
+    c.at.ensures
+    ∙ seen_lent c.self.inside.overlay c.args.lent.now.def.name c.args.lent.now.rows c.args.key.now c.in-Some.keys.now
+    (ap option_copied (sym c.in-Some.is) ∙ c.get.ensures.value ∙ ap (λ d. lookup bytes_cmp (Rattle.tab_model.specs.declared.data.TableDef.TableDef.name d) c.self.inside.overlay) c.def.ensures)
+    (ap option_copied (sym c.in-None-get.is) ∙ c.get-in-Some.ensures.value)
+    ∙ ap (λ (l : Levels). plain_terms (seen_at (touched l.now.overlay c.args.lent.now.def.name) c.args.lent.now.rows (term c.args.key.now))) c.self.view_is
+
+pub returns-in-None : goal.returns-in-None
+returns-in-None c =
+    c.at-in-None.ensures
+    ∙ seen_apart c.self.inside.overlay c.args.lent.now.def.name c.args.lent.now.rows c.args.key.now
+    (ap option_copied (sym c.in-None.is) ∙ c.get.ensures.value ∙ ap (λ d. lookup bytes_cmp (Rattle.tab_model.specs.declared.data.TableDef.TableDef.name d) c.self.inside.overlay) c.def.ensures)
+    ∙ ap (λ (l : Levels). plain_terms (seen_at (touched l.now.overlay c.args.lent.now.def.name) c.args.lent.now.rows (term c.args.key.now))) c.self.view_is
