@@ -5,3 +5,4 @@ pub mod LeftLemmas
 pub mod MergedLemmas
 pub mod WalkLemmas
 pub mod MatchLemmas
+pub mod TouchingLemmas

@@ -12,6 +12,7 @@ mod left;
 mod levels;
 mod merged;
 mod store;
+mod touching;
 mod views;
 
 pub use laws::{a_store_fits, a_store_shows, keys_are_seen};
