@@ -9,7 +9,6 @@ use Rattle.tab_term.specs.Same.{same}
 use Rattle.tab_term.specs.Order.{bytes_cmp, term_cmp}
 use Rattle.tab_term.specs.View.{term, terms}
 use Rattle.tab_map.specs.Entries.{lookup, insert_entry}
-use Rattle.tab_model.specs.declared.data.Kind.{Kind}
 use Rattle.tab_model.specs.declared.data.Change.{Change}
 use Rattle.tab_model.specs.Names.{plain_terms, terms_list}
 use Rattle.tab_model.specs.Tables.{Rows, at, delete_object}

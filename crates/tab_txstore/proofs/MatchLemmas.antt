@@ -9,11 +9,22 @@ use Rattle.tab_term.specs.Pattern.{matches}
 use Rattle.tab_term.specs.View.{term, terms}
 use Rattle.tab_map.specs.Entries.{Ascends}
 use Rattle.tab_model.specs.Names.{plain_terms, terms_list}
-use Rattle.tab_model.specs.Tables.{Rows}
-use Rattle.tab_model.specs.WholeTables.{match_object}
+use Rattle.tab_model.specs.Tables.{Rows, at, is_ordered}
+use Rattle.tab_term.specs.Same.{same}
+use Rattle.tab_term.specs.Order.{bytes_cmp}
+use Rattle.std.specs.Prelude.{is_some, ℕ}
+use Rattle.std.proofs.Common.{Option, Some, None}
+use Rattle.std.proofs.lemmas.Bool.{false≢true}
+use Rattle.tab_map.specs.Entries.{lookup}
+use Rattle.tab_rows.proofs.Cells.{ordered-joined}
+use Rattle.tab_model.proofs.TableLaws.{same_lists}
+use Rattle.tab_model.specs.WholeTables.{match_object, index_read, element}
+use Rattle.tab_index.specs.BoundKey.{bound_key}
+use Rattle.tab_index.proofs.BoundKeyLemmas.{at_bound_key}
+use Rattle.tab_index.proofs.CopiesLemmas.{round}
 use Rattle.tab_rows.specs.Joined.{joined, IsInOrder}
 use Rattle.tab_rows.proofs.Cells.{plain-list}
-use Rattle.tab_txstore.specs.Overlays.{Touched}
+use Rattle.tab_txstore.specs.Overlays.{Touched, Overlay, touched_in, touched, seen_at}
 use Rattle.tab_txstore.specs.Merged.{merged, is_filled, IsSeen}
 use Rattle.tab_txstore.proofs.LeftLemmas.{list_push}
 use Rattle.tab_txstore.proofs.MergedLemmas.{filled, seen_merged, not_filled}
@@ -56,3 +67,48 @@ match_end found left whole xs es rows seen p e inv w j o s h =
     sym (plain-list (terms found))
     ∙ ap plain_terms (sym (append-nil (terms_list (terms found))) ∙ sym (ap (λ z. terms_list (terms found) ++ match_object (joined z) p) e) ∙ inv ∙ ap (λ z. match_object (joined z) p) (w)
     ∙ ap (λ z. match_object z p) (sym (joined_filled (merged xs es)) ∙ (seen_merged xs es seen s o (subst (λ (rs : Rows). IsSeen xs rs seen) (sym j) h)).0))
+
+-- a pattern whose answers all have one key
+pub match_at : (none found at_key : List Term) (xs : Touched) (rows seen : Rows) (p k : PlainTerm) → none ≡ [] → terms_list (terms found) ≡ terms_list (terms none) ++ match_object (terms_list (terms at_key)) p
+    → terms at_key ≡ plain_terms (seen_at xs rows k) → bound_key p ≡ Some k → IsSeen xs rows seen → terms found ≡ plain_terms (match_object seen p)
+match_at none found at_key xs rows seen p k e f a b h =
+    sym (plain-list (terms found))
+    ∙ ap plain_terms (f ∙ ap (λ z. terms_list (terms z) ++ match_object (terms_list (terms at_key)) p) e ∙ ap (λ z. match_object z p) (ap terms_list a ∙ round (seen_at xs rows k) ∙ h.cells k) ∙ at_bound_key p k seen b)
+
+-- ---- the same for a value at a position
+
+pub value_step : (found all : List Term) (x : Term) (xs : List Term) (n : ℕ) (v : PlainTerm) → true ≡ same (element n (term x)) v → all ≡ found ++ x ∷ []
+    → terms_list (terms all) ++ index_read (terms_list (terms xs)) n v ≡ terms_list (terms found) ++ index_read (terms_list (terms (x ∷ xs))) n v
+value_step found all x xs n v e a =
+    ap (λ z. terms_list (terms z) ++ index_read (terms_list (terms xs)) n v) a ∙ ap (λ z. z ++ index_read (terms_list (terms xs)) n v) (list_push found x)
+    ∙ once (terms_list (terms found)) (term x) (index_read (terms_list (terms xs)) n v)
+    ∙ ap (λ b. terms_list (terms found) ++ (if b then term x ∷ index_read (terms_list (terms xs)) n v else index_read (terms_list (terms xs)) n v)) e
+
+pub value_entry : (found all : List Term) (before after : Touched) (e : Term × PlainTerms) (records : List Term) (n : ℕ) (v : PlainTerm) → before ≡ e ∷ after → terms records ≡ e.1
+    → terms_list (terms all) ≡ terms_list (terms found) ++ index_read (terms_list (terms records)) n v
+    → terms_list (terms all) ++ index_read (joined after) n v ≡ terms_list (terms found) ++ index_read (joined before) n v
+value_entry found all before after e records n v h r a =
+    ap (λ z. z ++ index_read (joined after) n v) (a ∙ ap (λ z. terms_list (terms found) ++ index_read (terms_list z) n v) r)
+    ∙ append_assoc (terms_list (terms found)) (index_read (terms_list e.1) n v) (index_read (joined after) n v)
+    ∙ ap (λ z. terms_list (terms found) ++ z) (sym (filter-append (λ x. same (element n x) v) (terms_list e.1) (joined after)))
+    ∙ sym (ap (λ z. terms_list (terms found) ++ index_read (joined z) n v) h)
+
+pub value_end : (found : List Term) (left whole : Touched) (xs es : Touched) (rows seen : Rows) (n : ℕ) (v : PlainTerm) → left ≡ [] → terms_list (terms found) ++ index_read (joined left) n v ≡ index_read (joined whole) n v → whole ≡ merged xs es
+    → joined es ≡ rows → IsInOrder es → Ascends term_cmp xs → IsSeen xs rows seen → terms found ≡ plain_terms (index_read seen n v)
+value_end found left whole xs es rows seen n v e inv w j o s h =
+    sym (plain-list (terms found))
+    ∙ ap plain_terms (sym (append-nil (terms_list (terms found))) ∙ sym (ap (λ z. terms_list (terms found) ++ index_read (joined z) n v) e) ∙ inv ∙ ap (λ z. index_read (joined z) n v) w
+    ∙ ap (λ z. index_read z n v) (sym (joined_filled (merged xs es)) ∙ (seen_merged xs es seen s o (subst (λ (rs : Rows). IsSeen xs rs seen) (sym j) h)).0))
+
+-- a table of which nothing was touched is seen as it is
+pub seen_whole : (v : Overlay) (t : List ℕ) (es : Touched) (rows seen : Rows) → false ≡ is_some (lookup bytes_cmp t v) → joined es ≡ rows → IsInOrder es → IsSeen (touched v t) rows seen → rows ≡ seen
+seen_whole v t es rows seen n j o h =
+    same_lists rows seen (ap is_ordered (sym j) ∙ ordered-joined es o.ascends o.keyed) h.ordered (λ k. untouched k (lookup bytes_cmp t v) n ∙ h.cells k)
+  where
+    untouched : (k : PlainTerm) (x : Option Touched) → false ≡ is_some x → at rows k ≡ seen_at (touched_in x) rows k
+    untouched k None e = refl
+    untouched k (Some ks) e = absurd (false≢true e)
+
+pub index_found : (b : Bool) (found x : PlainTerms) → Some found ≡ (if b then Some x else None) → found ≡ x
+index_found true found x h = cc
+index_found false found x h = cc

@@ -1,8 +1,8 @@
 //! What a transaction left at the keys that it touched, level by level.
-ghost use Rattle.std.specs.Prelude.{◌≡◌, ◌<◌, ◌≤◌, [], ◌∷◌, ◌++◌, IfOk, OnOk, OnErr, Some, length, vec_len, vec_capacity};
-ghost use Rattle.tab_term.specs.Order.{term_cmp};
+ghost use Rattle.std.specs.Prelude.{◌≡◌, ◌<◌, ◌≤◌, [], ◌∷◌, ◌++◌, IfOk, OnOk, OnErr, Some, length, is_some, vec_len, vec_capacity};
+ghost use Rattle.tab_term.specs.Order.{bytes_cmp, term_cmp};
 ghost use Rattle.tab_term.specs.View.{term, terms};
-ghost use Rattle.tab_map.specs.Entries.{Ascends};
+ghost use Rattle.tab_map.specs.Entries.{Ascends, lookup};
 ghost use Rattle.tab_rows.specs.Joined.{IsInOrder, joined as joined_rows};
 ghost use Rattle.tab_model.specs.Names.{plain_terms};
 ghost use Rattle.tab_model.specs.declared.data.Move.TheVariants.{Do};
@@ -116,6 +116,13 @@ impl Levels {
         }
     }
 
+    /// Whether a key of the table was touched.
+    pub fn has_touched(&self, lent: &IndexedTable) -> bool
+        ensures { result ≡ is_some (lookup bytes_cmp lent.now.def.name self.now.now.overlay) }
+    {
+        self.overlay.contains_key(&lent.def().name)
+    }
+
     /// A lent table's walk with the touched keys among it, without memory.
     pub fn merged<'a>(&'a self, lent: &'a IndexedTable) -> Merged<'a>
         ensures { (es : Touched) × (joined_rows es ≡ lent.now.rows) × IsInOrder es × Ascends term_cmp (touched self.now.now.overlay lent.now.def.name) × (result ≡ merged_of (touched self.now.now.overlay lent.now.def.name) es) }
@@ -149,22 +156,12 @@ impl Levels {
     }
 
     /// Makes a change over a lent table.
-    fn change(
-        &mut self,
-        alloc: Global,
-        lent: &IndexedTable,
-        draft: Draft,
-    ) -> Result<(), AllocError>
+    fn change(&mut self, alloc: Global, lent: &IndexedTable, draft: Draft) -> Result<(), AllocError>
         ensures ok { OnOk result (self.new ≡ changed (Some lent.now) self.old (Some draft.change)) }
         ensures err { OnErr result (self.new ≡ self.old) }
     {
         let key = key_of(alloc, &draft.change)?;
-        let records = left(
-            alloc,
-            lent.def().kind,
-            self.seen(lent, &key),
-            &draft.change,
-        )?;
+        let records = left(alloc, lent.def().kind, self.seen(lent, &key), &draft.change)?;
         let name = lent.def().name.try_clone(alloc)?;
         let mut keys = keys_of(&self.overlay, &name)?;
         keys.insert(alloc, key, records)?;
@@ -253,7 +250,10 @@ fn push_change(changes: &mut Vec<Change>, next: Change)
 }
 
 // The touched keys of a table, shared.
-fn keys_of(overlay: &Map<Atom, Map<Term, Terms>>, table: &Atom) -> Result<Map<Term, Terms>, AllocError>
+fn keys_of(
+    overlay: &Map<Atom, Map<Term, Terms>>,
+    table: &Atom,
+) -> Result<Map<Term, Terms>, AllocError>
     ensures { IfOk result (λ keys. keys ≡ touched overlay.now table.now) }
 {
     match overlay.get(table) {

@@ -1,12 +1,12 @@
-ghost use Rattle.std.specs.Prelude.{◌≡◌, ◌≢◌, ◌<◌, ◌≤◌, ◌+◌, [], ◌∷◌, ◌++◌, IfOk, OnOk, OnErr, Some, None, true, length, vec_len, vec_capacity};
+ghost use Rattle.std.specs.Prelude.{◌≡◌, ◌≢◌, ◌<◌, ◌≤◌, ◌+◌, [], ◌∷◌, ◌++◌, IfOk, OnOk, OnErr, Some, None, true, length, is_some, vec_len, vec_capacity};
 ghost use Rattle.tab_term.specs.View.{term, terms};
 ghost use Rattle.tab_model.specs.Names.{plain_terms};
 ghost use Rattle.tab_model.specs.declared.data.Move.TheVariants.{Do, Open as OpenOf, Close as CloseOf, Undo as UndoOf};
 ghost use Rattle.tab_model.specs.declared.data.Reply.TheVariants as told_of;
 ghost use Rattle.tab_model.specs.Events.{is_failure as is_failure_of};
 ghost use Rattle.tab_model.specs.State.{count_moves};
-ghost use Rattle.tab_term.specs.Order.{term_cmp};
-ghost use Rattle.tab_map.specs.Entries.{Ascends};
+ghost use Rattle.tab_term.specs.Order.{bytes_cmp, term_cmp};
+ghost use Rattle.tab_map.specs.Entries.{Ascends, lookup};
 ghost use Rattle.tab_rows.specs.Joined.{IsInOrder, joined as joined_rows};
 ghost use Rattle.tab_txstore.specs.Merged.{merged as merged_of};
 ghost use Rattle.tab_txstore.specs.Overlays.{Touched, touched, seen_at};
@@ -122,12 +122,7 @@ impl TxStore {
         self.put_made(alloc, lent, Made { operation, reply })
     }
 
-    fn put_made(
-        &mut self,
-        alloc: Global,
-        lent: &IndexedTable,
-        made: Made,
-    ) -> Result<(), AllocError>
+    fn put_made(&mut self, alloc: Global, lent: &IndexedTable, made: Made) -> Result<(), AllocError>
         ensures ok { OnOk result (self.new ≡ store_next (Some lent.now) self.old (Do made.operation) (Some made.reply)) }
         ensures err { OnErr result (self.new ≡ self.old) }
     {
@@ -264,6 +259,13 @@ impl TxStore {
         self.levels.merged(lent)
     }
 
+    // Whether the transaction has touched a key of the table.
+    pub(crate) fn has_touched(&self, lent: &IndexedTable) -> bool
+        ensures { result ≡ is_some (lookup bytes_cmp lent.now.def.name self.now.levels.now.overlay) }
+    {
+        self.levels.has_touched(lent)
+    }
+
     /// Copies of what stands at a key of a lent table for the transaction.
     pub fn view_read(
         &self,
@@ -286,11 +288,7 @@ fn reserve(moves: &mut Vec<Move>, depth: usize, more: usize) -> Result<(), Alloc
     moves.reserve(places(depth, more)?)
 }
 
-fn reserve_told(
-    told: &mut Vec<Option<Reply>>,
-    depth: usize,
-    more: usize,
-) -> Result<(), AllocError>
+fn reserve_told(told: &mut Vec<Option<Reply>>, depth: usize, more: usize) -> Result<(), AllocError>
     ensures items { told.new.items ≡ told.old.items }
     ensures len { vec_len told.new ≡ vec_len told.old }
     ensures kept { vec_capacity told.old ≤ vec_capacity told.new }

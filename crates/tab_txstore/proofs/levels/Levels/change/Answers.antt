@@ -1,7 +1,5 @@
 use Rattle.std.proofs.Common.{ap, ap₂, sym, ◌∙◌, ◌++◌, ◌∷◌, []}
 use Rattle.tab_term.specs.View.{term, terms}
-use Rattle.tab_term.specs.Order.{bytes_cmp, term_cmp}
-use Rattle.tab_map.specs.Entries.{insert_entry}
 use Rattle.tab_model.specs.declared.data.TableDef.{TableDef}
 use Rattle.tab_model.specs.Names.{plain_terms, terms_list}
 use Rattle.tab_txstore.specs.Overlays.{touched, seen_at, left}

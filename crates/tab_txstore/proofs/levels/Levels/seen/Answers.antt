@@ -1,9 +1,8 @@
-use Rattle.std.proofs.Common.{ap, sym, ◌∙◌, subst}
+use Rattle.std.proofs.Common.{ap, sym, ◌∙◌}
 use Rattle.std.specs.Option.{option_copied}
 use Rattle.tab_model.specs.Names.{plain_terms}
-use Rattle.tab_model.specs.Worlds.{Table}
 use Rattle.tab_term.specs.Order.{bytes_cmp}
-use Rattle.tab_term.specs.View.{term, terms}
+use Rattle.tab_term.specs.View.{term}
 use Rattle.tab_map.specs.Entries.{lookup}
 use Rattle.tab_txstore.specs.Overlays.{touched, seen_at}
 use Rattle.tab_txstore.specs.Stores.{Levels}
