@@ -1,5 +1,5 @@
 //! What a transaction left at the keys that it touched, level by level.
-ghost use Rattle.std.specs.Prelude.{◌≡◌, ◌<◌, ◌≤◌, [], ◌∷◌, ◌++◌, IfOk, OnOk, OnErr, Some, length, is_some, vec_len, vec_capacity};
+ghost use Rattle.std.specs.Prelude.{◌≡◌, ◌<◌, ◌≤◌, [], ◌∷◌, ◌++◌, OnOk, OnErr, Some, length, is_some, vec_len, vec_capacity};
 ghost use Rattle.tab_term.specs.Order.{bytes_cmp, term_cmp};
 ghost use Rattle.tab_term.specs.View.{term, terms};
 ghost use Rattle.tab_map.specs.Entries.{Ascends, lookup};
@@ -10,9 +10,9 @@ ghost use Rattle.tab_txstore.specs.Merged.{merged as merged_of};
 ghost use Rattle.tab_txstore.specs.Overlays.{Touched, touched, seen_at, touch as touch_of};
 ghost use Rattle.tab_txstore.specs.Stores.{no_levels, nested, joined, ended, changed, levels_next};
 
-use crate::change::{change_of, is_failure, key_of};
-use crate::left::left;
+use crate::change::{change_of, is_failure};
 use crate::merged::Merged;
+use crate::touching::{seen, touch};
 use std::alloc::{AllocError, Global};
 use std::marker::Model;
 use tab_index::IndexedTable;
@@ -107,13 +107,7 @@ impl Levels {
     pub fn seen<'a>(&'a self, lent: &'a IndexedTable, key: &Term) -> &'a [Term]
         ensures { terms result.now ≡ plain_terms (seen_at (touched self.now.now.overlay lent.now.def.name) lent.now.rows (term key.now)) }
     {
-        match self.overlay.get(&lent.def().name) {
-            Some(keys) => match keys.get(key) {
-                Some(records) => records.as_slice(),
-                None => lent.at(key),
-            },
-            None => lent.at(key),
-        }
+        seen(&self.overlay, lent, key)
     }
 
     /// Whether a key of the table was touched.
@@ -160,13 +154,8 @@ impl Levels {
         ensures ok { OnOk result (self.new ≡ changed (Some lent.now) self.old (Some draft.change)) }
         ensures err { OnErr result (self.new ≡ self.old) }
     {
-        let key = key_of(alloc, &draft.change)?;
-        let records = left(alloc, lent.def().kind, self.seen(lent, &key), &draft.change)?;
-        let name = lent.def().name.try_clone(alloc)?;
-        let mut keys = keys_of(&self.overlay, &name)?;
-        keys.insert(alloc, key, records)?;
         self.updates.reserve(1)?;
-        self.overlay.insert(alloc, name, keys)?;
+        touch(&mut self.overlay, alloc, lent, &draft.change)?;
         push_change(&mut self.updates, draft.into_change());
         Ok(())
     }
@@ -247,17 +236,4 @@ fn push_change(changes: &mut Vec<Change>, next: Change)
     ensures { changes.new.items ≡ changes.old.items ++ next ∷ [] }
 {
     changes.push_reserved(next);
-}
-
-// The touched keys of a table, shared.
-fn keys_of(
-    overlay: &Map<Atom, Map<Term, Terms>>,
-    table: &Atom,
-) -> Result<Map<Term, Terms>, AllocError>
-    ensures { IfOk result (λ keys. keys ≡ touched overlay.now table.now) }
-{
-    match overlay.get(table) {
-        Some(keys) => keys.share(),
-        None => Ok(Map::new()),
-    }
 }

@@ -1,14 +1,21 @@
 //! Changes of an overlay, in place where no saved level shares it.
-ghost use Rattle.std.specs.Prelude.{◌≡◌, IfOk, IfSome, IsSome, OnOk, OnErr};
+ghost use Rattle.std.specs.Prelude.{◌≡◌, IfSome, IsSome, OnOk, OnErr};
 ghost use Rattle.tab_term.specs.Order.{bytes_cmp, term_cmp};
-ghost use Rattle.tab_term.specs.View.{term};
+ghost use Rattle.std.specs.Option.{option_copied};
+ghost use Rattle.tab_term.specs.View.{term, terms};
+ghost use Rattle.tab_model.specs.Names.{plain_terms};
 ghost use Rattle.tab_map.specs.Entries.{lookup, insert_entry};
 ghost use Rattle.tab_map.specs.Revised.{revised_at};
 ghost use Rattle.tab_rows.specs.Joined.{followed_by};
-ghost use Rattle.tab_txstore.specs.Overlays.{touched};
+ghost use Rattle.tab_txstore.specs.Overlays.{touched, seen_at, touch as touch_of};
+ghost use Rattle.tab_txstore.specs.Kept.{Appends};
 
+use crate::change::key_of;
+use crate::left::{contains, left};
 use std::alloc::{AllocError, Global};
+use tab_index::IndexedTable;
 use tab_map::{Map, Revise};
+use tab_model::{Change, Kind};
 use tab_rows::Append;
 use tab_term::{Atom, Term, Terms};
 
@@ -60,8 +67,72 @@ impl Revise<Map<Term, Terms>> for AppendAt {
     }
 }
 
-/// Puts the records at the key of the table.
-pub fn put(
+/// What stands at a key of a lent table, without memory.
+pub fn seen<'a>(
+    overlay: &'a Map<Atom, Map<Term, Terms>>,
+    lent: &'a IndexedTable,
+    key: &Term,
+) -> &'a [Term]
+    ensures { terms result.now ≡ plain_terms (seen_at (touched overlay.now lent.now.def.name) lent.now.rows (term key.now)) }
+{
+    match overlay.get(&lent.def().name) {
+        Some(keys) => match keys.get(key) {
+            Some(records) => records.as_slice(),
+            None => lent.at(key),
+        },
+        None => lent.at(key),
+    }
+}
+
+/// Makes a change over a lent table.
+pub fn touch(
+    overlay: &mut Map<Atom, Map<Term, Terms>>,
+    alloc: Global,
+    lent: &IndexedTable,
+    change: &Change,
+) -> Result<(), AllocError>
+    ensures ok { OnOk result (overlay.new ≡ touch_of lent.now overlay.old change.now) }
+    ensures err { OnErr result (overlay.new ≡ overlay.old) }
+{
+    let key = key_of(alloc, change)?;
+    let name = lent.def().name.try_clone(alloc)?;
+    if let Some(row) = appended(overlay, lent, &key, change) {
+        let row = row.try_clone(alloc)?;
+        append(overlay, alloc, name, key, row)?;
+        return Ok(());
+    }
+    let kind = lent.def().kind;
+    let records = left(alloc, kind, seen(overlay, lent, &key), change)?;
+    put(overlay, alloc, name, key, records)?;
+    Ok(())
+}
+
+// The record of a write that a bag puts after others, which were touched before.
+fn appended<'a>(
+    overlay: &Map<Atom, Map<Term, Terms>>,
+    lent: &IndexedTable,
+    key: &Term,
+    change: &'a Change,
+) -> Option<&'a Term>
+    ensures { IfSome (option_copied result) (Appends lent.now overlay.now key.now change.now) }
+{
+    let Change::Write(row) = change else {
+        return None;
+    };
+    match lent.def().kind {
+        Kind::Set => None,
+        Kind::Bag => {
+            let records = overlay.get(&lent.def().name)?.get(key)?;
+            if contains(records.as_slice(), row) {
+                return None;
+            }
+            Some(row)
+        }
+    }
+}
+
+// Puts the records at the key of the table.
+fn put(
     overlay: &mut Map<Atom, Map<Term, Terms>>,
     alloc: Global,
     table: Atom,
@@ -81,8 +152,8 @@ pub fn put(
     Ok(())
 }
 
-/// Puts the record after those that stand at the key of the table, which was touched before.
-pub fn append(
+// Puts the record after those that stand at the key of the table, which was touched before.
+fn append(
     overlay: &mut Map<Atom, Map<Term, Terms>>,
     alloc: Global,
     table: Atom,
