@@ -1,4 +1,5 @@
--- What a transaction left at the keys that it touched, over tables that are only lent.
+-- What a transaction left at the keys that it touched, over tables that are only lent (Mnesia User's Guide, "Transaction
+-- Properties": atomicity and isolation; how they are kept is this project's own rule).
 use Rattle.std.specs.Prelude.{ℕ, List, [], ◌∷◌, ◌++◌, if◌then◌else◌, Option, Some, None}
 use Rattle.std.specs.List.{list_any}
 use Rattle.tab_term.specs.Same.{same}
@@ -44,7 +45,7 @@ seen_at es rows k = or_lent (lookup term_cmp (held k) es) (at rows k)
 abbrev pub with_row : Rows → PlainTerm → Rows
 with_row rows r = if list_any (same r) rows then rows else rows ++ r ∷ []
 
--- a change, made on the records of its key
+-- a change, made on the records of its key (Mnesia Reference Manual, write/3, delete/3, delete_object/3)
 abbrev pub left : Kind → Rows → Change → Rows
 left Set rows (change.Write r) = term r ∷ []
 left Bag rows (change.Write r) = with_row rows (term r)

@@ -1,5 +1,5 @@
 //! What a transaction left at the keys that it touched, level by level.
-ghost use Rattle.std.specs.Prelude.{◌≡◌, ◌<◌, ◌≤◌, [], ◌∷◌, ◌++◌, OnOk, OnErr, Some, length, is_some, vec_len, vec_capacity};
+ghost use Rattle.std.specs.Prelude.{◌≡◌, ◌<◌, [], ◌∷◌, ◌++◌, OnOk, OnErr, Some, length, is_some, vec_len, vec_capacity};
 ghost use Rattle.tab_term.specs.Order.{bytes_cmp, term_cmp};
 ghost use Rattle.tab_term.specs.View.{term, terms};
 ghost use Rattle.tab_map.specs.Entries.{Ascends, lookup};
@@ -7,7 +7,7 @@ ghost use Rattle.tab_rows.specs.Joined.{IsInOrder, joined as joined_rows};
 ghost use Rattle.tab_model.specs.Names.{plain_terms};
 ghost use Rattle.tab_model.specs.declared.data.Move.TheVariants.{Do};
 ghost use Rattle.tab_txstore.specs.Merged.{merged as merged_of};
-ghost use Rattle.tab_txstore.specs.Overlays.{Touched, touched, seen_at, touch as touch_of};
+ghost use Rattle.tab_txstore.specs.Overlays.{Touched, touched, seen_at};
 ghost use Rattle.tab_txstore.specs.Stores.{no_levels, nested, joined, ended, changed, levels_next};
 
 use crate::change::{change_of, is_failure};

@@ -3,8 +3,7 @@
 //! There is one list of records that is in order and has at each key what the transaction sees there (`IsSeen`); each view
 //! answers from that list. The laws say that it is the table's, after the transaction's moves.
 
-ghost use Rattle.std.specs.Prelude.{◌≡◌, ◌++◌, IfOk, OnOk, List, option_map};
-ghost use Rattle.std.specs.Option.{option_copied};
+ghost use Rattle.std.specs.Prelude.{◌≡◌, ◌++◌, IfOk, OnOk, List};
 ghost use Rattle.tab_term.specs.Data.{PlainTerm};
 ghost use Rattle.tab_term.specs.View.{term, terms};
 ghost use Rattle.tab_model.specs.Names.{plain_terms, terms_list};
