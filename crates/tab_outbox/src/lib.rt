@@ -1,0 +1,12 @@
+//! Outboxes: where items are put for a subscriber, one after another, up to a capacity.
+
+#![tactic(auto)]
+
+mod post;
+mod refused;
+mod ring;
+
+pub use post::Post;
+pub use refused::Refused;
+pub use ring::RingPost;
+pub use tab_events::Item;

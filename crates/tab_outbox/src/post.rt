@@ -1,0 +1,38 @@
+//! Where items are put.
+
+ghost use Rattle.std.specs.Prelude.{◌≡◌, [], ◌∷◌, OnOk, IfErr, IfSome, MatchOption, is_err, length, nat_le};
+ghost use Rattle.tab_model.specs.State.{Outbox};
+ghost use Rattle.tab_model.specs.Outcome.{pushed, refused, takable};
+ghost use Rattle.tab_outbox.specs.Posts.{refused_item, GivesFirst};
+
+use crate::refused::Refused;
+use tab_events::Item;
+
+/// Where items are put for one subscriber.
+pub trait Post {
+    /// What the post shows: its items, how often it refused, and its capacity where that decides.
+    ghost outbox: { Self → Outbox };
+
+    /// The second is the first after some calls: the same mailbox, or a ring of the same capacity.
+    ghost stays: { Self → Self → Type 0 };
+
+    /// Puts an item behind the others, or hands it back.
+    fn put(&mut self, item: Item) -> Result<(), Refused>
+        ensures stays { stays self.old self.new }
+        ensures decided { IfSome (outbox self.old).capacity (λ c. is_err result ≡ nat_le c (length (outbox self.old).items)) }
+        ensures ok { OnOk result (outbox self.new ≡ pushed (outbox self.old) (item ∷ [])) }
+        ensures err { IfErr result (λ r. (refused_item r ≡ item) × (outbox self.new ≡ refused (outbox self.old))) };
+
+    /// Takes the first item. Of a post without a capacity of its own the items are taken at its other end.
+    fn pull(&mut self) -> Option<Item>
+        ensures stays { stays self.old self.new }
+        ensures item { MatchOption result ((takable (outbox self.old) (outbox self.old).capacity ≡ []) × (outbox self.new ≡ outbox self.old)) (GivesFirst (outbox self.old) (outbox self.new)) };
+
+    /// How many puts were refused, up to the greatest 64 bit number.
+    fn refusals(&self) -> u64
+        ensures { result ≡ (outbox self.now).refusals };
+
+    ghost stays_self: { (x : Self) → stays x x };
+
+    ghost stays_on: { (x y z : Self) → stays x y → stays y z → stays x z };
+}

@@ -1,0 +1,4 @@
+mod Places
+mod Watching
+mod Delivering
+mod Batches

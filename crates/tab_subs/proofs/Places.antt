@@ -1,0 +1,109 @@
+-- Where a session stands.
+use Rattle.std.proofs.Common.{◌≡◌, ℕ, zero, suc, ◌<◌, ◌≤◌, List, [], ◌∷◌, ◌++◌, Bool, true, false, not, refl, sym, ap, ◌∙◌, Some, None, take, length, get_or, set, arith, eqb-true, subst}
+use Rattle.std.proofs.lemmas.Bool.{or_parts}
+use Rattle.std.proofs.Math.Seq.{map-set_same}
+use Rattle.std.specs.Prelude.{◌==◌, if◌then◌else◌, Option, IfSome, nat_le}
+use Rattle.tab_model.specs.declared.data.Item.{Item}
+use Rattle.tab_model.specs.State.{Watch}
+use Rattle.tab_subs.specs.declared.answers.Marked.{Marked}
+use Rattle.tab_subs.specs.declared.answers.Marked.TheVariants as mark
+use Rattle.std.specs.List.{list_any, filter}
+use Rattle.tab_subs.specs.Subscribers.{Subscriber, at, change, without, give, marked, is_full, Marks, numbers, Ascends, AllAbove, AllBelow, StandsAt}
+use Rattle.tab_model.specs.Outcome.{takable}
+use Rattle.tab_subs.specs.Subscribers as subs
+
+seat_there : (n : ℕ) (ss : List Subscriber) (i : ℕ) (s d : Subscriber) → i < length ss → list_any (λ x. x.number == n) (take i ss) ≡ false → s ≡ get_or ss i s → (s.number == n) ≡ true → at ss n ≡ Some (get_or ss i d)
+seat_there n [] i s d lt none is here = absurd (omega arith)
+seat_there n (x ∷ ss) zero s d lt none is here = λ j. if (ap (λ (v : Subscriber). v.number == n) (sym is) ∙ here) j then Some x else at ss n
+seat_there n (x ∷ ss) (suc i) s d lt none is here =
+    let p = or_parts (x.number == n) (list_any (λ v. v.number == n) (take i ss)) none in
+    (λ j. if p.0 j then Some x else at ss n) ∙ seat_there n ss i s d (omega arith) p.1 is here
+
+number_there : (n : ℕ) (ss : List Subscriber) (i : ℕ) (s d : Subscriber) → i < length ss → s ≡ get_or ss i s → (s.number == n) ≡ true → (get_or ss i d).number ≡ n
+number_there n [] i s d lt is here = absurd (omega arith)
+number_there n (x ∷ ss) zero s d lt is here = ap (λ (v : Subscriber). v.number) (sym is) ∙ eqb-true s.number n here
+number_there n (x ∷ ss) (suc i) s d lt is here = number_there n ss i s d (omega arith) is here
+
+changed_there : (n : ℕ) (ss : List Subscriber) (i : ℕ) (s y : Subscriber) → i < length ss → list_any (λ x. x.number == n) (take i ss) ≡ false → s ≡ get_or ss i s → (s.number == n) ≡ true → y.number ≡ n → change ss y ≡ set ss i y
+changed_there n [] i s y lt none is here e = absurd (omega arith)
+changed_there n (x ∷ ss) zero s y lt none is here e =
+    (λ j. if (ap (λ m. x.number == m) e ∙ ap (λ (v : Subscriber). v.number == n) (sym is) ∙ here) j then y ∷ ss else x ∷ change ss y)
+changed_there n (x ∷ ss) (suc i) s y lt none is here e =
+    let p = or_parts (x.number == n) (list_any (λ v. v.number == n) (take i ss)) none in
+    (λ j. if (ap (λ m. x.number == m) e ∙ p.0) j then y ∷ ss else x ∷ change ss y) ∙ ap (λ zs. x ∷ zs) (changed_there n ss i s y (omega arith) p.1 is here e)
+
+pub stands : (n : ℕ) (ss : List Subscriber) (i : ℕ) (s : Subscriber) → i < length ss → list_any (λ x. x.number == n) (take i ss) ≡ false → s ≡ get_or ss i s → (s.number == n) ≡ true → StandsAt ss n i
+stands n ss i s lt none is here = record {
+  within = lt;
+  seat = λ d. seat_there n ss i s d lt none is here;
+  number = λ d. number_there n ss i s d lt is here;
+  changed = λ y e. changed_there n ss i s y lt none is here e;
+}
+
+pub nowhere : (n : ℕ) (ss : List Subscriber) (i : ℕ) → length ss ≤ i → list_any (λ x. x.number == n) (take i ss) ≡ false → at ss n ≡ None
+nowhere n [] i le none = refl
+nowhere n (x ∷ ss) zero le none = absurd (omega arith)
+nowhere n (x ∷ ss) (suc i) le none =
+    let p = or_parts (x.number == n) (list_any (λ v. v.number == n) (take i ss)) none in
+    (λ j. if p.0 j then Some x else at ss n) ∙ nowhere n ss i (omega arith) p.1
+
+pub without_filtered : (n : ℕ) (ss : List Subscriber) → filter (λ s. not (s.number == n)) ss ≡ without ss n
+without_filtered n [] = refl
+without_filtered n (x ∷ ss) = by (x.number == n) (without_filtered n ss)
+  where
+    by : (b : Bool) → filter (λ s. not (s.number == n)) ss ≡ without ss n
+        → (if not b then x ∷ filter (λ s. not (s.number == n)) ss else filter (λ s. not (s.number == n)) ss) ≡ (if b then without ss n else x ∷ without ss n)
+    by true ih = ih
+    by false ih = ap (λ zs. x ∷ zs) ih
+
+-- ---- ascending numbers
+
+all_above_more : (n m : ℕ) (ss : List Subscriber) (s : Subscriber) → AllAbove n (numbers ss) → n < s.number → AllAbove n (numbers (ss ++ s ∷ []))
+all_above_more n m [] s h lt = (lt, tt)
+all_above_more n m (x ∷ ss) s h lt = (h.0, all_above_more n m ss s h.1 lt)
+
+pub ascends_more : (ss : List Subscriber) (s : Subscriber) → Ascends (numbers ss) → AllBelow s.number (numbers ss) → Ascends (numbers (ss ++ s ∷ []))
+ascends_more [] s h below = (tt, tt)
+ascends_more (x ∷ ss) s h below = (all_above_more x.number 0 ss s h.0 below.0, ascends_more ss s h.1 below.1)
+
+above_if : (b : Bool) (n : ℕ) (x : Subscriber) (rest : List Subscriber) → n < x.number → AllAbove n (numbers rest) → AllAbove n (numbers (if b then rest else x ∷ rest))
+above_if true n x rest lt h = h
+above_if false n x rest lt h = (lt, h)
+
+above_without : (n m : ℕ) (ss : List Subscriber) → AllAbove n (numbers ss) → AllAbove n (numbers (without ss m))
+above_without n m [] h = tt
+above_without n m (x ∷ ss) h = above_if (x.number == m) n x (without ss m) h.0 (above_without n m ss h.1)
+
+ascends_if : (b : Bool) (x : Subscriber) (rest : List Subscriber) → AllAbove x.number (numbers rest) → Ascends (numbers rest) → Ascends (numbers (if b then rest else x ∷ rest))
+ascends_if true x rest above h = h
+ascends_if false x rest above h = (above, h)
+
+pub ascends_without : (m : ℕ) (ss : List Subscriber) → Ascends (numbers ss) → Ascends (numbers (without ss m))
+ascends_without m [] h = tt
+ascends_without m (x ∷ ss) h = ascends_if (x.number == m) x (without ss m) (above_without x.number m ss h.0) (ascends_without m ss h.1)
+
+pub ascends_set : (ss : List Subscriber) (i : ℕ) (s y : Subscriber) → s ≡ get_or ss i s → y.number ≡ s.number → Ascends (numbers ss) → Ascends (numbers (set ss i y))
+ascends_set ss i s y is same h =
+    subst Ascends (sym (map-set_same (λ (v : Subscriber). v.number) ss i y s (same ∙ ap (λ (v : Subscriber). v.number) is))) h
+
+pub number-marked : (m : Marked) (ws : List Watch) (x : Item) (s : Subscriber) → (marked m ws x s).number ≡ s.number
+number-marked mark.Told ws x s = refl
+number-marked mark.Full ws x s = refl
+
+-- a mark at a session's place
+pub marks_there : (ss : List Subscriber) (n i : ℕ) (s y : Subscriber) (ws : Subscriber → List Watch) (x : Item) (m : Marked) → StandsAt ss n i → s ≡ get_or ss i s → y ≡ marked m (ws s) x s
+    → IfSome s.outbox.capacity (λ c. is_full m ≡ nat_le c (length s.outbox.items)) → Marks ss (at ss n) ws x (Some m) (set ss i y)
+marks_there ss n i s y ws x m there is new decided =
+    subst (λ o. Marks ss o ws x (Some m) (set ss i y)) (sym (there.seat s ∙ ap Some (sym is)))
+    (sym (there.changed y number) ∙ ap (change ss) new, decided)
+  where
+    number : y.number ≡ n
+    number = ap (λ (v : Subscriber). v.number) new ∙ number-marked m (ws s) x s ∙ ap (λ (v : Subscriber). v.number) is ∙ there.number s
+
+pub number-give : (s : Subscriber) → (subs.take s).0.number ≡ s.number
+number-give s = by (takable s.outbox s.outbox.capacity) s.overflow
+  where
+    by : (xs : List _) (l : Option ℕ) → (give s xs l).0.number ≡ s.number
+    by [] None = refl
+    by [] (Some n) = refl
+    by (x ∷ xs) l = refl

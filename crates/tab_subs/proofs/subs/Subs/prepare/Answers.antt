@@ -1,0 +1,16 @@
+use Rattle.std.proofs.Common.{◌≡◌, List, None, map, refl, ap, ◌∙◌, subst}
+use Rattle.std.specs.Prelude.{IfOk, option_to_list}
+use Rattle.tab_model.specs.declared.data.Item.{Item}
+use Rattle.tab_model.specs.Slices.{batch_for}
+use Rattle.tab_model.specs.State.{level_in}
+use Rattle.tab_subs.specs.Subscribers.{Subscriber}
+use Rattle.tab_subs.specs.Deliveries.{Owed}
+use Rattle.tab_subs.proofs.Batches.{all_made}
+use Rattle.tab_subs.proofs.subs.Subs.prepare.Goals as goal
+
+pub returns : goal.returns
+returns g c =
+    let items = λ (ss : List Subscriber). map (λ (s : Subscriber). batch_for (level_in s.watching) c.args.commit c.args.events.now) ss in
+    let due = all_made items (map option_to_list c.loop-seat.due.items) c.deref-seat-items.result.now c.loop-seat.seat-index refl c.loop-seat-test.false c.loop-seat.invariant.due in
+    subst (λ (z : List (List Item)). IfOk c.with_room.result (λ (p : Owed). p ≡ record { number = c.args.commit; items = z; ended = None }))
+    (due ∙ ap items (c.deref-seat-items.ensures.value ∙ c.self.view_is)) c.with_room.ensures

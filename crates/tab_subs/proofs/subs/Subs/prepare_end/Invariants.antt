@@ -1,0 +1,9 @@
+use Rattle.std.proofs.Common.{◌≡◌, ◌++◌, drop, map}
+use Rattle.std.specs.Prelude.{option_to_list, Some}
+use Rattle.tab_model.specs.Slices.{end_for}
+use Rattle.tab_model.specs.State.{level_in}
+use Rattle.tab_subs.specs.Subscribers.{Subscriber}
+use Rattle.tab_subs.proofs.subs.Subs.prepare_end.Given as goal
+
+abbrev pub invariant-loop-seat : goal.invariant-loop-seat
+invariant-loop-seat g l = map option_to_list l.due.items ++ map (λ (s : Subscriber). end_for (level_in s.watching) (Some l.table)) (drop l.seat-index l.seat-items) ≡ map (λ (s : Subscriber). end_for (level_in s.watching) (Some l.table)) l.seat-items

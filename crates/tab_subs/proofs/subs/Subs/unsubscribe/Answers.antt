@@ -1,0 +1,13 @@
+use Rattle.std.proofs.Common.{ap, ◌∙◌}
+use Rattle.tab_model.specs.declared.data.Item.TheVariants.{Ended}
+use Rattle.tab_model.specs.declared.data.Ending.TheVariants as ending
+use Rattle.tab_model.specs.State.{without_watch}
+use Rattle.tab_subs.specs.Subscribers.{Subscriber}
+use Rattle.tab_subs.proofs.Places.{ascends_set, number-marked}
+use Rattle.tab_subs.proofs.subs.Subs.unsubscribe.Goals as goal
+
+pub invariant_of-self-2 : goal.invariant_of-self-2
+invariant_of-self-2 g c =
+    let s = c.index_mut.result.now in
+    let number = ap (λ (x : Subscriber). x.number) c.in_ok-marked.ensures.ok ∙ number-marked c.in_ok-marked.marked (without_watch s.watching c.args.table.now) (Ended c.args.table.now ending.Unsubscribed) s in
+    ascends_set c.self.inside.seats.items c.in-Some.place s c.unsubscribe.new.self c.index_mut.ensures.value number c.self.invariant

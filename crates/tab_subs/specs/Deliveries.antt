@@ -1,0 +1,60 @@
+-- What is owed for a commit or for a table's deletion, and its delivery (this project's own).
+use Rattle.std.specs.Prelude.{◌≡◌, ℕ, List, [], ◌∷◌, Bool, true, false, Option, Some, None, length, nat_le, IfSome}
+use Rattle.tab_model.specs.declared.data.Item.{Item}
+use Rattle.tab_model.specs.Log.{has_session}
+use Rattle.tab_model.specs.State.{Outbox, without_watch}
+use Rattle.tab_model.specs.Outcome.{pushed}
+use Rattle.tab_subs.specs.Subscribers.{Subscriber, overflowed, given}
+
+-- the number of an overflow, the items of each subscriber in their order, and the table that is gone
+pub record Owed : Type 0 where
+  pub number : ℕ
+  pub items : List (List Item)
+  pub ended : Option (List ℕ)
+
+-- there are none past the last
+abbrev pub first_of : List (List Item) → List Item
+first_of [] = []
+first_of (x ∷ xs) = x
+
+abbrev pub rest_of : List (List Item) → List (List Item)
+rest_of [] = []
+rest_of (x ∷ xs) = xs
+
+abbrev pub unwatched : Option (List ℕ) → Subscriber → Subscriber
+unwatched None s = s
+unwatched (Some t) s = record { number = s.number; watching = without_watch s.watching t; outbox = s.outbox; overflow = s.overflow }
+
+-- who refused is in the first list
+abbrev pub given_all : ℕ → List ℕ → Option (List ℕ) → List (List Item) → List Subscriber → List Subscriber
+given_all n over t items [] = []
+given_all n over t items (s ∷ ss) = given n over (first_of items) (unwatched t s) ∷ given_all n over t (rest_of items) ss
+
+-- an item is refused where the post's capacity says so, if it has one; and nothing is refused where nothing is owed
+abbrev pub IsDecided : Bool → List Item → Outbox → Type 0
+IsDecided b [] o = b ≡ false
+IsDecided b (x ∷ xs) o = IfSome o.capacity (λ c. b ≡ nat_le c (length o.items))
+
+abbrev pub AreDecided : List ℕ → List (List Item) → List Subscriber → Type 0
+AreDecided over items [] = Unit {0}
+AreDecided over items (s ∷ ss) = IsDecided (has_session over s.number) (first_of items) s.outbox × AreDecided over (rest_of items) ss
+
+abbrev pub joined_if : Bool → ℕ → List ℕ → List ℕ
+joined_if true n ns = n ∷ ns
+joined_if false n ns = ns
+
+-- the subscribers that are in the list, in their order
+abbrev pub those_in : List ℕ → List Subscriber → List ℕ
+those_in over [] = []
+those_in over (s ∷ ss) = joined_if (has_session over s.number) s.number (those_in over ss)
+
+-- what a delivery leaves, and who overflowed in it
+pub record Delivers (owed : Owed) (old new : List Subscriber) (over : List ℕ) : Type 0 where
+  pub over_are : over ≡ those_in over old
+  pub given : new ≡ given_all owed.number over owed.ended owed.items old
+  pub decided : AreDecided over owed.items old
+
+-- one subscriber after its item, which its post refused or not
+abbrev pub received : ℕ → Bool → List Item → Subscriber → Subscriber
+received n true items s = overflowed n s
+received n false items s = record { number = s.number; watching = s.watching; outbox = pushed s.outbox items; overflow = s.overflow }

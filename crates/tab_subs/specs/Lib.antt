@@ -1,0 +1,2 @@
+pub mod Subscribers
+pub mod Deliveries

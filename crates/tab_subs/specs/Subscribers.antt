@@ -1,0 +1,116 @@
+-- The joined sessions: what each watches, and what its post shows (this project's own). The words are those of a core's
+-- seats.
+use Rattle.std.specs.Prelude.{ℕ, ◌≡◌, ◌<◌, map, length, nat_le, IfSome, slice_index_or, slice_set, List, [], ◌∷◌, Bool, true, false, ◌==◌, if◌then◌else◌, Option, Some, None}
+use Rattle.tab_model.specs.declared.data.Item.{Item}
+use Rattle.tab_model.specs.declared.data.Level.{Level}
+use Rattle.tab_model.specs.declared.data.Level.TheVariants.{Simple, Detailed}
+use Rattle.tab_model.specs.Log.{has_session}
+use Rattle.tab_model.specs.State.{Outbox, Watch, level_in}
+use Rattle.tab_model.specs.Outcome.{pushed, refused, takable}
+use Rattle.tab_subs.specs.declared.answers.Taken.{Taken}
+use Rattle.tab_subs.specs.declared.answers.Taken.TheVariants as taken
+use Rattle.tab_subs.specs.declared.answers.Marked.{Marked}
+use Rattle.tab_subs.specs.declared.answers.Marked.TheVariants as mark
+
+pub record Subscriber : Type 0 where
+  pub number : ℕ
+  pub watching : List Watch
+  pub outbox : Outbox
+  pub overflow : Option ℕ
+
+abbrev pub fresh : ℕ → Outbox → Subscriber
+fresh n b = record { number = n; watching = []; outbox = b; overflow = None }
+
+abbrev pub at : List Subscriber → ℕ → Option Subscriber
+at [] n = None
+at (s ∷ ss) n = if s.number == n then Some s else at ss n
+
+abbrev pub change : List Subscriber → Subscriber → List Subscriber
+change [] s = []
+change (x ∷ xs) s = if x.number == s.number then s ∷ xs else x ∷ change xs s
+
+abbrev pub without : List Subscriber → ℕ → List Subscriber
+without [] n = []
+without (x ∷ xs) n = if x.number == n then without xs n else x ∷ without xs n
+
+-- an item that the post refuses ends its subscriptions
+abbrev pub overflowed : ℕ → Subscriber → Subscriber
+overflowed n s = record { number = s.number; watching = []; outbox = refused s.outbox; overflow = Some n }
+
+abbrev pub given : ℕ → List ℕ → List Item → Subscriber → Subscriber
+given n over items s =
+    if has_session over s.number then overflowed n s
+    else record { number = s.number; watching = s.watching; outbox = pushed s.outbox items; overflow = s.overflow }
+
+-- a mark into the post, with what it then watches; or a refusal that the post counts
+abbrev pub marked : Marked → List Watch → Item → Subscriber → Subscriber
+marked mark.Full ws x s = record { number = s.number; watching = s.watching; outbox = refused s.outbox; overflow = s.overflow }
+marked mark.Told ws x s = record { number = s.number; watching = ws; outbox = pushed s.outbox (x ∷ []); overflow = s.overflow }
+
+abbrev pub is_full : Marked → Bool
+is_full mark.Full = true
+is_full mark.Told = false
+
+-- a mark, where the session is joined; a post's capacity decides where it has one
+abbrev pub Marks : List Subscriber → Option Subscriber → (Subscriber → List Watch) → Item → Option Marked → List Subscriber → Type 0
+Marks ss None ws x m new = (m ≡ None) × (new ≡ ss)
+Marks ss (Some s) ws x None new = ⊥
+Marks ss (Some s) ws x (Some m) new =
+    (new ≡ change ss (marked m (ws s) x s)) × IfSome s.outbox.capacity (λ c. is_full m ≡ nat_le c (length s.outbox.items))
+
+-- a Take: the next item, else an overflow, which is told once, else empty
+abbrev pub give : Subscriber → List Item → Option ℕ → Subscriber × Taken
+give s (x ∷ xs) l =
+    (record { number = s.number; watching = s.watching; outbox = record { items = xs; refusals = s.outbox.refusals; capacity = s.outbox.capacity }; overflow = s.overflow }, taken.Item x)
+give s [] None = (s, taken.Empty)
+give s [] (Some n) = (record { number = s.number; watching = s.watching; outbox = s.outbox; overflow = None }, taken.Overflow n)
+
+abbrev pub take : Subscriber → Subscriber × Taken
+take s = give s (takable s.outbox s.outbox.capacity) s.overflow
+
+abbrev pub taken_from : List Subscriber → Option Subscriber → List Subscriber × Option Taken
+taken_from ss None = (ss, None)
+taken_from ss (Some s) = (change ss (take s).0, Some (take s).1)
+
+abbrev pub level_of : Option Subscriber → List ℕ → Option Level
+level_of None t = None
+level_of (Some s) t = level_in s.watching t
+
+abbrev pub overflow_of : Option Subscriber → Option ℕ
+overflow_of None = None
+overflow_of (Some s) = s.overflow
+
+-- the highest level at which anyone watches
+abbrev pub higher : Option Level → Option Level → Option Level
+higher (Some Detailed) l = Some Detailed
+higher (Some Simple) (Some Detailed) = Some Detailed
+higher (Some Simple) l = Some Simple
+higher None l = l
+
+abbrev pub watched : List Subscriber → List ℕ → Option Level
+watched [] t = None
+watched (s ∷ ss) t = higher (level_in s.watching t) (watched ss t)
+
+-- ---- places
+
+abbrev pub numbers : List Subscriber → List ℕ
+numbers ss = map (λ (s : Subscriber). s.number) ss
+
+abbrev pub AllAbove : ℕ → List ℕ → Type 0
+AllAbove n [] = Unit {0}
+AllAbove n (m ∷ ms) = (n < m) × AllAbove n ms
+
+abbrev pub Ascends : List ℕ → Type 0
+Ascends [] = Unit {0}
+Ascends (n ∷ ns) = AllAbove n ns × Ascends ns
+
+abbrev pub AllBelow : ℕ → List ℕ → Type 0
+AllBelow n [] = Unit {0}
+AllBelow n (m ∷ ms) = (m < n) × AllBelow n ms
+
+-- the session stands at this place
+pub record StandsAt (ss : List Subscriber) (n i : ℕ) : Type 0 where
+  pub within : i < length ss
+  pub seat : (d : Subscriber) → at ss n ≡ Some (slice_index_or ss i d)
+  pub number : (d : Subscriber) → (slice_index_or ss i d).number ≡ n
+  pub changed : (s : Subscriber) → s.number ≡ n → change ss s ≡ slice_set ss i s

@@ -1,0 +1,17 @@
+//! What a session is answered.
+use tab_events::Item;
+
+/// What a Take gives: the next item, else the number of an overflow, which is told once, else nothing.
+#[derive(Drop)]
+pub enum Taken {
+    Item(Item),
+    Overflow(u64),
+    Empty,
+}
+
+/// Whether a mark was put into the post, or refused by it.
+#[derive(Clone, Copy, Debug, PartialEq, Eq)]
+pub enum Marked {
+    Told,
+    Full,
+}

@@ -1,0 +1,16 @@
+//! The sessions' subscriptions, each with the post that its items are put into.
+//!
+//! What is owed for a commit is prepared first, with all memory that it takes, and then delivered, which can't fail.
+
+#![tactic(auto)]
+
+mod answers;
+mod prepared;
+mod seat;
+mod shaped;
+mod subs;
+mod watched;
+
+pub use answers::{Marked, Taken};
+pub use prepared::Prepared;
+pub use subs::Subs;

@@ -1,0 +1,175 @@
+//! A session with what it watches and the post that it takes from.
+
+ghost use Rattle.std.specs.Prelude.{◌≡◌, ◌∷◌, Some, None, IfOk, IfSome, OnOk, OnErr, length, nat_le};
+ghost use Rattle.tab_model.specs.Slices.{batch_for, end_for};
+ghost use Rattle.tab_model.specs.State.{level_in, without_watch};
+ghost use Rattle.tab_model.specs.declared.data.Item.TheVariants as Item;
+ghost use Rattle.tab_model.specs.declared.data.Ending.TheVariants as Ending;
+ghost use Rattle.std.specs.Prelude.{option_to_list};
+ghost use Rattle.std.specs.Option.{option_copied};
+ghost use Rattle.tab_subs.specs.Deliveries.{received, unwatched, IsDecided};
+ghost use Rattle.tab_subs.specs.Subscribers.{fresh, take as take_of, marked, is_full};
+
+use crate::answers::{Marked, Taken};
+use crate::shaped::Shaped;
+use crate::watched::{Watched, forget, level_of};
+use std::alloc::{AllocError, Global};
+use std::marker::Model;
+use tab_events::{Item, Level};
+use tab_model::Ending;
+use tab_outbox::Post;
+use tab_term::{Atom, Terms};
+
+/// A session's seat.
+#[derive(Drop)]
+pub struct Seat<P: Post> {
+    number: u64,
+    watching: Vec<Watched>,
+    // The number of an overflow that the session was not told yet.
+    overflow: Option<u64>,
+    post: P,
+}
+
+impl<P: Post> Model for Seat<P> {
+    ghost use Rattle.std.specs.Coded.{codes};
+    ghost use Rattle.tab_term.specs.Code.{terms_code, pairs_code};
+    ghost use Rattle.tab_subs.specs.Subscribers.{Subscriber};
+
+    ghost Value = { Subscriber };
+
+    ghost coded = { Prim.hlevel (codes, terms_code, pairs_code) };
+
+    ghost view = { λ a. record { number = a.number; watching = a.watching.items; outbox = P.outbox a.post; overflow = a.overflow } };
+}
+
+impl<P: Post + Drop> Seat<P> {
+    /// Of a session that has just joined.
+    pub fn new(alloc: Global, number: u64, post: P) -> Seat<P>
+        ensures { result ≡ fresh number (P.outbox post) }
+    {
+        Seat {
+            number,
+            watching: Vec::new(alloc),
+            overflow: None,
+            post,
+        }
+    }
+
+    pub fn number(&self) -> u64
+        ensures { result ≡ self.now.number }
+    {
+        self.number
+    }
+
+    pub fn overflow(&self) -> Option<u64>
+        ensures { result ≡ self.now.overflow }
+    {
+        self.overflow
+    }
+
+    pub fn level(&self, table: &Atom) -> Option<Level>
+        ensures { result ≡ level_in self.now.watching table.now }
+    {
+        level_of(&self.watching, table)
+    }
+
+    pub fn take(&mut self) -> Taken
+        ensures { (self.new, result) ≡ take_of self.old }
+    {
+        if let Some(item) = self.post.pull() {
+            return Taken::Item(item);
+        }
+        match self.overflow.take() {
+            Some(number) => Taken::Overflow(number),
+            None => Taken::Empty,
+        }
+    }
+
+    /// Watches the table, with its begin mark put.
+    pub fn subscribe(
+        &mut self,
+        alloc: Global,
+        table: Atom,
+        level: Level,
+        dump: Option<Terms>,
+    ) -> Result<Marked, AllocError>
+        ensures ok { IfOk result (λ m. self.new ≡ marked m (record { table = table; level = level } ∷ self.old.watching) (Item.Began table level dump) self.old) }
+        ensures decided { IfOk result (λ m. IfSome self.old.outbox.capacity (λ c. is_full m ≡ nat_le c (length self.old.outbox.items))) }
+        ensures err { OnErr result (self.new ≡ self.old) }
+    {
+        let named = table.try_clone(alloc)?;
+        self.watching.insert(0, Watched { table, level })?;
+        if self.post.put(Item::Began(named, level, dump)).is_err() {
+            self.watching.remove(0);
+            return Ok(Marked::Full);
+        }
+        Ok(Marked::Told)
+    }
+
+    /// Watches the table no more, with its end mark put.
+    pub fn unsubscribe(&mut self, alloc: Global, table: &Atom) -> Result<Marked, AllocError>
+        ensures ok { IfOk result (λ m. self.new ≡ marked m (without_watch self.old.watching table.now) (Item.Ended table.now Ending.Unsubscribed) self.old) }
+        ensures decided { IfOk result (λ m. IfSome self.old.outbox.capacity (λ c. is_full m ≡ nat_le c (length self.old.outbox.items))) }
+        ensures err { OnErr result (self.new ≡ self.old) }
+    {
+        let mark = Item::Ended(table.try_clone(alloc)?, Ending::Unsubscribed);
+        if self.post.put(mark).is_err() {
+            return Ok(Marked::Full);
+        }
+        forget(&mut self.watching, table);
+        Ok(Marked::Told)
+    }
+
+    /// Puts an item that is owed, unless the post refuses it, which ends all subscriptions. Where a table is gone, it is
+    /// watched no more. Answers whether the item was refused.
+    pub fn receive(&mut self, number: u64, item: Option<Item>, ended: Option<&Atom>) -> bool
+        ensures received { self.new ≡ received number result (option_to_list item) (unwatched (option_copied ended.entry) self.old) }
+        ensures decided { IsDecided result (option_to_list item) self.old.outbox }
+    {
+        if let Some(table) = ended {
+            forget(&mut self.watching, table);
+        }
+        let Some(item) = item else {
+            return false;
+        };
+        if self.post.put(item).is_ok() {
+            return false;
+        }
+        self.watching.clear();
+        self.overflow = Some(number);
+        true
+    }
+
+    /// The events of a commit that the session is owed, at its levels.
+    pub fn batch(
+        &self,
+        alloc: Global,
+        commit: u64,
+        events: &mut Vec<Shaped<'_>>,
+    ) -> Result<Option<Item>, AllocError>
+        ensures item { IfOk result (λ item. option_to_list item ≡ batch_for (level_in self.now.watching) commit events.old.items) }
+        ensures events { OnOk result (events.new.items ≡ events.old.items) }
+    {
+        let mut told = Vec::new(alloc);
+        for event in events.iter_mut() {
+            let Some(level) = self.level(event.table()) else {
+                continue;
+            };
+            told.push(event.term(alloc, level)?)?;
+        }
+        if told.is_empty() {
+            return Ok(None);
+        }
+        Ok(Some(Item::Batch(commit, Terms::from_vec(told))))
+    }
+
+    /// The mark of a table's deletion, where the session watches it.
+    pub fn end_mark(&self, alloc: Global, table: &Atom) -> Result<Option<Item>, AllocError>
+        ensures { IfOk result (λ item. option_to_list item ≡ end_for (level_in self.now.watching) (Some table.now)) }
+    {
+        if self.level(table).is_none() {
+            return Ok(None);
+        }
+        Ok(Some(Item::Ended(table.try_clone(alloc)?, Ending::Deleted)))
+    }
+}

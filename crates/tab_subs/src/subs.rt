@@ -1,0 +1,236 @@
+//! All sessions' subscriptions.
+
+ghost use Rattle.std.specs.Prelude.{◌≡◌, ◌<◌, ◌∷◌, ◌++◌, [], Some, None, IfOk, OnOk, OnErr, MatchOption, map};
+ghost use Rattle.tab_model.specs.Slices.{batch_for, end_for};
+ghost use Rattle.tab_model.specs.State.{level_in, without_watch};
+ghost use Rattle.tab_model.specs.declared.data.Item.TheVariants as Item;
+ghost use Rattle.tab_model.specs.declared.data.Ending.TheVariants as Ending;
+ghost use Rattle.tab_subs.specs.Deliveries.{Delivers};
+ghost use Rattle.tab_subs.specs.Subscribers.{Subscriber, fresh, at, without, taken_from, level_of, overflow_of, watched, higher as higher_of, StandsAt, Marks, AllBelow, numbers};
+
+use crate::answers::{Marked, Taken};
+use crate::prepared::{Prepared, next_due, with_room};
+use crate::seat::Seat;
+use crate::shaped::Shaped;
+use std::alloc::{AllocError, Global};
+use std::collections::VecDeque;
+use std::marker::Model;
+use tab_events::{Event, Level};
+use tab_model::Numbers;
+use tab_outbox::Post;
+use tab_term::{Atom, Terms};
+
+/// The joined sessions, in the order of their numbers.
+#[derive(Drop)]
+pub struct Subs<P: Post> {
+    seats: Vec<Seat<P>>,
+}
+
+impl<P: Post> Model for Subs<P> {
+    ghost use Rattle.std.specs.Prelude.{List};
+    ghost use Rattle.std.specs.Coded.{codes};
+    ghost use Rattle.tab_term.specs.Code.{terms_code, pairs_code};
+    ghost use Rattle.tab_subs.specs.Subscribers.{Subscriber, Ascends, numbers};
+
+    ghost Value = { List Subscriber };
+
+    ghost coded = { Prim.hlevel (codes, terms_code, pairs_code) };
+
+    ghost view = { λ a. a.seats.items };
+
+    ghost invariant = { λ a. Ascends (numbers a.seats.items) };
+}
+
+impl<P: Post + Drop> Subs<P> {
+    /// Nobody.
+    pub fn new(alloc: Global) -> Subs<P>
+        ensures { result ≡ [] }
+    {
+        Subs {
+            seats: Vec::new(alloc),
+        }
+    }
+
+    /// A session joins, with its post. Its number is above all that are joined.
+    pub fn join(&mut self, alloc: Global, session: u64, post: P) -> Result<(), AllocError>
+        requires above { AllBelow session (numbers self.old) }
+        ensures ok { OnOk result (self.new ≡ self.old ++ fresh session (P.outbox post) ∷ []) }
+        ensures err { OnErr result (self.new ≡ self.old) }
+    {
+        self.seats.reserve(1)?;
+        self.seats.push_reserved(Seat::new(alloc, session, post));
+        Ok(())
+    }
+
+    /// A session leaves, and its post is dropped.
+    pub fn leave(&mut self, session: u64)
+        ensures { self.new ≡ without self.old session }
+    {
+        self.seats.retain(|seat| seat.number() != session);
+    }
+
+    fn place(&self, session: u64) -> Option<usize>
+        ensures { MatchOption result (at self.now session ≡ None) (StandsAt self.now session) }
+    {
+        for (place, seat) in self.seats.iter().enumerate() {
+            if seat.number() == session {
+                return Some(place);
+            }
+        }
+        None
+    }
+
+    /// What the session takes next. None of one that isn't joined.
+    pub fn take(&mut self, session: u64) -> Option<Taken>
+        ensures { (self.new, result) ≡ taken_from self.old (at self.old session) }
+    {
+        let Some(place) = self.place(session) else {
+            return None;
+        };
+        Some(self.seats[place].take())
+    }
+
+    /// The session watches the table, with its begin mark put into its post, which may refuse it. None of one that isn't
+    /// joined.
+    pub fn subscribe(
+        &mut self,
+        alloc: Global,
+        session: u64,
+        table: Atom,
+        level: Level,
+        dump: Option<Terms>,
+    ) -> Result<Option<Marked>, AllocError>
+        ensures ok { IfOk result (λ m. Marks self.old (at self.old session) (λ s. record { table = table; level = level } ∷ s.watching) (Item.Began table level dump) m self.new) }
+        ensures err { OnErr result (self.new ≡ self.old) }
+    {
+        let Some(place) = self.place(session) else {
+            return Ok(None);
+        };
+        let marked = self.seats[place].subscribe(alloc, table, level, dump)?;
+        Ok(Some(marked))
+    }
+
+    /// The session watches the table no more, with its end mark put into its post, which may refuse it. None of one that
+    /// isn't joined.
+    pub fn unsubscribe(
+        &mut self,
+        alloc: Global,
+        session: u64,
+        table: &Atom,
+    ) -> Result<Option<Marked>, AllocError>
+        ensures ok { IfOk result (λ m. Marks self.old (at self.old session) (λ s. without_watch s.watching table.now) (Item.Ended table.now Ending.Unsubscribed) m self.new) }
+        ensures err { OnErr result (self.new ≡ self.old) }
+    {
+        let Some(place) = self.place(session) else {
+            return Ok(None);
+        };
+        let marked = self.seats[place].unsubscribe(alloc, table)?;
+        Ok(Some(marked))
+    }
+
+    /// What a commit owes: to each session the events of the tables that it watches, at its levels, as one item. The
+    /// number is the commit's.
+    pub fn prepare(
+        &self,
+        alloc: Global,
+        commit: u64,
+        events: &[Event],
+    ) -> Result<Prepared, AllocError>
+        ensures { IfOk result (λ p. p ≡ record { number = commit; items = map (λ s. batch_for (level_in s.watching) commit events.now) self.now; ended = None }) }
+    {
+        let mut shaped = unshaped(alloc, events)?;
+        let mut due = VecDeque::with_capacity(alloc, self.seats.len())?;
+        for seat in self.seats.iter() {
+            due.push_back(seat.batch(alloc, commit, &mut shaped)?)?;
+        }
+        with_room(alloc, commit, due, None)
+    }
+
+    /// What a table's deletion owes: an end mark to each session that watches it. The number is that of the next commit.
+    pub fn prepare_end(
+        &self,
+        alloc: Global,
+        table: &Atom,
+        commit: u64,
+    ) -> Result<Prepared, AllocError>
+        ensures { IfOk result (λ p. p ≡ record { number = commit; items = map (λ s. end_for (level_in s.watching) (Some table.now)) self.now; ended = Some table.now }) }
+    {
+        let mut due = VecDeque::with_capacity(alloc, self.seats.len())?;
+        for seat in self.seats.iter() {
+            due.push_back(seat.end_mark(alloc, table)?)?;
+        }
+        with_room(alloc, commit, due, Some(table.try_clone(alloc)?))
+    }
+
+    /// Puts what is owed, in the order of the sessions' numbers, and answers who overflowed: an item that a post refuses
+    /// ends its session's subscriptions.
+    pub fn deliver(&mut self, prepared: Prepared) -> Numbers
+        ensures { Delivers prepared self.old self.new result }
+    {
+        let Prepared {
+            number,
+            mut due,
+            mut over,
+            ended,
+        } = prepared;
+        for seat in self.seats.iter_mut() {
+            let refused = seat.receive(number, next_due(&mut due), ended.as_ref());
+            if !refused {
+                continue;
+            }
+            over.push_reserved(seat.number());
+        }
+        Numbers { items: over }
+    }
+
+    /// At which level the session watches the table.
+    pub fn level(&self, session: u64, table: &Atom) -> Option<Level>
+        ensures { result ≡ level_of (at self.now session) table.now }
+    {
+        let Some(place) = self.place(session) else {
+            return None;
+        };
+        self.seats[place].level(table)
+    }
+
+    /// The number of the session's overflow, where it was not told yet.
+    pub fn overflow(&self, session: u64) -> Option<u64>
+        ensures { result ≡ overflow_of (at self.now session) }
+    {
+        let Some(place) = self.place(session) else {
+            return None;
+        };
+        self.seats[place].overflow()
+    }
+
+    /// The highest level at which a session watches the table.
+    pub fn watched(&self, table: &Atom) -> Option<Level>
+        ensures { result ≡ watched self.now table.now }
+    {
+        let mut highest = None;
+        for seat in self.seats.iter() {
+            highest = higher(highest, seat.level(table));
+        }
+        highest
+    }
+}
+
+fn higher(one: Option<Level>, other: Option<Level>) -> Option<Level>
+    ensures { result ≡ higher_of one other }
+{
+    match (one, other) {
+        (Some(Level::Detailed), _) | (_, Some(Level::Detailed)) => Some(Level::Detailed),
+        (None, None) => None,
+        _ => Some(Level::Simple),
+    }
+}
+
+fn unshaped<'a>(alloc: Global, events: &'a [Event]) -> Result<Vec<Shaped<'a>>, AllocError>
+    ensures { IfOk result (λ shaped. shaped.items ≡ events.now) }
+{
+    let mut shaped = Vec::with_capacity(alloc, events.len())?;
+    for event in events {
+        shaped.push(Shaped::new(event))?;
+    }
+    Ok(shaped)
+}
