@@ -2,12 +2,12 @@
 ghost use Rattle.std.specs.Prelude.{◌≡◌, IfOk, Some};
 ghost use Rattle.tab_term.specs.View.{term};
 ghost use Rattle.tab_model.specs.Operations.{change_of_op, key_of_change};
-ghost use Rattle.tab_model.specs.Tables.{key as key_of_row};
 ghost use Rattle.tab_model.specs.Events.{is_failure as is_failure_of};
 
 use std::alloc::{AllocError, Global};
 use tab_model::{Change, Operation, Reply};
-use tab_term::{Term, Terms};
+use tab_rows::copy_of_key;
+use tab_term::Term;
 
 /// Whether an operation that is told this ends its level.
 pub fn is_failure(reply: &Reply) -> bool
@@ -39,21 +39,8 @@ pub fn key_of(alloc: Global, change: &Change) -> Result<Term, AllocError>
     ensures { IfOk result (λ key. term key ≡ key_of_change change.now) }
 {
     match change {
-        Change::Write(row) => key_of_record(alloc, row),
+        Change::Write(row) => copy_of_key(alloc, row),
         Change::Delete(_, key) => key.try_clone(alloc),
-        Change::DeleteObject(row) => key_of_record(alloc, row),
-    }
-}
-
-// The second element of a record, which is its key.
-fn key_of_record(alloc: Global, row: &Term) -> Result<Term, AllocError>
-    ensures { IfOk result (λ key. term key ≡ key_of_row (term row.now)) }
-{
-    match row {
-        Term::Tuple(elements) => match elements.as_slice() {
-            [_, key, ..] => key.try_clone(alloc),
-            _ => Ok(Term::List(Terms::from_vec(Vec::new(alloc)))),
-        },
-        _ => Ok(Term::List(Terms::from_vec(Vec::new(alloc)))),
+        Change::DeleteObject(row) => copy_of_key(alloc, row),
     }
 }

@@ -11,12 +11,12 @@ ghost use Rattle.tab_txstore.specs.Overlays.{touched, seen_at, touch as touch_of
 ghost use Rattle.tab_txstore.specs.Kept.{Appends};
 
 use crate::change::key_of;
-use crate::left::{contains, left};
+use crate::left::left;
 use std::alloc::{AllocError, Global};
 use tab_index::IndexedTable;
 use tab_map::{Map, Revise};
 use tab_model::{Change, Kind};
-use tab_rows::Append;
+use tab_rows::{Append, contains};
 use tab_term::{Atom, Term, Terms};
 
 /// Records that come to stand at a key.
