@@ -8,9 +8,10 @@ use std::collections::BTreeMap;
 use std::rt::Clock;
 use std::time::{Duration, Instant};
 use tab_index::IndexedTable;
-use tab_model::Change;
+use tab_model::{Change, Operation, Reply};
 use tab_schema::parse_options;
 use tab_term::{Term, Terms};
+use tab_txstore::TxStore;
 
 /// How many calls of a kind are timed.
 const CALLS: u32 = 20_000;
@@ -59,12 +60,16 @@ pub fn measure<H: AllocGlobal + Clock>(rt: &H, records: u32) -> Result<Vec<Figur
         let name = format!(in alloc; "{call}, {records} records")?;
         figures.push(Figure::new(name, Work::CallsBeside(u64::from(calls), *beside), *took))?;
     }
+    let (table, store) = bag_writes(rt)?;
     let name = format!(in alloc; "writes of a bag's key, from {OF_ONE_KEY} records")?;
-    figures.push(Figure::new(name, Work::Calls(OF_ONE_KEY), bag_writes(rt)?))?;
+    figures.push(Figure::new(name, Work::Calls(OF_ONE_KEY), table))?;
+    let name = format!(in alloc; "the same in a transaction")?;
+    figures.push(Figure::new(name, Work::Calls(OF_ONE_KEY), store))?;
     Ok(figures)
 }
 
-fn bag_writes<H: AllocGlobal + Clock>(rt: &H) -> Result<Duration> {
+/// In a table that is one's own, and in a transaction over it.
+fn bag_writes<H: AllocGlobal + Clock>(rt: &H) -> Result<(Duration, Duration)> {
     let alloc = rt.alloc();
     let option = Terms::from_vec(vec![in alloc;
         Term::Atom(atom(alloc, "type")?),
@@ -80,10 +85,30 @@ fn bag_writes<H: AllocGlobal + Clock>(rt: &H) -> Result<Duration> {
     }
     let (first, then) = writes.split_at(writes.len() / 2);
     let bag = IndexedTable::new(alloc, def)?.applied(alloc, first)?;
+    let store = transaction_writes(rt, &bag)?;
     let start = Instant::now(rt)?;
     let bag = bag.applied(alloc, then)?;
     let took = start.elapsed(rt)?;
     ensure!(bag.size() == writes.len(), "a bag lost a record");
+    Ok((took, store))
+}
+
+fn transaction_writes<H: AllocGlobal + Clock>(rt: &H, bag: &IndexedTable) -> Result<Duration> {
+    let alloc = rt.alloc();
+    let mut records = Vec::new(alloc);
+    for value in OF_ONE_KEY..OF_ONE_KEY * 2 {
+        records.push(record(alloc, 1, value)?)?;
+    }
+    let mut store = TxStore::new(alloc);
+    let start = Instant::now(rt)?;
+    for record in records {
+        store.make(alloc, bag, Operation::Write(record), Reply::Done)?;
+    }
+    let took = start.elapsed(rt)?;
+    ensure!(
+        store.seen(bag, &Term::Int(1)).len() == bag.size().saturating_mul(2),
+        "a transaction lost a record"
+    );
     Ok(took)
 }
 

@@ -1,6 +1,7 @@
 //! Elements of records, at positions that are counted from 1.
 
 ghost use Rattle.std.specs.Prelude.{◌≡◌};
+ghost use Rattle.tab_term.specs.Data.{list as list_of, none as no_terms};
 ghost use Rattle.tab_term.specs.View.{term};
 ghost use Rattle.tab_model.specs.WholeTables.{element as element_of};
 ghost use Rattle.tab_model.specs.Tables.{key as key_of_row};
@@ -39,7 +40,9 @@ impl Drop for Nothing {
 }
 
 impl Nothing {
-    pub fn new(alloc: Global) -> Nothing {
+    pub fn new(alloc: Global) -> Nothing
+        ensures { result ≡ list_of no_terms }
+    {
         Nothing {
             list: Term::List(Terms::from_vec(Vec::new(alloc))),
         }

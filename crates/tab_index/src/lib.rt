@@ -5,10 +5,11 @@
 
 #![tactic(auto)]
 
-mod element;
+pub mod element;
 mod index;
 mod indexes;
 mod matching;
 mod table;
 
+pub use matching::bound_key;
 pub use table::IndexedTable;

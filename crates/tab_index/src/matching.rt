@@ -26,7 +26,8 @@ pub fn match_object(alloc: Global, rows: &Rows, pattern: &Term) -> Result<Terms,
     Ok(Terms::from_vec(found))
 }
 
-fn bound_key(pattern: &Term) -> Option<&Term>
+/// The key of the pattern, where no `'_'` stands in it: what fits the pattern has that key.
+pub fn bound_key(pattern: &Term) -> Option<&Term>
     ensures { option_map term (option_copied result) ≡ bound_key_of (term pattern.now) }
 {
     let Term::Tuple(elements) = pattern else {

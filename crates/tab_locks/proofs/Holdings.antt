@@ -35,8 +35,8 @@ pub reader_gone : (p : Holding → Bool) (age : ℕ) (readers writers new : List
 reader_gone p age readers writers new s is =
     any_holdings p new writers
     ∙ (λ i. (ap (list_any (λ a. p (a, false))) is ∙ any_remove_key (λ a. p (a, false)) age readers s
-        ∙ any_same (λ a. p (a, false) && not (a == age)) (λ a. p (a, false) && not ((a == age) && true)) readers (λ a. ap (λ b. p (a, false) && not b) (sym (and-true (a == age))))) i
-        || any_same (λ a. p (a, true)) (λ a. p (a, true) && not ((a == age) && false)) writers (λ a. sym (ap (λ b. p (a, true) && not b) (and-false (a == age)) ∙ and-true (p (a, true)))) i)
+    ∙ any_same (λ a. p (a, false) && not (a == age)) (λ a. p (a, false) && not ((a == age) && true)) readers (λ a. ap (λ b. p (a, false) && not b) (sym (and-true (a == age))))) i
+    || any_same (λ a. p (a, true)) (λ a. p (a, true) && not ((a == age) && false)) writers (λ a. sym (ap (λ b. p (a, true) && not b) (and-false (a == age)) ∙ and-true (p (a, true)))) i)
     ∙ sym (any_holdings (λ h. p h && not (is_holding (age, false) h)) readers writers)
 
 -- a writer less
@@ -45,8 +45,8 @@ pub writer_gone : (p : Holding → Bool) (age : ℕ) (readers writers new : List
 writer_gone p age readers writers new s is =
     any_holdings p readers new
     ∙ (λ i. any_same (λ a. p (a, false)) (λ a. p (a, false) && not ((a == age) && false)) readers (λ a. sym (ap (λ b. p (a, false) && not b) (and-false (a == age)) ∙ and-true (p (a, false)))) i
-        || (ap (list_any (λ a. p (a, true))) is ∙ any_remove_key (λ a. p (a, true)) age writers s
-        ∙ any_same (λ a. p (a, true) && not (a == age)) (λ a. p (a, true) && not ((a == age) && true)) writers (λ a. ap (λ b. p (a, true) && not b) (sym (and-true (a == age))))) i)
+    || (ap (list_any (λ a. p (a, true))) is ∙ any_remove_key (λ a. p (a, true)) age writers s
+    ∙ any_same (λ a. p (a, true) && not (a == age)) (λ a. p (a, true) && not ((a == age) && true)) writers (λ a. ap (λ b. p (a, true) && not b) (sym (and-true (a == age))))) i)
     ∙ sym (any_holdings (λ h. p h && not (is_holding (age, true) h)) readers writers)
 
 pub some_age : (ages : List ℕ) (b : Bool) → IsTrue b ↔ (length ages ≡ 0) → not b ≡ list_any (λ a. true) ages

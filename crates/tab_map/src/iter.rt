@@ -1,6 +1,7 @@
 //! Iterators over a map's entries, which take no memory.
-ghost use Rattle.std.specs.Prelude.{◌≡◌};
+ghost use Rattle.std.specs.Prelude.{◌≡◌, [], slice_get};
 ghost use Rattle.std.specs.Iterator.{YieldsFirstRef, item_count};
+ghost use Rattle.std.specs.Option.{option_copied};
 ghost use Rattle.tab_map.specs.Entries.{Ascends, entries_from};
 
 use crate::Map;
@@ -48,6 +49,25 @@ impl<K: Abbreviate + Drop, V: Drop> Map<K, V> {
         Iter {
             map: self,
             next: self.first_from(key),
+        }
+    }
+}
+
+impl<'a, K: Abbreviate + Drop, V: Drop> Iter<'a, K, V> {
+    /// The entry that comes next. It stays the next one.
+    pub fn peek(&self) -> Option<&'a (K, V)>
+        ensures { option_copied result ≡ slice_get self.now 0 }
+    {
+        self.next
+    }
+
+    /// An iterator over the same map that is at its end.
+    pub fn end(&self) -> Iter<'a, K, V>
+        ensures { result ≡ [] }
+    {
+        Iter {
+            map: self.map,
+            next: None,
         }
     }
 }

@@ -23,7 +23,7 @@ use Rattle.tab_model.proofs.RepliesStay.{AgreeTab, Agree, SeesPart, SeesAll, sam
 covers_cell : Lock → List ℕ → PlainTerm → Bool
 covers_cell l t k = bytes_eq l.table t && meets l.part (Key k)
 
-seen : List Lock → List ℕ → PlainTerm → Bool
+pub seen : List Lock → List ℕ → PlainTerm → Bool
 seen [] t k = false
 seen (l ∷ ls) t k = covers_cell l t k || seen ls t k
 
@@ -60,7 +60,7 @@ own_op (op.AllKeys t) ls = own t All false ls
 own_op (op.ReadLockTable t) ls = own t All false ls
 own_op (op.WriteLockTable t) ls = own t All true ls
 
-sees_own : (xs : List Move) → SeesAll (seen (locks_of xs)) every xs
+pub sees_own : (xs : List Move) → SeesAll (seen (locks_of xs)) every xs
 sees_own [] = tt
 sees_own (Do o ∷ xs) = ((refl, own_op o (locks_of xs)), more_seen (needs o) (locks_of xs) xs (sees_own xs))
 sees_own (Open ∷ xs) = (tt, sees_own xs)
@@ -92,7 +92,7 @@ unfolding seen
 unseen t k [] h = refl
 unseen t k (m ∷ ms) h = let p = or_parts (conflict (lock t (Key k) true) m) (list_any (conflict (lock t (Key k) true)) ms) h in or_from (covers_cell m t k) (seen ms t k) (one_unseen t k m p.0) (unseen t k ms p.1)
 
-writes_apart : (xs : List Move) (ms : List Lock) → Apart (locks_of xs) ms → WritesAll (seen ms) every xs
+pub writes_apart : (xs : List Move) (ms : List Lock) → Apart (locks_of xs) ms → WritesAll (seen ms) every xs
 writes_apart [] ms h = tt
 writes_apart (Do (op.Read t k) ∷ xs) ms h = (tt, writes_apart xs ms (or_parts (list_any (conflict (needs (op.Read t k))) ms) _ h).1)
 writes_apart (Do (op.ReadForWrite t k) ∷ xs) ms h = (tt, writes_apart xs ms (or_parts (list_any (conflict (needs (op.ReadForWrite t k))) ms) _ h).1)
@@ -115,7 +115,7 @@ agree_self c w o t d = cases (find w t) refl
     cases None e = tt
     cases (Some x) e = record { defs = refl; cells = λ k h. refl; ordered = o t x e; ordered' = o t x e }
 
-like_back : (c : PlainTerm → Bool) (x y : Option Table) → AgreeTab c x y → AgreeTab c y x
+pub like_back : (c : PlainTerm → Bool) (x y : Option Table) → AgreeTab c x y → AgreeTab c y x
 like_back c None None a = tt
 like_back c (Some x) (Some y) a = record { defs = sym a.defs; cells = λ k h. sym (a.cells k h); ordered = a.ordered'; ordered' = a.ordered }
 like_back c None (Some y) a = absurd a

@@ -9,5 +9,5 @@ mod append;
 mod rows;
 
 pub use append::Append;
-pub use rows::Rows;
+pub use rows::{Rows, contains, copy_of_key};
 pub use tab_model::Kind;

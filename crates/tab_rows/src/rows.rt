@@ -226,7 +226,8 @@ fn one_more(size: usize) -> Result<usize, AllocError>
     size.checked_add(1).ok_or(AllocError)
 }
 
-fn contains(records: &[Term], row: &Term) -> bool
+/// Whether an equal record is among these.
+pub fn contains(records: &[Term], row: &Term) -> bool
     ensures { result ≡ list_any (same (term row.now)) (terms_list (terms records.now)) }
 {
     for other in records {
@@ -257,8 +258,8 @@ fn copies_but(alloc: Global, records: &[Term], row: &Term) -> Result<Terms, Allo
     Ok(Terms::from_vec(left))
 }
 
-/// The second element of a record, which is its key.
-fn copy_of_key(alloc: Global, row: &Term) -> Result<Term, AllocError>
+/// A copy of the record's key, its second element. Where it has none, the empty list.
+pub fn copy_of_key(alloc: Global, row: &Term) -> Result<Term, AllocError>
     ensures { IfOk result (λ k. term k ≡ key_of_row (term row.now)) }
 {
     match row {

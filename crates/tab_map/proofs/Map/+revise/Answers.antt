@@ -12,14 +12,14 @@ revise-invariant_of-self-2 g t c =
     let f = g.R.Revise.becomes c.args.revision in
     elim c.match-self.branch [
       | revise-in-Leaf+in_ok-revise_in_row-in-Leaf w ↦
-        let s = subst (λ root. Ascends g.K.Ord.cmp (entries root)) w.in-Leaf.is c.self.invariant.0 in
-        subst (λ z. Ascends g.K.Ord.cmp (entries z.root) × HasBranch z.root) (sym w.self-inside-is)
-            (subst (Ascends g.K.Ord.cmp) (sym w.in_ok-revise_in_row-in-Leaf.ensures.ok) (revised_ascends g.met.K.Ord.total f c.args.key _ s), tt)
+          let s = subst (λ root. Ascends g.K.Ord.cmp (entries root)) w.in-Leaf.is c.self.invariant.0 in
+          subst (λ z. Ascends g.K.Ord.cmp (entries z.root) × HasBranch z.root) (sym w.self-inside-is)
+          (subst (Ascends g.K.Ord.cmp) (sym w.in_ok-revise_in_row-in-Leaf.ensures.ok) (revised_ascends g.met.K.Ord.total f c.args.key _ s), tt)
       | revise-in-Node+in_ok-own-in-Node+in-Some+in_ok-revise_under-in-Node w ↦
-        let root = is_root g.K.Ord.cmp c.self.view_is c.self.invariant w.in-Node.is in
-        let same = same_root root (ap (λ n. n.branches.items) w.in-Some.ensures.value ∙ w.own.ensures.branches) (ap (λ n. n.last) w.in-Some.ensures.value ∙ w.own.ensures.last) in
-        subst (λ z. Ascends g.K.Ord.cmp (entries z.root) × HasBranch z.root) (sym w.self-inside-is)
-            (subst (Ascends g.K.Ord.cmp) (sym w.in_ok-revise_under-in-Node.ensures.ok) (revised_ascends g.met.K.Ord.total f c.args.key _ same.sorted), omega (arith, w.in_ok-revise_under-in-Node.ensures.kept, same.some))
+          let root = is_root g.K.Ord.cmp c.self.view_is c.self.invariant w.in-Node.is in
+          let same = same_root root (ap (λ n. n.branches.items) w.in-Some.ensures.value ∙ w.own.ensures.branches) (ap (λ n. n.last) w.in-Some.ensures.value ∙ w.own.ensures.last) in
+          subst (λ z. Ascends g.K.Ord.cmp (entries z.root) × HasBranch z.root) (sym w.self-inside-is)
+          (subst (Ascends g.K.Ord.cmp) (sym w.in_ok-revise_under-in-Node.ensures.ok) (revised_ascends g.met.K.Ord.total f c.args.key _ same.sorted), omega (arith, w.in_ok-revise_under-in-Node.ensures.kept, same.some))
     ]
 
 pub revise_under-returns-in_ok-revise-in-Ok-clause-ok : goal.revise_under-returns-in_ok-revise-in-Ok-clause-ok

@@ -1,0 +1,241 @@
+-- The merged walk: what comes next, and that it is the table as the transaction sees it.
+use Rattle.std.proofs.Common.{◌≡◌, [], ◌∷◌, ◌++◌, Bool, true, false, not, refl, sym, ap, ◌∙◌, subst, Option, Some, None, Ordering, Less, Equal, Greater}
+use Rattle.std.specs.Prelude.{if◌then◌else◌}
+use Rattle.std.specs.List.{filter, list_all}
+use Rattle.std.specs.Option.{option_copied}
+use Rattle.std.specs.Ordering.{match_ordering, ordering_reverse}
+use Rattle.std.specs.Cmp.{IsTotalOrder}
+use Rattle.std.proofs.lemmas.Bool.{and_from, and_parts}
+use Rattle.tab_term.specs.declared.term.Term.{Term}
+use Rattle.tab_term.specs.Data.{PlainTerm, PlainTerms, none, one_more}
+use Rattle.tab_term.specs.Order.{term_cmp}
+use Rattle.tab_term.specs.Same.{same}
+use Rattle.tab_term.specs.View.{term}
+use Rattle.tab_term.proofs.Total.{term_total}
+use Rattle.tab_map.specs.Entries.{lookup, insert_entry, AllAbove, Ascends}
+use Rattle.tab_map.proofs.AscendsLemmas.{ascends_insert}
+use Rattle.tab_rows.specs.Joined.{joined, IsKeyed, AllKeyed, IsInOrder}
+use Rattle.tab_rows.proofs.LookUps.{lookup_insert, lookup_above, below_all, at_all, above_below}
+use Rattle.tab_rows.proofs.Cells.{at-joined, ordered-joined, found_in}
+use Rattle.tab_model.specs.Names.{terms_list}
+use Rattle.tab_model.specs.Tables.{Rows, key, has_key, at, keys}
+use Rattle.tab_model.specs.Shapes.{held}
+use Rattle.tab_model.proofs.ShapeLaws.{held_term, term_held}
+use Rattle.tab_model.proofs.TableLaws.{same_true, same_refl, same_lists}
+use Rattle.tab_txstore.specs.Overlays.{Touched, or_lent}
+use Rattle.tab_txstore.specs.Merged.{merged, is_filled, filled_keys, IsSeen}
+
+-- the keys of entries
+abbrev plain_keys : Touched → Rows
+plain_keys [] = []
+plain_keys (e ∷ es) = term e.0 ∷ plain_keys es
+
+apart_keys : (k j : Term) → term_cmp k j ≡ Less → same (term k) (term j) ≡ false
+apart_keys k j h = cases (same (term k) (term j)) refl
+  where
+    cases : (b : Bool) → same (term k) (term j) ≡ b → b ≡ false
+    cases false e = refl
+    cases true e = let n : Less ≡ Equal = sym h ∙ ap (λ z. Rattle.std.specs.Cmp.Lexicographic.slice_cmp Rattle.std.specs.Ordering.nat_cmp (Rattle.tab_term.specs.Canon.canon (term k)) (Rattle.tab_term.specs.Canon.canon z)) (sym (same_true (term k) (term j) e)) ∙ Rattle.std.proofs.lemmas.Cmp.tied_itself term_total k in cc
+
+-- ---- order
+
+above_insert : (q : Term) (x : Term × PlainTerms) (es : Touched) → term_cmp q x.0 ≡ Less → AllAbove term_cmp q es → AllAbove term_cmp q (insert_entry term_cmp x es)
+above_insert q x [] h a = (h, tt)
+above_insert q x (e ∷ es) h a = cases (above_insert q x es h a.1) (term_cmp x.0 e.0)
+  where
+    cases : AllAbove term_cmp q (insert_entry term_cmp x es) → (o : Ordering) → AllAbove term_cmp q (match_ordering o (x ∷ e ∷ es) (x ∷ es) (e ∷ insert_entry term_cmp x es))
+    cases ih Less = (h, a)
+    cases ih Equal = (h, a.1)
+    cases ih Greater = (a.0, ih)
+
+above_merged : (q : Term) (xs es : Touched) → AllAbove term_cmp q xs → AllAbove term_cmp q es → AllAbove term_cmp q (merged xs es)
+above_merged q [] es h a = a
+above_merged q (x ∷ xs) es h a = above_insert q x (merged xs es) h.0 (above_merged q xs es h.1 a)
+
+ascends_merged : (xs es : Touched) → Ascends term_cmp es → Ascends term_cmp (merged xs es)
+ascends_merged [] es s = s
+ascends_merged (x ∷ xs) es s = ascends_insert term_total x (merged xs es) (ascends_merged xs es s)
+
+insert_first : (x : Term × PlainTerms) (es : Touched) → AllAbove term_cmp x.0 es → insert_entry term_cmp x es ≡ x ∷ es
+insert_first x [] a = refl
+insert_first x (e ∷ es) a = ap (λ o. match_ordering o (x ∷ e ∷ es) (x ∷ es) (e ∷ insert_entry term_cmp x es)) a.0
+
+-- ---- what comes next
+
+-- the table's next key, where it is below all touched ones
+pub lent_first : (e : Term × PlainTerms) (xs es : Touched) → AllAbove term_cmp e.0 xs → merged xs (e ∷ es) ≡ e ∷ merged xs es
+lent_first e [] es a = refl
+lent_first e (x ∷ xs) es a =
+    ap (insert_entry term_cmp x) (lent_first e xs es a.1)
+    ∙ ap (λ o. match_ordering o (x ∷ e ∷ merged xs es) (x ∷ merged xs es) (e ∷ insert_entry term_cmp x (merged xs es))) (term_total.antisymm x.0 e.0 ∙ ap ordering_reverse a.0)
+
+pub lent_below : (e x : Term × PlainTerms) (xs es : Touched) → term_cmp e.0 x.0 ≡ Less → Ascends term_cmp (x ∷ xs) → merged (x ∷ xs) (e ∷ es) ≡ e ∷ merged (x ∷ xs) es
+lent_below e x xs es h s = lent_first e (x ∷ xs) es (h, below_all term_total e.0 x.0 xs h s.0)
+
+pub both_equal : (e x : Term × PlainTerms) (xs es : Touched) → term_cmp e.0 x.0 ≡ Equal → Ascends term_cmp (x ∷ xs) → merged (x ∷ xs) (e ∷ es) ≡ x ∷ merged xs es
+both_equal e x xs es h s =
+    ap (insert_entry term_cmp x) (lent_first e xs es (at_all term_total e.0 x.0 xs h s.0))
+    ∙ ap (λ o. match_ordering o (x ∷ e ∷ merged xs es) (x ∷ merged xs es) (e ∷ insert_entry term_cmp x (merged xs es))) (term_total.antisymm x.0 e.0 ∙ ap ordering_reverse h)
+
+pub own_below : (e x : Term × PlainTerms) (xs es : Touched) → term_cmp e.0 x.0 ≡ Greater → Ascends term_cmp (x ∷ xs) → Ascends term_cmp (e ∷ es) → merged (x ∷ xs) (e ∷ es) ≡ x ∷ merged xs (e ∷ es)
+own_below e x xs es h s t =
+    let low : term_cmp x.0 e.0 ≡ Less = above_below term_total e.0 x.0 h in
+    insert_first x (merged xs (e ∷ es)) (above_merged x.0 xs (e ∷ es) s.0 (low, below_all term_total x.0 e.0 es low t.0))
+
+pub own_alone : (x : Term × PlainTerms) (xs : Touched) → Ascends term_cmp (x ∷ xs) → merged (x ∷ xs) [] ≡ x ∷ merged xs []
+own_alone x xs s = insert_first x (merged xs []) (above_merged x.0 xs [] s.0 tt)
+
+-- ---- it is the table as the transaction sees it
+
+none_each : {V : Type 0} (n : Option V) (b : Ordering) → n ≡ match_ordering b n n n
+none_each n Less = refl
+none_each n Equal = refl
+none_each n Greater = refl
+
+lookup_merged : (xs es : Touched) (q : Term) (rows : Rows) → Ascends term_cmp xs → Ascends term_cmp es → at rows (term q) ≡ found_in (lookup term_cmp q es)
+    → found_in (lookup term_cmp q (merged xs es)) ≡ or_lent (lookup term_cmp q xs) (at rows (term q))
+lookup_merged [] es q rows s t h = sym h
+lookup_merged (x ∷ xs) es q rows s t h = ap found_in (lookup_insert term_total x (merged xs es) q (ascends_merged xs es t)) ∙ cases (lookup_merged xs es q rows s.1 t h) (term_cmp q x.0) refl
+  where
+    cases : found_in (lookup term_cmp q (merged xs es)) ≡ or_lent (lookup term_cmp q xs) (at rows (term q)) → (o : Ordering) → term_cmp q x.0 ≡ o
+        → found_in (match_ordering o (lookup term_cmp q (merged xs es)) (Some x.1) (lookup term_cmp q (merged xs es))) ≡ or_lent (match_ordering o None (Some x.1) (lookup term_cmp q xs)) (at rows (term q))
+    cases ih Less k = ih ∙ ap (λ z. or_lent z (at rows (term q))) (lookup_above term_total q xs (below_all term_total q x.0 xs k s.0))
+    cases ih Equal k = refl
+    cases ih Greater k = ih
+
+abbrev pub filled : Touched → Touched
+filled [] = []
+filled (e ∷ es) = if is_filled e.1 then e ∷ filled es else filled es
+
+above_filled : (q : Term) (es : Touched) → AllAbove term_cmp q es → AllAbove term_cmp q (filled es)
+above_filled q [] a = tt
+above_filled q (e ∷ es) a = cases (above_filled q es a.1) (is_filled e.1)
+  where
+    cases : AllAbove term_cmp q (filled es) → (b : Bool) → AllAbove term_cmp q (if b then e ∷ filled es else filled es)
+    cases ih true = (a.0, ih)
+    cases ih false = ih
+
+ascends_filled : (es : Touched) → Ascends term_cmp es → Ascends term_cmp (filled es)
+ascends_filled [] s = tt
+ascends_filled (e ∷ es) s = cases (ascends_filled es s.1) (is_filled e.1)
+  where
+    cases : Ascends term_cmp (filled es) → (b : Bool) → Ascends term_cmp (if b then e ∷ filled es else filled es)
+    cases ih true = (above_filled e.0 es s.0, ih)
+    cases ih false = ih
+
+pub not_filled : (ts : PlainTerms) → is_filled ts ≡ false → terms_list ts ≡ []
+not_filled none h = refl
+not_filled (one_more t ts) h = cc
+
+lookup_filled : (es : Touched) (q : Term) → Ascends term_cmp es → found_in (lookup term_cmp q (filled es)) ≡ found_in (lookup term_cmp q es)
+lookup_filled [] q s = refl
+lookup_filled (e ∷ es) q s = cases (lookup_filled es q s.1) (is_filled e.1) refl (term_cmp q e.0) refl
+  where
+    cases : found_in (lookup term_cmp q (filled es)) ≡ found_in (lookup term_cmp q es) → (b : Bool) → is_filled e.1 ≡ b → (o : Ordering) → term_cmp q e.0 ≡ o
+        → found_in (lookup term_cmp q (if b then e ∷ filled es else filled es)) ≡ found_in (match_ordering o None (Some e.1) (lookup term_cmp q es))
+    cases ih true h Less k = ap (λ z. found_in (match_ordering z None (Some e.1) (lookup term_cmp q (filled es)))) k
+    cases ih true h Equal k = ap (λ z. found_in (match_ordering z None (Some e.1) (lookup term_cmp q (filled es)))) k
+    cases ih true h Greater k = ap (λ z. found_in (match_ordering z None (Some e.1) (lookup term_cmp q (filled es)))) k ∙ ih
+    cases ih false h Less k = ap found_in (lookup_above term_total q (filled es) (above_filled q es (below_all term_total q e.0 es k s.0)))
+    cases ih false h Equal k = ap found_in (lookup_above term_total q (filled es) (above_filled q es (at_all term_total q e.0 es k s.0))) ∙ sym (not_filled e.1 h)
+    cases ih false h Greater k = ih
+
+-- the records found at a key have it
+has_all : (k : PlainTerm) (rows : Rows) → list_all (has_key k) (at rows k) ≡ true
+has_all k [] = refl
+has_all k (x ∷ rows) = cases (has_all k rows) (has_key k x) refl
+  where
+    cases : list_all (has_key k) (at rows k) ≡ true → (b : Bool) → has_key k x ≡ b → list_all (has_key k) (if b then x ∷ at rows k else at rows k) ≡ true
+    cases ih true e = and_from (has_key k x) (list_all (has_key k) (at rows k)) e ih
+    cases ih false e = ih
+
+filled_some : (ts : PlainTerms) → is_filled ts ≡ true → terms_list ts ≡ [] → ⊥
+filled_some none h e = cc
+filled_some (one_more t ts) h e = cc
+
+-- lists of which each key's records are those of a table
+abbrev Finds : Touched → Rows → Type 0
+Finds es seen = (q : Term) → found_in (lookup term_cmp q es) ≡ at seen (term q)
+
+first_finds : (e : Term × PlainTerms) (es : Touched) (q : Term) → term_cmp q e.0 ≡ Equal → found_in (lookup term_cmp q (e ∷ es)) ≡ terms_list e.1
+first_finds e es q h = ap (λ z. found_in (match_ordering z None (Some e.1) (lookup term_cmp q es))) h
+
+found_after : (e : Term × PlainTerms) (es : Touched) (q : Term) (ts : PlainTerms) → AllAbove term_cmp e.0 es → lookup term_cmp q es ≡ Some ts → (o : Ordering) → term_cmp q e.0 ≡ o → lookup term_cmp q (e ∷ es) ≡ Some ts
+found_after e es q ts a h Less k = let n : None ≡ Some ts = sym (lookup_above term_total q es (below_all term_total q e.0 es k a)) ∙ h in cc
+found_after e es q ts a h Equal k = let n : None ≡ Some ts = sym (lookup_above term_total q es (at_all term_total q e.0 es k a)) ∙ h in cc
+found_after e es q ts a h Greater k = ap (λ z. match_ordering z None (Some e.1) (lookup term_cmp q es)) k ∙ h
+
+-- what is kept at each key has it
+keyed_by : (es : Touched) (seen : Rows) → Ascends term_cmp es → ((q : Term) (ts : PlainTerms) → lookup term_cmp q es ≡ Some ts → terms_list ts ≡ at seen (term q)) → AllKeyed (filled es)
+keyed_by [] seen s f = tt
+keyed_by (e ∷ es) seen s f = cases (keyed_by es seen s.1 (λ q ts h. f q ts (found_after e es q ts s.0 h (term_cmp q e.0) refl))) (is_filled e.1) refl
+  where
+    itself : term_cmp e.0 e.0 ≡ Equal
+    itself = Rattle.std.proofs.lemmas.Cmp.tied_itself term_total e.0
+
+    here : terms_list e.1 ≡ at seen (term e.0)
+    here = f e.0 e.1 (ap (λ z. match_ordering z None (Some e.1) (lookup term_cmp e.0 es)) itself)
+
+    cases : AllKeyed (filled es) → (b : Bool) → is_filled e.1 ≡ b → AllKeyed (if b then e ∷ filled es else filled es)
+    cases rest true h = (record { keyed = ap (list_all (has_key (term e.0))) here ∙ has_all (term e.0) seen; filled = filled_some e.1 h }, rest)
+    cases rest false h = rest
+
+found_some : (o : Option PlainTerms) (ts : PlainTerms) → o ≡ Some ts → found_in o ≡ terms_list ts
+found_some o ts h = ap found_in h
+
+pub seen_merged : (xs es : Touched) (seen : Rows) → Ascends term_cmp xs → IsInOrder es → IsSeen xs (joined es) seen → (joined (filled (merged xs es)) ≡ seen) × (AllKeyed (filled (merged xs es)) × Ascends term_cmp (filled (merged xs es)))
+seen_merged xs es seen s o h = (same_lists (joined (filled (merged xs es))) seen (ordered-joined (filled (merged xs es)) up keyed) h.ordered cells, (keyed, up))
+  where
+    finds : (q : Term) → found_in (lookup term_cmp q (merged xs es)) ≡ at seen (term q)
+    finds q =
+        lookup_merged xs es q (joined es) s o.ascends (at-joined es q o.ascends o.keyed)
+        ∙ ap (λ z. or_lent (lookup term_cmp z xs) (at (joined es) (term q))) (sym (held_term q)) ∙ h.cells (term q)
+
+    up : Ascends term_cmp (filled (merged xs es))
+    up = ascends_filled (merged xs es) (ascends_merged xs es o.ascends)
+
+    keyed : AllKeyed (filled (merged xs es))
+    keyed = keyed_by (merged xs es) seen (ascends_merged xs es o.ascends) (λ q ts e. sym (found_some (lookup term_cmp q (merged xs es)) ts e) ∙ finds q)
+
+    cells_at : (q : Term) → at (joined (filled (merged xs es))) (term q) ≡ at seen (term q)
+    cells_at q = at-joined (filled (merged xs es)) q up keyed ∙ lookup_filled (merged xs es) q (ascends_merged xs es o.ascends) ∙ finds q
+
+    cells : (k : PlainTerm) → at (joined (filled (merged xs es))) k ≡ at seen k
+    cells k = subst (λ (j : PlainTerm). at (joined (filled (merged xs es))) j ≡ at seen j) (term_held k) (cells_at (held k))
+
+-- ---- its keys
+
+keys_apart : (k : Term) (es : Touched) → AllAbove term_cmp k es → filter (λ j. not (same (term k) j)) (plain_keys es) ≡ plain_keys es
+keys_apart k [] a = refl
+keys_apart k (e ∷ es) a = ap (λ b. if not b then term e.0 ∷ filter (λ j. not (same (term k) j)) (plain_keys es) else filter (λ j. not (same (term k) j)) (plain_keys es)) (apart_keys k e.0 a.0) ∙ ap (λ z. term e.0 ∷ z) (keys_apart k es a.1)
+
+keys_part : (k : Term) (x : PlainTerm) (xs : Rows) (es : Touched) → list_all (has_key (term k)) (x ∷ xs) ≡ true → AllAbove term_cmp k es → keys (joined es) ≡ plain_keys es → keys (x ∷ xs ++ joined es) ≡ term k ∷ plain_keys es
+keys_part k x [] es h a e =
+    let p = and_parts (has_key (term k) x) true h in
+    ap (λ z. z ∷ filter (λ j. not (same z j)) (keys (joined es))) (same_true (key x) (term k) p.0) ∙ ap (λ z. term k ∷ filter (λ j. not (same (term k) j)) z) e ∙ ap (λ z. term k ∷ z) (keys_apart k es a)
+keys_part k x (y ∷ xs) es h a e =
+    let p = and_parts (has_key (term k) x) (list_all (has_key (term k)) (y ∷ xs)) h in
+    ap (λ z. z ∷ filter (λ j. not (same z j)) (keys (y ∷ xs ++ joined es))) (same_true (key x) (term k) p.0) ∙ ap (λ z. term k ∷ filter (λ j. not (same (term k) j)) z) (keys_part k y xs es p.1 a e)
+    ∙ ap (λ b. term k ∷ (if not b then term k ∷ filter (λ j. not (same (term k) j)) (plain_keys es) else filter (λ j. not (same (term k) j)) (plain_keys es))) (same_refl (term k))
+    ∙ ap (λ z. term k ∷ z) (keys_apart k es a)
+
+keys_first : (e : Term × PlainTerms) (es : Touched) (rs : Rows) → terms_list e.1 ≡ rs → IsKeyed e → AllAbove term_cmp e.0 es → keys (joined es) ≡ plain_keys es → keys (rs ++ joined es) ≡ term e.0 ∷ plain_keys es
+keys_first e es [] h k a f = absurd (k.filled h)
+keys_first e es (x ∷ xs) h k a f = keys_part e.0 x xs es (ap (list_all (has_key (term e.0))) (sym h) ∙ k.keyed) a f
+
+keys_joined : (es : Touched) → Ascends term_cmp es → AllKeyed es → keys (joined es) ≡ plain_keys es
+keys_joined [] s k = refl
+keys_joined (e ∷ es) s k = keys_first e es (terms_list e.1) refl k.0 s.0 (keys_joined es s.1 k.1)
+
+filled_plain : (es : Touched) → filled_keys es ≡ plain_keys (filled es)
+filled_plain [] = refl
+filled_plain (e ∷ es) = cases (filled_plain es) (is_filled e.1)
+  where
+    cases : filled_keys es ≡ plain_keys (filled es) → (b : Bool) → (if b then term e.0 ∷ filled_keys es else filled_keys es) ≡ plain_keys (if b then e ∷ filled es else filled es)
+    cases ih true = ap (λ z. term e.0 ∷ z) ih
+    cases ih false = ih
+
+pub keys_seen : (xs es : Touched) (seen : Rows) → Ascends term_cmp xs → IsInOrder es → IsSeen xs (joined es) seen → filled_keys (merged xs es) ≡ keys seen
+keys_seen xs es seen s o h =
+    let p = seen_merged xs es seen s o h in
+    filled_plain (merged xs es) ∙ sym (keys_joined (filled (merged xs es)) p.1.1 p.1.0) ∙ ap keys p.0

@@ -1,0 +1,94 @@
+-- A step of the merged walk.
+use Rattle.std.proofs.Common.{◌≡◌, List, [], ◌∷◌, ◌++◌, true, append-nil, subst, refl, sym, ap, ap₂, ◌∙◌, Option, Some, None, Less, Equal, Greater, slice_get}
+use Rattle.std.specs.Prelude.{MatchOption, if◌then◌else◌}
+use Rattle.std.specs.Iterator.{MakesProgress, item_count}
+use Rattle.tab_term.specs.declared.term.Term.{Term}
+use Rattle.tab_term.specs.Data.{PlainTerm, PlainTerms}
+use Rattle.tab_term.specs.View.{term, terms}
+use Rattle.tab_model.specs.Names.{plain_terms, terms_list}
+use Rattle.tab_model.specs.Tables.{Rows}
+use Rattle.tab_model.specs.Tables.{keys as keys_of}
+use Rattle.tab_rows.specs.Joined.{joined, IsInOrder}
+use Rattle.tab_rows.proofs.Cells.{plain-list}
+use Rattle.tab_txstore.proofs.LeftLemmas.{list_push}
+use Rattle.tab_term.specs.Order.{term_cmp}
+use Rattle.tab_map.specs.Entries.{Ascends}
+use Rattle.tab_map.proofs.EntriesLeftLemmas.{fewer}
+use denote.Ref.{Bor}
+use Rattle.tab_txstore.specs.Overlays.{Touched}
+use Rattle.tab_txstore.specs.Merged.{merged, is_filled, filled_keys, IsSeen}
+use Rattle.tab_txstore.proofs.MergedLemmas.{lent_below, both_equal, own_below, own_alone, keys_seen}
+
+abbrev pub Gives : Touched → Option (Bor (Term × PlainTerms)) → Touched → Type 0
+Gives s r t = MatchOption r ((s ≡ []) × (t ≡ [])) (λ x. s ≡ x.now ∷ t)
+
+pub progress : (can : Touched → Type 0) → ((z : Touched) → can z) → (s : Touched) (r : Option (Bor (Term × PlainTerms))) (t : Touched) → Gives s r t → MakesProgress can (item_count {S = Touched} {A = Term × PlainTerms} (λ l. l)) s r t
+progress can ok s None t h = record { on = λ f. tt; keeps = tt; rests = λ f. tt }
+progress can ok s (Some x) t h = record { on = λ f. (ok t, tt, fewer s t x.now h); keeps = ok t; rests = λ f. tt }
+
+pub none_first : (es : Touched) → slice_get es 0 ≡ None → es ≡ []
+none_first [] h = refl
+none_first (e ∷ es) h = cc
+
+abbrev on_tail : (Touched → Touched) → Touched → Touched
+on_tail g [] = []
+on_tail g (e ∷ es) = e ∷ g es
+
+abbrev tail_of : Touched → Touched
+tail_of [] = []
+tail_of (e ∷ es) = es
+
+pub alone : (own lent own' : Touched) (r : Option (Bor (Term × PlainTerms))) → Ascends term_cmp own → lent ≡ [] → Gives own r own' → Gives (merged own lent) r (merged own' lent)
+alone own lent own' None s e h = ((λ i. merged (h.0 i) (e i)), (λ i. merged (h.1 i) (e i)))
+alone [] lent own' (Some x) s e h = cc
+alone (y ∷ own) lent own' (Some x) s e h = ap (merged (y ∷ own)) e ∙ own_alone y own s ∙ ap (on_tail (λ z. merged z [])) h ∙ sym (ap (λ z. x.now ∷ merged own' z) e)
+
+pub rest_alone : (own lent lent' : Touched) (r : Option (Bor (Term × PlainTerms))) → own ≡ [] → Gives lent r lent' → Gives (merged own lent) r (merged own lent')
+rest_alone own lent lent' None e h = ((λ i. merged (e i) (h.0 i)), (λ i. merged (e i) (h.1 i)))
+rest_alone own lent lent' (Some x) e h = ap (λ z. merged z lent) e ∙ h ∙ sym (ap (λ z. x.now ∷ merged z lent') e)
+
+same_first : (a b : Term × PlainTerms) (es : Touched) → slice_get (a ∷ es) 0 ≡ Some b → a ≡ b
+same_first a b es h = cc
+
+pub less : (own lent lent' : Touched) (r : Option (Bor (Term × PlainTerms))) (e x : Term × PlainTerms) → slice_get lent 0 ≡ Some e → slice_get own 0 ≡ Some x → term_cmp e.0 x.0 ≡ Less → Ascends term_cmp own → Gives lent r lent' → Gives (merged own lent) r (merged own lent')
+less [] lent lent' r e x h k c s g = cc
+less (y ∷ own) [] lent' r e x h k c s g = cc
+less (y ∷ own) (d ∷ lent) lent' None e x h k c s g = let z : d ∷ lent ≡ [] = g.0 in cc
+less (y ∷ own) (d ∷ lent) lent' (Some p) e x h k c s g =
+    lent_below d y own lent (ap₂ (λ (a b : Term × PlainTerms). term_cmp a.0 b.0) (same_first d e lent h) (same_first y x own k) ∙ c) s ∙ ap (on_tail (merged (y ∷ own))) g
+
+pub greater : (own lent own' : Touched) (r : Option (Bor (Term × PlainTerms))) (e x : Term × PlainTerms) → slice_get lent 0 ≡ Some e → slice_get own 0 ≡ Some x → term_cmp e.0 x.0 ≡ Greater → Ascends term_cmp own → Ascends term_cmp lent → Gives own r own' → Gives (merged own lent) r (merged own' lent)
+greater [] lent own' r e x h k c s t g = cc
+greater (y ∷ own) [] own' r e x h k c s t g = cc
+greater (y ∷ own) (d ∷ lent) own' None e x h k c s t g = let z : y ∷ own ≡ [] = g.0 in cc
+greater (y ∷ own) (d ∷ lent) own' (Some p) e x h k c s t g =
+    own_below d y own lent (ap₂ (λ (a b : Term × PlainTerms). term_cmp a.0 b.0) (same_first d e lent h) (same_first y x own k) ∙ c) s t ∙ ap (on_tail (λ z. merged z (d ∷ lent))) g
+
+pub equal : (own lent own' lent' : Touched) (q r : Option (Bor (Term × PlainTerms))) (e x : Term × PlainTerms) → slice_get lent 0 ≡ Some e → slice_get own 0 ≡ Some x → term_cmp e.0 x.0 ≡ Equal → Ascends term_cmp own → Gives lent q lent' → Gives own r own' → Gives (merged own lent) r (merged own' lent')
+equal [] lent own' lent' q r e x h k c s f g = cc
+equal (y ∷ own) [] own' lent' q r e x h k c s f g = cc
+equal (y ∷ own) (d ∷ lent) own' lent' None r e x h k c s f g = let z : d ∷ lent ≡ [] = f.0 in cc
+equal (y ∷ own) (d ∷ lent) own' lent' (Some o) None e x h k c s f g = let z : y ∷ own ≡ [] = g.0 in cc
+equal (y ∷ own) (d ∷ lent) own' lent' (Some o) (Some p) e x h k c s f g =
+    both_equal d y own lent (ap₂ (λ (a b : Term × PlainTerms). term_cmp a.0 b.0) (same_first d e lent h) (same_first y x own k) ∙ c) s
+    ∙ ap (λ z. y ∷ merged own z) (ap tail_of f) ∙ ap (on_tail (λ z. merged z lent')) g
+
+-- ---- the keys
+
+pub key_step : (keys all : List Term) (before after : Touched) (e : Term × PlainTerms) (k : Term) → before ≡ e ∷ after → true ≡ is_filled e.1 → all ≡ keys ++ k ∷ [] → k ≡ e.0
+    → terms_list (terms all) ++ filled_keys after ≡ terms_list (terms keys) ++ filled_keys before
+key_step keys all before after e k h f a s =
+    ap (λ z. terms_list (terms z) ++ filled_keys after) a ∙ ap (λ z. z ++ filled_keys after) (list_push keys k) ∙ once (terms_list (terms keys)) (term k) (filled_keys after)
+    ∙ ap (λ z. terms_list (terms keys) ++ term z ∷ filled_keys after) s
+    ∙ ap (λ b. terms_list (terms keys) ++ (if b then term e.0 ∷ filled_keys after else filled_keys after)) f
+    ∙ sym (ap (λ z. terms_list (terms keys) ++ filled_keys z) h)
+  where
+    once : (xs : Rows) (x : PlainTerm) (ys : Rows) → (xs ++ x ∷ []) ++ ys ≡ xs ++ x ∷ ys
+    once [] x ys = refl
+    once (z ∷ xs) x ys = ap (λ zs. z ∷ zs) (once xs x ys)
+
+pub keys_end : (keys : List Term) (left whole : Touched) (xs es : Touched) (rows seen : Rows) → left ≡ [] → terms_list (terms keys) ++ filled_keys left ≡ filled_keys whole → whole ≡ merged xs es
+    → joined es ≡ rows → IsInOrder es → Ascends term_cmp xs → IsSeen xs rows seen → terms keys ≡ plain_terms (keys_of seen)
+keys_end keys left whole xs es rows seen e inv w j o s h =
+    sym (plain-list (terms keys))
+    ∙ ap plain_terms (sym (append-nil (terms_list (terms keys))) ∙ sym (ap (λ z. terms_list (terms keys) ++ filled_keys z) e) ∙ inv ∙ ap filled_keys w ∙ keys_seen xs es seen s o (subst (λ (rs : Rows). IsSeen xs rs seen) (sym j) h))

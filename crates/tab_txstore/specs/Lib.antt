@@ -1,0 +1,4 @@
+pub mod Overlays
+pub mod Stores
+pub mod Kept
+pub mod Merged

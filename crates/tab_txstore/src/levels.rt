@@ -1,0 +1,239 @@
+//! What a transaction left at the keys that it touched, level by level.
+ghost use Rattle.std.specs.Prelude.{◌≡◌, ◌<◌, [], ◌∷◌, ◌++◌, OnOk, OnErr, Some, length, is_some, vec_len, vec_capacity};
+ghost use Rattle.tab_term.specs.Order.{bytes_cmp, term_cmp};
+ghost use Rattle.tab_term.specs.View.{term, terms};
+ghost use Rattle.tab_map.specs.Entries.{Ascends, lookup};
+ghost use Rattle.tab_rows.specs.Joined.{IsInOrder, joined as joined_rows};
+ghost use Rattle.tab_model.specs.Names.{plain_terms};
+ghost use Rattle.tab_model.specs.declared.data.Move.TheVariants.{Do};
+ghost use Rattle.tab_txstore.specs.Merged.{merged as merged_of};
+ghost use Rattle.tab_txstore.specs.Overlays.{Touched, touched, seen_at};
+ghost use Rattle.tab_txstore.specs.Stores.{no_levels, nested, joined, ended, changed, levels_next};
+
+use crate::change::{change_of, is_failure};
+use crate::merged::Merged;
+use crate::touching::{seen, touch};
+use std::alloc::{AllocError, Global};
+use std::marker::Model;
+use tab_index::IndexedTable;
+use tab_map::Map;
+use tab_model::{Change, Operation, Reply};
+use tab_term::{Atom, Term, Terms};
+
+/// The innermost level as it is, with what each open level goes back to.
+pub struct Levels {
+    overlay: Map<Atom, Map<Term, Terms>>,
+    // Of all levels together, in order.
+    updates: Vec<Change>,
+    // Outermost first.
+    saved: Vec<Saved>,
+}
+
+/// What an open level goes back to: an overlay, which shares its nodes with the later ones, and how many updates there were.
+#[derive(Drop)]
+pub struct Saved {
+    overlay: Map<Atom, Map<Term, Terms>>,
+    updates: usize,
+}
+
+impl Model for Levels {
+    ghost use Rattle.std.specs.Prelude.{length};
+    ghost use Rattle.std.specs.Coded.{codes};
+    ghost use Rattle.tab_term.specs.Code.{term_code, terms_code, pairs_code};
+    ghost use Rattle.tab_txstore.specs.Stores.{Levels as PlainLevels};
+    ghost use Rattle.tab_txstore.specs.Kept.{levels_of, Rises};
+
+    ghost Value = { PlainLevels };
+
+    ghost coded = { Prim.hlevel (codes, term_code, terms_code, pairs_code) };
+
+    ghost view = { λ a. levels_of a.overlay a.updates.items a.saved.items };
+
+    ghost invariant = { λ a. Rises 0 a.saved.items (length a.updates.items) };
+}
+
+// A derived Drop would be taken apart, field by field, at each exit of each caller.
+impl Drop for Levels {
+    fn drop(self) {
+        let Levels {
+            overlay,
+            updates,
+            saved,
+        } = self;
+        drop(overlay);
+        drop(updates);
+        drop(saved);
+    }
+}
+
+impl Levels {
+    /// Nothing touched, and no level open below the first.
+    pub fn new(alloc: Global) -> Levels
+        ensures { result ≡ no_levels }
+    {
+        Levels {
+            overlay: Map::new(),
+            updates: Vec::new(alloc),
+            saved: Vec::new(alloc),
+        }
+    }
+
+    /// How many levels are open below the first.
+    pub fn depth(&self) -> usize
+        ensures { result ≡ length self.now.saved }
+    {
+        self.saved.len()
+    }
+
+    /// The updates that nothing undid, in order.
+    pub fn updates(&self) -> &[Change]
+        ensures { result.now ≡ self.now.now.updates }
+    {
+        self.updates.as_slice()
+    }
+
+    pub fn into_updates(self) -> Vec<Change>
+        ensures { result.items ≡ self.now.updates }
+    {
+        let Levels {
+            overlay: _,
+            updates,
+            saved: _,
+        } = self;
+        updates
+    }
+
+    /// What stands at a key of a lent table, without memory.
+    pub fn seen<'a>(&'a self, lent: &'a IndexedTable, key: &Term) -> &'a [Term]
+        ensures { terms result.now ≡ plain_terms (seen_at (touched self.now.now.overlay lent.now.def.name) lent.now.rows (term key.now)) }
+    {
+        seen(&self.overlay, lent, key)
+    }
+
+    /// Whether a key of the table was touched.
+    pub fn has_touched(&self, lent: &IndexedTable) -> bool
+        ensures { result ≡ is_some (lookup bytes_cmp lent.now.def.name self.now.now.overlay) }
+    {
+        self.overlay.contains_key(&lent.def().name)
+    }
+
+    /// A lent table's walk with the touched keys among it, without memory.
+    pub fn merged<'a>(&'a self, lent: &'a IndexedTable) -> Merged<'a>
+        ensures { (es : Touched) × (joined_rows es ≡ lent.now.rows) × IsInOrder es × Ascends term_cmp (touched self.now.now.overlay lent.now.def.name) × (result ≡ merged_of (touched self.now.now.overlay lent.now.def.name) es) }
+    {
+        let walk = lent.walk();
+        match self.overlay.get(&lent.def().name) {
+            Some(keys) => Merged::new(keys.iter(), walk),
+            None => Merged::new(walk.end(), walk),
+        }
+    }
+
+    /// An operation that was made over its lent table, with its reply: its change, or where it failed the end of its level.
+    pub fn operate(
+        &mut self,
+        alloc: Global,
+        lent: &IndexedTable,
+        operation: &Operation,
+        reply: &Reply,
+    ) -> Result<(), AllocError>
+        ensures ok { OnOk result (self.new ≡ levels_next (Some lent.now) self.old (Do operation.now) (Some reply.now)) }
+        ensures err { OnErr result (self.new ≡ self.old) }
+    {
+        if is_failure(reply) {
+            self.end();
+            return Ok(());
+        }
+        match change_of(alloc, operation)? {
+            Some(change) => self.change(alloc, lent, Draft { change }),
+            None => Ok(()),
+        }
+    }
+
+    /// Makes a change over a lent table.
+    fn change(&mut self, alloc: Global, lent: &IndexedTable, draft: Draft) -> Result<(), AllocError>
+        ensures ok { OnOk result (self.new ≡ changed (Some lent.now) self.old (Some draft.change)) }
+        ensures err { OnErr result (self.new ≡ self.old) }
+    {
+        self.updates.reserve(1)?;
+        touch(&mut self.overlay, alloc, lent, &draft.change)?;
+        push_change(&mut self.updates, draft.into_change());
+        Ok(())
+    }
+
+    /// A child begins.
+    pub fn nest(&mut self) -> Result<(), AllocError>
+        ensures ok { OnOk result (self.new ≡ nested self.old) }
+        ensures err { OnErr result (self.new ≡ self.old) }
+    {
+        let overlay = self.overlay.share()?;
+        self.saved.push(Saved {
+            overlay,
+            updates: self.updates.len(),
+        })?;
+        Ok(())
+    }
+
+    /// A child commits: its overlay, which has its parent's, becomes its parent's. Takes no memory.
+    pub fn join(&mut self)
+        ensures { self.new ≡ joined self.old }
+    {
+        let Some(parent) = self.saved.pop() else {
+            return;
+        };
+        drop(parent);
+    }
+
+    /// The innermost level ends: all is as it was when it began. Takes no memory.
+    pub fn end(&mut self)
+        ensures { self.new ≡ ended self.old }
+    {
+        match self.saved.pop() {
+            Some(Saved { overlay, updates }) => {
+                self.overlay = overlay;
+                self.updates.truncate(updates);
+            }
+            None => {
+                self.overlay = Map::new();
+                self.updates.truncate(0);
+            }
+        }
+    }
+
+    /// All is undone. Takes no memory.
+    pub fn clear(&mut self)
+        ensures { self.new ≡ no_levels }
+    {
+        self.overlay = Map::new();
+        self.updates.truncate(0);
+        self.saved.truncate(0);
+    }
+}
+
+/// A change that waits for its place.
+pub struct Draft {
+    change: Change,
+}
+
+// A derived Drop would be taken apart, variant by variant, at each exit of each caller.
+impl Drop for Draft {
+    fn drop(self) {
+        let Draft { change } = self;
+        drop(change);
+    }
+}
+
+impl Draft {
+    fn into_change(self) -> Change
+        ensures { result ≡ self.change }
+    {
+        let Draft { change } = self;
+        change
+    }
+}
+
+fn push_change(changes: &mut Vec<Change>, next: Change)
+    requires { vec_len changes.old < vec_capacity changes.old }
+    ensures { changes.new.items ≡ changes.old.items ++ next ∷ [] }
+{
+    changes.push_reserved(next);
+}

@@ -1,0 +1,323 @@
+ghost use Rattle.std.specs.Prelude.{◌≡◌, ◌<◌, ◌≤◌, ◌+◌, [], ◌∷◌, ◌++◌, IfOk, OnOk, OnErr, Some, None, true, length, is_some, vec_len, vec_capacity};
+ghost use Rattle.tab_term.specs.View.{term, terms};
+ghost use Rattle.tab_model.specs.Names.{plain_terms};
+ghost use Rattle.tab_model.specs.declared.data.Move.TheVariants.{Do, Open as OpenOf, Close as CloseOf, Undo as UndoOf};
+ghost use Rattle.tab_model.specs.declared.data.Reply.TheVariants as told_of;
+ghost use Rattle.tab_model.specs.Events.{is_failure as is_failure_of};
+ghost use Rattle.tab_model.specs.State.{count_moves};
+ghost use Rattle.tab_term.specs.Order.{bytes_cmp, term_cmp};
+ghost use Rattle.tab_map.specs.Entries.{Ascends, lookup};
+ghost use Rattle.tab_rows.specs.Joined.{IsInOrder, joined as joined_rows};
+ghost use Rattle.tab_txstore.specs.Merged.{merged as merged_of};
+ghost use Rattle.tab_txstore.specs.Overlays.{Touched, touched, seen_at};
+ghost use Rattle.tab_txstore.specs.Stores.{no_store, store_next};
+
+use crate::left::copies;
+use crate::levels::Levels;
+use crate::merged::Merged;
+use std::alloc::{AllocError, Global};
+use std::marker::Model;
+use tab_index::IndexedTable;
+use tab_model::{Change, Move, Moves, Operation, Replies, Reply};
+use tab_term::{Term, Terms};
+
+/// What a transaction did, what it was told, and what it left at the keys that it touched.
+pub struct TxStore {
+    // With room for the ends of the levels that are open.
+    moves: Vec<Move>,
+    told: Vec<Option<Reply>>,
+    // Of the moves, those that count towards the limit.
+    count: usize,
+    levels: Levels,
+}
+
+impl Model for TxStore {
+    ghost use Rattle.std.specs.Prelude.{◌≡◌, ◌≤◌, ◌+◌, length, vec_len, vec_capacity};
+    ghost use Rattle.std.specs.Coded.{codes};
+    ghost use Rattle.tab_term.specs.Code.{term_code, terms_code, pairs_code};
+    ghost use Rattle.tab_txstore.specs.Stores.{Store};
+    ghost use Rattle.tab_txstore.specs.Kept.{IsCounted};
+
+    ghost Value = { Store };
+
+    ghost coded = { Prim.hlevel (codes, term_code, terms_code, pairs_code) };
+
+    ghost view = { λ a. record { moves = a.moves.items; told = a.told.items; levels = a.levels } };
+
+    ghost invariant = { λ a. (vec_len a.moves + length a.levels.saved ≤ vec_capacity a.moves) × (vec_len a.told + length a.levels.saved ≤ vec_capacity a.told) × IsCounted a.moves.items a.count };
+}
+
+// A derived Drop would be taken apart, field by field, at each exit of each caller.
+impl Drop for TxStore {
+    fn drop(self) {
+        let TxStore {
+            moves,
+            told,
+            count: _,
+            levels,
+        } = self;
+        drop(moves);
+        drop(told);
+        drop(levels);
+    }
+}
+
+/// All that a transaction leaves to who commits it.
+#[derive(Drop)]
+pub struct Finished {
+    pub moves: Moves,
+    pub told: Replies,
+    pub updates: Vec<Change>,
+}
+
+/// An operation with its reply, which waits for its place.
+struct Made {
+    operation: Operation,
+    reply: Reply,
+}
+
+// A derived Drop would be taken apart, variant by variant, at each exit of each caller.
+impl Drop for Made {
+    fn drop(self) {
+        let Made { operation, reply } = self;
+        drop(operation);
+        drop(reply);
+    }
+}
+
+impl Made {
+    fn into_parts(self) -> (Operation, Reply)
+        ensures { result ≡ (self.operation, self.reply) }
+    {
+        let Made { operation, reply } = self;
+        (operation, reply)
+    }
+}
+
+impl TxStore {
+    /// Nothing done yet.
+    pub fn new(alloc: Global) -> TxStore
+        ensures { result ≡ no_store }
+    {
+        TxStore {
+            moves: Vec::new(alloc),
+            told: Vec::new(alloc),
+            count: 0,
+            levels: Levels::new(alloc),
+        }
+    }
+
+    /// An operation that was made over its lent table, with its reply, which is taken as given. One that failed there ends
+    /// its level.
+    pub fn make(
+        &mut self,
+        alloc: Global,
+        lent: &IndexedTable,
+        operation: Operation,
+        reply: Reply,
+    ) -> Result<(), AllocError>
+        ensures ok { OnOk result (self.new ≡ store_next (Some lent.now) self.old (Do operation) (Some reply)) }
+        ensures err { OnErr result (self.new ≡ self.old) }
+    {
+        self.put_made(alloc, lent, Made { operation, reply })
+    }
+
+    fn put_made(&mut self, alloc: Global, lent: &IndexedTable, made: Made) -> Result<(), AllocError>
+        ensures ok { OnOk result (self.new ≡ store_next (Some lent.now) self.old (Do made.operation) (Some made.reply)) }
+        ensures err { OnErr result (self.new ≡ self.old) }
+    {
+        reserve(&mut self.moves, self.levels.depth(), 1)?;
+        reserve_told(&mut self.told, self.levels.depth(), 1)?;
+        self.levels
+            .operate(alloc, lent, &made.operation, &made.reply)?;
+        let (operation, reply) = made.into_parts();
+        put_move(&mut self.moves, Move::Do(operation));
+        put_told(&mut self.told, Some(reply));
+        self.count += 1;
+        Ok(())
+    }
+
+    /// An operation that has no table, with its reply: its level ends.
+    pub fn fail(&mut self, operation: Operation, reply: Reply) -> Result<(), AllocError>
+        requires { is_failure_of (Some reply) ≡ true }
+        ensures ok { OnOk result (self.new ≡ store_next None self.old (Do operation) (Some reply)) }
+        ensures err { OnErr result (self.new ≡ self.old) }
+    {
+        self.put_failed(Made { operation, reply })
+    }
+
+    fn put_failed(&mut self, made: Made) -> Result<(), AllocError>
+        requires { is_failure_of (Some made.reply) ≡ true }
+        ensures ok { OnOk result (self.new ≡ store_next None self.old (Do made.operation) (Some made.reply)) }
+        ensures err { OnErr result (self.new ≡ self.old) }
+    {
+        reserve(&mut self.moves, self.levels.depth(), 1)?;
+        reserve_told(&mut self.told, self.levels.depth(), 1)?;
+        let (operation, reply) = made.into_parts();
+        put_move(&mut self.moves, Move::Do(operation));
+        put_told(&mut self.told, Some(reply));
+        self.levels.end();
+        self.count += 1;
+        Ok(())
+    }
+
+    /// A child begins. The place of its end is reserved.
+    pub fn nest(&mut self, age: u64) -> Result<(), AllocError>
+        ensures ok { OnOk result (self.new ≡ store_next None self.old OpenOf (Some (told_of.Tid age))) }
+        ensures err { OnErr result (self.new ≡ self.old) }
+    {
+        reserve(&mut self.moves, self.levels.depth(), 2)?;
+        reserve_told(&mut self.told, self.levels.depth(), 2)?;
+        self.levels.nest()?;
+        put_move(&mut self.moves, Move::Open);
+        put_told(&mut self.told, Some(Reply::Tid(age)));
+        self.count += 1;
+        Ok(())
+    }
+
+    /// A child commits: what it did is its parent's. Takes no memory.
+    pub fn nest_commit(&mut self)
+        requires { 0 < length self.old.levels.saved }
+        ensures { self.new ≡ store_next None self.old CloseOf (Some told_of.AtomicOk) }
+    {
+        put_move(&mut self.moves, Move::Close);
+        put_told(&mut self.told, Some(Reply::AtomicOk));
+        self.levels.join();
+    }
+
+    /// A child is aborted: what it did is undone. Takes no memory.
+    pub fn nest_abort(&mut self)
+        requires { 0 < length self.old.levels.saved }
+        ensures { self.new ≡ store_next None self.old UndoOf None }
+    {
+        put_move(&mut self.moves, Move::Undo);
+        put_told(&mut self.told, None);
+        self.levels.end();
+    }
+
+    /// All is undone and forgotten. Takes no memory.
+    pub fn clear(&mut self)
+        ensures { self.new ≡ no_store }
+    {
+        self.moves.truncate(0);
+        self.told.truncate(0);
+        self.count = 0;
+        self.levels.clear();
+    }
+
+    /// How many levels are open below the first.
+    pub fn depth(&self) -> usize
+        ensures { result ≡ length self.now.levels.saved }
+    {
+        self.levels.depth()
+    }
+
+    /// How many of the moves count towards the limit of a transaction's operations.
+    pub fn count(&self) -> usize
+        ensures { result ≡ count_moves self.now.moves }
+    {
+        self.count
+    }
+
+    /// The updates that nothing undid, in order.
+    pub fn updates(&self) -> &[Change]
+        ensures { result.now ≡ self.now.levels.now.updates }
+    {
+        self.levels.updates()
+    }
+
+    /// All by a move, for the log's entry and the commit.
+    pub fn finished(self) -> Finished
+        ensures moves { result.moves ≡ self.moves }
+        ensures told { result.told ≡ self.told }
+        ensures updates { result.updates.items ≡ self.levels.now.updates }
+    {
+        let TxStore {
+            moves,
+            told,
+            count: _,
+            levels,
+        } = self;
+        Finished {
+            moves: Moves { items: moves },
+            told: Replies { items: told },
+            updates: levels.into_updates(),
+        }
+    }
+
+    /// What stands at a key of a lent table for the transaction, without memory.
+    pub fn seen<'a>(&'a self, lent: &'a IndexedTable, key: &Term) -> &'a [Term]
+        ensures { terms result.now ≡ plain_terms (seen_at (touched self.now.levels.now.overlay lent.now.def.name) lent.now.rows (term key.now)) }
+    {
+        self.levels.seen(lent, key)
+    }
+
+    // A lent table's walk with the touched keys among it, without memory.
+    pub(crate) fn merged<'a>(&'a self, lent: &'a IndexedTable) -> Merged<'a>
+        ensures { (es : Touched) × (joined_rows es ≡ lent.now.rows) × IsInOrder es × Ascends term_cmp (touched self.now.levels.now.overlay lent.now.def.name) × (result ≡ merged_of (touched self.now.levels.now.overlay lent.now.def.name) es) }
+    {
+        self.levels.merged(lent)
+    }
+
+    // Whether the transaction has touched a key of the table.
+    pub(crate) fn has_touched(&self, lent: &IndexedTable) -> bool
+        ensures { result ≡ is_some (lookup bytes_cmp lent.now.def.name self.now.levels.now.overlay) }
+    {
+        self.levels.has_touched(lent)
+    }
+
+    /// Copies of what stands at a key of a lent table for the transaction.
+    pub fn view_read(
+        &self,
+        alloc: Global,
+        lent: &IndexedTable,
+        key: &Term,
+    ) -> Result<Terms, AllocError>
+        ensures { IfOk result (λ records. records ≡ plain_terms (seen_at (touched self.now.levels.now.overlay lent.now.def.name) lent.now.rows (term key.now))) }
+    {
+        Ok(Terms::from_vec(copies(alloc, self.seen(lent, key))?))
+    }
+}
+
+fn reserve(moves: &mut Vec<Move>, depth: usize, more: usize) -> Result<(), AllocError>
+    ensures items { moves.new.items ≡ moves.old.items }
+    ensures len { vec_len moves.new ≡ vec_len moves.old }
+    ensures kept { vec_capacity moves.old ≤ vec_capacity moves.new }
+    ensures room { OnOk result (vec_len moves.new + depth + more ≤ vec_capacity moves.new) }
+{
+    moves.reserve(places(depth, more)?)
+}
+
+fn reserve_told(told: &mut Vec<Option<Reply>>, depth: usize, more: usize) -> Result<(), AllocError>
+    ensures items { told.new.items ≡ told.old.items }
+    ensures len { vec_len told.new ≡ vec_len told.old }
+    ensures kept { vec_capacity told.old ≤ vec_capacity told.new }
+    ensures room { OnOk result (vec_len told.new + depth + more ≤ vec_capacity told.new) }
+{
+    told.reserve(places(depth, more)?)
+}
+
+// No memory holds as many levels as a size can't count.
+fn places(depth: usize, more: usize) -> Result<usize, AllocError>
+    ensures { IfOk result (λ places. places ≡ depth + more) }
+{
+    depth.checked_add(more).ok_or(AllocError)
+}
+
+fn put_move(moves: &mut Vec<Move>, next: Move)
+    requires { vec_len moves.old < vec_capacity moves.old }
+    ensures items { moves.new.items ≡ moves.old.items ++ next ∷ [] }
+    ensures len { vec_len moves.new ≡ vec_len moves.old + 1 }
+    ensures room { vec_capacity moves.old ≤ vec_capacity moves.new }
+{
+    moves.push_reserved(next);
+}
+
+fn put_told(told: &mut Vec<Option<Reply>>, next: Option<Reply>)
+    requires { vec_len told.old < vec_capacity told.old }
+    ensures items { told.new.items ≡ told.old.items ++ next ∷ [] }
+    ensures len { vec_len told.new ≡ vec_len told.old + 1 }
+    ensures room { vec_capacity told.old ≤ vec_capacity told.new }
+{
+    told.push_reserved(next);
+}

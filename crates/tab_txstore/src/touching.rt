@@ -1,0 +1,168 @@
+//! Changes of an overlay, in place where no saved level shares it.
+ghost use Rattle.std.specs.Prelude.{◌≡◌, IfSome, IsSome, OnOk, OnErr};
+ghost use Rattle.tab_term.specs.Order.{bytes_cmp, term_cmp};
+ghost use Rattle.std.specs.Option.{option_copied};
+ghost use Rattle.tab_term.specs.View.{term, terms};
+ghost use Rattle.tab_model.specs.Names.{plain_terms};
+ghost use Rattle.tab_map.specs.Entries.{lookup, insert_entry};
+ghost use Rattle.tab_map.specs.Revised.{revised_at};
+ghost use Rattle.tab_rows.specs.Joined.{followed_by};
+ghost use Rattle.tab_txstore.specs.Overlays.{touched, seen_at, touch as touch_of};
+ghost use Rattle.tab_txstore.specs.Kept.{Appends};
+
+use crate::change::key_of;
+use crate::left::left;
+use std::alloc::{AllocError, Global};
+use tab_index::IndexedTable;
+use tab_map::{Map, Revise};
+use tab_model::{Change, Kind};
+use tab_rows::{Append, contains};
+use tab_term::{Atom, Term, Terms};
+
+/// Records that come to stand at a key.
+#[derive(Drop)]
+struct PutAt {
+    key: Term,
+    records: Terms,
+}
+
+impl Revise<Map<Term, Terms>> for PutAt {
+    ghost becomes = { λ a keys. insert_entry term_cmp (a.key, a.records) keys };
+
+    fn revise(self, alloc: Global, keys: &mut Map<Term, Terms>) -> Result<(), AllocError> {
+        keys.insert(alloc, self.key, self.records)
+    }
+
+    fn revised(
+        self,
+        alloc: Global,
+        keys: &Map<Term, Terms>,
+    ) -> Result<Map<Term, Terms>, AllocError> {
+        keys.inserted(alloc, self.key, self.records)
+    }
+}
+
+/// One more record at a key.
+#[derive(Drop)]
+struct AppendAt {
+    key: Term,
+    row: Term,
+}
+
+impl Revise<Map<Term, Terms>> for AppendAt {
+    ghost becomes = { λ a keys. revised_at term_cmp (λ records. followed_by records (term a.row)) a.key keys };
+
+    fn revise(self, alloc: Global, keys: &mut Map<Term, Terms>) -> Result<(), AllocError> {
+        keys.revise(alloc, self.key, Append { row: self.row })
+    }
+
+    fn revised(
+        self,
+        alloc: Global,
+        keys: &Map<Term, Terms>,
+    ) -> Result<Map<Term, Terms>, AllocError> {
+        let mut keys = keys.share()?;
+        keys.revise(alloc, self.key, Append { row: self.row })?;
+        Ok(keys)
+    }
+}
+
+/// What stands at a key of a lent table, without memory.
+pub fn seen<'a>(
+    overlay: &'a Map<Atom, Map<Term, Terms>>,
+    lent: &'a IndexedTable,
+    key: &Term,
+) -> &'a [Term]
+    ensures { terms result.now ≡ plain_terms (seen_at (touched overlay.now lent.now.def.name) lent.now.rows (term key.now)) }
+{
+    match overlay.get(&lent.def().name) {
+        Some(keys) => match keys.get(key) {
+            Some(records) => records.as_slice(),
+            None => lent.at(key),
+        },
+        None => lent.at(key),
+    }
+}
+
+/// Makes a change over a lent table.
+pub fn touch(
+    overlay: &mut Map<Atom, Map<Term, Terms>>,
+    alloc: Global,
+    lent: &IndexedTable,
+    change: &Change,
+) -> Result<(), AllocError>
+    ensures ok { OnOk result (overlay.new ≡ touch_of lent.now overlay.old change.now) }
+    ensures err { OnErr result (overlay.new ≡ overlay.old) }
+{
+    let key = key_of(alloc, change)?;
+    let name = lent.def().name.try_clone(alloc)?;
+    if let Some(row) = appended(overlay, lent, &key, change) {
+        let row = row.try_clone(alloc)?;
+        append(overlay, alloc, name, key, row)?;
+        return Ok(());
+    }
+    let kind = lent.def().kind;
+    let records = left(alloc, kind, seen(overlay, lent, &key), change)?;
+    put(overlay, alloc, name, key, records)?;
+    Ok(())
+}
+
+// The record of a write that a bag puts after others, which were touched before.
+fn appended<'a>(
+    overlay: &Map<Atom, Map<Term, Terms>>,
+    lent: &IndexedTable,
+    key: &Term,
+    change: &'a Change,
+) -> Option<&'a Term>
+    ensures { IfSome (option_copied result) (Appends lent.now overlay.now key.now change.now) }
+{
+    let Change::Write(row) = change else {
+        return None;
+    };
+    match lent.def().kind {
+        Kind::Set => None,
+        Kind::Bag => {
+            let records = overlay.get(&lent.def().name)?.get(key)?;
+            if contains(records.as_slice(), row) {
+                return None;
+            }
+            Some(row)
+        }
+    }
+}
+
+// Puts the records at the key of the table.
+fn put(
+    overlay: &mut Map<Atom, Map<Term, Terms>>,
+    alloc: Global,
+    table: Atom,
+    key: Term,
+    records: Terms,
+) -> Result<(), AllocError>
+    ensures ok { OnOk result (overlay.new ≡ insert_entry bytes_cmp (table, insert_entry term_cmp (key, records) (touched overlay.old table)) overlay.old) }
+    ensures err { OnErr result (overlay.new ≡ overlay.old) }
+{
+    if overlay.contains_key(&table) {
+        overlay.revise(alloc, table, PutAt { key, records })?;
+        return Ok(());
+    }
+    let mut keys = Map::new();
+    keys.insert(alloc, key, records)?;
+    overlay.insert(alloc, table, keys)?;
+    Ok(())
+}
+
+// Puts the record after those that stand at the key of the table, which was touched before.
+fn append(
+    overlay: &mut Map<Atom, Map<Term, Terms>>,
+    alloc: Global,
+    table: Atom,
+    key: Term,
+    row: Term,
+) -> Result<(), AllocError>
+    requires { IsSome (lookup bytes_cmp table overlay.old) }
+    ensures ok { OnOk result (overlay.new ≡ insert_entry bytes_cmp (table, revised_at term_cmp (λ records. followed_by records (term row)) key (touched overlay.old table)) overlay.old) }
+    ensures err { OnErr result (overlay.new ≡ overlay.old) }
+{
+    overlay.revise(alloc, table, AppendAt { key, row })
+}
