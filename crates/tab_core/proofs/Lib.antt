@@ -1,4 +1,10 @@
-pub mod InfoLemmas
-pub mod NamedLemmas
+pub mod Answering
+pub mod HeldLocks
+pub mod Keeping
+pub mod Moving
+pub mod Committing
+pub mod Ending
+pub mod Numbers
+pub mod OperatingLemmas
+pub mod Places
 pub mod RunsLemmas
-pub mod SingleLemmas

@@ -12,7 +12,7 @@ use Rattle.tab_core.specs.declared.step.Step.{Step}
 use Rattle.tab_core.specs.declared.step.Step.TheVariants as step
 use Rattle.tab_core.specs.declared.step.Stepped.{Stepped}
 use Rattle.tab_core.specs.Served.{serves}
-use Rattle.tab_core.specs.Single.{no_outbox}
+use Rattle.tab_core.specs.Seats.{no_outbox}
 
 abbrev pub ask_of : Step → Ask
 ask_of step.Join = Join no_outbox

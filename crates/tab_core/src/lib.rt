@@ -1,7 +1,7 @@
 //! The core: a machine of steps over tables, sessions and their transactions.
 //!
 //! Contracts see a core as one plain state (`State` of tab_model), and a step is a function of it (`outcome`). So far
-//! one session is served, with one level of transaction, and all commands but subscriptions and one-shots.
+//! all commands are served but subscriptions and one-shots.
 
 #![tactic(auto)]
 
@@ -12,13 +12,16 @@ ghost use Rattle.tab_model.specs.State.{new, IsSound};
 ghost use Rattle.tab_model.specs.Run.{IsTied};
 ghost use Rattle.tab_core.specs.Runs.{ask_of, asks_of, serves_step, AllServed, StepsTo, StepsOrNoMemory, RunsTo, taken_in, takes_no_memory};
 
-mod definitions;
+mod command;
+mod levels;
 mod machine;
-mod operate;
+mod operating;
+mod queue;
+mod redefining;
+mod seat;
 mod served;
+mod sessions;
 mod step;
-mod tables;
-mod transaction;
 
 use crate::machine::Machine;
 pub use served::is_served;
@@ -39,22 +42,23 @@ pub struct Core {
 impl Model for Core {
     ghost use Rattle.std.specs.Coded.{codes};
     ghost use Rattle.tab_term.specs.Code.{term_code, terms_code, pairs_code};
-    ghost use Rattle.tab_model.specs.State.{State, IsSound};
+    ghost use Rattle.tab_model.specs.State.{State};
+    ghost use Rattle.tab_core.specs.Seats.{state_of};
+    ghost use Rattle.tab_core.specs.Kept.{IsKept};
 
     ghost Value = { State };
 
     ghost coded = { Prim.hlevel (codes, term_code, terms_code, pairs_code) };
 
-    ghost view = { λ a. a.machine };
+    ghost view = { λ a. state_of a.machine };
 
-    ghost invariant = { λ a. IsSound a.machine };
+    ghost invariant = { λ a. IsKept a.machine };
 }
 
 impl Core {
-    /// A core without tables and sessions. So far it has one session at most, with one level of its transaction.
-    #[tactic(auto, using(tab_model::proofs::Schedules::new_sound))]
+    /// A core without tables and sessions. It has 64 sessions at most.
     pub fn new(alloc: Global, limits: Limits) -> Core
-        requires one { (limits.sessions ≤ 1) × (limits.nesting ≤ 1) }
+        requires { limits.sessions ≤ 64 }
         ensures { result ≡ new limits }
     {
         Core {

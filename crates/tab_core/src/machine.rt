@@ -1,73 +1,74 @@
-//! The machine of one session: each step, command by command.
+//! The parts of a core, and its steps.
 
-ghost use Rattle.std.specs.Prelude.{◌≡◌, ◌+◌, ◌≤◌, [], IfOk, IsOk, OnErr, true, false};
-ghost use Rattle.tab_model.specs.declared.data.Command.TheVariants as command;
-ghost use Rattle.tab_model.specs.State.{new};
+ghost use Rattle.std.specs.Prelude.{◌≡◌, ◌≤◌, [], Some, None, IfOk, IsOk, OnErr, MatchOption, false, true};
+ghost use Rattle.tab_model.specs.State.{new, is_waiting};
+ghost use Rattle.tab_model.specs.Outcome.{DoCommand, nothing, outcome};
 ghost use Rattle.tab_core.specs.Runs.{StepsTo, ask_of, serves_step, takes_no_memory};
-ghost use Rattle.tab_model.specs.Outcome.{Ask, Join, Leave, Retry, Take, DoCommand, nothing, unseated, outcome, has_room};
 ghost use Rattle.tab_core.specs.Served.{serves};
-ghost use Rattle.tab_core.specs.Single.{asked, no_outbox, IsAlone};
+ghost use Rattle.tab_core.specs.Seats.{state_of, at, StandsAt};
+ghost use Rattle.tab_core.specs.Kept.{IsKept};
 
-use crate::definitions::{Redefined, redefine, table_info};
-use crate::operate::{Effect, Performed, perform};
+use crate::command::{Asked, AskedSchema};
+use crate::queue::{Request, find};
+use crate::seat::Seat;
 use crate::step::{Step, Stepped};
-use crate::tables::Tables;
-use crate::transaction::{Pending, PendingSchema, Request};
+use arrayvec::ArrayVec;
 use std::alloc::{AllocError, Global};
-use std::marker::Model;
-use std::mem;
-use tab_model::{
-    Command, Entry, InfoItem, Limit, Limits, Move, Moves, Numbers, Replies, Reply, Schema,
-};
-use tab_term::{Atom, Term};
+use tab_model::{Command, Limits, Reply};
+use tab_operations::Pending;
+use tab_waitdie::Ages;
+use tab_world::World;
 
-/// At most one session, and one level of its transaction.
-#[derive(Drop)]
-pub struct Machine {
-    alloc: Global,
-    tables: Tables,
-    session: Option<u32>,
-    /// The age of the open transaction. Below stand its moves, their replies, and the tables as it sees them.
-    open: Option<u64>,
-    moves: Vec<Move>,
-    told: Vec<Option<Reply>>,
-    work: Tables,
+/// How many sessions are joined at most. Their seats are searched one after another.
+pub(crate) const SESSIONS: usize = 64;
+
+/// The tables, the sessions with their transactions in the order of joining, who holds locks and who waits.
+pub(crate) struct Machine {
+    pub alloc: Global,
+    pub world: World,
+    pub seats: ArrayVec<Seat, SESSIONS>,
+    pub ages: Ages,
+    pub queue: Vec<Request>,
     /// How many outermost transactions have begun.
-    begun: u64,
-    commits: u64,
-    greatest: u32,
-    limits: Limits,
+    pub begun: u64,
+    pub commits: u64,
+    pub greatest: u32,
+    pub limits: Limits,
 }
 
-impl Model for Machine {
-    ghost use Rattle.std.specs.Prelude.{◌+◌};
-    ghost use Rattle.std.specs.Coded.{codes};
-    ghost use Rattle.tab_term.specs.Code.{term_code, terms_code, pairs_code};
-    ghost use Rattle.tab_model.specs.State.{State};
-    ghost use Rattle.tab_core.specs.Single.{state_of, transaction_of, IsSingle};
-
-    ghost Value = { State };
-
-    ghost coded = { Prim.hlevel (codes, term_code, terms_code, pairs_code) };
-
-    ghost view = { λ a. state_of a.tables a.session (transaction_of a.open a.moves.items a.told.items) (a.begun + 1) a.commits a.greatest a.limits };
-
-    ghost invariant = { λ a. IsSingle a.tables a.session a.open a.moves.items a.work a.begun a.commits a.limits };
+// A derived Drop would be taken apart, field by field, at each exit of each caller.
+impl Drop for Machine {
+    fn drop(self) {
+        let Machine {
+            alloc: _,
+            world,
+            seats,
+            ages,
+            queue,
+            begun: _,
+            commits: _,
+            greatest: _,
+            limits: _,
+        } = self;
+        drop(world);
+        drop(seats);
+        drop(ages);
+        drop(queue);
+    }
 }
 
 impl Machine {
     pub fn new(alloc: Global, limits: Limits) -> Machine
-        requires one { (limits.sessions ≤ 1) × (limits.nesting ≤ 1) }
-        ensures { result ≡ new limits }
+        requires { limits.sessions ≤ 64 }
+        ensures state { state_of result ≡ new limits }
+        ensures kept { IsKept result }
     {
         Machine {
             alloc,
-            tables: Tables::new(),
-            session: None,
-            open: None,
-            moves: Vec::new(alloc),
-            told: Vec::new(alloc),
-            work: Tables::new(),
+            world: World::empty(),
+            seats: ArrayVec::new(),
+            ages: Ages::new(alloc),
+            queue: Vec::new(alloc),
             begun: 0,
             commits: 0,
             greatest: 0,
@@ -75,261 +76,102 @@ impl Machine {
         }
     }
 
-    pub fn begin(&mut self) -> Result<Reply, AllocError>
-        ensures ok { IfOk result (λ r. asked self.old command.Begin ≡ nothing self.new r) }
-        ensures err { OnErr result (self.new ≡ self.old) }
+    /// Where a session's seat stands, if it has joined.
+    fn place(&self, session: u32) -> Option<usize>
+        ensures { MatchOption result (at self.now.seats.items session ≡ None) (StandsAt self.now.seats.items session) }
     {
-        if self.session.is_none() {
-            return Ok(Reply::BadSession);
-        }
-        if self.open.is_some() {
-            return Ok(Reply::SystemLimit(Limit::Nesting));
-        }
-        if self.begun >= self.limits.ages {
-            return Ok(Reply::SystemLimit(Limit::Ages));
-        }
-        let age = self.begun + 1;
-        self.work = self.tables.share()?;
-        self.moves = Vec::new(self.alloc);
-        self.told = Vec::new(self.alloc);
-        self.open = Some(age);
-        self.begun = age;
-        Ok(Reply::Tid(age))
-    }
-
-    pub fn abort(&mut self, reason: Term) -> Reply
-        ensures { asked self.old (command.Abort reason) ≡ nothing self.new result }
-    {
-        if self.session.is_none() {
-            return Reply::BadSession;
-        }
-        if self.open.is_none() {
-            return Reply::NoTransaction;
-        }
-        self.open = None;
-        Reply::UserAbort(reason)
-    }
-
-    pub fn operate(&mut self, pending: Pending) -> Result<Reply, AllocError>
-        ensures ok { IfOk result (λ r. asked self.old (command.Do pending.operation) ≡ nothing self.new r) }
-        ensures err { OnErr result (self.new ≡ self.old) }
-    {
-        if self.session.is_none() {
-            return Ok(Reply::BadSession);
-        }
-        if self.open.is_none() {
-            return Ok(Reply::NoTransaction);
-        }
-        if self.moves.len() as u64 >= self.limits.operations {
-            return Ok(Reply::SystemLimit(Limit::Operations));
-        }
-        self.moves.reserve(1)?;
-        self.told.reserve(1)?;
-        match perform(self.alloc, &self.work, &pending.operation)? {
-            Performed::Failed(reply) => {
-                self.open = None;
-                Ok(reply)
-            }
-            Performed::Done(effect) => {
-                let Effect {
-                    reply,
-                    told,
-                    tables,
-                } = effect;
-                self.moves.push_reserved(Move::Do(pending.into_operation()));
-                self.told.push_reserved(Some(told));
-                self.work = tables;
-                Ok(reply)
+        for (place, seat) in self.seats.iter().enumerate() {
+            if seat.number == session {
+                return Some(place);
             }
         }
+        None
     }
 
-    /// Takes no memory.
-    pub fn commit(&mut self) -> Stepped
-        ensures { asked self.old command.Commit ≡ record { state = self.new; reply = result.reply; entry = result.entry } }
+    pub fn step(&mut self, session: u32, step: Step) -> Result<Stepped, AllocError>
+        requires served { serves_step step ≡ true }
+        requires kept { IsKept self.old }
+        ensures done { IfOk result (λ s. StepsTo (state_of self.old) session (ask_of step) s (state_of self.new)) }
+        ensures free { takes_no_memory (state_of self.old) session (ask_of step) ≡ true → IsOk result }
+        ensures err { OnErr result (state_of self.new ≡ state_of self.old) }
+        ensures kept { IsKept self.new }
     {
-        let Some(session) = self.session else {
-            return Stepped::without_entry(Reply::BadSession);
+        let Some(place) = self.place(session) else {
+            return Ok(Stepped::without_entry(self.stranger(session, &step)));
         };
-        let Some(age) = self.open else {
-            return Stepped::without_entry(Reply::NoTransaction);
-        };
-        let moves = mem::replace(&mut self.moves, Vec::new(self.alloc));
-        let told = mem::replace(&mut self.told, Vec::new(self.alloc));
-        self.tables = mem::replace(&mut self.work, Tables::new());
-        self.open = None;
-        self.commits += 1;
-        Stepped {
-            reply: Reply::Atomic(self.commits),
-            entry: Some(Entry::Committed {
-                number: self.commits,
-                session: session as u64,
-                age,
-                moves: Moves { items: moves },
-                told: Replies { items: told },
-                overflowed: Numbers {
-                    items: Vec::new(self.alloc),
-                },
-            }),
+        match step {
+            Step::Join => Ok(Stepped::without_entry(Reply::BadSession)),
+            Step::Leave => Ok(Stepped::without_entry(self.leave(session, place))),
+            Step::Retry => Ok(Stepped::without_entry(self.retry(session, place)?)),
+            Step::Take => Ok(Stepped::without_entry(Reply::Empty)),
+            Step::Do(command) => self.command(session, place, Asked { command }),
         }
     }
 
-    pub fn schema(&mut self, pending: PendingSchema) -> Result<Stepped, AllocError>
-        ensures ok { IfOk result (λ s. asked self.old (command.Schema pending.schema) ≡ record { state = self.new; reply = s.reply; entry = s.entry }) }
-        ensures err { OnErr result (self.new ≡ self.old) }
+    /// A command of a joined session.
+    fn command(&mut self, session: u32, place: usize, asked: Asked) -> Result<Stepped, AllocError>
+        requires served { serves asked.command ≡ true }
+        requires kept { IsKept self.old }
+        requires there { StandsAt self.old.seats.items session place }
+        ensures done { IfOk result (λ s. outcome (state_of self.old) [] session (DoCommand asked.command) ≡ record { state = state_of self.new; reply = s.reply; entry = s.entry }) }
+        ensures free { takes_no_memory (state_of self.old) session (DoCommand asked.command) ≡ true → IsOk result }
+        ensures err { OnErr result (state_of self.new ≡ state_of self.old) }
+        ensures kept { IsKept self.new }
     {
-        if self.session.is_none() {
-            return Ok(Stepped::without_entry(Reply::BadSession));
-        }
-        if self.open.is_some() {
-            return Ok(Stepped::without_entry(Reply::InTransaction));
-        }
-        match redefine(self.alloc, &self.tables, &pending.schema)? {
-            Redefined::Refused(reply) => Ok(Stepped::without_entry(reply)),
-            Redefined::Done(_) if !self.has_room(&pending.schema) => {
-                Ok(Stepped::without_entry(Reply::SystemLimit(Limit::Tables)))
+        let waits = find(&self.queue, session).is_some();
+        match asked.into_command() {
+            Command::Abort(reason) => {
+                Ok(Stepped::without_entry(self.abort(session, place, reason)))
             }
-            Redefined::Done(tables) => {
-                self.tables = tables;
-                Ok(Stepped {
-                    reply: Reply::AtomicOk,
-                    entry: Some(Entry::Changed(
-                        pending.into_schema(),
-                        Numbers {
-                            items: Vec::new(self.alloc),
-                        },
-                    )),
-                })
+            _ if waits => Ok(Stepped::without_entry(Reply::WaitingNow)),
+            command => self.idle_command(session, place, Asked { command }),
+        }
+    }
+
+    /// A command of a session that waits for nothing.
+    fn idle_command(
+        &mut self,
+        session: u32,
+        place: usize,
+        asked: Asked,
+    ) -> Result<Stepped, AllocError>
+        requires served { serves asked.command ≡ true }
+        requires kept { IsKept self.old }
+        requires there { StandsAt self.old.seats.items session place }
+        requires idle { is_waiting (state_of self.old) session ≡ false }
+        ensures done { IfOk result (λ s. outcome (state_of self.old) [] session (DoCommand asked.command) ≡ record { state = state_of self.new; reply = s.reply; entry = s.entry }) }
+        ensures free { takes_no_memory (state_of self.old) session (DoCommand asked.command) ≡ true → IsOk result }
+        ensures err { OnErr result (state_of self.new ≡ state_of self.old) }
+        ensures kept { IsKept self.new }
+    {
+        match asked.into_command() {
+            Command::Begin => Ok(Stepped::without_entry(self.begin(session, place)?)),
+            Command::Commit => self.commit(session, place),
+            Command::Abort(reason) => Ok(Stepped::without_entry(self.abort(
+                session, place, reason,
+            ))),
+            Command::Do(operation) => {
+                let pending = Pending { operation };
+                Ok(Stepped::without_entry(self.operate(session, place, pending)?))
             }
-        }
-    }
-
-    /// Whether the limit of tables lets the command pass.
-    fn has_room(&self, command: &Schema) -> bool
-        ensures { result ≡ has_room self.now command.now }
-    {
-        match command {
-            Schema::Create(_, _) => self.tables.has_room(self.limits.tables),
-            _ => true,
-        }
-    }
-
-    pub fn table_info(&self, name: &Atom, item: InfoItem) -> Result<Reply, AllocError>
-        ensures { IfOk result (λ r. asked self.now (command.TableInfo name.now item) ≡ nothing self.now r) }
-    {
-        if self.session.is_none() {
-            return Ok(Reply::BadSession);
-        }
-        table_info(self.alloc, &self.tables, name, item)
-    }
-
-    /// Of a session that has not joined. Takes no memory.
-    pub fn join(&mut self, session: u32) -> Reply
-        ensures { unseated self.old session (Join no_outbox) ≡ nothing self.new result }
-    {
-        if session <= self.greatest {
-            return Reply::BadSession;
-        }
-        if self.session.is_some() || self.limits.sessions == 0 {
-            return Reply::SystemLimit(Limit::Sessions);
-        }
-        self.session = Some(session);
-        self.open = None;
-        self.greatest = session;
-        Reply::Done
-    }
-
-    /// Takes no memory.
-    pub fn leave(&mut self, session: u32) -> Reply
-        ensures { outcome self.old [] session Leave ≡ nothing self.new result }
-    {
-        if !self.is_seated(session) {
-            return Reply::BadSession;
-        }
-        self.session = None;
-        self.open = None;
-        Reply::Done
-    }
-
-    /// Whether this session has joined.
-    pub fn is_seated(&self, session: u32) -> bool
-        ensures seated { result ≡ true → IsAlone self.now session }
-        ensures stranger { result ≡ false → (a : Ask) → outcome self.now [] session a ≡ unseated self.now session a }
-    {
-        match self.session {
-            Some(number) => number == session,
-            None => false,
-        }
-    }
-
-    /// A command of a session.
-    pub fn command(&mut self, session: u32, request: Request) -> Result<Stepped, AllocError>
-        requires { serves request.command ≡ true }
-        ensures ok { IfOk result (λ s. outcome self.old [] session (DoCommand request.command) ≡ record { state = self.new; reply = s.reply; entry = s.entry }) }
-        ensures free { takes_no_memory self.old session (DoCommand request.command) ≡ true → IsOk result }
-        ensures err { OnErr result (self.new ≡ self.old) }
-    {
-        if !self.is_seated(session) {
-            return Ok(Stepped::without_entry(Reply::BadSession));
-        }
-        match request.into_command() {
-            Command::Begin => Ok(Stepped::without_entry(self.begin()?)),
-            Command::Commit => Ok(self.commit()),
-            Command::Abort(reason) => Ok(Stepped::without_entry(self.abort(reason))),
-            Command::Do(operation) => Ok(Stepped::without_entry(self.operate(Pending {
-                operation,
-            })?)),
-            Command::Schema(schema) => self.schema(PendingSchema { schema }),
+            Command::Schema(schema) => self.schema(session, place, AskedSchema { schema }),
             Command::TableInfo(name, item) => {
-                Ok(Stepped::without_entry(self.table_info(&name, item)?))
+                Ok(Stepped::without_entry(self.table_info(session, &name, item)?))
             }
             _ => unreachable!(),
         }
     }
 
-    pub fn step(&mut self, session: u32, step: Step) -> Result<Stepped, AllocError>
-        requires { serves_step step ≡ true }
-        ensures done { IfOk result (λ s. StepsTo self.old session (ask_of step) s self.new) }
-        ensures free { takes_no_memory self.old session (ask_of step) ≡ true → IsOk result }
-        ensures err { OnErr result (self.new ≡ self.old) }
+    /// A session that has not joined can do nothing but join.
+    fn stranger(&mut self, session: u32, step: &Step) -> Reply
+        requires kept { IsKept self.old }
+        requires stranger { at self.old.seats.items session ≡ None }
+        ensures done { outcome (state_of self.old) [] session (ask_of step.now) ≡ nothing (state_of self.new) result }
+        ensures kept { IsKept self.new }
     {
         match step {
-            Step::Join => Ok(Stepped::without_entry(self.seat(session))),
-            Step::Leave => Ok(Stepped::without_entry(self.leave(session))),
-            Step::Retry => Ok(Stepped::without_entry(self.retry(session))),
-            Step::Take => Ok(Stepped::without_entry(self.take(session))),
-            Step::Do(command) => self.command(session, Request { command }),
-        }
-    }
-
-    fn seat(&mut self, session: u32) -> Reply
-        ensures { outcome self.old [] session (Join no_outbox) ≡ nothing self.new result }
-    {
-        if self.is_seated(session) {
-            return Reply::BadSession;
-        }
-        self.join(session)
-    }
-
-    /// No one waits, since there is one session.
-    fn retry(&self, session: u32) -> Reply
-        ensures { outcome self.now [] session Retry ≡ nothing self.now result }
-    {
-        if self.is_seated(session) {
-            Reply::NotWaiting
-        } else {
-            Reply::BadSession
-        }
-    }
-
-    /// No one has an item, since no one subscribes.
-    fn take(&self, session: u32) -> Reply
-        ensures { outcome self.now [] session Take ≡ nothing self.now result }
-    {
-        if self.is_seated(session) {
-            Reply::Empty
-        } else {
-            Reply::BadSession
+            Step::Join => self.join(session),
+            _ => Reply::BadSession,
         }
     }
 }

@@ -10,6 +10,7 @@ enum Asks {
     Retry,
     Take,
     Create(&'static str),
+    Remove(&'static str),
     Begin,
     Write(&'static str, i128, &'static str),
     /// A record without a value.
@@ -35,6 +36,10 @@ enum Told {
     NoTransaction,
     BadSession,
     NotWaiting,
+    Waiting,
+    WaitingNow,
+    Restart,
+    Locked(&'static str),
     Empty,
     Limit(Limit),
 }
@@ -106,6 +111,54 @@ const SCRIPTS: [&[(u32, Asks, Told)]; 4] = [
     ],
 ];
 
+/// Two sessions: one waits for the other, which is restarted; a child is aborted; a session leaves with its locks.
+const TWO_SESSIONS: [(u32, Asks, Told); 35] = [
+    (1, Asks::Join, Told::Done),
+    (2, Asks::Join, Told::Done),
+    (3, Asks::Join, Told::Limit(Limit::Sessions)),
+    (1, Asks::Create("t"), Told::AtomicOk),
+    (1, Asks::Begin, Told::Tid(1)),
+    (2, Asks::Begin, Told::Tid(2)),
+    (1, Asks::Write("t", 1, "a"), Told::Done),
+    (2, Asks::Write("t", 2, "b"), Told::Done),
+    (1, Asks::Read("t", 2), Told::Waiting),
+    (1, Asks::Read("t", 1), Told::WaitingNow),
+    (1, Asks::Retry, Told::Waiting),
+    (2, Asks::Read("t", 1), Told::Restart),
+    (1, Asks::Retry, Told::Nothing),
+    (2, Asks::Write("t", 2, "b"), Told::Restart),
+    (1, Asks::Commit, Told::Atomic(1)),
+    (2, Asks::Write("t", 2, "b"), Told::Done),
+    (1, Asks::Create("t"), Told::AlreadyExists("t")),
+    (1, Asks::Begin, Told::Tid(3)),
+    (1, Asks::Read("t", 2), Told::Restart),
+    (2, Asks::Begin, Told::Tid(2)),
+    (2, Asks::Write("t", 2, "c"), Told::Done),
+    (2, Asks::Read("t", 2), Told::One("t", 2, "c")),
+    (2, Asks::Abort("why"), Told::UserAbort("why")),
+    (2, Asks::Read("t", 2), Told::One("t", 2, "b")),
+    (2, Asks::Begin, Told::Tid(2)),
+    (2, Asks::Begin, Told::Limit(Limit::Nesting)),
+    (2, Asks::Commit, Told::AtomicOk),
+    (2, Asks::Commit, Told::Atomic(2)),
+    (1, Asks::Read("t", 2), Told::One("t", 2, "b")),
+    (1, Asks::Write("t", 3, "d"), Told::Done),
+    (2, Asks::Remove("t"), Told::Locked("t")),
+    (1, Asks::Leave, Told::Done),
+    (2, Asks::Begin, Told::Tid(4)),
+    (2, Asks::Read("t", 3), Told::Nothing),
+    (2, Asks::Read("t", 1), Told::One("t", 1, "a")),
+];
+
+const TWO: Limits = Limits {
+    sessions: 2,
+    nesting: 2,
+    operations: 9,
+    tables: 2,
+    ages: 9223372036854775807,
+    journal: 1024,
+};
+
 const LIMITS: Limits = Limits {
     sessions: 1,
     nesting: 1,
@@ -139,6 +192,7 @@ fn command(alloc: Global, asks: &Asks) -> Result<Option<Command>, AllocError> {
             short(alloc, table)?,
             Terms::from_vec(Vec::new(alloc)),
         )),
+        Asks::Remove(table) => Command::Schema(Schema::Remove(short(alloc, table)?)),
         Asks::Begin => Command::Begin,
         Asks::Write(table, key, value) => {
             Command::Do(Operation::Write(row(alloc, table, *key, Some(value))?))
@@ -176,6 +230,10 @@ fn is_told(alloc: Global, reply: &Reply, told: &Told) -> Result<bool, AllocError
         (Reply::NoTransaction, Told::NoTransaction) => true,
         (Reply::BadSession, Told::BadSession) => true,
         (Reply::NotWaiting, Told::NotWaiting) => true,
+        (Reply::Waiting, Told::Waiting) => true,
+        (Reply::WaitingNow, Told::WaitingNow) => true,
+        (Reply::Restart, Told::Restart) => true,
+        (Reply::Locked(table), Told::Locked(wanted)) => table.as_str() == *wanted,
         (Reply::Empty, Told::Empty) => true,
         (Reply::SystemLimit(limit), Told::Limit(wanted)) => limit == wanted,
         _ => false,
@@ -210,6 +268,24 @@ fn sessions_are_told_as_specified(rt: HostRuntime) {
             let right = is_told(alloc, &reply, told).expect(&rt, "memory");
             assert!(rt; right, "script {number}, line {line}");
         }
+    }
+}
+
+/// A step that is refused memory is made again, and answers as if nothing had been refused.
+#[test]
+fn sessions_wait_restart_and_go_on(rt: HostRuntime) {
+    let alloc = rt.alloc();
+    let mut core = Core::new(alloc, TWO);
+    for (line, (session, asks, told)) in TWO_SESSIONS.iter().enumerate() {
+        let reply = match step(&mut core, alloc, *session, asks) {
+            Ok(reply) => reply,
+            Err(_) => step(&mut core, alloc, *session, asks).expect(&rt, "memory"),
+        };
+        let right = match is_told(alloc, &reply, told) {
+            Ok(right) => right,
+            Err(_) => is_told(alloc, &reply, told).expect(&rt, "memory"),
+        };
+        assert!(rt; right, "line {line}");
     }
 }
 

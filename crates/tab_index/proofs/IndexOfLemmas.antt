@@ -49,7 +49,7 @@ ascends-entries (k ∷ ks) s = (above-entries k ks s.0, ascends-entries ks s.1)
 has_entry : (j : Term) (ks : List Term) → is_some (lookup term_cmp j (entries_of ks)) ≡ contains_key term_cmp j ks
 has_entry j ks = keys_lookup term_cmp j (entries_of ks) ∙ ap (contains_key term_cmp j) (keys-entries ks)
 
-contains_insert : (j k : Term) (ks : List Term) → KeysAscend term_cmp ks → contains_key term_cmp j (insert_key term_cmp k ks) ≡ (same (term j) (term k) || contains_key term_cmp j ks)
+pub contains_insert : (j k : Term) (ks : List Term) → KeysAscend term_cmp ks → contains_key term_cmp j (insert_key term_cmp k ks) ≡ (same (term j) (term k) || contains_key term_cmp j ks)
 contains_insert j k ks s =
     ap (contains_key term_cmp j) (sym (keys_insert term_cmp (k, tt) (entries_of ks) ∙ ap (insert_key term_cmp k) (keys-entries ks)))
     ∙ sym (keys_lookup term_cmp j (insert_entry term_cmp (k, tt) (entries_of ks)))

@@ -50,7 +50,7 @@ above-answers : (rows : Rows) (p : ℕ) (x : PlainTerm) (k : Term) (ks : List Te
 above-answers rows p x k [] a = tt
 above-answers rows p x k (q ∷ ks) a = (a.0, above-answers rows p x k ks a.1)
 
-ascends-answers : (rows : Rows) (p : ℕ) (x : PlainTerm) (ks : List Term) → KeysAscend term_cmp ks → Ascends term_cmp (answers rows p x ks)
+pub ascends-answers : (rows : Rows) (p : ℕ) (x : PlainTerm) (ks : List Term) → KeysAscend term_cmp ks → Ascends term_cmp (answers rows p x ks)
 ascends-answers rows p x [] s = tt
 ascends-answers rows p x (k ∷ ks) s = (above-answers rows p x k ks s.0, ascends-answers rows p x ks s.1)
 
@@ -74,7 +74,7 @@ module _ (test : PlainTerm → Bool) where
       cases ih true h e = cc
       cases ih false h e = ih h e
 
-  none_left : (xs : Rows) → list_any test xs ≡ false → filter test xs ≡ []
+  pub none_left : (xs : Rows) → list_any test xs ≡ false → filter test xs ≡ []
   none_left [] h = refl
   none_left (x ∷ xs) h = cases (none_left xs) (test x) h
     where
@@ -83,7 +83,7 @@ module _ (test : PlainTerm → Bool) where
       cases ih false h = ih h
 
   -- two filters, in either order
-  swapped : (q : PlainTerm → Bool) (xs : Rows) → filter q (filter test xs) ≡ filter test (filter q xs)
+  pub swapped : (q : PlainTerm → Bool) (xs : Rows) → filter q (filter test xs) ≡ filter test (filter q xs)
   swapped q [] = refl
   swapped q (x ∷ xs) = cases (swapped q xs) (test x) refl (q x) refl
     where
@@ -113,7 +113,7 @@ keyed-answers rows p x (k ∷ ks) s h = (here, keyed-answers rows p x ks s.1 (λ
       filled = λ e. some_left (has_value p x) (at rows (term k)) (h k (contains_itself k ks)) (sym (round (index_read (at rows (term k)) p x)) ∙ e);
     }
 
-found_answers : (rows : Rows) (p : ℕ) (x : PlainTerm) (j : Term) (ks : List Term) → found_in (lookup term_cmp j (answers rows p x ks)) ≡ (if contains_key term_cmp j ks then index_read (at rows (term j)) p x else [])
+pub found_answers : (rows : Rows) (p : ℕ) (x : PlainTerm) (j : Term) (ks : List Term) → found_in (lookup term_cmp j (answers rows p x ks)) ≡ (if contains_key term_cmp j ks then index_read (at rows (term j)) p x else [])
 found_answers rows p x j [] = refl
 found_answers rows p x j (k ∷ ks) = cases (found_answers rows p x j ks) (term_cmp j k) refl
   where

@@ -50,3 +50,7 @@ pub record IsWith (es fs : List Entry) (x k : PlainTerm) : Type 0 where
 pub record IsWithout (es fs : List Entry) (x k : PlainTerm) : Type 0 where
   pub pairs : (v j : Term) → has_pair fs v j ≡ (not (is_pair x k v j) && has_pair es v j)
   pub filled : IsFilled es → IsFilled fs
+
+-- the keys of which a record has a value at a position
+abbrev pub AreKeysWith : Rows → ℕ → PlainTerm → List Term → Type 0
+AreKeysWith rows p x ks = (k : Term) → contains_key term_cmp k ks ≡ list_any (has_value p x) (at rows (term k))

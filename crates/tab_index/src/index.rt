@@ -55,8 +55,8 @@ impl Index {
         })
     }
 
-    // The keys of the value.
-    fn keys_of(&self, value: &Term) -> Result<Set<Term>, AllocError>
+    /// The keys of the value, which share all with the index.
+    pub fn keys_of(&self, value: &Term) -> Result<Set<Term>, AllocError>
         ensures keys { IfOk result (λ keys. keys ≡ keys_in (lookup term_cmp value.now self.now.keys)) }
         ensures ascends { Ascends term_cmp self.now.keys }
     {

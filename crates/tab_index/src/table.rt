@@ -1,5 +1,6 @@
-ghost use Rattle.std.specs.Prelude.{◌≡◌, [], IfOk, OnOk, true, if◌then◌else◌, Some, None, length, map};
+ghost use Rattle.std.specs.Prelude.{◌≡◌, [], IfOk, IfSome, OnOk, is_some, true, if◌then◌else◌, Some, None, length, map};
 ghost use Rattle.std.specs.List.{All};
+ghost use Rattle.std.specs.Option.{option_copied};
 ghost use Rattle.tab_term.specs.View.{term, terms};
 ghost use Rattle.tab_model.specs.Names.{plain_terms};
 ghost use Rattle.tab_model.specs.Tables.{at, keys as keys_of_rows, apply as apply_in, applied as applied_in, is_ordered};
@@ -7,6 +8,7 @@ ghost use Rattle.tab_model.specs.WholeTables.{index_read as index_read_in, match
 ghost use Rattle.tab_model.specs.Definitions.{has_number, with_indexes, add_number, less_number};
 ghost use Rattle.tab_model.specs.Worlds.{with_rows, with_def};
 ghost use Rattle.tab_rows.specs.Joined.{joined, IsInOrder};
+ghost use Rattle.tab_index.specs.IndexOf.{AreKeysWith, IsIndexOf};
 ghost use Rattle.tab_index.specs.Indexed.{positions, AreIndexesOf};
 
 use crate::index::Index;
@@ -15,7 +17,7 @@ use crate::matching;
 use std::alloc::{AllocError, Global};
 use std::marker::Model;
 use std::sync::Arc;
-use tab_map::Iter;
+use tab_map::{Iter, Set};
 use tab_model::{Change, TableDef};
 use tab_rows::Rows;
 use tab_schema::with_positions;
@@ -33,6 +35,7 @@ impl Model for IndexedTable {
     ghost use Rattle.std.specs.Coded.{codes};
     ghost use Rattle.tab_term.specs.Code.{term_code};
     ghost use Rattle.tab_model.specs.Worlds.{Table as TableOfWorld};
+    ghost use Rattle.tab_index.specs.IndexOf.{AreKeysWith, IsIndexOf};
     ghost use Rattle.tab_index.specs.Indexed.{IsIndexed};
 
     ghost Value = { TableOfWorld };
@@ -131,12 +134,34 @@ impl IndexedTable {
     ) -> Result<Option<Terms>, AllocError>
         ensures { IfOk result (λ found. found ≡ (if has_number self.now.def.indexes position then Some (plain_terms (index_read_in self.now.rows position (term value.now))) else None)) }
     {
+        match self.index_at(position) {
+            Some(index) => Ok(Some(index.read(alloc, &self.rows, value)?)),
+            None => Ok(None),
+        }
+    }
+
+    /// The keys of which a record has the value at the position, as a set that shares all with the index. None where the
+    /// position has no index.
+    pub fn keys_with(&self, position: u64, value: &Term) -> Result<Option<Set<Term>>, AllocError>
+        ensures indexed { IfOk result (λ keys. is_some keys ≡ has_number self.now.def.indexes position) }
+        ensures keys { IfOk result (λ keys. IfSome keys (AreKeysWith self.now.rows position (term value.now))) }
+    {
+        match self.index_at(position) {
+            Some(index) => Ok(Some(index.keys_of(value)?)),
+            None => Ok(None),
+        }
+    }
+
+    fn index_at(&self, position: u64) -> Option<&Index>
+        ensures found { is_some result ≡ has_number self.now.def.indexes position }
+        ensures index { IfSome (option_copied result) (λ index. (index.position ≡ position) × IsIndexOf self.now.rows position index.keys) }
+    {
         for index in &self.indexes {
             if index.position == position {
-                return Ok(Some(index.read(alloc, &self.rows, value)?));
+                return Some(index);
             }
         }
-        Ok(None)
+        None
     }
 
     /// Copies of the records that fit the pattern, by keys, and of each key in the order of their insertion. Where no

@@ -2,6 +2,7 @@
 use crate::made::{Step, are, beside, empty_table, stepped};
 use std::alloc::{AllocError, Global};
 use tab_index::IndexedTable;
+use tab_map::Set;
 use tab_model::Kind;
 use tab_term::Term;
 
@@ -189,6 +190,41 @@ fn answers(alloc: Global, table: &IndexedTable, case: &Case) -> Result<bool, All
     }
 }
 
+fn is_key_of(key: &Term, records: &[(i128, i128, i128)]) -> bool {
+    for (of, _, _) in records {
+        if *key == Term::Int(*of) {
+            return true;
+        }
+    }
+    false
+}
+
+fn has_keys_of(keys: &Set<Term>, records: &[(i128, i128, i128)]) -> bool {
+    for (of, _, _) in records {
+        if !keys.contains(&Term::Int(*of)) {
+            return false;
+        }
+    }
+    true
+}
+
+/// Whether the value's keys are those of the wanted records.
+fn has_keys(table: &IndexedTable, case: &Case) -> Result<bool, AllocError> {
+    let found = table.keys_with(case.position, &Term::Int(case.value))?;
+    match (&found, case.found) {
+        (Some(keys), Some(wanted)) => {
+            for key in keys.iter() {
+                if !is_key_of(key, wanted) {
+                    return Ok(false);
+                }
+            }
+            Ok(has_keys_of(keys, wanted))
+        }
+        (None, None) => Ok(true),
+        _ => Ok(false),
+    }
+}
+
 #[test]
 fn an_index_answers_what_the_records_have(rt: HostRuntime) {
     let alloc = rt.alloc();
@@ -198,6 +234,10 @@ fn an_index_answers_what_the_records_have(rt: HostRuntime) {
             assert!(rt;
                 answers(alloc, &table, case).expect(&rt, "memory"),
                 "case {number}, in place: {in_place}"
+            );
+            assert!(rt;
+                has_keys(&table, case).expect(&rt, "memory"),
+                "keys, case {number}"
             );
         }
     }

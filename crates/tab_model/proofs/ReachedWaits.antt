@@ -22,7 +22,7 @@ use Rattle.tab_model.specs.declared.data.Command.TheVariants as command
 use Rattle.tab_model.specs.Locks.{Lock, needs, locks_of}
 use Rattle.tab_model.specs.Ages.{Owned, Answer, Granted, Wait, Die, blocks, decide, can_retry, request_of, without, after_request, after_retry, RisesAfter, Rises, Chain, last_of}
 use Rattle.tab_model.specs.Schemas.{removed}
-use Rattle.tab_model.specs.State.{Transaction, Outbox, Watch, Seat, Queued, State, new, seat_at, transaction_in, transaction_at, request_in, without_request, is_waiting, with_age, held_by, held_in, queued_in, ages_of, IsSound}
+use Rattle.tab_model.specs.State.{Transaction, Outbox, Watch, Seat, Queued, State, new, seat_at, transaction_in, transaction_at, request_in, without_request, is_waiting, with_age, held_by, held_in, queued_in, ages_of, OwnedBy, HasAge, IsSound}
 use Rattle.tab_model.specs.Outcome.{Ask, Join, Leave, Retry, Take, DoCommand, outcome, with_transaction, with_queue, change, without_seat, after_move, made, emptied, decided, within, operate, retried, retry_in, retry, opened, nested, begin, one_shot, abort, given, batch_to, end_to, unwatched, commit_at, commit, events_now, schema_if, schema, marked, subscribe, unsubscribe, is_abort, do_command, command_if, give, leave, seated, fresh, join, unseated, by_seat}
 use Rattle.tab_model.specs.Run.{Call, outcome_of, after_all}
 use Rattle.tab_model.proofs.Seats.{eq_true, found, seat_at-push, seat_at-without}
@@ -61,26 +61,17 @@ fewer_queue n held earlier earlier' (q ∷ qs) f h = cases (q.session == n)
     cases true g k = g
     cases false g k = (h.0, f (blocks x) h.1, k)
 
-queued_in-push : (qs : List Queued) (q : Queued) → queued_in (qs ++ q ∷ []) ≡ queued_in qs ++ (q.age, needs q.operation) ∷ []
+pub queued_in-push : (qs : List Queued) (q : Queued) → queued_in (qs ++ q ∷ []) ≡ queued_in qs ++ (q.age, needs q.operation) ∷ []
 queued_in-push [] q = refl
 queued_in-push (p ∷ qs) q = ap (λ xs. (p.age, needs p.operation) ∷ xs) (queued_in-push qs q)
 
 -- ---- whose requests are queued
 
-abbrev HasAge : Option Transaction → ℕ → Type 0
-HasAge None a = ⊥
-HasAge (Some t) a = t.age ≡ a
-
--- each request's session has an open transaction of its age
-abbrev OwnedBy : (ℕ → Option Transaction) → List Queued → Type 0
-OwnedBy f [] = Unit {0}
-OwnedBy f (q ∷ qs) = HasAge (f q.session) q.age × OwnedBy f qs
-
-owned_same : (f g : ℕ → Option Transaction) (qs : List Queued) → ((m : ℕ) → g m ≡ f m) → OwnedBy f qs → OwnedBy g qs
+pub owned_same : (f g : ℕ → Option Transaction) (qs : List Queued) → ((m : ℕ) → g m ≡ f m) → OwnedBy f qs → OwnedBy g qs
 owned_same f g [] h o = tt
 owned_same f g (q ∷ qs) h o = (subst (λ (t : Option Transaction). HasAge t q.age) (sym (h q.session)) o.0, owned_same f g qs h o.1)
 
-owned_without : (f g : ℕ → Option Transaction) (n : ℕ) (qs : List Queued) → ((m : ℕ) → (m == n) ≡ false → g m ≡ f m) → OwnedBy f qs → OwnedBy g (without_request qs n)
+pub owned_without : (f g : ℕ → Option Transaction) (n : ℕ) (qs : List Queued) → ((m : ℕ) → (m == n) ≡ false → g m ≡ f m) → OwnedBy f qs → OwnedBy g (without_request qs n)
 owned_without f g n [] h o = tt
 owned_without f g n (q ∷ qs) h o = cases (q.session == n) refl (owned_without f g n qs h o.1)
   where
@@ -88,16 +79,16 @@ owned_without f g n (q ∷ qs) h o = cases (q.session == n) refl (owned_without 
     cases true e ih = ih
     cases false e ih = (subst (λ (t : Option Transaction). HasAge t q.age) (sym (h q.session e)) o.0, ih)
 
-owned_push : (f : ℕ → Option Transaction) (qs : List Queued) (q : Queued) → OwnedBy f qs → HasAge (f q.session) q.age → OwnedBy f (qs ++ q ∷ [])
+pub owned_push : (f : ℕ → Option Transaction) (qs : List Queued) (q : Queued) → OwnedBy f qs → HasAge (f q.session) q.age → OwnedBy f (qs ++ q ∷ [])
 owned_push f [] q o h = (h, tt)
 owned_push f (p ∷ qs) q o h = (o.0, owned_push f qs q o.1 h)
 
 -- a session's requests are those of its age
-abbrev Match : ℕ → ℕ → List Queued → Type 0
+abbrev pub Match : ℕ → ℕ → List Queued → Type 0
 Match n a [] = Unit {0}
 Match n a (q ∷ qs) = ((q.session == n) ≡ (q.age == a)) × Match n a qs
 
-without_match : (n a : ℕ) (qs : List Queued) → Match n a qs → queued_in (without_request qs n) ≡ without a (queued_in qs)
+pub without_match : (n a : ℕ) (qs : List Queued) → Match n a qs → queued_in (without_request qs n) ≡ without a (queued_in qs)
 without_match n a [] m = refl
 without_match n a (q ∷ qs) m = ap (λ b. queued_in (if b then without_request qs n else q ∷ without_request qs n)) m.0 ∙ cases (q.age == a) (without_match n a qs m.1)
   where
@@ -105,7 +96,7 @@ without_match n a (q ∷ qs) m = ap (λ b. queued_in (if b then without_request 
     cases true ih = ih
     cases false ih = ap (λ xs. (q.age, needs q.operation) ∷ xs) ih
 
-request_match : (n a : ℕ) (qs : List Queued) (q : Queued) → Match n a qs → request_in qs n ≡ Some q → request_of a (queued_in qs) ≡ Some (q.age, needs q.operation)
+pub request_match : (n a : ℕ) (qs : List Queued) (q : Queued) → Match n a qs → request_in qs n ≡ Some q → request_of a (queued_in qs) ≡ Some (q.age, needs q.operation)
 request_match n a [] q m e = cc
 request_match n a (p ∷ qs) q m e = cases (p.age == a) (ap (λ b. if b then Some p else request_in qs n) (sym m.0) ∙ e) (request_match n a qs q m.1)
   where
@@ -113,7 +104,7 @@ request_match n a (p ∷ qs) q m e = cases (p.age == a) (ap (λ b. if b then Som
     cases true g ih = let same : p ≡ q = cc in ap (λ (z : Queued). Some (z.age, needs z.operation)) same
     cases false g ih = ih g
 
-request_age : (f : ℕ → Option Transaction) (n : ℕ) (qs : List Queued) (q : Queued) → OwnedBy f qs → request_in qs n ≡ Some q → HasAge (f n) q.age
+pub request_age : (f : ℕ → Option Transaction) (n : ℕ) (qs : List Queued) (q : Queued) → OwnedBy f qs → request_in qs n ≡ Some q → HasAge (f n) q.age
 request_age f n [] q o e = cc
 request_age f n (p ∷ qs) q o e = cases (p.session == n) refl e (request_age f n qs q o.1)
   where
@@ -121,7 +112,7 @@ request_age f n (p ∷ qs) q o e = cases (p.session == n) refl e (request_age f 
     cases true h g ih = let same : p ≡ q = cc in subst (λ (z : Queued). HasAge (f n) z.age) same (subst (λ (m : ℕ). HasAge (f m) p.age) (eq_true p.session n h) o.0)
     cases false h g ih = ih g
 
-match_of : (σ : State) (n : ℕ) (t : Transaction) (qs : List Queued) → IsSound σ → transaction_at σ n ≡ Some t → OwnedBy (transaction_at σ) qs → Match n t.age qs
+pub match_of : (σ : State) (n : ℕ) (t : Transaction) (qs : List Queued) → IsSound σ → transaction_at σ n ≡ Some t → OwnedBy (transaction_at σ) qs → Match n t.age qs
 match_of σ n t [] sound mine o = tt
 match_of σ n t (q ∷ qs) sound mine o = (one (q.session == n) refl (q.age == t.age) refl, match_of σ n t qs sound mine o.1)
   where
@@ -163,15 +154,15 @@ held_without p (y ∷ seats) n h =
     cases true a ih = ih
     cases false a ih = list_any-append p (held_by y.transaction) (held_in (without_seat seats n)) ∙ (λ i. a i || ih i)
 
-held_pushed : (n : ℕ) (b : Outbox) (seats : List Seat) → held_in (seats ++ fresh n b ∷ []) ≡ held_in seats
+pub held_pushed : (n : ℕ) (b : Outbox) (seats : List Seat) → held_in (seats ++ fresh n b ∷ []) ≡ held_in seats
 held_pushed n b [] = refl
 held_pushed n b (y ∷ seats) = ap (λ xs. held_by y.transaction ++ xs) (held_pushed n b seats)
 
-held_mapped : (f : Seat → Seat) → ((x : Seat) → (f x).transaction ≡ x.transaction) → (seats : List Seat) → held_in (map f seats) ≡ held_in seats
+pub held_mapped : (f : Seat → Seat) → ((x : Seat) → (f x).transaction ≡ x.transaction) → (seats : List Seat) → held_in (map f seats) ≡ held_in seats
 held_mapped f h [] = refl
 held_mapped f h (y ∷ seats) = λ i. held_by (h y i) ++ held_mapped f h seats i
 
-aged_append : (a : ℕ) (xs ys : List Lock) → with_age a (xs ++ ys) ≡ with_age a xs ++ with_age a ys
+pub aged_append : (a : ℕ) (xs ys : List Lock) → with_age a (xs ++ ys) ≡ with_age a xs ++ with_age a ys
 aged_append a [] ys = refl
 aged_append a (x ∷ xs) ys = ap (λ zs. (a, x) ∷ zs) (aged_append a xs ys)
 
@@ -184,9 +175,9 @@ moved_held p t x r false h g =
 -- ---- steps
 
 -- ages rise along every wait, and each request is of its session's open transaction
-record IsRising (σ : State) : Type 0 where
-  rises : Rises (ages_of σ)
-  owners : OwnedBy (transaction_at σ) σ.queue
+pub record IsRising (σ : State) : Type 0 where
+  pub rises : Rises (ages_of σ)
+  pub owners : OwnedBy (transaction_at σ) σ.queue
 
 same_rising : (σ τ : State) → IsRising σ → τ.queue ≡ σ.queue → ((m : ℕ) → transaction_at τ m ≡ transaction_at σ m) → Fewer (held_in σ.seats) (held_in τ.seats) → IsRising τ
 same_rising σ τ rise q h f = record {
@@ -404,7 +395,7 @@ module _ (σ : State) (sound : IsSound σ) (rise : IsRising σ) where
   unseated_rising n Take none = rise
   unseated_rising n (DoCommand c) none = rise
 
-step_rising : (σ : State) (over : List ℕ) (n : ℕ) (a : Ask) → IsSound σ → IsRising σ → IsRising (outcome σ over n a).state
+pub step_rising : (σ : State) (over : List ℕ) (n : ℕ) (a : Ask) → IsSound σ → IsRising σ → IsRising (outcome σ over n a).state
 unfolding outcome
 step_rising σ over n a sound rise = cases (seat_at σ.seats n) refl
   where

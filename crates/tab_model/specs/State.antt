@@ -149,6 +149,15 @@ count_moves (Undo ∷ xs) = count_moves xs
 abbrev pub mid_of : State → Transaction → Mid
 mid_of σ transaction = after (start σ.tables transaction.age) transaction.moves
 
+abbrev pub HasAge : Option Transaction → ℕ → Type 0
+HasAge None a = ⊥
+HasAge (Some transaction) a = transaction.age ≡ a
+
+-- each request's session has an open transaction of its age
+abbrev pub OwnedBy : (ℕ → Option Transaction) → List Queued → Type 0
+OwnedBy f [] = Unit {0}
+OwnedBy f (q ∷ qs) = HasAge (f q.session) q.age × OwnedBy f qs
+
 -- a session sits once
 abbrev pub AreDistinct : List Seat → Type 0
 AreDistinct [] = Unit {0}

@@ -1,6 +1,6 @@
 //! Laws of the definitions. Each is the contract of a function that does nothing.
 
-ghost use Rattle.std.specs.Prelude.{◌≡◌, ◌≢◌, ◌<◌, ◌↔◌, ◌⊎◌, ℕ, List, [], ◌∷◌, ◌++◌, true, false, not, if◌then◌else◌, Some, None, map};
+ghost use Rattle.std.specs.Prelude.{◌≡◌, ◌≢◌, ◌<◌, ◌↔◌, ◌⊎◌, ℕ, List, [], ◌∷◌, ◌++◌, Bool, true, false, not, if◌then◌else◌, Some, None, map};
 ghost use Rattle.std.specs.List.{filter, list_any};
 ghost use Rattle.tab_term.specs.Data.{PlainTerm, PlainTerms};
 ghost use Rattle.tab_term.specs.Same.{same};
@@ -34,6 +34,7 @@ ghost use Rattle.tab_model.specs.Ages.{Ages, Owned, Granted, Wait, Die, Covered,
 ghost use Rattle.tab_model.specs.Log.{entered, serial, serial_from, stands, in_force, IsRight, IsLegal, commits_from};
 ghost use Rattle.tab_model.specs.Since.{changes_on, changes_told, deletes, StandsSince, AllStood, AllAged, RowsSince};
 ghost use Rattle.tab_model.specs.Slices.{dump_of, owed, slice, slice_after};
+ghost use Rattle.tab_model.specs.History.{Base, empty, in_force_since, owed_since, slice_since, IsHistory, tables_after, folded, Admits, forgotten};
 ghost use Rattle.tab_model.specs.State.{State, Seat, Transaction, Queued, new, seat_at, transaction_at, request_in, ages_of, age_at, moves_at, told_at, level_in, IsSound};
 ghost use Rattle.tab_model.specs.Outcome.{Ask, Retry, Take, DoCommand, outcome};
 ghost use Rattle.tab_model.specs.Refusals.{AsBefore, standing, counted, requested, queued, empty_again, restarted, Restarts, EndsLevel, IsSole};
@@ -157,6 +158,27 @@ pub fn a_log_with_one_entry_more()
     ensures levels { (s : ℕ) (log : List Entry) (e : Entry) (t : List ℕ) → in_force s (log ++ e ∷ []) t ≡ stands s t (in_force s log t) e }
     ensures items { (s : ℕ) (log : List Entry) (e : Entry) → slice s (log ++ e ∷ []) ≡ slice s log ++ owed s log e }
     ensures legal { (log : List Entry) (e : Entry) → IsLegal [] 0 log → IsRight (serial log) (commits_from 0 log) e → IsLegal [] 0 (log ++ e ∷ []) }
+{}
+
+/// A log from a base. With one entry more its items are those before and then those that the entry owes. With the oldest
+/// entry folded into the base it is still a history of the same tables, and a session that is joined has the same levels
+/// and is owed what that entry owed it and then what the rest owes it from the folded base. From the empty base all is as
+/// of a log from its beginning. A session that has left is forgotten without a change for the others.
+#[tactic(auto, using(crate::proofs::Folding::slice_more, crate::proofs::Folding::in_force_more, crate::proofs::Folding::history_more, crate::proofs::Folding::tables_right, crate::proofs::Folding::slice_folded, crate::proofs::Folding::in_force_folded, crate::proofs::Folding::history_folded, crate::proofs::Folding::slice_empty, crate::proofs::Folding::history_empty, crate::proofs::Folding::slice_forgotten, crate::proofs::Folding::in_force_forgotten, crate::proofs::Folding::history_forgotten))]
+pub fn a_log_from_a_base()
+    ensures items_more { (b : Base) (s : ℕ) (log : List Entry) (e : Entry) → slice_since b s (log ++ e ∷ []) ≡ slice_since b s log ++ owed_since b s log e }
+    ensures levels_more { (b : Base) (s : ℕ) (log : List Entry) (e : Entry) (t : List ℕ) → in_force_since b s (log ++ e ∷ []) t ≡ stands s t (in_force_since b s log t) e }
+    ensures history_more { (b : Base) (log : List Entry) (e : Entry) (w : World) → IsHistory b log w → IsRight w (commits_from b.commits log) e → IsHistory b (log ++ e ∷ []) (entered w e) }
+    ensures tables_folded { (w : World) (c : ℕ) (e : Entry) → IsRight w c e → tables_after w e ≡ entered w e }
+    ensures items_folded { (joined : Bool) (b : Base) (s : ℕ) (e : Entry) (es : List Entry) → IsRight b.tables b.commits e → Admits joined s e → slice_since b s (e ∷ es) ≡ owed_since b s [] e ++ slice_since (folded joined b e) s es }
+    ensures levels_folded { (joined : Bool) (b : Base) (s : ℕ) (t : List ℕ) (e : Entry) (es : List Entry) → Admits joined s e → in_force_since b s (e ∷ es) t ≡ in_force_since (folded joined b e) s es t }
+    ensures history_folded { (joined : Bool) (b : Base) (e : Entry) (es : List Entry) (w : World) → IsHistory b (e ∷ es) w → IsHistory (folded joined b e) es w }
+    ensures items_from_none { (s : ℕ) (log : List Entry) → slice_since empty s log ≡ slice s log }
+    ensures levels_from_none { (s : ℕ) (log : List Entry) (t : List ℕ) → in_force_since empty s log t ≡ in_force s log t }
+    ensures history_from_none { (log : List Entry) (w : World) → IsHistory empty log w ↔ (IsLegal [] 0 log × (serial log ≡ w)) }
+    ensures items_forgotten { (b : Base) (s q : ℕ) (log : List Entry) → q ≢ s → slice_since (forgotten b q) s log ≡ slice_since b s log }
+    ensures levels_forgotten { (b : Base) (s q : ℕ) (log : List Entry) (t : List ℕ) → q ≢ s → in_force_since (forgotten b q) s log t ≡ in_force_since b s log t }
+    ensures history_forgotten { (b : Base) (q : ℕ) (log : List Entry) (w : World) → IsHistory b log w → IsHistory (forgotten b q) log w }
 {}
 
 /// A subscription is in force exactly where the log has its Subscribed entry and after it no unsubscribing of it, no

@@ -17,7 +17,7 @@ use Rattle.tab_model.specs.declared.data.Item.{Item}
 use Rattle.tab_model.specs.Run.{taken_now}
 use Rattle.tab_core.specs.Runs.{takes_no_memory}
 use Rattle.tab_core.specs.Served.{serves}
-use Rattle.tab_core.specs.Single.{no_outbox}
+use Rattle.tab_core.specs.Seats.{no_outbox}
 use Rattle.tab_proto.specs.declared.request.Request.{Request}
 use Rattle.tab_proto.specs.declared.request.Request.TheVariants as request
 use Rattle.tab_proto.specs.Requests.{request_term, IsSession, IsRequest, IsNumbered, HasNoNumber, AsksOneShot}

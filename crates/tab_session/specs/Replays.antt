@@ -14,7 +14,7 @@ use Rattle.tab_session.specs.declared.ended.Ended.TheVariants.{Damaged, Device, 
 
 -- so far there is one session, with one level of its transaction
 abbrev pub limits : Limits
-limits = record { sessions = 1; nesting = 1; operations = 1000; tables = 256; ages = 9223372036854775807; journal = 1024 }
+limits = record { sessions = 64; nesting = 16; operations = 1000; tables = 256; ages = 9223372036854775807; journal = 1024 }
 
 -- a core without tables and sessions
 abbrev pub fresh : State

@@ -16,10 +16,9 @@ use tab_model::Limits;
 /// The largest piece that is read at once.
 const PIECE: usize = 65_536;
 
-/// So far there is one session, with one level of its transaction.
 const LIMITS: Limits = Limits {
-    sessions: 1,
-    nesting: 1,
+    sessions: 64,
+    nesting: 16,
     operations: 1000,
     tables: 256,
     ages: 9_223_372_036_854_775_807,

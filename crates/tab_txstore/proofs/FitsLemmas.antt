@@ -242,6 +242,19 @@ module _ (w : World) (o : IsOrderedWorld w) where
       let a : ShowsMid w (levels_from w no_levels s.moves (replies (start w age) s.moves)) (after (start w age) s.moves) = shows_after no_levels (start w age) s.moves (record { now = shows_nothing w o; saved = tt; base = refl }) in
       subst (λ (l : Levels). Shows w l.now.overlay (after (start w age) s.moves).now) (ap (levels_from w no_levels s.moves) h ∙ sym f.levels) a.now
 
+  as_many : (ls : List Level) (ns : List World) → ShowsAll w ls ns → length ns ≡ length ls
+  as_many [] [] a = refl
+  as_many (x ∷ ls) (n ∷ ns) a = ap Rattle.std.specs.Prelude.suc (as_many ls ns a.1)
+  as_many [] (n ∷ ns) a = absurd a
+  as_many (x ∷ ls) [] a = absurd a
+
+  -- as many levels are open
+  pub depth_shown : (s : Store) (age : ℕ) → Fits s w → replies (start w age) s.moves ≡ s.told → length (after (start w age) s.moves).saved ≡ length s.levels.saved
+  depth_shown s age f h =
+      let a : ShowsMid w (levels_from w no_levels s.moves (replies (start w age) s.moves)) (after (start w age) s.moves) = shows_after no_levels (start w age) s.moves (record { now = shows_nothing w o; saved = tt; base = refl }) in
+      let b : ShowsMid w s.levels (after (start w age) s.moves) = subst (λ (l : Levels). ShowsMid w l (after (start w age) s.moves)) (ap (levels_from w no_levels s.moves) h ∙ sym f.levels) a in
+      as_many s.levels.saved (after (start w age) s.moves).saved b.saved
+
   -- THE KEY CONTRACT
   pub cell_shown : (s : Store) (age : ℕ) (t : List ℕ) (x : Table) (k : PlainTerm) → Fits s w → replies (start w age) s.moves ≡ s.told → find w t ≡ Some x
       → seen_at (touched s.levels.now.overlay t) x.rows k ≡ cell (after (start w age) s.moves).now t k

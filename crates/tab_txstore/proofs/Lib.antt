@@ -6,3 +6,4 @@ pub mod MergedLemmas
 pub mod WalkLemmas
 pub mod MatchLemmas
 pub mod TouchingLemmas
+pub mod IndexLemmas

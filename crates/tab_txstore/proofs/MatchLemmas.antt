@@ -53,7 +53,7 @@ entry_step found all before after e records p h r a =
     ∙ ap (λ z. terms_list (terms found) ++ z) (sym (filter-append (matches p) (terms_list e.1) (joined after)))
     ∙ sym (ap (λ z. terms_list (terms found) ++ match_object (joined z) p) h)
 
-joined_filled : (es : Touched) → joined (filled es) ≡ joined es
+pub joined_filled : (es : Touched) → joined (filled es) ≡ joined es
 joined_filled [] = refl
 joined_filled (e ∷ es) = cases (joined_filled es) (is_filled e.1) refl
   where

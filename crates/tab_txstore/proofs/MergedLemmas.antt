@@ -115,7 +115,7 @@ above_filled q (e ∷ es) a = cases (above_filled q es a.1) (is_filled e.1)
     cases ih true = (a.0, ih)
     cases ih false = ih
 
-ascends_filled : (es : Touched) → Ascends term_cmp es → Ascends term_cmp (filled es)
+pub ascends_filled : (es : Touched) → Ascends term_cmp es → Ascends term_cmp (filled es)
 ascends_filled [] s = tt
 ascends_filled (e ∷ es) s = cases (ascends_filled es s.1) (is_filled e.1)
   where
@@ -127,7 +127,7 @@ pub not_filled : (ts : PlainTerms) → is_filled ts ≡ false → terms_list ts 
 not_filled none h = refl
 not_filled (one_more t ts) h = cc
 
-lookup_filled : (es : Touched) (q : Term) → Ascends term_cmp es → found_in (lookup term_cmp q (filled es)) ≡ found_in (lookup term_cmp q es)
+pub lookup_filled : (es : Touched) (q : Term) → Ascends term_cmp es → found_in (lookup term_cmp q (filled es)) ≡ found_in (lookup term_cmp q es)
 lookup_filled [] q s = refl
 lookup_filled (e ∷ es) q s = cases (lookup_filled es q s.1) (is_filled e.1) refl (term_cmp q e.0) refl
   where
@@ -166,7 +166,7 @@ found_after e es q ts a h Equal k = let n : None ≡ Some ts = sym (lookup_above
 found_after e es q ts a h Greater k = ap (λ z. match_ordering z None (Some e.1) (lookup term_cmp q es)) k ∙ h
 
 -- what is kept at each key has it
-keyed_by : (es : Touched) (seen : Rows) → Ascends term_cmp es → ((q : Term) (ts : PlainTerms) → lookup term_cmp q es ≡ Some ts → terms_list ts ≡ at seen (term q)) → AllKeyed (filled es)
+pub keyed_by : (es : Touched) (seen : Rows) → Ascends term_cmp es → ((q : Term) (ts : PlainTerms) → lookup term_cmp q es ≡ Some ts → terms_list ts ≡ at seen (term q)) → AllKeyed (filled es)
 keyed_by [] seen s f = tt
 keyed_by (e ∷ es) seen s f = cases (keyed_by es seen s.1 (λ q ts h. f q ts (found_after e es q ts s.0 h (term_cmp q e.0) refl))) (is_filled e.1) refl
   where
@@ -180,7 +180,7 @@ keyed_by (e ∷ es) seen s f = cases (keyed_by es seen s.1 (λ q ts h. f q ts (f
     cases rest true h = (record { keyed = ap (list_all (has_key (term e.0))) here ∙ has_all (term e.0) seen; filled = filled_some e.1 h }, rest)
     cases rest false h = rest
 
-found_some : (o : Option PlainTerms) (ts : PlainTerms) → o ≡ Some ts → found_in o ≡ terms_list ts
+pub found_some : (o : Option PlainTerms) (ts : PlainTerms) → o ≡ Some ts → found_in o ≡ terms_list ts
 found_some o ts h = ap found_in h
 
 pub seen_merged : (xs es : Touched) (seen : Rows) → Ascends term_cmp xs → IsInOrder es → IsSeen xs (joined es) seen → (joined (filled (merged xs es)) ≡ seen) × (AllKeyed (filled (merged xs es)) × Ascends term_cmp (filled (merged xs es)))

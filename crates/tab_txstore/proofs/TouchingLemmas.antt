@@ -1,11 +1,9 @@
 -- A table's touched keys, changed where they stand, or put for the first time.
-use Rattle.std.proofs.Common.{◌≡◌, ℕ, List, [], ◌∷◌, ◌++◌, Bool, true, false, refl, sym, ap, ◌∙◌, Option, Some, None}
+use Rattle.std.proofs.Common.{◌≡◌, ℕ, List, [], ◌∷◌, ◌++◌, true, false, refl, sym, ap, ◌∙◌, Option, Some, None}
 use Rattle.std.specs.Prelude.{is_some}
 use Rattle.std.specs.Prelude.{if◌then◌else◌}
-use Rattle.std.specs.List.{list_any}
 use Rattle.tab_term.specs.declared.term.Term.{Term}
 use Rattle.tab_term.specs.Data.{PlainTerms}
-use Rattle.tab_term.specs.Same.{same}
 use Rattle.tab_term.specs.View.{term}
 use Rattle.tab_term.specs.Order.{bytes_cmp, term_cmp}
 use Rattle.tab_rows.specs.Joined.{followed_by}
@@ -14,7 +12,7 @@ use Rattle.tab_model.specs.declared.data.Kind.{Kind}
 use Rattle.tab_model.specs.Names.{plain_terms, terms_list}
 use Rattle.tab_model.specs.Operations.{key_of_change}
 use Rattle.tab_model.specs.Shapes.{held}
-use Rattle.tab_model.specs.Tables.{Rows, at}
+use Rattle.tab_model.specs.Tables.{at}
 use Rattle.tab_model.specs.Worlds.{Table}
 use Rattle.tab_txstore.specs.Kept.{Appends}
 use Rattle.tab_map.specs.Entries.{lookup, insert_entry}

@@ -1,5 +1,5 @@
 //! Laws of private stores. Each is the contract of a function that does nothing.
-ghost use Rattle.std.specs.Prelude.{◌≡◌, ℕ, List, [], ◌∷◌, Option, Some, option_map, false};
+ghost use Rattle.std.specs.Prelude.{◌≡◌, ℕ, List, [], ◌∷◌, Option, Some, option_map, false, length};
 ghost use Rattle.std.specs.Str.{bytes_eq};
 ghost use Rattle.std.specs.List.{list_any};
 ghost use Rattle.tab_term.specs.Data.{PlainTerm};
@@ -29,13 +29,14 @@ pub fn a_store_fits()
     ensures schema { (s : Store) (w : World) (c : Schema) → IsOrderedWorld w → list_any (λ (l : Lock). bytes_eq l.table (table_of_schema c)) (locks_of s.moves) ≡ false → Fits s w → Fits s (schema_effect w c) }
 {}
 
-/// A store that fits the lent tables has the updates that survive, and shows at each key what the transaction sees there.
-/// Each table keeps the definition of the lent one.
-#[tactic(auto, using(crate::proofs::FitsLemmas::updates_survive, crate::proofs::FitsLemmas::cell_shown, crate::proofs::FitsLemmas::table_shown, crate::proofs::FitsLemmas::defs_shown))]
+/// A store that fits the lent tables has the updates that survive and as many levels as are open, and shows at each key what
+/// the transaction sees there. Each table keeps the definition of the lent one.
+#[tactic(auto, using(crate::proofs::FitsLemmas::updates_survive, crate::proofs::FitsLemmas::cell_shown, crate::proofs::FitsLemmas::table_shown, crate::proofs::FitsLemmas::defs_shown, crate::proofs::FitsLemmas::depth_shown))]
 pub fn a_store_shows()
     ensures updates { (s : Store) (w : World) → Fits s w → s.levels.now.updates ≡ surviving s.moves s.told }
     ensures cell { (w : World) → IsOrderedWorld w → (s : Store) (age : ℕ) (t : List ℕ) (x : Table) (k : PlainTerm) → Fits s w → replies (start w age) s.moves ≡ s.told → find w t ≡ Some x → seen_at (touched s.levels.now.overlay t) x.rows k ≡ cell (after (start w age) s.moves).now t k }
     ensures table { (w : World) → IsOrderedWorld w → (s : Store) (age : ℕ) (t : List ℕ) (x : Table) → Fits s w → replies (start w age) s.moves ≡ s.told → find w t ≡ Some x → IsSeen (touched s.levels.now.overlay t) x.rows (rows_of (after (start w age) s.moves).now t) }
+    ensures depth { (w : World) → IsOrderedWorld w → (s : Store) (age : ℕ) → Fits s w → replies (start w age) s.moves ≡ s.told → length (after (start w age) s.moves).saved ≡ length s.levels.saved }
     ensures definition { (w : World) → IsOrderedWorld w → (age : ℕ) (xs : List Move) (t : List ℕ) → option_map (λ (x : Table). x.def) (find (after (start w age) xs).now t) ≡ option_map (λ (x : Table). x.def) (find w t) }
 {}
 

@@ -1,5 +1,6 @@
 //! What a transaction left at the keys that it touched, level by level.
-ghost use Rattle.std.specs.Prelude.{◌≡◌, ◌<◌, [], ◌∷◌, ◌++◌, OnOk, OnErr, Some, length, is_some, vec_len, vec_capacity};
+ghost use Rattle.std.specs.Prelude.{◌≡◌, ◌<◌, [], ◌∷◌, ◌++◌, OnOk, OnErr, Some, length, vec_len, vec_capacity};
+ghost use Rattle.std.specs.Option.{option_copied};
 ghost use Rattle.tab_term.specs.Order.{bytes_cmp, term_cmp};
 ghost use Rattle.tab_term.specs.View.{term, terms};
 ghost use Rattle.tab_map.specs.Entries.{Ascends, lookup};
@@ -110,11 +111,11 @@ impl Levels {
         seen(&self.overlay, lent, key)
     }
 
-    /// Whether a key of the table was touched.
-    pub fn has_touched(&self, lent: &IndexedTable) -> bool
-        ensures { result ≡ is_some (lookup bytes_cmp lent.now.def.name self.now.now.overlay) }
+    /// The touched keys of a table, each with what stands there. None where no key of it was touched.
+    pub fn touched(&self, lent: &IndexedTable) -> Option<&Map<Term, Terms>>
+        ensures { option_copied result ≡ lookup bytes_cmp lent.now.def.name self.now.now.overlay }
     {
-        self.overlay.contains_key(&lent.def().name)
+        self.overlay.get(&lent.def().name)
     }
 
     /// A lent table's walk with the touched keys among it, without memory.

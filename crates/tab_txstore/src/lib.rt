@@ -15,5 +15,6 @@ mod store;
 mod touching;
 mod views;
 
+pub use change::is_failure;
 pub use laws::{a_store_fits, a_store_shows, keys_are_seen};
 pub use store::{Finished, TxStore};

@@ -1,4 +1,5 @@
-ghost use Rattle.std.specs.Prelude.{◌≡◌, ◌<◌, ◌≤◌, ◌+◌, [], ◌∷◌, ◌++◌, IfOk, OnOk, OnErr, Some, None, true, length, is_some, vec_len, vec_capacity};
+ghost use Rattle.std.specs.Prelude.{◌≡◌, ◌<◌, ◌≤◌, ◌+◌, [], ◌∷◌, ◌++◌, IfOk, OnOk, OnErr, Some, None, true, length, vec_len, vec_capacity};
+ghost use Rattle.std.specs.Option.{option_copied};
 ghost use Rattle.tab_term.specs.View.{term, terms};
 ghost use Rattle.tab_model.specs.Names.{plain_terms};
 ghost use Rattle.tab_model.specs.declared.data.Move.TheVariants.{Do, Open as OpenOf, Close as CloseOf, Undo as UndoOf};
@@ -18,6 +19,7 @@ use crate::merged::Merged;
 use std::alloc::{AllocError, Global};
 use std::marker::Model;
 use tab_index::IndexedTable;
+use tab_map::Map;
 use tab_model::{Change, Move, Moves, Operation, Replies, Reply};
 use tab_term::{Term, Terms};
 
@@ -259,11 +261,11 @@ impl TxStore {
         self.levels.merged(lent)
     }
 
-    // Whether the transaction has touched a key of the table.
-    pub(crate) fn has_touched(&self, lent: &IndexedTable) -> bool
-        ensures { result ≡ is_some (lookup bytes_cmp lent.now.def.name self.now.levels.now.overlay) }
+    // The touched keys of the table, each with what stands there. None where no key of it was touched.
+    pub(crate) fn touched(&self, lent: &IndexedTable) -> Option<&Map<Term, Terms>>
+        ensures { option_copied result ≡ lookup bytes_cmp lent.now.def.name self.now.levels.now.overlay }
     {
-        self.levels.has_touched(lent)
+        self.levels.touched(lent)
     }
 
     /// Copies of what stands at a key of a lent table for the transaction.

@@ -9,13 +9,14 @@ ghost use Rattle.tab_term.specs.View.{term, terms};
 ghost use Rattle.tab_model.specs.Names.{plain_terms, terms_list};
 ghost use Rattle.tab_model.specs.Tables.{keys as keys_of_rows};
 ghost use Rattle.tab_model.specs.WholeTables.{match_object, index_read};
-ghost use Rattle.tab_txstore.specs.Merged.{is_filled, IsSeen};
+ghost use Rattle.tab_txstore.specs.Merged.{is_filled, Covers, HasBoth, IsSeen};
 ghost use Rattle.tab_txstore.specs.Overlays.{touched};
 
 use crate::TxStore;
 use std::alloc::{AllocError, Global};
 use tab_index::element::{Nothing, element};
 use tab_index::{IndexedTable, bound_key};
+use tab_map::Set;
 use tab_term::{Term, Terms, matches};
 
 impl TxStore {
@@ -54,8 +55,8 @@ impl TxStore {
     }
 
     /// Copies of the records that have the value at the position, of a lent table as the transaction sees it, in their
-    /// order. The index answers where the transaction has touched nothing of the table, and the table is walked where it has
-    /// or where the position has no index.
+    /// order. Only keys that the index has with the value, and touched keys, are looked at; where the position has no index
+    /// the table is walked.
     pub fn view_index(
         &self,
         alloc: Global,
@@ -65,15 +66,52 @@ impl TxStore {
     ) -> Result<Terms, AllocError>
         ensures { IfOk result (λ all. (seen : List PlainTerm) → IsSeen (touched self.now.levels.now.overlay lent.now.def.name) lent.now.rows seen → all ≡ plain_terms (index_read seen position (term value.now))) }
     {
-        let records = self.merged(lent);
-        if !self.has_touched(lent) {
-            if let Some(found) = lent.index_read(alloc, position, value)? {
-                return Ok(found);
-            }
+        if let Some(keys) = lent.keys_with(position, value)? {
+            let keys = self.with_touched(alloc, lent, keys)?;
+            return self.read_keys(alloc, lent, &keys, position, value);
         }
         let mut found = Vec::new(alloc);
-        for entry in records {
+        for entry in self.merged(lent) {
             push_with_value(alloc, &mut found, entry.1.as_slice(), position, value)?;
+        }
+        Ok(Terms::from_vec(found))
+    }
+
+    // These keys and the touched ones.
+    fn with_touched(
+        &self,
+        alloc: Global,
+        lent: &IndexedTable,
+        mut keys: Set<Term>,
+    ) -> Result<Set<Term>, AllocError>
+        ensures { IfOk result (λ all. HasBoth all keys (touched self.now.levels.now.overlay lent.now.def.name)) }
+    {
+        let Some(own) = self.touched(lent) else {
+            return Ok(keys);
+        };
+        for entry in own.iter() {
+            if keys.contains(&entry.0) {
+                continue;
+            }
+            keys.insert(alloc, entry.0.try_clone(alloc)?)?;
+        }
+        Ok(keys)
+    }
+
+    // Copies of those records of the keys that have the value.
+    fn read_keys(
+        &self,
+        alloc: Global,
+        lent: &IndexedTable,
+        keys: &Set<Term>,
+        position: u64,
+        value: &Term,
+    ) -> Result<Terms, AllocError>
+        ensures { IfOk result (λ all. (seen : List PlainTerm) → IsSeen (touched self.now.levels.now.overlay lent.now.def.name) lent.now.rows seen → Covers keys.now seen position (term value.now) → all ≡ plain_terms (index_read seen position (term value.now))) }
+    {
+        let mut found = Vec::new(alloc);
+        for key in keys.iter() {
+            push_with_value(alloc, &mut found, self.seen(lent, key), position, value)?;
         }
         Ok(Terms::from_vec(found))
     }

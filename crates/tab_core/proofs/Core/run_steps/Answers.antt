@@ -28,4 +28,4 @@ returns-clause-run c =
 pub returns-clause-history : goal.returns-clause-history
 returns-clause-history c =
     let run = returns-clause-run c in
-    λ log taken tied. (run.0, history_goes_on c.args.self.now c.loop-session.self c.args.steps.items c.loop-session.replies.items run.0 run.1 (subst IsSound c.self.view_is c.self.invariant) log taken tied)
+    λ log taken tied. (run.0, history_goes_on c.args.self.now c.loop-session.self c.args.steps.items c.loop-session.replies.items run.0 run.1 (subst IsSound c.self.view_is c.self.invariant.sound) log taken tied)

@@ -1,6 +1,5 @@
 use Rattle.std.proofs.Common.{sym, ap, ◌∙◌}
 use Rattle.std.specs.List.{list_any}
-use Rattle.std.specs.Option.{option_copied}
 use Rattle.tab_term.specs.Order.{bytes_cmp, term_cmp}
 use Rattle.tab_term.specs.Same.{same}
 use Rattle.tab_term.specs.View.{term}

@@ -1,12 +1,94 @@
-use Rattle.std.proofs.Common.{◌+◌, ap, sym, ◌∙◌}
+use Rattle.std.proofs.Common.{◌≡◌, ◌≢◌, ◌++◌, ◌∷◌, [], ◌+◌, ◌<◌, ◌≤◌, ℕ, true, false, refl, sym, ap, ◌∙◌, subst, arith, Some, None, get_or, set, not, rules}
+use Rattle.std.specs.Prelude.{is_some, ◌==◌, nat_lt, IfSome, IsSome, IfOk, map, length}
+use Rattle.std.proofs.lemmas.Fn.{filter_same}
+use Rattle.arrayvec.specs.ArrayVec.{with_items}
+use Rattle.tab_model.specs.declared.data.Reply.TheVariants as reply
 use Rattle.tab_model.specs.declared.data.Command.TheVariants as command
-use Rattle.tab_core.specs.Single.{asked}
-use Rattle.tab_core.proofs.SingleLemmas.{commit_if}
+use Rattle.tab_model.specs.Outcome.{Outcome, nothing, outcome, DoCommand}
+use Rattle.tab_model.specs.State.{State, request_in}
+use Rattle.tab_core.specs.declared.seat.Seat as code
+use Rattle.tab_core.specs.declared.queue.Request as request
+use Rattle.tab_core.specs.Seats.{state_of, queued_of}
+use Rattle.tab_core.specs.Works as works
+use Rattle.tab_core.proofs.Numbers.{less, not_less, at_most, not_at_most}
+use Rattle.tab_core.proofs.Places.{refilled}
+use Rattle.tab_core.proofs.Keeping as keep
+use Rattle.tab_core.proofs.Keeping.{the_seat, parts}
+use Rattle.tab_core.proofs.Ending as ending
+use Rattle.tab_core.proofs.Committing as committing
+use Rattle.tab_core.proofs.Answering as answering
 use Rattle.tab_core.proofs.machine.Machine.commit.Goals as goal
+
+pub returns-in_default-clause-ok : goal.returns-in_default-clause-ok
+returns-in_default-clause-ok c =
+    let m = c.args.self.now in
+    let n = c.args.session in
+    let i = c.args.place in
+    let there = c.requires.there in
+    let s = the_seat m n i in
+    let at_i = keep.at_place m n i there in
+    let first = keep.read m n i there c.deref.result.now c.index-deref-place.result c.deref.ensures.0 in
+    ending.commits_nothing m n i s c.requires.kept there at_i (ap (λ (x : code.Seat). x.transaction) (sym first) ∙ c.in_default.is) c.requires.idle
+    ∙ answering.without_entry (state_of m) reply.NoTransaction c.without_entry.result c.without_entry.ensures
+
+pub returns-then-depth-gt0 : goal.returns-then-depth-gt0
+returns-then-depth-gt0 c =
+    let m = c.args.self.now in
+    let n = c.args.session in
+    let i = c.args.place in
+    let there = c.requires.there in
+    let s = the_seat m n i in
+    let at_i = keep.at_place m n i there in
+    let first = keep.read m n i there c.deref.result.now c.index-deref-place.result c.deref.ensures.0 in
+    let t = c.in-Some.transaction in
+    let open_t = ap (λ (x : code.Seat). x.transaction) (sym first) ∙ c.in-Some.is in
+    let same = keep.read m n i there c.deref_mut.result.now c.index-deref_mut-place.result c.deref_mut.ensures.value in
+    let all = ending.join_exit m n i s c.requires.kept there at_i t open_t c.join_level.new.seat (parts m (with_items m.seats (set c.deref_mut.result.now i c.join_level.new.seat)) m.ages m.queue) c.requires.idle
+    (answering.above_zero _ (omega (arith, c.if-depth-gt0.true, c.depth.ensures))) (c.join_level.ensures ∙ ap works.joined same)
+    (record { world = refl; seats = refilled m.seats.items _ i c.join_level.new.seat c.deref_mut.ensures.value; queue = refl; limits = refl; begun = refl; commits = refl; greatest = refl }) refl in
+    record { ok = all.0 ∙ answering.without_entry (state_of (parts m (with_items m.seats (set c.deref_mut.result.now i c.join_level.new.seat)) m.ages m.queue)) reply.AtomicOk c.without_entry-then-depth-gt0.result c.without_entry-then-depth-gt0.ensures; free = λ h. refl; err = tt; kept = all.1 }
+
+pub returns-in_err-commit_to-clause-free : goal.returns-in_err-commit_to-clause-free
+returns-in_err-commit_to-clause-free c =
+    let m = c.args.self.now in
+    let n = c.args.session in
+    let i = c.args.place in
+    let there = c.requires.there in
+    let s = the_seat m n i in
+    let at_i = keep.at_place m n i there in
+    let first = keep.read m n i there c.deref.result.now c.index-deref-place.result c.deref.ensures.0 in
+    let t = c.in-Some.transaction in
+    let open_t = ap (λ (x : code.Seat). x.transaction) (sym first) ∙ c.in-Some.is in
+    λ empty. absurd (answering.not_refused _ _ c.in_err-commit_to.was (c.commit_to.ensures.free (c.updates.ensures ∙ answering.no_updates m n i s c.requires.kept there at_i t open_t empty)))
+
+pub overflow_add-self : goal.overflow_add-self
+overflow_add-self c =
+    let m = c.args.self.now in
+    let n = c.args.session in
+    let i = c.args.place in
+    let there = c.requires.there in
+    let s = the_seat m n i in
+    let at_i = keep.at_place m n i there in
+    let first = keep.read m n i there c.deref.result.now c.index-deref-place.result c.deref.ensures.0 in
+    let t = c.in-Some.transaction in
+    let open_t = ap (λ (x : code.Seat). x.transaction) (sym first) ∙ c.in-Some.is in
+    let small = answering.commits_fit m n i s c.requires.kept there at_i t open_t in
+    omega (arith, small)
 
 pub returns : goal.returns
 returns c =
-    ap (λ σ. asked σ command.Commit) (sym c.self.view_is)
-    ∙ commit_if c.self.inside.tables c.self.inside.work c.replace.result c.self.inside.session c.self.inside.open c.self.inside.moves.items c.replace-moves.result.items c.self.inside.told.items c.replace-told.result.items c.new-4.result.items
-    (c.self.inside.begun + 1) c.self.inside.commits c.self.inside.greatest c.self.inside.limits c.in-Some.session c.in-Some-open.age c.in-Some.is c.in-Some-open.is c.self.invariant.within
-    c.replace.ensures.value (ap (λ v. v.items) c.replace-moves.ensures.value) (ap (λ v. v.items) c.replace-told.ensures.value) c.new-4.ensures.items
+    let m = c.args.self.now in
+    let n = c.args.session in
+    let i = c.args.place in
+    let there = c.requires.there in
+    let s = the_seat m n i in
+    let at_i = keep.at_place m n i there in
+    let first = keep.read m n i there c.deref.result.now c.index-deref-place.result c.deref.ensures.0 in
+    let t = c.in-Some.transaction in
+    let open_t = ap (λ (x : code.Seat). x.transaction) (sym first) ∙ c.in-Some.is in
+    let same = keep.read m n i there c.deref_mut-2.result.now c.index-deref_mut-place-2.result c.deref_mut-2.ensures.value in
+    let all = answering.commit_exit m n i s c.requires.kept there at_i t open_t c.requires.idle (answering.zero_is _ (omega (arith, c.if-depth-gt0.false, c.depth.ensures)))
+    (get_or c.deref_mut-2.result.now i c.index-deref_mut-place-2.result) c.finish-finished.new.seat c.finish-finished.result
+    (record { alloc = m.alloc; world = c.commit_to.new.world; seats = with_items m.seats (set c.deref_mut-2.result.now i c.finish-finished.new.seat); ages = c.finish-finished.new.ages; queue = m.queue; begun = m.begun; commits = m.commits + 1; greatest = m.greatest; limits = m.limits })
+    same c.finish-finished.ensures.seat c.finish-finished.ensures.told (c.in_ok-commit_to.ensures.ok ∙ ap (Rattle.tab_model.specs.Events.change_all m.world) c.updates.ensures) (refilled m.seats.items _ i c.finish-finished.new.seat c.deref_mut-2.ensures.value) refl refl refl refl refl c.finish-finished.ensures.ages in
+    record { ok = all.0; free = λ h. refl; err = tt; kept = all.1 }

@@ -1,0 +1,47 @@
+//! Sessions join and leave.
+
+ghost use Rattle.std.specs.Prelude.{◌≡◌, [], None};
+ghost use Rattle.tab_model.specs.Outcome.{Join, Leave, nothing, outcome};
+ghost use Rattle.tab_core.specs.Seats.{state_of, no_outbox, at, StandsAt};
+ghost use Rattle.tab_core.specs.Kept.{IsKept};
+
+use crate::machine::Machine;
+use crate::operating::end_if;
+use crate::seat::Seat;
+use tab_model::{Limit, Reply};
+
+impl Machine {
+    /// Of a session that has not joined. Takes no memory.
+    pub fn join(&mut self, session: u32) -> Reply
+        requires kept { IsKept self.old }
+        requires stranger { at self.old.seats.items session ≡ None }
+        ensures ok { outcome (state_of self.old) [] session (Join no_outbox) ≡ nothing (state_of self.new) result }
+        ensures kept { IsKept self.new }
+    {
+        if session <= self.greatest {
+            return Reply::BadSession;
+        }
+        if self.seats.len() as u64 >= self.limits.sessions {
+            return Reply::SystemLimit(Limit::Sessions);
+        }
+        self.seats.push(Seat {
+            number: session,
+            transaction: None,
+        });
+        self.greatest = session;
+        Reply::Done
+    }
+
+    /// The session's transaction, locks and queued request are gone. Takes no memory.
+    pub fn leave(&mut self, session: u32, place: usize) -> Reply
+        requires kept { IsKept self.old }
+        requires there { StandsAt self.old.seats.items session place }
+        ensures ok { outcome (state_of self.old) [] session Leave ≡ nothing (state_of self.new) result }
+        ensures kept { IsKept self.new }
+    {
+        end_if(true, &mut self.seats[place], &mut self.ages);
+        self.seats.remove(place);
+        self.queue.retain(|request| request.session != session);
+        Reply::Done
+    }
+}

@@ -1,0 +1,20 @@
+-- A journal as contracts see it: its base, its entries, oldest first, and how many it holds at most (this project's own).
+use Rattle.std.specs.Prelude.{ℕ, Bool, List, [], ◌∷◌}
+use Rattle.tab_model.specs.declared.data.Entry.{Entry}
+use Rattle.tab_model.specs.History.{Base, folded, forgotten}
+
+pub record Kept : Type 0 where
+  pub base : Base
+  pub entries : List Entry
+  pub limit : ℕ
+
+-- its oldest entry is folded into its base
+abbrev pub without_oldest : Bool → Base → List Entry → ℕ → Kept
+without_oldest joined b [] n = record { base = b; entries = []; limit = n }
+without_oldest joined b (e ∷ es) n = record { base = folded joined b e; entries = es; limit = n }
+
+abbrev pub fold_oldest : Bool → Kept → Kept
+fold_oldest joined k = without_oldest joined k.base k.entries k.limit
+
+abbrev pub forget : Kept → ℕ → Kept
+forget k s = record { base = forgotten k.base s; entries = k.entries; limit = k.limit }

@@ -1,0 +1,124 @@
+//! What a journal starts from.
+
+ghost use Rattle.std.specs.Prelude.{◌≡◌, IfOk, OnOk, OnErr};
+ghost use Rattle.tab_model.specs.declared.data.Schema.{Schema as SchemaOf};
+ghost use Rattle.tab_model.specs.Schemas.{schema_refusal, schema_effect};
+ghost use Rattle.tab_model.specs.History.{empty as empty_base, folded, forgotten, tables_after as tables_after_entry, number_after as number_after_entry, unless_refused};
+
+use crate::subscriptions::{Subscription, follow, forget};
+use crate::survivors::surviving;
+use std::alloc::{AllocError, Global};
+use std::marker::Model;
+use tab_model::{Entry, Schema};
+use tab_world::{Redefined, World, redefine};
+
+/// The tables, the last commit's number, and the joined sessions' subscriptions, as they were before the first entry.
+#[derive(Drop)]
+pub struct Base {
+    tables: World,
+    commits: u64,
+    subscriptions: Vec<Subscription>,
+}
+
+impl Model for Base {
+    ghost use Rattle.std.specs.Coded.{codes};
+    ghost use Rattle.tab_term.specs.Code.{term_code};
+    ghost use Rattle.tab_model.specs.History.{Base as BaseOf};
+
+    ghost Value = { BaseOf };
+
+    ghost coded = { Prim.hlevel (codes, term_code) };
+
+    ghost view = { λ a. record { tables = a.tables; commits = a.commits; subscriptions = a.subscriptions.items } };
+}
+
+impl Base {
+    /// Before all.
+    pub fn empty(alloc: Global) -> Base
+        ensures { result ≡ empty_base }
+    {
+        Base {
+            tables: World::empty(),
+            commits: 0,
+            subscriptions: Vec::new(alloc),
+        }
+    }
+
+    pub fn tables(&self) -> &World
+        ensures { result.now ≡ self.now.tables }
+    {
+        &self.tables
+    }
+
+    /// The last commit's number; 0 before the first.
+    pub fn commits(&self) -> u64
+        ensures { result ≡ self.now.commits }
+    {
+        self.commits
+    }
+
+    pub fn subscriptions(&self) -> &[Subscription]
+        ensures { result.now ≡ self.now.subscriptions }
+    {
+        self.subscriptions.as_slice()
+    }
+
+    /// Takes an entry in. Of one that subscribes it is said whether its session is still joined.
+    pub(crate) fn fold(
+        &mut self,
+        alloc: Global,
+        joined: bool,
+        entry: &Entry,
+    ) -> Result<(), AllocError>
+        ensures ok { OnOk result (self.new ≡ folded joined self.old entry.now) }
+        ensures err { OnErr result (self.new ≡ self.old) }
+    {
+        let tables = tables_after(alloc, &self.tables, entry)?;
+        follow(&mut self.subscriptions, alloc, joined, entry)?;
+        self.commits = number_after(self.commits, entry);
+        self.tables = tables;
+        Ok(())
+    }
+
+    /// Drops the subscriptions of a session that has left. Takes no memory.
+    pub(crate) fn forget(&mut self, session: u64)
+        ensures { self.new ≡ forgotten self.old session }
+    {
+        forget(&mut self.subscriptions, session);
+    }
+}
+
+fn number_after(commits: u64, entry: &Entry) -> u64
+    ensures { result ≡ number_after_entry commits entry.now }
+{
+    match entry {
+        Entry::Committed { number, .. } => *number,
+        Entry::Changed(_, _) => commits,
+        Entry::Subscribed { .. } => commits,
+        Entry::Unsubscribed(_, _) => commits,
+    }
+}
+
+/// The tables after an entry, which share with these all that did not change.
+fn tables_after(alloc: Global, tables: &World, entry: &Entry) -> Result<World, AllocError>
+    ensures { IfOk result (λ world. world ≡ tables_after_entry tables.now entry.now) }
+{
+    match entry {
+        Entry::Committed { moves, told, .. } => {
+            let changes = surviving(alloc, moves.items.as_slice(), told.items.as_slice())?;
+            tables.updated(alloc, changes.as_slice())
+        }
+        Entry::Changed(command, _) => redefined(alloc, tables, command),
+        Entry::Subscribed { .. } => tables.share(),
+        Entry::Unsubscribed(_, _) => tables.share(),
+    }
+}
+
+fn redefined(alloc: Global, tables: &World, command: &Schema) -> Result<World, AllocError>
+    ensures { IfOk result (λ world. world ≡ unless_refused (schema_refusal tables.now command.now) (schema_effect tables.now command.now) tables.now) }
+{
+    match redefine(alloc, tables, command)? {
+        Redefined::Done(world) => Ok(world),
+        Redefined::Refused(_reply) => tables.share(),
+    }
+}

@@ -1,0 +1,109 @@
+//! The entries, oldest first, over their base.
+
+ghost use Rattle.std.specs.Prelude.{◌≡◌, ◌≤◌, ◌<◌, ◌↔◌, ◌++◌, ◌∷◌, [], IfOk, IfErr, OnOk, OnErr, IsOk, IsTrue, length, slice_get};
+ghost use Rattle.std.specs.Option.{option_copied};
+ghost use Rattle.tab_model.specs.History.{empty as empty_base};
+ghost use Rattle.tab_journal.specs.Journals.{fold_oldest as fold_oldest_of, forget as forget_in};
+
+use crate::base::Base;
+use circular_buffer::HeapCircularBuffer;
+use std::alloc::{AllocError, Global};
+use std::marker::Model;
+use tab_model::Entry;
+
+/// The entries that stand, oldest first, and what they started from.
+#[derive(Drop)]
+pub struct Journal {
+    base: Base,
+    entries: HeapCircularBuffer<Entry>,
+}
+
+impl Model for Journal {
+    ghost use Rattle.std.specs.Prelude.{◌≤◌, length};
+    ghost use Rattle.std.specs.Coded.{codes};
+    ghost use Rattle.tab_term.specs.Code.{term_code, terms_code, pairs_code};
+    ghost use Rattle.tab_journal.specs.Journals.{Kept};
+
+    ghost Value = { Kept };
+
+    ghost coded = { Prim.hlevel (codes, term_code, terms_code, pairs_code) };
+
+    ghost view = { λ a. record { base = a.base; entries = a.entries.items; limit = a.entries.capacity } };
+
+    ghost invariant = { λ a. length a.entries.items ≤ a.entries.capacity };
+}
+
+impl Journal {
+    /// No entries yet, from no tables; at most `limit` of them at a time.
+    pub fn with_limit(alloc: Global, limit: usize) -> Result<Journal, AllocError>
+        requires { 1 ≤ limit }
+        ensures { IfOk result (λ journal. journal ≡ record { base = empty_base; entries = []; limit = limit }) }
+    {
+        Ok(Journal {
+            base: Base::empty(alloc),
+            entries: HeapCircularBuffer::with_capacity(alloc, limit)?,
+        })
+    }
+
+    /// Whether it holds as many entries as it may.
+    pub fn full(&self) -> bool
+        ensures { IsTrue result ↔ (length self.now.entries ≡ self.now.limit) }
+    {
+        self.entries.is_full()
+    }
+
+    /// Puts an entry behind the others, or hands it back. Takes no memory.
+    pub fn try_push(&mut self, entry: Entry) -> Result<(), Entry>
+        ensures full { IsOk result ↔ (length self.old.entries < self.old.limit) }
+        ensures ok { OnOk result (self.new ≡ record { base = self.old.base; entries = self.old.entries ++ entry ∷ []; limit = self.old.limit }) }
+        ensures err { IfErr result (λ back. (back ≡ entry) × (self.new ≡ self.old)) }
+    {
+        self.entries.try_push_back(entry)
+    }
+
+    pub fn len(&self) -> usize
+        ensures { result ≡ length self.now.entries }
+    {
+        self.entries.len()
+    }
+
+    pub fn is_empty(&self) -> bool
+        ensures { IsTrue result ↔ (self.now.entries ≡ []) }
+    {
+        self.entries.is_empty()
+    }
+
+    /// An entry by its place; the oldest has place 0.
+    pub fn entry(&self, place: usize) -> Option<&Entry>
+        ensures { option_copied result ≡ slice_get self.now.entries place }
+    {
+        self.entries.get(place)
+    }
+
+    /// What the entries start from.
+    pub fn base(&self) -> &Base
+        ensures { result.now ≡ self.now.base }
+    {
+        &self.base
+    }
+
+    /// Folds the oldest entry into the base. Of one that subscribes the caller says whether its session is still joined.
+    pub fn fold_oldest(&mut self, alloc: Global, joined: bool) -> Result<(), AllocError>
+        requires { 0 < length self.old.entries }
+        ensures ok { OnOk result (self.new ≡ fold_oldest_of joined self.old) }
+        ensures err { OnErr result (self.new ≡ self.old) }
+    {
+        if let Some(entry) = self.entries.front() {
+            self.base.fold(alloc, joined, entry)?;
+        }
+        drop(self.entries.pop_front());
+        Ok(())
+    }
+
+    /// Drops the subscriptions of a session that has left from the base. Takes no memory.
+    pub fn forget(&mut self, session: u64)
+        ensures { self.new ≡ forget_in self.old session }
+    {
+        self.base.forget(session);
+    }
+}

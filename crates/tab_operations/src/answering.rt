@@ -1,0 +1,136 @@
+//! What operations answer on a lent table, as their transaction sees it.
+
+ghost use Rattle.std.specs.Prelude.{◌≡◌, IfOk};
+ghost use Rattle.tab_model.specs.declared.data.Operation.TheVariants as op;
+ghost use Rattle.tab_model.specs.declared.data.Reply.TheVariants as reply;
+ghost use Rattle.tab_txstore.specs.Overlays.{touched};
+ghost use Rattle.tab_operations.specs.Answers.{Answers, replied, reply_of};
+
+use std::alloc::{AllocError, Global};
+use tab_index::IndexedTable;
+use tab_model::{Operation, Reply};
+use tab_schema::{fits, has_index, position};
+use tab_term::{Atom, Term, Terms};
+use tab_txstore::TxStore;
+
+/// What an operation answers.
+#[derive(Drop)]
+pub enum Answer {
+    Done,
+    /// Records or keys.
+    Found(Terms),
+    NoTable(Atom),
+    BadType(Atom, Term),
+    NoIndex(Atom, Term),
+}
+
+impl Answer {
+    pub fn try_clone(&self, alloc: Global) -> Result<Answer, AllocError>
+        ensures { IfOk result (λ copy. copy ≡ self.now) }
+    {
+        match self {
+            Answer::Done => Ok(Answer::Done),
+            Answer::Found(terms) => Ok(Answer::Found(terms.try_clone(alloc)?)),
+            Answer::NoTable(name) => Ok(Answer::NoTable(name.try_clone(alloc)?)),
+            Answer::BadType(name, row) => {
+                let name = name.try_clone(alloc)?;
+                Ok(Answer::BadType(name, row.try_clone(alloc)?))
+            }
+            Answer::NoIndex(name, attribute) => {
+                let name = name.try_clone(alloc)?;
+                Ok(Answer::NoIndex(name, attribute.try_clone(alloc)?))
+            }
+        }
+    }
+
+    pub fn into_reply(self) -> Reply
+        ensures { result ≡ reply_of self }
+    {
+        match self {
+            Answer::Done => Reply::Done,
+            Answer::Found(terms) => Reply::Found(terms),
+            Answer::NoTable(name) => Reply::NoTable(name),
+            Answer::BadType(name, row) => Reply::BadType(name, row),
+            Answer::NoIndex(name, attribute) => Reply::NoIndex(name, attribute),
+        }
+    }
+}
+
+/// What an operation answers on its table.
+pub fn answered(
+    alloc: Global,
+    store: &TxStore,
+    lent: &IndexedTable,
+    operation: &Operation,
+) -> Result<Answer, AllocError>
+    ensures { IfOk result (λ a. Answers (touched store.now.levels.now.overlay lent.now.def.name) lent.now operation.now (reply_of a)) }
+{
+    match operation {
+        Operation::Read(_, key) => Ok(Answer::Found(store.view_read(alloc, lent, key)?)),
+        Operation::ReadForWrite(_, key) => Ok(Answer::Found(store.view_read(alloc, lent, key)?)),
+        Operation::AllKeys(_) => Ok(Answer::Found(store.view_keys(alloc, lent)?)),
+        Operation::IndexRead(name, value, attribute) => {
+            index_read(alloc, store, lent, name, value, attribute)
+        }
+        Operation::MatchObject(pattern) => match_object(alloc, store, lent, pattern),
+        Operation::Write(row) => write(alloc, lent, row),
+        Operation::DeleteObject(row) => write(alloc, lent, row),
+        _ => Ok(Answer::Done),
+    }
+}
+
+fn index_read(
+    alloc: Global,
+    store: &TxStore,
+    lent: &IndexedTable,
+    name: &Atom,
+    value: &Term,
+    attribute: &Term,
+) -> Result<Answer, AllocError>
+    ensures { IfOk result (λ a. Answers (touched store.now.levels.now.overlay lent.now.def.name) lent.now (op.IndexRead name.now value.now attribute.now) (reply_of a)) }
+{
+    match position(lent.def(), attribute) {
+        Some(position) if has_index(lent.def(), position) => Ok(Answer::Found(store.view_index(
+            alloc,
+            lent,
+            position as u64,
+            value,
+        )?)),
+        _ => {
+            let name = name.try_clone(alloc)?;
+            Ok(Answer::NoIndex(name, attribute.try_clone(alloc)?))
+        }
+    }
+}
+
+fn match_object(
+    alloc: Global,
+    store: &TxStore,
+    lent: &IndexedTable,
+    pattern: &Term,
+) -> Result<Answer, AllocError>
+    ensures { IfOk result (λ a. Answers (touched store.now.levels.now.overlay lent.now.def.name) lent.now (op.MatchObject pattern.now) (reply_of a)) }
+{
+    if !fits(lent.def(), pattern) {
+        return bad_type(alloc, lent, pattern);
+    }
+    Ok(Answer::Found(store.view_match(alloc, lent, pattern)?))
+}
+
+/// A record that is to be written or deleted.
+fn write(alloc: Global, lent: &IndexedTable, row: &Term) -> Result<Answer, AllocError>
+    ensures write { IfOk result (λ a. reply_of a ≡ replied lent.now (op.Write row.now)) }
+    ensures delete { IfOk result (λ a. reply_of a ≡ replied lent.now (op.DeleteObject row.now)) }
+{
+    if !fits(lent.def(), row) {
+        return bad_type(alloc, lent, row);
+    }
+    Ok(Answer::Done)
+}
+
+fn bad_type(alloc: Global, lent: &IndexedTable, row: &Term) -> Result<Answer, AllocError>
+    ensures { IfOk result (λ a. reply_of a ≡ reply.BadType lent.now.def.name row.now) }
+{
+    let name = lent.def().name.try_clone(alloc)?;
+    Ok(Answer::BadType(name, row.try_clone(alloc)?))
+}

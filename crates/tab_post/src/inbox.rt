@@ -1,0 +1,34 @@
+//! The receiving end.
+
+ghost use Rattle.std.specs.Prelude.{◌≡◌, [], true, false};
+ghost use Rattle.crossbeam_channel.specs.Claims.{view, IsSeatAt};
+ghost use Rattle.crossbeam_channel.specs.Ends.{receives_on};
+ghost use Rattle.tab_post.specs.Rule.{hand};
+
+use crate::rule::{Hand, InOrder, Taken};
+use crossbeam_channel::{Pass, RuledReceiver};
+use std::sync::Wait;
+use tab_outbox::Item;
+
+/// The receiving end of a mailbox.
+#[derive(Drop)]
+pub struct Inbox<R: Wait> {
+    pub(crate) rt: R,
+    pub(crate) line: RuledReceiver<Item, Hand, InOrder>,
+    pub(crate) pass: Pass<Item, Hand>,
+    ghost seated: { IsSeatAt (receives_on line) pass },
+    ghost role: { view pass ≡ hand false true [] (view pass).taken },
+}
+
+impl<R: Wait> Inbox<R> {
+    ghost use Rattle.std.specs.Prelude.{◌∷◌, ◌++◌, MatchOption};
+    ghost use Rattle.tab_post.specs.Ends.{taken_by, IsSameInbox};
+
+    /// The next item that was sent, which it waits for. None where it hears that the post was dropped and nothing is left.
+    pub fn receive(&mut self) -> Option<Item>
+        ensures next { MatchOption result (taken_by self.new ≡ taken_by self.old) (λ x. taken_by self.new ≡ taken_by self.old ++ x ∷ []) }
+        ensures stays { IsSameInbox self.old self.new }
+    {
+        self.line.recv_as::<Taken, R>(&self.rt, &mut self.pass).ok()
+    }
+}

@@ -1,0 +1,86 @@
+//! The sending end.
+
+ghost use Rattle.std.specs.Prelude.{◌≡◌, [], true, false};
+ghost use Rattle.crossbeam_channel.specs.Claims.{view, IsSeatAt};
+ghost use Rattle.crossbeam_channel.specs.Ends.{sends_on};
+ghost use Rattle.tab_post.specs.Rule.{hand};
+
+use crate::rule::{Hand, InOrder, Sent};
+use crossbeam_channel::{Pass, RuledSender, TrySendError};
+use std::sync::Wait;
+use tab_outbox::{Item, Post, Refused};
+
+/// What names a mailbox: its channel, as its sender knows it.
+pub type Line = RuledSender<Item, Hand, InOrder>;
+
+/// The sending end of a mailbox.
+#[derive(Drop)]
+pub struct ChannelPost<R: Wait> {
+    pub(crate) rt: R,
+    pub(crate) line: Line,
+    pub(crate) pass: Pass<Item, Hand>,
+    pub(crate) refusals: u64,
+    ghost seated: { IsSeatAt (sends_on line) pass },
+    ghost role: { view pass ≡ hand true false (view pass).sent [] },
+}
+
+impl<R: Wait> ChannelPost<R> {
+    /// What names its mailbox.
+    pub fn line(&self) -> &Line
+        ensures { result.now ≡ self.now.line }
+    {
+        &self.line
+    }
+}
+
+impl<R: Wait> Post for ChannelPost<R> {
+    ghost use Rattle.std.specs.Prelude.{◌≡◌, [], ◌∷◌, OnOk, IfErr, IfSome, IsNone, is_err, length, nat_le, refl};
+    ghost use Rattle.std.proofs.Common.{◌∙◌};
+    ghost use Rattle.tab_model.specs.Outcome.{pushed, refused};
+    ghost use Rattle.tab_outbox.specs.Posts.{refused_item, IsFull};
+    ghost use Rattle.tab_post.specs.Ends.{as_outbox, sent_by, capacity_of, IsSamePost, WasFull};
+
+    ghost outbox = { λ s. as_outbox s };
+
+    ghost stays = { λ a b. IsSamePost a b };
+
+    ghost stays_self = { λ x. refl };
+
+    ghost stays_on = { λ x y z p q. q ∙ p };
+
+    /// One attempt, which never waits for room.
+    fn put(&mut self, item: Item) -> Result<(), Refused>
+        ensures stays { IsSamePost self.old self.new }
+        ensures decided { IfSome (as_outbox self.old).capacity (λ c. is_err result ≡ nat_le c (length (as_outbox self.old).items)) }
+        ensures ok { OnOk result (as_outbox self.new ≡ pushed (as_outbox self.old) (item ∷ [])) }
+        ensures err { IfErr result (λ r. (refused_item r ≡ item) × (as_outbox self.new ≡ refused (as_outbox self.old))) }
+        ensures full { IfErr result (λ r. IsFull r → WasFull (capacity_of self.old) (sent_by self.old)) }
+    {
+        match self
+            .line
+            .try_send_as::<Sent, R>(&self.rt, &mut self.pass, item)
+        {
+            Ok(()) => Ok(()),
+            Err(TrySendError::Full(item)) => {
+                self.refusals = self.refusals.saturating_add(1);
+                Err(Refused::Full(item))
+            }
+            Err(gone) => {
+                self.refusals = self.refusals.saturating_add(1);
+                Err(Refused::Gone(gone.into_inner()))
+            }
+        }
+    }
+
+    /// None: items are taken at the other end.
+    fn pull(&mut self) -> Option<Item>
+        ensures stays { IsSamePost self.old self.new }
+        ensures item { IsNone result × (self.new ≡ self.old) }
+    {
+        None
+    }
+
+    fn refusals(&self) -> u64 {
+        self.refusals
+    }
+}

@@ -1,0 +1,108 @@
+//! The rule of a mailbox, and the moves that it allows.
+use crossbeam_channel::protocol::{Join, Lesson, Outcome, Protocol, Split};
+use std::collections::LinkedList;
+use tab_outbox::Item;
+
+/// What a pass knows: which ends it stands for, what was sent by it and what was taken by it. No value of it is made.
+pub struct Hand {
+    pub sends: bool,
+    pub takes: bool,
+    pub sent: LinkedList<Item>,
+    pub taken: LinkedList<Item>,
+}
+
+/// What was sent is what was taken, followed by what the channel holds.
+pub struct InOrder;
+
+impl Protocol<Item, Hand> for InOrder {
+    ghost use Rattle.std.specs.Prelude.{true, []};
+    ghost use Rattle.tab_post.specs.Rule.{hand, Relayed};
+
+    ghost holds = { Relayed };
+
+    ghost first = { hand true true [] [] };
+}
+
+/// A pass of both ends is cut in two, and two are joined.
+pub struct Ends;
+
+impl Split<Hand> for Ends {
+    ghost use Rattle.std.specs.Prelude.{true, false, []};
+    ghost use Rattle.tab_post.specs.Rule.{hand};
+
+    ghost left = { λ v. hand true false v.sent [] };
+
+    ghost right = { λ v. hand false true [] v.taken };
+}
+
+impl Join<Hand> for Ends {
+    ghost use Rattle.std.specs.Prelude.{true, false, []};
+    ghost use Rattle.tab_post.specs.Rule.{hand};
+
+    ghost both = { λ v w. hand true true v.sent w.taken };
+
+    ghost spent = { hand false false [] [] };
+}
+
+/// A further pass, which stands for no end.
+pub struct Idle;
+
+impl Split<Hand> for Idle {
+    ghost use Rattle.std.specs.Prelude.{false, []};
+    ghost use Rattle.tab_post.specs.Rule.{hand};
+
+    ghost left = { λ v. v };
+
+    ghost right = { λ v. hand false false [] [] };
+}
+
+/// A send, which appends.
+pub struct Sent;
+
+impl Outcome<Item, Hand> for Sent {
+    ghost use Rattle.std.specs.Prelude.{◌≡◌, [], ◌∷◌, ◌++◌};
+    ghost use Rattle.tab_post.specs.Rule.{hand};
+
+    ghost then = { λ v x w. w ≡ hand v.sends v.takes (v.sent ++ x ∷ []) v.taken };
+}
+
+/// The channel was full, of the last items that were sent.
+impl Lesson<Item, Hand> for Sent {
+    ghost use Rattle.tab_post.specs.Rule.{EndsWith};
+
+    ghost fact = { λ v items. EndsWith v.sent items };
+}
+
+/// A receive, which takes the front.
+pub struct Taken;
+
+impl Outcome<Item, Hand> for Taken {
+    ghost use Rattle.std.specs.Prelude.{◌≡◌, [], ◌∷◌, ◌++◌};
+    ghost use Rattle.tab_post.specs.Rule.{hand};
+
+    ghost then = { λ v x w. w ≡ hand v.sends v.takes v.sent (v.taken ++ x ∷ []) };
+}
+
+/// A pass that takes alone learns nothing of an empty channel, since more may be sent at once.
+impl Lesson<Item, Hand> for Taken {
+    ghost use Rattle.std.specs.Prelude.{⊤};
+
+    ghost fact = { λ v items. ⊤ };
+}
+
+/// A receive by a pass of both ends.
+pub struct Meets;
+
+impl Outcome<Item, Hand> for Meets {
+    ghost use Rattle.std.specs.Prelude.{◌≡◌, [], ◌∷◌, ◌++◌};
+    ghost use Rattle.tab_post.specs.Rule.{hand, StartsWith};
+
+    ghost then = { λ v x w. (w ≡ hand v.sends v.takes v.sent (v.taken ++ x ∷ [])) × StartsWith v.sent (v.taken ++ x ∷ []) };
+}
+
+/// The channel was empty: all that was sent was taken.
+impl Lesson<Item, Hand> for Meets {
+    ghost use Rattle.std.specs.Prelude.{◌≡◌, ◌++◌};
+
+    ghost fact = { λ v items. v.sent ≡ v.taken ++ items };
+}

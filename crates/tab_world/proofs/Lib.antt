@@ -1,0 +1,3 @@
+pub mod ChangingLemmas
+pub mod InfoLemmas
+pub mod NamedLemmas

@@ -1,0 +1,11 @@
+-- What a schema command comes to on one world.
+use Rattle.std.specs.Prelude.{◌≡◌, Some, None}
+use Rattle.tab_model.specs.declared.data.Schema.{Schema}
+use Rattle.tab_model.specs.Worlds.{World}
+use Rattle.tab_model.specs.Schemas.{schema_refusal, schema_effect}
+use Rattle.tab_world.specs.declared.schemas.Redefined.{Redefined}
+use Rattle.tab_world.specs.declared.schemas.Redefined.TheVariants.{Refused, Done}
+
+abbrev pub Redefines : World → Schema → Redefined → Type 0
+Redefines w c (Refused r) = schema_refusal w c ≡ Some r
+Redefines w c (Done tables) = (schema_refusal w c ≡ None) × (tables ≡ schema_effect w c)

@@ -1,0 +1,15 @@
+//! All tables, by name, and the schema commands on them.
+//!
+//! Contracts see them as one list in the order of their names (`World` of tab_model). A call that changes them makes new
+//! ones and leaves the old ones as they were; what did not change is shared.
+
+#![tactic(auto)]
+
+mod changing;
+mod schemas;
+mod tags;
+mod world;
+
+pub use schemas::{Redefined, redefine, table_info};
+pub use tags::{table_of_change, tag};
+pub use world::World;

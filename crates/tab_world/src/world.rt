@@ -1,0 +1,112 @@
+ghost use Rattle.std.specs.Prelude.{◌≡◌, [], IfOk, nat_lt, length};
+ghost use Rattle.std.specs.Option.{option_copied};
+ghost use Rattle.tab_model.specs.Worlds.{find, place, without as without_table};
+ghost use Rattle.tab_model.specs.Events.{change_all};
+
+use crate::changing::Changing;
+use std::alloc::{AllocError, Global};
+use std::marker::Model;
+use tab_index::IndexedTable;
+use tab_map::Map;
+use tab_model::Change;
+use tab_term::Atom;
+
+/// All tables, by name. Sharing them takes constant time.
+#[derive(Drop)]
+pub struct World {
+    by_name: Map<Atom, IndexedTable>,
+}
+
+impl Model for World {
+    ghost use Rattle.std.specs.Coded.{codes};
+    ghost use Rattle.tab_term.specs.Code.{term_code};
+    ghost use Rattle.tab_model.specs.Worlds.{World as WorldOf};
+    ghost use Rattle.tab_world.specs.Named.{world_of, AreNamed};
+
+    ghost Value = { WorldOf };
+
+    ghost coded = { Prim.hlevel (codes, term_code) };
+
+    ghost view = { λ a. world_of a.by_name };
+
+    ghost invariant = { λ a. AreNamed a.by_name };
+}
+
+impl World {
+    pub fn empty() -> World
+        ensures { result ≡ [] }
+    {
+        World {
+            by_name: Map::new(),
+        }
+    }
+
+    /// The same tables, in constant time.
+    pub fn share(&self) -> Result<World, AllocError>
+        ensures { IfOk result (λ world. world ≡ self.now) }
+    {
+        Ok(World {
+            by_name: self.by_name.share()?,
+        })
+    }
+
+    pub fn table(&self, name: &Atom) -> Option<&IndexedTable>
+        ensures { option_copied result ≡ find self.now name.now }
+    {
+        self.by_name.get(name)
+    }
+
+    /// The tables with this one in the place of the one of its name, or among them. These stay as they were.
+    pub fn placed(&self, alloc: Global, table: IndexedTable) -> Result<World, AllocError>
+        ensures { IfOk result (λ world. world ≡ place self.now table) }
+    {
+        self.share()?.with(alloc, table)
+    }
+
+    /// The tables with this one in the place of the one of its name, or among them, in place where nothing is shared. An
+    /// error drops the tables.
+    pub fn with(self, alloc: Global, table: IndexedTable) -> Result<World, AllocError>
+        ensures { IfOk result (λ world. world ≡ place self table) }
+    {
+        let World { mut by_name } = self;
+        let name = table.def().name.try_clone(alloc)?;
+        by_name.insert(alloc, name, table)?;
+        Ok(World { by_name })
+    }
+
+    /// The tables after the changes, in turn. These stay as they were, and share with the new ones all that did not change.
+    /// Of changes of one table that follow one another only the first makes a new version of it.
+    pub fn updated(&self, alloc: Global, changes: &[Change]) -> Result<World, AllocError>
+        ensures { IfOk result (λ world. world ≡ change_all self.now changes.now) }
+    {
+        let nameless = Atom::from_short_text(alloc, "")?;
+        let mut changing = Changing::new(self.share()?);
+        for change in changes {
+            changing = changing.changed(alloc, change, &nameless)?;
+        }
+        changing.into_world(alloc)
+    }
+
+    /// The tables without the one of this name. These stay as they were.
+    pub fn without(&self, alloc: Global, name: &Atom) -> Result<World, AllocError>
+        ensures { IfOk result (λ world. world ≡ without_table self.now name.now) }
+    {
+        Ok(World {
+            by_name: self.by_name.removed(alloc, name)?,
+        })
+    }
+
+    /// Whether there are fewer tables than the limit.
+    pub fn has_room(&self, limit: u64) -> bool
+        ensures { result ≡ nat_lt (length self.now) limit }
+    {
+        let mut room = limit;
+        for _table in self.by_name.iter() {
+            if room == 0 {
+                return false;
+            }
+            room -= 1;
+        }
+        room > 0
+    }
+}
