@@ -1,6 +1,17 @@
-//! Tests of tab_session: whole streams, in pieces and on devices that fail.
+//! Tests of tab_session: whole streams, in pieces and on devices that fail. The streams stand in several files, since the
+//! check takes a table whole.
 
 #![tactic(auto)]
 
 #[cfg(test)]
-mod tests;
+mod devices;
+#[cfg(test)]
+mod levels;
+#[cfg(test)]
+mod locks;
+#[cfg(test)]
+mod running;
+#[cfg(test)]
+mod streams;
+#[cfg(test)]
+mod tables;
