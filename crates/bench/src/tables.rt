@@ -8,7 +8,7 @@ use std::collections::BTreeMap;
 use std::rt::Clock;
 use std::time::{Duration, Instant};
 use tab_index::IndexedTable;
-use tab_model::{Change, Operation, Reply};
+use tab_model::{Change, Operation, Reply, Told};
 use tab_schema::parse_options;
 use tab_term::{Term, Terms};
 use tab_txstore::TxStore;
@@ -102,7 +102,7 @@ fn transaction_writes<H: AllocGlobal + Clock>(rt: &H, bag: &IndexedTable) -> Res
     let mut store = TxStore::new(alloc);
     let start = Instant::now(rt)?;
     for record in records {
-        store.make(alloc, bag, Operation::Write(record), Reply::Done)?;
+        store.make(alloc, bag, Operation::Write(record), Told::new(Reply::Done))?;
     }
     let took = start.elapsed(rt)?;
     ensure!(

@@ -14,7 +14,7 @@ use crate::operating::end_if;
 use crate::seat::{Seat, Transaction};
 use crate::step::Stepped;
 use std::alloc::{AllocError, Global};
-use tab_model::{Change, Entry, Limit, Limits, Numbers, Reply};
+use tab_model::{Change, Entry, Limit, Limits, Numbers, Reply, Told};
 use tab_term::Term;
 use tab_txstore::{Finished, TxStore};
 use tab_waitdie::Ages;
@@ -157,7 +157,7 @@ fn finish(alloc: Global, number: u64, seat: &mut Seat, ages: &mut Ages) -> Stepp
     } = store.finished();
     drop(updates);
     Stepped {
-        reply: Reply::Atomic(number),
+        reply: Told::new(Reply::Atomic(number)),
         entry: Some(Entry::Committed {
             number,
             session: seat.number as u64,

@@ -28,7 +28,7 @@ pub use served::is_served;
 use std::alloc::{AllocError, Global};
 use std::marker::Model;
 pub use step::{Step, Stepped};
-use tab_model::{Limits, Reply};
+use tab_model::{Limits, Reply, Told};
 
 /// A core: tables, sessions, and what each of them is told.
 ///
@@ -83,7 +83,7 @@ impl Core {
         &mut self,
         alloc: Global,
         steps: Vec<(u32, Step)>,
-    ) -> Result<Vec<Reply>, AllocError>
+    ) -> Result<Vec<Told>, AllocError>
         requires { AllServed steps.items }
         ensures run { IfOk result (λ rs. (log : List EntryOf) × RunsTo self.old (asks_of steps.items) rs.items log self.new) }
         ensures history { IfOk result (λ rs. (log : List EntryOf) (taken : ℕ → List ItemOf) → IsTied self.old log taken → (more : List EntryOf) × IsTied self.new (log ++ more) (λ m. taken m ++ taken_in m (asks_of steps.items) rs.items)) }
@@ -100,13 +100,13 @@ impl Core {
     }
 
     /// One step of a session, and its reply, which is NoMemory where memory was refused.
-    fn step_reply(&mut self, session: u32, step: Step) -> Reply
+    fn step_reply(&mut self, session: u32, step: Step) -> Told
         requires { serves_step step ≡ true }
         ensures { (log : List EntryOf) × StepsOrNoMemory self.old (session, ask_of step) result log self.new }
     {
         match self.step(session, step) {
             Ok(stepped) => stepped.into_reply(),
-            Err(_) => Reply::NoMemory,
+            Err(_) => Told::new(Reply::NoMemory),
         }
     }
 }

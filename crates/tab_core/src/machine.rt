@@ -102,7 +102,7 @@ impl Machine {
         match step {
             Step::Join => Ok(Stepped::without_entry(Reply::BadSession)),
             Step::Leave => Ok(Stepped::without_entry(self.leave(session, place))),
-            Step::Retry => Ok(Stepped::without_entry(self.retry(session, place)?)),
+            Step::Retry => Ok(Stepped::told(self.retry(session, place)?)),
             Step::Take => Ok(Stepped::without_entry(Reply::Empty)),
             Step::Do(command) => self.command(session, place, Asked { command }),
         }
@@ -152,7 +152,7 @@ impl Machine {
             ))),
             Command::Do(operation) => {
                 let pending = Pending { operation };
-                Ok(Stepped::without_entry(self.operate(session, place, pending)?))
+                Ok(Stepped::told(self.operate(session, place, pending)?))
             }
             Command::Schema(schema) => self.schema(session, place, AskedSchema { schema }),
             Command::TableInfo(name, item) => {

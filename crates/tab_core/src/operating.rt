@@ -13,10 +13,10 @@ ghost use Rattle.tab_core.specs.Kept.{IsKept};
 ghost use Rattle.tab_core.specs.Works.{Works, WorksTo, emptied, ended, forgotten_if};
 
 use crate::machine::Machine;
-use crate::queue::{Request, copy_of, find};
+use crate::queue::{Request, find};
 use crate::seat::{Seat, Transaction};
 use std::alloc::{AllocError, Global};
-use tab_model::{Limit, Reply};
+use tab_model::{Limit, Reply, Told};
 use tab_operations::{Pending, needs, perform};
 use tab_txstore::is_failure;
 use tab_waitdie::{Ages, Answer};
@@ -24,7 +24,7 @@ use tab_world::World;
 
 /// What an operation was told, and whether it ended its transaction: by a failure at level 1.
 pub(crate) struct Worked {
-    pub reply: Reply,
+    pub reply: Told,
     pub over: bool,
 }
 
@@ -36,7 +36,7 @@ impl Drop for Worked {
 }
 
 impl Worked {
-    fn into_reply(self) -> Reply
+    fn into_reply(self) -> Told
         ensures { result ≡ self.reply }
     {
         let Worked { reply, over: _ } = self;
@@ -51,7 +51,7 @@ impl Machine {
         session: u32,
         place: usize,
         pending: Pending,
-    ) -> Result<Reply, AllocError>
+    ) -> Result<Told, AllocError>
         requires kept { IsKept self.old }
         requires there { StandsAt self.old.seats.items session place }
         requires idle { is_waiting (state_of self.old) session ≡ false }
@@ -60,10 +60,10 @@ impl Machine {
         ensures kept { IsKept self.new }
     {
         let Some(transaction) = &self.seats[place].transaction else {
-            return Ok(Reply::NoTransaction);
+            return Ok(Told::new(Reply::NoTransaction));
         };
         if transaction.store.count() as u64 >= self.limits.operations {
-            return Ok(Reply::SystemLimit(Limit::Operations));
+            return Ok(Told::new(Reply::SystemLimit(Limit::Operations)));
         }
         let age = transaction.age;
         self.queue.reserve(1)?;
@@ -81,17 +81,17 @@ impl Machine {
                     age,
                     operation: pending.into_operation(),
                 });
-                Ok(Reply::Waiting)
+                Ok(Told::new(Reply::Waiting))
             }
             Answer::Die => {
                 restart(&mut self.seats[place], &mut self.ages);
-                Ok(Reply::Restart)
+                Ok(Told::new(Reply::Restart))
             }
         }
     }
 
     /// The queued operation of a session, if there is one, asks again for its lock.
-    pub fn retry(&mut self, session: u32, place: usize) -> Result<Reply, AllocError>
+    pub fn retry(&mut self, session: u32, place: usize) -> Result<Told, AllocError>
         requires kept { IsKept self.old }
         requires there { StandsAt self.old.seats.items session place }
         ensures ok { IfOk result (λ r. outcome (state_of self.old) [] session Retry ≡ nothing (state_of self.new) r) }
@@ -100,14 +100,14 @@ impl Machine {
         ensures kept { IsKept self.new }
     {
         let Some(request) = find(&self.queue, session) else {
-            return Ok(Reply::NotWaiting);
+            return Ok(Told::new(Reply::NotWaiting));
         };
         let age = request.age;
         if !self.ages.may_go(age) {
-            return Ok(Reply::Waiting);
+            return Ok(Told::new(Reply::Waiting));
         }
         let pending = Pending {
-            operation: copy_of(self.alloc, &request.operation)?,
+            operation: request.operation.try_clone(self.alloc)?,
         };
         self.ages.grant(age)?;
         let seat = &mut self.seats[place];
@@ -153,7 +153,7 @@ fn work_in(
     let outermost = transaction.store.depth() == 0;
     match perform(alloc, world, &mut transaction.store, pending) {
         Ok(reply) => {
-            let over = outermost && is_failure(&reply);
+            let over = outermost && is_failure(reply.reply());
             Ok(Worked { reply, over })
         }
         Err(error) => {

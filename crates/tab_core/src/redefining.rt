@@ -12,7 +12,7 @@ use crate::command::AskedSchema;
 use crate::machine::Machine;
 use crate::step::Stepped;
 use std::alloc::AllocError;
-use tab_model::{Entry, InfoItem, Limit, Numbers, Reply, Schema};
+use tab_model::{Entry, InfoItem, Limit, Numbers, Reply, Schema, Told};
 use tab_term::Atom;
 use tab_world::{Redefined, World, redefine, table_info};
 
@@ -65,7 +65,7 @@ impl Machine {
         }
         self.world = world;
         Ok(Stepped {
-            reply: Reply::AtomicOk,
+            reply: Told::new(Reply::AtomicOk),
             entry: Some(Entry::Changed(
                 asked.into_schema(),
                 Numbers {

@@ -2,7 +2,7 @@
 
 ghost use Rattle.std.specs.Prelude.{◌≡◌, None};
 
-use tab_model::{Command, Entry, Reply};
+use tab_model::{Command, Entry, Reply, Told};
 
 /// What a session asks.
 #[derive(Drop)]
@@ -22,7 +22,7 @@ pub enum Step {
 /// What a step answers, and what it adds to the log.
 #[derive(Drop)]
 pub struct Stepped {
-    pub reply: Reply,
+    pub reply: Told,
     pub entry: Option<Entry>,
 }
 
@@ -30,11 +30,18 @@ impl Stepped {
     pub fn without_entry(reply: Reply) -> Stepped
         ensures { result ≡ record { reply = reply; entry = None } }
     {
+        Stepped::told(Told::new(reply))
+    }
+
+    /// What an operation was told, which its trace may share.
+    pub fn told(reply: Told) -> Stepped
+        ensures { result ≡ record { reply = reply; entry = None } }
+    {
         Stepped { reply, entry: None }
     }
 
     /// The reply alone.
-    pub fn into_reply(self) -> Reply
+    pub fn into_reply(self) -> Told
         ensures { result ≡ self.reply }
     {
         let Stepped { reply, entry } = self;

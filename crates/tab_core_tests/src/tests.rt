@@ -240,11 +240,16 @@ fn is_told(alloc: Global, reply: &Reply, told: &Told) -> Result<bool, AllocError
     })
 }
 
-fn step(core: &mut Core, alloc: Global, session: u32, asks: &Asks) -> Result<Reply, AllocError> {
+fn step(
+    core: &mut Core,
+    alloc: Global,
+    session: u32,
+    asks: &Asks,
+) -> Result<tab_model::Told, AllocError> {
     let step = match command(alloc, asks)? {
         Some(command) => {
             if !is_served(&command) {
-                return Ok(Reply::BadCommand);
+                return Ok(tab_model::Told::new(Reply::BadCommand));
             }
             Step::Do(command)
         }
@@ -265,7 +270,7 @@ fn sessions_are_told_as_specified(rt: HostRuntime) {
         let mut core = Core::new(alloc, LIMITS);
         for (line, (session, asks, told)) in script.iter().enumerate() {
             let reply = step(&mut core, alloc, *session, asks).expect(&rt, "memory");
-            let right = is_told(alloc, &reply, told).expect(&rt, "memory");
+            let right = is_told(alloc, reply.reply(), told).expect(&rt, "memory");
             assert!(rt; right, "script {number}, line {line}");
         }
     }
@@ -281,9 +286,9 @@ fn sessions_wait_restart_and_go_on(rt: HostRuntime) {
             Ok(reply) => reply,
             Err(_) => step(&mut core, alloc, *session, asks).expect(&rt, "memory"),
         };
-        let right = match is_told(alloc, &reply, told) {
+        let right = match is_told(alloc, reply.reply(), told) {
             Ok(right) => right,
-            Err(_) => is_told(alloc, &reply, told).expect(&rt, "memory"),
+            Err(_) => is_told(alloc, reply.reply(), told).expect(&rt, "memory"),
         };
         assert!(rt; right, "line {line}");
     }
@@ -302,10 +307,13 @@ fn steps_run_in_order(rt: HostRuntime) {
         .push((1, Step::Do(Command::Commit)))
         .expect(&rt, "memory");
     let replies = core.run_steps(alloc, steps).expect(&rt, "memory");
+    let [joined, begun, committed] = replies.as_slice() else {
+        panic!(rt; "three steps");
+    };
     assert!(rt;
         matches!(
-            replies.as_slice(),
-            [Reply::Done, Reply::Tid(1), Reply::Atomic(1)]
+            (joined.reply(), begun.reply(), committed.reply()),
+            (Reply::Done, Reply::Tid(1), Reply::Atomic(1))
         )
     );
 }

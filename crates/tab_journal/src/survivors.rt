@@ -8,7 +8,7 @@ ghost use Rattle.tab_journal.specs.Survivors.{next, opened, closed, ended, chang
 use std::alloc::{AllocError, Global};
 use std::collections::VecDeque;
 use std::marker::Model;
-use tab_model::{Change, Move, Operation, Reply};
+use tab_model::{Change, Move, Operation, Reply, Told};
 
 /// The updates so far that stand.
 pub struct Survivors {
@@ -41,13 +41,16 @@ impl Drop for Survivors {
     }
 }
 
-fn is_failure(told: &Option<Reply>) -> bool
+fn is_failure(told: &Option<Told>) -> bool
     ensures { result ≡ is_failure_of told.now }
 {
-    matches!(
-        told,
-        Some(Reply::NoTable(_) | Reply::BadType(_, _) | Reply::NoIndex(_, _))
-    )
+    match told {
+        Some(told) => matches!(
+            told.reply(),
+            Reply::NoTable(_) | Reply::BadType(_, _) | Reply::NoIndex(_, _)
+        ),
+        None => false,
+    }
 }
 
 fn change_of(alloc: Global, operation: &Operation) -> Result<Option<Change>, AllocError>
@@ -108,7 +111,7 @@ impl Survivors {
         }
     }
 
-    fn follow(&mut self, alloc: Global, step: &Move, told: &Option<Reply>) -> Result<(), AllocError>
+    fn follow(&mut self, alloc: Global, step: &Move, told: &Option<Told>) -> Result<(), AllocError>
         ensures { OnOk result (self.new ≡ next self.old step.now told.now) }
     {
         match step {
@@ -147,7 +150,7 @@ impl Survivors {
 pub fn surviving(
     alloc: Global,
     moves: &[Move],
-    told: &[Option<Reply>],
+    told: &[Option<Told>],
 ) -> Result<Vec<Change>, AllocError>
     ensures { IfOk result (λ changes. changes.items ≡ surviving_of moves.now told.now) }
 {

@@ -1,6 +1,6 @@
 //! Entries in few words, of sessions that work on tables whose records are `{Tab, 1, V}`.
 use std::alloc::{AllocError, Global};
-use tab_model::{Entry, Level, Move, Moves, Numbers, Operation, Replies, Reply, Schema};
+use tab_model::{Entry, Level, Move, Moves, Numbers, Operation, Replies, Reply, Schema, Told};
 use tab_term::{Atom, Term, Terms};
 
 pub fn name(alloc: Global, text: &str) -> Result<Atom, AllocError> {
@@ -66,7 +66,7 @@ pub fn commit(
     let mut told = Vec::new(alloc);
     for made in all {
         moves.push(move_of(alloc, made)?)?;
-        told.push(told_of(alloc, made)?)?;
+        told.push(told_of(alloc, made)?.map(Told::new))?;
     }
     Ok(Entry::Committed {
         number,

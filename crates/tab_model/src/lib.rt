@@ -1,11 +1,14 @@
 //! What a table server is, as plain data: the words that code and contracts share, the definitions of what each
-//! step does (specs/), and their laws (`laws`). Nothing here allocates or runs a table.
+//! step does (specs/), and their laws (`laws`). Nothing here runs a table; memory is taken by `Told::pair` and
+//! `Operation::try_clone` alone.
 
 #![tactic(auto)]
 
+mod copying;
 mod data;
 mod laws;
 mod lists;
+mod told;
 
 pub use data::{
     Change, Command, Ending, Entry, Event, InfoItem, Item, Kind, Level, Limit, Limits, Lock, Mode,
@@ -19,3 +22,4 @@ pub use laws::{
     tables_are_lists, waits_have_no_cycle, what_a_change_leaves, who_leaves_has_taken_a_beginning,
 };
 pub use lists::{Atoms, Moves, Numbers, Parts, Replies};
+pub use told::Told;

@@ -1,5 +1,6 @@
 //! Lists that stand inside the data, each seen as a plain list.
-use crate::data::{Move, Part, Reply};
+use crate::data::{Move, Part};
+use crate::told::Told;
 use std::marker::Model;
 use tab_term::Atom;
 
@@ -53,7 +54,7 @@ impl Model for Moves {
 /// What a transaction was told: None for an abort.
 #[derive(Drop)]
 pub struct Replies {
-    pub items: Vec<Option<Reply>>,
+    pub items: Vec<Option<Told>>,
 }
 
 impl Model for Replies {

@@ -25,24 +25,6 @@ pub enum Answer {
 }
 
 impl Answer {
-    pub fn try_clone(&self, alloc: Global) -> Result<Answer, AllocError>
-        ensures { IfOk result (λ copy. copy ≡ self.now) }
-    {
-        match self {
-            Answer::Done => Ok(Answer::Done),
-            Answer::Found(terms) => Ok(Answer::Found(terms.try_clone(alloc)?)),
-            Answer::NoTable(name) => Ok(Answer::NoTable(name.try_clone(alloc)?)),
-            Answer::BadType(name, row) => {
-                let name = name.try_clone(alloc)?;
-                Ok(Answer::BadType(name, row.try_clone(alloc)?))
-            }
-            Answer::NoIndex(name, attribute) => {
-                let name = name.try_clone(alloc)?;
-                Ok(Answer::NoIndex(name, attribute.try_clone(alloc)?))
-            }
-        }
-    }
-
     pub fn into_reply(self) -> Reply
         ensures { result ≡ reply_of self }
     {

@@ -8,11 +8,11 @@ ghost use Rattle.tab_txstore.specs.Overlays.{touched};
 ghost use Rattle.tab_txstore.specs.Stores.{store_next, Fits};
 ghost use Rattle.tab_operations.specs.Answers.{Answers};
 
-use crate::answering::{Answer, answered};
+use crate::answering::answered;
 use crate::asked::table_of;
 use std::alloc::{AllocError, Global};
 use tab_index::IndexedTable;
-use tab_model::{Operation, Reply};
+use tab_model::{Operation, Reply, Told};
 use tab_term::Atom;
 use tab_txstore::TxStore;
 use tab_world::World;
@@ -40,13 +40,14 @@ impl Pending {
 }
 
 /// Performs an operation of a transaction on tables that it is lent: what it answers on them as the transaction sees them,
-/// and its trace and what it changes in the store. The tables stay as they are.
+/// and its trace and what it changes in the store. The tables stay as they are. What is answered stands once, for the caller and
+/// the trace.
 pub fn perform(
     alloc: Global,
     world: &World,
     store: &mut TxStore,
     pending: Pending,
-) -> Result<Reply, AllocError>
+) -> Result<Told, AllocError>
     ensures store { IfOk result (λ r. store.new ≡ store_next (find world.now (table_of_operation pending.operation)) store.old (Do pending.operation) (Some r)) }
     ensures answer { IfOk result (λ r. (age : ℕ) → IsOrderedWorld world.now → Fits store.old world.now → replies (start world.now age) store.old.moves ≡ store.old.told → r ≡ answer_of (after (start world.now age) store.old.moves).now pending.operation) }
     ensures err { OnErr result (store.new ≡ store.old) }
@@ -67,15 +68,15 @@ fn perform_on(
     lent: &IndexedTable,
     store: &mut TxStore,
     pending: Pending,
-) -> Result<Reply, AllocError>
+) -> Result<Told, AllocError>
     ensures store { IfOk result (λ r. store.new ≡ store_next (Some lent.now) store.old (Do pending.operation) (Some r)) }
     ensures answer { IfOk result (λ r. Answers (touched store.old.levels.now.overlay lent.now.def.name) lent.now pending.operation r) }
     ensures err { OnErr result (store.new ≡ store.old) }
 {
     let answer = answered(alloc, store, lent, &pending.operation)?;
-    let told = answer.try_clone(alloc)?;
-    store.make(alloc, lent, pending.into_operation(), told.into_reply())?;
-    Ok(answer.into_reply())
+    let (reply, told) = Told::pair(alloc, answer.into_reply())?;
+    store.make(alloc, lent, pending.into_operation(), told)?;
+    Ok(reply)
 }
 
 // An operation on a table that isn't there.
@@ -84,12 +85,12 @@ fn fail(
     store: &mut TxStore,
     pending: Pending,
     name: Atom,
-) -> Result<Reply, AllocError>
+) -> Result<Told, AllocError>
     ensures store { IfOk result (λ r. store.new ≡ store_next None store.old (Do pending.operation) (Some r)) }
     ensures answer { IfOk result (λ r. r ≡ reply.NoTable name) }
     ensures err { OnErr result (store.new ≡ store.old) }
 {
-    let told = name.try_clone(alloc)?;
-    store.fail(pending.into_operation(), Reply::NoTable(told))?;
-    Ok(Reply::NoTable(name))
+    let (reply, told) = Told::pair(alloc, Reply::NoTable(name))?;
+    store.fail(pending.into_operation(), told)?;
+    Ok(reply)
 }

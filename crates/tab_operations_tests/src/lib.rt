@@ -1,7 +1,10 @@
-//! Tests of the public calls of tab_operations and tab_world: that they succeed, with the answers that the specification gives.
+//! Tests of the public calls of tab_operations and tab_world, and of tab_model's copies: that they succeed, with the answers
+//! that the specification gives.
 
 #![tactic(auto)]
 
+#[cfg(test)]
+mod copies;
 #[cfg(test)]
 mod locks;
 #[cfg(test)]

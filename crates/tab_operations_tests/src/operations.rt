@@ -3,7 +3,7 @@ use crate::made::{Asked, Told, is_told, operation, tables};
 use Shape::{Atom, Int, Tuple};
 use std::alloc::{AllocError, Global};
 use tab_fixtures::Shape;
-use tab_model::Reply;
+use tab_model::Replies;
 use tab_operations::{Pending, perform};
 use tab_txstore::TxStore;
 use tab_world::World;
@@ -187,9 +187,22 @@ fn step(
     world: &World,
     store: &mut TxStore,
     asked: &Asked,
-) -> Result<Reply, AllocError> {
+) -> Result<tab_model::Told, AllocError> {
     let operation = operation(alloc, asked)?;
     perform(alloc, world, store, Pending { operation })
+}
+
+/// Whether the trace says what the steps were told.
+fn are_traced(alloc: Global, trace: &Replies, steps: &[(Asked, Told)]) -> Result<bool, AllocError> {
+    for ((_, told), traced) in steps.iter().zip(trace.items.iter()) {
+        let Some(reply) = traced else {
+            return Ok(false);
+        };
+        if !is_told(alloc, reply.reply(), told)? {
+            return Ok(false);
+        }
+    }
+    Ok(trace.items.len() == steps.len())
 }
 
 #[test]
@@ -200,7 +213,7 @@ fn operations_are_told_as_specified(rt: HostRuntime) {
         let mut store = TxStore::new(alloc);
         for (line, (asked, told)) in case.steps.iter().enumerate() {
             let reply = step(alloc, &world, &mut store, asked).expect(&rt, "memory");
-            let right = is_told(alloc, &reply, told).expect(&rt, "memory");
+            let right = is_told(alloc, reply.reply(), told).expect(&rt, "memory");
             assert!(rt; right, "case {number}, line {line}");
         }
         assert_eq!(rt; store.count(), case.count, "count, case {number}");
@@ -209,5 +222,7 @@ fn operations_are_told_as_specified(rt: HostRuntime) {
             case.updates,
             "updates, case {number}"
         );
+        let traced = are_traced(alloc, &store.finished().told, case.steps);
+        assert!(rt; traced.expect(&rt, "memory"), "trace, case {number}");
     }
 }

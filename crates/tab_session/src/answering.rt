@@ -9,7 +9,7 @@ use crate::Answer;
 use std::alloc::Global;
 use tab_core::{Core, Step, is_served};
 use tab_etf::{EncodeFault, EtfFault, decode};
-use tab_model::Reply;
+use tab_model::{Reply, Told};
 use tab_proto::{ProtoFault, Request, append_reply, read_request, session_of};
 use tab_term::Term;
 
@@ -22,11 +22,11 @@ pub fn answer(core: &mut Core, alloc: Global, payload: &[u8]) -> Answer
         Ok(held) => answer_to(core, alloc, held),
         Err(EtfFault::At(_, _)) => Answer {
             session: 0,
-            reply: Reply::BadTerm,
+            reply: Told::new(Reply::BadTerm),
         },
         Err(EtfFault::NoMemory) => Answer {
             session: 0,
-            reply: Reply::NoMemory,
+            reply: Told::new(Reply::NoMemory),
         },
     }
 }
@@ -42,11 +42,11 @@ fn answer_to(core: &mut Core, alloc: Global, held: Term) -> Answer
         },
         Err(ProtoFault::BadCommand) => Answer {
             session: number,
-            reply: Reply::BadCommand,
+            reply: Told::new(Reply::BadCommand),
         },
         Err(ProtoFault::NoMemory) => Answer {
             session: number,
-            reply: Reply::NoMemory,
+            reply: Told::new(Reply::NoMemory),
         },
     }
 }
@@ -62,15 +62,15 @@ fn number_of(held: &Term) -> u32
 }
 
 /// What the core doesn't serve yet is refused as no command.
-fn reply_to(core: &mut Core, session: u32, request: Request) -> Reply
+fn reply_to(core: &mut Core, session: u32, request: Request) -> Told
     ensures { RepliesTo core.old session request result core.new }
 {
     if !is_served_request(&request) {
-        return Reply::BadCommand;
+        return Told::new(Reply::BadCommand);
     }
     match core.step(session, step_of(request)) {
         Ok(stepped) => stepped.into_reply(),
-        Err(_) => Reply::NoMemory,
+        Err(_) => Told::new(Reply::NoMemory),
     }
 }
 
@@ -104,5 +104,5 @@ pub fn put_answer(answer: &Answer, out: &mut Vec<u8>) -> Result<(), EncodeFault>
     ensures err { IfErr result (λ e. NotPut answer.now e) }
     ensures same { OnErr result (out.new.items ≡ out.old.items) }
 {
-    append_reply(Some(answer.session), &answer.reply, out)
+    append_reply(Some(answer.session), answer.reply.reply(), out)
 }

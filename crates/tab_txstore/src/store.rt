@@ -20,14 +20,14 @@ use std::alloc::{AllocError, Global};
 use std::marker::Model;
 use tab_index::IndexedTable;
 use tab_map::Map;
-use tab_model::{Change, Move, Moves, Operation, Replies, Reply};
+use tab_model::{Change, Move, Moves, Operation, Replies, Reply, Told};
 use tab_term::{Term, Terms};
 
 /// What a transaction did, what it was told, and what it left at the keys that it touched.
 pub struct TxStore {
     // With room for the ends of the levels that are open.
     moves: Vec<Move>,
-    told: Vec<Option<Reply>>,
+    told: Vec<Option<Told>>,
     // Of the moves, those that count towards the limit.
     count: usize,
     levels: Levels,
@@ -75,7 +75,7 @@ pub struct Finished {
 /// An operation with its reply, which waits for its place.
 struct Made {
     operation: Operation,
-    reply: Reply,
+    reply: Told,
 }
 
 // A derived Drop would be taken apart, variant by variant, at each exit of each caller.
@@ -88,7 +88,7 @@ impl Drop for Made {
 }
 
 impl Made {
-    fn into_parts(self) -> (Operation, Reply)
+    fn into_parts(self) -> (Operation, Told)
         ensures { result ≡ (self.operation, self.reply) }
     {
         let Made { operation, reply } = self;
@@ -116,7 +116,7 @@ impl TxStore {
         alloc: Global,
         lent: &IndexedTable,
         operation: Operation,
-        reply: Reply,
+        reply: Told,
     ) -> Result<(), AllocError>
         ensures ok { OnOk result (self.new ≡ store_next (Some lent.now) self.old (Do operation) (Some reply)) }
         ensures err { OnErr result (self.new ≡ self.old) }
@@ -131,7 +131,7 @@ impl TxStore {
         reserve(&mut self.moves, self.levels.depth(), 1)?;
         reserve_told(&mut self.told, self.levels.depth(), 1)?;
         self.levels
-            .operate(alloc, lent, &made.operation, &made.reply)?;
+            .operate(alloc, lent, &made.operation, made.reply.reply())?;
         let (operation, reply) = made.into_parts();
         put_move(&mut self.moves, Move::Do(operation));
         put_told(&mut self.told, Some(reply));
@@ -140,7 +140,7 @@ impl TxStore {
     }
 
     /// An operation that has no table, with its reply: its level ends.
-    pub fn fail(&mut self, operation: Operation, reply: Reply) -> Result<(), AllocError>
+    pub fn fail(&mut self, operation: Operation, reply: Told) -> Result<(), AllocError>
         requires { is_failure_of (Some reply) ≡ true }
         ensures ok { OnOk result (self.new ≡ store_next None self.old (Do operation) (Some reply)) }
         ensures err { OnErr result (self.new ≡ self.old) }
@@ -172,7 +172,7 @@ impl TxStore {
         reserve_told(&mut self.told, self.levels.depth(), 2)?;
         self.levels.nest()?;
         put_move(&mut self.moves, Move::Open);
-        put_told(&mut self.told, Some(Reply::Tid(age)));
+        put_told(&mut self.told, Some(Told::new(Reply::Tid(age))));
         self.count += 1;
         Ok(())
     }
@@ -183,7 +183,7 @@ impl TxStore {
         ensures { self.new ≡ store_next None self.old CloseOf (Some told_of.AtomicOk) }
     {
         put_move(&mut self.moves, Move::Close);
-        put_told(&mut self.told, Some(Reply::AtomicOk));
+        put_told(&mut self.told, Some(Told::new(Reply::AtomicOk)));
         self.levels.join();
     }
 
@@ -290,7 +290,7 @@ fn reserve(moves: &mut Vec<Move>, depth: usize, more: usize) -> Result<(), Alloc
     moves.reserve(places(depth, more)?)
 }
 
-fn reserve_told(told: &mut Vec<Option<Reply>>, depth: usize, more: usize) -> Result<(), AllocError>
+fn reserve_told(told: &mut Vec<Option<Told>>, depth: usize, more: usize) -> Result<(), AllocError>
     ensures items { told.new.items ≡ told.old.items }
     ensures len { vec_len told.new ≡ vec_len told.old }
     ensures kept { vec_capacity told.old ≤ vec_capacity told.new }
@@ -315,7 +315,7 @@ fn put_move(moves: &mut Vec<Move>, next: Move)
     moves.push_reserved(next);
 }
 
-fn put_told(told: &mut Vec<Option<Reply>>, next: Option<Reply>)
+fn put_told(told: &mut Vec<Option<Told>>, next: Option<Told>)
     requires { vec_len told.old < vec_capacity told.old }
     ensures items { told.new.items ≡ told.old.items ++ next ∷ [] }
     ensures len { vec_len told.new ≡ vec_len told.old + 1 }

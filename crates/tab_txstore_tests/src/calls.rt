@@ -2,7 +2,7 @@
 use crate::made::{Step, all, are, are_numbers, of_key, table, take};
 use std::alloc::{AllocError, Global};
 use tab_index::IndexedTable;
-use tab_model::{Kind, Operation, Reply};
+use tab_model::{Kind, Operation, Reply, Told};
 use tab_term::{Atom, Term};
 use tab_txstore::TxStore;
 
@@ -192,7 +192,7 @@ fn fails(alloc: Global) -> Result<bool, AllocError> {
     take(&mut store, alloc, &lent, &Step::Write(1, 11))?;
     store.nest(7)?;
     take(&mut store, alloc, &lent, &Step::Write(1, 12))?;
-    let told = Reply::NoTable(Atom::from_short_text(alloc, "u")?);
+    let told = Told::new(Reply::NoTable(Atom::from_short_text(alloc, "u")?));
     store.fail(Operation::AllKeys(Atom::from_short_text(alloc, "u")?), told)?;
     let back = store.depth() == 0 && are(alloc, store.seen(&lent, &Term::Int(1)), &[(1, 11)])?;
     store.clear();

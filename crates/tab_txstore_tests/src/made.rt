@@ -1,7 +1,7 @@
 //! Terms, tables and operations of the tests. A record is `{t, Key, Value}`, and the table has an index at position 3.
 use std::alloc::{AllocError, Global};
 use tab_index::IndexedTable;
-use tab_model::{Atoms, Change, Kind, Numbers, Operation, Reply, TableDef};
+use tab_model::{Atoms, Change, Kind, Numbers, Operation, Reply, TableDef, Told};
 use tab_term::{Atom, Term, Terms};
 use tab_txstore::TxStore;
 
@@ -109,9 +109,12 @@ pub fn take(
         }
         Step::Fail => {
             let told = Reply::BadType(name(alloc)?, Term::Int(0));
+            store.make(alloc, lent, operation(alloc, step)?, Told::new(told))
+        }
+        _ => {
+            let told = Told::new(Reply::Done);
             store.make(alloc, lent, operation(alloc, step)?, told)
         }
-        _ => store.make(alloc, lent, operation(alloc, step)?, Reply::Done),
     }
 }
 

@@ -8,13 +8,13 @@ returns-in-Ok c = answered _ _ _ _ c.in-Ok.request _ c.in-Ok.ensures.ok.0 c.in-O
 pub returns-in-Err-NoMemory : goal.returns-in-Err-NoMemory
 returns-in-Err-NoMemory c =
     let one_shot = c.in-Err-NoMemory.ensures.memory (ap Err c.in-Err-NoMemory.field-0-is) in
-    inr (record { reply = refl; same = refl; under = (one_shot_numbered _ _ c.number_of-number.ensures one_shot, inl one_shot) })
+    inr (record { reply = c.new-in-Err-NoMemory.ensures; same = refl; under = (one_shot_numbered _ _ c.number_of-number.ensures one_shot, inl one_shot) })
 
 pub returns-in-Err-BadCommand : goal.returns-in-Err-BadCommand
 returns-in-Err-BadCommand c =
     inl (inl (record {
       nothing = λ session a number asked same. c.in-Err-BadCommand.ensures.only session a number asked.formed same (ap Err c.in-Err-BadCommand.field-0-is);
-      reply = refl;
+      reply = c.new.ensures;
       same = refl;
       under = c.number_of-number.ensures;
     }))

@@ -23,6 +23,7 @@ returns-in_default-clause-ok c =
     let s = c.index-deref-place.result in
     let at_i = c.index-deref-place.is ∙ ap (λ ss. get_or ss c.args.place s) c.deref.ensures.0 in
     operating.no_transaction c.args.self.now c.args.session c.args.place s c.requires.kept c.requires.there at_i c.args.pending.operation c.requires.idle (ap (λ (x : code.Seat). x.transaction) c.index-deref-place.is ∙ c.in_default.is)
+    ∙ ap (nothing (state_of c.args.self.now)) (sym c.new.ensures)
 
 pub returns-then-count-self-clause-ok : goal.returns-then-count-self-clause-ok
 returns-then-count-self-clause-ok c =
@@ -30,6 +31,7 @@ returns-then-count-self-clause-ok c =
     let at_i = c.index-deref-place.is ∙ ap (λ ss. get_or ss c.args.place s) c.deref.ensures.0 in
     operating.too_many c.args.self.now c.args.session c.args.place s c.requires.kept c.requires.there at_i c.in-Some.transaction (ap (λ (x : code.Seat). x.transaction) c.index-deref-place.is ∙ c.in-Some.is) c.args.pending.operation c.requires.idle
     (not_less _ _ (omega (arith, c.if-count-self.true, c.count.ensures)))
+    ∙ ap (nothing (state_of c.args.self.now)) (sym c.new-then-count-self.ensures)
 
 pub request-requires : goal.request-requires
 request-requires c =
@@ -95,7 +97,7 @@ returns-in-Wait c =
     (operating.decides_as m.ages t.age _ o c.in_ok-request.field-0 Wait c.in_ok-request.ensures.answer c.in-Wait.is lock)
     (operating.ages_after m.ages c.request.new.self t.age _ o c.in_ok-request.field-0 Wait c.in_ok-request.ensures.after c.in-Wait.is lock)
     (record { world = refl; seats = refl; queue = c.push_reserved.ensures.items ∙ ap (λ qs. qs ++ q ∷ []) c.in_ok-reserve.ensures.items; limits = refl; begun = refl; commits = refl; greatest = refl }) in
-    record { ok = all.0; err = tt; kept = all.1 }
+    record { ok = all.0 ∙ ap (nothing (state_of (parts m m.seats c.request.new.self c.push_reserved.new.self))) (sym c.new-in-Wait.ensures); err = tt; kept = all.1 }
 
 pub returns-in-Die : goal.returns-in-Die
 returns-in-Die c =
@@ -116,4 +118,4 @@ returns-in-Die c =
     (operating.decides_as m.ages t.age _ o c.in_ok-request.field-0 Die c.in_ok-request.ensures.answer c.in-Die.is lock)
     (operating.ages_after m.ages c.request.new.self t.age _ o c.in_ok-request.field-0 Die c.in_ok-request.ensures.after c.in-Die.is lock) c.restart.ensures.ages
     (record { world = refl; seats = refilled m.seats.items _ i c.restart.new.seat c.deref_mut-in-Die.ensures.value; queue = c.in_ok-reserve.ensures.items; limits = refl; begun = refl; commits = refl; greatest = refl }) in
-    record { ok = all.0; err = tt; kept = all.1 }
+    record { ok = all.0 ∙ ap (nothing (state_of (parts m (with_items m.seats (set c.deref_mut-in-Die.result.now i c.restart.new.seat)) c.restart.new.ages c.reserve.new.self))) (sym c.new-in-Die.ensures); err = tt; kept = all.1 }

@@ -24,6 +24,7 @@ returns-in_default-clause-ok c =
     let n = c.args.session in
     let i = c.args.place in
     operating.nothing_queued m n i (the_seat m n i) c.requires.kept c.requires.there (keep.at_place m n i c.requires.there) (ap (λ qs. request_in (map queued_of qs) n) (sym c.deref.ensures.value) ∙ c.in_default.ensures)
+    ∙ ap (nothing (state_of m)) (sym c.new.ensures)
 
 pub may_go-requires : goal.may_go-requires
 may_go-requires c =
@@ -50,6 +51,7 @@ returns-then-not-may_go-clause-ok c =
     let rq = ap (λ qs. request_in (map queued_of qs) n) (sym c.deref.ensures.value) ∙ c.in-Some.ensures in
     let r = operating.requested m n i s c.requires.kept there at_i q rq in
     operating.waits_on m n i s c.requires.kept there at_i q rq (sym (subst (λ x. IfSome x (λ z. false ≡ plain.can_retry m.ages z)) r.request c.if-not-may_go.ensures))
+    ∙ ap (nothing (state_of m)) (sym c.new-then-not-may_go.ensures)
 
 pub grant-requires-clause-queued : goal.grant-requires-clause-queued
 grant-requires-clause-queued c =
@@ -136,7 +138,7 @@ returns c =
     let before = c.in_ok-worked.ensures.held ∙ granted in
     let all = operating.retry_exit m n i s c.requires.kept there at_i q rq c.in_ok-worked.worked s2 c.work.new.seat c.end_if.new.seat c.drop_wait.new.self c.end_if.new.ages
     (parts m (with_items m.seats (set c.deref_mut.result.now i c.end_if.new.seat)) c.end_if.new.ages c.retain.new.self)
-    (record { same = same; number = c.in_ok-worked.ensures.number; works = subst (λ o. IfSome s2.transaction (λ u. works.WorksTo m.world u o c.in_ok-worked.worked c.work.new.seat.transaction)) c.in_ok-copy_of.ensures c.in_ok-worked.ensures.ok; end = c.end_if.ensures.seat })
+    (record { same = same; number = c.in_ok-worked.ensures.number; works = subst (λ o. IfSome s2.transaction (λ u. works.WorksTo m.world u o c.in_ok-worked.worked c.work.new.seat.transaction)) c.in_ok-try_clone.ensures c.in_ok-worked.ensures.ok; end = c.end_if.ensures.seat })
     (sym (subst (λ x. IfSome x (λ z. true ≡ plain.can_retry m.ages z)) r.request c.if-not-may_go.ensures))
     (c.drop_wait.ensures ∙ (λ j. let g : plain.Ages = record { held = plain.Ages.held (before j); queue = plain.without q.age (plain.Ages.queue (before j)) } in g)) c.end_if.ensures.ages
     (record { world = refl; seats = refilled m.seats.items _ i c.end_if.new.seat c.deref_mut.ensures.value; queue = filter_same _ (λ (x : request.Request). not (x.session == n)) _ (λ x b f t. search rules) _ _ c.retain.ensures.filtered; limits = refl; begun = refl; commits = refl; greatest = refl }) refl in
