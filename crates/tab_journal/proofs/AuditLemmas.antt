@@ -1,5 +1,5 @@
 -- Entries run one after another: what an audit finds of each, and of the whole log.
-use Rattle.std.proofs.Common.{◌≡◌, ◌≢◌, ℕ, zero, suc, ◌+◌, List, [], ◌∷◌, Bool, true, false, Option, Some, None, refl, sym, ap, ◌∙◌, subst, drop, length, get_or, ◌<◌, ◌≤◌, arith}
+use Rattle.std.proofs.Common.{◌≡◌, ◌≢◌, ℕ, suc, ◌+◌, List, [], ◌∷◌, Bool, true, false, Option, Some, None, refl, sym, ap, ◌∙◌, subst, drop, length, get_or, ◌<◌, ◌≤◌}
 use Rattle.std.specs.Prelude.{if◌then◌else◌, is_some, ◌&&◌, ◌==◌}
 use Rattle.std.specs.Str.{bytes_eq}
 use Rattle.std.specs.Bool.{Decides}
@@ -7,7 +7,7 @@ use Rattle.std.proofs.lemmas.Bool.{false≢true}
 use Rattle.std.proofs.lemmas.Bool.Decides.{Decides-and, Decides-like, Decides-eqb}
 use Rattle.std.proofs.lemmas.List.{at_drop_more, at_drop_all}
 use Rattle.std.proofs.lemmas.Slice.Eq.{bytes_eq-Decides}
-use Rattle.tab_term.specs.Data.{PlainTerm, PlainTerms}
+use Rattle.tab_term.specs.Data.{PlainTerms}
 use Rattle.tab_term.specs.View.{term}
 use Rattle.tab_term.specs.Same.{same, all_same, same-Decides, all_same-Decides}
 use Rattle.tab_term.specs.declared.term.Term.{Term}
@@ -20,13 +20,13 @@ use Rattle.tab_model.specs.declared.data.Move.TheVariants.{Do, Open, Close, Undo
 use Rattle.tab_model.specs.declared.data.Operation.{Operation}
 use Rattle.tab_model.specs.declared.data.Reply.{Reply}
 use Rattle.tab_model.specs.declared.data.Reply.TheVariants as reply
-use Rattle.tab_model.specs.Alone.{Mid, start, next, back, back_to, forgotten, after, told, replies}
+use Rattle.tab_model.specs.Alone.{Mid, start, next, back, after, told, replies}
 use Rattle.tab_model.specs.Events.{change_all, surviving, is_failure}
 use Rattle.tab_model.specs.History.{Base, IsHistory, tables_after, number_after, unless_refused}
 use Rattle.tab_model.specs.Log.{serial_from, entered, IsRight, IsLegal, count_after}
 use Rattle.tab_model.specs.declared.data.Operation.TheVariants as op
 use Rattle.tab_model.specs.Definitions.{fits_def, is_indexed, position}
-use Rattle.tab_model.specs.Operations.{table_of, table_of_change, change_table, change_world, change_by, change_of_op, effect, failure, failure_in, answer, answer_or, answer_in, answer_at}
+use Rattle.tab_model.specs.Operations.{table_of, table_of_change, change_table, change_world, change_by, change_of_op, effect, failure, failure_in, answer, answer_or, answer_in}
 use Rattle.tab_model.proofs.SurvivorsRight.{reply_tells}
 use Rattle.tab_journal.proofs.SameLemmas.{tables-Decides}
 use Rattle.tab_model.specs.Schemas.{schema_refusal, schema_effect}

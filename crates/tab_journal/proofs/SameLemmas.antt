@@ -1,5 +1,5 @@
 -- When names, definitions and tables are the same.
-use Rattle.std.proofs.Common.{◌≡◌, ◌≢◌, ℕ, suc, ◌+◌, ◌<◌, List, [], ◌∷◌, Bool, true, false, ◌&&◌, ◌==◌, refl, sym, ap, ap₂, ◌∙◌, length, arith}
+use Rattle.std.proofs.Common.{◌≡◌, ◌≢◌, ℕ, List, [], ◌∷◌, false, ◌&&◌, ◌==◌, refl, ap, ◌∙◌, length, arith}
 use Rattle.std.specs.Str.{bytes_eq}
 use Rattle.std.specs.Bool.{Decides}
 use Rattle.std.proofs.Math.Bool.{and-false}
@@ -47,8 +47,8 @@ def-Decides d e = Decides-like (same_def d e)
     (λ p. λ i. record { name = p.0.0 i; kind = p.0.1 i; attributes = p.1.0 i; indexes = p.1.1 i })
     (λ h. ((ap (λ (x : TableDef). x.name) h, ap (λ (x : TableDef). x.kind) h), (ap (λ (x : TableDef). x.attributes) h, ap (λ (x : TableDef). x.indexes) h)))
     (Decides-and _ _
-      (Decides-and (bytes_eq d.name e.name) (same_kind d.kind e.kind) (bytes_eq-Decides d.name e.name) (kind-Decides d.kind e.kind))
-      (Decides-and (same_names d.attributes e.attributes) (same_numbers d.indexes e.indexes) (names-Decides d.attributes e.attributes) (numbers-Decides d.indexes e.indexes)))
+    (Decides-and (bytes_eq d.name e.name) (same_kind d.kind e.kind) (bytes_eq-Decides d.name e.name) (kind-Decides d.kind e.kind))
+    (Decides-and (same_names d.attributes e.attributes) (same_numbers d.indexes e.indexes) (names-Decides d.attributes e.attributes) (numbers-Decides d.indexes e.indexes)))
 
 rows-Decides : (xs ys : Rows) → Decides (same_rows xs ys) (xs ≡ ys)
 rows-Decides [] [] = (λ e. refl, λ e. refl)

@@ -1,5 +1,5 @@
 -- Whether a journal is what its base and the tables say, entry by entry (this project's own).
-use Rattle.std.specs.Prelude.{◌≡◌, ◌≢◌, ℕ, ◌+◌, List, [], ◌∷◌, Bool, true, false, ◌&&◌, ◌==◌, Option, Some, None}
+use Rattle.std.specs.Prelude.{◌≡◌, ◌≢◌, ℕ, List, [], ◌∷◌, Bool, true, false, ◌&&◌, ◌==◌, Option, Some, None}
 use Rattle.std.specs.Str.{bytes_eq}
 use Rattle.tab_term.specs.Data.{PlainTerms}
 use Rattle.tab_term.specs.View.{term}
@@ -82,7 +82,6 @@ abbrev pub same_rows : Rows → Rows → Bool
 same_rows [] [] = true
 same_rows (x ∷ xs) (y ∷ ys) = same x y && same_rows xs ys
 same_rows xs ys = false
-
 
 abbrev pub same_table : Table → Table → Bool
 same_table t u = same_def t.def u.def && same_rows t.rows u.rows

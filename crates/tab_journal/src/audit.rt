@@ -56,7 +56,13 @@ fn enter(
             if number.checked_sub(1) != Some(commits) {
                 return Ok(None);
             }
-            rerun(alloc, tables, *age, moves.items.as_slice(), told.items.as_slice())
+            rerun(
+                alloc,
+                tables,
+                *age,
+                moves.items.as_slice(),
+                told.items.as_slice(),
+            )
         }
         Entry::Changed(command, _) => redefined(alloc, tables, command),
         Entry::Subscribed { .. } => Ok(Some(tables.share()?)),
@@ -64,11 +70,7 @@ fn enter(
     }
 }
 
-fn redefined(
-    alloc: Global,
-    tables: &World,
-    command: &Schema,
-) -> Result<Option<World>, AllocError>
+fn redefined(alloc: Global, tables: &World, command: &Schema) -> Result<Option<World>, AllocError>
     ensures { IfOk result (Changes tables.now command.now) }
 {
     match redefine(alloc, tables, command)? {

@@ -149,7 +149,10 @@ fn has_same_name(one: &TableDef, other: &TableDef) -> bool
 fn has_same_attributes(one: &TableDef, other: &TableDef) -> bool
     ensures { result ≡ (same_names one.now.attributes other.now.attributes && same_numbers one.now.indexes other.now.indexes) }
 {
-    if are_same_names(one.attributes.items.as_slice(), other.attributes.items.as_slice()) {
+    if are_same_names(
+        one.attributes.items.as_slice(),
+        other.attributes.items.as_slice(),
+    ) {
         return are_same_numbers(one.indexes.items.as_slice(), other.indexes.items.as_slice());
     }
     false

@@ -1,4 +1,4 @@
-use Rattle.std.proofs.Common.{◌≡◌, sym, subst, ◌∙◌}
+use Rattle.std.proofs.Common.{sym, subst, ◌∙◌}
 use Rattle.tab_journal.specs.Audits.{Enters}
 use Rattle.tab_journal.proofs.AuditLemmas.{Goes, goes_start, goes_next, goes_end}
 use Rattle.tab_journal.proofs.audit.is_history.Goals as goal

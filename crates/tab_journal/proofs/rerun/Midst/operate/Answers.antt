@@ -1,4 +1,4 @@
-use Rattle.std.proofs.Common.{◌≡◌, sym, subst, ◌∙◌}
+use Rattle.std.proofs.Common.{◌≡◌, sym, subst}
 use Rattle.std.specs.Bool.{Decides}
 use Rattle.tab_model.specs.Alone.{Mid}
 use Rattle.tab_model.specs.Operations.{answer}
