@@ -1,1 +1,3 @@
 pub mod SurvivorLemmas
+pub mod SameLemmas
+pub mod AuditLemmas

@@ -4,6 +4,7 @@ ghost use Rattle.std.specs.Prelude.{◌≡◌, IfOk, OnOk, OnErr};
 ghost use Rattle.tab_model.specs.declared.data.Schema.{Schema as SchemaOf};
 ghost use Rattle.tab_model.specs.Schemas.{schema_refusal, schema_effect};
 ghost use Rattle.tab_model.specs.History.{empty as empty_base, folded, forgotten, tables_after as tables_after_entry, number_after as number_after_entry, unless_refused};
+ghost use Rattle.tab_model.specs.Worlds.{IsOrderedWorld};
 
 use crate::subscriptions::{Subscription, follow, forget};
 use crate::survivors::surviving;
@@ -30,6 +31,10 @@ impl Model for Base {
     ghost coded = { Prim.hlevel (codes, term_code) };
 
     ghost view = { λ a. record { tables = a.tables; commits = a.commits; subscriptions = a.subscriptions.items } };
+
+    ghost use Rattle.tab_model.specs.Worlds.{IsOrderedWorld};
+
+    ghost invariant = { λ a. IsOrderedWorld a.tables };
 }
 
 impl Base {
@@ -45,7 +50,8 @@ impl Base {
     }
 
     pub fn tables(&self) -> &World
-        ensures { result.now ≡ self.now.tables }
+        ensures tables { result.now ≡ self.now.tables }
+        ensures ordered { IsOrderedWorld self.now.tables }
     {
         &self.tables
     }
@@ -88,7 +94,7 @@ impl Base {
     }
 }
 
-fn number_after(commits: u64, entry: &Entry) -> u64
+pub fn number_after(commits: u64, entry: &Entry) -> u64
     ensures { result ≡ number_after_entry commits entry.now }
 {
     match entry {

@@ -2,14 +2,17 @@
 
 ghost use Rattle.std.specs.Prelude.{◌≡◌, ◌≤◌, ◌<◌, ◌↔◌, ◌++◌, ◌∷◌, [], IfOk, IfErr, OnOk, OnErr, IsOk, IsTrue, length, slice_get};
 ghost use Rattle.std.specs.Option.{option_copied};
-ghost use Rattle.tab_model.specs.History.{empty as empty_base};
+ghost use Rattle.std.specs.Bool.{Decides};
+ghost use Rattle.tab_model.specs.History.{empty as empty_base, IsHistory};
 ghost use Rattle.tab_journal.specs.Journals.{fold_oldest as fold_oldest_of, forget as forget_in};
 
+use crate::audit::is_history;
 use crate::base::Base;
 use circular_buffer::HeapCircularBuffer;
 use std::alloc::{AllocError, Global};
 use std::marker::Model;
 use tab_model::Entry;
+use tab_world::World;
 
 /// The entries that stand, oldest first, and what they started from.
 #[derive(Drop)]
@@ -85,6 +88,14 @@ impl Journal {
         ensures { result.now ≡ self.now.base }
     {
         &self.base
+    }
+
+    /// True exactly where the entries are a legal log from this base that ends in these tables. Each transaction is run
+    /// again and each of its replies compared, so it takes as long as the transactions themselves.
+    pub fn audit(&self, alloc: Global, base: &Base, tables: &World) -> Result<bool, AllocError>
+        ensures { IfOk result (λ is. Decides is (IsHistory base.now self.now.entries tables.now)) }
+    {
+        is_history(alloc, base, &self.entries, tables)
     }
 
     /// Folds the oldest entry into the base. Of one that subscribes the caller says whether its session is still joined.

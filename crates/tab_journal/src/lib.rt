@@ -5,8 +5,13 @@
 
 #![tactic(auto)]
 
+mod audit;
 mod base;
+mod copies;
 mod journal;
+mod records;
+mod rerun;
+mod same;
 mod subscriptions;
 mod survivors;
 

@@ -53,7 +53,7 @@ fn is_failure(told: &Option<Told>) -> bool
     }
 }
 
-fn change_of(alloc: Global, operation: &Operation) -> Result<Option<Change>, AllocError>
+pub fn change_of(alloc: Global, operation: &Operation) -> Result<Option<Change>, AllocError>
     ensures { IfOk result (λ change. change ≡ change_of_op operation.now) }
 {
     match operation {

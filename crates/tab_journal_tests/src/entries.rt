@@ -9,7 +9,7 @@ pub fn name(alloc: Global, text: &str) -> Result<Atom, AllocError> {
     Atom::new(owned).or(Err(AllocError))
 }
 
-fn record(alloc: Global, table: &str, value: i128) -> Result<Term, AllocError> {
+pub fn record(alloc: Global, table: &str, value: i128) -> Result<Term, AllocError> {
     let mut row = Vec::with_capacity(alloc, 3)?;
     row.push(Term::Atom(name(alloc, table)?))?;
     row.push(Term::Int(1))?;
@@ -17,9 +17,17 @@ fn record(alloc: Global, table: &str, value: i128) -> Result<Term, AllocError> {
     Ok(Term::Tuple(Terms::from_vec(row)))
 }
 
+fn found(alloc: Global, value: i128) -> Result<Terms, AllocError> {
+    let mut records = Vec::with_capacity(alloc, 1)?;
+    records.push(record(alloc, "t", value)?)?;
+    Ok(Terms::from_vec(records))
+}
+
 #[derive(Clone, Copy)]
 pub enum Made {
     Write(i128),
+    /// Of key 1, which is told this value.
+    Read(i128),
     /// Of a table that isn't there.
     Fail,
     Open,
@@ -30,6 +38,7 @@ pub enum Made {
 fn move_of(alloc: Global, made: &Made) -> Result<Move, AllocError> {
     Ok(match made {
         Made::Write(value) => Move::Do(Operation::Write(record(alloc, "t", *value)?)),
+        Made::Read(_) => Move::Do(Operation::Read(name(alloc, "t")?, Term::Int(1))),
         Made::Fail => Move::Do(Operation::Read(name(alloc, "nosuch")?, Term::Int(1))),
         Made::Open => Move::Open,
         Made::Close => Move::Close,
@@ -40,6 +49,7 @@ fn move_of(alloc: Global, made: &Made) -> Result<Move, AllocError> {
 fn told_of(alloc: Global, made: &Made) -> Result<Option<Reply>, AllocError> {
     Ok(match made {
         Made::Write(_) => Some(Reply::Done),
+        Made::Read(value) => Some(Reply::Found(found(alloc, *value)?)),
         Made::Fail => Some(Reply::NoTable(name(alloc, "nosuch")?)),
         Made::Open => Some(Reply::Tid(1)),
         Made::Close => Some(Reply::AtomicOk),

@@ -1,7 +1,9 @@
-//! Tests of tab_journal: what folding leaves, entry by entry.
+//! Tests of tab_journal: what folding leaves, entry by entry, and what an audit finds.
 
 #![tactic(auto)]
 
+#[cfg(test)]
+mod auditing;
 #[cfg(test)]
 mod entries;
 #[cfg(test)]

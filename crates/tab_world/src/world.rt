@@ -2,12 +2,13 @@ ghost use Rattle.std.specs.Prelude.{◌≡◌, [], IfOk, nat_lt, length};
 ghost use Rattle.std.specs.Option.{option_copied};
 ghost use Rattle.tab_model.specs.Worlds.{find, place, without as without_table};
 ghost use Rattle.tab_model.specs.Events.{change_all};
+ghost use Rattle.tab_world.specs.Named.{world_of};
 
 use crate::changing::Changing;
 use std::alloc::{AllocError, Global};
 use std::marker::Model;
 use tab_index::IndexedTable;
-use tab_map::Map;
+use tab_map::{Iter, Map};
 use tab_model::Change;
 use tab_term::Atom;
 
@@ -54,6 +55,13 @@ impl World {
         ensures { option_copied result ≡ find self.now name.now }
     {
         self.by_name.get(name)
+    }
+
+    /// The tables in the order of their names.
+    pub fn tables<'a>(&'a self) -> Iter<'a, Atom, IndexedTable>
+        ensures { world_of result ≡ self.now }
+    {
+        self.by_name.iter()
     }
 
     /// The tables with this one in the place of the one of its name, or among them. These stay as they were.

@@ -1,0 +1,6 @@
+use Rattle.std.proofs.Common.{sym}
+use Rattle.tab_journal.proofs.SameLemmas.{names_differ}
+use Rattle.tab_journal.proofs.same.are_same_names.Goals as goal
+
+pub returns-then-ones-others : goal.returns-then-ones-others
+returns-then-ones-others c = sym (names_differ _ _ c.if-ones-others.true)

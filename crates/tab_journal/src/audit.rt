@@ -1,0 +1,80 @@
+//! Whether the entries, run from a base, give their replies and these tables.
+
+ghost use Rattle.std.specs.Prelude.{◌≡◌, IfOk};
+ghost use Rattle.std.specs.Bool.{Decides};
+ghost use Rattle.tab_model.specs.History.{IsHistory};
+ghost use Rattle.tab_model.specs.Worlds.{IsOrderedWorld};
+ghost use Rattle.tab_journal.specs.Audits.{Changes, Enters};
+
+use crate::base::{Base, number_after};
+use crate::rerun::rerun;
+use crate::same::are_same_tables;
+use circular_buffer::HeapCircularBuffer;
+use std::alloc::{AllocError, Global};
+use tab_model::{Entry, Schema};
+use tab_world::{Redefined, World, redefine};
+
+/// Whether the entries are a legal log from this base that ends in these tables.
+pub fn is_history(
+    alloc: Global,
+    base: &Base,
+    entries: &HeapCircularBuffer<Entry>,
+    tables: &World,
+) -> Result<bool, AllocError>
+    ensures { IfOk result (λ is. Decides is (IsHistory base.now entries.now.items tables.now)) }
+{
+    let mut now = base.tables().share()?;
+    let mut commits = base.commits();
+    for entry in entries.iter() {
+        let Some(next) = enter(alloc, &now, commits, entry)? else {
+            return Ok(false);
+        };
+        commits = number_after(commits, entry);
+        now = next;
+    }
+    Ok(are_same_tables(&now, tables))
+}
+
+/// The tables after an entry, or None where it is not right on these.
+fn enter(
+    alloc: Global,
+    tables: &World,
+    commits: u64,
+    entry: &Entry,
+) -> Result<Option<World>, AllocError>
+    requires { IsOrderedWorld tables.now }
+    ensures { IfOk result (Enters tables.now commits entry.now) }
+{
+    match entry {
+        Entry::Committed {
+            number,
+            age,
+            moves,
+            told,
+            ..
+        } => {
+            if number.checked_sub(1) != Some(commits) {
+                return Ok(None);
+            }
+            rerun(
+                alloc,
+                tables,
+                *age,
+                moves.items.as_slice(),
+                told.items.as_slice(),
+            )
+        }
+        Entry::Changed(command, _) => redefined(alloc, tables, command),
+        Entry::Subscribed { .. } => Ok(Some(tables.share()?)),
+        Entry::Unsubscribed(_, _) => Ok(Some(tables.share()?)),
+    }
+}
+
+fn redefined(alloc: Global, tables: &World, command: &Schema) -> Result<Option<World>, AllocError>
+    ensures { IfOk result (Changes tables.now command.now) }
+{
+    match redefine(alloc, tables, command)? {
+        Redefined::Done(world) => Ok(Some(world)),
+        Redefined::Refused(_reply) => Ok(None),
+    }
+}

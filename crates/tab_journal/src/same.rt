@@ -1,0 +1,205 @@
+//! Whether replies and tables are the same as others.
+
+ghost use Rattle.std.specs.Prelude.{◌≡◌, ◌&&◌};
+ghost use Rattle.std.specs.Str.{bytes_eq};
+ghost use Rattle.tab_term.specs.Same.{all_same};
+ghost use Rattle.tab_term.specs.View.{terms};
+ghost use Rattle.tab_journal.specs.Audits.{is_done as is_done_of, is_found as is_found_of, is_no_table as is_no_table_of, is_bad_type as is_bad_type_of, is_no_index as is_no_index_of, is_answer as is_answer_of, is_tid as is_tid_of, is_atomic_ok as is_atomic_ok_of, same_def, same_kind, same_names, same_numbers, same_rows, same_table, same_tables};
+
+use crate::records::Records;
+use tab_index::IndexedTable;
+use tab_model::{Kind, Reply, TableDef};
+use tab_term::{Atom, Term};
+use tab_world::World;
+
+fn are_same(ones: &[Term], others: &[Term]) -> bool
+    ensures { result ≡ all_same (terms ones.now) (terms others.now) }
+{
+    if ones.len() != others.len() {
+        return false;
+    }
+    for (place, one) in ones.iter().enumerate() {
+        if *one != others[place] {
+            return false;
+        }
+    }
+    true
+}
+
+fn is_done(told: &Reply) -> bool
+    ensures { result ≡ is_done_of told.now }
+{
+    matches!(told, Reply::Done)
+}
+
+fn is_found(records: &[Term], told: &Reply) -> bool
+    ensures { result ≡ is_found_of (terms records.now) told.now }
+{
+    match told {
+        Reply::Found(others) => are_same(records, others.as_slice()),
+        _ => false,
+    }
+}
+
+fn is_no_table(name: &Atom, told: &Reply) -> bool
+    ensures { result ≡ is_no_table_of name.now told.now }
+{
+    match told {
+        Reply::NoTable(other) => *name == *other,
+        _ => false,
+    }
+}
+
+fn is_bad_type(name: &Atom, row: &Term, told: &Reply) -> bool
+    ensures { result ≡ is_bad_type_of name.now row.now told.now }
+{
+    match told {
+        Reply::BadType(other, second) => *name == *other && *row == *second,
+        _ => false,
+    }
+}
+
+fn is_no_index(name: &Atom, attribute: &Term, told: &Reply) -> bool
+    ensures { result ≡ is_no_index_of name.now attribute.now told.now }
+{
+    match told {
+        Reply::NoIndex(other, second) => *name == *other && *attribute == *second,
+        _ => false,
+    }
+}
+
+/// Whether what was told is this answer of an operation.
+pub fn is_answer(answer: &Reply, told: &Reply) -> bool
+    ensures { result ≡ is_answer_of answer.now told.now }
+{
+    match answer {
+        Reply::Done => is_done(told),
+        Reply::Found(records) => is_found(records.as_slice(), told),
+        Reply::NoTable(name) => is_no_table(name, told),
+        Reply::BadType(name, row) => is_bad_type(name, row, told),
+        Reply::NoIndex(name, attribute) => is_no_index(name, attribute, told),
+        _ => false,
+    }
+}
+
+/// Whether what was told is the begin of a child of the transaction with this age.
+pub fn is_tid(told: &Option<Reply>, age: u64) -> bool
+    ensures { result ≡ is_tid_of age told.now }
+{
+    match told {
+        Some(Reply::Tid(other)) => age == *other,
+        _ => false,
+    }
+}
+
+/// Whether what was told is the commit of a child.
+pub fn is_atomic_ok(told: &Option<Reply>) -> bool
+    ensures { result ≡ is_atomic_ok_of told.now }
+{
+    matches!(told, Some(Reply::AtomicOk))
+}
+
+fn are_same_names(ones: &[Atom], others: &[Atom]) -> bool
+    ensures { result ≡ same_names ones.now others.now }
+{
+    if ones.len() != others.len() {
+        return false;
+    }
+    for (place, one) in ones.iter().enumerate() {
+        if *one != others[place] {
+            return false;
+        }
+    }
+    true
+}
+
+fn are_same_numbers(ones: &[u64], others: &[u64]) -> bool
+    ensures { result ≡ same_numbers ones.now others.now }
+{
+    if ones.len() != others.len() {
+        return false;
+    }
+    for (place, one) in ones.iter().enumerate() {
+        if *one != others[place] {
+            return false;
+        }
+    }
+    true
+}
+
+fn is_same_kind(one: Kind, other: Kind) -> bool
+    ensures { result ≡ same_kind one other }
+{
+    match (one, other) {
+        (Kind::Set, Kind::Set) => true,
+        (Kind::Bag, Kind::Bag) => true,
+        _ => false,
+    }
+}
+
+fn has_same_name(one: &TableDef, other: &TableDef) -> bool
+    ensures { result ≡ (bytes_eq one.now.name other.now.name && same_kind one.now.kind other.now.kind) }
+{
+    if one.name == other.name {
+        return is_same_kind(one.kind, other.kind);
+    }
+    false
+}
+
+fn has_same_attributes(one: &TableDef, other: &TableDef) -> bool
+    ensures { result ≡ (same_names one.now.attributes other.now.attributes && same_numbers one.now.indexes other.now.indexes) }
+{
+    if are_same_names(
+        one.attributes.items.as_slice(),
+        other.attributes.items.as_slice(),
+    ) {
+        return are_same_numbers(one.indexes.items.as_slice(), other.indexes.items.as_slice());
+    }
+    false
+}
+
+fn is_same_def(one: &TableDef, other: &TableDef) -> bool
+    ensures { result ≡ same_def one.now other.now }
+{
+    if has_same_name(one, other) {
+        return has_same_attributes(one, other);
+    }
+    false
+}
+
+fn have_same_records(one: &IndexedTable, other: &IndexedTable) -> bool
+    ensures { result ≡ same_rows one.now.rows other.now.rows }
+{
+    let mut ones = Records::new(one);
+    let mut others = Records::new(other);
+    while let Some(row) = ones.take() {
+        match others.take() {
+            Some(second) if *row == *second => {}
+            _ => return false,
+        }
+    }
+    others.take().is_none()
+}
+
+fn is_same_table(one: &IndexedTable, other: &IndexedTable) -> bool
+    ensures { result ≡ same_table one.now other.now }
+{
+    if !is_same_def(one.def(), other.def()) {
+        return false;
+    }
+    have_same_records(one, other)
+}
+
+/// Whether these are the same tables.
+pub fn are_same_tables(ones: &World, others: &World) -> bool
+    ensures { result ≡ same_tables ones.now others.now }
+{
+    let mut left = others.tables();
+    for (_, one) in ones.tables() {
+        match left.next() {
+            Some((_, other)) if is_same_table(one, other) => {}
+            _ => return false,
+        }
+    }
+    left.next().is_none()
+}
