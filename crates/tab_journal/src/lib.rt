@@ -7,7 +7,6 @@
 
 mod audit;
 mod base;
-mod copies;
 mod journal;
 mod records;
 mod rerun;

@@ -8,14 +8,13 @@ ghost use Rattle.tab_model.specs.Operations.{answer as answer_of, effect as effe
 ghost use Rattle.tab_model.specs.Worlds.{IsOrderedWorld};
 ghost use Rattle.tab_journal.specs.Audits.{Follows, RunsAs, with_now};
 
-use crate::copies::copy_of;
 use crate::same::{is_answer, is_atomic_ok, is_tid};
 use crate::survivors::change_of;
 use std::alloc::{AllocError, Global};
 use std::collections::VecDeque;
 use std::marker::Model;
 use std::slice;
-use tab_model::{Move, Operation, Reply};
+use tab_model::{Move, Operation, Reply, Told};
 use tab_operations::{Pending, perform};
 use tab_txstore::{TxStore, is_failure};
 use tab_world::World;
@@ -78,7 +77,7 @@ impl Midst {
         self,
         alloc: Global,
         step: &Move,
-        told: &Option<Reply>,
+        told: &Option<Told>,
     ) -> Result<Option<Midst>, AllocError>
         ensures { IfOk result (Follows self step.now told.now) }
     {
@@ -87,7 +86,7 @@ impl Midst {
                 let Some(told) = told else {
                     return Ok(None);
                 };
-                self.operate(alloc, operation, told)
+                self.operate(alloc, operation, told.reply())
             }
             Move::Open => {
                 if !is_tid(told, self.age) {
@@ -240,11 +239,11 @@ fn is_told(
     ensures { IfOk result (λ is. Decides is (answer_of tables.now operation.now ≡ told.now)) }
 {
     let pending = Pending {
-        operation: copy_of(alloc, operation)?,
+        operation: operation.try_clone(alloc)?,
     };
     let mut store = TxStore::new(alloc);
     let answer = perform(alloc, tables, &mut store, pending)?;
-    Ok(is_answer(&answer, told))
+    Ok(is_answer(answer.reply(), told))
 }
 
 /// Runs a transaction on these tables, which stay as they are: those that it leaves, or None where it is told another
@@ -254,7 +253,7 @@ pub fn rerun(
     tables: &World,
     age: u64,
     moves: &[Move],
-    told: &[Option<Reply>],
+    told: &[Option<Told>],
 ) -> Result<Option<World>, AllocError>
     requires { IsOrderedWorld tables.now }
     ensures { IfOk result (RunsAs tables.now age moves.now told.now) }

@@ -8,7 +8,7 @@ ghost use Rattle.tab_journal.specs.Audits.{is_done as is_done_of, is_found as is
 
 use crate::records::Records;
 use tab_index::IndexedTable;
-use tab_model::{Kind, Reply, TableDef};
+use tab_model::{Kind, Reply, TableDef, Told};
 use tab_term::{Atom, Term};
 use tab_world::World;
 
@@ -83,20 +83,26 @@ pub fn is_answer(answer: &Reply, told: &Reply) -> bool
 }
 
 /// Whether what was told is the begin of a child of the transaction with this age.
-pub fn is_tid(told: &Option<Reply>, age: u64) -> bool
+pub fn is_tid(told: &Option<Told>, age: u64) -> bool
     ensures { result ≡ is_tid_of age told.now }
 {
     match told {
-        Some(Reply::Tid(other)) => age == *other,
-        _ => false,
+        Some(told) => match told.reply() {
+            Reply::Tid(other) => age == *other,
+            _ => false,
+        },
+        None => false,
     }
 }
 
 /// Whether what was told is the commit of a child.
-pub fn is_atomic_ok(told: &Option<Reply>) -> bool
+pub fn is_atomic_ok(told: &Option<Told>) -> bool
     ensures { result ≡ is_atomic_ok_of told.now }
 {
-    matches!(told, Some(Reply::AtomicOk))
+    match told {
+        Some(told) => matches!(told.reply(), Reply::AtomicOk),
+        None => false,
+    }
 }
 
 fn are_same_names(ones: &[Atom], others: &[Atom]) -> bool
