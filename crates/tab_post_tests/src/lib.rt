@@ -1,4 +1,4 @@
-//! Tests of tab_post: what the two ends of a mailbox answer, in one thread and in two.
+//! Tests of tab_post: what the two ends of a mailbox answer, in one thread.
 
 #![tactic(auto)]
 
@@ -6,5 +6,3 @@
 mod calls;
 #[cfg(test)]
 mod items;
-#[cfg(test)]
-mod threads;
