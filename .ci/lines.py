@@ -17,7 +17,7 @@ HERE = os.path.dirname(os.path.abspath(__file__))
 sys.path.insert(0, os.path.join(HERE, "..", "examples"))
 from frames import frame  # noqa: E402
 
-ROWS = os.path.join(HERE, "..", "crates", "tab_session_tests", "src", "tests.rt")
+ROWS = os.path.join(HERE, "..", "crates", "tab_session_tests", "src")
 DAMAGED = b"tabd: damaged input\n"
 DEVICE = b"tabd: device\n"
 LONGEST = 1_048_576
@@ -51,7 +51,8 @@ def bytes_of(text):
 
 def rows():
     """The streams of tab_session's tests: name, input, output, and how the run ends."""
-    text = open(ROWS, encoding="utf-8").read()
+    names = sorted(name for name in os.listdir(ROWS) if name.endswith(".rt"))
+    text = "".join(open(os.path.join(ROWS, name), encoding="utf-8").read() for name in names)
     row = re.compile(r'name: "(.*?)",\s*ended: (.*?),\s*input: "(.*?)",\s*output: "(.*?)",', re.S)
     ends = {"Ok(())": (0, b""), "Err(Ended::Damaged)": (3, DAMAGED)}
     return [(name, bytes_of(given), bytes_of(told), *ends[ended]) for name, ended, given, told in row.findall(text)]
