@@ -1,6 +1,7 @@
 //! A seat that is played: its answers are written down beforehand, and it keeps what it was asked.
 
-ghost use Rattle.std.specs.Prelude.{◌≢◌, Unit};
+ghost use Rattle.std.specs.Prelude.{◌≡◌, ◌≢◌, true, IsOk};
+ghost use Rattle.tab_model.specs.Outcome.{is_abort};
 ghost use Rattle.tab_model.specs.declared.data.Reply.TheVariants as reply;
 
 use std::alloc::{AllocError, Global};
@@ -49,6 +50,20 @@ impl Played {
         if self.count < KEPT {
             self.asked[self.count] = call;
             self.count += 1;
+        }
+    }
+
+    fn hear(&mut self, command: &Command) {
+        match command {
+            Command::OneShot(parts, _) => {
+                self.parts = parts.items.len();
+                self.keep(b'o');
+            }
+            Command::Do(_) => self.keep(b'd'),
+            Command::Begin => self.keep(b'b'),
+            Command::Commit => self.keep(b'c'),
+            Command::Abort(reason) => self.keep(if is_zero(reason) { b'z' } else { b'a' }),
+            _ => self.keep(b'?'),
         }
     }
 
@@ -103,14 +118,26 @@ fn is_zero(reason: &Term) -> bool {
     }
 }
 
-fn kind(command: &Command) -> u8 {
+fn is_free(command: &Command) -> bool
+    ensures { result ≡ is_abort command.now }
+{
     match command {
-        Command::OneShot(_, _) => b'o',
-        Command::Do(_) => b'd',
-        Command::Begin => b'b',
-        Command::Commit => b'c',
-        Command::Abort(reason) => if is_zero(reason) { b'z' } else { b'a' },
-        _ => b'?',
+        Command::Abort(_) => true,
+        _ => false,
+    }
+}
+
+/// An abort is never refused for memory.
+fn told(alloc: Global, letter: u8, is_free: bool) -> Result<Reply, AllocError>
+    ensures { is_free ≡ true → IsOk result }
+{
+    if is_free {
+        return Ok(reply_of(alloc, letter));
+    }
+    match letter {
+        b'E' => Err(AllocError),
+        b'w' => Ok(Reply::Waiting),
+        _ => Ok(reply_of(alloc, letter)),
     }
 }
 
@@ -122,19 +149,10 @@ impl Steps for Played {
     ghost shows_on = { λ x y z first more h k. tt };
 
     fn step(&mut self, command: Command) -> Result<Reply, AllocError> {
-        self.keep(kind(&command));
-        if let Command::OneShot(parts, _) = &command {
-            self.parts = parts.items.len();
-        }
+        let is_free = is_free(&command);
+        self.hear(&command);
         let letter = self.letter();
-        match command {
-            Command::Abort(_) => Ok(reply_of(self.alloc, letter)),
-            _ => match letter {
-                b'E' => Err(AllocError),
-                b'w' => Ok(Reply::Waiting),
-                _ => Ok(reply_of(self.alloc, letter)),
-            },
-        }
+        told(self.alloc, letter, is_free)
     }
 
     fn wait(&mut self) -> Option<Result<Reply, AllocError>> {

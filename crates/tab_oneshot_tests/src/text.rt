@@ -40,6 +40,7 @@ fn put(term: &Term, out: &mut String) -> Result<(), AllocError> {
 }
 
 #[cycle(put)]
+#[tactic(auto, using(tab_term::proofs::Lists::weight_at))]
 fn put_all(open: &str, elements: &[Term], close: &str, out: &mut String) -> Result<(), AllocError> {
     out.push_str(open)?;
     for (place, element) in elements.iter().enumerate() {
