@@ -1,7 +1,8 @@
 //! A whole one-shot.
 
-ghost use Rattle.std.specs.Prelude.{◌≡◌, List, true};
-ghost use Rattle.tab_oneshot.specs.Calls.{Call};
+ghost use Rattle.std.specs.Prelude.{◌≡◌, ◌∷◌, [], List, true};
+ghost use Rattle.tab_term.specs.Data.{none};
+ghost use Rattle.tab_oneshot.specs.Calls.{Call, Again};
 ghost use Rattle.tab_oneshot.specs.OneShots.{is_one_shot, IsOneShot, IsRun, Runs};
 
 use crate::answer::{Answer, Sort};
@@ -40,6 +41,15 @@ fn run<S: Steps>(steps: &mut S, alloc: Global, parts: &Parts, retries: u64) -> R
     }
 }
 
+/// Level 1 stays open.
+fn begin_anew<S: Steps>(steps: &mut S, levels: &mut Levels)
+    ensures again { S.shows steps.old (Again ∷ []) steps.new }
+    ensures levels { levels.new ≡ none ∷ [] }
+{
+    steps.again();
+    levels.clear();
+}
+
 /// At most so many attempts and one more.
 fn attempts<S: Steps>(steps: &mut S, alloc: Global, parts: &[Part], retries: u64) -> Reply
     ensures { (more : List Call) × S.shows steps.old more steps.new × Runs parts.now retries more result }
@@ -49,8 +59,7 @@ fn attempts<S: Steps>(steps: &mut S, alloc: Global, parts: &[Part], retries: u64
         if let Some(reply) = attempt(steps, alloc, parts, &mut levels) {
             return reply;
         }
-        steps.again();
-        levels.clear();
+        begin_anew(steps, &mut levels);
     }
     match attempt(steps, alloc, parts, &mut levels) {
         Some(reply) => reply,

@@ -8,8 +8,8 @@ loop-restart-init g c = record { tries = trying_first g.S.Steps.shows _ _ _ (g.m
 pub loop-restart-preserved : goal.loop-restart-preserved
 loop-restart-preserved g c = record {
   tries = trying_again g.S.Steps.shows g.met.S.Steps.shows_on _ _ _ _ _ _ _ c.loop-restart-test.true c.loop-restart.invariant.tries
-      (fresh_attempt g.S.Steps.shows _ _ _ _ _ _ c.loop-restart.invariant.levels c.in_default.is c.attempt.ensures) c.again.ensures;
-  levels = c.clear.ensures;
+      (fresh_attempt g.S.Steps.shows _ _ _ _ _ _ c.loop-restart.invariant.levels c.in_default.is c.attempt.ensures) c.begin_anew.ensures.again;
+  levels = c.begin_anew.ensures.levels;
 }
 
 pub returns-in-Some : goal.returns-in-Some
