@@ -8,3 +8,4 @@ pub mod Numbers
 pub mod OperatingLemmas
 pub mod Places
 pub mod RunsLemmas
+pub mod OneShots

@@ -6,5 +6,4 @@ use Rattle.tab_model.specs.declared.data.Command.TheVariants as command
 abbrev pub serves : Command → Bool
 serves (command.Subscribe t l dump) = false
 serves (command.Unsubscribe t l) = false
-serves (command.OneShot parts retries) = false
 serves c = true

@@ -1,7 +1,8 @@
 //! The levels of a transaction: their begins and ends.
 
-ghost use Rattle.std.specs.Prelude.{◌≡◌, ◌<◌, ◌==◌, [], IfOk, IsOk, IsSome, IfSome, OnOk, OnErr, false, true, length, if◌then◌else◌};
+ghost use Rattle.std.specs.Prelude.{◌≡◌, ◌<◌, ◌==◌, ℕ, List, [], IfOk, IsOk, IsSome, IfSome, OnOk, OnErr, false, true, length, if◌then◌else◌};
 ghost use Rattle.tab_model.specs.declared.data.Command.TheVariants as command;
+ghost use Rattle.tab_model.specs.declared.data.Part.{Part};
 ghost use Rattle.tab_model.specs.Events.{change_all};
 ghost use Rattle.tab_model.specs.State.{is_waiting, moves_at};
 ghost use Rattle.tab_model.specs.Outcome.{DoCommand, is_empty, nothing, outcome};
@@ -42,6 +43,21 @@ impl Machine {
             store: TxStore::new(self.alloc),
         });
         Ok(Reply::Tid(self.begun))
+    }
+
+    /// Level 1 of a one-shot, with the next age: it stands in no other transaction.
+    pub fn one_shot(&mut self, session: u32, place: usize) -> Result<Reply, AllocError>
+        requires kept { IsKept self.old }
+        requires there { StandsAt self.old.seats.items session place }
+        requires idle { is_waiting (state_of self.old) session ≡ false }
+        ensures ok { IfOk result (λ r. (parts : List Part) (retries : ℕ) → outcome (state_of self.old) [] session (DoCommand (command.OneShot parts retries)) ≡ nothing (state_of self.new) r) }
+        ensures err { OnErr result (state_of self.new ≡ state_of self.old) }
+        ensures kept { IsKept self.new }
+    {
+        if self.seats[place].transaction.is_some() {
+            return Ok(Reply::InTransaction);
+        }
+        Ok(self.begin(session, place)?)
     }
 
     /// A child's commit, or the outermost, which makes all growths first: from there nothing fails.

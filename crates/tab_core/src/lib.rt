@@ -1,7 +1,7 @@
 //! The core: a machine of steps over tables, sessions and their transactions.
 //!
 //! Contracts see a core as one plain state (`State` of tab_model), and a step is a function of it (`outcome`). So far
-//! all commands are served but subscriptions and one-shots.
+//! all commands are served but subscriptions. Of a one-shot a step opens level 1 alone: its driver does the rest.
 
 #![tactic(auto)]
 

@@ -158,6 +158,10 @@ impl Machine {
             Command::TableInfo(name, item) => {
                 Ok(Stepped::without_entry(self.table_info(session, &name, item)?))
             }
+            Command::OneShot(parts, _) => {
+                drop(parts);
+                Ok(Stepped::without_entry(self.one_shot(session, place)?))
+            }
             _ => unreachable!(),
         }
     }

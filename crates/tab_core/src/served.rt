@@ -10,7 +10,6 @@ pub fn is_served(command: &Command) -> bool
     match command {
         Command::Subscribe(_, _, _) => false,
         Command::Unsubscribe(_, _) => false,
-        Command::OneShot(_, _) => false,
         _ => true,
     }
 }

@@ -1,6 +1,6 @@
 use std::alloc::{AllocError, Global};
 use tab_core::{Core, Step, is_served};
-use tab_model::{Command, Limit, Limits, Operation, Reply, Schema};
+use tab_model::{Command, Limit, Limits, Operation, Parts, Reply, Schema};
 use tab_term::{Atom, Term, Terms};
 
 /// A step, in few words. Records are `{Table, Key, Value}`.
@@ -12,6 +12,8 @@ enum Asks {
     Create(&'static str),
     Remove(&'static str),
     Begin,
+    /// A one-shot with an empty list.
+    OneShot,
     Write(&'static str, i128, &'static str),
     /// A record without a value.
     WriteShort(&'static str, i128),
@@ -75,7 +77,11 @@ const SCRIPTS: [&[(u32, Asks, Told)]; 4] = [
         (1, Asks::Begin, Told::Tid(1)),
         (1, Asks::Begin, Told::Limit(Limit::Nesting)),
         (1, Asks::Create("u"), Told::InTransaction),
+        (1, Asks::OneShot, Told::InTransaction),
         (1, Asks::Commit, Told::Atomic(1)),
+        (1, Asks::OneShot, Told::Tid(2)),
+        (1, Asks::Begin, Told::Limit(Limit::Nesting)),
+        (1, Asks::Commit, Told::Atomic(2)),
     ],
     &[
         (1, Asks::Join, Told::Done),
@@ -194,6 +200,12 @@ fn command(alloc: Global, asks: &Asks) -> Result<Option<Command>, AllocError> {
         )),
         Asks::Remove(table) => Command::Schema(Schema::Remove(short(alloc, table)?)),
         Asks::Begin => Command::Begin,
+        Asks::OneShot => Command::OneShot(
+            Parts {
+                items: Vec::new(alloc),
+            },
+            0,
+        ),
         Asks::Write(table, key, value) => {
             Command::Do(Operation::Write(row(alloc, table, *key, Some(value))?))
         }

@@ -1,6 +1,6 @@
 -- The terms of replies. An aborted transaction's reason and {already_exists, Tab}, {no_exists, Tab} are those of the
 -- Mnesia Reference Manual; the other refusals are this project's own.
-use Rattle.std.specs.Prelude.{◌≡◌, ℕ, List, Option, Some, None, codes}
+use Rattle.std.specs.Prelude.{◌≡◌, ℕ, List, Option, Some, None, Bool, true, false, codes}
 use Rattle.tab_term.specs.Data.{PlainTerm, atom, list, pair, triple}
 use Rattle.tab_term.specs.View.{term}
 use Rattle.tab_model.specs.declared.data.Limit.{Limit}
@@ -91,6 +91,16 @@ reply_term (reply.Told i) = info_term i
 reply_term (reply.Taken i) = item_term i
 reply_term (reply.Overflow n) = pair (atom (codes "mnesia_overflow")) (number n)
 reply_term reply.Empty = atom (codes "empty")
+
+-- the answers to operations and to aborts
+abbrev pub is_told : Reply → Bool
+is_told reply.Done = true
+is_told (reply.Found rows) = true
+is_told (reply.NoTable t) = true
+is_told (reply.BadType t r) = true
+is_told (reply.NoIndex t a) = true
+is_told (reply.UserAbort r) = true
+is_told r = false
 
 -- {Session, Reply}, or {reply, Reply} where no session is named
 abbrev pub response : Option ℕ → Reply → PlainTerm

@@ -16,6 +16,7 @@ mod parts;
 mod replying;
 mod request;
 mod requests;
+mod telling;
 
 pub use command_terms::term_of;
 pub use commands::command;
@@ -24,3 +25,4 @@ pub use laws::requests_are_apart;
 pub use replying::{append_reply, write_reply};
 pub use request::Request;
 pub use requests::{read_request, session_of};
+pub use telling::{atomic_term, told_term};

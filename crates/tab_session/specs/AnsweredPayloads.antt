@@ -10,6 +10,7 @@ use Rattle.tab_etf.specs.declared.encoding.EncodeFault.{EncodeFault}
 use Rattle.tab_etf.specs.declared.encoding.EncodeFault.TheVariants as puts
 use Rattle.tab_model.specs.State.{State}
 use Rattle.tab_model.specs.Outcome.{Ask, Join, Leave, Retry, Take, DoCommand, outcome}
+use Rattle.tab_model.specs.declared.data.Command.TheVariants as command
 use Rattle.tab_model.specs.declared.data.Entry.{Entry}
 use Rattle.tab_model.specs.declared.data.Reply.{Reply}
 use Rattle.tab_model.specs.declared.data.Reply.TheVariants.{BadTerm, BadCommand, NoMemory, Waiting, Restart}
@@ -32,7 +33,9 @@ ask_for request.Retry = Retry
 ask_for request.Take = Take
 ask_for (request.Do c) = DoCommand c
 
+-- a one-shot needs its driver, which is not called here so far
 abbrev pub serves_request : Request → Bool
+serves_request (request.Do (command.OneShot parts retries)) = false
 serves_request (request.Do c) = serves c
 serves_request r = true
 

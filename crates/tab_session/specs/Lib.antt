@@ -1,2 +1,4 @@
 pub mod AnsweredPayloads
+pub mod OneSessions
+pub mod OneSeats
 pub mod Replays

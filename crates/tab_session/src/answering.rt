@@ -9,7 +9,7 @@ use crate::Answer;
 use std::alloc::Global;
 use tab_core::{Core, Step, is_served};
 use tab_etf::{EncodeFault, EtfFault, decode};
-use tab_model::{Reply, Told};
+use tab_model::{Command, Reply, Told};
 use tab_proto::{ProtoFault, Request, append_reply, read_request, session_of};
 use tab_term::Term;
 
@@ -78,6 +78,7 @@ fn is_served_request(request: &Request) -> bool
     ensures { result ≡ serves_request request.now }
 {
     match request {
+        Request::Do(Command::OneShot(_, _)) => false,
         Request::Do(command) => is_served(command),
         _ => true,
     }

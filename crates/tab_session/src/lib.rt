@@ -5,6 +5,7 @@ mod answered;
 mod answering;
 mod ended;
 mod laws;
+mod one_session;
 mod replaying;
 mod serving;
 

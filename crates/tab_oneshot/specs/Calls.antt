@@ -1,0 +1,27 @@
+-- What a seat was asked, and what it answered (this project's own form).
+use Rattle.std.specs.Prelude.{◌≢◌, Option, Some, None, Result, Ok, Err}
+use Rattle.tab_model.specs.declared.data.Command.{Command}
+use Rattle.tab_model.specs.declared.data.Reply.{Reply}
+use Rattle.tab_model.specs.declared.data.Reply.TheVariants as reply
+
+pub data Call : Type 0 where
+  -- a command that was handed in, with its answer
+  Asked : Command → Reply → Call
+  -- a wait for the operation handed in before, with its answer; None where the surroundings can't wait
+  Waited : Option Reply → Call
+  -- the operations are handed in again, from the first
+  Again : Call
+
+-- what is refused for memory is answered NoMemory
+abbrev pub answer_in : {E : Type 0} → Result Reply E → Reply
+answer_in (Ok r) = r
+answer_in (Err e) = reply.NoMemory
+
+abbrev pub waited_for : {E : Type 0} → Option (Result Reply E) → Option Reply
+waited_for None = None
+waited_for (Some r) = Some (answer_in r)
+
+-- a wait ends with another answer
+abbrev pub IsNoWait : {E : Type 0} → Option (Result Reply E) → Type 0
+IsNoWait None = Unit {0}
+IsNoWait (Some r) = answer_in r ≢ reply.Waiting

@@ -1,0 +1,4 @@
+pub mod Calls
+pub mod Attempts
+pub mod Parts
+pub mod OneShots

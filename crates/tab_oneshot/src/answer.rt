@@ -1,0 +1,88 @@
+//! Answers, and what they say of the levels.
+
+ghost use Rattle.std.specs.Prelude.{◌≡◌, true, IfOk};
+ghost use Rattle.tab_term.specs.View.{term};
+ghost use Rattle.tab_model.specs.declared.data.Reply.TheVariants as reply;
+ghost use Rattle.tab_proto.specs.Replies.{is_told, reply_term};
+ghost use Rattle.tab_oneshot.specs.Attempts.{sort_of};
+
+use std::alloc::{AllocError, Global};
+use tab_model::{Reply, Told};
+use tab_proto::told_term;
+use tab_term::Term;
+
+/// What an answer says of the levels.
+#[derive(Clone, Copy)]
+pub enum Sort {
+    /// An operation is done.
+    Told,
+    /// An operation ended its level.
+    Failed,
+    /// An abort ended its level.
+    Aborted,
+    Opened,
+    /// A child is committed.
+    Joined,
+    /// Level 1 is committed.
+    Committed,
+    Restarted,
+    Waits,
+    /// Memory or a limit refused the command.
+    Refused,
+    Other,
+}
+
+/// An answer of the seat.
+pub struct Answer {
+    pub reply: Told,
+}
+
+// A derived Drop would be taken apart, variant by variant, at each exit of each caller.
+impl Drop for Answer {
+    fn drop(self) {
+        let Answer { reply } = self;
+        drop(reply);
+    }
+}
+
+impl Answer {
+    pub fn no_memory() -> Answer
+        ensures { result.reply ≡ reply.NoMemory }
+    {
+        Answer {
+            reply: Told::new(Reply::NoMemory),
+        }
+    }
+
+    pub fn into_reply(self) -> Told
+        ensures { result ≡ self.reply }
+    {
+        let Answer { reply } = self;
+        reply
+    }
+
+    pub fn sort(&self) -> Sort
+        ensures { result ≡ sort_of self.now.reply }
+    {
+        match self.reply.reply() {
+            Reply::Done | Reply::Found(_) => Sort::Told,
+            Reply::NoTable(_) | Reply::BadType(_, _) | Reply::NoIndex(_, _) => Sort::Failed,
+            Reply::UserAbort(_) => Sort::Aborted,
+            Reply::Tid(_) => Sort::Opened,
+            Reply::AtomicOk => Sort::Joined,
+            Reply::Atomic(_) => Sort::Committed,
+            Reply::Restart => Sort::Restarted,
+            Reply::Waiting => Sort::Waits,
+            Reply::NoMemory | Reply::SystemLimit(_) => Sort::Refused,
+            _ => Sort::Other,
+        }
+    }
+
+    /// Its term, as it stands among a transaction's answers.
+    pub fn term(&self, alloc: Global) -> Result<Term, AllocError>
+        requires { is_told self.now.reply ≡ true }
+        ensures { IfOk result (λ t. term t ≡ reply_term self.now.reply) }
+    {
+        told_term(alloc, self.reply.reply())
+    }
+}

@@ -1,0 +1,56 @@
+//! What the seat is asked, and the ends of levels.
+
+ghost use Rattle.std.specs.Prelude.{◌≡◌, ◌∷◌, [], List, suc, length};
+ghost use Rattle.tab_term.specs.Data.{PlainTerms};
+ghost use Rattle.tab_oneshot.specs.Calls.{Call, Asked, Waited};
+ghost use Rattle.tab_oneshot.specs.Attempts.{Ends, Stops};
+ghost use Rattle.tab_oneshot.specs.Parts.{awaited, turn_of};
+
+use crate::answer::{Answer, Sort};
+use crate::steps::Steps;
+use crate::turn::Turn;
+use tab_model::{Command, Told};
+use tab_term::Term;
+
+pub fn ask<S: Steps>(steps: &mut S, command: Command) -> Answer
+    ensures { S.shows steps.old (Asked command result.reply ∷ []) steps.new }
+{
+    match steps.step(command) {
+        Ok(reply) => Answer { reply },
+        Err(_) => Answer::no_memory(),
+    }
+}
+
+pub fn wait<S: Steps>(steps: &mut S) -> Option<Answer>
+    ensures { S.shows steps.old (Waited (awaited result) ∷ []) steps.new }
+{
+    match steps.wait() {
+        Some(Ok(reply)) => Some(Answer { reply }),
+        Some(Err(_)) => Some(Answer::no_memory()),
+        None => None,
+    }
+}
+
+/// Ends so many levels and the one inside them; the last answer, or that to an abort which ended no level.
+pub fn end<S: Steps>(steps: &mut S, around: usize, last: Answer) -> Told
+    ensures { (more : List Call) × S.shows steps.old more steps.new × Ends (suc around) last.reply more result }
+{
+    let ended = ask(steps, Command::Abort(Term::Int(0)));
+    match ended.sort() {
+        Sort::Aborted => {
+            if around == 0 {
+                last.into_reply()
+            } else {
+                end(steps, around - 1, last)
+            }
+        }
+        _ => ended.into_reply(),
+    }
+}
+
+/// All open levels are ended: so many, and the one inside them.
+pub fn stop<S: Steps>(steps: &mut S, around: usize, last: Answer) -> Turn
+    ensures { (more : List Call) × S.shows steps.old more steps.new × ((levels after : List PlainTerms) → length levels ≡ suc around → Stops last.reply levels more (turn_of result after)) }
+{
+    Turn::Over(end(steps, around, last))
+}

@@ -1,0 +1,74 @@
+//! A whole one-shot.
+
+ghost use Rattle.std.specs.Prelude.{◌≡◌, ◌∷◌, [], List, true};
+ghost use Rattle.tab_term.specs.Data.{none};
+ghost use Rattle.tab_oneshot.specs.Calls.{Call, Again};
+ghost use Rattle.tab_oneshot.specs.OneShots.{is_one_shot, IsOneShot, IsRun, Runs};
+
+use crate::answer::{Answer, Sort};
+use crate::asking::{ask, end};
+use crate::attempt::attempt;
+use crate::copies::parts_of;
+use crate::levels::Levels;
+use crate::steps::Steps;
+use std::alloc::Global;
+use tab_model::{Command, Part, Parts, Reply, Told};
+
+/// Runs a one-shot, whose command is `{transaction, Ops, Retries}`, on a seat.
+///
+/// A copy of the whole command is handed in first, and opens level 1; then the members of its list, in order, and the
+/// commit. Where the seat restarts it, it begins again with the first member, at most `Retries` times.
+pub fn one_shot<S: Steps>(steps: &mut S, alloc: Global, command: Command) -> Told
+    requires { is_one_shot command ≡ true }
+    ensures { (more : List Call) × S.shows steps.old more steps.new × IsOneShot command more result }
+{
+    let Command::OneShot(parts, retries) = command else {
+        unreachable!();
+    };
+    run(steps, alloc, &parts, retries)
+}
+
+fn run<S: Steps>(steps: &mut S, alloc: Global, parts: &Parts, retries: u64) -> Told
+    ensures { (more : List Call) × S.shows steps.old more steps.new × IsRun parts.now retries more result }
+{
+    let Ok(copy) = parts_of(alloc, parts) else {
+        return Told::new(Reply::NoMemory);
+    };
+    let answer = ask(steps, Command::OneShot(copy, retries));
+    match answer.sort() {
+        Sort::Opened => attempts(steps, alloc, &parts.items, retries),
+        _ => answer.into_reply(),
+    }
+}
+
+/// Level 1 stays open.
+fn begin_anew<S: Steps>(steps: &mut S, levels: &mut Levels)
+    ensures again { S.shows steps.old (Again ∷ []) steps.new }
+    ensures levels { levels.new ≡ none ∷ [] }
+{
+    steps.again();
+    levels.clear();
+}
+
+/// At most so many attempts and one more.
+fn attempts<S: Steps>(steps: &mut S, alloc: Global, parts: &[Part], retries: u64) -> Told
+    ensures { (more : List Call) × S.shows steps.old more steps.new × Runs parts.now retries more result }
+{
+    let mut levels = Levels::new(alloc);
+    for _restart in 0..retries {
+        if let Some(reply) = attempt(steps, alloc, parts, &mut levels) {
+            return reply;
+        }
+        begin_anew(steps, &mut levels);
+    }
+    match attempt(steps, alloc, parts, &mut levels) {
+        Some(reply) => reply,
+        None => end(
+            steps,
+            0,
+            Answer {
+                reply: Told::new(Reply::NoMore),
+            },
+        ),
+    }
+}

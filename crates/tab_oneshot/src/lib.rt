@@ -1,0 +1,16 @@
+//! The driver of a one-shot: a transaction that is handed in as one command, run over a seat from outside the core.
+
+#![tactic(auto)]
+
+mod answer;
+mod asking;
+mod attempt;
+mod copies;
+mod driver;
+mod levels;
+mod parts;
+mod steps;
+mod turn;
+
+pub use driver::one_shot;
+pub use steps::Steps;

@@ -1,0 +1,215 @@
+//! One part of an attempt: what is handed in for it, and what its answer leads to.
+
+ghost use Rattle.std.specs.Prelude.{◌≡◌, ◌∷◌, [], List, true, IfOk, OnOk};
+ghost use Rattle.tab_model.specs.declared.data.Command.TheVariants as command;
+ghost use Rattle.tab_model.specs.declared.data.Part.TheVariants as part;
+ghost use Rattle.tab_model.specs.declared.data.Reply.TheVariants as reply;
+ghost use Rattle.tab_term.specs.Data.{PlainTerms};
+ghost use Rattle.tab_proto.specs.Replies.{is_told, reply_term};
+ghost use Rattle.tab_oneshot.specs.Calls.{Call};
+ghost use Rattle.tab_oneshot.specs.Attempts.{sort_of, told, Puts, LevelEnds, AfterOperation, AfterWait, Joins, Serves};
+ghost use Rattle.tab_oneshot.specs.Parts.{awaited, turn_of};
+
+use crate::answer::{Answer, Sort};
+use crate::asking::{ask, stop, wait};
+use crate::levels::Levels;
+use crate::steps::Steps;
+use crate::turn::Turn;
+use std::alloc::{AllocError, Global};
+use tab_model::{Command, Operation, Part, Reply, Told};
+use tab_proto::atomic_term;
+use tab_term::{Term, Terms};
+
+fn put_answer(alloc: Global, answer: &Answer, levels: &mut Levels) -> Result<(), AllocError>
+    requires { is_told answer.now.reply ≡ true }
+    ensures { OnOk result (levels.new ≡ told (reply_term answer.now.reply) levels.old) }
+{
+    levels.put(answer.term(alloc)?)
+}
+
+fn put_inner(alloc: Global, inner: Terms, levels: &mut Levels) -> Result<(), AllocError>
+    ensures { OnOk result (levels.new ≡ told (reply_term (reply.AtomicTerms inner)) levels.old) }
+{
+    levels.put(atomic_term(alloc, inner)?)
+}
+
+/// An operation's answer stands in its level.
+fn tell<S: Steps>(steps: &mut S, alloc: Global, answer: Answer, levels: &mut Levels) -> Turn
+    requires { is_told answer.reply ≡ true }
+    ensures { (more : List Call) × S.shows steps.old more steps.new × Puts 0 answer.reply levels.old more (turn_of result levels.new) }
+{
+    let around = levels.around();
+    match put_answer(alloc, &answer, levels) {
+        Ok(()) => Turn::GoOn,
+        Err(_) => stop(steps, around, Answer::no_memory()),
+    }
+}
+
+/// The answer ended the innermost level.
+fn end_level<S: Steps>(steps: &mut S, alloc: Global, answer: Answer, levels: &mut Levels) -> Turn
+    requires { is_told answer.reply ≡ true }
+    ensures { (more : List Call) × S.shows steps.old more steps.new × LevelEnds answer.reply levels.old more (turn_of result levels.new) }
+{
+    match levels.leave() {
+        None => Turn::Over(answer.into_reply()),
+        Some(undone) => {
+            drop(undone);
+            tell_behind(steps, alloc, answer, levels)
+        }
+    }
+}
+
+/// The answer of an ended level stands in the one around it.
+fn tell_behind<S: Steps>(steps: &mut S, alloc: Global, answer: Answer, levels: &mut Levels) -> Turn
+    requires { is_told answer.reply ≡ true }
+    ensures { (more : List Call) × S.shows steps.old more steps.new × Puts 1 answer.reply levels.old more (turn_of result levels.new) }
+{
+    let around = levels.around();
+    match put_answer(alloc, &answer, levels) {
+        Ok(()) => Turn::Skip,
+        Err(_) => stop(steps, around, Answer::no_memory()),
+    }
+}
+
+fn after_operation<S: Steps>(
+    steps: &mut S,
+    alloc: Global,
+    answer: Answer,
+    levels: &mut Levels,
+) -> Turn
+    ensures { (more : List Call) × S.shows steps.old more steps.new × AfterOperation (sort_of answer.reply) answer.reply levels.old more (turn_of result levels.new) }
+{
+    match answer.sort() {
+        Sort::Told => tell(steps, alloc, answer, levels),
+        Sort::Failed => end_level(steps, alloc, answer, levels),
+        Sort::Restarted => Turn::Restart,
+        Sort::Refused => stop(steps, levels.around(), answer),
+        _ => Turn::Over(answer.into_reply()),
+    }
+}
+
+fn after_wait<S: Steps>(
+    steps: &mut S,
+    alloc: Global,
+    levels: &mut Levels,
+    waited: Option<Answer>,
+) -> Turn
+    ensures { (more : List Call) × S.shows steps.old more steps.new × AfterWait (awaited waited) levels.old more (turn_of result levels.new) }
+{
+    match waited {
+        Some(answer) => after_operation(steps, alloc, answer, levels),
+        None => {
+            let answer = Answer {
+                reply: Told::new(Reply::NoWait),
+            };
+            stop(steps, levels.around(), answer)
+        }
+    }
+}
+
+/// The command of an operation, and the place of its answer.
+fn operation(
+    alloc: Global,
+    operation: &Operation,
+    levels: &mut Levels,
+) -> Result<Command, AllocError>
+    ensures ok { IfOk result (λ c. c ≡ command.Do operation.now) }
+    ensures same { levels.new ≡ levels.old }
+{
+    levels.reserve()?;
+    Ok(Command::Do(operation.try_clone(alloc)?))
+}
+
+fn operate<S: Steps>(steps: &mut S, alloc: Global, asked: &Operation, levels: &mut Levels) -> Turn
+    ensures { (more : List Call) × S.shows steps.old more steps.new × Serves (part.Do asked.now) levels.old more (turn_of result levels.new) }
+{
+    let Ok(command) = operation(alloc, asked, levels) else {
+        return stop(steps, levels.around(), Answer::no_memory());
+    };
+    let answer = ask(steps, command);
+    match answer.sort() {
+        Sort::Waits => {
+            let waited = wait(steps);
+            after_wait(steps, alloc, levels, waited)
+        }
+        _ => after_operation(steps, alloc, answer, levels),
+    }
+}
+
+/// The command of an abort, and the place of its answer.
+fn abort_of(alloc: Global, reason: &Term, levels: &mut Levels) -> Result<Command, AllocError>
+    ensures ok { IfOk result (λ c. c ≡ command.Abort reason.now) }
+    ensures same { levels.new ≡ levels.old }
+{
+    levels.reserve()?;
+    Ok(Command::Abort(reason.try_clone(alloc)?))
+}
+
+fn abort<S: Steps>(steps: &mut S, alloc: Global, reason: &Term, levels: &mut Levels) -> Turn
+    ensures { (more : List Call) × S.shows steps.old more steps.new × Serves (part.Abort reason.now) levels.old more (turn_of result levels.new) }
+{
+    let Ok(command) = abort_of(alloc, reason, levels) else {
+        return stop(steps, levels.around(), Answer::no_memory());
+    };
+    let answer = ask(steps, command);
+    match answer.sort() {
+        Sort::Aborted => end_level(steps, alloc, answer, levels),
+        Sort::Refused => stop(steps, levels.around(), answer),
+        _ => Turn::Over(answer.into_reply()),
+    }
+}
+
+fn begin<S: Steps>(steps: &mut S, alloc: Global, levels: &mut Levels) -> Turn
+    ensures { (more : List Call) × S.shows steps.old more steps.new × Serves part.Open levels.old more (turn_of result levels.new) }
+{
+    let around = levels.around();
+    // Its place stands before it is begun: after that nothing of this is refused.
+    if levels.begin(alloc).is_err() {
+        return stop(steps, around, Answer::no_memory());
+    }
+    let answer = ask(steps, Command::Begin);
+    match answer.sort() {
+        Sort::Opened => Turn::GoOn,
+        Sort::Refused => stop(steps, around, answer),
+        _ => Turn::Over(answer.into_reply()),
+    }
+}
+
+/// The answers of a committed child stand in the level around it.
+fn join<S: Steps>(steps: &mut S, alloc: Global, answer: Answer, levels: &mut Levels) -> Turn
+    ensures { (more : List Call) × S.shows steps.old more steps.new × Joins answer.reply levels.old more (turn_of result levels.new) }
+{
+    match levels.leave() {
+        None => Turn::Over(answer.into_reply()),
+        Some(inner) => {
+            let around = levels.around();
+            match put_inner(alloc, inner, levels) {
+                Ok(()) => Turn::GoOn,
+                Err(_) => stop(steps, around, Answer::no_memory()),
+            }
+        }
+    }
+}
+
+fn commit<S: Steps>(steps: &mut S, alloc: Global, levels: &mut Levels) -> Turn
+    ensures { (more : List Call) × S.shows steps.old more steps.new × Serves part.Close levels.old more (turn_of result levels.new) }
+{
+    let answer = ask(steps, Command::Commit);
+    match answer.sort() {
+        Sort::Joined => join(steps, alloc, answer, levels),
+        Sort::Refused => stop(steps, levels.around(), answer),
+        _ => Turn::Over(answer.into_reply()),
+    }
+}
+
+/// Hands a part in.
+pub fn serve<S: Steps>(steps: &mut S, alloc: Global, part: &Part, levels: &mut Levels) -> Turn
+    ensures { (more : List Call) × S.shows steps.old more steps.new × Serves part.now levels.old more (turn_of result levels.new) }
+{
+    match part {
+        Part::Do(operation) => operate(steps, alloc, operation, levels),
+        Part::Abort(reason) => abort(steps, alloc, reason, levels),
+        Part::Open => begin(steps, alloc, levels),
+        Part::Close => commit(steps, alloc, levels),
+    }
+}

@@ -1,0 +1,33 @@
+//! A seat that commands are handed to.
+
+ghost use Rattle.std.specs.Prelude.{◌≡◌, ◌∷◌, ◌++◌, [], List, true, IsOk};
+ghost use Rattle.tab_model.specs.Outcome.{is_abort};
+ghost use Rattle.tab_oneshot.specs.Calls.{Call, Asked, Waited, Again, answer_in, waited_for, IsNoWait};
+
+use std::alloc::AllocError;
+use tab_model::{Command, Told};
+
+/// A seat that commands are handed to, one after another.
+pub trait Steps {
+    /// From the first to the second, the seat was asked this, in order.
+    ghost shows: { Self → List Call → Self → Type 0 };
+
+    /// Hands a command in. An abort takes no memory.
+    fn step(&mut self, command: Command) -> Result<Told, AllocError>
+        ensures shown { shows self.old (Asked command (answer_in result) ∷ []) self.new }
+        ensures abort { is_abort command ≡ true → IsOk result };
+
+    /// Waits for the answer of the operation that was handed in last and was answered `Waiting`. None where the
+    /// surroundings can't wait.
+    fn wait(&mut self) -> Option<Result<Told, AllocError>>
+        ensures shown { shows self.old (Waited (waited_for result) ∷ []) self.new }
+        ensures waited { IsNoWait result };
+
+    /// Says that the operations are handed in again, from the first.
+    fn again(&mut self)
+        ensures { shows self.old (Again ∷ []) self.new };
+
+    ghost shows_none: { (x : Self) → shows x [] x };
+
+    ghost shows_on: { (x y z : Self) (first more : List Call) → shows x first y → shows y more z → shows x (first ++ more) z };
+}

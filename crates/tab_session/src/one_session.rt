@@ -1,0 +1,66 @@
+//! One session of a core, as the seat of a one-shot's driver.
+
+ghost use Rattle.std.specs.Prelude.{◌≡◌, List, true, IsOk};
+ghost use Rattle.tab_model.specs.Outcome.{is_abort};
+ghost use Rattle.tab_oneshot.specs.Calls.{Call, answer_in};
+ghost use Rattle.tab_oneshot.specs.OneShots.{is_one_shot, IsOneShot};
+ghost use Rattle.tab_session.specs.OneSessions.{Made, Ran};
+
+use std::alloc::{AllocError, Global};
+use tab_core::{Core, Step, is_served};
+use tab_model::{Command, Reply, Told};
+use tab_oneshot::{Steps, one_shot};
+
+/// A command of the session; one that the core doesn't serve is no command.
+fn hand_in(core: &mut Core, session: u32, command: Command) -> Result<Told, AllocError>
+    ensures made { Made core.old session command (answer_in result) core.new }
+    ensures abort { is_abort command ≡ true → IsOk result }
+{
+    if !is_served(&command) {
+        return Ok(Told::new(Reply::BadCommand));
+    }
+    match core.step(session, Step::Do(command)) {
+        Ok(stepped) => Ok(stepped.into_reply()),
+        Err(refused) => Err(refused),
+    }
+}
+
+/// The seat of one session, where no one can wait.
+pub struct OneSession<'a> {
+    core: &'a mut Core,
+    session: u32,
+}
+
+impl<'a> Steps for OneSession<'a> {
+    ghost use Rattle.tab_session.specs.OneSeats.{shown, shown_none, shown_on};
+
+    ghost shows = { shown };
+
+    ghost shows_none = { shown_none };
+
+    ghost shows_on = { shown_on };
+
+    fn step(&mut self, command: Command) -> Result<Told, AllocError> {
+        hand_in(self.core, self.session, command)
+    }
+
+    fn wait(&mut self) -> Option<Result<Told, AllocError>> {
+        None
+    }
+
+    fn again(&mut self) {}
+}
+
+/// Runs a one-shot on a session.
+pub fn drive(core: &mut Core, alloc: Global, session: u32, command: Command) -> Told
+    requires { is_one_shot command ≡ true }
+    ensures { (calls : List Call) × Ran session core.old calls core.new × IsOneShot command calls result }
+{
+    let mut seat = OneSession { core, session };
+    let reply = one_shot(&mut seat, alloc, command);
+    let OneSession {
+        core: _,
+        session: _,
+    } = seat;
+    reply
+}
