@@ -1,4 +1,7 @@
-use Rattle.std.proofs.Common.{refl}
+use Rattle.std.proofs.Common.{List, refl, subst}
+use Rattle.tab_model.specs.declared.data.Reply.{Reply}
+use Rattle.tab_oneshot.specs.Calls.{Call}
+use Rattle.tab_oneshot.specs.Attempts.{Ends}
 use Rattle.tab_oneshot.proofs.Attempting.{trying_first, trying_again, trying_over, trying_no_more, fresh_attempt}
 use Rattle.tab_oneshot.proofs.driver.attempts.Goals as goal
 
@@ -25,4 +28,5 @@ returns-in-Some-attempt g c =
 pub returns : goal.returns
 returns g c =
     trying_no_more g.S.Steps.shows g.met.S.Steps.shows_on _ _ _ _ _ _ _ _ c.loop-restart-test.false c.loop-restart.invariant.tries
-    (fresh_attempt g.S.Steps.shows _ _ _ _ _ _ c.loop-restart.invariant.levels c.in-None.is c.attempt-2.ensures) c.end.ensures
+    (fresh_attempt g.S.Steps.shows _ _ _ _ _ _ c.loop-restart.invariant.levels c.in-None.is c.attempt-2.ensures)
+    (subst (λ (q : Reply). (more : List Call) × g.S.Steps.shows c.attempt-2.new.steps more c.end.new.steps × Ends 1 q more c.end.result) c.new.ensures c.end.ensures)

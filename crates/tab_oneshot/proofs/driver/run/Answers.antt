@@ -1,9 +1,12 @@
-use Rattle.std.proofs.Common.{List, ap, inl, sym, subst, ◌∙◌}
+use Rattle.std.proofs.Common.{List, [], ap, inl, inr, refl, sym, subst, ◌∙◌}
 use Rattle.tab_model.specs.declared.data.Command.TheVariants as command
 use Rattle.tab_oneshot.specs.Calls.{Call}
 use Rattle.tab_oneshot.specs.OneShots.{Opens, Runs}
 use Rattle.tab_oneshot.proofs.HandingIn.{asked}
 use Rattle.tab_oneshot.proofs.driver.run.Goals as goal
+
+pub returns-in_default : goal.returns-in_default
+returns-in_default g c = ([], g.met.S.Steps.shows_none _, inr (refl, c.new.ensures))
 
 pub returns-in-Opened : goal.returns-in-Opened
 returns-in-Opened g c =
