@@ -28,8 +28,8 @@ fn audits(alloc: Global, commits: u64) -> Result<(u64, u64), AllocError> {
     let mut journal = Journal::with_limit(alloc, 16)?;
     journal.try_push(create(alloc, "t")?).or(Err(AllocError))?;
     let mut world = created(alloc, "t")?;
-    let mut right = 0;
-    let mut wrong = 0;
+    let mut right = 0u64;
+    let mut wrong = 0u64;
     for done in 0..commits {
         let value = i128::from(done + 1);
         if journal.full() && !journal.is_empty() {
@@ -39,10 +39,10 @@ fn audits(alloc: Global, commits: u64) -> Result<(u64, u64), AllocError> {
         journal.try_push(entry).or(Err(AllocError))?;
         world = written(alloc, &world, value)?;
         if journal.audit(alloc, journal.base(), &world)? {
-            right += 1;
+            right = right.saturating_add(1);
         }
         if journal.audit(alloc, journal.base(), &written(alloc, &world, 0)?)? {
-            wrong += 1;
+            wrong = wrong.saturating_add(1);
         }
     }
     Ok((right, wrong))
