@@ -1,5 +1,5 @@
 -- The loops over the parts and over the attempts.
-use Rattle.std.proofs.Common.{◌≡◌, ℕ, zero, suc, ◌+◌, ◌-◌, ◌<◌, ◌≤◌, List, [], ◌∷◌, ◌++◌, length, drop, get_or, refl, sym, ap, subst, ◌∙◌, inl, inr, append_assoc, arith}
+use Rattle.std.proofs.Common.{◌≡◌, ℕ, zero, suc, ◌+◌, ◌<◌, ◌≤◌, List, [], ◌∷◌, ◌++◌, length, drop, get_or, refl, sym, ap, subst, ◌∙◌, append_assoc, arith}
 use Rattle.std.specs.Prelude.{Option, Some, None}
 use Rattle.std.proofs.lemmas.List.{append-nil, at_drop_more, drop_all}
 use Rattle.tab_term.specs.Data.{PlainTerms, none}
@@ -8,7 +8,7 @@ use Rattle.tab_model.specs.declared.data.Part.TheVariants as part
 use Rattle.tab_model.specs.declared.data.Reply.{Reply}
 use Rattle.tab_model.specs.declared.data.Reply.TheVariants as reply
 use Rattle.tab_oneshot.specs.Calls.{Call, Again}
-use Rattle.tab_oneshot.specs.Attempts.{Turn, IsOver, Restarts, Serves, Goes, Commits, IsAttempt, Ends, passed}
+use Rattle.tab_oneshot.specs.Attempts.{Turn, Serves, Goes, Commits, IsAttempt, Ends, passed}
 use Rattle.tab_oneshot.specs.Attempts.{GoesOn as turned}
 use Rattle.tab_oneshot.specs.OneShots.{Runs}
 use Rattle.tab_oneshot.proofs.HandingIn.{GoesOn}

@@ -1,3 +1,4 @@
 pub mod Telling
 pub mod HandingIn
 pub mod Attempting
+pub mod LastReplies

@@ -3,7 +3,6 @@
 use Rattle.std.specs.Prelude.{◌≡◌, ℕ, zero, suc, pos, List, [], ◌∷◌, ◌++◌, length, Bool, true, false, Option, Some, None, ◌⊎◌}
 use Rattle.tab_term.specs.Data.{PlainTerm, PlainTerms, none, one_more}
 use Rattle.tab_term.specs.declared.term.Term.TheVariants.{Int}
-use Rattle.tab_model.specs.declared.data.Operation.{Operation}
 use Rattle.tab_model.specs.declared.data.Part.{Part}
 use Rattle.tab_model.specs.declared.data.Part.TheVariants as part
 use Rattle.tab_model.specs.declared.data.Command.{Command}
@@ -13,7 +12,7 @@ use Rattle.tab_model.specs.declared.data.Reply.TheVariants as reply
 use Rattle.tab_proto.specs.Replies.{reply_term}
 use Rattle.tab_oneshot.specs.declared.answer.Sort.{Sort}
 use Rattle.tab_oneshot.specs.declared.answer.Sort.TheVariants as sort
-use Rattle.tab_oneshot.specs.Calls.{Call, Asked, Waited, Again}
+use Rattle.tab_oneshot.specs.Calls.{Call, Asked, Waited}
 
 -- what an answer says of the levels
 abbrev pub sort_of : Reply → Sort

@@ -1,5 +1,5 @@
 -- What a seat was asked, and what it answered (this project's own form).
-use Rattle.std.specs.Prelude.{◌≢◌, Option, Some, None, Result, Ok, Err}
+use Rattle.std.specs.Prelude.{◌≢◌, ℕ, suc, List, [], ◌∷◌, Option, Some, None, Result, Ok, Err}
 use Rattle.tab_model.specs.declared.data.Command.{Command}
 use Rattle.tab_model.specs.declared.data.Reply.{Reply}
 use Rattle.tab_model.specs.declared.data.Reply.TheVariants as reply
@@ -25,3 +25,10 @@ waited_for (Some r) = Some (answer_in r)
 abbrev pub IsNoWait : {E : Type 0} → Option (Result Reply E) → Type 0
 IsNoWait None = Unit {0}
 IsNoWait (Some r) = answer_in r ≢ reply.Waiting
+
+-- how often the operations were handed in again
+abbrev pub agains : List Call → ℕ
+agains [] = 0
+agains (Asked c r ∷ calls) = agains calls
+agains (Waited w ∷ calls) = agains calls
+agains (Again ∷ calls) = suc (agains calls)

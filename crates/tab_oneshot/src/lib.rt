@@ -7,10 +7,12 @@ mod asking;
 mod attempt;
 mod copies;
 mod driver;
+mod laws;
 mod levels;
 mod parts;
 mod steps;
 mod turn;
 
 pub use driver::one_shot;
+pub use laws::attempts_are_limited;
 pub use steps::Steps;

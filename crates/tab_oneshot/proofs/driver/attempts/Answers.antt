@@ -1,4 +1,4 @@
-use Rattle.std.proofs.Common.{List, refl, subst}
+use Rattle.std.proofs.Common.{List, subst}
 use Rattle.tab_model.specs.declared.data.Reply.{Reply}
 use Rattle.tab_oneshot.specs.Calls.{Call}
 use Rattle.tab_oneshot.specs.Attempts.{Ends}
