@@ -1,13 +1,14 @@
 -- The step of the model that a call of the core makes.
-use Rattle.std.proofs.Common.{◌≡◌, ℕ, [], sym, ap, ◌∙◌, Option, ◌⊎◌, inl, inr}
+use Rattle.std.proofs.Common.{◌≡◌, ℕ, sym, ap, ◌∙◌, Option, ◌⊎◌, inl, inr}
 use Rattle.std.proofs.lemmas.Bool.{false≢true}
 use Rattle.tab_term.specs.Data.{PlainTerm}
 use Rattle.tab_proto.specs.declared.request.Request.{Request}
 use Rattle.tab_proto.specs.Requests.{request_term, number_in, IsSession, IsRequest, IsNumbered, AsksOneShot}
 use Rattle.tab_proto.proofs.RequestsApart.{requests_apart}
+use Rattle.tab_session.specs.StepsMade.{IsStepMade}
 use Rattle.tab_session.specs.AnsweredPayloads.{serves_request, IsNumberOf, RepliesTo, AnsweredTerm, RefusedTerm}
 use Rattle.tab_model.specs.State.{State}
-use Rattle.tab_model.specs.Outcome.{Ask, outcome, Outcome}
+use Rattle.tab_model.specs.Outcome.{Ask, Outcome}
 use Rattle.tab_model.specs.declared.data.Entry.{Entry}
 use Rattle.tab_model.specs.declared.data.Reply.{Reply}
 use Rattle.tab_core.specs.Runs.{StepsTo}
@@ -16,9 +17,8 @@ use Rattle.tab_core.specs.declared.step.Stepped.{Stepped}
 abbrev made_of : State → Reply → Option Entry → Outcome
 made_of μ r e = record { state = μ; reply = r; entry = e }
 
-pub makes : (σ μ : State) (n : ℕ) (a b : Ask) (r : Reply) (s : Stepped)
-    → b ≡ a → r ≡ s.reply → StepsTo σ n b s μ → outcome σ [] n a ≡ record { state = μ; reply = r; entry = s.entry }
-makes σ μ n a b r s e f h = ap (λ (x : Ask). outcome σ [] n x) (sym e) ∙ h ∙ ap (λ (x : Reply). made_of μ x s.entry) (sym f)
+pub makes : (σ μ : State) (n : ℕ) (a : Ask) (r : Reply) (s : Stepped) → r ≡ s.reply → StepsTo σ n a s μ → IsStepMade σ n a r μ
+makes σ μ n a r s f h = record { entry = s.entry; made = h ∙ ap (λ (x : Reply). made_of μ x s.entry) (sym f) }
 
 -- a one-shot stands under its session's number
 pub one_shot_numbered : (t : PlainTerm) (n : ℕ) → IsNumberOf t n → AsksOneShot t → IsNumbered t n

@@ -2,4 +2,6 @@ pub mod AnsweredLemmas
 pub mod AnsweredAllLemmas
 pub mod ServedLemmas
 pub mod ReplayedLemmas
+mod DriverSteps
+mod DriverOnce
 mod RunLaws

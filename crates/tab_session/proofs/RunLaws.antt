@@ -1,14 +1,18 @@
 -- What a run over payloads leaves: the history goes on, an answer follows from its payload, and a session alone never waits.
-use Rattle.std.proofs.Common.{◌≡◌, ◌≢◌, ℕ, ℤ, pos, suc, List, [], ◌∷◌, ◌++◌, length, refl, sym, ap, subst, ◌∙◌, inl, inr, append_assoc, Option, Some, Result, Ok, Err}
+use Rattle.std.proofs.Common.{◌≡◌, ◌≢◌, ℕ, ℤ, pos, suc, List, [], ◌∷◌, ◌++◌, length, refl, sym, ap, subst, ◌∙◌, inl, inr, append_assoc, append-nil, Bool, true, false, Option, Some, Result, Ok, Err}
+use Rattle.std.specs.Prelude.{◌==◌, if◌then◌else◌}
+use Rattle.std.proofs.lemmas.Bool.{false≢true}
 use Rattle.tab_term.specs.Data.{PlainTerm}
 use Rattle.tab_etf.specs.Reading.{whole}
 use Rattle.tab_etf.specs.declared.fault.Stop.{Stop}
 use Rattle.tab_model.specs.declared.data.Entry.{Entry}
 use Rattle.tab_model.specs.declared.data.Item.{Item}
+use Rattle.tab_model.specs.declared.data.Command.{Command}
+use Rattle.tab_model.specs.declared.data.Command.TheVariants as command
 use Rattle.tab_model.specs.declared.data.Reply.{Reply}
 use Rattle.tab_model.specs.declared.data.Reply.TheVariants as reply
 use Rattle.tab_model.specs.State.{State, IsSound}
-use Rattle.tab_model.specs.Outcome.{Outcome, outcome}
+use Rattle.tab_model.specs.Outcome.{Ask, DoCommand, Outcome, outcome}
 use Rattle.tab_model.specs.Refusals.{IsSole}
 use Rattle.tab_model.specs.Run.{item_of, entries, taken_now, JoinsEmpty, IsTied}
 use Rattle.tab_model.proofs.SoundSteps.{step_sound}
@@ -19,8 +23,14 @@ use Rattle.tab_proto.specs.declared.request.Request.TheVariants as request
 use Rattle.tab_proto.specs.Requests.{number_in, IsNumbered}
 use Rattle.tab_proto.proofs.RequestsApart.{requests_apart}
 use Rattle.tab_session.specs.declared.answered.Answer.{Answer}
-use Rattle.tab_session.specs.AnsweredPayloads.{ask_for, IsStepMade, IsNumberOf, AnsweredTerm, AnsweredRead, Answered, AnsweredAll, NoneRefused, NoneWaits, AreOf, taken_by, IsOf}
+use Rattle.tab_session.specs.StepsMade.{IsStepMade}
+use Rattle.tab_session.specs.OneSessions.{Made, Ran, IsDriven}
+use Rattle.tab_session.specs.AnsweredPayloads.{ask_for, is_step, IsDrivenRequest, IsMadeOf, IsNumberOf, AnsweredTerm, AnsweredRead, Answered, AnsweredAll, NoneRefused, NoneWaits, AreOf, taken_by, IsOf}
 use Rattle.tab_session.specs.Replays.{IsRun}
+use Rattle.tab_oneshot.specs.Calls.{Call, Asked, Waited, Again}
+use Rattle.tab_oneshot.proofs.LastReplies.{is_handed, AllHanded, Awaited, Answers, last_reply, all_handed}
+use Rattle.tab_session.proofs.DriverSteps.{no_item}
+use Rattle.tab_session.proofs.DriverOnce.{driven_once}
 use Rattle.tab_core.proofs.RunsLemmas.{rests_tied, quiet_tied}
 use Rattle.std.proofs.lemmas.List.Elements.{All-nil, All-cons, All-head, All-tail}
 
@@ -39,14 +49,14 @@ record Onward (μ : State) (log : List Entry) (taken : ℕ → List Item) : Type
   pub more : List Entry
   pub tied : IsTied μ (log ++ more) taken
 
-made_onward : (σ μ : State) (n : ℕ) (a : Request) (r : Reply) (log : List Entry) (taken : ℕ → List Item) → IsStepMade σ n a r μ → IsSound σ → IsTied σ log taken → Onward μ log (λ m. taken m ++ taken_now m n r)
-made_onward σ μ n a r log taken made sound tied =
+made_onward : (σ μ : State) (n : ℕ) (a : Ask) (r : Reply) (log : List Entry) (taken : ℕ → List Item) → JoinsEmpty a → IsStepMade σ n a r μ → IsSound σ → IsTied σ log taken → Onward μ log (λ m. taken m ++ taken_now m n r)
+made_onward σ μ n a r log taken empty made sound tied =
     let o = made.made in
     record {
-      sound = subst IsSound (ap (λ x. Outcome.state x) o) (step_sound σ [] n (ask_for a) sound);
-      more = entries (outcome σ [] n (ask_for a)).entry;
-      tied = subst (λ (x : Outcome). IsTied x.state (log ++ entries (outcome σ [] n (ask_for a)).entry) (λ m. taken m ++ taken_now m n x.reply)) o
-          (step_tied σ log taken [] n (ask_for a) sound (joins_empty a) tied);
+      sound = subst IsSound (ap (λ x. Outcome.state x) o) (step_sound σ [] n a sound);
+      more = entries (outcome σ [] n a).entry;
+      tied = subst (λ (x : Outcome). IsTied x.state (log ++ entries (outcome σ [] n a).entry) (λ m. taken m ++ taken_now m n x.reply)) o
+          (step_tied σ log taken [] n a sound empty tied);
     }
 
 -- nothing has changed, and nothing was taken
@@ -57,11 +67,80 @@ quiet_onward σ μ n r log taken same e sound tied = record {
   tied = quiet_tied σ μ n r log taken same e tied;
 }
 
+-- ---- what a driver hands in
+
+-- a reply that gives no item
+abbrev GivesNone : Reply → Type 0
+GivesNone r = item_of r ≡ []
+
+none_taken : (m n : ℕ) (r : Reply) → GivesNone r → taken_now m n r ≡ []
+none_taken m n r e = cases (m == n)
+  where
+    cases : (b : Bool) → (if b then item_of r else []) ≡ []
+    cases true = e
+    cases false = refl
+
+stays_onward : (σ μ : State) (log : List Entry) (taken : ℕ → List Item) → μ ≡ σ → IsSound σ → IsTied σ log taken → Onward μ log taken
+stays_onward σ μ log taken same sound tied = record {
+  sound = subst IsSound (sym same) sound;
+  more = [];
+  tied = subst (λ (x : State). IsTied x (log ++ []) taken) (sym same) (subst (λ (l : List Entry). IsTied σ l taken) (sym (append-nil log)) tied);
+}
+
+gives_none : (σ μ : State) (n : ℕ) (c : Command) (r : Reply) → is_handed c ≡ true → Made σ n c r μ → GivesNone r
+gives_none σ μ n c r h (inl (served, inl made)) = ap item_of (sym (ap (λ o. Outcome.reply o) made.made)) ∙ no_item σ n c h
+gives_none σ μ n c r h (inl (served, inr (takes, none, same))) = ap item_of none
+gives_none σ μ n c r h (inr (unserved, bad, same)) = ap item_of bad
+
+call_onward : (σ μ : State) (n : ℕ) (c : Command) (r : Reply) (log : List Entry) (taken : ℕ → List Item) → is_handed c ≡ true → Made σ n c r μ → IsSound σ → IsTied σ log taken → Onward μ log taken
+call_onward σ μ n c r log taken h (inl (served, inl made)) sound tied =
+    subst (λ (f : ℕ → List Item). Onward μ log f) (λ i m. (ap (λ xs. taken m ++ xs) (none_taken m n r (gives_none σ μ n c r h (inl (served, inl made)))) ∙ append-nil (taken m)) i)
+    (made_onward σ μ n (DoCommand c) r log taken tt made sound tied)
+call_onward σ μ n c r log taken h (inl (served, inr (takes, none, same))) sound tied = stays_onward σ μ log taken same sound tied
+call_onward σ μ n c r log taken h (inr (unserved, bad, same)) sound tied = stays_onward σ μ log taken same sound tied
+
+calls_onward : (n : ℕ) (σ μ : State) (calls : List Call) (log : List Entry) (taken : ℕ → List Item) → AllHanded calls → Ran n σ calls μ → IsSound σ → IsTied σ log taken → Onward μ log taken
+calls_onward n σ μ [] log taken h ran sound tied = stays_onward σ μ log taken ran sound tied
+calls_onward n σ μ (Asked c r ∷ calls) log taken (h, hs) (ρ, one, ran) sound tied =
+    let first = call_onward σ ρ n c r log taken h one sound tied in
+    let all = calls_onward n ρ μ calls (log ++ first.more) taken hs ran first.sound first.tied in
+    record {
+      sound = all.sound;
+      more = first.more ++ all.more;
+      tied = subst (λ (l : List Entry). IsTied μ l taken) (append_assoc log first.more all.more) all.tied;
+    }
+calls_onward n σ μ (Waited w ∷ calls) log taken h (e, ran) sound tied = calls_onward n σ μ calls log taken h ran sound tied
+calls_onward n σ μ (Again ∷ calls) log taken h ran sound tied = calls_onward n σ μ calls log taken h ran sound tied
+
+calls_give_none : (n : ℕ) (σ μ : State) (calls : List Call) → AllHanded calls → Ran n σ calls μ → Answers GivesNone calls
+calls_give_none n σ μ [] h ran = tt
+calls_give_none n σ μ (Asked c r ∷ calls) (h, hs) (ρ, one, ran) = (gives_none σ ρ n c r h one, calls_give_none n ρ μ calls hs ran)
+calls_give_none n σ μ (Waited w ∷ calls) h (e, ran) = (subst (λ (x : Option Reply). Awaited GivesNone x) (sym e) tt, calls_give_none n σ μ calls h ran)
+calls_give_none n σ μ (Again ∷ calls) h ran = calls_give_none n σ μ calls h ran
+
+driven_onward : (σ μ : State) (n : ℕ) (c : Command) (r : Reply) (log : List Entry) (taken : ℕ → List Item) → IsDriven σ n c r μ → IsSound σ → IsTied σ log taken → Onward μ log (λ m. taken m ++ taken_now m n r)
+driven_onward σ μ n c r log taken d sound tied =
+    subst (λ (f : ℕ → List Item). Onward μ log f) (λ i m. (sym (append-nil (taken m)) ∙ ap (λ xs. taken m ++ xs) (sym (none_taken m n r none))) i)
+    (calls_onward n σ μ d.calls log taken handed d.ran sound tied)
+  where
+    handed : AllHanded d.calls
+    handed = all_handed c d.calls r d.one_shot
+
+    none : GivesNone r
+    none = last_reply GivesNone (record { no_memory = refl; no_wait = refl; no_more = refl; terms = λ ts. refl }) c d.calls r d.one_shot (calls_give_none n σ μ d.calls handed d.ran)
+
+request_onward : (σ μ : State) (n : ℕ) (a : Request) (r : Reply) (log : List Entry) (taken : ℕ → List Item) → IsMadeOf σ n a r μ → IsSound σ → IsTied σ log taken → Onward μ log (λ m. taken m ++ taken_now m n r)
+request_onward σ μ n a r log taken (inl (one, made)) sound tied = made_onward σ μ n (ask_for a) r log taken (joins_empty a) made sound tied
+request_onward σ μ n (request.Do c) r log taken (inr driven) sound tied = driven_onward σ μ n c r log taken driven sound tied
+request_onward σ μ n a r log taken (inr driven) sound tied = absurd driven
+
+-- ---- an answer
+
 read_onward : (σ μ : State) (read : Result PlainTerm Stop) (x : Answer) (log : List Entry) (taken : ℕ → List Item) → AnsweredRead σ read x μ → IsSound σ → IsTied σ log taken
     → Onward μ log (λ m. taken m ++ taken_now m x.session x.reply)
 read_onward σ μ (Err f) x log taken h sound tied = quiet_onward σ μ x.session x.reply log taken h.1 (ap (λ y. item_of (Answer.reply y)) h.0) sound tied
 read_onward σ μ (Ok t) x log taken (inl h) sound tied = quiet_onward σ μ x.session x.reply log taken h.same (ap item_of h.reply) sound tied
-read_onward σ μ (Ok t) x log taken (inr h) sound tied = made_onward σ μ x.session h.asked x.reply log taken h.made sound tied
+read_onward σ μ (Ok t) x log taken (inr h) sound tied = request_onward σ μ x.session h.asked x.reply log taken h.made sound tied
 
 answer_onward : (σ μ : State) (p : List ℕ) (x : Answer) (log : List Entry) (taken : ℕ → List Item) → Answered σ p x μ → IsSound σ → IsTied σ log taken
     → Onward μ log (λ m. taken m ++ taken_now m x.session x.reply)
@@ -118,31 +197,45 @@ number_once t m n (inr h) (inr k) = ap value_of (sym h.1 ∙ k.1)
 answer_of : (x y : Answer) → x.session ≡ y.session → x.reply ≡ y.reply → x ≡ y
 answer_of x y e f = λ i. record { session = e i; reply = f i }
 
-made_once : (σ μ ν : State) (n m : ℕ) (a b : Request) (r q : Reply) → n ≡ m → a ≡ b → IsStepMade σ n a r μ → IsStepMade σ m b q ν → (r ≡ q) × (μ ≡ ν)
-made_once σ μ ν n m a b r q e f h k =
-    let both = sym h.made ∙ (λ i. outcome σ [] (e i) (ask_for (f i))) ∙ k.made in
+made_once : (σ μ ν : State) (n : ℕ) (a : Ask) (r q : Reply) → IsStepMade σ n a r μ → IsStepMade σ n a q ν → (r ≡ q) × (μ ≡ ν)
+made_once σ μ ν n a r q h k =
+    let both = sym h.made ∙ k.made in
     (ap (λ o. Outcome.reply o) both, ap (λ o. Outcome.state o) both)
 
-term_once : (σ μ ν : State) (t : PlainTerm) (x y : Answer) → AnsweredTerm σ t x μ → AnsweredTerm σ t y ν → (x ≡ y) × (μ ≡ ν)
-term_once σ μ ν t x y (inl h) (inl k) = (answer_of x y (number_once t x.session y.session h.under k.under) (h.reply ∙ sym k.reply), h.same ∙ sym k.same)
-term_once σ μ ν t x y (inl h) (inr k) = absurd (h.nothing y.session k.asked k.session k.served k.spelled)
-term_once σ μ ν t x y (inr h) (inl k) = absurd (k.nothing x.session h.asked h.session h.served h.spelled)
-term_once σ μ ν t x y (inr h) (inr k) =
-    let same = requests_apart x.session y.session h.asked k.asked h.served.formed k.served.formed (h.spelled ∙ sym k.spelled) in
-    let once = made_once σ μ ν x.session y.session h.asked k.asked x.reply y.reply same.0 same.1 h.made k.made in
-    (answer_of x y same.0 once.0, once.1)
+-- what is driven is no step
+driven_alone : (σ μ : State) (n : ℕ) (a : Request) (r : Reply) → IsDrivenRequest σ n a r μ → is_step a ≡ false
+driven_alone σ μ n (request.Do (command.OneShot parts retries)) r d = refl
+driven_alone σ μ n (request.Do c) r d = absurd d.one_shot
+driven_alone σ μ n a r d = absurd d
 
-read_once : (σ μ ν : State) (read : Result PlainTerm Stop) (x y : Answer) → AnsweredRead σ read x μ → AnsweredRead σ read y ν → (x ≡ y) × (μ ≡ ν)
-read_once σ μ ν (Err f) x y h k = (h.0 ∙ sym k.0, h.1 ∙ sym k.1)
-read_once σ μ ν (Ok t) x y h k = term_once σ μ ν t x y h k
-
-answer_once : (σ μ ν : State) (p : List ℕ) (x y : Answer) → x.reply ≢ reply.NoMemory → y.reply ≢ reply.NoMemory → Answered σ p x μ → Answered σ p y ν → (x ≡ y) × (μ ≡ ν)
-answer_once σ μ ν p x y e f (inl h) (inl k) = read_once σ μ ν (whole p) x y h k
-answer_once σ μ ν p x y e f (inr h) k = absurd (e h.reply)
-answer_once σ μ ν p x y e f (inl h) (inr k) = absurd (f k.reply)
+request_once : (σ μ ν : State) (n : ℕ) (a : Request) (r q : Reply) → r ≢ reply.NoMemory → q ≢ reply.NoMemory → IsMadeOf σ n a r μ → IsMadeOf σ n a q ν → (r ≡ q) × (μ ≡ ν)
+request_once σ μ ν n a r q e f (inl (one, h)) (inl (other, k)) = made_once σ μ ν n (ask_for a) r q h k
+request_once σ μ ν n a r q e f (inl (one, h)) (inr k) = absurd (false≢true (sym (driven_alone σ ν n a q k) ∙ one))
+request_once σ μ ν n a r q e f (inr h) (inl (one, k)) = absurd (false≢true (sym (driven_alone σ μ n a r h) ∙ one))
+request_once σ μ ν n (request.Do c) r q e f (inr h) (inr k) = driven_once σ μ ν n c r q e f h k
+request_once σ μ ν n a r q e f (inr h) (inr k) = absurd h
 
 abbrev Unrefused : Answer → Type 0
 Unrefused x = x.reply ≢ reply.NoMemory
+
+term_once : (σ μ ν : State) (t : PlainTerm) (x y : Answer) → Unrefused x → Unrefused y → AnsweredTerm σ t x μ → AnsweredTerm σ t y ν → (x ≡ y) × (μ ≡ ν)
+term_once σ μ ν t x y e f (inl h) (inl k) = (answer_of x y (number_once t x.session y.session h.under k.under) (h.reply ∙ sym k.reply), h.same ∙ sym k.same)
+term_once σ μ ν t x y e f (inl h) (inr k) = absurd (h.nothing y.session k.asked k.session k.served k.spelled)
+term_once σ μ ν t x y e f (inr h) (inl k) = absurd (k.nothing x.session h.asked h.session h.served h.spelled)
+term_once σ μ ν t x y e f (inr h) (inr k) =
+    let same = requests_apart x.session y.session h.asked k.asked h.served.formed k.served.formed (h.spelled ∙ sym k.spelled) in
+    let once = request_once σ μ ν x.session h.asked x.reply y.reply e f h.made
+    (subst (λ (a : Request). IsMadeOf σ x.session a y.reply ν) (sym same.1) (subst (λ (n : ℕ). IsMadeOf σ n k.asked y.reply ν) (sym same.0) k.made)) in
+    (answer_of x y same.0 once.0, once.1)
+
+read_once : (σ μ ν : State) (read : Result PlainTerm Stop) (x y : Answer) → Unrefused x → Unrefused y → AnsweredRead σ read x μ → AnsweredRead σ read y ν → (x ≡ y) × (μ ≡ ν)
+read_once σ μ ν (Err f) x y g i h k = (h.0 ∙ sym k.0, h.1 ∙ sym k.1)
+read_once σ μ ν (Ok t) x y e f h k = term_once σ μ ν t x y e f h k
+
+answer_once : (σ μ ν : State) (p : List ℕ) (x y : Answer) → Unrefused x → Unrefused y → Answered σ p x μ → Answered σ p y ν → (x ≡ y) × (μ ≡ ν)
+answer_once σ μ ν p x y e f (inl h) (inl k) = read_once σ μ ν (whole p) x y e f h k
+answer_once σ μ ν p x y e f (inr h) k = absurd (e h.reply)
+answer_once σ μ ν p x y e f (inl h) (inr k) = absurd (f k.reply)
 
 ran_once : (σ τ ω : State) (ps : List (List ℕ)) (xs ys : List Answer) → NoneRefused xs → NoneRefused ys → AnsweredAll σ ps xs τ → AnsweredAll σ ps ys ω → (xs ≡ ys) × (τ ≡ ω)
 ran_once σ τ ω [] [] [] e f h k = (refl, h ∙ sym k)
@@ -168,14 +261,44 @@ record Alone (n : ℕ) (μ : State) (x : Answer) : Type 0 where
 stays_alone : (n : ℕ) (σ μ : State) (x : Answer) → μ ≡ σ → x.reply ≢ reply.Waiting → x.reply ≢ reply.Restart → IsSole n σ → Alone n μ x
 stays_alone n σ μ x same w r sole = record { sole = subst (IsSole n) (sym same) sole; wait = w; restart = r }
 
-made_alone : (n : ℕ) (σ μ : State) (x : Answer) (a : Request) → x.session ≡ n → IsStepMade σ x.session a x.reply μ → IsSole n σ → Alone n μ x
+-- a reply that is no wait and no restart
+abbrev Calm : Reply → Type 0
+Calm r = (r ≢ reply.Waiting) × (r ≢ reply.Restart)
+
+made_calm : (n : ℕ) (σ μ : State) (a : Ask) (r : Reply) → IsStepMade σ n a r μ → IsSole n σ → IsSole n μ × Calm r
+made_calm n σ μ a r made sole = (
+  subst (IsSole n) (ap (λ o. Outcome.state o) made.made) (stays_sole σ [] n a sole),
+  ((λ e. no_wait σ [] n a sole (ap (λ o. Outcome.reply o) made.made ∙ e)), (λ e. no_restart σ [] n a sole (ap (λ o. Outcome.reply o) made.made ∙ e))),
+)
+
+unmade_calm : Calm reply.NoMemory × Calm reply.BadCommand
+unmade_calm = (((λ e. cc), (λ e. cc)), ((λ e. cc), (λ e. cc)))
+
+call_calm : (n : ℕ) (σ μ : State) (c : Command) (r : Reply) → Made σ n c r μ → IsSole n σ → IsSole n μ × Calm r
+call_calm n σ μ c r (inl (served, inl made)) sole = made_calm n σ μ (DoCommand c) r made sole
+call_calm n σ μ c r (inl (served, inr (takes, none, same))) sole = (subst (IsSole n) (sym same) sole, subst Calm (sym none) unmade_calm.0)
+call_calm n σ μ c r (inr (unserved, bad, same)) sole = (subst (IsSole n) (sym same) sole, subst Calm (sym bad) unmade_calm.1)
+
+calls_calm : (n : ℕ) (σ μ : State) (calls : List Call) → Ran n σ calls μ → IsSole n σ → IsSole n μ × Answers Calm calls
+calls_calm n σ μ [] ran sole = (subst (IsSole n) (sym ran) sole, tt)
+calls_calm n σ μ (Asked c r ∷ calls) (ρ, one, ran) sole =
+    let first = call_calm n σ ρ c r one sole in
+    let all = calls_calm n ρ μ calls ran first.0 in
+    (all.0, (first.1, all.1))
+calls_calm n σ μ (Waited w ∷ calls) (e, ran) sole = let all = calls_calm n σ μ calls ran sole in (all.0, (subst (λ (x : Option Reply). Awaited Calm x) (sym e) tt, all.1))
+calls_calm n σ μ (Again ∷ calls) ran sole = calls_calm n σ μ calls ran sole
+
+request_calm : (n : ℕ) (σ μ : State) (a : Request) (r : Reply) → IsMadeOf σ n a r μ → IsSole n σ → IsSole n μ × Calm r
+request_calm n σ μ a r (inl (one, made)) sole = made_calm n σ μ (ask_for a) r made sole
+request_calm n σ μ (request.Do c) r (inr d) sole =
+    let all = calls_calm n σ μ d.calls d.ran sole in
+    (all.0, last_reply Calm (record { no_memory = ((λ e. cc), (λ e. cc)); no_wait = ((λ e. cc), (λ e. cc)); no_more = ((λ e. cc), (λ e. cc)); terms = λ ts. ((λ e. cc), (λ e. cc)) }) c d.calls r d.one_shot all.1)
+request_calm n σ μ a r (inr d) sole = absurd d
+
+made_alone : (n : ℕ) (σ μ : State) (x : Answer) (a : Request) → x.session ≡ n → IsMadeOf σ x.session a x.reply μ → IsSole n σ → Alone n μ x
 made_alone n σ μ x a mine made sole =
-    let here = (λ i. outcome σ [] (sym mine i) (ask_for a)) ∙ made.made in
-    record {
-      sole = subst (IsSole n) (ap (λ o. Outcome.state o) here) (stays_sole σ [] n (ask_for a) sole);
-      wait = λ e. no_wait σ [] n (ask_for a) sole (ap (λ o. Outcome.reply o) here ∙ e);
-      restart = λ e. no_restart σ [] n (ask_for a) sole (ap (λ o. Outcome.reply o) here ∙ e);
-    }
+    let here = request_calm n σ μ a x.reply (subst (λ (m : ℕ). IsMadeOf σ m a x.reply μ) mine made) sole in
+    record { sole = here.0; wait = here.1.0; restart = here.1.1 }
 
 read_alone : (n : ℕ) (σ μ : State) (read : Result PlainTerm Stop) (x : Answer) → ((t : PlainTerm) (m : ℕ) → read ≡ Ok t → IsNumbered t m → m ≡ n) → AnsweredRead σ read x μ → IsSole n σ → Alone n μ x
 read_alone n σ μ (Err f) x of h sole = stays_alone n σ μ x h.1 (λ e. waits (sym (ap (λ y. Answer.reply y) h.0) ∙ e)) (λ e. restarts (sym (ap (λ y. Answer.reply y) h.0) ∙ e)) sole

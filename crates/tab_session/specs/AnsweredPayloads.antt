@@ -1,5 +1,5 @@
 -- How a payload is answered, and the bytes of an answer (this project's own rules).
-use Rattle.std.specs.Prelude.{◌≡◌, ◌≢◌, ℕ, Bool, true, false, ◌<◌, List, [], ◌∷◌, length, Option, Some, Result, Ok, Err, ◌⊎◌}
+use Rattle.std.specs.Prelude.{◌≡◌, ◌≢◌, ℕ, Bool, true, false, not, ◌<◌, List, [], ◌∷◌, length, Some, Result, Ok, Err, ◌⊎◌}
 use Rattle.std.specs.List.{All, flat_map}
 use Rattle.tab_term.specs.Data.{PlainTerm}
 use Rattle.tab_term.specs.Canon.{canon}
@@ -9,9 +9,7 @@ use Rattle.tab_etf.specs.declared.fault.Stop.{Stop}
 use Rattle.tab_etf.specs.declared.encoding.EncodeFault.{EncodeFault}
 use Rattle.tab_etf.specs.declared.encoding.EncodeFault.TheVariants as puts
 use Rattle.tab_model.specs.State.{State}
-use Rattle.tab_model.specs.Outcome.{Ask, Join, Leave, Retry, Take, DoCommand, outcome}
-use Rattle.tab_model.specs.declared.data.Command.TheVariants as command
-use Rattle.tab_model.specs.declared.data.Entry.{Entry}
+use Rattle.tab_model.specs.Outcome.{Ask, Join, Leave, Retry, Take, DoCommand}
 use Rattle.tab_model.specs.declared.data.Reply.{Reply}
 use Rattle.tab_model.specs.declared.data.Reply.TheVariants.{BadTerm, BadCommand, NoMemory, Waiting, Restart}
 use Rattle.tab_model.specs.declared.data.Item.{Item}
@@ -23,7 +21,10 @@ use Rattle.tab_proto.specs.declared.request.Request.{Request}
 use Rattle.tab_proto.specs.declared.request.Request.TheVariants as request
 use Rattle.tab_proto.specs.Requests.{request_term, IsSession, IsRequest, IsNumbered, HasNoNumber, AsksOneShot}
 use Rattle.tab_proto.specs.Replies.{response}
+use Rattle.tab_oneshot.specs.OneShots.{is_one_shot}
 use Rattle.tab_session.specs.declared.answered.Answer.{Answer}
+use Rattle.tab_session.specs.StepsMade.{IsStepMade}
+use Rattle.tab_session.specs.OneSessions.{IsDriven}
 
 -- what the core is asked for it
 abbrev pub ask_for : Request → Ask
@@ -33,9 +34,8 @@ ask_for request.Retry = Retry
 ask_for request.Take = Take
 ask_for (request.Do c) = DoCommand c
 
--- a one-shot needs its driver, which is not called here so far
+-- every command that the core serves, and what is no command
 abbrev pub serves_request : Request → Bool
-serves_request (request.Do (command.OneShot parts retries)) = false
 serves_request (request.Do c) = serves c
 serves_request r = true
 
@@ -47,25 +47,34 @@ pub record IsServedRequest (r : Request) : Type 0 where
 abbrev pub AsksNothing : PlainTerm → Type 0
 AsksNothing t = (session : ℕ) (a : Request) → IsSession session → IsServedRequest a → request_term session a ≢ t
 
--- the step that was asked was made
-pub record IsStepMade (σ : State) (session : ℕ) (a : Request) (r : Reply) (μ : State) : Type 0 where
-  pub entry : Option Entry
-  pub made : outcome σ [] session (ask_for a) ≡ record { state = μ; reply = r; entry = entry }
+-- a one-shot is run by its driver, and any other request is one step
+abbrev pub is_step : Request → Bool
+is_step (request.Do c) = not (is_one_shot c)
+is_step r = true
 
--- or it was refused for memory that it takes, with nothing changed
-abbrev pub StepMadeOrRefused : State → ℕ → Request → Reply → State → Type 0
-StepMadeOrRefused σ session a r μ = IsStepMade σ session a r μ ⊎ (takes_no_memory σ session (ask_for a) ≡ false) × (r ≡ NoMemory) × (μ ≡ σ)
+abbrev pub IsDrivenRequest : State → ℕ → Request → Reply → State → Type 0
+IsDrivenRequest σ session (request.Do c) r μ = IsDriven σ session c r μ
+IsDrivenRequest σ session a r μ = ⊥
 
--- a request is answered by its step, or refused as one that is not served
+abbrev pub IsMadeOf : State → ℕ → Request → Reply → State → Type 0
+IsMadeOf σ session a r μ = (is_step a ≡ true) × IsStepMade σ session (ask_for a) r μ ⊎ IsDrivenRequest σ session a r μ
+
+-- a step that takes memory
+abbrev pub TakesStep : State → ℕ → Request → Type 0
+TakesStep σ session a = (is_step a ≡ true) × (takes_no_memory σ session (ask_for a) ≡ false)
+
+-- what a request asks for was made, or its step was refused for memory; or it is refused as one that is not served
 abbrev pub RepliesTo : State → ℕ → Request → Reply → State → Type 0
-RepliesTo σ session a r μ = (serves_request a ≡ true) × StepMadeOrRefused σ session a r μ ⊎ (serves_request a ≡ false) × (r ≡ BadCommand) × (μ ≡ σ)
+RepliesTo σ session a r μ =
+    (serves_request a ≡ true) × (IsMadeOf σ session a r μ ⊎ TakesStep σ session a × (r ≡ NoMemory) × (μ ≡ σ))
+    ⊎ (serves_request a ≡ false) × (r ≡ BadCommand) × (μ ≡ σ)
 
-pub record IsStep (σ : State) (t : PlainTerm) (x : Answer) (μ : State) : Type 0 where
+pub record IsMade (σ : State) (t : PlainTerm) (x : Answer) (μ : State) : Type 0 where
   pub asked : Request
   pub spelled : request_term x.session asked ≡ t
   pub session : IsSession x.session
   pub served : IsServedRequest asked
-  pub made : IsStepMade σ x.session asked x.reply μ
+  pub made : IsMadeOf σ x.session asked x.reply μ
 
 -- the number under which a term is refused
 abbrev pub IsNumberOf : PlainTerm → ℕ → Type 0
@@ -79,21 +88,22 @@ pub record IsNoCommand (σ : State) (t : PlainTerm) (x : Answer) (μ : State) : 
   pub under : IsNumberOf t x.session
 
 abbrev pub AnsweredTerm : State → PlainTerm → Answer → State → Type 0
-AnsweredTerm σ t x μ = IsNoCommand σ t x μ ⊎ IsStep σ t x μ
+AnsweredTerm σ t x μ = IsNoCommand σ t x μ ⊎ IsMade σ t x μ
 
 abbrev pub AnsweredRead : State → Result PlainTerm Stop → Answer → State → Type 0
 AnsweredRead σ (Err f) x μ = (x ≡ record { session = 0; reply = BadTerm }) × (μ ≡ σ)
 AnsweredRead σ (Ok t) x μ = AnsweredTerm σ t x μ
 
--- the term is a request that is served, and takes memory
+-- the term is a request that is served, as one step that takes memory
 pub record AsksServed (σ : State) (t : PlainTerm) : Type 0 where
   pub session : ℕ
   pub asked : Request
   pub spelled : request_term session asked ≡ t
   pub served : IsServedRequest asked
-  pub takes : takes_no_memory σ session (ask_for asked) ≡ false
+  pub takes : TakesStep σ session asked
 
--- what takes memory once its payload is decoded: the parts of a one-shot, and a step that takes some
+-- what takes memory once its payload is decoded: the parts of a one-shot, and a step that takes some; what
+-- a one-shot's driver is refused stands in its calls
 abbrev pub TakesMemory : State → PlainTerm → ℕ → Type 0
 TakesMemory σ t session = IsNumbered t session × (AsksOneShot t ⊎ AsksServed σ t)
 

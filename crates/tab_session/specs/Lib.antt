@@ -1,4 +1,5 @@
-pub mod AnsweredPayloads
+pub mod StepsMade
 pub mod OneSessions
 pub mod OneSeats
+pub mod AnsweredPayloads
 pub mod Replays

@@ -12,7 +12,7 @@ use Rattle.tab_etf.specs.declared.encoding.EncodeFault.TheVariants as puts
 use Rattle.tab_session.specs.declared.ended.Ended.{Ended}
 use Rattle.tab_session.specs.declared.ended.Ended.TheVariants.{Damaged, Device, TooLong, NoMemory}
 
--- so far there is one session, with one level of its transaction
+-- the limits of a replay
 abbrev pub limits : Limits
 limits = record { sessions = 64; nesting = 16; operations = 1000; tables = 256; ages = 9223372036854775807; journal = 1024 }
 

@@ -3,9 +3,13 @@
 ghost use Rattle.std.specs.Prelude.{◌≡◌, ◌++◌, ◌⊎◌, true, IfErr, OnOk, OnErr};
 ghost use Rattle.tab_term.specs.View.{term};
 ghost use Rattle.tab_core.specs.Runs.{ask_of, serves_step};
-ghost use Rattle.tab_session.specs.AnsweredPayloads.{IsServedRequest, serves_request, IsNumberOf, Answered, AnsweredTerm, RefusedTerm, RepliesTo, ask_for, answer_frame, NotPut};
+ghost use Rattle.tab_proto.specs.declared.request.Request.TheVariants as request;
+ghost use Rattle.tab_oneshot.specs.OneShots.{is_one_shot as is_one_shot_command};
+ghost use Rattle.tab_session.specs.StepsMade.{StepMadeOrRefused};
+ghost use Rattle.tab_session.specs.AnsweredPayloads.{IsNumberOf, Answered, AnsweredTerm, RefusedTerm, RepliesTo, answer_frame, NotPut};
 
 use crate::Answer;
+use crate::one_session::drive;
 use std::alloc::Global;
 use tab_core::{Core, Step, is_served};
 use tab_etf::{EncodeFault, EtfFault, decode};
@@ -14,7 +18,8 @@ use tab_proto::{ProtoFault, Request, append_reply, read_request, session_of};
 use tab_term::Term;
 
 /// Answers a payload: what is no term is BadTerm under 0, and a term that asks nothing is BadCommand, under the number in
-/// `{Session, X}` or else under 0. A step that is refused for memory is answered NoMemory, and has changed nothing.
+/// `{Session, X}` or else under 0. A step that is refused for memory is answered NoMemory, and has changed nothing. A one-shot
+/// is answered by the steps of its driver.
 pub fn answer(core: &mut Core, alloc: Global, payload: &[u8]) -> Answer
     ensures { Answered core.old payload.now result core.new }
 {
@@ -38,7 +43,7 @@ fn answer_to(core: &mut Core, alloc: Global, held: Term) -> Answer
     match read_request(alloc, held) {
         Ok((session, request)) => Answer {
             session,
-            reply: reply_to(core, session, request),
+            reply: reply_to(core, alloc, session, request),
         },
         Err(ProtoFault::BadCommand) => Answer {
             session: number,
@@ -61,40 +66,48 @@ fn number_of(held: &Term) -> u32
     }
 }
 
-/// What the core doesn't serve yet is refused as no command.
-fn reply_to(core: &mut Core, session: u32, request: Request) -> Told
+/// A command that the core doesn't serve yet is refused as no command; a one-shot is run by its driver.
+fn reply_to(core: &mut Core, alloc: Global, session: u32, request: Request) -> Told
     ensures { RepliesTo core.old session request result core.new }
 {
-    if !is_served_request(&request) {
+    match request {
+        Request::Join => reply_of(core, session, Step::Join),
+        Request::Leave => reply_of(core, session, Step::Leave),
+        Request::Retry => reply_of(core, session, Step::Retry),
+        Request::Take => reply_of(core, session, Step::Take),
+        Request::Do(command) => reply_to_command(core, alloc, session, command),
+    }
+}
+
+fn reply_to_command(core: &mut Core, alloc: Global, session: u32, command: Command) -> Told
+    ensures { RepliesTo core.old session (request.Do command) result core.new }
+{
+    if !is_served(&command) {
         return Told::new(Reply::BadCommand);
     }
-    match core.step(session, step_of(request)) {
+    if is_one_shot(&command) {
+        return drive(core, alloc, session, command);
+    }
+    reply_of(core, session, Step::Do(command))
+}
+
+fn is_one_shot(command: &Command) -> bool
+    ensures { result ≡ is_one_shot_command command.now }
+{
+    match command {
+        Command::OneShot(_, _) => true,
+        _ => false,
+    }
+}
+
+/// The reply of one step.
+fn reply_of(core: &mut Core, session: u32, step: Step) -> Told
+    requires { serves_step step ≡ true }
+    ensures { StepMadeOrRefused core.old session (ask_of step) result core.new }
+{
+    match core.step(session, step) {
         Ok(stepped) => stepped.into_reply(),
         Err(_) => Told::new(Reply::NoMemory),
-    }
-}
-
-fn is_served_request(request: &Request) -> bool
-    ensures { result ≡ serves_request request.now }
-{
-    match request {
-        Request::Do(Command::OneShot(_, _)) => false,
-        Request::Do(command) => is_served(command),
-        _ => true,
-    }
-}
-
-fn step_of(request: Request) -> Step
-    requires { serves_request request ≡ true }
-    ensures ask { ask_of result ≡ ask_for request }
-    ensures served { serves_step result ≡ true }
-{
-    match request {
-        Request::Join => Step::Join,
-        Request::Leave => Step::Leave,
-        Request::Retry => Step::Retry,
-        Request::Take => Step::Take,
-        Request::Do(command) => Step::Do(command),
     }
 }
 
