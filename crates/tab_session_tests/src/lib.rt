@@ -10,6 +10,8 @@ mod levels;
 #[cfg(test)]
 mod locks;
 #[cfg(test)]
+mod one_shots;
+#[cfg(test)]
 mod running;
 #[cfg(test)]
 mod streams;
