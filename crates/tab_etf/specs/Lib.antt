@@ -1,3 +1,4 @@
+pub mod Keys
 pub mod Spells
 pub mod Reading
 pub mod Writing

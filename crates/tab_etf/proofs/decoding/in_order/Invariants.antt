@@ -1,0 +1,5 @@
+use Rattle.std.proofs.Common.{◌≡◌, ◌++◌}
+use Rattle.tab_etf.proofs.decoding.in_order.Given as goal
+
+abbrev pub invariant-loop-pair : goal.invariant-loop-pair
+invariant-loop-pair l = l.pairs.items ++ l.pair-iterator ≡ l.fn.map.entries
