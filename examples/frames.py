@@ -10,7 +10,8 @@
 
 A frame is four bytes of length, the highest first, and a payload: the byte 131 and one term of Erlang's external term
 format. A request is a Python literal in the form in which `show` prints terms: a str is an atom, an int an integer
-of at most 128 bits, bytes a binary, a tuple a tuple, and a list a list. So {1, {write, {person, 1, <<"alice">>}}} is
+of at most 128 bits, bytes a binary, a tuple a tuple, a list a list, and a dict a map, whose keys may be any terms. So
+{1, {write, {person, 1, <<"alice">>}}} is
 
     (1, ("write", ("person", 1, b"alice")))
 
@@ -34,6 +35,13 @@ SESSION = [
     (1, "commit"),
     (1, "leave"),
 ]
+
+
+class Map(list):
+    """The pairs of a map. No dict, since a key may be a list or a map."""
+
+    def __repr__(self):
+        return "{" + ", ".join(f"{key!r}: {value!r}" for key, value in self) + "}"
 
 
 def spell_integer(number):
@@ -64,6 +72,11 @@ def spell_list(terms):
     return b"l" + struct.pack(">I", len(terms)) + b"".join(map(spell, terms)) + b"j"
 
 
+def spell_map(pairs):
+    spelled = sorted((spell(key), spell(value)) for key, value in pairs)
+    return b"t" + struct.pack(">I", len(spelled)) + b"".join(key + value for key, value in spelled)
+
+
 def spell(term):
     """The one spelling of a term that tabd itself writes."""
     if type(term) is int:
@@ -75,9 +88,11 @@ def spell(term):
     if isinstance(term, tuple):
         head = bytes([104, len(term)]) if len(term) < 256 else b"i" + struct.pack(">I", len(term))
         return head + b"".join(map(spell, term))
+    if isinstance(term, Map):
+        return spell_map(term)
     if isinstance(term, list):
         return spell_list(term)
-    raise ValueError(f"{term!r} is no atom, integer, binary, tuple or list")
+    raise ValueError(f"{term!r} is no atom, integer, binary, tuple, list or map")
 
 
 def frame(term):
@@ -125,6 +140,8 @@ def read(stream):
         return terms
     if tag == 109:
         return take(stream, number(stream, 4))
+    if tag == 116:
+        return Map((read(stream), read(stream)) for _ in range(number(stream, 4)))
     raise ValueError(f"tag {tag} is not read here")
 
 
@@ -140,9 +157,18 @@ def fail(where, error):
     sys.exit(2)
 
 
+def value_of(node):
+    if isinstance(node, ast.Dict):
+        return Map(zip(map(value_of, node.keys), map(value_of, node.values)))
+    if isinstance(node, (ast.Tuple, ast.List)):
+        values = map(value_of, node.elts)
+        return list(values) if isinstance(node, ast.List) else tuple(values)
+    return ast.literal_eval(node)
+
+
 def literal(text):
     try:
-        return ast.literal_eval(text.strip())
+        return value_of(ast.parse(text.strip(), mode="eval").body)
     except (SyntaxError, ValueError):
         raise ValueError(f"{text.strip()} is no Python literal") from None
 

@@ -1,4 +1,4 @@
-//! The codec: a request, and a reply of a thousand records.
+//! The codec: a request, a reply of a thousand records, and a map.
 
 use crate::figure::{Figure, Work};
 use crate::samples::{people, shuffled};
@@ -16,7 +16,10 @@ const REQUEST: &[u8] =
 /// 15 bytes around the records, 19 in each beside its number, which takes 2 bytes below 256, and 5 from there on.
 const REPLY_LENGTH: usize = 15 + 1_000 * 19 + 256 * 2 + 744 * 5;
 
-/// A request in each round, and a reply in each thousandth.
+/// How many pairs of 6 bytes the longest payload of a map has.
+const PAIRS: u32 = 174_761;
+
+/// A request in each round, a reply in each thousandth, and one map of as many pairs as there are rounds, up to the longest.
 pub fn measure<H: AllocGlobal + Clock>(rt: &H, rounds: u32) -> Result<Vec<Figure>> {
     let alloc = rt.alloc();
     let request = decode(alloc, payload(REQUEST))?;
@@ -38,6 +41,7 @@ pub fn measure<H: AllocGlobal + Clock>(rt: &H, rounds: u32) -> Result<Vec<Figure
         rounds.div_ceil(1_000),
         &mut figures,
     )?;
+    figures.push(map_decoding(rt, rounds.min(PAIRS))?)?;
     Ok(figures)
 }
 
@@ -82,6 +86,33 @@ fn decoding<H: AllocGlobal + Clock>(rt: &H, payload: &[u8], rounds: u32) -> Resu
     let took = start.elapsed(rt)?;
     ensure!(tuples == rounds, "a tuple is read as another term");
     Ok(took)
+}
+
+/// A map of so many integers in a random order, each to the empty list.
+fn map_payload(alloc: Global, pairs: u32) -> Result<Vec<u8>> {
+    let mut payload = Vec::new(alloc);
+    payload.extend_from_slice(&[131, 116])?;
+    payload.extend_from_slice(&pairs.to_be_bytes())?;
+    for key in &shuffled(alloc, pairs, 2)? {
+        payload.push(98)?;
+        payload.extend_from_slice(&u32::try_from(*key)?.to_be_bytes())?;
+        payload.push(106)?;
+    }
+    Ok(payload)
+}
+
+fn map_decoding<H: AllocGlobal + Clock>(rt: &H, pairs: u32) -> Result<Figure> {
+    let alloc = rt.alloc();
+    let payload = map_payload(alloc, pairs)?;
+    let start = Instant::now(rt)?;
+    let term = decode(alloc, &payload)?;
+    let took = start.elapsed(rt)?;
+    ensure!(
+        matches!(term, Term::Map(_)),
+        "a map is read as another term"
+    );
+    let name = format!(in alloc; "decode a map of {pairs} pairs")?;
+    Ok(Figure::new(name, Work::Bytes(payload.len() as u64), took))
 }
 
 fn encoding<H: AllocGlobal + Clock>(

@@ -1,20 +1,23 @@
 -- What is read is spelled so.
-use Rattle.std.proofs.Common.{◌≡◌, ℕ, zero, suc, ◌+◌, ◌^◌, ◌<◌, ◌≤◌, ◌&&◌, cond, false, List, [], ◌∷◌, ◌++◌, length, Result, Ok, Option, Some, None, refl, sym, ap, subst, arith, pos, ℤ, eqb, ltb, leb, inl, inr}
+use Rattle.std.proofs.Common.{◌≡◌, ℕ, zero, suc, ◌+◌, ◌^◌, ◌<◌, ◌≤◌, ◌&&◌, cond, false, List, [], ◌∷◌, ◌++◌, length, Result, Ok, Option, Some, None, refl, sym, ap, subst, append_assoc, arith, pos, ℤ, eqb, ltb, leb, inl, inr}
 use Rattle.std.specs.List.{All}
 use Rattle.std.specs.Int.{w16, w32, to_be_bytes, cast_unsigned, cast_signed}
 use Rattle.std.proofs.Math.Facts.{sfits_to_z, Fits-of_lt}
 use Rattle.std.proofs.lemmas.Bool.{eqb-true, leb-true}
 use Rattle.std.proofs.lemmas.Int.{of_z-to_z}
+use Rattle.std.proofs.lemmas.List.{append-nil}
 use Rattle.std.proofs.lemmas.List.Elements.{All-from_get_or}
 use Rattle.std.proofs.lemmas.Str.{IsUtf8-from_is_utf8}
 use Rattle.std.specs.Str.{is_utf8, chars, encode_utf8_all}
 use Rattle.std.proofs.lemmas.Bool.Decides.{nat_tests}
-use Rattle.tab_term.specs.Data.{PlainTerm, int, atom, tuple, list, bin, PlainTerms, none, one_more, count, depth, depths}
+use Rattle.tab_term.specs.Data.{PlainTerm, int, atom, tuple, list, bin, map, PlainTerms, none, one_more, count, PlainPairs, no_pair, pair_count, depth, depths, pair_depths}
 use Rattle.tab_term.specs.Numbers.{low_value}
 use Rattle.tab_etf.specs.declared.fault.Stop.{Stop}
 use Rattle.tab_etf.specs.declared.fault.Fault.TheVariants as faults
-use Rattle.tab_etf.specs.Spells.{numbers, signed_value, IsAtomText, IsLatin1Text, Spells, small_integer_ext, integer_ext, small_big_ext, atom_ext, small_atom_ext, atom_utf8_ext, small_atom_utf8_ext, small_tuple_ext, large_tuple_ext, nil_ext, string_ext, list_ext, binary_ext, SpellAll, nothing, one_first}
-use Rattle.tab_etf.specs.Reading.{◌>>=◌, stop, Reads, byte_at, bytes_at, number_at, text_at, short_text_at, small_integer, integer, integer_is, small_big, atom_is, latin1_is, utf8_is, atom_by, latin1_atom, small_latin1_atom, utf8_atom, small_utf8_atom, string, binary, times, small_tuple, large_tuple, end_of_list, long_list, leaf, behind, term_at}
+use Rattle.tab_etf.specs.Spells.{numbers, signed_value, IsAtomText, IsLatin1Text, Spells, small_integer_ext, integer_ext, small_big_ext, atom_ext, small_atom_ext, atom_utf8_ext, small_atom_utf8_ext, small_tuple_ext, large_tuple_ext, nil_ext, string_ext, list_ext, binary_ext, map_ext, SpellAll, nothing, one_first, SpellPairs, no_pairs, one_last}
+use Rattle.tab_etf.specs.Keys.{KeysAscend, has_key, put_pair}
+use Rattle.tab_etf.proofs.KeysLemmas.{more_count, more_depth, put_ascends, put_is_more}
+use Rattle.tab_etf.specs.Reading.{◌>>=◌, stop, Reads, byte_at, bytes_at, number_at, text_at, short_text_at, small_integer, integer, integer_is, small_big, atom_is, latin1_is, utf8_is, atom_by, latin1_atom, small_latin1_atom, utf8_atom, small_utf8_atom, string, binary, times, small_tuple, large_tuple, end_of_list, long_list, new_key, key_at, pair_at, pairs_from, map_at, leaf, behind, term_at}
 use Rattle.tab_etf.proofs.Fields.{IsBytes, IsBytes-rest, bind_ok, guard_ok, chosen, done, ok_is, Takes, Takes-then, byte_takes, bytes_take, number_takes, wide16, wide32}
 use Rattle.tab_etf.proofs.LeafLemmas.{latin1_chars}
 
@@ -48,6 +51,70 @@ times_take levels read sound (suc n) bytes x fits e =
     let made : PlainTerms × List ℕ = (one_more a.0.0 b.0.0, b.0.1) in
     subst (λ (y : PlainTerms × List ℕ). SpelledAll levels (suc n) bytes y.0 y.1) {x = made} (ok_is made x b.2)
     (record { text = first.text ++ others.text; takes = Takes-then bytes first.text a.0.1 others.text b.0.1 first.takes others.takes; spells = one_first first.spells others.spells; within = omega (arith, first.within, others.within); counts = ap suc others.counts })
+
+-- ---- pairs
+
+-- pairs that stand at the front, behind others
+pub record SpelledPairs (levels n : ℕ) (before bytes : List ℕ) (ps : PlainPairs) (rest : List ℕ) : Type 0 where
+  pub text : List ℕ
+  pub takes : Takes bytes text rest
+  pub spells : SpellPairs ps (before ++ text)
+  pub ascends : KeysAscend ps
+  pub within : pair_depths ps ≤ levels
+  pub counts : pair_count ps ≡ n
+
+module _ (levels : ℕ) (read : Reads) (sound : Sound levels read) where
+  key_takes : (ps : PlainPairs) (bytes : List ℕ) (x : PlainTerm × List ℕ) → IsBytes bytes → key_at read ps bytes ≡ Ok x → Spelled levels bytes x.0 x.1 × (has_key x.0 ps ≡ false)
+  unfolding key_at
+  key_takes ps bytes x fits e =
+      let a = bind_ok (read bytes) (λ k. new_key ps k.0 (length bytes) >>= λ new. Ok (new, k.1)) x e in
+      let b = bind_ok (new_key ps a.0.0 (length bytes)) (λ new. Ok (new, a.0.1)) x a.2 in
+      let g = guard_ok (has_key a.0.0 ps) (record { fault = faults.DuplicateKey; left = length bytes }) (done a.0.0) b.0 b.1 in
+      let same : a.0.0 ≡ b.0 = ok_is a.0.0 b.0 g.1 in
+      let made : PlainTerm × List ℕ = (b.0, a.0.1) in
+      let k = sound bytes a.0 fits a.1 in
+      subst (λ (y : PlainTerm × List ℕ). Spelled levels bytes y.0 y.1 × (has_key y.0 ps ≡ false)) {x = made} (ok_is made x b.2)
+      (subst (λ (t : PlainTerm). Spelled levels bytes t a.0.1 × (has_key t ps ≡ false)) same (k, g.0))
+
+  pair_takes : (ps : PlainPairs) (before bytes : List ℕ) (x : PlainPairs × List ℕ) → SpellPairs ps before → KeysAscend ps → pair_depths ps ≤ levels → IsBytes bytes → pair_at read ps bytes ≡ Ok x
+      → SpelledPairs levels (suc (pair_count ps)) before bytes x.0 x.1
+  unfolding pair_at
+  pair_takes ps before bytes x spelled asc within fits e =
+      let a = bind_ok (key_at read ps bytes) (λ k. read k.1 >>= λ v. Ok (put_pair k.0 v.0 ps, v.1)) x e in
+      let b = bind_ok (read a.0.1) (λ v. Ok (put_pair a.0.0 v.0 ps, v.1)) x a.2 in
+      let k = key_takes ps bytes a.0 fits a.1 in
+      let v = sound a.0.1 b.0 k.0.takes.rest_fits b.1 in
+      let h = put_is_more a.0.0 b.0.0 ps k.1 in
+      let made : PlainPairs × List ℕ = (put_pair a.0.0 b.0.0 ps, b.0.1) in
+      subst (λ (y : PlainPairs × List ℕ). SpelledPairs levels (suc (pair_count ps)) before bytes y.0 y.1) {x = made} (ok_is made x b.2)
+      (record {
+        text = k.0.text ++ v.text;
+        takes = Takes-then bytes k.0.text a.0.1 v.text b.0.1 k.0.takes v.takes;
+        spells = one_last spelled k.0.spells v.spells h;
+        ascends = put_ascends a.0.0 b.0.0 ps asc;
+        within = omega (arith, more_depth h, within, k.0.within, v.within);
+        counts = more_count h;
+      })
+
+  pub pairs_take : (n : ℕ) (ps : PlainPairs) (before bytes : List ℕ) (x : PlainPairs × List ℕ) → SpellPairs ps before → KeysAscend ps → pair_depths ps ≤ levels → IsBytes bytes → pairs_from read n ps bytes ≡ Ok x
+      → SpelledPairs levels (pair_count ps + n) before bytes x.0 x.1
+  unfolding pairs_from
+  pairs_take zero ps before bytes x spelled asc within fits e =
+      let made : PlainPairs × List ℕ = (ps, bytes) in
+      subst (λ (y : PlainPairs × List ℕ). SpelledPairs levels (pair_count ps + 0) before bytes y.0 y.1) {x = made} (ok_is made x e)
+      (record { text = []; takes = record { parts = refl; rest_fits = fits }; spells = subst (λ (b : List ℕ). SpellPairs ps b) (sym (append-nil before)) spelled; ascends = asc; within = within; counts = omega arith })
+  pairs_take (suc n) ps before bytes x spelled asc within fits e =
+      let a = bind_ok (pair_at read ps bytes) (λ more. pairs_from read n more.0 more.1) x e in
+      let one = pair_takes ps before bytes a.0 spelled asc within fits a.1 in
+      let others = pairs_take n a.0.0 (before ++ one.text) a.0.1 x one.spells one.ascends one.within one.takes.rest_fits a.2 in
+      record {
+        text = one.text ++ others.text;
+        takes = Takes-then bytes one.text a.0.1 others.text x.1 one.takes others.takes;
+        spells = subst (λ (b : List ℕ). SpellPairs x.0 b) (append_assoc before one.text others.text) others.spells;
+        ascends = others.ascends;
+        within = others.within;
+        counts = omega (arith, others.counts, one.counts);
+      }
 
 -- what a reader of what stands behind a tag gives
 abbrev pub SoundBehind : ℕ → ℕ → Reads → Type 0
@@ -308,12 +375,31 @@ module _ (l : ℕ) where
           within = omega (arith, ts.within);
         })
 
+    map_takes : SoundBehind (suc l) 116 (map_at read)
+    unfolding map_at
+    map_takes bytes x fits e =
+        let a = bind_ok (number_at w32 bytes) (λ n. pairs_from read n.0 no_pair n.1 >>= λ ps. Ok (map ps.0, ps.1)) x e in
+        let t = number_takes w32 (2 ^ 32) wide32 bytes a.0 fits a.1 in
+        let b = bind_ok (pairs_from read a.0.0 no_pair a.0.1) (λ ps. Ok (map ps.0, ps.1)) x a.2 in
+        let ps = pairs_take l read sound a.0.0 no_pair [] a.0.1 b.0 no_pairs tt (omega arith) t.0.rest_fits b.1 in
+        let counted : pair_count b.0.0 ≡ a.0.0 = omega (arith, ps.counts) in
+        let made : PlainTerm × List ℕ = (map b.0.0, b.0.1) in
+        let told : Spells (map b.0.0) (116 ∷ (to_be_bytes w32 (pair_count b.0.0) ++ ps.text)) = map_ext (omega (arith, counted, t.1)) ps.ascends ps.spells in
+        subst (λ (y : PlainTerm × List ℕ). Spelled (suc l) (116 ∷ bytes) y.0 y.1) {x = made} (ok_is made x b.2)
+        (record {
+          text = 116 ∷ (to_be_bytes w32 a.0.0 ++ ps.text);
+          takes = behind_takes 116 bytes (to_be_bytes w32 a.0.0 ++ ps.text) b.0.1 (Takes-then bytes (to_be_bytes w32 a.0.0) a.0.1 ps.text b.0.1 t.0 ps.takes);
+          spells = subst (λ (k : ℕ). Spells (map b.0.0) (116 ∷ (to_be_bytes w32 k ++ ps.text))) counted told;
+          within = omega (arith, ps.within);
+        })
+
     behind_sound : (tag : ℕ) → SoundBehind (suc l) tag (behind read (eqb l 0) tag)
     unfolding behind
     behind_sound tag bytes x fits e =
         pick 104 tag bytes (small_tuple read) x fits small_tuple_takes e (λ e.
         pick 105 tag bytes (large_tuple read) x fits large_tuple_takes e (λ e.
-        pick 108 tag bytes (long_list read) x fits long_list_takes e (λ e. leaf_sound tag bytes x fits e)))
+        pick 108 tag bytes (long_list read) x fits long_list_takes e (λ e.
+        pick 116 tag bytes (map_at read) x fits map_takes e (λ e. leaf_sound tag bytes x fits e))))
 
 pub sound : (l : ℕ) → Sound l (term_at l)
 unfolding term_at

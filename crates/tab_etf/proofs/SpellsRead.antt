@@ -1,5 +1,5 @@
 -- What is spelled is read, whatever follows.
-use Rattle.std.proofs.Common.{◌≡◌, ℕ, zero, suc, ◌+◌, ◌^◌, ◌<◌, ◌≤◌, ◌&&◌, false, List, [], ◌∷◌, ◌++◌, length, Result, Ok, Some, refl, ap, ◌∙◌, append_assoc, arith, pos, ℤ, eqb, ltb}
+use Rattle.std.proofs.Common.{◌≡◌, ℕ, zero, suc, ◌+◌, ◌^◌, ◌<◌, ◌≤◌, ◌&&◌, false, List, [], ◌∷◌, ◌++◌, length, Result, Ok, Some, refl, sym, ap, ◌∙◌, append_assoc, arith, pos, ℤ, eqb, ltb}
 use Rattle.std.specs.Int.{w16, w32, to_be_bytes, cast_unsigned}
 use Rattle.std.specs.Int.RustNames.{FitsSigned}
 use Rattle.std.specs.Str.{encode_utf8_all}
@@ -7,11 +7,14 @@ use Rattle.std.proofs.Math.Facts.{Fits-of_z}
 use Rattle.std.proofs.lemmas.Bool.{ne_eqb}
 use Rattle.std.proofs.lemmas.Int.{to_z-of_z}
 use Rattle.std.proofs.Math.Bool.{and-false}
-use Rattle.tab_term.specs.Data.{PlainTerm, int, atom, tuple, list, bin, map, PlainTerms, none, one_more, count, depth, depths}
+use Rattle.tab_term.specs.Data.{PlainTerm, int, atom, tuple, list, bin, map, PlainTerms, none, one_more, count, PlainPairs, no_pair, pair_count, depth, depths, pair_depths}
 use Rattle.tab_term.specs.Numbers.{low_value}
 use Rattle.tab_etf.specs.declared.fault.Stop.{Stop}
-use Rattle.tab_etf.specs.Spells.{numbers, signed_value, IsAtomText, IsLatin1Text, Spells, small_integer_ext, integer_ext, small_big_ext, atom_ext, small_atom_ext, atom_utf8_ext, small_atom_utf8_ext, small_tuple_ext, large_tuple_ext, nil_ext, string_ext, list_ext, binary_ext, SpellAll, nothing, one_first}
-use Rattle.tab_etf.specs.Reading.{Reads, text_at, short_text_at, small_integer, integer, small_big, latin1_is, utf8_is, atom_by, latin1_atom, small_latin1_atom, utf8_atom, small_utf8_atom, string, binary, times, small_tuple, large_tuple, end_of_list, long_list, leaf, behind, term_at}
+use Rattle.tab_etf.specs.Spells.{numbers, signed_value, IsAtomText, IsLatin1Text, Spells, small_integer_ext, integer_ext, small_big_ext, atom_ext, small_atom_ext, atom_utf8_ext, small_atom_utf8_ext, small_tuple_ext, large_tuple_ext, nil_ext, string_ext, list_ext, binary_ext, map_ext, SpellAll, nothing, one_first, SpellPairs, no_pairs, one_last}
+use Rattle.tab_etf.specs.Keys.{KeysAscend, HasOneMore, put_pair}
+use Rattle.tab_etf.proofs.KeysLemmas.{more_count, more_depth, more_new, put_more, ascend_less}
+use Rattle.tab_etf.proofs.MapReads.{key_is_new, pair_is_read}
+use Rattle.tab_etf.specs.Reading.{Reads, text_at, short_text_at, small_integer, integer, small_big, latin1_is, utf8_is, atom_by, latin1_atom, small_latin1_atom, utf8_atom, small_utf8_atom, string, binary, times, small_tuple, large_tuple, end_of_list, long_list, pair_at, pairs_from, map_at, leaf, behind, term_at}
 use Rattle.tab_etf.proofs.Fields.{wide16, wide32, number_again, bytes_again}
 use Rattle.tab_etf.proofs.LeafLemmas.{utf8_again, latin1_again}
 
@@ -84,6 +87,35 @@ module _ (read : Reads) (ts : PlainTerms) (b rest : List ℕ) where
   unfolding long_list end_of_list
   list_again lt h = rw (number_again w32 (2 ^ 32) wide32 (count ts) (b ++ (106 ∷ rest)) lt, h) refl
 
+map_again : (read : Reads) (ps : PlainPairs) (b rest : List ℕ) → pair_count ps < 2 ^ 32 → pairs_from read (pair_count ps) no_pair (b ++ rest) ≡ Ok (ps, rest) → map_at read (to_be_bytes w32 (pair_count ps) ++ (b ++ rest)) ≡ Ok (map ps, rest)
+unfolding map_at
+map_again read ps b rest lt h = rw (number_again w32 (2 ^ 32) wide32 (pair_count ps) (b ++ rest) lt, h) refl
+
+no_more : (read : Reads) (ps : PlainPairs) (rest : List ℕ) → pairs_from read 0 ps rest ≡ Ok (ps, rest)
+unfolding pairs_from
+no_more read ps rest = refl
+
+-- one more pair, behind others
+module _ (read : Reads) (k x : PlainTerm) (ps qs : PlainPairs) (a b c rest : List ℕ) (n : ℕ) where
+  one_more_pair : pair_at read ps (b ++ (c ++ rest)) ≡ Ok (qs, rest) → pairs_from read (suc n) ps (b ++ (c ++ rest)) ≡ pairs_from read n qs rest
+  unfolding pairs_from
+  one_more_pair e = rw e refl
+
+  pairs_then : HasOneMore k x ps qs → KeysAscend qs
+      → read (b ++ (c ++ rest)) ≡ Ok (k, c ++ rest) → read (c ++ rest) ≡ Ok (x, rest)
+      → pairs_from read (pair_count ps + suc n) no_pair (a ++ (b ++ (c ++ rest))) ≡ pairs_from read (suc n) ps (b ++ (c ++ rest))
+      → pairs_from read (pair_count qs + n) no_pair ((a ++ (b ++ c)) ++ rest) ≡ pairs_from read n qs rest
+  pairs_then h s ek ex before =
+      let counted : pair_count qs + n ≡ pair_count ps + suc n = omega (arith, more_count h) in
+      let parts : (a ++ (b ++ c)) ++ rest ≡ a ++ (b ++ (c ++ rest)) = append_assoc a (b ++ c) rest ∙ ap (λ (y : List ℕ). a ++ y) (append_assoc b c rest) in
+      let one : pair_at read ps (b ++ (c ++ rest)) ≡ Ok (qs, rest) =
+      pair_is_read read ps (b ++ (c ++ rest)) k (c ++ rest) x rest (key_is_new read ps (b ++ (c ++ rest)) k (c ++ rest) ek (more_new h s)) ex
+      ∙ ap (λ (y : PlainPairs). Ok (y, rest)) (put_more h s) in
+      ap (λ m. pairs_from read m no_pair ((a ++ (b ++ c)) ++ rest)) counted
+      ∙ ap (pairs_from read (pair_count ps + suc n) no_pair) parts
+      ∙ before
+      ∙ one_more_pair one
+
 all_from : (read : Reads) (t : PlainTerm) (ts : PlainTerms) (a b rest : List ℕ) → read (a ++ (b ++ rest)) ≡ Ok (t, b ++ rest) → times read (count ts) (b ++ rest) ≡ Ok (ts, rest) → times read (count (one_more t ts)) ((a ++ b) ++ rest) ≡ Ok (one_more t ts, rest)
 unfolding times
 all_from read t ts a b rest h hs = rw (append_assoc a b rest, h, hs) refl
@@ -135,6 +167,10 @@ module _ (l : ℕ) (bytes : List ℕ) where
   unfolding term_at behind
   at_105 = refl
 
+  at_116 : term_at (suc l) (116 ∷ bytes) ≡ map_at (term_at l) bytes
+  unfolding term_at behind
+  at_116 = refl
+
   at_108 : term_at (suc l) (108 ∷ bytes) ≡ long_list (term_at l) bytes
   unfolding term_at behind
   at_108 = refl
@@ -170,6 +206,19 @@ mutual
   again (string_ext {ns} lt) l rest d = at_107 l _ ∙ ap (string (eqb l 0)) (append_assoc (to_be_bytes w16 (length ns)) ns rest) ∙ string_again ns rest l lt (omega arith)
   again (list_ext {ts} {b} lt ss) l rest d = at_108 l _ ∙ ap (long_list (term_at l)) (append_assoc (to_be_bytes w32 (count ts) ++ b) (106 ∷ []) rest ∙ append_assoc (to_be_bytes w32 (count ts)) b (106 ∷ rest)) ∙ list_again (term_at l) ts b rest lt (all_again ss l (106 ∷ rest) (omega arith))
   again (binary_ext {s} lt) l rest d = at_109 l _ ∙ ap binary (append_assoc (to_be_bytes w32 (length s)) s rest) ∙ binary_again s rest lt
+  again (map_ext {ps} {b} lt asc sp) l rest d =
+      let counted : pair_count ps + 0 ≡ pair_count ps = omega arith in
+      at_116 l _ ∙ ap (map_at (term_at l)) (append_assoc (to_be_bytes w32 (pair_count ps)) b rest)
+      ∙ map_again (term_at l) ps b rest lt (ap (λ n. pairs_from (term_at l) n no_pair (b ++ rest)) (sym counted) ∙ pairs_again sp l asc 0 rest (omega arith) ∙ no_more (term_at l) ps rest)
+
+  pub pairs_again : {ps : PlainPairs} {b : List ℕ} → SpellPairs ps b → (l : ℕ) → KeysAscend ps → (n : ℕ) (rest : List ℕ) → pair_depths ps ≤ l → pairs_from (term_at l) (pair_count ps + n) no_pair (b ++ rest) ≡ pairs_from (term_at l) n ps rest
+  pairs_again no_pairs l asc n rest d = ap (λ m. pairs_from (term_at l) m no_pair rest) (omega arith)
+  pairs_again (one_last {k} {x} {ps} {qs} {a} {b} {c} sp sk sx h) zero asc n rest d = absurd (omega (arith, depth_pos k, more_depth h))
+  pairs_again (one_last {k} {x} {ps} {qs} {a} {b} {c} sp sk sx h) (suc l) asc n rest d =
+      pairs_then (term_at (suc l)) k x ps qs a b c rest n h asc
+      (again sk l (c ++ rest) (omega (arith, more_depth h)))
+      (again sx l rest (omega (arith, more_depth h)))
+      (pairs_again sp (suc l) (ascend_less h asc) (suc n) (b ++ (c ++ rest)) (omega (arith, more_depth h)))
 
   pub all_again : {ts : PlainTerms} {b : List ℕ} → SpellAll ts b → (l : ℕ) (rest : List ℕ) → depths ts ≤ l → times (term_at l) (count ts) (b ++ rest) ≡ Ok (ts, rest)
   all_again nothing l rest d = none_again (term_at l) rest

@@ -1,3 +1,5 @@
+pub mod Keys
+pub mod Keyed
 pub mod Spells
 pub mod Reading
 pub mod Writing

@@ -2,7 +2,7 @@
 use Rattle.std.specs.Prelude.{◌≡◌, ◌-◌, ℕ, zero, suc, ◌+◌, ℤ, pos, List, [], ◌∷◌, length, take, drop, Bool, ◌&&◌, Result, Ok, Err, Option, Some, None, nat_lt, nat_le, ◌==◌, if◌then◌else◌, encode_utf8_all}
 use Rattle.std.specs.Int.{Width, w16, w32, byte_len, from_be_bytes, cast_signed}
 use Rattle.std.specs.Str.{is_utf8, chars}
-use Rattle.tab_term.specs.Data.{PlainTerm, int, atom, tuple, list, bin, PlainTerms, none, one_more}
+use Rattle.tab_term.specs.Data.{PlainTerm, int, atom, tuple, list, bin, map, PlainTerms, none, one_more, PlainPairs, no_pair}
 use Rattle.tab_term.specs.Numbers.{low_value}
 use Rattle.tab_etf.specs.declared.fault.Fault.{Fault}
 use Rattle.tab_etf.specs.declared.fault.Fault.TheVariants as faults
@@ -12,6 +12,7 @@ use Rattle.tab_etf.specs.declared.fault.ReadError.TheVariants as errors
 use Rattle.tab_etf.specs.declared.fault.EtfFault.{EtfFault}
 use Rattle.tab_etf.specs.declared.fault.EtfFault.TheVariants as outer
 use Rattle.tab_etf.specs.Spells.{numbers, signed_value}
+use Rattle.tab_etf.specs.Keys.{has_key, put_pair}
 
 infixl 10 ◌>>=◌
 abbrev pub ◌>>=◌ : {A B : Type 0} → Result A Stop → (A → Result B Stop) → Result B Stop
@@ -153,6 +154,36 @@ long_list read bytes = do
   rest ← end_of_list ts.1
   Ok (list ts.0, rest)
 
+-- a key that these pairs don't have, and whose tag has so many bytes left from it on
+abbrev pub new_key : PlainPairs → PlainTerm → ℕ → Result PlainTerm Stop
+new_key ps k left = if has_key k ps then stop faults.DuplicateKey left else Ok k
+
+unfoldable pub key_at : Reads → PlainPairs → Reads
+key_at read ps bytes = do
+  k ← read bytes
+  new ← new_key ps k.0 (length bytes)
+  Ok (new, k.1)
+
+-- these pairs and the next one
+unfoldable pub pair_at : Reads → PlainPairs → List ℕ → Result (PlainPairs × List ℕ) Stop
+pair_at read ps bytes = do
+  k ← key_at read ps bytes
+  x ← read k.1
+  Ok (put_pair k.0 x.0 ps, x.1)
+
+-- these pairs and so many more
+unfoldable pub pairs_from : Reads → ℕ → PlainPairs → List ℕ → Result (PlainPairs × List ℕ) Stop
+pairs_from read zero ps bytes = Ok (ps, bytes)
+pairs_from read (suc n) ps bytes = do
+  more ← pair_at read ps bytes
+  pairs_from read n more.0 more.1
+
+unfoldable pub map_at : Reads → Reads
+map_at read bytes = do
+  n ← number_at w32 bytes
+  ps ← pairs_from read n.0 no_pair n.1
+  Ok (map ps.0, ps.1)
+
 -- what stands behind a tag of a term without elements
 unfoldable pub leaf : Bool → ℕ → Reads
 leaf deepest tag bytes =
@@ -174,7 +205,8 @@ behind read deepest tag bytes =
     if tag == 104 then small_tuple read bytes
     else (if tag == 105 then large_tuple read bytes
     else (if tag == 108 then long_list read bytes
-    else leaf deepest tag bytes))
+    else (if tag == 116 then map_at read bytes
+    else leaf deepest tag bytes)))
 
 -- a term of at most so many levels
 unfoldable pub term_at : ℕ → Reads

@@ -4,8 +4,9 @@ use Rattle.std.specs.List.{All}
 use Rattle.std.specs.Int.{w16, w32, to_be_bytes, cast_unsigned}
 use Rattle.std.specs.Int.RustNames.{FitsSigned}
 use Rattle.std.specs.Str.{IsUtf8, chars}
-use Rattle.tab_term.specs.Data.{PlainTerm, int, atom, tuple, list, bin, PlainTerms, none, one_more, count}
+use Rattle.tab_term.specs.Data.{PlainTerm, int, atom, tuple, list, bin, map, PlainTerms, none, one_more, count, PlainPairs, no_pair, pair_count}
 use Rattle.tab_term.specs.Numbers.{low_value}
+use Rattle.tab_etf.specs.Keys.{KeysAscend, HasOneMore}
 
 -- the numbers, as terms
 abbrev pub numbers : List ℕ → PlainTerms
@@ -42,8 +43,14 @@ mutual
     string_ext : {ns : List ℕ} → length ns < 2 ^ 16 → Spells (list (numbers ns)) (107 ∷ to_be_bytes w16 (length ns) ++ ns)
     list_ext : {ts : PlainTerms} {b : List ℕ} → count ts < 2 ^ 32 → SpellAll ts b → Spells (list ts) (108 ∷ to_be_bytes w32 (count ts) ++ b ++ 106 ∷ [])
     binary_ext : {s : List ℕ} → length s < 2 ^ 32 → Spells (bin s) (109 ∷ to_be_bytes w32 (length s) ++ s)
+    map_ext : {ps : PlainPairs} {b : List ℕ} → pair_count ps < 2 ^ 32 → KeysAscend ps → SpellPairs ps b → Spells (map ps) (116 ∷ to_be_bytes w32 (pair_count ps) ++ b)
 
   -- the spellings of the terms, one after another
   pub data SpellAll : PlainTerms → List ℕ → Type 0 where
     nothing : SpellAll none []
     one_first : {t : PlainTerm} {ts : PlainTerms} {a b : List ℕ} → Spells t a → SpellAll ts b → SpellAll (one_more t ts) (a ++ b)
+
+  -- the spellings of each key and its value, the pairs in any order
+  pub data SpellPairs : PlainPairs → List ℕ → Type 0 where
+    no_pairs : SpellPairs no_pair []
+    one_last : {k x : PlainTerm} {ps qs : PlainPairs} {a b c : List ℕ} → SpellPairs ps a → Spells k b → Spells x c → HasOneMore k x ps qs → SpellPairs qs (a ++ (b ++ c))

@@ -30,6 +30,9 @@ pub enum Fault {
     /// A list whose tail isn't the empty list.
     #[error("improper tail")]
     ImproperTail,
+    /// A key that is equal to an earlier one of the same map. It is told before the key's value is read.
+    #[error("a key twice")]
+    DuplicateKey,
     /// Bytes after the term.
     #[error("bytes after the term")]
     Trailing,

@@ -1,6 +1,7 @@
 //! Payloads: which are terms, and which fault the others have.
 
 use std::alloc::Global;
+use std::process::Abort;
 use std::test::Fail;
 use tab_etf::{EtfFault, Fault, append_frame, decode, encode, encoded_len};
 use tab_fixtures::bytes;
@@ -87,10 +88,66 @@ const PAYLOADS: [(&str, Answer); 50] = [
     ),
 ];
 
-#[test]
-fn payloads_are_read_and_written_back(rt: HostRuntime) -> Result<(), Fail> {
-    let alloc = rt.alloc();
-    for (text, answer) in &PAYLOADS {
+/// Maps: the first six from that program, the others by hand.
+const MAPS: [(&str, Answer); 15] = [
+    (
+        "83 74 00000002 770162 6102 770161 6101",
+        Written("83 74 00000002 770161 6101 770162 6102"),
+    ),
+    (
+        "83 74 00000002 6101 6105 6200000001 6106",
+        Refused(Fault::DuplicateKey, 10),
+    ),
+    ("83 64*74000000016100 6100", Refused(Fault::Depth, 447)),
+    (
+        "83 74 00000002 6101 6105 6101",
+        Refused(Fault::DuplicateKey, 10),
+    ),
+    (
+        "83 74 00000002 6101 6105 62000000",
+        Refused(Fault::Truncated, 14),
+    ),
+    ("83 74 00000000", Written("83 74 00000000")),
+    // keys of several kinds
+    (
+        "83 74 00000003 770161 6100 6800 6A 6102 6A",
+        Written("83 74 00000003 6102 6A 6800 6A 770161 6100"),
+    ),
+    // one key twice: a list in two spellings, a map in two orders, and again before a fault of the value
+    (
+        "83 74 00000002 6B000161 6A 6C0000000161616A 6A",
+        Refused(Fault::DuplicateKey, 11),
+    ),
+    (
+        "83 74 00000002 74000000026101 6A 6102 6A 6A 74000000026102 6A 6101 6A 6A",
+        Refused(Fault::DuplicateKey, 18),
+    ),
+    (
+        "83 74 00000003 6102 6A 6101 6A 6102 46",
+        Refused(Fault::DuplicateKey, 12),
+    ),
+    // one key in two maps
+    (
+        "83 74 00000001 6101 74 00000001 6101 6A",
+        Written("83 74 00000001 6101 74 00000001 6101 6A"),
+    ),
+    // level 64, and 65
+    ("83 63*6801 7400000000", Written("83 63*6801 7400000000")),
+    (
+        "83 63*6801 74 00000001 6100 6100",
+        Refused(Fault::Depth, 132),
+    ),
+    ("83 74 0000", Refused(Fault::Truncated, 4)),
+    ("83 74 FFFFFFFF 6101 6A", Refused(Fault::Truncated, 9)),
+];
+
+/// Each payload is answered as its row says.
+fn all_answered<R: Abort>(
+    rt: &R,
+    alloc: Global,
+    rows: &[(&'static str, Answer)],
+) -> Result<(), Fail> {
+    for (text, answer) in rows {
         match (decode(alloc, &bytes(alloc, text)?), *answer) {
             (Ok(term), Written(want)) => {
                 let mut out = Vec::new(alloc);
@@ -112,6 +169,16 @@ fn payloads_are_read_and_written_back(rt: HostRuntime) -> Result<(), Fail> {
 }
 
 #[test]
+fn payloads_are_read_and_written_back(rt: HostRuntime) -> Result<(), Fail> {
+    all_answered(&rt, rt.alloc(), &PAYLOADS)
+}
+
+#[test]
+fn maps_are_read_and_written_back(rt: HostRuntime) -> Result<(), Fail> {
+    all_answered(&rt, rt.alloc(), &MAPS)
+}
+
+#[test]
 fn of_three_bytes_259_payloads_are_terms(rt: HostRuntime) {
     let mut count = 0u32;
     for tag in 0..=255u8 {
@@ -123,6 +190,35 @@ fn of_three_bytes_259_payloads_are_terms(rt: HostRuntime) {
     }
     // 256 of tag 97, tag 104 with arity 0, tags 115 and 119 with the empty atom
     assert_eq!(rt; count, 259);
+}
+
+/// A map of 1,000 integers as keys, each to the empty list.
+fn long_map(alloc: Global, falling: bool) -> Result<Vec<u8>, Fail> {
+    let mut out = bytes(alloc, "83 74 000003E8")?;
+    for i in 0..1_000u32 {
+        let key: u32 = if falling {
+            1_000_999u32.saturating_sub(i)
+        } else {
+            1_000_000u32.saturating_add(i)
+        };
+        out.push(98)?;
+        out.extend_from_slice(&key.to_be_bytes())?;
+        out.push(106)?;
+    }
+    Ok(out)
+}
+
+#[test]
+fn a_long_map_is_read_in_any_order(rt: HostRuntime) -> Result<(), Fail> {
+    let alloc = rt.alloc();
+    let want = long_map(alloc, false)?;
+    for falling in [true, false] {
+        let term = decode(alloc, &long_map(alloc, falling)?)?;
+        let mut out = Vec::new(alloc);
+        encode(&term, &mut out)?;
+        assert!(rt; out.as_slice() == want.as_slice(), "the keys ascend");
+    }
+    Ok(())
 }
 
 fn atom(alloc: Global, text: &str) -> Result<Term, Fail> {
