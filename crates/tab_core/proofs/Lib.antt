@@ -3,7 +3,7 @@ pub mod Delivering
 pub mod OneSeat
 pub mod NumbersStay
 pub mod Batches
-pub mod Committing
+pub mod OwingLemmas
 pub mod RunsLemmas
 pub mod StepsLemmas
 pub mod SessionsLemmas

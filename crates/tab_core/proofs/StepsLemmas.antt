@@ -30,8 +30,8 @@ use Rattle.tab_core.proofs.Frames.{at_dressed, transactions_dressed, lifted, IsQ
 use Rattle.tab_core.proofs.Delivering.{after, after_numbers}
 use Rattle.tab_core.proofs.NumbersStay.{seat_numbers, commands_stay, retries_stay}
 use Rattle.tab_core.proofs.Batches.{batches_of_watched}
-use Rattle.tab_core.proofs.Committing as committing
-use Rattle.tab_core.proofs.Committing.{delivered, none_given, none_decided, none_over, commit_delivered, commit_allowed, commit_unseen, schema_refused, schema_delivered, schema_unnumbered}
+use Rattle.tab_core.proofs.OwingLemmas as committing
+use Rattle.tab_core.proofs.OwingLemmas.{delivered, none_given, none_decided, none_over, commit_delivered, commit_allowed, commit_unseen, schema_refused, schema_delivered, schema_unnumbered}
 
 -- a step of the core, and the same sessions after it
 abbrev pub Makes : List Subscriber → State → ℕ → Ask → Stepped → List Subscriber → State → Type 0

@@ -5,11 +5,12 @@ ghost use Rattle.tab_model.specs.declared.data.Command.TheVariants as command;
 ghost use Rattle.tab_model.specs.Outcome.{DoCommand};
 ghost use Rattle.tab_core.specs.Owing.{are_watched as are_watched_by, Commits, Owes, Updates};
 ghost use Rattle.tab_core.specs.Runs.{StepsTo, takes_no_memory};
+ghost use Rattle.tab_core.specs.Seats.{state_with, IsKept};
 
 use crate::Core;
 use crate::step::with_overflowed;
 use std::alloc::{AllocError, Global};
-use tab_manager::{Ending, Step, Stepped};
+use tab_manager::{Ending, Manager, Step, Stepped};
 use tab_model::{Change, Command, Event, Schema};
 use tab_outbox::Post;
 use tab_subs::Subs;
@@ -53,20 +54,13 @@ impl<P: Post + Drop> Core<P> {
         let Some(updated) = owed(self.alloc, self.manager.tables(), &self.subs, &ending)? else {
             return self.manager.step(session, Step::Do(Command::Commit));
         };
-        self.deliver_commit(session, updated)
-    }
-
-    /// A commit whose tables and events are made.
-    fn deliver_commit(&mut self, session: u32, updated: Updated) -> Result<Stepped, AllocError>
-        requires { Commits self.old.manager self.old.subs session updated }
-        ensures done { IfOk result (λ s. StepsTo self.old session (DoCommand command.Commit) s self.new) }
-        ensures err { OnErr result (self.new ≡ self.old) }
-    {
-        let number = self.next_commit()?;
-        let prepared = self.subs.prepare(self.alloc, number, &updated.events)?;
-        let stepped = self.manager.commit(session, updated.into_tables());
-        let over = self.subs.deliver(prepared);
-        Ok(with_overflowed(stepped, over))
+        deliver_commit(
+            self.alloc,
+            &mut self.manager,
+            &mut self.subs,
+            session,
+            updated,
+        )
     }
 
     /// A table's deletion owes end marks; no other schema command owes anything.
@@ -77,7 +71,7 @@ impl<P: Post + Drop> Core<P> {
         let Schema::Remove(table) = &schema else {
             return self.manager.step(session, Step::Do(Command::Schema(schema)));
         };
-        let number = self.next_commit()?;
+        let number = next_commit(&self.manager)?;
         let prepared = self.subs.prepare_end(self.alloc, table, number)?;
         let stepped = self
             .manager
@@ -88,15 +82,36 @@ impl<P: Post + Drop> Core<P> {
         let over = self.subs.deliver(prepared);
         Ok(with_overflowed(stepped, over))
     }
+}
 
-    // A number past a machine word is memory that is not there.
-    fn next_commit(&self) -> Result<u64, AllocError>
-        ensures { IfOk result (λ number. number ≡ self.now.commits + 1) }
-    {
-        match self.manager.commits().checked_add(1) {
-            Some(number) => Ok(number),
-            None => Err(AllocError),
-        }
+/// A commit whose tables and events are made. A refusal leaves all as it was.
+fn deliver_commit<P: Post + Drop>(
+    alloc: Global,
+    manager: &mut Manager,
+    subs: &mut Subs<P>,
+    session: u32,
+    updated: Updated,
+) -> Result<Stepped, AllocError>
+    requires kept { IsKept subs.old manager.old }
+    requires ends { Commits manager.old subs.old session updated }
+    ensures done { IfOk result (λ s. StepsTo (state_with subs.old manager.old) session (DoCommand command.Commit) s (state_with subs.new manager.new)) }
+    ensures kept { IsKept subs.new manager.new }
+    ensures err { OnErr result (state_with subs.new manager.new ≡ state_with subs.old manager.old) }
+{
+    let number = next_commit(manager)?;
+    let prepared = subs.prepare(alloc, number, &updated.events)?;
+    let stepped = manager.commit(session, updated.into_tables());
+    let over = subs.deliver(prepared);
+    Ok(with_overflowed(stepped, over))
+}
+
+// A number past a machine word is memory that is not there.
+fn next_commit(manager: &Manager) -> Result<u64, AllocError>
+    ensures { IfOk result (λ number. number ≡ manager.now.commits + 1) }
+{
+    match manager.commits().checked_add(1) {
+        Some(number) => Ok(number),
+        None => Err(AllocError),
     }
 }
 
@@ -117,7 +132,7 @@ fn owed<P: Post + Drop>(
     if !are_watched(subs, ending.updates, &nameless) {
         return Ok(None);
     }
-    let updated = updated(alloc, tables, subs, ending, &nameless)?;
+    let updated = changed_tables(alloc, tables, subs, ending, &nameless)?;
     Ok(Some(updated))
 }
 
@@ -135,7 +150,7 @@ fn are_watched<P: Post + Drop>(subs: &Subs<P>, changes: &[Change], nameless: &At
 }
 
 /// One pass over the changes: the tables after them, and the events that someone watches.
-fn updated<P: Post + Drop>(
+fn changed_tables<P: Post + Drop>(
     alloc: Global,
     tables: &World,
     subs: &Subs<P>,
