@@ -1,7 +1,7 @@
 -- An event of a table that no one watches is in no batch.
 use Rattle.std.proofs.Common.{◌≡◌, ℕ, List, [], ◌∷◌, Bool, true, false, refl, sym, ap, ◌∙◌, Option, Some, None}
-use Rattle.std.specs.Prelude.{if◌then◌else◌, is_some, map, filter_map, cons_option, ◌||◌}
-use Rattle.std.specs.List.{All, filter, list_any}
+use Rattle.std.specs.Prelude.{if◌then◌else◌, is_some, map, ◌||◌}
+use Rattle.std.specs.List.{AllByRecursion, cons_option, filter, filter_map, list_any}
 use Rattle.std.proofs.lemmas.Bool.{or_parts}
 use Rattle.tab_model.specs.declared.data.Change.{Change}
 use Rattle.tab_model.specs.declared.data.Event.{Event}
@@ -25,7 +25,7 @@ both_none (Some Simple) (Some Simple) h = cc
 both_none (Some Simple) (Some Detailed) h = cc
 
 -- what no one watches
-pub by_nobody : (bs : List Subscriber) (t : List ℕ) → is_some (watched bs t) ≡ false → All (λ (b : Subscriber). level_in b.watching t ≡ None) bs
+pub by_nobody : (bs : List Subscriber) (t : List ℕ) → is_some (watched bs t) ≡ false → AllByRecursion (λ (b : Subscriber). level_in b.watching t ≡ None) bs
 by_nobody [] t h = tt
 by_nobody (b ∷ bs) t h = let p = both_none (level_in b.watching t) (watched bs t) h in (p.0, by_nobody bs t (ap is_some p.1))
 
@@ -40,7 +40,7 @@ shaped_same f p (e ∷ es) h = by (p e) refl (shaped_same f p es h)
     by false g ih = ih ∙ ap (λ o. cons_option (shape_at o e) (filter_map (λ (x : Event). shape_at (f x.tab) x) es)) (sym (h e g))
 
 -- the batches of some events are those of all, where the others are watched by none
-same_batches : (n : ℕ) (p : Event → Bool) (es : List Event) (cs : List Subscriber) → ((e : Event) → p e ≡ false → All (λ (b : Subscriber). level_in b.watching e.tab ≡ None) cs)
+same_batches : (n : ℕ) (p : Event → Bool) (es : List Event) (cs : List Subscriber) → ((e : Event) → p e ≡ false → AllByRecursion (λ (b : Subscriber). level_in b.watching e.tab ≡ None) cs)
     → map (λ (b : Subscriber). batch_for (level_in b.watching) n (filter p es)) cs ≡ map (λ (b : Subscriber). batch_for (level_in b.watching) n es) cs
 same_batches n p es [] h = refl
 same_batches n p es (c ∷ cs) h = λ i. as_batch n (shaped_same (level_in c.watching) p es (λ e g. (h e g).0) i) ∷ same_batches n p es cs (λ e g. (h e g).1) i

@@ -1,7 +1,7 @@
 -- Items that are owed, delivered: what every session then watches, and what its post then shows.
 use Rattle.std.proofs.Common.{◌≡◌, ◌≢◌, ℕ, ◌+◌, ◌<◌, List, [], ◌∷◌, ◌++◌, Bool, true, false, not, refl, sym, ap, ◌∙◌, subst, append-nil, length, Option, Some, None}
 use Rattle.std.specs.Prelude.{◌==◌, if◌then◌else◌, nat_le, is_some, IfSome, map, option_map}
-use Rattle.std.specs.List.{All, filter}
+use Rattle.std.specs.List.{AllByRecursion, filter}
 use Rattle.tab_model.specs.declared.data.Item.{Item}
 use Rattle.tab_model.specs.Log.{has_session}
 use Rattle.tab_model.specs.State.{Watch, Outbox, Seat, seat_at, AreDistinct, without_watch}
@@ -18,7 +18,7 @@ numbers_of ss = map (λ (s : Seat). s.number) ss
 
 -- ---- who is there
 
-IsThere : List Subscriber → ℕ → Type 0
+abbrev pub IsThere : List Subscriber → ℕ → Type 0
 IsThere bs m = (b : Subscriber) × (at bs m ≡ Some b) × (b.number ≡ m)
 
 there_on : (c : Subscriber) (bs : List Subscriber) (m : ℕ) → IsThere bs m → IsThere (c ∷ bs) m
@@ -31,25 +31,25 @@ there_on c bs m (b, h, is) = by (c.number == m) refl
 there_first : (c : Subscriber) (bs : List Subscriber) → IsThere (c ∷ bs) c.number
 there_first c bs = (c, ap (λ d. if d then Some c else at bs c.number) (itself c.number), refl)
 
-all_on : (c : Subscriber) (bs : List Subscriber) (ms : List ℕ) → All (IsThere bs) ms → All (IsThere (c ∷ bs)) ms
+all_on : (c : Subscriber) (bs : List Subscriber) (ms : List ℕ) → AllByRecursion (IsThere bs) ms → AllByRecursion (IsThere (c ∷ bs)) ms
 all_on c bs [] h = tt
 all_on c bs (m ∷ ms) h = (there_on c bs m h.0, all_on c bs ms h.1)
 
-all_there : (bs : List Subscriber) → All (IsThere bs) (numbers bs)
+all_there : (bs : List Subscriber) → AllByRecursion (IsThere bs) (numbers bs)
 all_there [] = tt
 all_there (c ∷ bs) = (there_first c bs, all_on c bs (numbers bs) (all_there bs))
 
 -- every seat has its subscriber
-pub seated_there : (bs : List Subscriber) (ss : List Seat) → numbers bs ≡ map (λ (s : Seat). s.number) ss → All (IsThere bs) (map (λ (s : Seat). s.number) ss)
-seated_there bs ss h = subst (All (IsThere bs)) h (all_there bs)
+pub seated_there : (bs : List Subscriber) (ss : List Seat) → numbers bs ≡ map (λ (s : Seat). s.number) ss → AllByRecursion (IsThere bs) (map (λ (s : Seat). s.number) ss)
+seated_there bs ss h = subst (AllByRecursion (IsThere bs)) h (all_there bs)
 
-pub found_there : (bs : List Subscriber) (ss : List Seat) → All (IsThere bs) (map (λ (s : Seat). s.number) ss) → (n : ℕ) (s : Seat) → seat_at ss n ≡ Some s → IsThere bs n
+pub found_there : (bs : List Subscriber) (ss : List Seat) → AllByRecursion (IsThere bs) (map (λ (s : Seat). s.number) ss) → (n : ℕ) (s : Seat) → seat_at ss n ≡ Some s → IsThere bs n
 found_there bs [] h n s e = cc
-found_there bs (x ∷ ss) h n s e = by (x.number == n) refl e
+found_there bs (x ∷ ss) h n s e = by (x.number == n) refl e (found_there bs ss h.1 n s)
   where
-    by : (d : Bool) → (x.number == n) ≡ d → (if d then Some x else seat_at ss n) ≡ Some s → IsThere bs n
-    by true g f = subst (IsThere bs) (eq_true x.number n g) h.0
-    by false g f = found_there bs ss h.1 n s f
+    by : (d : Bool) → (x.number == n) ≡ d → (if d then Some x else seat_at ss n) ≡ Some s → (seat_at ss n ≡ Some s → IsThere bs n) → IsThere bs n
+    by true g f ih = subst (IsThere bs) (eq_true x.number n g) h.0
+    by false g f ih = ih f
 
 -- ---- one after another
 
@@ -116,14 +116,14 @@ module _ (n : ℕ) (over : List ℕ) (t : Option (List ℕ)) (h : List Watch →
       ap (λ o. seat_given (dress o s)) is ∙ one_seat b s e ∙ ap (λ o. dress o s) (sym (at_after bs s.number ∙ ap (option_map one) is))
 
   -- all seats are given theirs
-  pub seats_after : (bs : List Subscriber) (ss : List Seat) → All (IsThere bs) (map (λ (s : Seat). s.number) ss) → map seat_given (map (seat_with bs) ss) ≡ map (seat_with (after bs)) ss
+  pub seats_after : (bs : List Subscriber) (ss : List Seat) → AllByRecursion (IsThere bs) (map (λ (s : Seat). s.number) ss) → map seat_given (map (seat_with bs) ss) ≡ map (seat_with (after bs)) ss
   seats_after bs [] a = refl
   seats_after bs (s ∷ ss) a = λ i. seat_after bs s a.0 i ∷ seats_after bs ss a.1 i
 
   -- ---- who overflows
 
   -- each seat with its subscriber
-  Matches : List Subscriber → List Subscriber → List Seat → Type 0
+  abbrev pub Matches : List Subscriber → List Subscriber → List Seat → Type 0
   Matches bs [] [] = Unit {0}
   Matches bs [] (s ∷ ss) = ⊥
   Matches bs (c ∷ cs) [] = ⊥
@@ -133,11 +133,11 @@ module _ (n : ℕ) (over : List ℕ) (t : Option (List ℕ)) (h : List Watch →
   matches_on b bs [] [] none m = tt
   matches_on b bs [] (s ∷ ss) none m = absurd m
   matches_on b bs (c ∷ cs) [] none m = absurd m
-  matches_on b bs (c ∷ cs) (s ∷ ss) none m = by (s.number == b.number) refl none
+  matches_on b bs (c ∷ cs) (s ∷ ss) none m = by (s.number == b.number) refl none (λ g. matches_on b bs cs ss g m.2)
     where
-      by : (d : Bool) → (s.number == b.number) ≡ d → (if d then Some s else seat_at ss b.number) ≡ None → Matches (b ∷ bs) (c ∷ cs) (s ∷ ss)
-      by true e g = cc
-      by false e g = (ap (λ d. if d then Some b else at bs s.number) (differs' b.number s.number (λ q. Rattle.tab_model.proofs.Seats.other_number s.number b.number e (sym q))) ∙ m.0, m.1, matches_on b bs cs ss g m.2)
+      by : (d : Bool) → (s.number == b.number) ≡ d → (if d then Some s else seat_at ss b.number) ≡ None → (seat_at ss b.number ≡ None → Matches (b ∷ bs) cs ss) → Matches (b ∷ bs) (c ∷ cs) (s ∷ ss)
+      by true e g ih = cc
+      by false e g ih = (ap (λ d. if d then Some b else at bs s.number) (differs' b.number s.number (λ q. Rattle.tab_model.proofs.Seats.other_number s.number b.number e (sym q))) ∙ m.0, m.1, ih g)
 
   all_match : (bs : List Subscriber) (ss : List Seat) → numbers bs ≡ map (λ (s : Seat). s.number) ss → AreDistinct ss → Matches bs bs ss
   all_match [] [] e d = tt

@@ -32,12 +32,12 @@ use Rattle.tab_core.proofs.OneSeat.{dress, seats_change, change_numbers}
 use Rattle.tab_core.proofs.SessionsLemmas.{at_seat, mapped_none, mapped_some, none_there, change_itself}
 use Rattle.tab_core.proofs.StepsLemmas.{Makes}
 
-with_change : List Subscriber → State → Subscriber → Seat → State
+abbrev pub with_change : List Subscriber → State → Subscriber → Seat → State
 with_change bs σ b s = record { tables = σ.tables; seats = plain.change (map (seat_with bs) σ.seats) (dress (Some b) s); queue = σ.queue; next_age = σ.next_age; commits = σ.commits; greatest = σ.greatest; limits = σ.limits }
 
 module _ (bs : List Subscriber) (σ : State) (k : IsKept bs σ) (n : ℕ) (s : Seat) (here : seat_at σ.seats n ≡ Some s) where
   -- the session's subscriber
-  record IsMine (b : Subscriber) : Type 0 where
+  pub record IsMine (b : Subscriber) : Type 0 where
     pub there : at bs n ≡ Some b
     pub number : b.number ≡ n
     pub seat : seat_with bs s ≡ dress (Some b) s
@@ -86,7 +86,7 @@ module _ (bs : List Subscriber) (σ : State) (k : IsKept bs σ) (n : ℕ) (s : S
   marks b m mark.Told ws x e = ap (λ τ. let o : Outcome = record { state = τ; reply = reply.SubscribedHere; entry = Some e } in o) (changed b (record { number = b.number; watching = ws; outbox = pushed b.outbox (x ∷ []); overflow = b.overflow }) m refl)
 
   -- who refused the mark
-  abbrev over_of : Marked → List ℕ
+  abbrev pub over_of : Marked → List ℕ
   over_of mm = if is_full mm then n ∷ [] else []
 
   over_is : (mm : Marked) → has_session (over_of mm) s.number ≡ is_full mm
@@ -156,7 +156,7 @@ take_makes bs σ k n cs x h s' is = by (seat_at σ.seats n) refl
         bare_entry (Some Rattle.tab_subs.specs.declared.answers.Taken.TheVariants.Empty) = refl
 
 -- a command that begins or ends a subscription: what refuses it, and its mark
-record IsMarking (σ : State) (c : Command) (f : Seat → Option Reply) (ws : Seat → List Watch) (x : Item) (e : ℕ → Entry) : Type 0 where
+pub record IsMarking (σ : State) (c : Command) (f : Seat → Option Reply) (ws : Seat → List Watch) (x : Item) (e : ℕ → Entry) : Type 0 where
   pub no_abort : is_abort c ≡ false
   pub refuses : (over : List ℕ) (s : Seat) (r : Reply) → f s ≡ Some r → (do_command σ over s c ≡ nothing σ r) × (put_command σ s c ≡ [])
   pub marks : (over : List ℕ) (s : Seat) → f s ≡ None → (do_command σ over s c ≡ marked σ (has_session over s.number) s (ws s) x (e s.number)) × (put_command σ s c ≡ s ∷ [])
@@ -256,3 +256,112 @@ unsubscribes σ t l = record {
   refuses = λ over s r h. let p = at_level (is_at (level_in s.watching t) l) t r h in (ap (unsubscribe σ over s t) p.0 ∙ ap (nothing σ) (sym p.1), ap (λ b. if b then s ∷ [] else []) p.0);
   marks = λ over s h. let p = off_level (is_at (level_in s.watching t) l) t h in (ap (unsubscribe σ over s t) p, ap (λ b. if b then s ∷ [] else []) p);
 }
+
+-- ---- what refuses a session's command before its own state does
+
+module _ (bs : List Subscriber) (σ : State) (n : ℕ) where
+  abbrev pub refusal : (Seat → Option Reply) → Option Reply
+  refusal f = refused_by (state_with bs σ) n f (seat_at (state_with bs σ).seats n)
+
+  seated_of : (o : Option Seat) → true ≡ is_some o → (s : Seat) × (o ≡ Some s)
+  seated_of None h = cc
+  seated_of (Some s) h = (s, refl)
+
+  nobody : (o : Option Seat) → false ≡ is_some o → o ≡ None
+  nobody None h = refl
+  nobody (Some s) h = cc
+
+  -- one that is seated, and waits or not
+  waits_is : (f : Seat → Option Reply) (s : Seat) → seat_at σ.seats n ≡ Some s → (b : Bool) → is_waiting σ n ≡ b → refusal f ≡ (if b then Some reply.WaitingNow else f (seat_with bs s))
+  waits_is f s h b w = ap (refused_by (state_with bs σ) n f) (mapped_some bs σ n s h) ∙ ap (λ c. if c then Some reply.WaitingNow else f (seat_with bs s)) w
+
+  pub unjoined : (f : Seat → Option Reply) → false ≡ is_some (seat_at σ.seats n) → Some reply.BadSession ≡ refusal f
+  unjoined f h = sym (ap (refused_by (state_with bs σ) n f) (mapped_none bs σ n (nobody (seat_at σ.seats n) h)))
+
+  pub waits_now : (f : Seat → Option Reply) → true ≡ is_some (seat_at σ.seats n) → true ≡ is_waiting σ n → Some reply.WaitingNow ≡ refusal f
+  waits_now f h w = let s = seated_of (seat_at σ.seats n) h in sym (waits_is f s.0 s.1 true (sym w))
+
+  pub nothing_yet : true ≡ is_some (seat_at σ.seats n) → false ≡ is_waiting σ n → None ≡ refusal (λ s. None)
+  nothing_yet h w = let s = seated_of (seat_at σ.seats n) h in sym (waits_is (λ x. None) s.0 s.1 false (sym w))
+
+  -- whose session is not refused is refused as its own state says
+  abbrev pub Sits : Seat → Type 0
+  Sits s = (seat_at σ.seats n ≡ Some s) × (is_waiting σ n ≡ false)
+
+  pub sits : None ≡ refusal (λ s. None) → (s : Seat) × Sits s
+  sits h = by (seat_at σ.seats n) refl (is_waiting σ n) refl
+    where
+      by : (o : Option Seat) → seat_at σ.seats n ≡ o → (b : Bool) → is_waiting σ n ≡ b → (s : Seat) × Sits s
+      by None e b w = absurd (some_none (h ∙ sym (unjoined (λ s. None) (sym (ap is_some e)))))
+        where
+          some_none : None ≡ Some reply.BadSession → ⊥
+          some_none q = cc
+      by (Some s) e true w = absurd (some_none (h ∙ waits_is (λ x. None) s e true w))
+        where
+          some_none : None ≡ Some reply.WaitingNow → ⊥
+          some_none q = cc
+      by (Some s) e false w = (s, (e, w))
+
+  pub own_refusal : (f : Seat → Option Reply) (s : Seat) → Sits s → refusal f ≡ f (seat_with bs s)
+  own_refusal f s (e, w) = waits_is f s e false w
+
+  -- and who is refused so is refused whatever its own state says
+  pub first_refusal : (f : Seat → Option Reply) (r : Reply) → Some r ≡ refusal (λ s. None) → Some r ≡ refusal f
+  first_refusal f r h = by (seat_at σ.seats n) refl (is_waiting σ n) refl
+    where
+      by : (o : Option Seat) → seat_at σ.seats n ≡ o → (b : Bool) → is_waiting σ n ≡ b → Some r ≡ refusal f
+      by None e b w = h ∙ sym (unjoined (λ s. None) (sym (ap is_some e))) ∙ unjoined f (sym (ap is_some e))
+      by (Some s) e true w = h ∙ waits_is (λ x. None) s e true w ∙ sym (waits_is f s e true w)
+      by (Some s) e false w = absurd (some_none (h ∙ waits_is (λ x. None) s e false w))
+        where
+          some_none : Some r ≡ None → ⊥
+          some_none q = cc
+
+-- ---- what a session's own state refuses
+
+level_seen : (o : Option Subscriber) (t : List ℕ) → subs.level_of o t ≡ level_in (Rattle.tab_core.specs.Seats.watching_of o) t
+level_seen None t = refl
+level_seen (Some b) t = refl
+
+module _ (bs : List Subscriber) (σ : State) (n : ℕ) (t : List ℕ) (free : None ≡ refusal bs σ n (λ s. None)) where
+  abbrev the_seat : Seat
+  the_seat = (sits bs σ n free).0
+
+  is_n : the_seat.number ≡ n
+  is_n = found σ.seats the_seat n (sits bs σ n free).1.0
+
+  own : (f : Seat → Option Reply) → refusal bs σ n f ≡ f (seat_with bs the_seat)
+  own f = own_refusal bs σ n f the_seat (sits bs σ n free).1
+
+  abbrev of_subscribe : Seat → Option Reply
+  of_subscribe s = subscribe_refusal (state_with bs σ) s t
+
+  -- the three tests of a subscription
+  asked : (a b c : Bool) → is_some (subs.overflow_of (at bs n)) ≡ a → is_some (Rattle.tab_model.specs.Worlds.find σ.tables t) ≡ b → is_some (subs.level_of (at bs n) t) ≡ c
+      → refusal bs σ n of_subscribe ≡ (if a then Some reply.OverflowUntold else (if not b then Some (reply.SubNoTable t) else (if c then Some (reply.AlreadySubscribed t) else None)))
+  asked a b c e f g =
+      own of_subscribe
+      ∙ (λ i. if (ap (λ m. is_some (subs.overflow_of (at bs m))) is_n ∙ e) i then Some reply.OverflowUntold
+        else (if not (f i) then Some (reply.SubNoTable t) else (if (ap is_some (ap (λ m. level_in (Rattle.tab_core.specs.Seats.watching_of (at bs m)) t) is_n ∙ sym (level_seen (at bs n) t)) ∙ g) i then Some (reply.AlreadySubscribed t) else None)))
+
+  pub overflow_untold : true ≡ is_some (subs.overflow_of (at bs n)) → Some reply.OverflowUntold ≡ refusal bs σ n of_subscribe
+  overflow_untold e = sym (asked true _ _ (sym e) refl refl)
+
+  pub no_table : false ≡ is_some (subs.overflow_of (at bs n)) → false ≡ is_some (Rattle.tab_model.specs.Worlds.find σ.tables t) → Some (reply.SubNoTable t) ≡ refusal bs σ n of_subscribe
+  no_table e f = sym (asked false false _ (sym e) (sym f) refl)
+
+  pub subscribed_already : false ≡ is_some (subs.overflow_of (at bs n)) → true ≡ is_some (Rattle.tab_model.specs.Worlds.find σ.tables t) → true ≡ is_some (subs.level_of (at bs n) t) → Some (reply.AlreadySubscribed t) ≡ refusal bs σ n of_subscribe
+  subscribed_already e f g = sym (asked false true true (sym e) (sym f) (sym g))
+
+  pub may_subscribe : false ≡ is_some (subs.overflow_of (at bs n)) → true ≡ is_some (Rattle.tab_model.specs.Worlds.find σ.tables t) → false ≡ is_some (subs.level_of (at bs n) t) → None ≡ refusal bs σ n of_subscribe
+  may_subscribe e f g = sym (asked false true false (sym e) (sym f) (sym g))
+
+  -- the one test of its end
+  at_it : (l : Level) (a : Bool) → is_at (subs.level_of (at bs n) t) l ≡ a → refusal bs σ n (unsubscribe_refusal t l) ≡ (if a then None else Some (reply.NotSubscribed t))
+  at_it l a e = own (unsubscribe_refusal t l) ∙ ap (λ b. if b then None else Some (reply.NotSubscribed t)) (ap (λ o. is_at o l) (ap (λ m. level_in (Rattle.tab_core.specs.Seats.watching_of (at bs m)) t) is_n ∙ sym (level_seen (at bs n) t)) ∙ e)
+
+  pub may_unsubscribe : (l : Level) → true ≡ is_at (subs.level_of (at bs n) t) l → None ≡ refusal bs σ n (unsubscribe_refusal t l)
+  may_unsubscribe l e = sym (at_it l true (sym e))
+
+  pub not_subscribed : (l : Level) → false ≡ is_at (subs.level_of (at bs n) t) l → Some (reply.NotSubscribed t) ≡ refusal bs σ n (unsubscribe_refusal t l)
+  not_subscribed l e = sym (at_it l false (sym e))

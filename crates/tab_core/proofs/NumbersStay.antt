@@ -29,13 +29,13 @@ seat_numbers ss = map (λ (s : Seat). s.number) ss
 abbrev Stays : State → Outcome → Type 0
 Stays σ o = seat_numbers o.state.seats ≡ seat_numbers σ.seats
 
-change_stays : (ss : List Seat) (s : Seat) → seat_numbers (change ss s) ≡ seat_numbers ss
+pub change_stays : (ss : List Seat) (s : Seat) → seat_numbers (change ss s) ≡ seat_numbers ss
 change_stays [] s = refl
-change_stays (x ∷ ss) s = by (x.number == s.number) refl
+change_stays (x ∷ ss) s = by (x.number == s.number) refl (change_stays ss s)
   where
-    by : (d : Bool) → (x.number == s.number) ≡ d → seat_numbers (if d then s ∷ ss else x ∷ change ss s) ≡ x.number ∷ seat_numbers ss
-    by true e = ap (λ k. k ∷ seat_numbers ss) (sym (eq_true x.number s.number e))
-    by false e = ap (λ ks. x.number ∷ ks) (change_stays ss s)
+    by : (d : Bool) → (x.number == s.number) ≡ d → seat_numbers (change ss s) ≡ seat_numbers ss → seat_numbers (if d then s ∷ ss else x ∷ change ss s) ≡ x.number ∷ seat_numbers ss
+    by true e ih = ap (λ k. k ∷ seat_numbers ss) (sym (eq_true x.number s.number e))
+    by false e ih = ap (λ ks. x.number ∷ ks) ih
 
 each_stays : (f : Seat → Seat) → ((s : Seat) → (f s).number ≡ s.number) → (ss : List Seat) → seat_numbers (map f ss) ≡ seat_numbers ss
 each_stays f h [] = refl

@@ -1,7 +1,7 @@
 -- Commits and schema commands: what they owe is delivered.
 use Rattle.std.proofs.Common.{◌≡◌, ℕ, ◌+◌, List, [], ◌∷◌, ◌++◌, Bool, true, false, ◌&&◌, ◌||◌, not, refl, sym, ap, ◌∙◌, subst, append-nil, length, Option, Some, None, inl, inr}
 use Rattle.std.specs.Prelude.{◌==◌, ◌⊎◌, if◌then◌else◌, is_some, map, option_map}
-use Rattle.std.specs.List.{All, filter}
+use Rattle.std.specs.List.{AllByRecursion, filter}
 use Rattle.tab_model.specs.declared.data.Event.{Event}
 use Rattle.tab_model.specs.declared.data.Entry.{Entry}
 use Rattle.tab_model.specs.declared.data.Item.{Item}
@@ -26,7 +26,7 @@ use Rattle.tab_subs.specs.Deliveries.{given_all, AreDecided, those_in}
 use Rattle.tab_core.specs.Seats.{seat_with, state_with, with_overflowed, IsKept}
 use Rattle.tab_core.specs.Owing.{is_watched, are_watched}
 use Rattle.tab_core.proofs.Frames.{at_dressed, change_dressed, busy_dressed, lifted}
-use Rattle.tab_core.proofs.Delivering.{after, after_numbers, seats_after, seated_there, seat_given, owing, are_pinned}
+use Rattle.tab_core.proofs.Delivering.{after, after_numbers, seats_after, seated_there, seat_given, owing, are_pinned, IsThere}
 use Rattle.tab_core.proofs.NumbersStay.{seat_numbers, change_stays}
 use Rattle.tab_core.proofs.Batches.{no_batches}
 
@@ -115,7 +115,7 @@ module _ (bs : List Subscriber) (σ : State) (k : IsKept bs σ) (n : ℕ) where
     watched_now : (over : List ℕ) → outcome (state_with bs σ) over n (DoCommand command.Commit) ≡ commit_now (state_with bs σ) over (seat_with bs e.seat) t (events_now σ t)
     watched_now over = idles (state_with bs σ) over n (seat_with bs e.seat) command.Commit here' e.idle ∙ ap (commit (state_with bs σ) over (seat_with bs e.seat)) e.opened ∙ ap (commit_at (state_with bs σ) over (seat_with bs e.seat) t) e.deep
 
-    all_there : (s : Seat) → All _ (seat_numbers (change σ.seats s))
+    all_there : (s : Seat) → AllByRecursion (IsThere bs) (seat_numbers (change σ.seats s))
     all_there s = seated_there bs (change σ.seats s) (k.same ∙ sym (change_stays σ.seats s))
 
     now_delivered : (over : List ℕ) → commit_now (state_with bs σ) over (seat_with bs e.seat) t (events_now σ t) ≡ delivered (after number over None batch bs) over (commit_now σ [] e.seat t (events_now σ t))
@@ -149,7 +149,7 @@ module _ (bs : List Subscriber) (σ : State) (k : IsKept bs σ) (n : ℕ) where
     commit_allowed over is decided = subst (λ ss. Pinned ss over) (sym puts) (are_pinned number over None batch bs σ.seats k.same k.sound.distinct is decided)
 
     -- where no one watches, it is the commit of the manager
-    abbrev Unseen : Type 0
+    abbrev pub Unseen : Type 0
     Unseen = are_watched bs (surviving t.moves t.told) ≡ false
 
     nothing_owed : Unseen → map (λ (b : Subscriber). batch b.watching) bs ≡ map (λ (b : Subscriber). []) bs
@@ -171,7 +171,7 @@ module _ (bs : List Subscriber) (σ : State) (k : IsKept bs σ) (n : ℕ) where
     abbrev pub mark : List Watch → List Item
     mark ws = end_for (level_in ws) (removed c)
 
-    abbrev a : Ask
+    abbrev pub a : Ask
     a = DoCommand (command.Schema c)
 
     -- refused, with nothing owed; or done, with who refused its mark

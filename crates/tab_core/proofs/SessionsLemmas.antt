@@ -1,7 +1,7 @@
 -- Who joins, leaves, takes, and begins or ends a subscription.
 use Rattle.std.proofs.Common.{◌≡◌, ℕ, ◌+◌, ◌<◌, ◌≤◌, List, [], ◌∷◌, ◌++◌, Bool, true, false, ◌&&◌, not, refl, sym, ap, ◌∙◌, subst, arith, length, Option, Some, None}
 use Rattle.std.specs.Prelude.{◌==◌, if◌then◌else◌, is_some, nat_lt, nat_le, IfSome, map, option_map}
-use Rattle.std.specs.List.{All}
+use Rattle.std.specs.List.{AllByRecursion}
 use Rattle.std.proofs.lemmas.Bool.Decides.{nat_tests}
 use Rattle.tab_model.specs.declared.data.Entry.{Entry}
 use Rattle.tab_model.specs.declared.data.Item.{Item}
@@ -24,16 +24,16 @@ use Rattle.tab_core.proofs.Delivering.{seated_there, found_there}
 use Rattle.tab_core.proofs.OneSeat.{dress, seats_change, change_numbers, seats_without, without_nobody, without_numbers, seats_joined, joined_numbers}
 use Rattle.tab_core.proofs.StepsLemmas.{Makes}
 
-abbrev with_seats : State → List Seat → ℕ → State
+abbrev pub with_seats : State → List Seat → ℕ → State
 with_seats σ ss greatest = record { tables = σ.tables; seats = ss; queue = σ.queue; next_age = σ.next_age; commits = σ.commits; greatest = greatest; limits = σ.limits }
 
-mapped_none : (bs : List Subscriber) (σ : State) (n : ℕ) → seat_at σ.seats n ≡ None → seat_at (state_with bs σ).seats n ≡ None
+pub mapped_none : (bs : List Subscriber) (σ : State) (n : ℕ) → seat_at σ.seats n ≡ None → seat_at (state_with bs σ).seats n ≡ None
 mapped_none bs σ n h = at_dressed bs σ.seats n ∙ ap (option_map (seat_with bs)) h
 
-mapped_some : (bs : List Subscriber) (σ : State) (n : ℕ) (s : Seat) → seat_at σ.seats n ≡ Some s → seat_at (state_with bs σ).seats n ≡ Some (seat_with bs s)
+pub mapped_some : (bs : List Subscriber) (σ : State) (n : ℕ) (s : Seat) → seat_at σ.seats n ≡ Some s → seat_at (state_with bs σ).seats n ≡ Some (seat_with bs s)
 mapped_some bs σ n s h = at_dressed bs σ.seats n ∙ ap (option_map (seat_with bs)) h
 
-at_seat : (σ : State) (over : List ℕ) (n : ℕ) (a : Ask) (o : Option Seat) → seat_at σ.seats n ≡ o → outcome σ over n a ≡ by_seat σ over n a o
+pub at_seat : (σ : State) (over : List ℕ) (n : ℕ) (a : Ask) (o : Option Seat) → seat_at σ.seats n ≡ o → outcome σ over n a ≡ by_seat σ over n a o
 unfolding outcome
 at_seat σ over n a o h = ap (by_seat σ over n a) h
 
@@ -63,11 +63,11 @@ length_mapped : (f : Seat → Seat) (ss : List Seat) → length (map f ss) ≡ l
 length_mapped f [] = refl
 length_mapped f (s ∷ ss) = ap Rattle.std.proofs.Common.suc (length_mapped f ss)
 
-none_there : (bs : List Subscriber) (ss : List Seat) (n : ℕ) → numbers bs ≡ map (λ (s : Seat). s.number) ss → seat_at ss n ≡ None → at bs n ≡ None
+pub none_there : (bs : List Subscriber) (ss : List Seat) (n : ℕ) → numbers bs ≡ map (λ (s : Seat). s.number) ss → seat_at ss n ≡ None → at bs n ≡ None
 none_there [] [] n e h = refl
 none_there [] (s ∷ ss) n e h = cc
 none_there (b ∷ bs) [] n e h = cc
-none_there (b ∷ bs) (s ∷ ss) n e h = ap (λ k. if k == n then Some b else at bs n) (head_is e) ∙ by (s.number == n) h
+none_there (b ∷ bs) (s ∷ ss) n e h = ap (λ k. if k == n then Some b else at bs n) (head_is e) ∙ by (s.number == n) h (none_there bs ss n (tail_is e))
   where
     head_is : {k l : ℕ} {ks ls : List ℕ} → (k ∷ ks) ≡ (l ∷ ls) → k ≡ l
     head_is q = cc
@@ -75,25 +75,25 @@ none_there (b ∷ bs) (s ∷ ss) n e h = ap (λ k. if k == n then Some b else at
     tail_is : {k l : ℕ} {ks ls : List ℕ} → (k ∷ ks) ≡ (l ∷ ls) → ks ≡ ls
     tail_is q = cc
 
-    by : (c : Bool) → (if c then Some s else seat_at ss n) ≡ None → (if c then Some b else at bs n) ≡ None
-    by true g = cc
-    by false g = none_there bs ss n (tail_is e) g
+    by : (c : Bool) → (if c then Some s else seat_at ss n) ≡ None → (seat_at ss n ≡ None → at bs n ≡ None) → (if c then Some b else at bs n) ≡ None
+    by true g ih = cc
+    by false g ih = ih g
 
-change_itself : (bs : List Subscriber) (b : Subscriber) → at bs b.number ≡ Some b → change bs b ≡ bs
+pub change_itself : (bs : List Subscriber) (b : Subscriber) → at bs b.number ≡ Some b → change bs b ≡ bs
 change_itself [] b h = refl
-change_itself (c ∷ bs) b h = by (c.number == b.number) h
+change_itself (c ∷ bs) b h = by (c.number == b.number) h (change_itself bs b)
   where
-    by : (d : Bool) → (if d then Some c else at bs b.number) ≡ Some b → (if d then b ∷ bs else c ∷ change bs b) ≡ c ∷ bs
-    by true g = ap (λ x. x ∷ bs) (sym (one g))
+    by : (d : Bool) → (if d then Some c else at bs b.number) ≡ Some b → (at bs b.number ≡ Some b → change bs b ≡ bs) → (if d then b ∷ bs else c ∷ change bs b) ≡ c ∷ bs
+    by true g ih = ap (λ x. x ∷ bs) (sym (one g))
       where
         one : Some c ≡ Some b → c ≡ b
         one q = cc
-    by false g = ap (λ xs. c ∷ xs) (change_itself bs b g)
+    by false g ih = ap (λ xs. c ∷ xs) (ih g)
 
 module _ (bs : List Subscriber) (σ : State) (k : IsKept bs σ) (n : ℕ) where
   -- ---- joining
 
-  abbrev admitted : Bool
+  abbrev pub admitted : Bool
   admitted = nat_lt σ.greatest n && nat_lt (length σ.seats) σ.limits.sessions
 
   joins_if : (o : Outbox) (a b : Bool) → (a && b) ≡ false → (join (state_with bs σ) n o a b ≡ lifted bs (join σ n no_outbox a b)) × ((join σ n no_outbox a b).state ≡ σ)
@@ -124,7 +124,7 @@ module _ (bs : List Subscriber) (σ : State) (k : IsKept bs σ) (n : ℕ) where
       let p = not_joined o h in
       (([], refl, p.0 ∙ ap (lifted bs) m), k.same ∙ ap (λ (x : State). map (λ (y : Seat). y.number) x.seats) (sym p.1 ∙ ap (λ (x : Outcome). x.state) m))
 
-  and_both : (a b : Bool) → (a && b) ≡ true → (a ≡ true) × (b ≡ true)
+  pub and_both : (a b : Bool) → (a && b) ≡ true → (a ≡ true) × (b ≡ true)
   and_both true true h = (refl, refl)
   and_both true false h = cc
   and_both false b h = cc

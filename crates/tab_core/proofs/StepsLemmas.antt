@@ -1,6 +1,6 @@
 -- Steps of the manager as steps of the core.
 use Rattle.std.proofs.Common.{◌≡◌, ℕ, ◌+◌, ◌<◌, List, [], ◌∷◌, ◌++◌, Bool, true, false, ◌&&◌, not, refl, sym, ap, ◌∙◌, subst, arith, length, Option, Some, None}
-use Rattle.std.specs.Prelude.{◌==◌, if◌then◌else◌, is_some, nat_lt, map, option_map}
+use Rattle.std.specs.Prelude.{◌==◌, if◌then◌else◌, is_some, nat_lt, Result, Ok, Err, IfOk, IsOk, OnErr, map, option_map}
 use Rattle.std.specs.List.{filter}
 use Rattle.tab_term.specs.declared.term.Term.{Term}
 use Rattle.tab_model.specs.declared.data.Change.{Change}
@@ -167,3 +167,45 @@ free_command bs σ n (command.Do o) h = cc
 free_command bs σ n (command.Subscribe t l d) h = cc
 free_command bs σ n (command.Unsubscribe t l) h = cc
 free_command bs σ n (command.OneShot parts retries) h = cc
+
+-- ---- what a call of the manager answers
+
+pub ok_makes : {E : Type 0} (P Q : Stepped → Type 0) (r : Result Stepped E) → ((s : Stepped) → P s → Q s) → IfOk r P → IfOk r Q
+ok_makes P Q (Ok s) f h = f s h
+ok_makes P Q (Err e) f h = tt
+
+-- the same sessions, also where memory was refused
+pub same_result : {E : Type 0} (bs : List Subscriber) (σ τ : State) (P : Stepped → Type 0) (r : Result Stepped E) → AreTheSame bs σ → ((s : Stepped) → P s → AreTheSame bs τ) → IfOk r P → OnErr r (τ ≡ σ) → AreTheSame bs τ
+same_result bs σ τ P (Ok s) k f h e = f s h
+same_result bs σ τ P (Err x) k f h e = subst (AreTheSame bs) (sym e) k
+
+-- where none is taken, none is refused
+pub same_free : {E : Type 0} (cs : List Subscriber) (τ : State) (P : Stepped → Type 0) (r : Result Stepped E) → IsOk r → ((s : Stepped) → P s → AreTheSame cs τ) → IfOk r P → AreTheSame cs τ
+same_free cs τ P (Ok s) i f h = f s h
+same_free cs τ P (Err x) i f h = cc
+
+-- ---- a table's deletion, and the other schema commands
+
+pub not_removed : (c : Schema) → ((t : List ℕ) → c ≡ Rattle.tab_model.specs.declared.data.Schema.TheVariants.Remove t → ⊥) → removed c ≡ None
+not_removed (Rattle.tab_model.specs.declared.data.Schema.TheVariants.Create t os) h = refl
+not_removed (Rattle.tab_model.specs.declared.data.Schema.TheVariants.Remove t) h = absurd (h t refl)
+not_removed (Rattle.tab_model.specs.declared.data.Schema.TheVariants.AddIndex t x) h = refl
+not_removed (Rattle.tab_model.specs.declared.data.Schema.TheVariants.DelIndex t x) h = refl
+
+pub none_is : {A : Type 0} (o : Option A) → is_some o ≡ false → o ≡ None
+none_is None h = refl
+none_is (Some x) h = cc
+
+pub some_is : {A : Type 0} (o : Option A) → is_some o ≡ true → (x : A) × (o ≡ Some x)
+some_is None h = cc
+some_is (Some x) h = (x, refl)
+
+-- a refusal of the manager's, seen from the core
+pub err_stays : {T E : Type 0} (bs : List Subscriber) (σ τ ρ : State) (r : Result T E) → state_with bs σ ≡ ρ → OnErr r (τ ≡ σ) → OnErr r (state_with bs τ ≡ ρ)
+err_stays bs σ τ ρ (Ok x) view h = tt
+err_stays bs σ τ ρ (Err e) view h = ap (state_with bs) h ∙ view
+
+-- the same of a step that was made
+pub ok_sees : {E : Type 0} (bs cs : List Subscriber) (σ τ ρ : State) (n : ℕ) (a : Ask) (P : Stepped → Type 0) (r : Result Stepped E) → state_with bs σ ≡ ρ → ((s : Stepped) → P s → StepsTo (state_with bs σ) n a s (state_with cs τ)) → IfOk r P → IfOk r (λ s. StepsTo ρ n a s (state_with cs τ))
+ok_sees bs cs σ τ ρ n a P (Ok s) view f h = subst (λ (μ : State). StepsTo μ n a s (state_with cs τ)) view (f s h)
+ok_sees bs cs σ τ ρ n a P (Err e) view f h = tt

@@ -17,9 +17,11 @@ impl<P: Post + Drop> Core<P> {
         ensures done { IfOk result (λ s. StepsTo self.old session (Join (P.outbox post)) s self.new) }
         ensures err { OnErr result (self.new ≡ self.old) }
     {
-        if self.manager.admits(session) {
-            self.subs.join(self.alloc, session as u64, post)?;
+        if !self.manager.admits(session) {
+            drop(post);
+            return self.manager.step(session, Step::Join);
         }
+        self.subs.join(self.alloc, session as u64, post)?;
         self.manager.step(session, Step::Join)
     }
 
