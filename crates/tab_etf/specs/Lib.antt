@@ -1,5 +1,4 @@
 pub mod Keys
-pub mod Keyed
 pub mod Spells
 pub mod Reading
 pub mod Writing

@@ -1,19 +1,16 @@
 //! Terms from bytes: one pass from left to right, with the first fault at its place.
 
-ghost use Rattle.std.specs.Prelude.{◌≡◌, ◌≤◌, ◌++◌, ◌∷◌, ◌<◌, ◌==◌, List, ℕ, length, IfOk, OnOk, IfErr, Ok, nat_lt, ◌&&◌};
+ghost use Rattle.std.specs.Prelude.{◌≡◌, ◌≤◌, ◌++◌, ◌∷◌, ◌<◌, ◌==◌, List, ℕ, length, IfOk, Ok, nat_lt, ◌&&◌};
 ghost use Rattle.tab_term.specs.Data.{PlainTerm, no_pair, depth};
-ghost use Rattle.tab_term.specs.Canon.{canon};
-ghost use Rattle.tab_term.specs.View.{term};
-ghost use Rattle.tab_etf.specs.Keyed.{AreSpelled, keyed};
-ghost use Rattle.tab_etf.specs.declared.fault.ReadError.TheVariants.{Memory};
+ghost use Rattle.tab_term.specs.View.{term, pairs};
 ghost use Rattle.tab_etf.specs.Spells.{Spells};
 ghost use Rattle.tab_etf.specs.Reading.{Gives, Decodes, whole, end_of_list, times, small_tuple, large_tuple, long_list, key_at, pair_at, pairs_from, map_at, behind, term_at};
 
-use crate::encoding::spelling_of;
 use crate::fault::{EtfFault, Fault, ReadError};
 use crate::leaf::{leaf_of, stop, u8_at, u32_at};
 use std::alloc::{AllocError, Global};
 use std::collections::BTreeMap;
+use tab_headed::Headed;
 use tab_term::spelling::{LARGE_TUPLE_EXT, LIST_EXT, MAP_EXT, NIL_EXT, SMALL_TUPLE_EXT};
 use tab_term::{Pairs, Term, Terms};
 
@@ -86,41 +83,20 @@ fn terms_of(
     Ok((Terms::from_vec(items), rest))
 }
 
-/// A key, and its canonical spelling.
-#[derive(Drop)]
-struct Key {
-    spelling: Vec<u8>,
-    term: Term,
-}
-
-fn spelled(alloc: Global, found: Term) -> Result<Key, ReadError>
-    ensures same { IfOk result (λ k. k.term ≡ found) }
-    ensures spelled { IfOk result (λ k. k.spelling.items ≡ canon (term k.term)) }
-    ensures memory { IfErr result (λ e. e ≡ Memory) }
-{
-    let spelling = spelling_of(alloc, &found)?;
-    Ok(Key {
-        spelling,
-        term: found,
-    })
-}
-
 /// A key that the map doesn't have yet. That is known before its value is read.
 #[cycle(read)]
 #[tactic(auto, unfolding(crate::specs::Reading::key_at))]
 fn key_of<'a>(
     alloc: Global,
     levels: usize,
-    map: &BTreeMap<Vec<u8>, (Term, Term)>,
+    map: &BTreeMap<Headed, Term>,
     bytes: &'a [u8],
-) -> Result<(Key, &'a [u8]), ReadError>
-    requires { AreSpelled map.now.entries }
-    ensures gives { Gives (λ x. (term x.0.term, x.1.now)) result (key_at (term_at levels) (keyed map.now.entries) bytes.now) }
-    ensures spelled { IfOk result (λ x. x.0.spelling.items ≡ canon (term x.0.term)) }
+) -> Result<(Headed, &'a [u8]), ReadError>
+    ensures { Gives (λ x. (term x.0, x.1.now)) result (key_at (term_at levels) (pairs map.now.entries) bytes.now) }
 {
     let (found, rest) = term_of(alloc, levels, bytes)?;
-    let key = spelled(alloc, found)?;
-    if map.contains_key(&key.spelling) {
+    let key = Headed::new(found);
+    if map.contains_key(&key) {
         return Err(stop(Fault::DuplicateKey, bytes.len()));
     }
     Ok((key, rest))
@@ -131,28 +107,26 @@ fn key_of<'a>(
 fn pair_of<'a>(
     alloc: Global,
     levels: usize,
-    map: &mut BTreeMap<Vec<u8>, (Term, Term)>,
+    map: &mut BTreeMap<Headed, Term>,
     bytes: &'a [u8],
 ) -> Result<&'a [u8], ReadError>
-    requires { AreSpelled map.old.entries }
-    ensures gives { Gives (λ x. (keyed map.new.entries, x.now)) result (pair_at (term_at levels) (keyed map.old.entries) bytes.now) }
-    ensures spelled { OnOk result (AreSpelled map.new.entries) }
+    ensures { Gives (λ x. (pairs map.new.entries, x.now)) result (pair_at (term_at levels) (pairs map.old.entries) bytes.now) }
 {
     let (key, rest) = key_of(alloc, levels, map, bytes)?;
     let (value, rest) = term_of(alloc, levels, rest)?;
-    map.insert(key.spelling, (key.term, value))?;
+    map.insert(key, value)?;
     Ok(rest)
 }
 
-/// So many pairs, by their keys' spellings. The count alone makes no room.
+/// So many pairs. The count alone makes no room.
 #[cycle(read)]
 fn keyed_of(
     alloc: Global,
     levels: usize,
     count: u32,
     bytes: &[u8],
-) -> Result<(BTreeMap<Vec<u8>, (Term, Term)>, &[u8]), ReadError>
-    ensures { Gives (λ x. (keyed x.0.entries, x.1.now)) result (pairs_from (term_at levels) count no_pair bytes.now) }
+) -> Result<(BTreeMap<Headed, Term>, &[u8]), ReadError>
+    ensures { Gives (λ x. (pairs x.0.entries, x.1.now)) result (pairs_from (term_at levels) count no_pair bytes.now) }
 {
     let mut map = BTreeMap::new(alloc);
     let mut rest = bytes;
@@ -163,14 +137,14 @@ fn keyed_of(
 }
 
 /// The pairs in ascending order of their keys.
-fn in_order(alloc: Global, map: BTreeMap<Vec<u8>, (Term, Term)>) -> Result<Pairs, AllocError>
-    ensures { IfOk result (λ ps. ps ≡ keyed map.entries) }
+fn in_order(alloc: Global, map: BTreeMap<Headed, Term>) -> Result<Pairs, AllocError>
+    ensures { IfOk result (λ ps. ps ≡ pairs map.entries) }
 {
-    let mut pairs = Vec::with_capacity(alloc, map.len())?;
-    for pair in map.into_values() {
-        pairs.push(pair)?;
+    let mut drained = Vec::with_capacity(alloc, map.len())?;
+    for (key, value) in map {
+        drained.push((key.into_term(), value))?;
     }
-    Ok(Pairs::from_vec(pairs))
+    Ok(Pairs::from_vec(drained))
 }
 
 #[cycle(read)]

@@ -14,7 +14,7 @@ use crate::framing::FrameFault;
 use crate::measuring::encoded_len;
 use crate::outline::{Body, Leaf, Outline, outline_len, put_outline};
 use crate::writer::Writer;
-use std::alloc::{AllocError, Global};
+use std::alloc::AllocError;
 use std::io::Write;
 use tab_term::Term;
 use thiserror::Error;
@@ -120,15 +120,6 @@ fn append(outline: &Outline, head: &[u8], len: usize, out: &mut Vec<u8>) -> Resu
         return Err(AllocError);
     }
     Ok(())
-}
-
-/// The canonical spelling of a term.
-pub fn spelling_of(alloc: Global, value: &Term) -> Result<Vec<u8>, AllocError>
-    ensures { IfOk result (λ bytes. bytes.items ≡ canon (term value.now)) }
-{
-    let mut out = Vec::new(alloc);
-    append(&held(value), &[], 0, &mut out)?;
-    Ok(out)
 }
 
 /// Adds the payload of a term: the byte 131 and the canonical spelling.

@@ -1,7 +1,6 @@
 use Rattle.std.proofs.Common.{◌≡◌, ◌*◌, ◌+◌, ◌-◌}
 use Rattle.tab_term.specs.Data.{no_pair}
-use Rattle.tab_term.specs.View.{terms}
-use Rattle.tab_etf.specs.Keyed.{AreSpelled, keyed}
+use Rattle.tab_term.specs.View.{terms, pairs}
 use Rattle.tab_etf.specs.Reading.{times, pairs_from, term_at}
 use Rattle.tab_etf.proofs.TimesLemmas.{with_front}
 use Rattle.tab_etf.proofs.decoding.+read.Given as goal
@@ -34,7 +33,7 @@ abbrev pub decreases-keyed_of : goal.decreases-keyed_of
 decreases-keyed_of l = 6 * l.levels + 3
 
 abbrev pub invariant-keyed_of-loop : goal.invariant-keyed_of-loop
-invariant-keyed_of-loop l = AreSpelled l.map.entries × (pairs_from (term_at l.levels) (l.count - l.counter) (keyed l.map.entries) l.rest ≡ pairs_from (term_at l.levels) l.count no_pair l.bytes)
+invariant-keyed_of-loop l = pairs_from (term_at l.levels) (l.count - l.counter) (pairs l.map.entries) l.rest ≡ pairs_from (term_at l.levels) l.count no_pair l.bytes
 
 abbrev pub decreases-pair_of : goal.decreases-pair_of
 decreases-pair_of l = 6 * l.levels + 2
