@@ -1,0 +1,62 @@
+-- An event of a table that no one watches is in no batch.
+use Rattle.std.proofs.Common.{◌≡◌, ℕ, List, [], ◌∷◌, Bool, true, false, refl, sym, ap, ◌∙◌, Option, Some, None}
+use Rattle.std.specs.Prelude.{if◌then◌else◌, is_some, map, ◌||◌}
+use Rattle.std.specs.List.{AllByRecursion, cons_option, filter, filter_map, list_any}
+use Rattle.std.proofs.lemmas.Bool.{or_parts}
+use Rattle.tab_model.specs.declared.data.Change.{Change}
+use Rattle.tab_model.specs.declared.data.Event.{Event}
+use Rattle.tab_model.specs.declared.data.Item.{Item}
+use Rattle.tab_model.specs.declared.data.Level.{Level}
+use Rattle.tab_model.specs.declared.data.Level.TheVariants.{Simple, Detailed}
+use Rattle.tab_model.specs.Events.{events, event_of}
+use Rattle.tab_model.specs.Operations.{table_of_change, change_world}
+use Rattle.tab_model.specs.Slices.{batch_for, as_batch, shape_at}
+use Rattle.tab_model.specs.State.{level_in}
+use Rattle.tab_model.specs.Worlds.{World}
+use Rattle.tab_subs.specs.Subscribers.{Subscriber, higher, watched}
+use Rattle.tab_core.specs.Owing.{is_watched, are_watched}
+
+both_none : (l r : Option Level) → is_some (higher l r) ≡ false → (l ≡ None) × (r ≡ None)
+both_none None None h = (refl, refl)
+both_none None (Some x) h = cc
+both_none (Some Detailed) r h = cc
+both_none (Some Simple) None h = cc
+both_none (Some Simple) (Some Simple) h = cc
+both_none (Some Simple) (Some Detailed) h = cc
+
+-- what no one watches
+pub by_nobody : (bs : List Subscriber) (t : List ℕ) → is_some (watched bs t) ≡ false → AllByRecursion (λ (b : Subscriber). level_in b.watching t ≡ None) bs
+by_nobody [] t h = tt
+by_nobody (b ∷ bs) t h = let p = both_none (level_in b.watching t) (watched bs t) h in (p.0, by_nobody bs t (ap is_some p.1))
+
+shaped_same : (f : List ℕ → Option Level) (p : Event → Bool) (es : List Event) → ((e : Event) → p e ≡ false → f e.tab ≡ None)
+    → filter_map (λ (e : Event). shape_at (f e.tab) e) (filter p es) ≡ filter_map (λ (e : Event). shape_at (f e.tab) e) es
+shaped_same f p [] h = refl
+shaped_same f p (e ∷ es) h = by (p e) refl (shaped_same f p es h)
+  where
+    by : (b : Bool) → p e ≡ b → filter_map (λ (x : Event). shape_at (f x.tab) x) (filter p es) ≡ filter_map (λ (x : Event). shape_at (f x.tab) x) es
+        → filter_map (λ (x : Event). shape_at (f x.tab) x) (if b then e ∷ filter p es else filter p es) ≡ cons_option (shape_at (f e.tab) e) (filter_map (λ (x : Event). shape_at (f x.tab) x) es)
+    by true g ih = ap (cons_option (shape_at (f e.tab) e)) ih
+    by false g ih = ih ∙ ap (λ o. cons_option (shape_at o e) (filter_map (λ (x : Event). shape_at (f x.tab) x) es)) (sym (h e g))
+
+-- the batches of some events are those of all, where the others are watched by none
+same_batches : (n : ℕ) (p : Event → Bool) (es : List Event) (cs : List Subscriber) → ((e : Event) → p e ≡ false → AllByRecursion (λ (b : Subscriber). level_in b.watching e.tab ≡ None) cs)
+    → map (λ (b : Subscriber). batch_for (level_in b.watching) n (filter p es)) cs ≡ map (λ (b : Subscriber). batch_for (level_in b.watching) n es) cs
+same_batches n p es [] h = refl
+same_batches n p es (c ∷ cs) h = λ i. as_batch n (shaped_same (level_in c.watching) p es (λ e g. (h e g).0) i) ∷ same_batches n p es cs (λ e g. (h e g).1) i
+
+pub batches_of_watched : (n : ℕ) (bs : List Subscriber) (es : List Event)
+    → map (λ (b : Subscriber). batch_for (level_in b.watching) n (filter (is_watched bs) es)) bs ≡ map (λ (b : Subscriber). batch_for (level_in b.watching) n es) bs
+batches_of_watched n bs es = same_batches n (is_watched bs) es bs (λ e g. by_nobody bs e.tab g)
+
+-- where no change is watched, no event is
+pub none_watched : (bs : List Subscriber) (w : World) (age : ℕ) (cs : List Change) → are_watched bs cs ≡ false → filter (is_watched bs) (events w age cs) ≡ []
+none_watched bs w age [] h = refl
+none_watched bs w age (c ∷ cs) h =
+    let p = or_parts (is_some (watched bs (table_of_change c))) (are_watched bs cs) h in
+    ap (λ b. if b then event_of w age c ∷ filter (is_watched bs) (events (change_world w c) age cs) else filter (is_watched bs) (events (change_world w c) age cs)) p.0
+    ∙ none_watched bs (change_world w c) age cs p.1
+
+-- nor is any batch owed
+pub no_batches : (n : ℕ) (bs : List Subscriber) (w : World) (age : ℕ) (cs : List Change) → are_watched bs cs ≡ false → map (λ (b : Subscriber). batch_for (level_in b.watching) n (events w age cs)) bs ≡ map (λ (b : Subscriber). []) bs
+no_batches n bs w age cs h = sym (batches_of_watched n bs (events w age cs)) ∙ ap (λ es. map (λ (b : Subscriber). batch_for (level_in b.watching) n es) bs) (none_watched bs w age cs h)
