@@ -1,5 +1,5 @@
 -- An event of a table that no one watches is in no batch.
-use Rattle.std.proofs.Common.{◌≡◌, ℕ, List, [], ◌∷◌, Bool, true, false, refl, sym, ap, ◌∙◌, Option, Some, None}
+use Rattle.std.proofs.Common.{◌≡◌, ℕ, List, [], ◌∷◌, ◌++◌, append_assoc, append-nil, Bool, true, false, refl, sym, ap, ◌∙◌, Option, Some, None}
 use Rattle.std.specs.Prelude.{if◌then◌else◌, is_some, map, ◌||◌}
 use Rattle.std.specs.List.{AllByRecursion, cons_option, filter, filter_map, list_any}
 use Rattle.std.proofs.lemmas.Bool.{or_parts}
@@ -60,3 +60,11 @@ none_watched bs w age (c ∷ cs) h =
 -- nor is any batch owed
 pub no_batches : (n : ℕ) (bs : List Subscriber) (w : World) (age : ℕ) (cs : List Change) → are_watched bs cs ≡ false → map (λ (b : Subscriber). batch_for (level_in b.watching) n (events w age cs)) bs ≡ map (λ (b : Subscriber). []) bs
 no_batches n bs w age cs h = sym (batches_of_watched n bs (events w age cs)) ∙ ap (λ es. map (λ (b : Subscriber). batch_for (level_in b.watching) n es) bs) (none_watched bs w age cs h)
+
+-- one event more is watched or not
+pub events_go_on : (p : Event → Bool) (old : List Event) (e : Event) (es : List Event) → (old ++ filter p (e ∷ [])) ++ filter p es ≡ old ++ filter p (e ∷ es)
+events_go_on p old e es = by (p e)
+  where
+    by : (b : Bool) → (old ++ (if b then e ∷ [] else [])) ++ filter p es ≡ old ++ (if b then e ∷ filter p es else filter p es)
+    by true = append_assoc old (e ∷ []) (filter p es)
+    by false = ap (λ xs. xs ++ filter p es) (append-nil old)

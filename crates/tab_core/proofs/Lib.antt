@@ -8,3 +8,5 @@ pub mod RunsLemmas
 pub mod StepsLemmas
 pub mod SessionsLemmas
 pub mod MarksLemmas
+pub mod Dumps
+pub mod SoundLemmas

@@ -365,3 +365,54 @@ module _ (bs : List Subscriber) (σ : State) (n : ℕ) (t : List ℕ) (free : No
 
   pub not_subscribed : (l : Level) → false ≡ is_at (subs.level_of (at bs n) t) l → Some (reply.NotSubscribed t) ≡ refusal bs σ n (unsubscribe_refusal t l)
   not_subscribed l e = sym (at_it l false (sym e))
+
+-- ---- as the calls say it, of the core's state
+
+module _ (bs : List Subscriber) (σ ρ : State) (view : state_with bs σ ≡ ρ) (n : ℕ) where
+  pub seen : (f : State → Seat → Option Reply) (o : Option Reply) → o ≡ refusal bs σ n (f (state_with bs σ)) → o ≡ refused_by ρ n (f ρ) (seat_at ρ.seats n)
+  seen f o h = subst (λ (μ : State). o ≡ refused_by μ n (f μ) (seat_at μ.seats n)) view h
+
+  pub unseen : (f : State → Seat → Option Reply) (o : Option Reply) → o ≡ refused_by ρ n (f ρ) (seat_at ρ.seats n) → o ≡ refusal bs σ n (f (state_with bs σ))
+  unseen f o h = subst (λ (μ : State). o ≡ refused_by μ n (f μ) (seat_at μ.seats n)) (sym view) h
+
+  -- what is refused first
+  pub refused_first : (f : State → Seat → Option Reply) (r : Reply) → Some r ≡ refused_by ρ n (λ s. None) (seat_at ρ.seats n) → Some r ≡ refused_by ρ n (f ρ) (seat_at ρ.seats n)
+  refused_first f r h = seen f (Some r) (first_refusal bs σ n (f (state_with bs σ)) r (unseen (λ μ s. None) (Some r) h))
+
+module _ (bs : List Subscriber) (σ ρ : State) (k : IsKept bs σ) (view : state_with bs σ ≡ ρ) (n : ℕ) (t : List ℕ) (l : Level) where
+  module _ (dump : Bool) where
+    abbrev subscribing : Command
+    subscribing = command.Subscribe t l dump
+
+    abbrev began : Item
+    began = Began t l (dump_of σ.tables t dump)
+
+    abbrev refusing : Seat → Option Reply
+    refusing s = subscribe_refusal (state_with bs σ) s t
+
+    pub subscription_refused : (r : Reply) → Some r ≡ refused_by ρ n (λ s. subscribe_refusal ρ s t) (seat_at ρ.seats n) → (s' : Stepped) → s' ≡ record { reply = r; entry = None } → StepsTo ρ n (DoCommand subscribing) s' (state_with bs σ)
+    subscription_refused r h s' is = subst (λ (μ : State). StepsTo μ n (DoCommand subscribing) s' (state_with bs σ)) view
+        (refused_mark bs σ k n subscribing refusing (λ s. record { table = t; level = l } ∷ s.watching) began (λ m. Subscribed m t l dump) (subscribes (state_with bs σ) t l dump)
+            r (sym (unseen bs σ ρ view n (λ μ s. subscribe_refusal μ s t) (Some r) h)) s' is).0
+
+    pub subscription_made : None ≡ refused_by ρ n (λ s. subscribe_refusal ρ s t) (seat_at ρ.seats n) → (m : Option Marked) (cs : List Subscriber) → Marks bs (at bs n) (λ b. record { table = t; level = l } ∷ b.watching) began m cs
+        → (s' : Stepped) → s' ≡ marked_reply m (Subscribed n t l dump) → StepsTo ρ n (DoCommand subscribing) s' (state_with cs σ) × Rattle.tab_core.specs.Seats.AreTheSame cs σ
+    subscription_made h m cs marked_as s' is =
+        let made = mark_makes bs σ k n subscribing refusing (λ s. record { table = t; level = l } ∷ s.watching) began (λ j. Subscribed j t l dump) (subscribes (state_with bs σ) t l dump)
+            (sym (unseen bs σ ρ view n (λ μ s. subscribe_refusal μ s t) None h)) (λ b. record { table = t; level = l } ∷ b.watching) (λ b s. refl) m cs marked_as s' is in
+        (subst (λ (μ : State). StepsTo μ n (DoCommand subscribing) s' (state_with cs σ)) view made.0, made.1)
+
+  abbrev unsubscribing : Command
+  unsubscribing = command.Unsubscribe t l
+
+  pub end_refused : (r : Reply) → Some r ≡ refused_by ρ n (unsubscribe_refusal t l) (seat_at ρ.seats n) → (s' : Stepped) → s' ≡ record { reply = r; entry = None } → StepsTo ρ n (DoCommand unsubscribing) s' (state_with bs σ)
+  end_refused r h s' is = subst (λ (μ : State). StepsTo μ n (DoCommand unsubscribing) s' (state_with bs σ)) view
+      (refused_mark bs σ k n unsubscribing (unsubscribe_refusal t l) (λ s. without_watch s.watching t) (Ended t ending.Unsubscribed) (λ m. Unsubscribed m t) (unsubscribes (state_with bs σ) t l)
+          r (sym (unseen bs σ ρ view n (λ μ. unsubscribe_refusal t l) (Some r) h)) s' is).0
+
+  pub end_made : None ≡ refused_by ρ n (unsubscribe_refusal t l) (seat_at ρ.seats n) → (m : Option Marked) (cs : List Subscriber) → Marks bs (at bs n) (λ b. without_watch b.watching t) (Ended t ending.Unsubscribed) m cs
+      → (s' : Stepped) → s' ≡ marked_reply m (Unsubscribed n t) → StepsTo ρ n (DoCommand unsubscribing) s' (state_with cs σ) × Rattle.tab_core.specs.Seats.AreTheSame cs σ
+  end_made h m cs marked_as s' is =
+      let made = mark_makes bs σ k n unsubscribing (unsubscribe_refusal t l) (λ s. without_watch s.watching t) (Ended t ending.Unsubscribed) (λ j. Unsubscribed j t) (unsubscribes (state_with bs σ) t l)
+          (sym (unseen bs σ ρ view n (λ μ. unsubscribe_refusal t l) None h)) (λ b. without_watch b.watching t) (λ b s. refl) m cs marked_as s' is in
+      (subst (λ (μ : State). StepsTo μ n (DoCommand unsubscribing) s' (state_with cs σ)) view made.0, made.1)

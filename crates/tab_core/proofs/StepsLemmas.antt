@@ -7,6 +7,7 @@ use Rattle.tab_model.specs.declared.data.Change.{Change}
 use Rattle.tab_model.specs.declared.data.Entry.{Entry}
 use Rattle.tab_model.specs.declared.data.Event.{Event}
 use Rattle.tab_model.specs.declared.data.Level.{Level}
+use Rattle.tab_model.specs.declared.data.Move.{Move}
 use Rattle.tab_model.specs.declared.data.Schema.{Schema}
 use Rattle.tab_model.specs.declared.data.Command.{Command}
 use Rattle.tab_model.specs.declared.data.Command.TheVariants as command
@@ -18,7 +19,7 @@ use Rattle.tab_model.specs.State.{Transaction, Outbox, Seat, State, seat_at, tra
 use Rattle.tab_model.specs.Outcome.{Ask, Join, Leave, Retry, Take, DoCommand, Outcome, outcome, is_empty, is_abort}
 use Rattle.tab_model.specs.Run.{Allowed, put_ask, put_command, put_commit}
 use Rattle.tab_model.proofs.Seats.{found}
-use Rattle.tab_manager.specs.Outermost.{outermost, outermost_of}
+use Rattle.tab_manager.specs.Outermost.{outermost, outermost_of, ending_of}
 use Rattle.tab_manager.specs.Steps as manager
 use Rattle.tab_manager.specs.declared.step.Stepped.{Stepped}
 use Rattle.tab_subs.specs.Subscribers.{Subscriber, numbers}
@@ -209,3 +210,44 @@ err_stays bs σ τ ρ (Err e) view h = ap (state_with bs) h ∙ view
 pub ok_sees : {E : Type 0} (bs cs : List Subscriber) (σ τ ρ : State) (n : ℕ) (a : Ask) (P : Stepped → Type 0) (r : Result Stepped E) → state_with bs σ ≡ ρ → ((s : Stepped) → P s → StepsTo (state_with bs σ) n a s (state_with cs τ)) → IfOk r P → IfOk r (λ s. StepsTo ρ n a s (state_with cs τ))
 ok_sees bs cs σ τ ρ n a P (Ok s) view f h = subst (λ (μ : State). StepsTo μ n a s (state_with cs τ)) view (f s h)
 ok_sees bs cs σ τ ρ n a P (Err e) view f h = tt
+
+-- ---- the transaction that a commit would end
+
+pub ended_by : (o : Option Transaction) (e : ℕ × List Change) → Some e ≡ option_map ending_of o → (t : Transaction) × (o ≡ Some t) × (e ≡ ending_of t)
+ended_by None e h = cc
+ended_by (Some t) e h = (t, refl, one h)
+  where
+    one : Some e ≡ Some (ending_of t) → e ≡ ending_of t
+    one q = cc
+
+pub none_ended : (o : Option Transaction) → None ≡ option_map ending_of o → o ≡ None
+none_ended None h = refl
+none_ended (Some t) h = cc
+
+-- one that did nothing has no updates
+pub no_updates : (bs : List Subscriber) (σ : State) (n : ℕ) (t : Transaction) → outermost σ n ≡ Some t → takes_no_memory (state_with bs σ) n (DoCommand command.Commit) ≡ true → surviving t.moves t.told ≡ []
+no_updates bs σ n t ends h = by t.moves bare
+  where
+    bare : is_empty t.moves ≡ true
+    bare =
+        let e = committing.is_ending σ n t ends in
+        sym (ap (λ o. is_empty (plain.moves_in o)) (transactions_dressed bs σ n ∙ ap plain.transaction_in e.here ∙ e.opened)) ∙ h
+
+    by : (xs : List Move) → is_empty xs ≡ true → surviving xs t.told ≡ []
+    by [] q = refl
+    by (x ∷ xs) q = cc
+
+-- a commit that nobody watches
+pub unwatched_commit_makes : (bs : List Subscriber) (σ : State) (k : IsKept bs σ) (n : ℕ) (s : Stepped) (τ : State) (e : ℕ × List Change) → Some e ≡ option_map ending_of (outermost σ n) → are_watched bs e.1 ≡ false → manager.StepsTo σ n (DoCommand command.Commit) s τ → Makes bs σ n (DoCommand command.Commit) s bs τ
+unwatched_commit_makes bs σ k n s τ e h unseen m =
+    let t = ended_by (outermost σ n) e h in
+    unseen_commit_makes bs σ k n s τ t.0 t.1.0 (ap (λ (p : ℕ × List Change). are_watched bs p.1) (sym t.1.1) ∙ unseen) m
+
+-- a table's deletion that was made
+pub remove_makes : (bs : List Subscriber) (σ : State) (k : IsKept bs σ) (n : ℕ) (s : Stepped) (τ : State) (t : List ℕ) → manager.StepsTo σ n (DoCommand (command.Schema (Rattle.tab_model.specs.declared.data.Schema.TheVariants.Remove t))) s τ → is_some s.entry ≡ true → (cs : List Subscriber) (over : List ℕ) (owed : Owed) (number : ℕ)
+    → owed ≡ record { number = number; items = map (λ (b : Subscriber). end_for (level_in b.watching) (Some t)) bs; ended = Some t } → number ≡ σ.commits + 1 → Delivers owed bs cs over
+    → (s' : Stepped) → s' ≡ record { reply = s.reply; entry = option_map (with_overflowed over) s.entry } → Makes bs σ n (DoCommand (command.Schema (Rattle.tab_model.specs.declared.data.Schema.TheVariants.Remove t))) s' cs τ
+remove_makes bs σ k n s τ t h made cs over owed number owed_is number_is d s' is =
+    let x = some_is s.entry made in
+    schema_makes bs σ k n s τ (Rattle.tab_model.specs.declared.data.Schema.TheVariants.Remove t) h x.0 x.1 cs over
+        (subst (λ o. Delivers o bs cs over) (owed_is ∙ ap (λ m. let o : Owed = record { number = m; items = map (λ (b : Subscriber). end_for (level_in b.watching) (Some t)) bs; ended = Some t } in o) number_is) d) s' is

@@ -1,5 +1,5 @@
 -- What a commit owes to those who watch the tables that it changes (Mnesia User's Guide, "Mnesia Event Handling").
-use Rattle.std.specs.Prelude.{◌≡◌, ℕ, List, Bool, false, Option, Some, None, is_some}
+use Rattle.std.specs.Prelude.{◌≡◌, ℕ, List, Bool, true, false, Option, Some, None, is_some}
 use Rattle.std.specs.List.{filter, list_any}
 use Rattle.tab_model.specs.declared.data.Change.{Change}
 use Rattle.tab_model.specs.declared.data.Event.{Event}
@@ -25,7 +25,7 @@ pub record Updates (w : World) (bs : List Subscriber) (age : ℕ) (cs : List Cha
 -- nothing where no one watches
 abbrev pub Owes : World → List Subscriber → ℕ → List Change → Option Updated → Type 0
 Owes w bs age cs None = are_watched bs cs ≡ false
-Owes w bs age cs (Some u) = Updates w bs age cs u
+Owes w bs age cs (Some u) = (are_watched bs cs ≡ true) × Updates w bs age cs u
 
 -- they are those of the session's transaction, which its commit ends
 pub record Commits (σ : State) (bs : List Subscriber) (n : ℕ) (u : Updated) : Type 0 where

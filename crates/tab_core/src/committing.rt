@@ -1,9 +1,11 @@
 //! Outermost commits and schema commands, with what they owe to who watches.
 
-ghost use Rattle.std.specs.Prelude.{◌≡◌, ◌+◌, [], IfOk, IsOk, OnErr, true};
+ghost use Rattle.std.specs.Prelude.{◌≡◌, ◌+◌, ◌∷◌, ◌++◌, [], IfOk, IsOk, OnOk, OnErr, true};
+ghost use Rattle.std.specs.List.{filter};
 ghost use Rattle.tab_model.specs.declared.data.Command.TheVariants as command;
 ghost use Rattle.tab_model.specs.Outcome.{DoCommand};
-ghost use Rattle.tab_core.specs.Owing.{are_watched as are_watched_by, Commits, Owes, Updates};
+ghost use Rattle.tab_model.specs.Events.{event_of};
+ghost use Rattle.tab_core.specs.Owing.{are_watched as are_watched_by, is_watched, Commits, Owes, Updates};
 ghost use Rattle.tab_core.specs.Runs.{StepsTo, takes_no_memory};
 ghost use Rattle.tab_core.specs.Seats.{state_with, IsKept};
 
@@ -163,11 +165,37 @@ fn changed_tables<P: Post + Drop>(
     let mut changing = Changing::new(tables.share()?);
     let mut events = Vec::new(alloc);
     for change in ending.updates {
-        if subs.watched(table_of_change(change, nameless)).is_some() {
-            events.push(changing.event(alloc, ending.age, change, nameless)?)?;
-        }
+        push_watched(
+            alloc,
+            &mut events,
+            &changing,
+            subs,
+            ending.age,
+            change,
+            nameless,
+        )?;
         changing = changing.changed(alloc, change, nameless)?;
     }
     let tables = changing.into_world(alloc)?;
     Ok(Updated { tables, events })
+}
+
+/// The event of a change that is about to be made, where someone watches its table.
+fn push_watched<P: Post + Drop>(
+    alloc: Global,
+    events: &mut Vec<Event>,
+    changing: &Changing,
+    subs: &Subs<P>,
+    age: u64,
+    change: &Change,
+    nameless: &Atom,
+) -> Result<(), AllocError>
+    requires { nameless.now ≡ [] }
+    ensures { OnOk result (events.new.items ≡ events.old.items ++ filter (is_watched subs.now) (event_of changing.now age change.now ∷ [])) }
+{
+    if subs.watched(table_of_change(change, nameless)).is_none() {
+        return Ok(());
+    }
+    let event = changing.event(alloc, age, change, nameless)?;
+    events.push(event)
 }

@@ -75,6 +75,17 @@ impl<P: Post + Drop> Core<P> {
         ensures err { OnErr result (self.new ≡ self.old) }
         ensures sound { IsSound self.new }
     {
+        let stepped = self.make(session, step);
+        // Known of the core from here on is that it is sound.
+        let _ = &self.manager;
+        stepped
+    }
+
+    fn make(&mut self, session: u32, step: Step<P>) -> Result<Stepped, AllocError>
+        ensures done { IfOk result (λ s. StepsTo self.old session (ask_of P.outbox step) s self.new) }
+        ensures free { takes_no_memory self.old session (ask_of P.outbox step) ≡ true → IsOk result }
+        ensures err { OnErr result (self.new ≡ self.old) }
+    {
         match step {
             Step::Join(post) => self.join(session, post),
             Step::Leave => self.leave(session),
