@@ -197,5 +197,6 @@ fn push_watched<P: Post + Drop>(
         return Ok(());
     }
     let event = changing.event(alloc, age, change, nameless)?;
-    events.push(event)
+    events.push(event)?;
+    Ok(())
 }

@@ -13,7 +13,7 @@ returns-in-Err-NoMemory c =
 pub returns-in-Err-BadCommand : goal.returns-in-Err-BadCommand
 returns-in-Err-BadCommand c =
     inl (inl (record {
-      nothing = λ session a number asked same. c.in-Err-BadCommand.ensures.only session a number asked.formed same (ap Err c.in-Err-BadCommand.field-0-is);
+      nothing = λ session a number asked same. c.in-Err-BadCommand.ensures.only session a number asked same (ap Err c.in-Err-BadCommand.field-0-is);
       reply = c.new.ensures;
       same = refl;
       under = c.number_of-number.ensures;
