@@ -1,5 +1,7 @@
 -- Takes, and marks that are put into a session's post or refused by it.
 use Rattle.std.proofs.Common.{◌≡◌, ℕ, List, [], ◌∷◌, ◌++◌, Bool, true, false, ◌&&◌, not, refl, sym, ap, ◌∙◌, subst, length, Option, Some, None}
+use Rattle.std.proofs.Common.{Bor}
+use Rattle.std.specs.Option.{option_copied}
 use Rattle.std.specs.Prelude.{◌==◌, ◌||◌, if◌then◌else◌, is_some, nat_le, IfSome, map, option_map}
 use Rattle.tab_model.specs.declared.data.Entry.{Entry}
 use Rattle.tab_model.specs.declared.data.Entry.TheVariants.{Subscribed, Unsubscribed}
@@ -368,6 +370,22 @@ module _ (bs : List Subscriber) (σ : State) (n : ℕ) (t : List ℕ) (free : No
 
 -- ---- as the calls say it, of the core's state
 
+-- what is not there
+pub free : {A : Type 0} (o p : Option A) → ((x : A) → o ≡ Some x → ⊥) → o ≡ p → None ≡ p
+free None p n h = h
+free (Some x) p n h = absurd (n x refl)
+
+pub copied_is_some : {T : Type 0} (o : Option (Bor T)) → is_some o ≡ is_some (option_copied o)
+copied_is_some None = refl
+copied_is_some (Some x) = refl
+
+-- a begin mark of a copy of the table's name, and of its records
+pub began_with : (bs cs : List Subscriber) (n : ℕ) (t : List ℕ) (l : Level) (named : List ℕ) (records dump : Option Rattle.tab_term.specs.Data.PlainTerms) (m : Option Marked) → named ≡ t → records ≡ dump
+    → Marks bs (at bs n) (λ b. record { table = named; level = l } ∷ b.watching) (Began named l records) m cs → Marks bs (at bs n) (λ b. record { table = t; level = l } ∷ b.watching) (Began t l dump) m cs
+began_with bs cs n t l named records dump m is same h =
+    subst (λ d. Marks bs (at bs n) (λ b. record { table = t; level = l } ∷ b.watching) (Began t l d) m cs) same
+    (subst (λ u. Marks bs (at bs n) (λ b. record { table = u; level = l } ∷ b.watching) (Began u l records) m cs) is h)
+
 module _ (bs : List Subscriber) (σ ρ : State) (view : state_with bs σ ≡ ρ) (n : ℕ) where
   pub seen : (f : State → Seat → Option Reply) (o : Option Reply) → o ≡ refusal bs σ n (f (state_with bs σ)) → o ≡ refused_by ρ n (f ρ) (seat_at ρ.seats n)
   seen f o h = subst (λ (μ : State). o ≡ refused_by μ n (f μ) (seat_at μ.seats n)) view h
@@ -390,8 +408,8 @@ module _ (bs : List Subscriber) (σ ρ : State) (k : IsKept bs σ) (view : state
     abbrev refusing : Seat → Option Reply
     refusing s = subscribe_refusal (state_with bs σ) s t
 
-    pub subscription_refused : (r : Reply) → Some r ≡ refused_by ρ n (λ s. subscribe_refusal ρ s t) (seat_at ρ.seats n) → (s' : Stepped) → s' ≡ record { reply = r; entry = None } → StepsTo ρ n (DoCommand subscribing) s' (state_with bs σ)
-    subscription_refused r h s' is = subst (λ (μ : State). StepsTo μ n (DoCommand subscribing) s' (state_with bs σ)) view
+    pub subscription_refused : (r : Reply) → Some r ≡ refused_by ρ n (λ s. subscribe_refusal ρ s t) (seat_at ρ.seats n) → (s' : Stepped) → s' ≡ record { reply = r; entry = None } → StepsTo ρ n (DoCommand subscribing) s' ρ
+    subscription_refused r h s' is = subst (λ (μ : State). StepsTo μ n (DoCommand subscribing) s' μ) view
         (refused_mark bs σ k n subscribing refusing (λ s. record { table = t; level = l } ∷ s.watching) began (λ m. Subscribed m t l dump) (subscribes (state_with bs σ) t l dump)
             r (sym (unseen bs σ ρ view n (λ μ s. subscribe_refusal μ s t) (Some r) h)) s' is).0
 
@@ -405,8 +423,8 @@ module _ (bs : List Subscriber) (σ ρ : State) (k : IsKept bs σ) (view : state
   abbrev unsubscribing : Command
   unsubscribing = command.Unsubscribe t l
 
-  pub end_refused : (r : Reply) → Some r ≡ refused_by ρ n (unsubscribe_refusal t l) (seat_at ρ.seats n) → (s' : Stepped) → s' ≡ record { reply = r; entry = None } → StepsTo ρ n (DoCommand unsubscribing) s' (state_with bs σ)
-  end_refused r h s' is = subst (λ (μ : State). StepsTo μ n (DoCommand unsubscribing) s' (state_with bs σ)) view
+  pub end_refused : (r : Reply) → Some r ≡ refused_by ρ n (unsubscribe_refusal t l) (seat_at ρ.seats n) → (s' : Stepped) → s' ≡ record { reply = r; entry = None } → StepsTo ρ n (DoCommand unsubscribing) s' ρ
+  end_refused r h s' is = subst (λ (μ : State). StepsTo μ n (DoCommand unsubscribing) s' μ) view
       (refused_mark bs σ k n unsubscribing (unsubscribe_refusal t l) (λ s. without_watch s.watching t) (Ended t ending.Unsubscribed) (λ m. Unsubscribed m t) (unsubscribes (state_with bs σ) t l)
           r (sym (unseen bs σ ρ view n (λ μ. unsubscribe_refusal t l) (Some r) h)) s' is).0
 

@@ -3,7 +3,7 @@ use Rattle.std.proofs.Common.{◌≡◌, ◌≢◌, ℕ, ◌<◌, ◌≤◌, Lis
 use Rattle.std.specs.Prelude.{map, option_map}
 use Rattle.tab_model.specs.Alone.{replies, start}
 use Rattle.tab_model.specs.State.{Transaction, Seat, State, seat_at, transaction_at, moves_in, told_in_transaction, age_in, AreDistinct, IsSound}
-use Rattle.tab_model.specs.State as plain
+use Rattle.tab_model.specs.Locks.{Apart, locks_of}
 use Rattle.tab_subs.specs.Subscribers.{Subscriber}
 use Rattle.tab_core.specs.Seats.{seat_with, state_with}
 use Rattle.tab_core.proofs.Frames.{at_dressed, transactions_dressed}
@@ -17,17 +17,17 @@ seated : (bs : List Subscriber) (o : Option Seat) (s : Seat) → option_map (sea
 seated bs None s h = cc
 seated bs (Some x) s h = (x, refl)
 
+abbrev AreApart : Option Transaction → Option Transaction → Type 0
+AreApart o p = Apart (locks_of (moves_in o)) (locks_of (moves_in p))
+
 pub sound_with : (bs : List Subscriber) (σ : State) → IsSound σ → IsSound (state_with bs σ)
 sound_with bs σ k = record {
   told = λ n. subst (λ (o : Option Transaction). replies (start σ.tables (age_in o)) (moves_in o) ≡ told_in_transaction o) (sym (transactions_dressed bs σ n)) (k.told n);
-  apart = λ m n other. subst (λ (o : Option Transaction). Apart_of o (transaction_at (state_with bs σ) n)) (sym (transactions_dressed bs σ m))
-      (subst (λ (o : Option Transaction). Apart_of (transaction_at σ m) o) (sym (transactions_dressed bs σ n)) (k.apart m n other));
+  apart = λ m n other. subst (λ (o : Option Transaction). AreApart o (transaction_at (state_with bs σ) n)) (sym (transactions_dressed bs σ m))
+      (subst (λ (o : Option Transaction). AreApart (transaction_at σ m) o) (sym (transactions_dressed bs σ n)) (k.apart m n other));
   ages = λ m n t u h i. k.ages m n t u (sym (transactions_dressed bs σ m) ∙ h) (sym (transactions_dressed bs σ n) ∙ i);
   taken = λ n t h. k.taken n t (sym (transactions_dressed bs σ n) ∙ h);
   joined = λ n s h. let x = seated bs (seat_at σ.seats n) s (sym (at_dressed bs σ.seats n) ∙ h) in k.joined n x.0 x.1;
   distinct = distinct_with bs σ.seats k.distinct;
   ordered = k.ordered;
 }
-  where
-    Apart_of : Option Transaction → Option Transaction → Type 0
-    Apart_of o p = Rattle.tab_model.specs.State.Apart (plain.locks_of (moves_in o)) (plain.locks_of (moves_in p))

@@ -241,7 +241,15 @@ no_updates bs σ n t ends h = by t.moves bare
 pub unwatched_commit_makes : (bs : List Subscriber) (σ : State) (k : IsKept bs σ) (n : ℕ) (s : Stepped) (τ : State) (e : ℕ × List Change) → Some e ≡ option_map ending_of (outermost σ n) → are_watched bs e.1 ≡ false → manager.StepsTo σ n (DoCommand command.Commit) s τ → Makes bs σ n (DoCommand command.Commit) s bs τ
 unwatched_commit_makes bs σ k n s τ e h unseen m =
     let t = ended_by (outermost σ n) e h in
-    unseen_commit_makes bs σ k n s τ t.0 t.1.0 (ap (λ (p : ℕ × List Change). are_watched bs p.1) (sym t.1.1) ∙ unseen) m
+    unseen_commit_makes bs σ k n s τ t.0 t.1 (ap (λ (p : ℕ × List Change). are_watched bs p.1) (sym t.2) ∙ unseen) m
+
+-- a commit whose batches were delivered
+pub ended_commit_makes : (bs : List Subscriber) (σ : State) (k : IsKept bs σ) (n : ℕ) (s : Stepped) (τ : State) (u : Rattle.tab_core.specs.declared.committing.Updated.Updated) → Commits σ bs n u → manager.StepsTo σ n (DoCommand command.Commit) s τ → (cs : List Subscriber) (over : List ℕ) (owed : Owed) (number : ℕ) (es : List Event) → es ≡ u.events.items
+    → owed ≡ record { number = number; items = map (λ (b : Subscriber). batch_for (level_in b.watching) number es) bs; ended = None } → number ≡ σ.commits + 1 → Delivers owed bs cs over
+    → (s' : Stepped) → s' ≡ record { reply = s.reply; entry = option_map (with_overflowed over) s.entry } → Makes bs σ n (DoCommand command.Commit) s' cs τ
+ended_commit_makes bs σ k n s τ u e h cs over owed number es es_are owed_is number_is d s' is =
+    commit_makes bs σ k n s τ e.transaction e.ends h es (es_are ∙ e.updates.events) cs over
+        (subst (λ o. Delivers o bs cs over) (owed_is ∙ ap (λ m. let o : Owed = record { number = m; items = map (λ (b : Subscriber). batch_for (level_in b.watching) m es) bs; ended = None } in o) number_is) d) s' is
 
 -- a table's deletion that was made
 pub remove_makes : (bs : List Subscriber) (σ : State) (k : IsKept bs σ) (n : ℕ) (s : Stepped) (τ : State) (t : List ℕ) → manager.StepsTo σ n (DoCommand (command.Schema (Rattle.tab_model.specs.declared.data.Schema.TheVariants.Remove t))) s τ → is_some s.entry ≡ true → (cs : List Subscriber) (over : List ℕ) (owed : Owed) (number : ℕ)
@@ -251,3 +259,11 @@ remove_makes bs σ k n s τ t h made cs over owed number owed_is number_is d s' 
     let x = some_is s.entry made in
     schema_makes bs σ k n s τ (Rattle.tab_model.specs.declared.data.Schema.TheVariants.Remove t) h x.0 x.1 cs over
         (subst (λ o. Delivers o bs cs over) (owed_is ∙ ap (λ m. let o : Owed = record { number = m; items = map (λ (b : Subscriber). end_for (level_in b.watching) (Some t)) bs; ended = Some t } in o) number_is) d) s' is
+
+-- a schema command that was a deletion, and was made
+pub removes : (bs : List Subscriber) (σ : State) (k : IsKept bs σ) (n : ℕ) (s : Stepped) (τ : State) (c : Schema) (t : List ℕ) → c ≡ Rattle.tab_model.specs.declared.data.Schema.TheVariants.Remove t → manager.StepsTo σ n (DoCommand (command.Schema c)) s τ → is_some s.entry ≡ true → (cs : List Subscriber) (over : List ℕ) (owed : Owed) (number : ℕ)
+    → owed ≡ record { number = number; items = map (λ (b : Subscriber). end_for (level_in b.watching) (Some t)) bs; ended = Some t } → number ≡ σ.commits + 1 → Delivers owed bs cs over
+    → (s' : Stepped) → s' ≡ record { reply = s.reply; entry = option_map (with_overflowed over) s.entry } → Makes bs σ n (DoCommand (command.Schema c)) s' cs τ
+removes bs σ k n s τ c t is h made cs over owed number owed_is number_is d s' told =
+    subst (λ (x : Schema). Makes bs σ n (DoCommand (command.Schema x)) s' cs τ) (sym is)
+    (remove_makes bs σ k n s τ t (subst (λ (x : Schema). manager.StepsTo σ n (DoCommand (command.Schema x)) s τ) is h) made cs over owed number owed_is number_is d s' told)

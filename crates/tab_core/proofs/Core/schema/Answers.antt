@@ -7,7 +7,7 @@ use Rattle.tab_model.specs.declared.data.Command.TheVariants as command
 use Rattle.tab_manager.specs.Steps as manager
 use Rattle.tab_subs.specs.Deliveries.{Owed, Delivers}
 use Rattle.tab_core.specs.Runs.{StepsTo}
-use Rattle.tab_core.proofs.StepsLemmas.{quiet_schema_makes, refused_schema_makes, schema_makes, same_result, err_stays, ok_sees, not_removed, none_is, some_is}
+use Rattle.tab_core.proofs.StepsLemmas.{quiet_schema_makes, refused_schema_makes, schema_makes, same_result, err_stays, ok_sees, not_removed, none_is, removes}
 use Rattle.tab_core.proofs.Core.schema.Goals as goal
 
 pub invariant_of-self : goal.invariant_of-self
@@ -32,11 +32,22 @@ returns-in_default g c =
 
 pub invariant_of-self-then-is_none : goal.invariant_of-self-then-is_none
 invariant_of-self-then-is_none g c = record {
-  same = (refused_schema_makes c.self.inside.subs c.self.inside.manager c.self.invariant c.args.session c.in_ok-stepped.stepped c.step-2.new.self c.args.schema c.in_ok-stepped.ensures.done (none_is _ (sym c.if-is_none.ensures))).1;
+  same = (refused_schema_makes c.self.inside.subs c.self.inside.manager c.self.invariant c.args.session c.in_ok-stepped.stepped c.step-2.new.self c.args.schema c.in_ok-stepped.ensures.done (none_is _ c.if-is_none.ensures)).1;
   sound = c.step-2.ensures.sound;
 }
 
 pub returns-then-is_none-clause-done : goal.returns-then-is_none-clause-done
 returns-then-is_none-clause-done g c =
     subst (λ (μ : State). StepsTo μ c.args.session (DoCommand (command.Schema c.args.schema)) c.in_ok-stepped.stepped (Rattle.tab_core.specs.Seats.state_with c.self.inside.subs c.step-2.new.self)) c.self.view_is
-    (refused_schema_makes c.self.inside.subs c.self.inside.manager c.self.invariant c.args.session c.in_ok-stepped.stepped c.step-2.new.self c.args.schema c.in_ok-stepped.ensures.done (none_is _ (sym c.if-is_none.ensures))).0
+    (refused_schema_makes c.self.inside.subs c.self.inside.manager c.self.invariant c.args.session c.in_ok-stepped.stepped c.step-2.new.self c.args.schema c.in_ok-stepped.ensures.done (none_is _ c.if-is_none.ensures)).0
+
+pub invariant_of-self-2 : goal.invariant_of-self-2
+invariant_of-self-2 g c = record {
+  same = (removes c.self.inside.subs c.self.inside.manager c.self.invariant c.args.session c.in_ok-stepped.stepped c.step-2.new.self c.args.schema c.in-Remove.table c.in-Remove.is c.in_ok-stepped.ensures.done c.if-is_none.ensures c.deliver-over.new.self c.deliver-over.result c.in_ok-prepared.prepared c.in_ok-number.number c.in_ok-prepared.ensures c.in_ok-number.ensures c.deliver-over.ensures c.with_overflowed.result c.with_overflowed.ensures).1;
+  sound = c.step-2.ensures.sound;
+}
+
+pub returns-clause-done : goal.returns-clause-done
+returns-clause-done g c =
+    subst (λ (μ : State). StepsTo μ c.args.session (DoCommand (command.Schema c.args.schema)) c.with_overflowed.result (Rattle.tab_core.specs.Seats.state_with c.deliver-over.new.self c.step-2.new.self)) c.self.view_is
+    (removes c.self.inside.subs c.self.inside.manager c.self.invariant c.args.session c.in_ok-stepped.stepped c.step-2.new.self c.args.schema c.in-Remove.table c.in-Remove.is c.in_ok-stepped.ensures.done c.if-is_none.ensures c.deliver-over.new.self c.deliver-over.result c.in_ok-prepared.prepared c.in_ok-number.number c.in_ok-prepared.ensures c.in_ok-number.ensures c.deliver-over.ensures c.with_overflowed.result c.with_overflowed.ensures).0

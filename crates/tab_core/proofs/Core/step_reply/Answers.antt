@@ -1,0 +1,12 @@
+use Rattle.std.proofs.Common.{sym, subst, inr, refl}
+use Rattle.tab_model.specs.Run.{entries}
+use Rattle.tab_core.specs.Runs.{ask_of, StepsOrNoMemory}
+use Rattle.tab_core.proofs.RunsLemmas.{takes_of}
+use Rattle.tab_core.proofs.Core.step_reply.Goals as goal
+
+pub returns-in-Ok : goal.returns-in-Ok
+returns-in-Ok g c = (
+  entries c.in-Ok.stepped.entry,
+  subst (λ r. StepsOrNoMemory c.args.self.now (c.args.session, ask_of g.P.Post.outbox c.args.step) r (entries c.in-Ok.stepped.entry) c.step.new.self) (sym c.into_reply.ensures)
+      (takes_of c.args.self.now c.step.new.self c.args.session (ask_of g.P.Post.outbox c.args.step) c.in-Ok.stepped c.in-Ok.ensures.done),
+)
