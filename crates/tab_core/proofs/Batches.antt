@@ -1,14 +1,15 @@
 -- An event of a table that no one watches is in no batch.
-use Rattle.std.proofs.Common.{◌≡◌, ℕ, List, [], ◌∷◌, ◌++◌, append_assoc, append-nil, Bool, true, false, refl, sym, ap, ◌∙◌, Option, Some, None}
+use Rattle.std.proofs.Common.{◌≡◌, ℕ, ◌+◌, ◌<◌, ◌≤◌, List, [], ◌∷◌, ◌++◌, append_assoc, append-nil, drop, get_or, add-one, drop-cons, length, Bool, true, false, refl, sym, ap, ◌∙◌, Option, Some, None}
 use Rattle.std.specs.Prelude.{if◌then◌else◌, is_some, map, ◌||◌}
 use Rattle.std.specs.List.{AllByRecursion, cons_option, filter, filter_map, list_any}
 use Rattle.std.proofs.lemmas.Bool.{or_parts}
+use Rattle.std.proofs.lemmas.List.{drop_all}
 use Rattle.tab_model.specs.declared.data.Change.{Change}
 use Rattle.tab_model.specs.declared.data.Event.{Event}
 use Rattle.tab_model.specs.declared.data.Item.{Item}
 use Rattle.tab_model.specs.declared.data.Level.{Level}
 use Rattle.tab_model.specs.declared.data.Level.TheVariants.{Simple, Detailed}
-use Rattle.tab_model.specs.Events.{events, event_of}
+use Rattle.tab_model.specs.Events.{events, event_of, change_all}
 use Rattle.tab_model.specs.Operations.{table_of_change, change_world}
 use Rattle.tab_model.specs.Slices.{batch_for, as_batch, shape_at}
 use Rattle.tab_model.specs.State.{level_in}
@@ -68,3 +69,35 @@ events_go_on p old e es = by (p e)
     by : (b : Bool) → (old ++ (if b then e ∷ [] else [])) ++ filter p es ≡ old ++ (if b then e ∷ filter p es else filter p es)
     by true = append_assoc old (e ∷ []) (filter p es)
     by false = ap (λ xs. xs ++ filter p es) (append-nil old)
+
+-- one pass over changes: what is still to be done of them makes of the tables and events so far those of all
+abbrev pub Passes : World → List Subscriber → ℕ → List Change → World → List Event → List Change → Type 0
+Passes w bs age cs now es rest = (change_all now rest ≡ change_all w cs) × (es ++ filter (is_watched bs) (events now age rest) ≡ filter (is_watched bs) (events w age cs))
+
+pub pass_starts : (w now : World) (bs : List Subscriber) (age : ℕ) (cs : List Change) (es : List Event) → now ≡ w → es ≡ [] → Passes w bs age cs now es cs
+pass_starts w now bs age cs es same none = (ap (λ v. change_all v cs) same, λ i. none i ++ filter (is_watched bs) (events (same i) age cs))
+
+pub pass_goes_on : (w now next : World) (bs : List Subscriber) (age : ℕ) (cs : List Change) (i : ℕ) (c : Change) (old new : List Event) → i < length cs → c ≡ get_or cs i c → next ≡ change_world now c → new ≡ old ++ filter (is_watched bs) (event_of now age c ∷ [])
+    → Passes w bs age cs now old (drop i cs) → Passes w bs age cs next new (drop (i + 1) cs)
+pass_goes_on w now next bs age cs i c old new less here step told so_far = (
+  ap (λ v. change_all v (drop (i + 1) cs)) step ∙ ap (change_all now) (sym rest) ∙ so_far.0,
+  (λ j. told j ++ filter (is_watched bs) (events (step j) age (drop (i + 1) cs)))
+    ∙ events_go_on (is_watched bs) old (event_of now age c) (events (change_world now c) age (drop (i + 1) cs))
+    ∙ ap (λ ds. old ++ filter (is_watched bs) (events now age ds)) (sym rest) ∙ so_far.1,
+)
+  where
+    first : drop i cs ≡ get_or cs i c ∷ drop (i + 1) cs
+    first = rw (add-one, drop-cons cs i c) refl
+
+    rest : drop i cs ≡ c ∷ drop (i + 1) cs
+    rest = first ∙ ap (λ d. d ∷ drop (i + 1) cs) (sym here)
+
+pub pass_ends : (w now tables : World) (bs : List Subscriber) (age : ℕ) (cs : List Change) (i : ℕ) (es : List Event) → length cs ≤ i → tables ≡ now → Passes w bs age cs now es (drop i cs)
+    → (tables ≡ change_all w cs) × (es ≡ filter (is_watched bs) (events w age cs))
+pass_ends w now tables bs age cs i es done same so_far = (
+  same ∙ ap (change_all now) (sym none) ∙ so_far.0,
+  sym (append-nil es) ∙ ap (λ ds. es ++ filter (is_watched bs) (events now age ds)) (sym none) ∙ so_far.1,
+)
+  where
+    none : drop i cs ≡ []
+    none = drop_all i cs done

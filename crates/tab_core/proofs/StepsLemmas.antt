@@ -25,7 +25,7 @@ use Rattle.tab_manager.specs.declared.step.Stepped.{Stepped}
 use Rattle.tab_subs.specs.Subscribers.{Subscriber, numbers}
 use Rattle.tab_subs.specs.Deliveries.{Owed, Delivers, AreDecided, given_all}
 use Rattle.tab_core.specs.Seats.{seat_with, state_with, with_overflowed, AreTheSame, IsKept}
-use Rattle.tab_core.specs.Owing.{is_watched, are_watched, Updates, Commits}
+use Rattle.tab_core.specs.Owing.{is_watched, are_watched, Updates, Owes, Commits}
 use Rattle.tab_core.specs.Runs.{StepsTo, takes_no_memory}
 use Rattle.tab_core.proofs.Frames.{at_dressed, transactions_dressed, lifted, IsQuiet, quiet_command, quiet_retry}
 use Rattle.tab_core.proofs.Delivering.{after, after_numbers}
@@ -267,3 +267,30 @@ pub removes : (bs : List Subscriber) (σ : State) (k : IsKept bs σ) (n : ℕ) (
 removes bs σ k n s τ c t is h made cs over owed number owed_is number_is d s' told =
     subst (λ (x : Schema). Makes bs σ n (DoCommand (command.Schema x)) s' cs τ) (sym is)
     (remove_makes bs σ k n s τ t (subst (λ (x : Schema). manager.StepsTo σ n (DoCommand (command.Schema x)) s τ) is h) made cs over owed number owed_is number_is d s' told)
+
+-- ---- a commit, as its call goes through it
+
+pub none_of : {A : Type 0} (f : A → ℕ × List Change) (r : Option A) (o : Option Transaction) → ((x : A) → r ≡ Some x → ⊥) → option_map f r ≡ option_map ending_of o → o ≡ None
+none_of f None o n h = none_ended o h
+none_of f (Some x) o n h = absurd (n x refl)
+
+pub nothing_due : (bs : List Subscriber) (σ ρ : State) (n : ℕ) (e : ℕ × List Change) → state_with bs σ ≡ ρ → Some e ≡ option_map ending_of (outermost σ n) → takes_no_memory ρ n (DoCommand command.Commit) ≡ true → e.1 ≡ []
+nothing_due bs σ ρ n e view h takes =
+    let t = ended_by (outermost σ n) e h in
+    ap (λ (p : ℕ × List Change). p.1) t.2 ∙ no_updates bs σ n t.0 t.1 (subst (λ (μ : State). takes_no_memory μ n (DoCommand command.Commit) ≡ true) (sym view) takes)
+
+pub unwatched_of : (w : Rattle.tab_model.specs.Worlds.World) (bs : List Subscriber) (age : ℕ) (cs : List Change) (o : Option Rattle.tab_core.specs.declared.committing.Updated.Updated) → ((u : Rattle.tab_core.specs.declared.committing.Updated.Updated) → o ≡ Some u → ⊥) → Owes w bs age cs o → are_watched bs cs ≡ false
+unwatched_of w bs age cs None n h = h
+unwatched_of w bs age cs (Some u) n h = absurd (n u refl)
+
+pub commits_of : (w : Rattle.tab_model.specs.Worlds.World) (bs : List Subscriber) (σ : State) (n : ℕ) (e : ℕ × List Change) (u : Rattle.tab_core.specs.declared.committing.Updated.Updated) → w ≡ σ.tables → Some e ≡ option_map ending_of (outermost σ n) → Updates w bs e.0 e.1 u → Commits σ bs n u
+commits_of w bs σ n e u is h updates =
+    let t = ended_by (outermost σ n) e h in record {
+      transaction = t.0;
+      ends = t.1;
+      updates = subst (λ (p : ℕ × List Change). Updates σ.tables bs p.0 p.1 u) t.2 (subst (λ (v : Rattle.tab_model.specs.Worlds.World). Updates v bs e.0 e.1 u) is updates);
+    }
+
+-- memory that a free command of the core would take is none that the manager takes
+pub seen_free : (bs : List Subscriber) (σ ρ : State) (n : ℕ) (c : Command) → state_with bs σ ≡ ρ → takes_no_memory ρ n (DoCommand c) ≡ true → manager.takes_no_memory σ n (DoCommand c) ≡ true
+seen_free bs σ ρ n c view h = free_command bs σ n c (subst (λ (μ : State). takes_no_memory μ n (DoCommand c) ≡ true) (sym view) h)
