@@ -58,8 +58,8 @@ returns-in_default-2-clause-done g c =
 pub returns-in_default-2-clause-free : goal.returns-in_default-2-clause-free
 returns-in_default-2-clause-free g c h = c.step-in_default-2.ensures.free (seen_free c.self.inside.subs c.self.inside.manager c.args.self.now c.args.session command.Commit c.self.view_is h)
 
-pub deliver_commit-requires-ends : goal.deliver_commit-requires-ends
-deliver_commit-requires-ends g c =
+pub deliver_commit-requires-clause-ends : goal.deliver_commit-requires-clause-ends
+deliver_commit-requires-clause-ends g c =
     let e : ℕ × List Change = (c.in-Some.ending.age, c.in-Some.ending.updates.now) in
     let owes = subst (Owes c.tables.result.now c.self.inside.subs e.0 e.1) c.in-Some-2.is c.in_ok-updated.ensures.owes in
     commits_of c.tables.result.now c.self.inside.subs c.self.inside.manager c.args.session e c.in-Some-2.updated c.tables.ensures c.in-Some.ensures owes.1

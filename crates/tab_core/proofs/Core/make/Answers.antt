@@ -18,4 +18,5 @@ pub returns-in-Retry-clause-done : goal.returns-in-Retry-clause-done
 returns-in-Retry-clause-done g c =
     let bs = c.self.inside.subs in
     let σ = c.self.inside.manager in
-    ok_sees bs bs σ c.step.new.self c.args.self.now c.args.session Retry _ c.step.result c.self.view_is (λ s h. (retry_makes bs σ c.self.invariant c.args.session s c.step.new.self h).0) c.step.ensures.done
+    subst (λ x. IfOk c.step.result (λ s. StepsTo c.args.self.now c.args.session (ask_of g.P.Post.outbox x) s (state_with bs c.step.new.self))) (sym c.in-Retry.is)
+    (ok_sees bs bs σ c.step.new.self c.args.self.now c.args.session Retry _ c.step.result c.self.view_is (λ s h. (retry_makes bs σ c.self.invariant c.args.session s c.step.new.self h).0) c.step.ensures.done)
