@@ -31,7 +31,7 @@ beginning (suc n) (x ∷ b) rest = let i = beginning n b rest in (suc i.0, ap (�
 pub beginning_after : (a : List ℕ) (n : ℕ) (b rest : List ℕ) → (k : ℕ) × (take k (a ++ (b ++ rest)) ≡ a ++ take n b)
 beginning_after a n b rest = let i = beginning n b rest in (length a + i.0, take-append-add a (b ++ rest) i.0 ∙ ap (λ (x : List ℕ). a ++ x) i.1)
 
-module _ {capacity : ℕ} where
+module _ (capacity : ℕ) where
   under : (σ : State) (read : Result PlainTerm Stop) → IsUnderRead capacity σ read 0
   under σ (Ok t) = inl refl
   under σ (Err f) = refl

@@ -23,7 +23,7 @@ pub one_shot_numbered : (t : PlainTerm) (n : ℕ) → IsNumberOf t n → AsksOne
 one_shot_numbered t n (inl h) a = absurd (h.1 a.session a.numbered (ap number_in a.is))
 one_shot_numbered t n (inr h) a = h
 
-module _ {capacity : ℕ} where
+module _ (capacity : ℕ) where
   -- a request that was read is answered by what it asks for
   pub answered : (σ μ : State) (t : PlainTerm) (n : ℕ) (a : Request) (r : Reply) → request_term n a ≡ t → IsSession n → IsRequest a → RepliesTo capacity σ n a r μ
       → AnsweredTerm capacity σ t (record { session = n; reply = r }) μ ⊎ RefusedTerm capacity σ t (record { session = n; reply = r }) μ

@@ -44,25 +44,19 @@ found_bounded (x ∷ ss) n s k h = by (x.number == n) h (found_bounded ss n s k.
 
 changes : (ss : List Seat) → Bounded ss → (s : Seat) → HasCapacity s → Bounded (change ss s)
 changes [] k s h = tt
-changes (x ∷ ss) k s h = by (x.number == s.number)
+changes (x ∷ ss) k s h = by (x.number == s.number) (changes ss k.1 s h)
   where
-    rest : Bounded (change ss s)
-    rest = changes ss k.1 s h
-
-    by : (b : Bool) → Bounded (if b then s ∷ ss else x ∷ change ss s)
-    by true = (h, k.1)
-    by false = (k.0, rest)
+    by : (b : Bool) → Bounded (change ss s) → Bounded (if b then s ∷ ss else x ∷ change ss s)
+    by true rest = (h, k.1)
+    by false rest = (k.0, rest)
 
 removes : (ss : List Seat) → Bounded ss → (n : ℕ) → Bounded (without_seat ss n)
 removes [] k n = tt
-removes (x ∷ ss) k n = by (x.number == n)
+removes (x ∷ ss) k n = by (x.number == n) (removes ss k.1 n)
   where
-    rest : Bounded (without_seat ss n)
-    rest = removes ss k.1 n
-
-    by : (b : Bool) → Bounded (if b then without_seat ss n else x ∷ without_seat ss n)
-    by true = rest
-    by false = (k.0, rest)
+    by : (b : Bool) → Bounded (without_seat ss n) → Bounded (if b then without_seat ss n else x ∷ without_seat ss n)
+    by true rest = rest
+    by false rest = (k.0, rest)
 
 appends : (ss : List Seat) → Bounded ss → (s : Seat) → HasCapacity s → Bounded (ss ++ s ∷ [])
 appends [] k s h = (h, tt)
@@ -74,14 +68,11 @@ each f h (s ∷ ss) k = (h s k.0, each f h ss k.1)
 
 some_of : (p : Seat → Bool) (ss : List Seat) → Bounded ss → Bounded (filter p ss)
 some_of p [] k = tt
-some_of p (s ∷ ss) k = by (p s)
+some_of p (s ∷ ss) k = by (p s) (some_of p ss k.1)
   where
-    rest : Bounded (filter p ss)
-    rest = some_of p ss k.1
-
-    by : (b : Bool) → Bounded (if b then s ∷ filter p ss else filter p ss)
-    by true = (k.0, rest)
-    by false = rest
+    by : (b : Bool) → Bounded (filter p ss) → Bounded (if b then s ∷ filter p ss else filter p ss)
+    by true rest = (k.0, rest)
+    by false rest = rest
 
 given_bounded : (n : ℕ) (over : List ℕ) (items : List Item) (s : Seat) → HasCapacity s → HasCapacity (given n over items s)
 given_bounded n over items s k = by (has_session over s.number)

@@ -68,7 +68,7 @@ pub if_some_map : (o : Option (List ℕ)) (P Q : List ℕ → Type 0) → ((x : 
 if_some_map None P Q f h = tt
 if_some_map (Some x) P Q f h = f x refl h
 
-module _ {capacity : ℕ} where
+module _ (capacity : ℕ) where
   pub replaying_init : (stream : List ℕ) (old : Option (List ℕ)) → IsReplaying capacity stream (Some stream) [] 0 fresh old old
   replaying_init stream old = record {
     more = stream;
@@ -95,7 +95,7 @@ module _ {capacity : ℕ} where
         said = s.said ++ p.replies;
         found = s.found ∙ ap (λ (x : List ℕ). s.done ++ payloads x) whole ∙ ap (λ (x : List (List ℕ)). s.done ++ x) (g.found k.next) ∙ sym (append_assoc s.done given (payloads (rest ++ k.next)));
         ends = s.ends ∙ ap rest_of whole ∙ g.ends k.next;
-        goes = λ qs ss τ r. rw (append_assoc s.done given qs, append_assoc s.said p.replies ss) (s.goes (given ++ qs) (p.replies ++ ss) τ (ran_join now μ τ given qs p.replies ss p.ran r));
+        goes = λ qs ss τ r. rw (append_assoc s.done given qs, append_assoc s.said p.replies ss) (s.goes (given ++ qs) (p.replies ++ ss) τ (ran_join capacity now μ τ given qs p.replies ss p.ran r));
         text = Appends-then old mid new _ _ _ s.text p.text (sym (frames_join s.said p.replies));
         count = omega (arith, s.count, ap length k.parts, length-append piece k.next);
       }
@@ -157,8 +157,8 @@ module _ {capacity : ℕ} where
   said_on : (stream : List ℕ) (left : Option (List ℕ)) (held : List ℕ) (i : ℕ) (now : State) (old mid : Option (List ℕ)) (given : List (List ℕ)) (rs : List Answer)
       → (s : IsReplaying capacity stream left held i now old mid) → Next stream s.done given → IsRun capacity now given rs → (us : List Answer) × IsRun capacity fresh (payloads stream) (s.said ++ (rs ++ us))
   said_on stream left held i now old mid given rs s n q =
-      let t = total q.last n.others in
-      (t.0, record { last = t.1.last; ran = subst (λ (ps : List (List ℕ)). AnsweredAll capacity fresh ps (s.said ++ (rs ++ t.0)) t.1.last) (sym n.found) (s.goes (given ++ n.others) (rs ++ t.0) t.1.last (ran_join now q.last t.1.last given n.others rs t.0 q.ran t.1.ran)) })
+      let t = total capacity q.last n.others in
+      (t.0, record { last = t.1.last; ran = subst (λ (ps : List (List ℕ)). AnsweredAll capacity fresh ps (s.said ++ (rs ++ t.0)) t.1.last) (sym n.found) (s.goes (given ++ n.others) (rs ++ t.0) t.1.last (ran_join capacity now q.last t.1.last given n.others rs t.0 q.ran t.1.ran)) })
 
   pub replaying_err : (stream : List ℕ) (left : Option (List ℕ)) (held : List ℕ) (i : ℕ) (now μ : State) (old mid new : Option (List ℕ)) (given : List (List ℕ)) (e : Ended)
       → (s : IsReplaying capacity stream left held i now old mid) → Next stream s.done given → Served capacity now μ given mid new (Err e) → Replayed capacity stream old new (Err e)
@@ -196,7 +196,7 @@ module _ {capacity : ℕ} where
   said_all : (stream : List ℕ) (left : Option (List ℕ)) (held : List ℕ) (i : ℕ) (now : State) (old new : Option (List ℕ))
       → (s : IsReplaying capacity stream left held i now old new) → (us : List Answer) × IsRun capacity fresh (payloads stream) (s.said ++ us)
   said_all stream left held i now old new s =
-      let t = total now (payloads (held ++ s.more)) in
+      let t = total capacity now (payloads (held ++ s.more)) in
       (t.0, record { last = t.1.last; ran = subst (λ (ps : List (List ℕ)). AnsweredAll capacity fresh ps (s.said ++ t.0) t.1.last) (sym s.found) (s.goes (payloads (held ++ s.more)) t.0 t.1.last t.1.ran) })
 
   pub replaying_device : (stream : List ℕ) (left : Option (List ℕ)) (held : List ℕ) (i : ℕ) (now : State) (old new : Option (List ℕ))

@@ -205,7 +205,7 @@ calls_calm n σ μ (Again ∷ calls) ran sole = calls_calm n σ μ calls ran sol
 abbrev GoesOn : Answer → Type 0
 GoesOn x = (x.reply ≢ reply.Waiting) × (x.reply ≢ reply.Restart)
 
-module _ {capacity : ℕ} where
+module _ (capacity : ℕ) where
   joins_empty : (a : Request) → JoinsEmpty (ask_for capacity a)
   joins_empty request.Join = refl
   joins_empty request.Leave = tt

@@ -28,7 +28,7 @@ left_is ps i v lt e =
 pub none_left : (ps : List Frame) (i : ℕ) → length ps ≤ i → contents (drop i ps) ≡ []
 none_left ps i le = ap contents (drop_all i ps le)
 
-module _ {capacity : ℕ} where
+module _ (capacity : ℕ) where
   pub serving_init : (σ : State) (all : List (List ℕ)) (old : Option (List ℕ)) → IsServing capacity σ σ all all old old []
   serving_init σ all old = record { said = []; goes = λ ss τ r. r; written = []; text = Appends-none old; whole = refl }
 
@@ -66,7 +66,7 @@ module _ {capacity : ℕ} where
   pub serving_device : (σ now : State) (all left : List (List ℕ)) (old mid new : Option (List ℕ)) (b : List ℕ) (n : ℕ)
       → IsServing capacity σ now all left old mid b → Appends mid new (take n b) → WroteSome capacity σ all old new
   serving_device σ now all left old mid new b n s w =
-      let t = total now left in
+      let t = total capacity now left in
       let k = beginning_after s.written n b (frames_of t.0) in
       let e : s.written ++ (b ++ frames_of t.0) ≡ frames_of (s.said ++ t.0) =
       sym (append_assoc s.written b (frames_of t.0)) ∙ ap (λ (x : List ℕ). x ++ frames_of t.0) s.whole ∙ sym (frames_join s.said t.0) in
@@ -88,7 +88,7 @@ module _ {capacity : ℕ} where
   pub serving_no_memory : (σ now : State) (all left : List (List ℕ)) (old mid new : Option (List ℕ)) (b : List ℕ)
       → IsServing capacity σ now all left old mid b → Appends mid new b → WroteFirst capacity σ all old new
   serving_no_memory σ now all left old mid new b s w =
-      let t = total now left in
+      let t = total capacity now left in
       record {
         first = s.said;
         others = t.0;
@@ -99,7 +99,7 @@ module _ {capacity : ℕ} where
   pub serving_too_long : (σ now μ : State) (all left : List (List ℕ)) (old mid new : Option (List ℕ)) (b p : List ℕ) (r : Answer)
       → IsServing capacity σ now all (p ∷ left) old mid b → Answered capacity now p r μ → 4294967295 < length (answer_payload r) → Appends mid new b → WroteBefore capacity σ all old new
   serving_too_long σ now μ all left old mid new b p r s a lt w =
-      let t = total μ left in
+      let t = total capacity μ left in
       record {
         first = s.said;
         others = r ∷ t.0;

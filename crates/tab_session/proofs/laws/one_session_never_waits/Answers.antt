@@ -2,4 +2,4 @@ use Rattle.tab_session.proofs.RunLaws.{said_alone}
 use Rattle.tab_session.proofs.laws.one_session_never_waits.Goals as goal
 
 pub returns : goal.returns
-returns c = λ outbox. said_alone
+returns c = said_alone
