@@ -19,6 +19,19 @@ use Rattle.tab_term.specs.contracts.atom.Atom as atom
 use Rattle.tab_term.specs.contracts.bytes.Bytes as bytes
 use Rattle.tab_term.specs.contracts.term.Terms as terms
 use Rattle.tab_model.specs.contracts.data.Item as item
+use Rattle.tab_post.specs.contracts.post.ChannelPost as post
+use Rattle.tab_post.specs.contracts.rule.Hand as hand
+use Rattle.crossbeam_channel.specs.contracts.flavors.array.Doing as doing
+use Rattle.crossbeam_channel.specs.contracts.flavors.array.Key as key
+use Rattle.atomic_table.specs.contracts.shared.Seat as seat
+use Rattle.atomic_table.specs.contracts.badge.Badge as badge
+use Rattle.tab_post.specs.contracts.inbox.Inbox as inbox
+use Rattle.crossbeam_channel.proofs.flavors.array.ruled.Sending.TheSendSync as sending_marks
+use Rattle.crossbeam_channel.proofs.flavors.array.ruled.Receiving.TheSendSync as receiving_marks
+use Rattle.crossbeam_channel.proofs.flavors.array.Rows.TheSendSync as rows_marks
+use Rattle.crossbeam_channel.proofs.flavors.array.Key.TheSendSync as key_marks
+use Rattle.atomic_table.proofs.shared.Seat.TheSendSync as seat_marks
+use Rattle.atomic_table.proofs.badge.Badge.TheSendSync as badge_marks
 use Rattle.tab_model.proofs.data.Level.TheSendSync as level_marks
 use Rattle.tab_model.proofs.data.Ending.TheSendSync as ending_marks
 use Rattle.std.proofs.option.Option.TheSendSync as option_marks
@@ -53,3 +66,19 @@ item_send =
         ((atom_field, (ending_marks.the_send, tt)), tt),
       ),
     )
+
+pass_send : IsSend (seat.the_row (badge.the_row (key.the_row item.the_row)) (doing.the_row item.the_row hand.the_row))
+pass_send = seat_marks.the_send (badge.the_row (key.the_row item.the_row)) (doing.the_row item.the_row hand.the_row) (badge_marks.the_send (key.the_row item.the_row))
+
+pub post_send : (R : RattleType) → IsSend R → IsSend (post.the_row R)
+post_send R r =
+    declared_send (post.the_type R) (
+      as_row_send (row_field R) r,
+      (
+        search (sending_marks.the_send, rows_marks.the_send, rows_marks.the_sync, seat_marks.the_send, badge_marks.the_send, key_marks.the_send, option_marks.the_send, item_send, global_marks.the_send, global_marks.the_sync, heap_marks.the_frees) depth 12,
+        (pass_send, (as_row_send u64-field (plain_send _ _ _ _ _), tt)),
+      ),
+    )
+
+pub inbox_send : (R : RattleType) → IsSend R → IsSend (inbox.the_row R)
+inbox_send R r = declared_send (inbox.the_type R) (as_row_send (row_field R) r, (search (receiving_marks.the_send, rows_marks.the_send, rows_marks.the_sync, seat_marks.the_send, badge_marks.the_send, key_marks.the_send, option_marks.the_send, item_send, global_marks.the_send, global_marks.the_sync, heap_marks.the_frees) depth 12, (pass_send, tt)))
