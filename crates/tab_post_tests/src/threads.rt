@@ -46,7 +46,6 @@ fn receive_all<R: Wait + Abort>(rt: &R, mut inbox: Inbox<R>) -> Inbox<R>
 }
 
 #[test]
-#[tactic(auto, using(crate::proofs::Sends::post_send, crate::proofs::Sends::inbox_send))]
 fn a_thousand_in_order(rt: HostRuntime) {
     let (post, inbox) = mailbox(rt, rt.alloc(), 4).expect(&rt, "memory");
     let rt = &rt;
