@@ -29,7 +29,6 @@ use Rattle.tab_post.specs.contracts.inbox.Inbox as inbox
 use Rattle.crossbeam_channel.proofs.flavors.array.ruled.Sending.TheSendSync as sending_marks
 use Rattle.crossbeam_channel.proofs.flavors.array.ruled.Receiving.TheSendSync as receiving_marks
 use Rattle.crossbeam_channel.proofs.flavors.array.Rows.TheSendSync as rows_marks
-use Rattle.crossbeam_channel.proofs.flavors.array.Key.TheSendSync as key_marks
 use Rattle.atomic_table.proofs.shared.Seat.TheSendSync as seat_marks
 use Rattle.atomic_table.proofs.badge.Badge.TheSendSync as badge_marks
 use Rattle.tab_model.proofs.data.Level.TheSendSync as level_marks
@@ -75,10 +74,10 @@ post_send R r =
     declared_send (post.the_type R) (
       as_row_send (row_field R) r,
       (
-        search (sending_marks.the_send, rows_marks.the_send, rows_marks.the_sync, seat_marks.the_send, badge_marks.the_send, key_marks.the_send, option_marks.the_send, item_send, global_marks.the_send, global_marks.the_sync, heap_marks.the_frees) depth 12,
+        search (sending_marks.the_send, rows_marks.the_send, rows_marks.the_sync, badge_marks.the_send, option_marks.the_send, item_send, global_marks.the_send, global_marks.the_sync, heap_marks.the_frees) depth 12,
         (pass_send, (as_row_send u64-field (plain_send _ _ _ _ _), tt)),
       ),
     )
 
 pub inbox_send : (R : RattleType) → IsSend R → IsSend (inbox.the_row R)
-inbox_send R r = declared_send (inbox.the_type R) (as_row_send (row_field R) r, (search (receiving_marks.the_send, rows_marks.the_send, rows_marks.the_sync, seat_marks.the_send, badge_marks.the_send, key_marks.the_send, option_marks.the_send, item_send, global_marks.the_send, global_marks.the_sync, heap_marks.the_frees) depth 12, (pass_send, tt)))
+inbox_send R r = declared_send (inbox.the_type R) (as_row_send (row_field R) r, (search (receiving_marks.the_send, rows_marks.the_send, rows_marks.the_sync, badge_marks.the_send, option_marks.the_send, item_send, global_marks.the_send, global_marks.the_sync, heap_marks.the_frees) depth 12, (pass_send, tt)))
