@@ -434,3 +434,14 @@ module _ (bs : List Subscriber) (σ ρ : State) (k : IsKept bs σ) (view : state
       let made = mark_makes bs σ k n unsubscribing (unsubscribe_refusal t l) (λ s. without_watch s.watching t) (Ended t ending.Unsubscribed) (λ j. Unsubscribed j t) (unsubscribes (state_with bs σ) t l)
           (sym (unseen bs σ ρ view n (λ μ. unsubscribe_refusal t l) None h)) (λ b. without_watch b.watching t) (λ b s. refl) m cs marked_as s' is in
       (subst (λ (μ : State). StepsTo μ n (DoCommand unsubscribing) s' (state_with cs σ)) view made.0, made.1)
+
+-- ---- the post of a session
+
+pub post_seen : (bs : List Subscriber) (σ : State) → IsKept bs σ → (n : ℕ) → option_map (λ (b : Subscriber). b.outbox) (at bs n) ≡ option_map (λ (s : Seat). s.outbox) (seat_at (state_with bs σ).seats n)
+post_seen bs σ k n = by (seat_at σ.seats n) refl
+  where
+    by : (o : Option Seat) → seat_at σ.seats n ≡ o → option_map (λ (b : Subscriber). b.outbox) (at bs n) ≡ option_map (λ (s : Seat). s.outbox) (seat_at (state_with bs σ).seats n)
+    by None e = ap (option_map (λ (b : Subscriber). b.outbox)) (none_there bs σ.seats n k.same e) ∙ ap (option_map (λ (s : Seat). s.outbox)) (sym (mapped_none bs σ n e))
+    by (Some s) e =
+        let m = mine bs σ k n s e in
+        ap (option_map (λ (b : Subscriber). b.outbox)) m.1.there ∙ ap (λ (x : Seat). Some x.outbox) (sym m.1.seat) ∙ ap (option_map (λ (x : Seat). x.outbox)) (sym (mapped_some bs σ n s e))
