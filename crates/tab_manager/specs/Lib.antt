@@ -1,6 +1,6 @@
 pub mod Seats
 pub mod Works
 pub mod Kept
-pub mod Served
+pub mod Quiet
 pub mod Steps
 pub mod Outermost

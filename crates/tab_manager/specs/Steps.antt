@@ -6,7 +6,7 @@ use Rattle.tab_model.specs.Outcome.{Ask, Join, Leave, Retry, Take, DoCommand, is
 use Rattle.tab_manager.specs.declared.step.Step.{Step}
 use Rattle.tab_manager.specs.declared.step.Step.TheVariants as step
 use Rattle.tab_manager.specs.declared.step.Stepped.{Stepped}
-use Rattle.tab_manager.specs.Served.{serves}
+use Rattle.tab_manager.specs.Quiet.{is_quiet}
 use Rattle.tab_manager.specs.Seats.{no_outbox}
 
 abbrev pub ask_of : Step → Ask
@@ -16,9 +16,9 @@ ask_of (step.Do c) = DoCommand c
 ask_of step.Retry = Retry
 
 -- the caller's condition on a step
-abbrev pub serves_step : Step → Bool
-serves_step (step.Do c) = serves c
-serves_step s = true
+abbrev pub is_quiet_step : Step → Bool
+is_quiet_step (step.Do c) = is_quiet c
+is_quiet_step s = true
 
 -- what is done without memory: to join, to leave, to take, to abort; to retry where nothing is queued; and to commit a
 -- transaction that did nothing

@@ -11,7 +11,7 @@ ghost use Rattle.tab_model.specs.Events.{change_all, surviving};
 ghost use Rattle.tab_model.specs.Outcome.{DoCommand};
 ghost use Rattle.tab_model.specs.State.{Transaction, new, seat_at, is_waiting, IsSound};
 ghost use Rattle.tab_manager.specs.Outermost.{outermost, ending_of, told_of};
-ghost use Rattle.tab_manager.specs.Steps.{ask_of, serves_step, StepsTo, takes_no_memory};
+ghost use Rattle.tab_manager.specs.Steps.{ask_of, is_quiet_step, StepsTo, takes_no_memory};
 
 mod command;
 mod ending;
@@ -70,7 +70,7 @@ impl Manager {
 
     /// One step of a session, whole or, where memory that it takes is refused, not at all.
     pub fn step(&mut self, session: u32, step: Step) -> Result<Stepped, AllocError>
-        requires { serves_step step ≡ true }
+        requires { is_quiet_step step ≡ true }
         ensures done { IfOk result (λ s. StepsTo self.old session (ask_of step) s self.new) }
         ensures free { takes_no_memory self.old session (ask_of step) ≡ true → IsOk result }
         ensures err { OnErr result (self.new ≡ self.old) }

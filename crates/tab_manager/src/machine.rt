@@ -3,8 +3,8 @@
 ghost use Rattle.std.specs.Prelude.{◌≡◌, ◌≤◌, [], Some, None, IfOk, IsOk, OnErr, MatchOption, false, true};
 ghost use Rattle.tab_model.specs.State.{new, is_waiting};
 ghost use Rattle.tab_model.specs.Outcome.{DoCommand, nothing, outcome};
-ghost use Rattle.tab_manager.specs.Steps.{StepsTo, ask_of, serves_step, takes_no_memory};
-ghost use Rattle.tab_manager.specs.Served.{serves};
+ghost use Rattle.tab_manager.specs.Steps.{StepsTo, ask_of, is_quiet_step, takes_no_memory};
+ghost use Rattle.tab_manager.specs.Quiet.{is_quiet};
 ghost use Rattle.tab_manager.specs.Seats.{state_of, at, StandsAt};
 ghost use Rattle.tab_manager.specs.Kept.{IsKept};
 
@@ -89,7 +89,7 @@ impl Machine {
     }
 
     pub fn step(&mut self, session: u32, step: Step) -> Result<Stepped, AllocError>
-        requires served { serves_step step ≡ true }
+        requires quiet { is_quiet_step step ≡ true }
         requires kept { IsKept self.old }
         ensures done { IfOk result (λ s. StepsTo (state_of self.old) session (ask_of step) s (state_of self.new)) }
         ensures free { takes_no_memory (state_of self.old) session (ask_of step) ≡ true → IsOk result }
@@ -109,7 +109,7 @@ impl Machine {
 
     /// A command of a joined session.
     fn command(&mut self, session: u32, place: usize, asked: Asked) -> Result<Stepped, AllocError>
-        requires served { serves asked.command ≡ true }
+        requires quiet { is_quiet asked.command ≡ true }
         requires kept { IsKept self.old }
         requires there { StandsAt self.old.seats.items session place }
         ensures done { IfOk result (λ s. outcome (state_of self.old) [] session (DoCommand asked.command) ≡ record { state = state_of self.new; reply = s.reply; entry = s.entry }) }
@@ -134,7 +134,7 @@ impl Machine {
         place: usize,
         asked: Asked,
     ) -> Result<Stepped, AllocError>
-        requires served { serves asked.command ≡ true }
+        requires quiet { is_quiet asked.command ≡ true }
         requires kept { IsKept self.old }
         requires there { StandsAt self.old.seats.items session place }
         requires idle { is_waiting (state_of self.old) session ≡ false }

@@ -11,7 +11,7 @@ pub enum Step {
     Join,
     /// Ends the session's transaction and the session.
     Leave,
-    /// A command of the session. It is one that `is_served` names.
+    /// A command of the session. It begins or ends no subscription.
     Do(Command),
     /// Asks again for the lock that the session waits for.
     Retry,
