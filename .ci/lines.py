@@ -82,6 +82,38 @@ def commits(count):
     return frames(*asked), frames(*told)
 
 
+def watched(count):
+    """64 sessions watch as many commits; all but the last take each batch, and the last is told of its overflow."""
+    sessions, last = range(1, 65), 64
+    asked = [(session, "join") for session in sessions] + [(1, ("create_table", "t", []))]
+    told = [(session, "ok") for session in sessions] + [(1, ("atomic", "ok"))]
+    begun, none = ("mnesia_table_begin", "t", "simple"), "empty"
+    batches = [
+        ("batch", number, [("mnesia_table_event", ("write", ("t", number % 7, number), ("tid", number)))])
+        for number in range(1, count + 1)
+    ]
+
+    def take(session, item):
+        asked.append((session, "take"))
+        told.append((session, item))
+
+    for session in sessions:
+        asked.append((session, ("subscribe", ("table", "t", "simple"))))
+        told.append((session, ("ok", "nonode@nohost")))
+    for session in sessions[:-1]:
+        take(session, begun)
+    for number, batch in enumerate(batches, 1):
+        asked += [(1, "begin"), (1, ("write", ("t", number % 7, number))), (1, "commit")]
+        told += [(1, ("tid", number)), (1, "ok"), (1, ("atomic", number))]
+        for session in sessions[:-1]:
+            take(session, batch)
+    for item in [begun, *batches[:63], ("mnesia_overflow", 64), none]:
+        take(last, item)
+    for session in sessions[:-1]:
+        take(session, none)
+    return frames(*asked), frames(*told)
+
+
 def streams():
     """Name, further words, input, output, status and standard error of a replay."""
     begun = frames((1, "ok"), (1, ("atomic", "ok")), (1, ("tid", 1)))
@@ -90,6 +122,7 @@ def streams():
         ("the longest payload", [], longest(LONGEST), begun + frames((1, "ok")), 0, b""),
         ("a payload that is too long", [], longest(LONGEST + 1), begun, 3, DAMAGED),
         ("10,000 commits", [], *commits(10_000), 0, b""),
+        ("64 subscribers", [], *watched(70), 0, b""),
     ]
 
 
