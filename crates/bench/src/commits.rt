@@ -26,7 +26,7 @@ const LIMITS: Limits = Limits {
     journal: 1024,
 };
 
-/// Begin, write and commit of one record, so often, while this many sessions watch the table, and take between the commits.
+/// Begin, write and commit of one record, about so often, while this many sessions watch the table, and take between the commits.
 pub fn measure<H: AllocGlobal + Clock>(
     rt: &H,
     watching: u32,
@@ -35,22 +35,20 @@ pub fn measure<H: AllocGlobal + Clock>(
 ) -> Result<Figure> {
     let alloc = rt.alloc();
     let mut core = watched(alloc, watching, level)?;
+    let batches = (rounds / OUTBOX).max(1);
     let mut took = Duration::ZERO;
-    let mut left = rounds;
-    while left > 0 {
-        let some = left.min(OUTBOX);
-        took = took.saturating_add(committing(rt, &mut core, some)?);
+    for _ in 0..batches {
+        took = took.saturating_add(committing(rt, &mut core, OUTBOX)?);
         for session in WRITER..=watching {
-            take_all(&mut core, session, some)?;
+            take_all(&mut core, session, OUTBOX)?;
         }
-        left = left.saturating_sub(some);
     }
     let level = match level {
         Level::Simple => "simple",
         Level::Detailed => "detailed",
     };
     let name = format!(in alloc; "begin, write, commit, {watching} watch at {level}")?;
-    Ok(Figure::new(name, Work::Calls(u64::from(rounds)), took))
+    Ok(Figure::new(name, Work::Calls(u64::from(batches) * u64::from(OUTBOX)), took))
 }
 
 fn watched(alloc: Global, watching: u32, level: Level) -> Result<Core<RingPost>> {
