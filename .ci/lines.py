@@ -29,6 +29,10 @@ WORDS = [
     (["nosuch"], 2, b"", b"error: "),
     (["replay", "nosuch"], 2, b"", b"error: "),
     (["--nosuch"], 2, b"", b"error: "),
+    (["replay", "--outbox"], 2, b"", b"error: "),
+    (["replay", "--outbox", "0"], 2, b"", b"error: "),
+    (["replay", "--outbox", "65537"], 2, b"", b"error: "),
+    (["replay", "--outbox", "1"], 0, b"", b""),
     ([b"\xff\xfe"], 2, b"", b"error: "),
     (["--version"], 0, b"tabd 0.1.0\n", b""),
     (["--help"], 0, b"A server of named in-memory tables", b""),
@@ -50,12 +54,15 @@ def bytes_of(text):
 
 
 def rows():
-    """The streams of tab_session's tests: name, input, output, and how the run ends."""
+    """The streams of tab_session's tests: name, words, input, output, and how the run ends."""
     names = sorted(name for name in os.listdir(ROWS) if name.endswith(".rt"))
     text = "".join(open(os.path.join(ROWS, name), encoding="utf-8").read() for name in names)
-    row = re.compile(r'name: "(.*?)",\s*ended: (.*?),\s*input: "(.*?)",\s*output: "(.*?)",', re.S)
+    row = re.compile(r'name: "(.*?)",\s*outbox: (.*?),\s*ended: (.*?),\s*input: "(.*?)",\s*output: "(.*?)",', re.S)
     ends = {"Ok(())": (0, b""), "Err(Ended::Damaged)": (3, DAMAGED)}
-    return [(name, bytes_of(given), bytes_of(told), *ends[ended]) for name, ended, given, told in row.findall(text)]
+    return [
+        (name, ["--outbox", outbox], bytes_of(given), bytes_of(told), *ends[ended])
+        for name, outbox, ended, given, told in row.findall(text)
+    ]
 
 
 def longest(size):
@@ -75,14 +82,47 @@ def commits(count):
     return frames(*asked), frames(*told)
 
 
+def watched(count):
+    """64 sessions watch as many commits; all but the last take each batch, and the last is told of its overflow."""
+    sessions, last = range(1, 65), 64
+    asked = [(session, "join") for session in sessions] + [(1, ("create_table", "t", []))]
+    told = [(session, "ok") for session in sessions] + [(1, ("atomic", "ok"))]
+    begun, none = ("mnesia_table_begin", "t", "simple"), "empty"
+    batches = [
+        ("batch", number, [("mnesia_table_event", ("write", ("t", number % 7, number), ("tid", number)))])
+        for number in range(1, count + 1)
+    ]
+
+    def take(session, item):
+        asked.append((session, "take"))
+        told.append((session, item))
+
+    for session in sessions:
+        asked.append((session, ("subscribe", ("table", "t", "simple"))))
+        told.append((session, ("ok", "nonode@nohost")))
+    for session in sessions[:-1]:
+        take(session, begun)
+    for number, batch in enumerate(batches, 1):
+        asked += [(1, "begin"), (1, ("write", ("t", number % 7, number))), (1, "commit")]
+        told += [(1, ("tid", number)), (1, "ok"), (1, ("atomic", number))]
+        for session in sessions[:-1]:
+            take(session, batch)
+    for item in [begun, *batches[:63], ("mnesia_overflow", 64), none]:
+        take(last, item)
+    for session in sessions[:-1]:
+        take(session, none)
+    return frames(*asked), frames(*told)
+
+
 def streams():
-    """Name, input, output, status and standard error of a replay."""
+    """Name, further words, input, output, status and standard error of a replay."""
     begun = frames((1, "ok"), (1, ("atomic", "ok")), (1, ("tid", 1)))
     return rows() + [
-        ("the greatest session", frames((GREATEST, "join")), frames((GREATEST, "ok")), 0, b""),
-        ("the longest payload", longest(LONGEST), begun + frames((1, "ok")), 0, b""),
-        ("a payload that is too long", longest(LONGEST + 1), begun, 3, DAMAGED),
-        ("10,000 commits", *commits(10_000), 0, b""),
+        ("the greatest session", [], frames((GREATEST, "join")), frames((GREATEST, "ok")), 0, b""),
+        ("the longest payload", [], longest(LONGEST), begun + frames((1, "ok")), 0, b""),
+        ("a payload that is too long", [], longest(LONGEST + 1), begun, 3, DAMAGED),
+        ("10,000 commits", [], *commits(10_000), 0, b""),
+        ("64 subscribers", [], *watched(70), 0, b""),
     ]
 
 
@@ -103,8 +143,8 @@ def word_faults(program):
 
 
 def stream_faults(program):
-    for name, given, told, status, err in streams():
-        found = run(program, ["replay"], input=given, stdout=subprocess.PIPE)
+    for name, words, given, told, status, err in streams():
+        found = run(program, ["replay", *words], input=given, stdout=subprocess.PIPE)
         yield None if found == (status, told, err) else f"{name}: status {found[0]}, {len(found[1])} bytes, {found[2]}"
 
 

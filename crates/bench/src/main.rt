@@ -1,10 +1,11 @@
 //! Measures what the documents say of speed.
 //!
-//! `bench codec`, `bench order`, `bench map`, `bench tables` and `bench locks` each print a line for each figure, and take a
+//! `bench codec`, `bench order`, `bench map`, `bench tables`, `bench locks` and `bench commits` each print a line for each figure, and take a
 //! number: of entries for the map, of records for the tables, of rounds for the others. `bench check` takes each measurement once, small, and prints no time.
 #![tactic(auto)]
 
 mod codec;
+mod commits;
 mod figure;
 mod locks;
 mod map;
@@ -16,6 +17,7 @@ use anyhow::{Context, Result, bail};
 use figure::Figure;
 use std::env;
 use std::rt::Clock;
+use tab_model::Level;
 
 fn main(rt: HostRuntime) -> Result<()> {
     let words: Vec<String> = env::args(&rt)?.collect(rt.alloc())?;
@@ -35,8 +37,9 @@ fn main(rt: HostRuntime) -> Result<()> {
             None => tables_at(&rt, &[1_000, 100_000, 1_000_000]),
         },
         Some("locks") => locks_at(&rt, &[10, 1_000, 60_000], number.unwrap_or(100_000)),
+        Some("commits") => commits_at(&rt, &[0, 1, 8, 64], number.unwrap_or(10_000)),
         Some("check") => check(&rt),
-        _ => bail!("bench codec|order|map|tables|locks [NUMBER], or bench check"),
+        _ => bail!("bench codec|order|map|tables|locks|commits [NUMBER], or bench check"),
     }
 }
 
@@ -70,6 +73,16 @@ fn locks_at<H: AllocGlobal + Clock + Print>(rt: &H, sizes: &[u32], rounds: u32) 
     Ok(())
 }
 
+/// One of 64 sessions writes, and so many watch.
+fn commits_at<H: AllocGlobal + Clock + Print>(rt: &H, sizes: &[u32], rounds: u32) -> Result<()> {
+    for watching in sizes {
+        for level in [Level::Simple, Level::Detailed] {
+            println!(rt; "{}", commits::measure(rt, *watching, level, rounds)?)?;
+        }
+    }
+    Ok(())
+}
+
 /// A measurement whose results are wrong is an error.
 fn check<H: AllocGlobal + Clock + Print>(rt: &H) -> Result<()> {
     codec::measure(rt, 1_000)?;
@@ -82,5 +95,7 @@ fn check<H: AllocGlobal + Clock + Print>(rt: &H) -> Result<()> {
     println!(rt; "tables: ok")?;
     locks::measure(rt, 10, 100)?;
     println!(rt; "locks: ok")?;
+    commits::measure(rt, 2, Level::Detailed, 40)?;
+    println!(rt; "commits: ok")?;
     Ok(())
 }

@@ -1,6 +1,6 @@
 -- A run goes on by one step; and whatever log led to its first state goes on with the run's.
-use Rattle.std.proofs.Common.{◌≡◌, ℕ, List, [], ◌∷◌, ◌++◌, refl, sym, ap, subst, ◌∙◌, inl, inr, append_assoc, append-nil, Ok, Err, IfOk, OnErr, true}
-use Rattle.std.specs.Prelude.{Result, Bool, false, ◌==◌, if◌then◌else◌}
+use Rattle.std.proofs.Common.{◌≡◌, ℕ, List, [], ◌∷◌, ◌++◌, refl, sym, ap, subst, ◌∙◌, inl, inr, append_assoc, append-nil, true}
+use Rattle.std.specs.Prelude.{Bool, false, ◌==◌, if◌then◌else◌}
 use Rattle.tab_model.specs.declared.data.Entry.{Entry}
 use Rattle.tab_model.specs.declared.data.Item.{Item}
 use Rattle.tab_model.specs.declared.data.Reply.{Reply}
@@ -11,43 +11,35 @@ use Rattle.tab_model.specs.Run.{entries, taken_now, JoinsEmpty, IsTied, item_of}
 use Rattle.tab_model.proofs.SoundSteps.{step_sound}
 use Rattle.tab_model.proofs.TiedSteps.{step_tied}
 use Rattle.tab_core.specs.declared.step.Step.{Step}
-use Rattle.tab_core.specs.declared.step.Step.TheVariants as step
-use Rattle.tab_core.specs.declared.step.Stepped.{Stepped}
-use Rattle.tab_core.specs.Runs.{ask_of, asks_of, AllServed, StepsTo, StepsOrNoMemory, RunsTo, taken_in}
+use Rattle.tab_manager.specs.declared.step.Stepped.{Stepped}
+use Rattle.tab_model.specs.State.{Outbox}
+use Rattle.tab_model.specs.Run.{Allowed}
+use Rattle.tab_core.specs.Runs.{ask_of, asks_of, AllJoinEmpty, StepsTo, StepsOrNoMemory, RunsTo, taken_in}
 
 -- the run so far, in a form that the rest completes
-pub record IsRunning (first now : State) (all rest : List (ℕ × Step)) (told : List Reply) : Type 0 where
+pub record IsRunning {P : Type 0} (f : P → Outbox) (first now : State) (all rest : List (ℕ × Step P)) (told : List Reply) : Type 0 where
   pub log : List Entry
-  pub onward : (rs : List Reply) (more : List Entry) (τ : State) → RunsTo now (asks_of rest) rs more τ → RunsTo first (asks_of all) (told ++ rs) (log ++ more) τ
-  pub served : AllServed rest
+  pub onward : (rs : List Reply) (more : List Entry) (τ : State) → RunsTo now (asks_of f rest) rs more τ → RunsTo first (asks_of f all) (told ++ rs) (log ++ more) τ
 
-pub starts : (σ : State) (steps : List (ℕ × Step)) → AllServed steps → IsRunning σ σ steps steps []
-starts σ steps h = record { log = []; onward = λ rs more τ r. r; served = h }
+pub starts : {P : Type 0} (f : P → Outbox) (σ : State) (steps : List (ℕ × Step P)) → IsRunning f σ σ steps steps []
+starts f σ steps = record { log = []; onward = λ rs more τ r. r }
 
 pub takes_of : (σ μ : State) (n : ℕ) (a : Ask) (s : Stepped) → StepsTo σ n a s μ → StepsOrNoMemory σ (n, a) s.reply (entries s.entry) μ
-takes_of σ μ n a s m = inl (ap (λ o. o.state) m, ap (λ o. o.reply) m, ap (λ o. entries o.entry) m)
+takes_of σ μ n a s (over, allowed, m) = inl (over, allowed, ap (λ o. o.state) m, ap (λ o. o.reply) m, ap (λ o. entries o.entry) m)
 
-pub goes_on : (first σ μ : State) (all rest : List (ℕ × Step)) (s : ℕ × Step) (told : List Reply) (r : Reply) (es : List Entry) → StepsOrNoMemory σ (s.0, ask_of s.1) r es μ → IsRunning first σ all (s ∷ rest) told → IsRunning first μ all rest (told ++ r ∷ [])
-goes_on first σ μ all rest s told r es t h = record {
+pub goes_on : {P : Type 0} (f : P → Outbox) (first σ μ : State) (all rest : List (ℕ × Step P)) (s : ℕ × Step P) (told : List Reply) (r : Reply) (es : List Entry) → StepsOrNoMemory σ (s.0, ask_of f s.1) r es μ → IsRunning f first σ all (s ∷ rest) told → IsRunning f first μ all rest (told ++ r ∷ [])
+goes_on f first σ μ all rest s told r es t h = record {
   log = h.log ++ es;
-  onward = λ rs more τ ran. subst (λ (xs : List Reply). RunsTo first (asks_of all) xs ((h.log ++ es) ++ more) τ) (sym (append_assoc told (r ∷ []) rs))
-      (subst (λ (l : List Entry). RunsTo first (asks_of all) (told ++ r ∷ rs) l τ) (sym (append_assoc h.log es more)) (h.onward (r ∷ rs) (es ++ more) τ (μ, es, more, t, ran, refl)));
-  served = h.served.1;
+  onward = λ rs more τ ran. subst (λ (xs : List Reply). RunsTo first (asks_of f all) xs ((h.log ++ es) ++ more) τ) (sym (append_assoc told (r ∷ []) rs))
+      (subst (λ (l : List Entry). RunsTo first (asks_of f all) (told ++ r ∷ rs) l τ) (sym (append_assoc h.log es more)) (h.onward (r ∷ rs) (es ++ more) τ (μ, es, more, t, ran, refl)));
 }
 
-pub ends_with : (first σ : State) (all : List (ℕ × Step)) (told : List Reply) → IsRunning first σ all [] told → (log : List Entry) × RunsTo first (asks_of all) told log σ
-ends_with first σ all told h = (
+pub ends_with : {P : Type 0} (f : P → Outbox) (first σ : State) (all : List (ℕ × Step P)) (told : List Reply) → IsRunning f first σ all [] told → (log : List Entry) × RunsTo first (asks_of f all) told log σ
+ends_with f first σ all told h = (
   h.log,
-  subst (λ (xs : List Reply). RunsTo first (asks_of all) xs h.log σ) (append-nil told)
-      (subst (λ (l : List Entry). RunsTo first (asks_of all) (told ++ []) l σ) (append-nil h.log) (h.onward [] [] σ (refl, refl))),
+  subst (λ (xs : List Reply). RunsTo first (asks_of f all) xs h.log σ) (append-nil told)
+      (subst (λ (l : List Entry). RunsTo first (asks_of f all) (told ++ []) l σ) (append-nil h.log) (h.onward [] [] σ (refl, refl))),
 )
-
-joins_empty : (s : Step) → JoinsEmpty (ask_of s)
-joins_empty step.Join = refl
-joins_empty step.Leave = tt
-joins_empty (step.Do c) = tt
-joins_empty step.Retry = tt
-joins_empty step.Take = tt
 
 -- a reply without an item gives none to take
 no_item : (m n : ℕ) (r : Reply) → item_of r ≡ [] → [] ≡ taken_now m n r
@@ -68,33 +60,28 @@ quiet_tied σ μ n r log taken same e tied =
     subst (λ (f : ℕ → List Item). IsTied μ (log ++ []) f) (λ i m. taken m ++ no_item m n r e i) (rests_tied σ μ log taken same tied)
 
 -- what one step leaves
-step_takes : (σ μ : State) (s : ℕ × Step) (r : Reply) (es log : List Entry) (taken : ℕ → List Item) → StepsOrNoMemory σ (s.0, ask_of s.1) r es μ → IsSound σ → IsTied σ log taken → IsSound μ × IsTied μ (log ++ es) (λ m. taken m ++ taken_now m s.0 r)
-step_takes σ μ s r es log taken (inl (st, rp, en)) sound tied = (
-  subst IsSound st (step_sound σ [] s.0 (ask_of s.1) sound),
-  subst (λ (x : State). IsTied x (log ++ es) (λ m. taken m ++ taken_now m s.0 r)) st
-      (subst (λ (l : List Entry). IsTied (outcome σ [] s.0 (ask_of s.1)).state (log ++ l) (λ m. taken m ++ taken_now m s.0 r)) en
-      (subst (λ (q : Reply). IsTied (outcome σ [] s.0 (ask_of s.1)).state (log ++ entries (outcome σ [] s.0 (ask_of s.1)).entry) (λ m. taken m ++ taken_now m s.0 q)) rp
-      (step_tied σ log taken [] s.0 (ask_of s.1) sound (joins_empty s.1) tied))),
+step_takes : (σ μ : State) (a : ℕ × Ask) (r : Reply) (es log : List Entry) (taken : ℕ → List Item) → StepsOrNoMemory σ a r es μ → JoinsEmpty a.1 → IsSound σ → IsTied σ log taken → IsSound μ × IsTied μ (log ++ es) (λ m. taken m ++ taken_now m a.0 r)
+step_takes σ μ a r es log taken (inl (over, allowed, st, rp, en)) empty sound tied = (
+  subst IsSound st (step_sound σ over a.0 a.1 sound),
+  subst (λ (x : State). IsTied x (log ++ es) (λ m. taken m ++ taken_now m a.0 r)) st
+      (subst (λ (l : List Entry). IsTied (outcome σ over a.0 a.1).state (log ++ l) (λ m. taken m ++ taken_now m a.0 r)) en
+      (subst (λ (q : Reply). IsTied (outcome σ over a.0 a.1).state (log ++ entries (outcome σ over a.0 a.1).entry) (λ m. taken m ++ taken_now m a.0 q)) rp
+      (step_tied σ log taken over a.0 a.1 sound empty tied))),
 )
-step_takes σ μ s r es log taken (inr (takes, rp, en, st)) sound tied = (
+step_takes σ μ a r es log taken (inr (takes, rp, en, st)) empty sound tied = (
   subst IsSound (sym st) sound,
-  subst (λ (l : List Entry). IsTied μ (log ++ l) (λ m. taken m ++ taken_now m s.0 r)) (sym en) (quiet_tied σ μ s.0 r log taken st (ap item_of rp) tied),
+  subst (λ (l : List Entry). IsTied μ (log ++ l) (λ m. taken m ++ taken_now m a.0 r)) (sym en) (quiet_tied σ μ a.0 r log taken st (ap item_of rp) tied),
 )
 
 -- whatever history led to the first state goes on to the last
-pub history_goes_on : (σ τ : State) (steps : List (ℕ × Step)) (rs : List Reply) (run : List Entry) → RunsTo σ (asks_of steps) rs run τ → IsSound σ → (log : List Entry) (taken : ℕ → List Item) → IsTied σ log taken
-    → IsTied τ (log ++ run) (λ m. taken m ++ taken_in m (asks_of steps) rs)
-history_goes_on σ τ [] [] run ran sound log taken tied =
+pub history_goes_on : (σ τ : State) (asks : List (ℕ × Ask)) (rs : List Reply) (run : List Entry) → RunsTo σ asks rs run τ → AllJoinEmpty asks → IsSound σ → (log : List Entry) (taken : ℕ → List Item) → IsTied σ log taken
+    → IsTied τ (log ++ run) (λ m. taken m ++ taken_in m asks rs)
+history_goes_on σ τ [] [] run ran empty sound log taken tied =
     subst (λ (l : List Entry). IsTied τ (log ++ l) (λ m. taken m ++ [])) (sym ran.0) (rests_tied σ τ log taken (sym ran.1) tied)
-history_goes_on σ τ (s ∷ steps) [] run ran sound log taken tied = absurd ran
-history_goes_on σ τ [] (r ∷ rs) run ran sound log taken tied = absurd ran
-history_goes_on σ τ (s ∷ steps) (r ∷ rs) run (μ, es, rest, t, ran, is) sound log taken tied =
-    let one = step_takes σ μ s r es log taken t sound tied in
-    let all = history_goes_on μ τ steps rs rest ran one.0 (log ++ es) (λ m. taken m ++ taken_now m s.0 r) one.1 in
-    subst (λ (l : List Entry). IsTied τ l (λ m. taken m ++ taken_in m (asks_of (s ∷ steps)) (r ∷ rs))) (append_assoc log es rest ∙ ap (λ l. log ++ l) (sym is))
-    (subst (λ (f : ℕ → List Item). IsTied τ ((log ++ es) ++ rest) f) (λ i m. append_assoc (taken m) (taken_now m s.0 r) (taken_in m (asks_of steps) rs) i) all)
-
--- a step, made or refused, keeps what every reached state has
-pub step_keeps : {E : Type 0} (σ μ : State) (n : ℕ) (a : Ask) (r : Result Stepped E) → IsSound σ → IfOk r (λ s. StepsTo σ n a s μ) → OnErr r (μ ≡ σ) → IsSound μ
-step_keeps σ μ n a (Ok s) sound done err = subst IsSound (ap (λ o. o.state) done) (step_sound σ [] n a sound)
-step_keeps σ μ n a (Err e) sound done err = subst IsSound (sym err) sound
+history_goes_on σ τ (a ∷ asks) [] run ran empty sound log taken tied = absurd ran
+history_goes_on σ τ [] (r ∷ rs) run ran empty sound log taken tied = absurd ran
+history_goes_on σ τ (a ∷ asks) (r ∷ rs) run (μ, es, rest, t, ran, is) empty sound log taken tied =
+    let one = step_takes σ μ a r es log taken t empty.0 sound tied in
+    let all = history_goes_on μ τ asks rs rest ran empty.1 one.0 (log ++ es) (λ m. taken m ++ taken_now m a.0 r) one.1 in
+    subst (λ (l : List Entry). IsTied τ l (λ m. taken m ++ taken_in m (a ∷ asks) (r ∷ rs))) (append_assoc log es rest ∙ ap (λ l. log ++ l) (sym is))
+    (subst (λ (f : ℕ → List Item). IsTied τ ((log ++ es) ++ rest) f) (λ i m. append_assoc (taken m) (taken_now m a.0 r) (taken_in m asks rs) i) all)

@@ -1,43 +1,37 @@
--- Lists of steps, and what a run of them leaves.
+-- Steps of a core, lists of them, and what a run of them leaves.
 use Rattle.std.specs.Prelude.{◌≡◌, ℕ, List, [], ◌∷◌, ◌++◌, Bool, true, false, not, ◌⊎◌}
 use Rattle.tab_model.specs.declared.data.Entry.{Entry}
 use Rattle.tab_model.specs.declared.data.Item.{Item}
 use Rattle.tab_model.specs.declared.data.Reply.{Reply}
 use Rattle.tab_model.specs.declared.data.Reply.TheVariants as reply
 use Rattle.tab_model.specs.declared.data.Command.TheVariants as command
-use Rattle.tab_model.specs.State.{State, is_waiting, moves_at}
+use Rattle.tab_model.specs.State.{Outbox, State, is_waiting, moves_at}
 use Rattle.tab_model.specs.Outcome.{Ask, Join, Leave, Retry, Take, DoCommand, is_empty, outcome}
-use Rattle.tab_model.specs.Run.{entries, taken_now}
+use Rattle.tab_model.specs.Run.{Allowed, JoinsEmpty, entries, taken_now}
+use Rattle.tab_manager.specs.declared.step.Stepped.{Stepped}
 use Rattle.tab_core.specs.declared.step.Step.{Step}
 use Rattle.tab_core.specs.declared.step.Step.TheVariants as step
-use Rattle.tab_core.specs.declared.step.Stepped.{Stepped}
-use Rattle.tab_core.specs.Served.{serves}
-use Rattle.tab_core.specs.Seats.{no_outbox}
 
-abbrev pub ask_of : Step → Ask
-ask_of step.Join = Join no_outbox
-ask_of step.Leave = Leave
-ask_of (step.Do c) = DoCommand c
-ask_of step.Retry = Retry
-ask_of step.Take = Take
+abbrev pub ask_of : {P : Type 0} → (P → Outbox) → Step P → Ask
+ask_of f (step.Join p) = Join (f p)
+ask_of f step.Leave = Leave
+ask_of f (step.Do c) = DoCommand c
+ask_of f step.Retry = Retry
+ask_of f step.Take = Take
 
--- the caller's condition on a step
-abbrev pub serves_step : Step → Bool
-serves_step (step.Do c) = serves c
-serves_step s = true
+abbrev pub asks_of : {P : Type 0} → (P → Outbox) → List (ℕ × Step P) → List (ℕ × Ask)
+asks_of f [] = []
+asks_of f (s ∷ steps) = (s.0, ask_of f s.1) ∷ asks_of f steps
 
-abbrev pub AllServed : List (ℕ × Step) → Type 0
-AllServed [] = Unit {0}
-AllServed (s ∷ steps) = (serves_step s.1 ≡ true) × AllServed steps
+-- the caller's condition on steps: a session joins with an empty post
+abbrev pub AllJoinEmpty : List (ℕ × Ask) → Type 0
+AllJoinEmpty [] = Unit {0}
+AllJoinEmpty (a ∷ asks) = JoinsEmpty a.1 × AllJoinEmpty asks
 
-abbrev pub asks_of : List (ℕ × Step) → List (ℕ × Ask)
-asks_of [] = []
-asks_of (s ∷ steps) = (s.0, ask_of s.1) ∷ asks_of steps
-
--- what is done without memory: to join, to leave, to take, to abort; to retry where nothing is queued; and to commit a
--- transaction that did nothing
+-- what is done without memory: to leave, to take, to abort; to retry where nothing is queued; and to commit a transaction
+-- that did nothing
 abbrev pub takes_no_memory : State → ℕ → Ask → Bool
-takes_no_memory σ n (Join b) = true
+takes_no_memory σ n (Join b) = false
 takes_no_memory σ n Leave = true
 takes_no_memory σ n Retry = not (is_waiting σ n)
 takes_no_memory σ n Take = true
@@ -45,14 +39,14 @@ takes_no_memory σ n (DoCommand (command.Abort r)) = true
 takes_no_memory σ n (DoCommand command.Commit) = is_empty (moves_at σ n)
 takes_no_memory σ n (DoCommand c) = false
 
--- a step that was made: no post refuses, since no one subscribes
+-- a step that was made: who overflowed in it, which the posts' capacities decide where they have one
 abbrev pub StepsTo : State → ℕ → Ask → Stepped → State → Type 0
-StepsTo σ n a s τ = outcome σ [] n a ≡ record { state = τ; reply = s.reply; entry = s.entry }
+StepsTo σ n a s τ = (over : List ℕ) × Allowed σ over n a × (outcome σ over n a ≡ record { state = τ; reply = s.reply; entry = s.entry })
 
 -- the entry that a step adds to the log, or none of one refused for memory that it takes
 abbrev pub StepsOrNoMemory : State → ℕ × Ask → Reply → List Entry → State → Type 0
 StepsOrNoMemory σ a r es τ =
-    ((outcome σ [] a.0 a.1).state ≡ τ) × ((outcome σ [] a.0 a.1).reply ≡ r) × (entries (outcome σ [] a.0 a.1).entry ≡ es)
+    ((over : List ℕ) × Allowed σ over a.0 a.1 × ((outcome σ over a.0 a.1).state ≡ τ) × ((outcome σ over a.0 a.1).reply ≡ r) × (entries (outcome σ over a.0 a.1).entry ≡ es))
     ⊎ (takes_no_memory σ a.0 a.1 ≡ false) × (r ≡ reply.NoMemory) × (es ≡ []) × (τ ≡ σ)
 
 -- a run of steps, one after another, with its replies and its log

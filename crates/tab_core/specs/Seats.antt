@@ -1,52 +1,45 @@
--- The parts that a core keeps, as the state that definitions speak of (this project's own).
-use Rattle.std.specs.Prelude.{◌≡◌, ◌<◌, ℕ, ◌+◌, List, [], ◌∷◌, ◌==◌, if◌then◌else◌, Option, None, Some, map, length, option_map, slice_index_or, slice_set}
-use Rattle.tab_model.specs.State.{Transaction, Outbox, Seat, Queued, State, seat_at}
-use Rattle.tab_model.specs.Outcome.{change}
-use Rattle.tab_core.specs.declared.seat.Transaction as kept
-use Rattle.tab_core.specs.declared.seat.Seat as code
-use Rattle.tab_core.specs.declared.queue.Request as request
-use Rattle.tab_core.specs.declared.machine.Machine.{Machine}
+-- A manager's state with what each session watches and what its post shows: the state of a core (this project's own).
+use Rattle.std.specs.Prelude.{◌≡◌, ℕ, List, [], Option, Some, None, map}
+use Rattle.tab_model.specs.declared.data.Entry.{Entry}
+use Rattle.tab_model.specs.declared.data.Entry.TheVariants.{Committed, Changed, Subscribed, Unsubscribed}
+use Rattle.tab_model.specs.State.{Watch, Outbox, Seat, State, IsSound}
+use Rattle.tab_manager.specs.Seats.{no_outbox}
+use Rattle.tab_subs.specs.Subscribers.{Subscriber, at, numbers, overflow_of}
 
--- no item is ever put into it
-abbrev pub no_outbox : Outbox
-no_outbox = record { items = []; refusals = 0; capacity = Some 0 }
+abbrev pub watching_of : Option Subscriber → List Watch
+watching_of None = []
+watching_of (Some b) = b.watching
 
-abbrev pub transaction_of : kept.Transaction → Transaction
-transaction_of t = record { age = t.age; moves = t.store.moves; told = t.store.told }
+abbrev pub outbox_of : Option Subscriber → Outbox
+outbox_of None = no_outbox
+outbox_of (Some b) = b.outbox
 
-abbrev pub seat_of : code.Seat → Seat
-seat_of s = record { number = s.number; transaction = option_map transaction_of s.transaction; watching = []; outbox = no_outbox; overflow = None }
+abbrev pub seat_with : List Subscriber → Seat → Seat
+seat_with bs s = record { number = s.number; transaction = s.transaction; watching = watching_of (at bs s.number); outbox = outbox_of (at bs s.number); overflow = overflow_of (at bs s.number) }
 
--- a seat without a transaction
-abbrev pub no_seat : ℕ → code.Seat
-no_seat n = record { number = n; transaction = None }
-
-abbrev pub queued_of : request.Request → Queued
-queued_of q = record { session = q.session; age = q.age; operation = q.operation }
-
-abbrev pub state_of : Machine → State
-state_of m = record {
-  tables = m.world;
-  seats = map seat_of m.seats.items;
-  queue = map queued_of m.queue.items;
-  next_age = m.begun + 1;
-  commits = m.commits;
-  greatest = m.greatest;
-  limits = m.limits;
+abbrev pub state_with : List Subscriber → State → State
+state_with bs σ = record {
+  tables = σ.tables;
+  seats = map (seat_with bs) σ.seats;
+  queue = σ.queue;
+  next_age = σ.next_age;
+  commits = σ.commits;
+  greatest = σ.greatest;
+  limits = σ.limits;
 }
 
-abbrev pub transaction_in : Option code.Seat → Option kept.Transaction
-transaction_in None = None
-transaction_in (Some s) = s.transaction
+-- the same sessions, in the same order
+abbrev pub AreTheSame : List Subscriber → State → Type 0
+AreTheSame bs σ = numbers bs ≡ map (λ (s : Seat). s.number) σ.seats
 
-abbrev pub at : List code.Seat → ℕ → Option code.Seat
-at [] n = None
-at (s ∷ ss) n = if s.number == n then Some s else at ss n
+-- what holds of a core's parts whenever it stands
+pub record IsKept (bs : List Subscriber) (σ : State) : Type 0 where
+  pub same : AreTheSame bs σ
+  pub sound : IsSound σ
 
--- the session stands at this place
-pub record StandsAt (ss : List code.Seat) (n i : ℕ) : Type 0 where
-  pub within : i < length ss
-  pub seat : (d : code.Seat) → at ss n ≡ Some (slice_index_or ss i d)
-  pub number : (d : code.Seat) → (slice_index_or ss i d).number ≡ n
-  pub changed : (s : code.Seat) → s.number ≡ n → change (map seat_of ss) (seat_of s) ≡ map seat_of (slice_set ss i s)
-  pub replaced : (s : code.Seat) → s.number ≡ n → (m : ℕ) → at (slice_set ss i s) m ≡ (if m == n then Some s else at ss m)
+-- an entry with those who overflowed in it
+abbrev pub with_overflowed : List ℕ → Entry → Entry
+with_overflowed over (Committed n s age moves told none) = Committed n s age moves told over
+with_overflowed over (Changed c none) = Changed c over
+with_overflowed over (Subscribed s t l dump) = Subscribed s t l dump
+with_overflowed over (Unsubscribed s t) = Unsubscribed s t

@@ -1,80 +1,112 @@
-//! The core: a machine of steps over tables, sessions and their transactions.
+//! The core: a machine of steps over tables, sessions with their transactions, and what each of them watches.
 //!
-//! Contracts see a core as one plain state (`State` of tab_model), and a step is a function of it (`outcome`). So far
-//! all commands are served but subscriptions. Of a one-shot a step opens level 1 alone: its driver does the rest.
+//! Contracts see a core as one plain state (`State` of tab_model), and a step is a function of it (`outcome`) and of
+//! which posts refuse. Of a one-shot a step opens level 1 alone: its driver does the rest.
 
 #![tactic(auto)]
 
-ghost use Rattle.std.specs.Prelude.{◌≡◌, ◌≤◌, ◌<◌, ◌++◌, ℕ, suc, List, IfOk, IsOk, OnErr, true, vec_len, vec_capacity, ◌∷◌, []};
+ghost use Rattle.std.specs.Prelude.{◌≡◌, ◌≤◌, ◌++◌, ℕ, List, IfOk, IsOk, OnErr, option_map, true};
 ghost use Rattle.tab_model.specs.declared.data.Entry.{Entry as EntryOf};
 ghost use Rattle.tab_model.specs.declared.data.Item.{Item as ItemOf};
-ghost use Rattle.tab_model.specs.State.{new, IsSound};
+ghost use Rattle.tab_model.specs.State.{new, seat_at, IsSound};
+ghost use Rattle.tab_model.specs.Outcome.{DoCommand};
 ghost use Rattle.tab_model.specs.Run.{IsTied};
-ghost use Rattle.tab_core.specs.Runs.{ask_of, asks_of, serves_step, AllServed, StepsTo, StepsOrNoMemory, RunsTo, taken_in, takes_no_memory};
+ghost use Rattle.tab_core.specs.Runs.{ask_of, asks_of, AllJoinEmpty, StepsTo, StepsOrNoMemory, RunsTo, taken_in, takes_no_memory};
 
-mod command;
-mod levels;
-mod machine;
-mod operating;
-mod queue;
-mod redefining;
-mod seat;
-mod served;
+mod committing;
+mod dump;
 mod sessions;
 mod step;
+mod subscribing;
 
-use crate::machine::Machine;
-pub use served::is_served;
 use std::alloc::{AllocError, Global};
 use std::marker::Model;
-pub use step::{Step, Stepped};
-use tab_model::{Limits, Reply, Told};
+pub use step::Step;
+pub use tab_manager::Stepped;
+use tab_manager::{Manager, Step as Quiet};
+use tab_model::{Command, Limits, Reply, Told};
+use tab_outbox::Post;
+use tab_subs::Subs;
+use tab_world::World;
 
 /// A core: tables, sessions, and what each of them is told.
 ///
 /// Contracts see it as one plain state. Whenever a core stands, each open transaction was told what it is told
 /// alone on the tables as they are, and no two transactions hold locks that conflict (`IsSound`).
 #[derive(Drop)]
-pub struct Core {
-    machine: Machine,
+pub struct Core<P: Post> {
+    alloc: Global,
+    manager: Manager,
+    subs: Subs<P>,
 }
 
-impl Model for Core {
+impl<P: Post> Model for Core<P> {
     ghost use Rattle.std.specs.Coded.{codes};
     ghost use Rattle.tab_term.specs.Code.{term_code, terms_code, pairs_code};
     ghost use Rattle.tab_model.specs.State.{State};
-    ghost use Rattle.tab_core.specs.Seats.{state_of};
-    ghost use Rattle.tab_core.specs.Kept.{IsKept};
+    ghost use Rattle.tab_core.specs.Seats.{state_with, IsKept};
 
     ghost Value = { State };
 
     ghost coded = { Prim.hlevel (codes, term_code, terms_code, pairs_code) };
 
-    ghost view = { λ a. state_of a.machine };
+    ghost view = { λ a. state_with a.subs a.manager };
 
-    ghost invariant = { λ a. IsKept a.machine };
+    ghost invariant = { λ a. IsKept a.subs a.manager };
 }
 
-impl Core {
+impl<P: Post + Drop> Core<P> {
     /// A core without tables and sessions. It has 64 sessions at most.
-    pub fn new(alloc: Global, limits: Limits) -> Core
+    pub fn new(alloc: Global, limits: Limits) -> Core<P>
         requires { limits.sessions ≤ 64 }
         ensures { result ≡ new limits }
     {
         Core {
-            machine: Machine::new(alloc, limits),
+            alloc,
+            manager: Manager::new(alloc, limits),
+            subs: Subs::new(alloc),
         }
     }
 
     /// One step of a session, whole or, where memory that it takes is refused, not at all.
-    pub fn step(&mut self, session: u32, step: Step) -> Result<Stepped, AllocError>
-        requires { serves_step step ≡ true }
-        ensures done { IfOk result (λ s. StepsTo self.old session (ask_of step) s self.new) }
-        ensures free { takes_no_memory self.old session (ask_of step) ≡ true → IsOk result }
+    pub fn step(&mut self, session: u32, step: Step<P>) -> Result<Stepped, AllocError>
+        ensures done { IfOk result (λ s. StepsTo self.old session (ask_of P.outbox step) s self.new) }
+        ensures free { takes_no_memory self.old session (ask_of P.outbox step) ≡ true → IsOk result }
         ensures err { OnErr result (self.new ≡ self.old) }
         ensures sound { IsSound self.new }
     {
-        self.machine.step(session, step)
+        let stepped = self.make(session, step);
+        // Known of the core from here on is that it is sound.
+        let _ = &self.manager;
+        stepped
+    }
+
+    fn make(&mut self, session: u32, step: Step<P>) -> Result<Stepped, AllocError>
+        ensures done { IfOk result (λ s. StepsTo self.old session (ask_of P.outbox step) s self.new) }
+        ensures free { takes_no_memory self.old session (ask_of P.outbox step) ≡ true → IsOk result }
+        ensures err { OnErr result (self.new ≡ self.old) }
+    {
+        match step {
+            Step::Join(post) => self.join(session, post),
+            Step::Leave => self.leave(session),
+            Step::Do(command) => self.command(session, command),
+            Step::Retry => self.manager.step(session, Quiet::Retry),
+            Step::Take => Ok(self.take(session)),
+        }
+    }
+
+    fn command(&mut self, session: u32, command: Command) -> Result<Stepped, AllocError>
+        ensures done { IfOk result (λ s. StepsTo self.old session (DoCommand command) s self.new) }
+        ensures free { takes_no_memory self.old session (DoCommand command) ≡ true → IsOk result }
+        ensures err { OnErr result (self.new ≡ self.old) }
+    {
+        match command {
+            Command::Commit => self.commit(session),
+            Command::Schema(schema) => self.schema(session, schema),
+            Command::Subscribe(table, level, dump) => self.subscribe(session, table, level, dump),
+            Command::Unsubscribe(table, level) => self.unsubscribe(session, table, level),
+            command => self.manager.step(session, Quiet::Do(command)),
+        }
     }
 
     /// Steps in order, with their replies; a step refused for memory has the reply NoMemory. The answer is
@@ -82,15 +114,15 @@ impl Core {
     pub fn run_steps(
         &mut self,
         alloc: Global,
-        steps: Vec<(u32, Step)>,
+        steps: Vec<(u32, Step<P>)>,
     ) -> Result<Vec<Told>, AllocError>
-        requires { AllServed steps.items }
-        ensures run { IfOk result (λ rs. (log : List EntryOf) × RunsTo self.old (asks_of steps.items) rs.items log self.new) }
-        ensures history { IfOk result (λ rs. (log : List EntryOf) (taken : ℕ → List ItemOf) → IsTied self.old log taken → (more : List EntryOf) × IsTied self.new (log ++ more) (λ m. taken m ++ taken_in m (asks_of steps.items) rs.items)) }
+        requires { AllJoinEmpty (asks_of P.outbox steps.items) }
+        ensures run { IfOk result (λ rs. (log : List EntryOf) × RunsTo self.old (asks_of P.outbox steps.items) rs.items log self.new) }
+        ensures history { IfOk result (λ rs. (log : List EntryOf) (taken : ℕ → List ItemOf) → IsTied self.old log taken → (more : List EntryOf) × IsTied self.new (log ++ more) (λ m. taken m ++ taken_in m (asks_of P.outbox steps.items) rs.items)) }
         ensures err { OnErr result (self.new ≡ self.old) }
     {
         // Known of the core from here on is that it is sound.
-        let _ = &self.machine;
+        let _ = &self.manager;
         let mut replies = Vec::with_capacity(alloc, steps.len())?;
         for (session, step) in steps {
             let reply = self.step_reply(session, step);
@@ -100,13 +132,26 @@ impl Core {
     }
 
     /// One step of a session, and its reply, which is NoMemory where memory was refused.
-    fn step_reply(&mut self, session: u32, step: Step) -> Told
-        requires { serves_step step ≡ true }
-        ensures { (log : List EntryOf) × StepsOrNoMemory self.old (session, ask_of step) result log self.new }
+    fn step_reply(&mut self, session: u32, step: Step<P>) -> Told
+        ensures { (log : List EntryOf) × StepsOrNoMemory self.old (session, ask_of P.outbox step) result log self.new }
     {
         match self.step(session, step) {
             Ok(stepped) => stepped.into_reply(),
             Err(_) => Told::new(Reply::NoMemory),
         }
+    }
+
+    /// The post of a session that is joined.
+    pub fn post(&self, session: u32) -> Option<&P>
+        ensures { option_map (λ p. P.outbox p.now) result ≡ option_map (λ s. s.outbox) (seat_at self.now.seats session) }
+    {
+        self.subs.post(session as u64)
+    }
+
+    /// The tables as they are committed.
+    pub fn tables(&self) -> &World
+        ensures { result.now ≡ self.now.tables }
+    {
+        self.manager.tables()
     }
 }

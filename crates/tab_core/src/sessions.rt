@@ -1,47 +1,58 @@
-//! Sessions join and leave.
+//! Sessions join, take and leave.
 
-ghost use Rattle.std.specs.Prelude.{◌≡◌, [], None};
-ghost use Rattle.tab_model.specs.Outcome.{Join, Leave, nothing, outcome};
-ghost use Rattle.tab_core.specs.Seats.{state_of, no_outbox, at, StandsAt};
-ghost use Rattle.tab_core.specs.Kept.{IsKept};
+ghost use Rattle.std.specs.Prelude.{◌≡◌, IfOk, IsOk, OnErr};
+ghost use Rattle.tab_model.specs.Outcome.{Join, Leave, Take};
+ghost use Rattle.tab_core.specs.Runs.{StepsTo};
+ghost use Rattle.tab_core.specs.Subscribing.{taken_reply as taken_reply_of};
 
-use crate::machine::Machine;
-use crate::operating::end_if;
-use crate::seat::Seat;
-use tab_model::{Limit, Reply};
+use crate::Core;
+use std::alloc::AllocError;
+use tab_manager::{Step, Stepped};
+use tab_model::Reply;
+use tab_outbox::Post;
+use tab_subs::Taken;
 
-impl Machine {
-    /// Of a session that has not joined. Takes no memory.
-    pub fn join(&mut self, session: u32) -> Reply
-        requires kept { IsKept self.old }
-        requires stranger { at self.old.seats.items session ≡ None }
-        ensures ok { outcome (state_of self.old) [] session (Join no_outbox) ≡ nothing (state_of self.new) result }
-        ensures kept { IsKept self.new }
+impl<P: Post + Drop> Core<P> {
+    pub(crate) fn join(&mut self, session: u32, post: P) -> Result<Stepped, AllocError>
+        ensures done { IfOk result (λ s. StepsTo self.old session (Join (P.outbox post)) s self.new) }
+        ensures err { OnErr result (self.new ≡ self.old) }
     {
-        if session <= self.greatest {
-            return Reply::BadSession;
+        if !self.manager.admits(session) {
+            drop(post);
+            return self.manager.step(session, Step::Join);
         }
-        if self.seats.len() as u64 >= self.limits.sessions {
-            return Reply::SystemLimit(Limit::Sessions);
-        }
-        self.seats.push(Seat {
-            number: session,
-            transaction: None,
-        });
-        self.greatest = session;
-        Reply::Done
+        self.subs.join(self.alloc, session as u64, post)?;
+        self.manager.step(session, Step::Join)
     }
 
-    /// The session's transaction, locks and queued request are gone. Takes no memory.
-    pub fn leave(&mut self, session: u32, place: usize) -> Reply
-        requires kept { IsKept self.old }
-        requires there { StandsAt self.old.seats.items session place }
-        ensures ok { outcome (state_of self.old) [] session Leave ≡ nothing (state_of self.new) result }
-        ensures kept { IsKept self.new }
+    /// The session's transaction, locks, request, subscriptions and post are gone.
+    pub(crate) fn leave(&mut self, session: u32) -> Result<Stepped, AllocError>
+        ensures done { IfOk result (λ s. StepsTo self.old session Leave s self.new) }
+        ensures free { IsOk result }
+        ensures err { OnErr result (self.new ≡ self.old) }
     {
-        end_if(true, &mut self.seats[place], &mut self.ages);
-        self.seats.remove(place);
-        self.queue.retain(|request| request.session != session);
-        Reply::Done
+        let stepped = self.manager.step(session, Step::Leave)?;
+        self.subs.leave(session as u64);
+        Ok(stepped)
+    }
+
+    /// The next item of the session's post, else an overflow that it was not told yet.
+    pub(crate) fn take(&mut self, session: u32) -> Stepped
+        ensures { StepsTo self.old session Take result self.new }
+    {
+        let taken = self.subs.take(session as u64);
+        taken_reply(taken)
+    }
+}
+
+/// The reply to a Take.
+fn taken_reply(taken: Option<Taken>) -> Stepped
+    ensures { result ≡ taken_reply_of taken }
+{
+    match taken {
+        None => Stepped::without_entry(Reply::BadSession),
+        Some(Taken::Item(item)) => Stepped::without_entry(Reply::Taken(item)),
+        Some(Taken::Overflow(commit)) => Stepped::without_entry(Reply::Overflow(commit)),
+        Some(Taken::Empty) => Stepped::without_entry(Reply::Empty),
     }
 }

@@ -1,51 +1,60 @@
 //! What a session asks of a core, and what it is given.
 
-ghost use Rattle.std.specs.Prelude.{◌≡◌, None};
+ghost use Rattle.std.specs.Prelude.{◌≡◌, option_map};
+ghost use Rattle.tab_core.specs.Seats.{with_overflowed as with_overflowed_of};
 
-use tab_model::{Command, Entry, Reply, Told};
+use tab_manager::Stepped;
+use tab_model::{Command, Entry, Numbers};
 
 /// What a session asks.
 #[derive(Drop)]
-pub enum Step {
-    /// Takes a session number greater than all that joined before.
-    Join,
+pub enum Step<P> {
+    /// Takes a session number greater than all that joined before. The session's items go into the post, which is empty.
+    Join(P),
     /// Ends the session's transaction and the session.
     Leave,
-    /// A command of the session. It is one that `is_served` names.
+    /// A command of the session.
     Do(Command),
     /// Asks again for the lock that the session waits for.
     Retry,
-    /// Takes the next item of the session's outbox.
+    /// Takes the next item of the session's post.
     Take,
 }
 
-/// What a step answers, and what it adds to the log.
-#[derive(Drop)]
-pub struct Stepped {
-    pub reply: Told,
-    pub entry: Option<Entry>,
+/// The step with those whose posts refused its items.
+pub(crate) fn with_overflowed(stepped: Stepped, over: Numbers) -> Stepped
+    ensures { result ≡ record { reply = stepped.reply; entry = option_map (with_overflowed_of over) stepped.entry } }
+{
+    let Stepped { reply, entry } = stepped;
+    let Some(entry) = entry else {
+        return Stepped { reply, entry: None };
+    };
+    Stepped {
+        reply,
+        entry: Some(overflowed_in(entry, over)),
+    }
 }
 
-impl Stepped {
-    pub fn without_entry(reply: Reply) -> Stepped
-        ensures { result ≡ record { reply = reply; entry = None } }
-    {
-        Stepped::told(Told::new(reply))
-    }
-
-    /// What an operation was told, which its trace may share.
-    pub fn told(reply: Told) -> Stepped
-        ensures { result ≡ record { reply = reply; entry = None } }
-    {
-        Stepped { reply, entry: None }
-    }
-
-    /// The reply alone.
-    pub fn into_reply(self) -> Told
-        ensures { result ≡ self.reply }
-    {
-        let Stepped { reply, entry } = self;
-        drop(entry);
-        reply
+fn overflowed_in(entry: Entry, over: Numbers) -> Entry
+    ensures { result ≡ with_overflowed_of over entry }
+{
+    match entry {
+        Entry::Committed {
+            number,
+            session,
+            age,
+            moves,
+            told,
+            overflowed: _,
+        } => Entry::Committed {
+            number,
+            session,
+            age,
+            moves,
+            told,
+            overflowed: over,
+        },
+        Entry::Changed(schema, _) => Entry::Changed(schema, over),
+        entry => entry,
     }
 }

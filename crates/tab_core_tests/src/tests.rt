@@ -1,6 +1,7 @@
 use std::alloc::{AllocError, Global};
-use tab_core::{Core, Step, is_served};
-use tab_model::{Command, Limit, Limits, Operation, Parts, Reply, Schema};
+use tab_core::{Core, Step};
+use tab_model::{Command, Item, Level, Limit, Limits, Operation, Parts, Reply, Schema};
+use tab_outbox::RingPost;
 use tab_term::{Atom, Term, Terms};
 
 /// A step, in few words. Records are `{Table, Key, Value}`.
@@ -20,6 +21,14 @@ enum Asks {
     Read(&'static str, i128),
     Commit,
     Abort(&'static str),
+    Subscribe(&'static str, Level, Dump),
+    Unsubscribe(&'static str, Level),
+}
+
+/// Whether a begin mark is asked for with the table's records.
+enum Dump {
+    With,
+    Without,
 }
 
 enum Told {
@@ -44,6 +53,18 @@ enum Told {
     Locked(&'static str),
     Empty,
     Limit(Limit),
+    Subscribed,
+    SubNoTable(&'static str),
+    AlreadySubscribed(&'static str),
+    NotSubscribed(&'static str),
+    OutboxFull,
+    OverflowUntold,
+    /// A begin mark, with so many records where a dump was asked for.
+    Began(&'static str, Option<usize>),
+    /// The batch of this commit, with so many events.
+    Batch(u64, usize),
+    Ended(&'static str),
+    Overflow(u64),
 }
 
 /// One core after another, each with the steps of one session and what it is told.
@@ -156,6 +177,85 @@ const TWO_SESSIONS: [(u32, Asks, Told); 35] = [
     (2, Asks::Read("t", 1), Told::One("t", 1, "a")),
 ];
 
+/// Session 2 watches what session 1 commits, with a post of two items.
+const WATCHED: [(u32, Asks, Told); 40] = [
+    (1, Asks::Join, Told::Done),
+    (2, Asks::Join, Told::Done),
+    (1, Asks::Create("t"), Told::AtomicOk),
+    (
+        2,
+        Asks::Subscribe("u", Level::Simple, Dump::Without),
+        Told::SubNoTable("u"),
+    ),
+    (
+        2,
+        Asks::Unsubscribe("t", Level::Simple),
+        Told::NotSubscribed("t"),
+    ),
+    (
+        2,
+        Asks::Subscribe("t", Level::Simple, Dump::With),
+        Told::Subscribed,
+    ),
+    (
+        2,
+        Asks::Subscribe("t", Level::Detailed, Dump::Without),
+        Told::AlreadySubscribed("t"),
+    ),
+    (
+        2,
+        Asks::Unsubscribe("t", Level::Detailed),
+        Told::NotSubscribed("t"),
+    ),
+    (2, Asks::Take, Told::Began("t", Some(0))),
+    (2, Asks::Take, Told::Empty),
+    (1, Asks::Begin, Told::Tid(1)),
+    (1, Asks::Write("t", 1, "a"), Told::Done),
+    (2, Asks::Take, Told::Empty),
+    (1, Asks::Commit, Told::Atomic(1)),
+    (1, Asks::Begin, Told::Tid(2)),
+    (1, Asks::Write("t", 1, "b"), Told::Done),
+    (1, Asks::Write("t", 2, "c"), Told::Done),
+    (1, Asks::Commit, Told::Atomic(2)),
+    (2, Asks::Unsubscribe("t", Level::Simple), Told::OutboxFull),
+    (2, Asks::Take, Told::Batch(1, 1)),
+    (1, Asks::Begin, Told::Tid(3)),
+    (1, Asks::Commit, Told::Atomic(3)),
+    (1, Asks::Begin, Told::Tid(4)),
+    (1, Asks::Write("t", 3, "d"), Told::Done),
+    (1, Asks::Commit, Told::Atomic(4)),
+    (1, Asks::Begin, Told::Tid(5)),
+    (1, Asks::Write("t", 3, "e"), Told::Done),
+    (1, Asks::Commit, Told::Atomic(5)),
+    (2, Asks::Take, Told::Batch(2, 2)),
+    (
+        2,
+        Asks::Subscribe("t", Level::Simple, Dump::Without),
+        Told::OverflowUntold,
+    ),
+    (2, Asks::Take, Told::Batch(4, 1)),
+    (2, Asks::Take, Told::Overflow(5)),
+    (2, Asks::Take, Told::Empty),
+    (
+        2,
+        Asks::Subscribe("t", Level::Detailed, Dump::With),
+        Told::Subscribed,
+    ),
+    (2, Asks::Take, Told::Began("t", Some(3))),
+    (2, Asks::Unsubscribe("t", Level::Detailed), Told::Subscribed),
+    (
+        2,
+        Asks::Subscribe("t", Level::Detailed, Dump::Without),
+        Told::Subscribed,
+    ),
+    (2, Asks::Take, Told::Ended("t")),
+    (1, Asks::Remove("t"), Told::AtomicOk),
+    (2, Asks::Take, Told::Began("t", None)),
+];
+
+/// How many items a session's post holds.
+const OUTBOX: usize = 2;
+
 const TWO: Limits = Limits {
     sessions: 2,
     nesting: 2,
@@ -218,6 +318,12 @@ fn command(alloc: Global, asks: &Asks) -> Result<Option<Command>, AllocError> {
         )),
         Asks::Commit => Command::Commit,
         Asks::Abort(reason) => Command::Abort(Term::Atom(short(alloc, reason)?)),
+        Asks::Subscribe(table, level, dump) => Command::Subscribe(
+            short(alloc, table)?,
+            *level,
+            matches!(dump, Dump::With),
+        ),
+        Asks::Unsubscribe(table, level) => Command::Unsubscribe(short(alloc, table)?, *level),
     }))
 }
 
@@ -248,25 +354,50 @@ fn is_told(alloc: Global, reply: &Reply, told: &Told) -> Result<bool, AllocError
         (Reply::Locked(table), Told::Locked(wanted)) => table.as_str() == *wanted,
         (Reply::Empty, Told::Empty) => true,
         (Reply::SystemLimit(limit), Told::Limit(wanted)) => limit == wanted,
-        _ => false,
+        _ => is_told_of_a_subscription(reply, told),
     })
 }
 
+fn is_told_of_a_subscription(reply: &Reply, told: &Told) -> bool {
+    match (reply, told) {
+        (Reply::SubscribedHere, Told::Subscribed) => true,
+        (Reply::SubNoTable(table), Told::SubNoTable(wanted)) => table.as_str() == *wanted,
+        (Reply::AlreadySubscribed(table), Told::AlreadySubscribed(wanted)) => {
+            table.as_str() == *wanted
+        }
+        (Reply::NotSubscribed(table), Told::NotSubscribed(wanted)) => table.as_str() == *wanted,
+        (Reply::OutboxFull, Told::OutboxFull) => true,
+        (Reply::OverflowUntold, Told::OverflowUntold) => true,
+        (Reply::Overflow(commit), Told::Overflow(wanted)) => commit == wanted,
+        (Reply::Taken(item), told) => is_item(item, told),
+        _ => false,
+    }
+}
+
+fn is_item(item: &Item, told: &Told) -> bool {
+    match (item, told) {
+        (Item::Began(table, _, Some(records)), Told::Began(wanted, Some(count))) => {
+            table.as_str() == *wanted && records.as_slice().len() == *count
+        }
+        (Item::Began(table, _, None), Told::Began(wanted, None)) => table.as_str() == *wanted,
+        (Item::Batch(commit, events), Told::Batch(wanted, count)) => {
+            commit == wanted && events.as_slice().len() == *count
+        }
+        (Item::Ended(table, _), Told::Ended(wanted)) => table.as_str() == *wanted,
+        _ => false,
+    }
+}
+
 fn step(
-    core: &mut Core,
+    core: &mut Core<RingPost>,
     alloc: Global,
     session: u32,
     asks: &Asks,
 ) -> Result<tab_model::Told, AllocError> {
     let step = match command(alloc, asks)? {
-        Some(command) => {
-            if !is_served(&command) {
-                return Ok(tab_model::Told::new(Reply::BadCommand));
-            }
-            Step::Do(command)
-        }
+        Some(command) => Step::Do(command),
         None => match asks {
-            Asks::Join => Step::Join,
+            Asks::Join => Step::Join(RingPost::with_capacity(alloc, OUTBOX)?),
             Asks::Leave => Step::Leave,
             Asks::Retry => Step::Retry,
             _ => Step::Take,
@@ -307,11 +438,23 @@ fn sessions_wait_restart_and_go_on(rt: HostRuntime) {
 }
 
 #[test]
+fn who_watches_is_told(rt: HostRuntime) {
+    let alloc = rt.alloc();
+    let mut core = Core::new(alloc, TWO);
+    for (line, (session, asks, told)) in WATCHED.iter().enumerate() {
+        let reply = step(&mut core, alloc, *session, asks).expect(&rt, "memory");
+        let right = is_told(alloc, reply.reply(), told).expect(&rt, "memory");
+        assert!(rt; right, "line {line}");
+    }
+}
+
+#[test]
 fn steps_run_in_order(rt: HostRuntime) {
     let alloc = rt.alloc();
     let mut core = Core::new(alloc, LIMITS);
     let mut steps = Vec::new(alloc);
-    steps.push((1, Step::Join)).expect(&rt, "memory");
+    let post = RingPost::with_capacity(alloc, OUTBOX).expect(&rt, "memory");
+    steps.push((1, Step::Join(post))).expect(&rt, "memory");
     steps
         .push((1, Step::Do(Command::Begin)))
         .expect(&rt, "memory");

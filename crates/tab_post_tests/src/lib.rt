@@ -1,4 +1,4 @@
-//! Tests of tab_post: what the two ends of a mailbox answer, in one thread.
+//! Tests of tab_post: what the two ends of a mailbox answer, in one thread and in two.
 
 #![tactic(auto)]
 
@@ -6,3 +6,5 @@
 mod calls;
 #[cfg(test)]
 mod items;
+#[cfg(test)]
+mod threads;

@@ -131,7 +131,7 @@ module _ (σ : State) (n : ℕ) (s : Seat) (here : seat_at σ.seats n ≡ Some s
 quiet : (σ : State) (n : ℕ) (o : Option Transaction) (r : Reply) → transaction_at σ n ≡ o → Deepens (sort_of r) (depth_in σ o) (depth_in σ o) → item_of r ≡ [] → Steps n (depth_in σ o) (record { state = σ; reply = r; entry = None })
 quiet σ n o r e h item = record { levels = subst (λ (x : Option Transaction). Deepens (sort_of r) (depth_in σ o) (depth_in σ x)) (sym e) h; item = item }
 
-module _ (σ : State) (n : ℕ) (s : Seat) (here : seat_at σ.seats n ≡ Some s) where
+module _ (σ : State) (over : List ℕ) (n : ℕ) (s : Seat) (here : seat_at σ.seats n ≡ Some s) where
   opened_steps : (b : Bool) → s.transaction ≡ None → Steps n 0 (opened σ s b)
   opened_steps false e = quiet σ n None (reply.SystemLimit limit.Ages) (ap transaction_in here ∙ e) refl refl
   opened_steps true e = record { levels = ap (depth_in σ) (placed σ n s here _); item = refl }
@@ -153,11 +153,11 @@ module _ (σ : State) (n : ℕ) (s : Seat) (here : seat_at σ.seats n ≡ Some s
   abort_steps r None e = quiet σ n None _ (ap transaction_in here ∙ e) tt refl
   abort_steps r (Some t) e = undone (with_queue σ (without_request σ.queue s.number)) n s here t r
 
-  commit_at_steps : (t : Transaction) (b : Bool) → is_empty (mid_of σ t).saved ≡ b → Steps n (depth_in σ (Some t)) (commit_at σ [] s t b)
+  commit_at_steps : (t : Transaction) (b : Bool) → is_empty (mid_of σ t).saved ≡ b → Steps n (depth_in σ (Some t)) (commit_at σ over s t b)
   commit_at_steps t false e = joined σ n s here t (mid_of σ t).saved refl e
   commit_at_steps t true e = record { levels = tt; item = refl }
 
-  commit_steps : (o : Option Transaction) → s.transaction ≡ o → Steps n (depth_in σ o) (commit σ [] s o)
+  commit_steps : (o : Option Transaction) → s.transaction ≡ o → Steps n (depth_in σ o) (commit σ over s o)
   commit_steps None e = quiet σ n None _ (ap transaction_in here ∙ e) tt refl
   commit_steps (Some t) e = commit_at_steps t _ refl
 
@@ -174,7 +174,7 @@ module _ (σ : State) (n : ℕ) (s : Seat) (here : seat_at σ.seats n ≡ Some s
   operate_steps x None e = quiet σ n None _ (ap transaction_in here ∙ e) tt refl
   operate_steps x (Some t) e = within_steps t x _ e
 
-  do_steps : (c : Command) → is_handed c ≡ true → Steps n (depth_in σ s.transaction) (do_command σ [] s c)
+  do_steps : (c : Command) → is_handed c ≡ true → Steps n (depth_in σ s.transaction) (do_command σ over s c)
   do_steps command.Begin h = begin_steps s.transaction refl
   do_steps command.Commit h = commit_steps s.transaction refl
   do_steps (command.Abort r) h = abort_steps r s.transaction refl
@@ -182,38 +182,38 @@ module _ (σ : State) (n : ℕ) (s : Seat) (here : seat_at σ.seats n ≡ Some s
   do_steps (command.OneShot parts retries) h = one_shot_steps s.transaction refl
   do_steps c h = cc
 
-  command_steps : (c : Command) (b : Bool) → is_handed c ≡ true → Steps n (depth_in σ s.transaction) (command_if σ [] s c b)
+  command_steps : (c : Command) (b : Bool) → is_handed c ≡ true → Steps n (depth_in σ s.transaction) (command_if σ over s c b)
   command_steps c true h = quiet σ n s.transaction _ (ap transaction_in here) tt refl
   command_steps c false h = do_steps c h
 
-steps : (σ : State) (n : ℕ) (c : Command) → is_handed c ≡ true → Steps n (depth σ n) (outcome σ [] n (DoCommand c))
+steps : (σ : State) (over : List ℕ) (n : ℕ) (c : Command) → is_handed c ≡ true → Steps n (depth σ n) (outcome σ over n (DoCommand c))
 unfolding outcome
-steps σ n c h = cases (seat_at σ.seats n) refl
+steps σ over n c h = cases (seat_at σ.seats n) refl
   where
-    cases : (x : Option Seat) → seat_at σ.seats n ≡ x → Steps n (depth_in σ (transaction_in x)) (by_seat σ [] n (DoCommand c) x)
+    cases : (x : Option Seat) → seat_at σ.seats n ≡ x → Steps n (depth_in σ (transaction_in x)) (by_seat σ over n (DoCommand c) x)
     cases None e = quiet σ n None _ (ap transaction_in e) tt refl
-    cases (Some s) e = command_steps σ n s e c _ h
+    cases (Some s) e = command_steps σ over n s e c _ h
 
-pub deepens : (σ : State) (n : ℕ) (c : Command) → is_handed c ≡ true → Deepens (sort_of (outcome σ [] n (DoCommand c)).reply) (depth σ n) (depth (outcome σ [] n (DoCommand c)).state n)
-deepens σ n c h = (steps σ n c h).levels
+pub deepens : (σ : State) (over : List ℕ) (n : ℕ) (c : Command) → is_handed c ≡ true → Deepens (sort_of (outcome σ over n (DoCommand c)).reply) (depth σ n) (depth (outcome σ over n (DoCommand c)).state n)
+deepens σ over n c h = (steps σ over n c h).levels
 
-pub no_item : (σ : State) (n : ℕ) (c : Command) → is_handed c ≡ true → item_of (outcome σ [] n (DoCommand c)).reply ≡ []
-no_item σ n c h = (steps σ n c h).item
+pub no_item : (σ : State) (over : List ℕ) (n : ℕ) (c : Command) → is_handed c ≡ true → item_of (outcome σ over n (DoCommand c)).reply ≡ []
+no_item σ over n c h = (steps σ over n c h).item
 
 -- an abort of an open level is answered so
-pub aborts : (σ : State) (n : ℕ) (r : Term) → 1 ≤ depth σ n → (outcome σ [] n (DoCommand (command.Abort r))).reply ≡ reply.UserAbort r
+pub aborts : (σ : State) (over : List ℕ) (n : ℕ) (r : Term) → 1 ≤ depth σ n → (outcome σ over n (DoCommand (command.Abort r))).reply ≡ reply.UserAbort r
 unfolding outcome
-aborts σ n r open_now = cases (seat_at σ.seats n) refl open_now
+aborts σ over n r open_now = cases (seat_at σ.seats n) refl open_now
   where
     by_transaction : (s : Seat) (o : Option Transaction) → 1 ≤ depth_in σ o → (abort σ s r o).reply ≡ reply.UserAbort r
     by_transaction s None h = absurd (omega arith)
     by_transaction s (Some t) h = refl
 
-    by_wait : (s : Seat) (b : Bool) → b ≡ false → 1 ≤ depth_in σ s.transaction → (command_if σ [] s (command.Abort r) b).reply ≡ reply.UserAbort r
+    by_wait : (s : Seat) (b : Bool) → b ≡ false → 1 ≤ depth_in σ s.transaction → (command_if σ over s (command.Abort r) b).reply ≡ reply.UserAbort r
     by_wait s true e h = cc
     by_wait s false e h = by_transaction s s.transaction h
 
-    cases : (x : Option Seat) → seat_at σ.seats n ≡ x → 1 ≤ depth_in σ (transaction_in x) → (by_seat σ [] n (DoCommand (command.Abort r)) x).reply ≡ reply.UserAbort r
+    cases : (x : Option Seat) → seat_at σ.seats n ≡ x → 1 ≤ depth_in σ (transaction_in x) → (by_seat σ over n (DoCommand (command.Abort r)) x).reply ≡ reply.UserAbort r
     cases None e h = absurd (omega arith)
     cases (Some s) e h = by_wait s _ (and-false (is_waiting σ s.number)) h
 
@@ -222,9 +222,9 @@ OpensOne sort.Opened d = d ≡ 1
 OpensOne s d = Unit {0}
 
 -- a one-shot that is taken opens level 1
-pub opens : (σ : State) (n : ℕ) (parts : List Part) (retries : ℕ) → sort_of (outcome σ [] n (DoCommand (command.OneShot parts retries))).reply ≡ sort.Opened → depth (outcome σ [] n (DoCommand (command.OneShot parts retries))).state n ≡ 1
+pub opens : (σ : State) (over : List ℕ) (n : ℕ) (parts : List Part) (retries : ℕ) → sort_of (outcome σ over n (DoCommand (command.OneShot parts retries))).reply ≡ sort.Opened → depth (outcome σ over n (DoCommand (command.OneShot parts retries))).state n ≡ 1
 unfolding outcome
-opens σ n parts retries is = subst (λ (k : Sort). OpensOne k (depth (by_seat σ [] n (DoCommand (command.OneShot parts retries)) (seat_at σ.seats n)).state n)) is (cases (seat_at σ.seats n) refl)
+opens σ over n parts retries is = subst (λ (k : Sort). OpensOne k (depth (by_seat σ over n (DoCommand (command.OneShot parts retries)) (seat_at σ.seats n)).state n)) is (cases (seat_at σ.seats n) refl)
   where
     by_room : (s : Seat) (b : Bool) → seat_at σ.seats n ≡ Some s → OpensOne (sort_of (opened σ s b).reply) (depth (opened σ s b).state n)
     by_room s false e = tt
@@ -234,10 +234,10 @@ opens σ n parts retries is = subst (λ (k : Sort). OpensOne k (depth (by_seat �
     by_transaction s None e = by_room s _ e
     by_transaction s (Some t) e = tt
 
-    by_wait : (s : Seat) (b : Bool) → seat_at σ.seats n ≡ Some s → OpensOne (sort_of (command_if σ [] s (command.OneShot parts retries) b).reply) (depth (command_if σ [] s (command.OneShot parts retries) b).state n)
+    by_wait : (s : Seat) (b : Bool) → seat_at σ.seats n ≡ Some s → OpensOne (sort_of (command_if σ over s (command.OneShot parts retries) b).reply) (depth (command_if σ over s (command.OneShot parts retries) b).state n)
     by_wait s true e = tt
     by_wait s false e = by_transaction s s.transaction e
 
-    cases : (x : Option Seat) → seat_at σ.seats n ≡ x → OpensOne (sort_of (by_seat σ [] n (DoCommand (command.OneShot parts retries)) x).reply) (depth (by_seat σ [] n (DoCommand (command.OneShot parts retries)) x).state n)
+    cases : (x : Option Seat) → seat_at σ.seats n ≡ x → OpensOne (sort_of (by_seat σ over n (DoCommand (command.OneShot parts retries)) x).reply) (depth (by_seat σ over n (DoCommand (command.OneShot parts retries)) x).state n)
     cases None e = tt
     cases (Some s) e = by_wait s _ e

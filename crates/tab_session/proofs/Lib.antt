@@ -2,6 +2,7 @@ pub mod AnsweredLemmas
 pub mod AnsweredAllLemmas
 pub mod ServedLemmas
 pub mod ReplayedLemmas
+mod BoundedSteps
 mod DriverSteps
 mod DriverOnce
 mod RunLaws

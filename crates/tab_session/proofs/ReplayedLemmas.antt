@@ -17,19 +17,6 @@ use Rattle.tab_session.specs.Replays.{fresh, frames_of, IsRun, IsReplaying, Pass
 use Rattle.tab_session.proofs.AnsweredAllLemmas.{total, ran_join, frames_join, beginning_after}
 use Rattle.tab_etf.proofs.KnownBytesLemmas.{Appends-none, Appends-then}
 
-pub replaying_init : (stream : List ℕ) (old : Option (List ℕ)) → IsReplaying stream (Some stream) [] 0 fresh old old
-replaying_init stream old = record {
-  more = stream;
-  has = refl;
-  done = [];
-  said = [];
-  found = refl;
-  ends = refl;
-  goes = λ qs ss τ r. r;
-  text = Appends-none old;
-  count = omega arith;
-}
-
 -- what is left after a read
 pub record Left (more : List ℕ) (left : Option (List ℕ)) (piece : List ℕ) : Type 0 where
   pub next : List ℕ
@@ -47,70 +34,11 @@ consumed (Some xs) more (Some ys) piece e h = record { next = ys; has = refl; pa
 again : (held piece next more : List ℕ) → more ≡ piece ++ next → held ++ more ≡ (held ++ piece) ++ next
 again held piece next more e = ap (λ (x : List ℕ). held ++ x) e ∙ sym (append_assoc held piece next)
 
-pub replaying_on : (stream : List ℕ) (left new_left : Option (List ℕ)) (held piece rest : List ℕ) (i : ℕ) (now μ : State) (old mid new : Option (List ℕ)) (given : List (List ℕ))
-    → IsReplaying stream left held i now old mid → Consumes left new_left piece → 0 < length piece → GoesOn (held ++ piece) given rest → Passed now μ given mid new
-    → IsReplaying stream new_left rest (i + 1) μ old new
-replaying_on stream left new_left held piece rest i now μ old mid new given s read some g p =
-    let k = consumed left s.more new_left piece s.has read in
-    let whole = again held piece k.next s.more k.parts in
-    record {
-      more = k.next;
-      has = k.has;
-      done = s.done ++ given;
-      said = s.said ++ p.replies;
-      found = s.found ∙ ap (λ (x : List ℕ). s.done ++ payloads x) whole ∙ ap (λ (x : List (List ℕ)). s.done ++ x) (g.found k.next) ∙ sym (append_assoc s.done given (payloads (rest ++ k.next)));
-      ends = s.ends ∙ ap rest_of whole ∙ g.ends k.next;
-      goes = λ qs ss τ r. rw (append_assoc s.done given qs, append_assoc s.said p.replies ss) (s.goes (given ++ qs) (p.replies ++ ss) τ (ran_join now μ τ given qs p.replies ss p.ran r));
-      text = Appends-then old mid new _ _ _ s.text p.text (sym (frames_join s.said p.replies));
-      count = omega (arith, s.count, ap length k.parts, length-append piece k.next);
-    }
-
 -- ---- the end
 
 at_end : (left : Option (List ℕ)) (more : List ℕ) → left ≡ Some more → IsAtEnd left → more ≡ []
 at_end None more e h = absurd cc
 at_end (Some xs) more e h = some_is more xs (sym e) ∙ h
-
-pub record AtEnd (stream : List ℕ) (held : List ℕ) (old new : Option (List ℕ)) : Type 0 where
-  pub found : payloads held ≡ [] → WroteAll fresh (payloads stream) old new
-  pub ends : rest_of stream ≡ rest_of held
-
-pub replaying_end : (stream : List ℕ) (left new_left : Option (List ℕ)) (held : List ℕ) (i : ℕ) (now : State) (old new : Option (List ℕ))
-    → IsReplaying stream left held i now old new → Consumes left new_left [] → IsAtEnd new_left → AtEnd stream held old new
-replaying_end stream left new_left held i now old new s read end =
-    let k = consumed left s.more new_left [] s.has read in
-    let none : s.more ≡ [] = k.parts ∙ at_end new_left k.next k.has end in
-    let whole : held ++ s.more ≡ held = ap (λ (x : List ℕ). held ++ x) none ∙ append-nil held in
-    record {
-      found = λ e. record {
-        replies = s.said;
-        said = record {
-          last = now;
-          ran = subst (λ (ps : List (List ℕ)). AnsweredAll fresh ps s.said now) (ap (λ (x : List (List ℕ)). s.done ++ x) (sym e) ∙ ap (λ (x : List ℕ). s.done ++ payloads x) (sym whole) ∙ sym s.found)
-              (subst (λ (rs : List Answer). AnsweredAll fresh (s.done ++ []) rs now) (append-nil s.said) (s.goes [] [] now refl));
-        };
-        text = s.text;
-      };
-      ends = s.ends ∙ ap rest_of whole;
-    }
-
-pub replaying_over : {n : ℕ} (stream : List ℕ) (left new_left : Option (List ℕ)) (held piece : List ℕ) (i : ℕ) (now μ : State) (old mid new : Option (List ℕ)) (given : List (List ℕ))
-    → IsReplaying stream left held i now old mid → Consumes left new_left piece → Stops (held ++ piece) given n → Passed now μ given mid new
-    → Replayed stream old new (Err Damaged)
-replaying_over stream left new_left held piece i now μ old mid new given s read g p =
-    let k = consumed left s.more new_left piece s.has read in
-    let whole = again held piece k.next s.more k.parts in (
-      λ e. g.ends k.next (sym (s.ends ∙ ap rest_of whole) ∙ e),
-      record {
-        replies = s.said ++ p.replies;
-        said = record {
-          last = μ;
-          ran = subst (λ (ps : List (List ℕ)). AnsweredAll fresh ps (s.said ++ p.replies) μ) (ap (λ (x : List (List ℕ)). s.done ++ x) (sym (g.found k.next)) ∙ ap (λ (x : List ℕ). s.done ++ payloads x) (sym whole) ∙ sym s.found)
-              (s.goes given p.replies μ p.ran);
-        };
-        text = Appends-then old mid new _ _ _ s.text p.text (sym (frames_join s.said p.replies));
-      },
-    )
 
 -- ---- errors
 
@@ -119,100 +47,12 @@ pub record Next (stream : List ℕ) (done given : List (List ℕ)) : Type 0 wher
   pub others : List (List ℕ)
   pub found : payloads stream ≡ done ++ (given ++ others)
 
-pub next_going : (stream : List ℕ) (left new_left : Option (List ℕ)) (held piece rest : List ℕ) (i : ℕ) (now : State) (old new : Option (List ℕ)) (given : List (List ℕ))
-    → (s : IsReplaying stream left held i now old new) → Consumes left new_left piece → GoesOn (held ++ piece) given rest → Next stream s.done given
-next_going stream left new_left held piece rest i now old new given s read g =
-    let k = consumed left s.more new_left piece s.has read in
-    record { others = payloads (rest ++ k.next); found = s.found ∙ ap (λ (x : List ℕ). s.done ++ payloads x) (again held piece k.next s.more k.parts) ∙ ap (λ (x : List (List ℕ)). s.done ++ x) (g.found k.next) }
-
-pub next_stopped : {n : ℕ} (stream : List ℕ) (left new_left : Option (List ℕ)) (held piece : List ℕ) (i : ℕ) (now : State) (old new : Option (List ℕ)) (given : List (List ℕ))
-    → (s : IsReplaying stream left held i now old new) → Consumes left new_left piece → Stops (held ++ piece) given n → Next stream s.done given
-next_stopped stream left new_left held piece i now old new given s read g =
-    let k = consumed left s.more new_left piece s.has read in
-    record { others = []; found = s.found ∙ ap (λ (x : List ℕ). s.done ++ payloads x) (again held piece k.next s.more k.parts) ∙ ap (λ (x : List (List ℕ)). s.done ++ x) (g.found k.next ∙ sym (append-nil given)) }
-
--- the run of what was served, after what was done and before all the rest
-said_on : (stream : List ℕ) (left : Option (List ℕ)) (held : List ℕ) (i : ℕ) (now : State) (old mid : Option (List ℕ)) (given : List (List ℕ)) (rs : List Answer)
-    → (s : IsReplaying stream left held i now old mid) → Next stream s.done given → IsRun now given rs → (us : List Answer) × IsRun fresh (payloads stream) (s.said ++ (rs ++ us))
-said_on stream left held i now old mid given rs s n q =
-    let t = total q.last n.others in
-    (t.0, record { last = t.1.last; ran = subst (λ (ps : List (List ℕ)). AnsweredAll fresh ps (s.said ++ (rs ++ t.0)) t.1.last) (sym n.found) (s.goes (given ++ n.others) (rs ++ t.0) t.1.last (ran_join now q.last t.1.last given n.others rs t.0 q.ran t.1.ran)) })
-
 regroup : (a b c d : List Answer) → a ++ ((b ++ c) ++ d) ≡ (a ++ b) ++ (c ++ d)
 regroup a b c d = ap (λ (x : List Answer). a ++ x) (append_assoc b c d) ∙ sym (append_assoc a b (c ++ d))
 
 too_long_on : (rs us : List Answer) → BeginsTooLong rs → BeginsTooLong (rs ++ us)
 too_long_on [] us h = absurd h
 too_long_on (r ∷ rs) us h = h
-
-pub replaying_err : (stream : List ℕ) (left : Option (List ℕ)) (held : List ℕ) (i : ℕ) (now μ : State) (old mid new : Option (List ℕ)) (given : List (List ℕ)) (e : Ended)
-    → (s : IsReplaying stream left held i now old mid) → Next stream s.done given → Served now μ given mid new (Err e) → Replayed stream old new (Err e)
-replaying_err stream left held i now μ old mid new given Damaged s n h = absurd h
-replaying_err stream left held i now μ old mid new given Device s n h =
-    let u = said_on stream left held i now old mid given h.replies s n h.said in
-    let k = beginning_after (frames_of s.said) h.count (frames_of h.replies) (frames_of u.0) in
-    let whole : frames_of s.said ++ (frames_of h.replies ++ frames_of u.0) ≡ frames_of (s.said ++ (h.replies ++ u.0)) =
-    ap (λ (x : List ℕ). frames_of s.said ++ x) (sym (frames_join h.replies u.0)) ∙ sym (frames_join s.said (h.replies ++ u.0)) in
-    record {
-      replies = s.said ++ (h.replies ++ u.0);
-      said = u.1;
-      count = k.0;
-      text = Appends-then old mid new _ _ _ s.text h.text (sym k.1 ∙ ap (take k.0) whole);
-    }
-replaying_err stream left held i now μ old mid new given TooLong s n h =
-    let u = said_on stream left held i now old mid given (h.first ++ h.others) s n h.said in
-    record {
-      first = s.said ++ h.first;
-      others = h.others ++ u.0;
-      said = subst (λ (rs : List Answer). IsRun fresh (payloads stream) rs) (regroup s.said h.first h.others u.0) u.1;
-      text = Appends-then old mid new _ _ _ s.text h.text (sym (frames_join s.said h.first));
-      next = too_long_on h.others u.0 h.next;
-    }
-replaying_err stream left held i now μ old mid new given NoMemory s n h =
-    let u = said_on stream left held i now old mid given (h.first ++ h.others) s n h.said in
-    record {
-      first = s.said ++ h.first;
-      others = h.others ++ u.0;
-      said = subst (λ (rs : List Answer). IsRun fresh (payloads stream) rs) (regroup s.said h.first h.others u.0) u.1;
-      text = Appends-then old mid new _ _ _ s.text h.text (sym (frames_join s.said h.first));
-    }
-
--- a run over the whole stream from what was done
-said_all : (stream : List ℕ) (left : Option (List ℕ)) (held : List ℕ) (i : ℕ) (now : State) (old new : Option (List ℕ))
-    → (s : IsReplaying stream left held i now old new) → (us : List Answer) × IsRun fresh (payloads stream) (s.said ++ us)
-said_all stream left held i now old new s =
-    let t = total now (payloads (held ++ s.more)) in
-    (t.0, record { last = t.1.last; ran = subst (λ (ps : List (List ℕ)). AnsweredAll fresh ps (s.said ++ t.0) t.1.last) (sym s.found) (s.goes (payloads (held ++ s.more)) t.0 t.1.last t.1.ran) })
-
-pub replaying_device : (stream : List ℕ) (left : Option (List ℕ)) (held : List ℕ) (i : ℕ) (now : State) (old new : Option (List ℕ))
-    → IsReplaying stream left held i now old new → WroteSome fresh (payloads stream) old new
-replaying_device stream left held i now old new s =
-    let u = said_all stream left held i now old new s in
-    let k = beginning_after (frames_of s.said) 0 [] (frames_of u.0) in
-    record {
-      replies = s.said ++ u.0;
-      said = u.1;
-      count = k.0;
-      text = subst (λ (x : List ℕ). Appends old new x) (sym (append-nil (frames_of s.said)) ∙ sym k.1 ∙ ap (take k.0) (sym (frames_join s.said u.0))) s.text;
-    }
-
-pub replaying_no_memory : (stream : List ℕ) (left : Option (List ℕ)) (held : List ℕ) (i : ℕ) (now : State) (old new : Option (List ℕ))
-    → IsReplaying stream left held i now old new → WroteFirst fresh (payloads stream) old new
-replaying_no_memory stream left held i now old new s =
-    let u = said_all stream left held i now old new s in
-    record { first = s.said; others = u.0; said = u.1; text = s.text }
-
--- the rounds are never used up
-pub replaying_rounds : (stream : List ℕ) (left : Option (List ℕ)) (held : List ℕ) (i : ℕ) (now : State) (old new : Option (List ℕ))
-    → IsReplaying stream left held i now old new → length stream < i → ⊥
-replaying_rounds stream left held i now old new s lt = omega (arith, s.count)
-
-pub advance : (r : Result (Unit {0}) Ended) (stream : List ℕ) (left new_left : Option (List ℕ)) (held piece rest : List ℕ) (i : ℕ) (now μ : State) (old mid new : Option (List ℕ)) (given : List (List ℕ))
-    → IsReplaying stream left held i now old mid → Consumes left new_left piece → 0 < length piece → GoesOn (held ++ piece) given rest → Served now μ given mid new r
-    → Advances r stream new_left rest (i + 1) μ old new
-advance (Ok u) stream left new_left held piece rest i now μ old mid new given s read some g p = replaying_on stream left new_left held piece rest i now μ old mid new given s read some g p
-advance (Err e) stream left new_left held piece rest i now μ old mid new given s read some g p =
-    replaying_err stream left held i now μ old mid new given e s (next_going stream left new_left held piece rest i now old mid given s read g) p
 
 not_both : (o : Option ℕ) (n : ℕ) → o ≡ None → o ≡ Some n → ⊥
 not_both None n e f = absurd cc
@@ -224,55 +64,216 @@ stopped_by n was new piece e h = elim h [ inl p ↦ absurd (not_both was.over n 
 pub stopped : (f : FrameFault) (n : ℕ) (was new : Held) (piece : List ℕ) → f ≡ faults.FrameTooLong n → was.over ≡ None → IsStopped f was new piece → Stops (was.rest ++ piece) new.before n
 stopped f n was new piece k e h = stopped_by n was new piece e (subst (λ (x : FrameFault). IsStopped x was new piece) k h)
 
-pub ended_ok : (stream : List ℕ) (held : List ℕ) (old new : Option (List ℕ)) → AtEnd stream held old new → payloads held ≡ [] → rest_of held ≡ [] → Replayed stream old new (Ok tt)
-ended_ok stream held old new a e f = (a.ends ∙ f, a.found e)
-
-pub ended_cut : (stream : List ℕ) (held : List ℕ) (old new : Option (List ℕ)) → AtEnd stream held old new → payloads held ≡ [] → rest_of held ≢ [] → Replayed stream old new (Err Damaged)
-ended_cut stream held old new a e f = (λ k. f (sym a.ends ∙ k), a.found e)
-
-pub replaying_zero : (stream : List ℕ) (left new_left : Option (List ℕ)) (held : List ℕ) (i : ℕ) (now : State) (old new : Option (List ℕ)) (n : ℕ) (buf : List ℕ)
-    → IsReplaying stream left held i now old new → n ≡ 0 → Consumes left new_left (take n buf) → (n ≡ 0 → 0 < length buf → IsAtEnd new_left) → 0 < length buf → AtEnd stream held old new
-replaying_zero stream left new_left held i now old new n buf s e read end some =
-    replaying_end stream left new_left held i now old new s (subst (λ (m : ℕ). Consumes left new_left (take m buf)) e read) (end e some)
-
 pub if_some_map : (o : Option (List ℕ)) (P Q : List ℕ → Type 0) → ((x : List ℕ) → o ≡ Some x → P x → Q x) → IfSome o P → IfSome o Q
 if_some_map None P Q f h = tt
 if_some_map (Some x) P Q f h = f x refl h
 
-pub init_if : (o : Option (List ℕ)) (held : List ℕ) (now : State) (old : Option (List ℕ)) → held ≡ [] → now ≡ fresh → IfSome o (λ stream. IsReplaying stream o held 0 now old old)
-init_if None held now old e f = tt
-init_if (Some stream) held now old e f = rw (e, f) (replaying_init stream old)
+module _ (capacity : ℕ) where
+  pub replaying_init : (stream : List ℕ) (old : Option (List ℕ)) → IsReplaying capacity stream (Some stream) [] 0 fresh old old
+  replaying_init stream old = record {
+    more = stream;
+    has = refl;
+    done = [];
+    said = [];
+    found = refl;
+    ends = refl;
+    goes = λ qs ss τ r. r;
+    text = Appends-none old;
+    count = omega arith;
+  }
 
-pub device_if : (o left : Option (List ℕ)) (held : List ℕ) (i : ℕ) (now : State) (old new : Option (List ℕ))
-    → IfSome o (λ stream. IsReplaying stream left held i now old new) → IfSome o (λ stream. length stream < 2 ^ 64 - 1 → Replayed stream old new (Err Device))
-device_if None left held i now old new s = tt
-device_if (Some stream) left held i now old new s = λ small. replaying_device stream left held i now old new s
+  pub replaying_on : (stream : List ℕ) (left new_left : Option (List ℕ)) (held piece rest : List ℕ) (i : ℕ) (now μ : State) (old mid new : Option (List ℕ)) (given : List (List ℕ))
+      → IsReplaying capacity stream left held i now old mid → Consumes left new_left piece → 0 < length piece → GoesOn (held ++ piece) given rest → Passed capacity now μ given mid new
+      → IsReplaying capacity stream new_left rest (i + 1) μ old new
+  replaying_on stream left new_left held piece rest i now μ old mid new given s read some g p =
+      let k = consumed left s.more new_left piece s.has read in
+      let whole = again held piece k.next s.more k.parts in
+      record {
+        more = k.next;
+        has = k.has;
+        done = s.done ++ given;
+        said = s.said ++ p.replies;
+        found = s.found ∙ ap (λ (x : List ℕ). s.done ++ payloads x) whole ∙ ap (λ (x : List (List ℕ)). s.done ++ x) (g.found k.next) ∙ sym (append_assoc s.done given (payloads (rest ++ k.next)));
+        ends = s.ends ∙ ap rest_of whole ∙ g.ends k.next;
+        goes = λ qs ss τ r. rw (append_assoc s.done given qs, append_assoc s.said p.replies ss) (s.goes (given ++ qs) (p.replies ++ ss) τ (ran_join capacity now μ τ given qs p.replies ss p.ran r));
+        text = Appends-then old mid new _ _ _ s.text p.text (sym (frames_join s.said p.replies));
+        count = omega (arith, s.count, ap length k.parts, length-append piece k.next);
+      }
 
-ok_if : (o left new_left : Option (List ℕ)) (held : List ℕ) (i : ℕ) (now : State) (old new : Option (List ℕ)) (n : ℕ) (buf : List ℕ)
-    → IfSome o (λ stream. IsReplaying stream left held i now old new) → n ≡ 0 → Consumes left new_left (take n buf) → (n ≡ 0 → 0 < length buf → IsAtEnd new_left) → 0 < length buf
-    → payloads held ≡ [] → rest_of held ≡ [] → IfSome o (λ stream. length stream < 2 ^ 64 - 1 → Replayed stream old new (Ok tt))
-ok_if None left new_left held i now old new n buf s e read end some found ok = tt
-ok_if (Some stream) left new_left held i now old new n buf s e read end some found ok = λ small. ended_ok stream held old new (replaying_zero stream left new_left held i now old new n buf s e read end some) found ok
+  pub record AtEnd (stream : List ℕ) (held : List ℕ) (old new : Option (List ℕ)) : Type 0 where
+    pub found : payloads held ≡ [] → WroteAll capacity fresh (payloads stream) old new
+    pub ends : rest_of stream ≡ rest_of held
 
-cut_if : (o left new_left : Option (List ℕ)) (held : List ℕ) (i : ℕ) (now : State) (old new : Option (List ℕ)) (n : ℕ) (buf : List ℕ)
-    → IfSome o (λ stream. IsReplaying stream left held i now old new) → n ≡ 0 → Consumes left new_left (take n buf) → (n ≡ 0 → 0 < length buf → IsAtEnd new_left) → 0 < length buf
-    → payloads held ≡ [] → rest_of held ≢ [] → IfSome o (λ stream. length stream < 2 ^ 64 - 1 → Replayed stream old new (Err Damaged))
-cut_if None left new_left held i now old new n buf s e read end some found cut = tt
-cut_if (Some stream) left new_left held i now old new n buf s e read end some found cut = λ small. ended_cut stream held old new (replaying_zero stream left new_left held i now old new n buf s e read end some) found cut
+  pub replaying_end : (stream : List ℕ) (left new_left : Option (List ℕ)) (held : List ℕ) (i : ℕ) (now : State) (old new : Option (List ℕ))
+      → IsReplaying capacity stream left held i now old new → Consumes left new_left [] → IsAtEnd new_left → AtEnd stream held old new
+  replaying_end stream left new_left held i now old new s read end =
+      let k = consumed left s.more new_left [] s.has read in
+      let none : s.more ≡ [] = k.parts ∙ at_end new_left k.next k.has end in
+      let whole : held ++ s.more ≡ held = ap (λ (x : List ℕ). held ++ x) none ∙ append-nil held in
+      record {
+        found = λ e. record {
+          replies = s.said;
+          said = record {
+            last = now;
+            ran = subst (λ (ps : List (List ℕ)). AnsweredAll capacity fresh ps s.said now) (ap (λ (x : List (List ℕ)). s.done ++ x) (sym e) ∙ ap (λ (x : List ℕ). s.done ++ payloads x) (sym whole) ∙ sym s.found)
+                (subst (λ (rs : List Answer). AnsweredAll capacity fresh (s.done ++ []) rs now) (append-nil s.said) (s.goes [] [] now refl));
+          };
+          text = s.text;
+        };
+        ends = s.ends ∙ ap rest_of whole;
+      }
 
-pub end_if : (o left new_left : Option (List ℕ)) (held : List ℕ) (i : ℕ) (now : State) (old new : Option (List ℕ)) (n : ℕ) (buf : List ℕ) (r : Result (Unit {0}) Ended) (over : Option ℕ) → over ≡ None
-    → IfSome o (λ stream. IsReplaying stream left held i now old new) → n ≡ 0 → Consumes left new_left (take n buf) → (n ≡ 0 → 0 < length buf → IsAtEnd new_left) → 0 < length buf
-    → (over ≡ None → payloads held ≡ []) → OnOk r (rest_of held ≡ []) → IfErr r (λ e. (e ≡ Damaged) × (over ≡ None → rest_of held ≢ [])) → IfSome o (λ stream. length stream < 2 ^ 64 - 1 → Replayed stream old new r)
-end_if o left new_left held i now old new n buf (Ok u) over going s e read end some found ok cut = ok_if o left new_left held i now old new n buf s e read end some (found going) ok
-end_if o left new_left held i now old new n buf (Err f) over going s e read end some found ok cut =
-    subst (λ (x : Ended). IfSome o (λ stream. length stream < 2 ^ 64 - 1 → Replayed stream old new (Err x))) (sym cut.0) (cut_if o left new_left held i now old new n buf s e read end some (found going) (cut.1 going))
+  pub replaying_over : {n : ℕ} (stream : List ℕ) (left new_left : Option (List ℕ)) (held piece : List ℕ) (i : ℕ) (now μ : State) (old mid new : Option (List ℕ)) (given : List (List ℕ))
+      → IsReplaying capacity stream left held i now old mid → Consumes left new_left piece → Stops (held ++ piece) given n → Passed capacity now μ given mid new
+      → Replayed capacity stream old new (Err Damaged)
+  replaying_over stream left new_left held piece i now μ old mid new given s read g p =
+      let k = consumed left s.more new_left piece s.has read in
+      let whole = again held piece k.next s.more k.parts in (
+        λ e. g.ends k.next (sym (s.ends ∙ ap rest_of whole) ∙ e),
+        record {
+          replies = s.said ++ p.replies;
+          said = record {
+            last = μ;
+            ran = subst (λ (ps : List (List ℕ)). AnsweredAll capacity fresh ps (s.said ++ p.replies) μ) (ap (λ (x : List (List ℕ)). s.done ++ x) (sym (g.found k.next)) ∙ ap (λ (x : List ℕ). s.done ++ payloads x) (sym whole) ∙ sym s.found)
+                (s.goes given p.replies μ p.ran);
+          };
+          text = Appends-then old mid new _ _ _ s.text p.text (sym (frames_join s.said p.replies));
+        },
+      )
 
-pub piece_if : (o left : Option (List ℕ)) (held : List ℕ) (i : ℕ) (now : State) (old mid new : Option (List ℕ)) (e : Ended)
-    → IfSome o (λ stream. IsReplaying stream left held i now old mid) → ((stream : List ℕ) → IsReplaying stream left held i now old mid → Replayed stream old new (Err e))
-    → IfSome o (λ stream. length stream < 2 ^ 64 - 1 → Replayed stream old new (Err e))
-piece_if None left held i now old mid new e s f = tt
-piece_if (Some stream) left held i now old mid new e s f = λ small. f stream s
+  pub next_going : (stream : List ℕ) (left new_left : Option (List ℕ)) (held piece rest : List ℕ) (i : ℕ) (now : State) (old new : Option (List ℕ)) (given : List (List ℕ))
+      → (s : IsReplaying capacity stream left held i now old new) → Consumes left new_left piece → GoesOn (held ++ piece) given rest → Next stream s.done given
+  next_going stream left new_left held piece rest i now old new given s read g =
+      let k = consumed left s.more new_left piece s.has read in
+      record { others = payloads (rest ++ k.next); found = s.found ∙ ap (λ (x : List ℕ). s.done ++ payloads x) (again held piece k.next s.more k.parts) ∙ ap (λ (x : List (List ℕ)). s.done ++ x) (g.found k.next) }
 
-pub nothing_if : (o : Option (List ℕ)) (old : Option (List ℕ)) → IfSome o (λ stream. length stream < 2 ^ 64 - 1 → WroteFirst fresh (payloads stream) old old)
-nothing_if None old = tt
-nothing_if (Some stream) old = λ small. replaying_no_memory stream (Some stream) [] 0 fresh old old (replaying_init stream old)
+  pub next_stopped : {n : ℕ} (stream : List ℕ) (left new_left : Option (List ℕ)) (held piece : List ℕ) (i : ℕ) (now : State) (old new : Option (List ℕ)) (given : List (List ℕ))
+      → (s : IsReplaying capacity stream left held i now old new) → Consumes left new_left piece → Stops (held ++ piece) given n → Next stream s.done given
+  next_stopped stream left new_left held piece i now old new given s read g =
+      let k = consumed left s.more new_left piece s.has read in
+      record { others = []; found = s.found ∙ ap (λ (x : List ℕ). s.done ++ payloads x) (again held piece k.next s.more k.parts) ∙ ap (λ (x : List (List ℕ)). s.done ++ x) (g.found k.next ∙ sym (append-nil given)) }
+
+  -- the run of what was served, after what was done and before all the rest
+  said_on : (stream : List ℕ) (left : Option (List ℕ)) (held : List ℕ) (i : ℕ) (now : State) (old mid : Option (List ℕ)) (given : List (List ℕ)) (rs : List Answer)
+      → (s : IsReplaying capacity stream left held i now old mid) → Next stream s.done given → IsRun capacity now given rs → (us : List Answer) × IsRun capacity fresh (payloads stream) (s.said ++ (rs ++ us))
+  said_on stream left held i now old mid given rs s n q =
+      let t = total capacity q.last n.others in
+      (t.0, record { last = t.1.last; ran = subst (λ (ps : List (List ℕ)). AnsweredAll capacity fresh ps (s.said ++ (rs ++ t.0)) t.1.last) (sym n.found) (s.goes (given ++ n.others) (rs ++ t.0) t.1.last (ran_join capacity now q.last t.1.last given n.others rs t.0 q.ran t.1.ran)) })
+
+  pub replaying_err : (stream : List ℕ) (left : Option (List ℕ)) (held : List ℕ) (i : ℕ) (now μ : State) (old mid new : Option (List ℕ)) (given : List (List ℕ)) (e : Ended)
+      → (s : IsReplaying capacity stream left held i now old mid) → Next stream s.done given → Served capacity now μ given mid new (Err e) → Replayed capacity stream old new (Err e)
+  replaying_err stream left held i now μ old mid new given Damaged s n h = absurd h
+  replaying_err stream left held i now μ old mid new given Device s n h =
+      let u = said_on stream left held i now old mid given h.replies s n h.said in
+      let k = beginning_after (frames_of s.said) h.count (frames_of h.replies) (frames_of u.0) in
+      let whole : frames_of s.said ++ (frames_of h.replies ++ frames_of u.0) ≡ frames_of (s.said ++ (h.replies ++ u.0)) =
+      ap (λ (x : List ℕ). frames_of s.said ++ x) (sym (frames_join h.replies u.0)) ∙ sym (frames_join s.said (h.replies ++ u.0)) in
+      record {
+        replies = s.said ++ (h.replies ++ u.0);
+        said = u.1;
+        count = k.0;
+        text = Appends-then old mid new _ _ _ s.text h.text (sym k.1 ∙ ap (take k.0) whole);
+      }
+  replaying_err stream left held i now μ old mid new given TooLong s n h =
+      let u = said_on stream left held i now old mid given (h.first ++ h.others) s n h.said in
+      record {
+        first = s.said ++ h.first;
+        others = h.others ++ u.0;
+        said = subst (λ (rs : List Answer). IsRun capacity fresh (payloads stream) rs) (regroup s.said h.first h.others u.0) u.1;
+        text = Appends-then old mid new _ _ _ s.text h.text (sym (frames_join s.said h.first));
+        next = too_long_on h.others u.0 h.next;
+      }
+  replaying_err stream left held i now μ old mid new given NoMemory s n h =
+      let u = said_on stream left held i now old mid given (h.first ++ h.others) s n h.said in
+      record {
+        first = s.said ++ h.first;
+        others = h.others ++ u.0;
+        said = subst (λ (rs : List Answer). IsRun capacity fresh (payloads stream) rs) (regroup s.said h.first h.others u.0) u.1;
+        text = Appends-then old mid new _ _ _ s.text h.text (sym (frames_join s.said h.first));
+      }
+
+  -- a run over the whole stream from what was done
+  said_all : (stream : List ℕ) (left : Option (List ℕ)) (held : List ℕ) (i : ℕ) (now : State) (old new : Option (List ℕ))
+      → (s : IsReplaying capacity stream left held i now old new) → (us : List Answer) × IsRun capacity fresh (payloads stream) (s.said ++ us)
+  said_all stream left held i now old new s =
+      let t = total capacity now (payloads (held ++ s.more)) in
+      (t.0, record { last = t.1.last; ran = subst (λ (ps : List (List ℕ)). AnsweredAll capacity fresh ps (s.said ++ t.0) t.1.last) (sym s.found) (s.goes (payloads (held ++ s.more)) t.0 t.1.last t.1.ran) })
+
+  pub replaying_device : (stream : List ℕ) (left : Option (List ℕ)) (held : List ℕ) (i : ℕ) (now : State) (old new : Option (List ℕ))
+      → IsReplaying capacity stream left held i now old new → WroteSome capacity fresh (payloads stream) old new
+  replaying_device stream left held i now old new s =
+      let u = said_all stream left held i now old new s in
+      let k = beginning_after (frames_of s.said) 0 [] (frames_of u.0) in
+      record {
+        replies = s.said ++ u.0;
+        said = u.1;
+        count = k.0;
+        text = subst (λ (x : List ℕ). Appends old new x) (sym (append-nil (frames_of s.said)) ∙ sym k.1 ∙ ap (take k.0) (sym (frames_join s.said u.0))) s.text;
+      }
+
+  pub replaying_no_memory : (stream : List ℕ) (left : Option (List ℕ)) (held : List ℕ) (i : ℕ) (now : State) (old new : Option (List ℕ))
+      → IsReplaying capacity stream left held i now old new → WroteFirst capacity fresh (payloads stream) old new
+  replaying_no_memory stream left held i now old new s =
+      let u = said_all stream left held i now old new s in
+      record { first = s.said; others = u.0; said = u.1; text = s.text }
+
+  -- the rounds are never used up
+  pub replaying_rounds : (stream : List ℕ) (left : Option (List ℕ)) (held : List ℕ) (i : ℕ) (now : State) (old new : Option (List ℕ))
+      → IsReplaying capacity stream left held i now old new → length stream < i → ⊥
+  replaying_rounds stream left held i now old new s lt = omega (arith, s.count)
+
+  pub advance : (r : Result (Unit {0}) Ended) (stream : List ℕ) (left new_left : Option (List ℕ)) (held piece rest : List ℕ) (i : ℕ) (now μ : State) (old mid new : Option (List ℕ)) (given : List (List ℕ))
+      → IsReplaying capacity stream left held i now old mid → Consumes left new_left piece → 0 < length piece → GoesOn (held ++ piece) given rest → Served capacity now μ given mid new r
+      → Advances capacity r stream new_left rest (i + 1) μ old new
+  advance (Ok u) stream left new_left held piece rest i now μ old mid new given s read some g p = replaying_on stream left new_left held piece rest i now μ old mid new given s read some g p
+  advance (Err e) stream left new_left held piece rest i now μ old mid new given s read some g p =
+      replaying_err stream left held i now μ old mid new given e s (next_going stream left new_left held piece rest i now old mid given s read g) p
+
+  pub ended_ok : (stream : List ℕ) (held : List ℕ) (old new : Option (List ℕ)) → AtEnd stream held old new → payloads held ≡ [] → rest_of held ≡ [] → Replayed capacity stream old new (Ok tt)
+  ended_ok stream held old new a e f = (a.ends ∙ f, a.found e)
+
+  pub ended_cut : (stream : List ℕ) (held : List ℕ) (old new : Option (List ℕ)) → AtEnd stream held old new → payloads held ≡ [] → rest_of held ≢ [] → Replayed capacity stream old new (Err Damaged)
+  ended_cut stream held old new a e f = (λ k. f (sym a.ends ∙ k), a.found e)
+
+  pub replaying_zero : (stream : List ℕ) (left new_left : Option (List ℕ)) (held : List ℕ) (i : ℕ) (now : State) (old new : Option (List ℕ)) (n : ℕ) (buf : List ℕ)
+      → IsReplaying capacity stream left held i now old new → n ≡ 0 → Consumes left new_left (take n buf) → (n ≡ 0 → 0 < length buf → IsAtEnd new_left) → 0 < length buf → AtEnd stream held old new
+  replaying_zero stream left new_left held i now old new n buf s e read end some =
+      replaying_end stream left new_left held i now old new s (subst (λ (m : ℕ). Consumes left new_left (take m buf)) e read) (end e some)
+
+  pub init_if : (o : Option (List ℕ)) (held : List ℕ) (now : State) (old : Option (List ℕ)) → held ≡ [] → now ≡ fresh → IfSome o (λ stream. IsReplaying capacity stream o held 0 now old old)
+  init_if None held now old e f = tt
+  init_if (Some stream) held now old e f = rw (e, f) (replaying_init stream old)
+
+  pub device_if : (o left : Option (List ℕ)) (held : List ℕ) (i : ℕ) (now : State) (old new : Option (List ℕ))
+      → IfSome o (λ stream. IsReplaying capacity stream left held i now old new) → IfSome o (λ stream. length stream < 2 ^ 64 - 1 → Replayed capacity stream old new (Err Device))
+  device_if None left held i now old new s = tt
+  device_if (Some stream) left held i now old new s = λ small. replaying_device stream left held i now old new s
+
+  ok_if : (o left new_left : Option (List ℕ)) (held : List ℕ) (i : ℕ) (now : State) (old new : Option (List ℕ)) (n : ℕ) (buf : List ℕ)
+      → IfSome o (λ stream. IsReplaying capacity stream left held i now old new) → n ≡ 0 → Consumes left new_left (take n buf) → (n ≡ 0 → 0 < length buf → IsAtEnd new_left) → 0 < length buf
+      → payloads held ≡ [] → rest_of held ≡ [] → IfSome o (λ stream. length stream < 2 ^ 64 - 1 → Replayed capacity stream old new (Ok tt))
+  ok_if None left new_left held i now old new n buf s e read end some found ok = tt
+  ok_if (Some stream) left new_left held i now old new n buf s e read end some found ok = λ small. ended_ok stream held old new (replaying_zero stream left new_left held i now old new n buf s e read end some) found ok
+
+  cut_if : (o left new_left : Option (List ℕ)) (held : List ℕ) (i : ℕ) (now : State) (old new : Option (List ℕ)) (n : ℕ) (buf : List ℕ)
+      → IfSome o (λ stream. IsReplaying capacity stream left held i now old new) → n ≡ 0 → Consumes left new_left (take n buf) → (n ≡ 0 → 0 < length buf → IsAtEnd new_left) → 0 < length buf
+      → payloads held ≡ [] → rest_of held ≢ [] → IfSome o (λ stream. length stream < 2 ^ 64 - 1 → Replayed capacity stream old new (Err Damaged))
+  cut_if None left new_left held i now old new n buf s e read end some found cut = tt
+  cut_if (Some stream) left new_left held i now old new n buf s e read end some found cut = λ small. ended_cut stream held old new (replaying_zero stream left new_left held i now old new n buf s e read end some) found cut
+
+  pub end_if : (o left new_left : Option (List ℕ)) (held : List ℕ) (i : ℕ) (now : State) (old new : Option (List ℕ)) (n : ℕ) (buf : List ℕ) (r : Result (Unit {0}) Ended) (over : Option ℕ) → over ≡ None
+      → IfSome o (λ stream. IsReplaying capacity stream left held i now old new) → n ≡ 0 → Consumes left new_left (take n buf) → (n ≡ 0 → 0 < length buf → IsAtEnd new_left) → 0 < length buf
+      → (over ≡ None → payloads held ≡ []) → OnOk r (rest_of held ≡ []) → IfErr r (λ e. (e ≡ Damaged) × (over ≡ None → rest_of held ≢ [])) → IfSome o (λ stream. length stream < 2 ^ 64 - 1 → Replayed capacity stream old new r)
+  end_if o left new_left held i now old new n buf (Ok u) over going s e read end some found ok cut = ok_if o left new_left held i now old new n buf s e read end some (found going) ok
+  end_if o left new_left held i now old new n buf (Err f) over going s e read end some found ok cut =
+      subst (λ (x : Ended). IfSome o (λ stream. length stream < 2 ^ 64 - 1 → Replayed capacity stream old new (Err x))) (sym cut.0) (cut_if o left new_left held i now old new n buf s e read end some (found going) (cut.1 going))
+
+  pub piece_if : (o left : Option (List ℕ)) (held : List ℕ) (i : ℕ) (now : State) (old mid new : Option (List ℕ)) (e : Ended)
+      → IfSome o (λ stream. IsReplaying capacity stream left held i now old mid) → ((stream : List ℕ) → IsReplaying capacity stream left held i now old mid → Replayed capacity stream old new (Err e))
+      → IfSome o (λ stream. length stream < 2 ^ 64 - 1 → Replayed capacity stream old new (Err e))
+  piece_if None left held i now old mid new e s f = tt
+  piece_if (Some stream) left held i now old mid new e s f = λ small. f stream s
+
+  pub nothing_if : (o : Option (List ℕ)) (old : Option (List ℕ)) → IfSome o (λ stream. length stream < 2 ^ 64 - 1 → WroteFirst capacity fresh (payloads stream) old old)
+  nothing_if None old = tt
+  nothing_if (Some stream) old = λ small. replaying_no_memory stream (Some stream) [] 0 fresh old old (replaying_init stream old)

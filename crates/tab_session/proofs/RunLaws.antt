@@ -23,25 +23,20 @@ use Rattle.tab_proto.specs.declared.request.Request.TheVariants as request
 use Rattle.tab_proto.specs.Requests.{number_in, IsNumbered}
 use Rattle.tab_proto.proofs.RequestsApart.{requests_apart}
 use Rattle.tab_session.specs.declared.answered.Answer.{Answer}
-use Rattle.tab_session.specs.StepsMade.{IsStepMade}
-use Rattle.tab_session.specs.OneSessions.{Made, Ran, IsDriven}
+use Rattle.tab_session.specs.StepsMade.{IsStepMade, StepMadeOrRefused}
+use Rattle.tab_session.specs.OneSessions.{Ran, IsDriven}
+use Rattle.tab_session.specs.Bounded.{IsBounded}
 use Rattle.tab_session.specs.AnsweredPayloads.{ask_for, is_step, IsDrivenRequest, IsMadeOf, IsNumberOf, AnsweredTerm, AnsweredRead, Answered, AnsweredAll, NoneRefused, NoneWaits, AreOf, taken_by, IsOf}
 use Rattle.tab_session.specs.Replays.{IsRun}
 use Rattle.tab_oneshot.specs.Calls.{Call, Asked, Waited, Again}
 use Rattle.tab_oneshot.proofs.LastReplies.{is_handed, AllHanded, Awaited, Answers, last_reply, all_handed}
+use Rattle.tab_session.proofs.BoundedSteps.{JoinsBounded, stays_bounded, is_settled}
 use Rattle.tab_session.proofs.DriverSteps.{no_item}
 use Rattle.tab_session.proofs.DriverOnce.{driven_once}
 use Rattle.tab_core.proofs.RunsLemmas.{rests_tied, quiet_tied}
 use Rattle.std.proofs.lemmas.List.Elements.{All-nil, All-cons, All-head, All-tail}
 
 -- ---- a step that was made
-
-joins_empty : (a : Request) → JoinsEmpty (ask_for a)
-joins_empty request.Join = refl
-joins_empty request.Leave = tt
-joins_empty request.Retry = tt
-joins_empty request.Take = tt
-joins_empty (request.Do c) = tt
 
 -- the history of a state after an answer under a session
 record Onward (μ : State) (log : List Entry) (taken : ℕ → List Item) : Type 0 where
@@ -53,10 +48,10 @@ made_onward : (σ μ : State) (n : ℕ) (a : Ask) (r : Reply) (log : List Entry)
 made_onward σ μ n a r log taken empty made sound tied =
     let o = made.made in
     record {
-      sound = subst IsSound (ap (λ x. Outcome.state x) o) (step_sound σ [] n a sound);
-      more = entries (outcome σ [] n a).entry;
-      tied = subst (λ (x : Outcome). IsTied x.state (log ++ entries (outcome σ [] n a).entry) (λ m. taken m ++ taken_now m n x.reply)) o
-          (step_tied σ log taken [] n a sound empty tied);
+      sound = subst IsSound (ap (λ x. Outcome.state x) o) (step_sound σ made.over n a sound);
+      more = entries (outcome σ made.over n a).entry;
+      tied = subst (λ (x : Outcome). IsTied x.state (log ++ entries (outcome σ made.over n a).entry) (λ m. taken m ++ taken_now m n x.reply)) o
+          (step_tied σ log taken made.over n a sound empty tied);
     }
 
 -- nothing has changed, and nothing was taken
@@ -87,17 +82,15 @@ stays_onward σ μ log taken same sound tied = record {
   tied = subst (λ (x : State). IsTied x (log ++ []) taken) (sym same) (subst (λ (l : List Entry). IsTied σ l taken) (sym (append-nil log)) tied);
 }
 
-gives_none : (σ μ : State) (n : ℕ) (c : Command) (r : Reply) → is_handed c ≡ true → Made σ n c r μ → GivesNone r
-gives_none σ μ n c r h (inl (served, inl made)) = ap item_of (sym (ap (λ o. Outcome.reply o) made.made)) ∙ no_item σ n c h
-gives_none σ μ n c r h (inl (served, inr (takes, none, same))) = ap item_of none
-gives_none σ μ n c r h (inr (unserved, bad, same)) = ap item_of bad
+gives_none : (σ μ : State) (n : ℕ) (c : Command) (r : Reply) → is_handed c ≡ true → StepMadeOrRefused σ n (DoCommand c) r μ → GivesNone r
+gives_none σ μ n c r h (inl made) = ap item_of (sym (ap (λ o. Outcome.reply o) made.made)) ∙ no_item σ made.over n c h
+gives_none σ μ n c r h (inr (takes, none, same)) = ap item_of none
 
-call_onward : (σ μ : State) (n : ℕ) (c : Command) (r : Reply) (log : List Entry) (taken : ℕ → List Item) → is_handed c ≡ true → Made σ n c r μ → IsSound σ → IsTied σ log taken → Onward μ log taken
-call_onward σ μ n c r log taken h (inl (served, inl made)) sound tied =
-    subst (λ (f : ℕ → List Item). Onward μ log f) (λ i m. (ap (λ xs. taken m ++ xs) (none_taken m n r (gives_none σ μ n c r h (inl (served, inl made)))) ∙ append-nil (taken m)) i)
+call_onward : (σ μ : State) (n : ℕ) (c : Command) (r : Reply) (log : List Entry) (taken : ℕ → List Item) → is_handed c ≡ true → StepMadeOrRefused σ n (DoCommand c) r μ → IsSound σ → IsTied σ log taken → Onward μ log taken
+call_onward σ μ n c r log taken h (inl made) sound tied =
+    subst (λ (f : ℕ → List Item). Onward μ log f) (λ i m. (ap (λ xs. taken m ++ xs) (none_taken m n r (gives_none σ μ n c r h (inl made))) ∙ append-nil (taken m)) i)
     (made_onward σ μ n (DoCommand c) r log taken tt made sound tied)
-call_onward σ μ n c r log taken h (inl (served, inr (takes, none, same))) sound tied = stays_onward σ μ log taken same sound tied
-call_onward σ μ n c r log taken h (inr (unserved, bad, same)) sound tied = stays_onward σ μ log taken same sound tied
+call_onward σ μ n c r log taken h (inr (takes, none, same)) sound tied = stays_onward σ μ log taken same sound tied
 
 calls_onward : (n : ℕ) (σ μ : State) (calls : List Call) (log : List Entry) (taken : ℕ → List Item) → AllHanded calls → Ran n σ calls μ → IsSound σ → IsTied σ log taken → Onward μ log taken
 calls_onward n σ μ [] log taken h ran sound tied = stays_onward σ μ log taken ran sound tied
@@ -129,58 +122,9 @@ driven_onward σ μ n c r log taken d sound tied =
     none : GivesNone r
     none = last_reply GivesNone (record { no_memory = refl; no_wait = refl; no_more = refl; terms = λ ts. refl }) c d.calls r d.one_shot (calls_give_none n σ μ d.calls handed d.ran)
 
-request_onward : (σ μ : State) (n : ℕ) (a : Request) (r : Reply) (log : List Entry) (taken : ℕ → List Item) → IsMadeOf σ n a r μ → IsSound σ → IsTied σ log taken → Onward μ log (λ m. taken m ++ taken_now m n r)
-request_onward σ μ n a r log taken (inl (one, made)) sound tied = made_onward σ μ n (ask_for a) r log taken (joins_empty a) made sound tied
-request_onward σ μ n (request.Do c) r log taken (inr driven) sound tied = driven_onward σ μ n c r log taken driven sound tied
-request_onward σ μ n a r log taken (inr driven) sound tied = absurd driven
-
 -- ---- an answer
 
-read_onward : (σ μ : State) (read : Result PlainTerm Stop) (x : Answer) (log : List Entry) (taken : ℕ → List Item) → AnsweredRead σ read x μ → IsSound σ → IsTied σ log taken
-    → Onward μ log (λ m. taken m ++ taken_now m x.session x.reply)
-read_onward σ μ (Err f) x log taken h sound tied = quiet_onward σ μ x.session x.reply log taken h.1 (ap (λ y. item_of (Answer.reply y)) h.0) sound tied
-read_onward σ μ (Ok t) x log taken (inl h) sound tied = quiet_onward σ μ x.session x.reply log taken h.same (ap item_of h.reply) sound tied
-read_onward σ μ (Ok t) x log taken (inr h) sound tied = request_onward σ μ x.session h.asked x.reply log taken h.made sound tied
-
-answer_onward : (σ μ : State) (p : List ℕ) (x : Answer) (log : List Entry) (taken : ℕ → List Item) → Answered σ p x μ → IsSound σ → IsTied σ log taken
-    → Onward μ log (λ m. taken m ++ taken_now m x.session x.reply)
-answer_onward σ μ p x log taken (inl h) sound tied = read_onward σ μ (whole p) x log taken h sound tied
-answer_onward σ μ p x log taken (inr h) sound tied = quiet_onward σ μ x.session x.reply log taken h.same (ap item_of h.reply) sound tied
-
-ran_onward : (σ τ : State) (ps : List (List ℕ)) (xs : List Answer) (log : List Entry) (taken : ℕ → List Item) → AnsweredAll σ ps xs τ → IsSound σ → IsTied σ log taken → Onward τ log (λ m. taken m ++ taken_by m xs)
-ran_onward σ τ [] [] log taken ran sound tied = record {
-  sound = subst IsSound (sym ran) sound;
-  more = [];
-  tied = rests_tied σ τ log taken ran tied;
-}
-ran_onward σ τ (p ∷ ps) [] log taken ran sound tied = absurd ran
-ran_onward σ τ [] (x ∷ xs) log taken ran sound tied = absurd ran
-ran_onward σ τ (p ∷ ps) (x ∷ xs) log taken (μ, one, rest) sound tied =
-    let first = answer_onward σ μ p x log taken one sound tied in
-    let all = ran_onward μ τ ps xs (log ++ first.more) (λ m. taken m ++ taken_now m x.session x.reply) rest first.sound first.tied in
-    record {
-      sound = all.sound;
-      more = first.more ++ all.more;
-      tied = subst (λ (l : List Entry). IsTied τ l (λ m. taken m ++ taken_by m (x ∷ xs))) (append_assoc log first.more all.more)
-          (subst (λ (f : ℕ → List Item). IsTied τ ((log ++ first.more) ++ all.more) f) (λ i m. append_assoc (taken m) (taken_now m x.session x.reply) (taken_by m xs) i) all.tied);
-    }
-
-pub said_sound : (σ : State) (ps : List (List ℕ)) (xs : List Answer) (s : IsRun σ ps xs) (log : List Entry) (taken : ℕ → List Item) → IsSound σ → IsTied σ log taken → IsSound s.last
-said_sound σ ps xs s log taken sound tied = (ran_onward σ s.last ps xs log taken s.ran sound tied).sound
-
-pub said_tied : (σ : State) (ps : List (List ℕ)) (xs : List Answer) (s : IsRun σ ps xs) (log : List Entry) (taken : ℕ → List Item) → IsSound σ → IsTied σ log taken → (more : List Entry) × IsTied s.last (log ++ more) (λ m. taken m ++ taken_by m xs)
-said_tied σ ps xs s log taken sound tied = let all = ran_onward σ s.last ps xs log taken s.ran sound tied in (all.more, all.tied)
-
 -- ---- one answer to each payload
-
-ran_length : (σ τ : State) (ps : List (List ℕ)) (xs : List Answer) → AnsweredAll σ ps xs τ → length xs ≡ length ps
-ran_length σ τ [] [] ran = refl
-ran_length σ τ (p ∷ ps) [] ran = absurd ran
-ran_length σ τ [] (x ∷ xs) ran = absurd ran
-ran_length σ τ (p ∷ ps) (x ∷ xs) (μ, one, rest) = ap suc (ran_length μ τ ps xs rest)
-
-pub said_each : (σ : State) (ps : List (List ℕ)) (xs : List Answer) → IsRun σ ps xs → length xs ≡ length ps
-said_each σ ps xs s = ran_length σ s.last ps xs s.ran
 
 -- ---- an answer follows from its payload and the state
 
@@ -197,9 +141,20 @@ number_once t m n (inr h) (inr k) = ap value_of (sym h.1 ∙ k.1)
 answer_of : (x y : Answer) → x.session ≡ y.session → x.reply ≡ y.reply → x ≡ y
 answer_of x y e f = λ i. record { session = e i; reply = f i }
 
-made_once : (σ μ ν : State) (n : ℕ) (a : Ask) (r q : Reply) → IsStepMade σ n a r μ → IsStepMade σ n a q ν → (r ≡ q) × (μ ≡ ν)
-made_once σ μ ν n a r q h k =
-    let both = sym h.made ∙ k.made in
+made_bounded : (σ μ : State) (n : ℕ) (a : Ask) (r : Reply) → JoinsBounded a → IsBounded σ → IsStepMade σ n a r μ → IsBounded μ
+made_bounded σ μ n a r joins bounded made = subst IsBounded (ap (λ o. Outcome.state o) made.made) (stays_bounded σ made.over n a joins bounded)
+
+calls_bounded : (n : ℕ) (σ μ : State) (calls : List Call) → IsBounded σ → Ran n σ calls μ → IsBounded μ
+calls_bounded n σ μ [] bounded ran = subst IsBounded (sym ran) bounded
+calls_bounded n σ μ (Asked c r ∷ calls) bounded (ρ, inl made, ran) = calls_bounded n ρ μ calls (made_bounded σ ρ n (DoCommand c) r tt bounded made) ran
+calls_bounded n σ μ (Asked c r ∷ calls) bounded (ρ, inr (takes, none, same), ran) = calls_bounded n ρ μ calls (subst IsBounded (sym same) bounded) ran
+calls_bounded n σ μ (Waited w ∷ calls) bounded (e, ran) = calls_bounded n σ μ calls bounded ran
+calls_bounded n σ μ (Again ∷ calls) bounded ran = calls_bounded n σ μ calls bounded ran
+
+made_once : (σ μ ν : State) (n : ℕ) (a : Ask) (r q : Reply) → IsBounded σ → IsStepMade σ n a r μ → IsStepMade σ n a q ν → (r ≡ q) × (μ ≡ ν)
+made_once σ μ ν n a r q bounded h k =
+    let same : h.over ≡ k.over = is_settled σ h.over n a bounded h.allowed ∙ sym (is_settled σ k.over n a bounded k.allowed) in
+    let both = sym h.made ∙ ap (λ over. outcome σ over n a) same ∙ k.made in
     (ap (λ o. Outcome.reply o) both, ap (λ o. Outcome.state o) both)
 
 -- what is driven is no step
@@ -208,48 +163,8 @@ driven_alone σ μ n (request.Do (command.OneShot parts retries)) r d = refl
 driven_alone σ μ n (request.Do c) r d = absurd d.one_shot
 driven_alone σ μ n a r d = absurd d
 
-request_once : (σ μ ν : State) (n : ℕ) (a : Request) (r q : Reply) → r ≢ reply.NoMemory → q ≢ reply.NoMemory → IsMadeOf σ n a r μ → IsMadeOf σ n a q ν → (r ≡ q) × (μ ≡ ν)
-request_once σ μ ν n a r q e f (inl (one, h)) (inl (other, k)) = made_once σ μ ν n (ask_for a) r q h k
-request_once σ μ ν n a r q e f (inl (one, h)) (inr k) = absurd (false≢true (sym (driven_alone σ ν n a q k) ∙ one))
-request_once σ μ ν n a r q e f (inr h) (inl (one, k)) = absurd (false≢true (sym (driven_alone σ μ n a r h) ∙ one))
-request_once σ μ ν n (request.Do c) r q e f (inr h) (inr k) = driven_once σ μ ν n c r q e f h k
-request_once σ μ ν n a r q e f (inr h) (inr k) = absurd h
-
 abbrev Unrefused : Answer → Type 0
 Unrefused x = x.reply ≢ reply.NoMemory
-
-term_once : (σ μ ν : State) (t : PlainTerm) (x y : Answer) → Unrefused x → Unrefused y → AnsweredTerm σ t x μ → AnsweredTerm σ t y ν → (x ≡ y) × (μ ≡ ν)
-term_once σ μ ν t x y e f (inl h) (inl k) = (answer_of x y (number_once t x.session y.session h.under k.under) (h.reply ∙ sym k.reply), h.same ∙ sym k.same)
-term_once σ μ ν t x y e f (inl h) (inr k) = absurd (h.nothing y.session k.asked k.session k.served k.spelled)
-term_once σ μ ν t x y e f (inr h) (inl k) = absurd (k.nothing x.session h.asked h.session h.served h.spelled)
-term_once σ μ ν t x y e f (inr h) (inr k) =
-    let same = requests_apart x.session y.session h.asked k.asked h.served.formed k.served.formed (h.spelled ∙ sym k.spelled) in
-    let once = request_once σ μ ν x.session h.asked x.reply y.reply e f h.made
-    (subst (λ (a : Request). IsMadeOf σ x.session a y.reply ν) (sym same.1) (subst (λ (n : ℕ). IsMadeOf σ n k.asked y.reply ν) (sym same.0) k.made)) in
-    (answer_of x y same.0 once.0, once.1)
-
-read_once : (σ μ ν : State) (read : Result PlainTerm Stop) (x y : Answer) → Unrefused x → Unrefused y → AnsweredRead σ read x μ → AnsweredRead σ read y ν → (x ≡ y) × (μ ≡ ν)
-read_once σ μ ν (Err f) x y g i h k = (h.0 ∙ sym k.0, h.1 ∙ sym k.1)
-read_once σ μ ν (Ok t) x y e f h k = term_once σ μ ν t x y e f h k
-
-answer_once : (σ μ ν : State) (p : List ℕ) (x y : Answer) → Unrefused x → Unrefused y → Answered σ p x μ → Answered σ p y ν → (x ≡ y) × (μ ≡ ν)
-answer_once σ μ ν p x y e f (inl h) (inl k) = read_once σ μ ν (whole p) x y e f h k
-answer_once σ μ ν p x y e f (inr h) k = absurd (e h.reply)
-answer_once σ μ ν p x y e f (inl h) (inr k) = absurd (f k.reply)
-
-ran_once : (σ τ ω : State) (ps : List (List ℕ)) (xs ys : List Answer) → NoneRefused xs → NoneRefused ys → AnsweredAll σ ps xs τ → AnsweredAll σ ps ys ω → (xs ≡ ys) × (τ ≡ ω)
-ran_once σ τ ω [] [] [] e f h k = (refl, h ∙ sym k)
-ran_once σ τ ω [] (x ∷ xs) ys e f h k = absurd h
-ran_once σ τ ω [] [] (y ∷ ys) e f h k = absurd k
-ran_once σ τ ω (p ∷ ps) [] ys e f h k = absurd h
-ran_once σ τ ω (p ∷ ps) (x ∷ xs) [] e f h k = absurd k
-ran_once σ τ ω (p ∷ ps) (x ∷ xs) (y ∷ ys) e f (μ, h, hs) (ν, k, ks) =
-    let one = answer_once σ μ ν p x y (All-head Unrefused x xs e) (All-head Unrefused y ys f) h k in
-    let all = ran_once μ τ ω ps xs ys (All-tail Unrefused x xs e) (All-tail Unrefused y ys f) hs (subst (λ (s : State). AnsweredAll s ps ys ω) (sym one.1) ks) in
-    (λ i. one.0 i ∷ all.0 i, all.1)
-
-pub said_once : (σ : State) (ps : List (List ℕ)) (xs ys : List Answer) → NoneRefused xs → NoneRefused ys → IsRun σ ps xs → IsRun σ ps ys → xs ≡ ys
-said_once σ ps xs ys e f s t = (ran_once σ s.last t.last ps xs ys e f s.ran t.ran).0
 
 -- ---- a session that is alone
 
@@ -267,17 +182,16 @@ Calm r = (r ≢ reply.Waiting) × (r ≢ reply.Restart)
 
 made_calm : (n : ℕ) (σ μ : State) (a : Ask) (r : Reply) → IsStepMade σ n a r μ → IsSole n σ → IsSole n μ × Calm r
 made_calm n σ μ a r made sole = (
-  subst (IsSole n) (ap (λ o. Outcome.state o) made.made) (stays_sole σ [] n a sole),
-  ((λ e. no_wait σ [] n a sole (ap (λ o. Outcome.reply o) made.made ∙ e)), (λ e. no_restart σ [] n a sole (ap (λ o. Outcome.reply o) made.made ∙ e))),
+  subst (IsSole n) (ap (λ o. Outcome.state o) made.made) (stays_sole σ made.over n a sole),
+  ((λ e. no_wait σ made.over n a sole (ap (λ o. Outcome.reply o) made.made ∙ e)), (λ e. no_restart σ made.over n a sole (ap (λ o. Outcome.reply o) made.made ∙ e))),
 )
 
-unmade_calm : Calm reply.NoMemory × Calm reply.BadCommand
-unmade_calm = (((λ e. cc), (λ e. cc)), ((λ e. cc), (λ e. cc)))
+unmade_calm : Calm reply.NoMemory
+unmade_calm = ((λ e. cc), (λ e. cc))
 
-call_calm : (n : ℕ) (σ μ : State) (c : Command) (r : Reply) → Made σ n c r μ → IsSole n σ → IsSole n μ × Calm r
-call_calm n σ μ c r (inl (served, inl made)) sole = made_calm n σ μ (DoCommand c) r made sole
-call_calm n σ μ c r (inl (served, inr (takes, none, same))) sole = (subst (IsSole n) (sym same) sole, subst Calm (sym none) unmade_calm.0)
-call_calm n σ μ c r (inr (unserved, bad, same)) sole = (subst (IsSole n) (sym same) sole, subst Calm (sym bad) unmade_calm.1)
+call_calm : (n : ℕ) (σ μ : State) (c : Command) (r : Reply) → StepMadeOrRefused σ n (DoCommand c) r μ → IsSole n σ → IsSole n μ × Calm r
+call_calm n σ μ c r (inl made) sole = made_calm n σ μ (DoCommand c) r made sole
+call_calm n σ μ c r (inr (takes, none, same)) sole = (subst (IsSole n) (sym same) sole, subst Calm (sym none) unmade_calm)
 
 calls_calm : (n : ℕ) (σ μ : State) (calls : List Call) → Ran n σ calls μ → IsSole n σ → IsSole n μ × Answers Calm calls
 calls_calm n σ μ [] ran sole = (subst (IsSole n) (sym ran) sole, tt)
@@ -288,55 +202,174 @@ calls_calm n σ μ (Asked c r ∷ calls) (ρ, one, ran) sole =
 calls_calm n σ μ (Waited w ∷ calls) (e, ran) sole = let all = calls_calm n σ μ calls ran sole in (all.0, (subst (λ (x : Option Reply). Awaited Calm x) (sym e) tt, all.1))
 calls_calm n σ μ (Again ∷ calls) ran sole = calls_calm n σ μ calls ran sole
 
-request_calm : (n : ℕ) (σ μ : State) (a : Request) (r : Reply) → IsMadeOf σ n a r μ → IsSole n σ → IsSole n μ × Calm r
-request_calm n σ μ a r (inl (one, made)) sole = made_calm n σ μ (ask_for a) r made sole
-request_calm n σ μ (request.Do c) r (inr d) sole =
-    let all = calls_calm n σ μ d.calls d.ran sole in
-    (all.0, last_reply Calm (record { no_memory = ((λ e. cc), (λ e. cc)); no_wait = ((λ e. cc), (λ e. cc)); no_more = ((λ e. cc), (λ e. cc)); terms = λ ts. ((λ e. cc), (λ e. cc)) }) c d.calls r d.one_shot all.1)
-request_calm n σ μ a r (inr d) sole = absurd d
-
-made_alone : (n : ℕ) (σ μ : State) (x : Answer) (a : Request) → x.session ≡ n → IsMadeOf σ x.session a x.reply μ → IsSole n σ → Alone n μ x
-made_alone n σ μ x a mine made sole =
-    let here = request_calm n σ μ a x.reply (subst (λ (m : ℕ). IsMadeOf σ m a x.reply μ) mine made) sole in
-    record { sole = here.0; wait = here.1.0; restart = here.1.1 }
-
-read_alone : (n : ℕ) (σ μ : State) (read : Result PlainTerm Stop) (x : Answer) → ((t : PlainTerm) (m : ℕ) → read ≡ Ok t → IsNumbered t m → m ≡ n) → AnsweredRead σ read x μ → IsSole n σ → Alone n μ x
-read_alone n σ μ (Err f) x of h sole = stays_alone n σ μ x h.1 (λ e. waits (sym (ap (λ y. Answer.reply y) h.0) ∙ e)) (λ e. restarts (sym (ap (λ y. Answer.reply y) h.0) ∙ e)) sole
-  where
-    waits : reply.BadTerm ≡ reply.Waiting → ⊥
-    waits e = cc
-
-    restarts : reply.BadTerm ≡ reply.Restart → ⊥
-    restarts e = cc
-read_alone n σ μ (Ok t) x of (inl h) sole = stays_alone n σ μ x h.same (λ e. waits (sym h.reply ∙ e)) (λ e. restarts (sym h.reply ∙ e)) sole
-  where
-    waits : reply.BadCommand ≡ reply.Waiting → ⊥
-    waits e = cc
-
-    restarts : reply.BadCommand ≡ reply.Restart → ⊥
-    restarts e = cc
-read_alone n σ μ (Ok t) x of (inr h) sole = made_alone n σ μ x h.asked (of t x.session refl (h.session, ap number_in (sym h.spelled))) h.made sole
-
-answer_alone : (n : ℕ) (σ μ : State) (p : List ℕ) (x : Answer) → IsOf n p → Answered σ p x μ → IsSole n σ → Alone n μ x
-answer_alone n σ μ p x of (inl h) sole = read_alone n σ μ (whole p) x of h sole
-answer_alone n σ μ p x of (inr h) sole = stays_alone n σ μ x h.same (λ e. waits (sym h.reply ∙ e)) (λ e. restarts (sym h.reply ∙ e)) sole
-  where
-    waits : reply.NoMemory ≡ reply.Waiting → ⊥
-    waits e = cc
-
-    restarts : reply.NoMemory ≡ reply.Restart → ⊥
-    restarts e = cc
-
 abbrev GoesOn : Answer → Type 0
 GoesOn x = (x.reply ≢ reply.Waiting) × (x.reply ≢ reply.Restart)
 
-ran_alone : (n : ℕ) (σ τ : State) (ps : List (List ℕ)) (xs : List Answer) → AreOf n ps → AnsweredAll σ ps xs τ → IsSole n σ → NoneWaits xs
-ran_alone n σ τ [] [] of ran sole = All-nil GoesOn
-ran_alone n σ τ (p ∷ ps) [] of ran sole = absurd ran
-ran_alone n σ τ [] (x ∷ xs) of ran sole = absurd ran
-ran_alone n σ τ (p ∷ ps) (x ∷ xs) of (μ, one, rest) sole =
-    let first = answer_alone n σ μ p x (All-head (IsOf n) p ps of) one sole in
-    All-cons GoesOn x xs (first.wait, first.restart) (ran_alone n μ τ ps xs (All-tail (IsOf n) p ps of) rest first.sole)
+module _ (capacity : ℕ) where
+  joins_empty : (a : Request) → JoinsEmpty (ask_for capacity a)
+  joins_empty request.Join = refl
+  joins_empty request.Leave = tt
+  joins_empty request.Retry = tt
+  joins_empty request.Take = tt
+  joins_empty (request.Do c) = tt
 
-pub said_alone : (n : ℕ) (σ : State) (ps : List (List ℕ)) (xs : List Answer) → AreOf n ps → IsSole n σ → IsRun σ ps xs → NoneWaits xs
-said_alone n σ ps xs of sole s = ran_alone n σ s.last ps xs of s.ran sole
+  request_onward : (σ μ : State) (n : ℕ) (a : Request) (r : Reply) (log : List Entry) (taken : ℕ → List Item) → IsMadeOf capacity σ n a r μ → IsSound σ → IsTied σ log taken → Onward μ log (λ m. taken m ++ taken_now m n r)
+  request_onward σ μ n a r log taken (inl (one, made)) sound tied = made_onward σ μ n (ask_for capacity a) r log taken (joins_empty a) made sound tied
+  request_onward σ μ n (request.Do c) r log taken (inr driven) sound tied = driven_onward σ μ n c r log taken driven sound tied
+  request_onward σ μ n a r log taken (inr driven) sound tied = absurd driven
+
+  read_onward : (σ μ : State) (read : Result PlainTerm Stop) (x : Answer) (log : List Entry) (taken : ℕ → List Item) → AnsweredRead capacity σ read x μ → IsSound σ → IsTied σ log taken
+      → Onward μ log (λ m. taken m ++ taken_now m x.session x.reply)
+  read_onward σ μ (Err f) x log taken h sound tied = quiet_onward σ μ x.session x.reply log taken h.1 (ap (λ y. item_of (Answer.reply y)) h.0) sound tied
+  read_onward σ μ (Ok t) x log taken (inl h) sound tied = quiet_onward σ μ x.session x.reply log taken h.same (ap item_of h.reply) sound tied
+  read_onward σ μ (Ok t) x log taken (inr h) sound tied = request_onward σ μ x.session h.asked x.reply log taken h.made sound tied
+
+  answer_onward : (σ μ : State) (p : List ℕ) (x : Answer) (log : List Entry) (taken : ℕ → List Item) → Answered capacity σ p x μ → IsSound σ → IsTied σ log taken
+      → Onward μ log (λ m. taken m ++ taken_now m x.session x.reply)
+  answer_onward σ μ p x log taken (inl h) sound tied = read_onward σ μ (whole p) x log taken h sound tied
+  answer_onward σ μ p x log taken (inr h) sound tied = quiet_onward σ μ x.session x.reply log taken h.same (ap item_of h.reply) sound tied
+
+  ran_onward : (σ τ : State) (ps : List (List ℕ)) (xs : List Answer) (log : List Entry) (taken : ℕ → List Item) → AnsweredAll capacity σ ps xs τ → IsSound σ → IsTied σ log taken → Onward τ log (λ m. taken m ++ taken_by m xs)
+  ran_onward σ τ [] [] log taken ran sound tied = record {
+    sound = subst IsSound (sym ran) sound;
+    more = [];
+    tied = rests_tied σ τ log taken ran tied;
+  }
+  ran_onward σ τ (p ∷ ps) [] log taken ran sound tied = absurd ran
+  ran_onward σ τ [] (x ∷ xs) log taken ran sound tied = absurd ran
+  ran_onward σ τ (p ∷ ps) (x ∷ xs) log taken (μ, one, rest) sound tied =
+      let first = answer_onward σ μ p x log taken one sound tied in
+      let all = ran_onward μ τ ps xs (log ++ first.more) (λ m. taken m ++ taken_now m x.session x.reply) rest first.sound first.tied in
+      record {
+        sound = all.sound;
+        more = first.more ++ all.more;
+        tied = subst (λ (l : List Entry). IsTied τ l (λ m. taken m ++ taken_by m (x ∷ xs))) (append_assoc log first.more all.more)
+            (subst (λ (f : ℕ → List Item). IsTied τ ((log ++ first.more) ++ all.more) f) (λ i m. append_assoc (taken m) (taken_now m x.session x.reply) (taken_by m xs) i) all.tied);
+      }
+
+  pub said_sound : (σ : State) (ps : List (List ℕ)) (xs : List Answer) (s : IsRun capacity σ ps xs) (log : List Entry) (taken : ℕ → List Item) → IsSound σ → IsTied σ log taken → IsSound s.last
+  said_sound σ ps xs s log taken sound tied = (ran_onward σ s.last ps xs log taken s.ran sound tied).sound
+
+  pub said_tied : (σ : State) (ps : List (List ℕ)) (xs : List Answer) (s : IsRun capacity σ ps xs) (log : List Entry) (taken : ℕ → List Item) → IsSound σ → IsTied σ log taken → (more : List Entry) × IsTied s.last (log ++ more) (λ m. taken m ++ taken_by m xs)
+  said_tied σ ps xs s log taken sound tied = let all = ran_onward σ s.last ps xs log taken s.ran sound tied in (all.more, all.tied)
+
+  ran_length : (σ τ : State) (ps : List (List ℕ)) (xs : List Answer) → AnsweredAll capacity σ ps xs τ → length xs ≡ length ps
+  ran_length σ τ [] [] ran = refl
+  ran_length σ τ (p ∷ ps) [] ran = absurd ran
+  ran_length σ τ [] (x ∷ xs) ran = absurd ran
+  ran_length σ τ (p ∷ ps) (x ∷ xs) (μ, one, rest) = ap suc (ran_length μ τ ps xs rest)
+
+  pub said_each : (σ : State) (ps : List (List ℕ)) (xs : List Answer) → IsRun capacity σ ps xs → length xs ≡ length ps
+  said_each σ ps xs s = ran_length σ s.last ps xs s.ran
+
+  request_once : (σ μ ν : State) (n : ℕ) (a : Request) (r q : Reply) → IsBounded σ → r ≢ reply.NoMemory → q ≢ reply.NoMemory → IsMadeOf capacity σ n a r μ → IsMadeOf capacity σ n a q ν → (r ≡ q) × (μ ≡ ν)
+  request_once σ μ ν n a r q bounded e f (inl (one, h)) (inl (other, k)) = made_once σ μ ν n (ask_for capacity a) r q bounded h k
+  request_once σ μ ν n a r q bounded e f (inl (one, h)) (inr k) = absurd (false≢true (sym (driven_alone σ ν n a q k) ∙ one))
+  request_once σ μ ν n a r q bounded e f (inr h) (inl (one, k)) = absurd (false≢true (sym (driven_alone σ μ n a r h) ∙ one))
+  request_once σ μ ν n (request.Do c) r q bounded e f (inr h) (inr k) = driven_once σ μ ν n c r q bounded e f h k
+  request_once σ μ ν n a r q bounded e f (inr h) (inr k) = absurd h
+
+  term_once : (σ μ ν : State) (t : PlainTerm) (x y : Answer) → IsBounded σ → Unrefused x → Unrefused y → AnsweredTerm capacity σ t x μ → AnsweredTerm capacity σ t y ν → (x ≡ y) × (μ ≡ ν)
+  term_once σ μ ν t x y bounded e f (inl h) (inl k) = (answer_of x y (number_once t x.session y.session h.under k.under) (h.reply ∙ sym k.reply), h.same ∙ sym k.same)
+  term_once σ μ ν t x y bounded e f (inl h) (inr k) = absurd (h.nothing y.session k.asked k.session k.formed k.spelled)
+  term_once σ μ ν t x y bounded e f (inr h) (inl k) = absurd (k.nothing x.session h.asked h.session h.formed h.spelled)
+  term_once σ μ ν t x y bounded e f (inr h) (inr k) =
+      let same = requests_apart x.session y.session h.asked k.asked h.formed k.formed (h.spelled ∙ sym k.spelled) in
+      let once = request_once σ μ ν x.session h.asked x.reply y.reply bounded e f h.made
+      (subst (λ (a : Request). IsMadeOf capacity σ x.session a y.reply ν) (sym same.1) (subst (λ (n : ℕ). IsMadeOf capacity σ n k.asked y.reply ν) (sym same.0) k.made)) in
+      (answer_of x y same.0 once.0, once.1)
+
+  read_once : (σ μ ν : State) (read : Result PlainTerm Stop) (x y : Answer) → IsBounded σ → Unrefused x → Unrefused y → AnsweredRead capacity σ read x μ → AnsweredRead capacity σ read y ν → (x ≡ y) × (μ ≡ ν)
+  read_once σ μ ν (Err f) x y bounded g i h k = (h.0 ∙ sym k.0, h.1 ∙ sym k.1)
+  read_once σ μ ν (Ok t) x y bounded e f h k = term_once σ μ ν t x y bounded e f h k
+
+  answer_once : (σ μ ν : State) (p : List ℕ) (x y : Answer) → IsBounded σ → Unrefused x → Unrefused y → Answered capacity σ p x μ → Answered capacity σ p y ν → (x ≡ y) × (μ ≡ ν)
+  answer_once σ μ ν p x y bounded e f (inl h) (inl k) = read_once σ μ ν (whole p) x y bounded e f h k
+  answer_once σ μ ν p x y bounded e f (inr h) k = absurd (e h.reply)
+  answer_once σ μ ν p x y bounded e f (inl h) (inr k) = absurd (f k.reply)
+
+  -- a session joins with a post that has a capacity
+  joins_bounded : (a : Request) → JoinsBounded (ask_for capacity a)
+  joins_bounded request.Join = refl
+  joins_bounded request.Leave = tt
+  joins_bounded request.Retry = tt
+  joins_bounded request.Take = tt
+  joins_bounded (request.Do c) = tt
+
+  request_bounded : (σ μ : State) (n : ℕ) (a : Request) (r : Reply) → IsBounded σ → IsMadeOf capacity σ n a r μ → IsBounded μ
+  request_bounded σ μ n a r bounded (inl (one, made)) = made_bounded σ μ n (ask_for capacity a) r (joins_bounded a) bounded made
+  request_bounded σ μ n (request.Do c) r bounded (inr driven) = calls_bounded n σ μ driven.calls bounded driven.ran
+  request_bounded σ μ n a r bounded (inr driven) = absurd driven
+
+  read_bounded : (σ μ : State) (read : Result PlainTerm Stop) (x : Answer) → IsBounded σ → AnsweredRead capacity σ read x μ → IsBounded μ
+  read_bounded σ μ (Err f) x bounded h = subst IsBounded (sym h.1) bounded
+  read_bounded σ μ (Ok t) x bounded (inl h) = subst IsBounded (sym h.same) bounded
+  read_bounded σ μ (Ok t) x bounded (inr h) = request_bounded σ μ x.session h.asked x.reply bounded h.made
+
+  answer_bounded : (σ μ : State) (p : List ℕ) (x : Answer) → IsBounded σ → Answered capacity σ p x μ → IsBounded μ
+  answer_bounded σ μ p x bounded (inl h) = read_bounded σ μ (whole p) x bounded h
+  answer_bounded σ μ p x bounded (inr h) = subst IsBounded (sym h.same) bounded
+
+  ran_once : (σ τ ω : State) (ps : List (List ℕ)) (xs ys : List Answer) → IsBounded σ → NoneRefused xs → NoneRefused ys → AnsweredAll capacity σ ps xs τ → AnsweredAll capacity σ ps ys ω → (xs ≡ ys) × (τ ≡ ω)
+  ran_once σ τ ω [] [] [] bounded e f h k = (refl, h ∙ sym k)
+  ran_once σ τ ω [] (x ∷ xs) ys bounded e f h k = absurd h
+  ran_once σ τ ω [] [] (y ∷ ys) bounded e f h k = absurd k
+  ran_once σ τ ω (p ∷ ps) [] ys bounded e f h k = absurd h
+  ran_once σ τ ω (p ∷ ps) (x ∷ xs) [] bounded e f h k = absurd k
+  ran_once σ τ ω (p ∷ ps) (x ∷ xs) (y ∷ ys) bounded e f (μ, h, hs) (ν, k, ks) =
+      let one = answer_once σ μ ν p x y bounded (All-head Unrefused x xs e) (All-head Unrefused y ys f) h k in
+      let all = ran_once μ τ ω ps xs ys (answer_bounded σ μ p x bounded h) (All-tail Unrefused x xs e) (All-tail Unrefused y ys f) hs (subst (λ (s : State). AnsweredAll capacity s ps ys ω) (sym one.1) ks) in
+      (λ i. one.0 i ∷ all.0 i, all.1)
+
+  pub said_once : (σ : State) (ps : List (List ℕ)) (xs ys : List Answer) → IsBounded σ → NoneRefused xs → NoneRefused ys → IsRun capacity σ ps xs → IsRun capacity σ ps ys → xs ≡ ys
+  said_once σ ps xs ys bounded e f s t = (ran_once σ s.last t.last ps xs ys bounded e f s.ran t.ran).0
+
+  request_calm : (n : ℕ) (σ μ : State) (a : Request) (r : Reply) → IsMadeOf capacity σ n a r μ → IsSole n σ → IsSole n μ × Calm r
+  request_calm n σ μ a r (inl (one, made)) sole = made_calm n σ μ (ask_for capacity a) r made sole
+  request_calm n σ μ (request.Do c) r (inr d) sole =
+      let all = calls_calm n σ μ d.calls d.ran sole in
+      (all.0, last_reply Calm (record { no_memory = ((λ e. cc), (λ e. cc)); no_wait = ((λ e. cc), (λ e. cc)); no_more = ((λ e. cc), (λ e. cc)); terms = λ ts. ((λ e. cc), (λ e. cc)) }) c d.calls r d.one_shot all.1)
+  request_calm n σ μ a r (inr d) sole = absurd d
+
+  made_alone : (n : ℕ) (σ μ : State) (x : Answer) (a : Request) → x.session ≡ n → IsMadeOf capacity σ x.session a x.reply μ → IsSole n σ → Alone n μ x
+  made_alone n σ μ x a mine made sole =
+      let here = request_calm n σ μ a x.reply (subst (λ (m : ℕ). IsMadeOf capacity σ m a x.reply μ) mine made) sole in
+      record { sole = here.0; wait = here.1.0; restart = here.1.1 }
+
+  read_alone : (n : ℕ) (σ μ : State) (read : Result PlainTerm Stop) (x : Answer) → ((t : PlainTerm) (m : ℕ) → read ≡ Ok t → IsNumbered t m → m ≡ n) → AnsweredRead capacity σ read x μ → IsSole n σ → Alone n μ x
+  read_alone n σ μ (Err f) x of h sole = stays_alone n σ μ x h.1 (λ e. waits (sym (ap (λ y. Answer.reply y) h.0) ∙ e)) (λ e. restarts (sym (ap (λ y. Answer.reply y) h.0) ∙ e)) sole
+    where
+      waits : reply.BadTerm ≡ reply.Waiting → ⊥
+      waits e = cc
+
+      restarts : reply.BadTerm ≡ reply.Restart → ⊥
+      restarts e = cc
+  read_alone n σ μ (Ok t) x of (inl h) sole = stays_alone n σ μ x h.same (λ e. waits (sym h.reply ∙ e)) (λ e. restarts (sym h.reply ∙ e)) sole
+    where
+      waits : reply.BadCommand ≡ reply.Waiting → ⊥
+      waits e = cc
+
+      restarts : reply.BadCommand ≡ reply.Restart → ⊥
+      restarts e = cc
+  read_alone n σ μ (Ok t) x of (inr h) sole = made_alone n σ μ x h.asked (of t x.session refl (h.session, ap number_in (sym h.spelled))) h.made sole
+
+  answer_alone : (n : ℕ) (σ μ : State) (p : List ℕ) (x : Answer) → IsOf n p → Answered capacity σ p x μ → IsSole n σ → Alone n μ x
+  answer_alone n σ μ p x of (inl h) sole = read_alone n σ μ (whole p) x of h sole
+  answer_alone n σ μ p x of (inr h) sole = stays_alone n σ μ x h.same (λ e. waits (sym h.reply ∙ e)) (λ e. restarts (sym h.reply ∙ e)) sole
+    where
+      waits : reply.NoMemory ≡ reply.Waiting → ⊥
+      waits e = cc
+
+      restarts : reply.NoMemory ≡ reply.Restart → ⊥
+      restarts e = cc
+
+  ran_alone : (n : ℕ) (σ τ : State) (ps : List (List ℕ)) (xs : List Answer) → AreOf n ps → AnsweredAll capacity σ ps xs τ → IsSole n σ → NoneWaits xs
+  ran_alone n σ τ [] [] of ran sole = All-nil GoesOn
+  ran_alone n σ τ (p ∷ ps) [] of ran sole = absurd ran
+  ran_alone n σ τ [] (x ∷ xs) of ran sole = absurd ran
+  ran_alone n σ τ (p ∷ ps) (x ∷ xs) of (μ, one, rest) sole =
+      let first = answer_alone n σ μ p x (All-head (IsOf n) p ps of) one sole in
+      All-cons GoesOn x xs (first.wait, first.restart) (ran_alone n μ τ ps xs (All-tail (IsOf n) p ps of) rest first.sole)
+
+  pub said_alone : (n : ℕ) (σ : State) (ps : List (List ℕ)) (xs : List Answer) → AreOf n ps → IsSole n σ → IsRun capacity σ ps xs → NoneWaits xs
+  said_alone n σ ps xs of sole s = ran_alone n σ s.last ps xs of s.ran sole

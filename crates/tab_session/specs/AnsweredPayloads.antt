@@ -8,15 +8,13 @@ use Rattle.tab_etf.specs.Reading.{whole}
 use Rattle.tab_etf.specs.declared.fault.Stop.{Stop}
 use Rattle.tab_etf.specs.declared.encoding.EncodeFault.{EncodeFault}
 use Rattle.tab_etf.specs.declared.encoding.EncodeFault.TheVariants as puts
-use Rattle.tab_model.specs.State.{State}
+use Rattle.tab_model.specs.State.{Outbox, State}
 use Rattle.tab_model.specs.Outcome.{Ask, Join, Leave, Retry, Take, DoCommand}
 use Rattle.tab_model.specs.declared.data.Reply.{Reply}
 use Rattle.tab_model.specs.declared.data.Reply.TheVariants.{BadTerm, BadCommand, NoMemory, Waiting, Restart}
 use Rattle.tab_model.specs.declared.data.Item.{Item}
 use Rattle.tab_model.specs.Run.{taken_now}
 use Rattle.tab_core.specs.Runs.{takes_no_memory}
-use Rattle.tab_core.specs.Served.{serves}
-use Rattle.tab_core.specs.Seats.{no_outbox}
 use Rattle.tab_proto.specs.declared.request.Request.{Request}
 use Rattle.tab_proto.specs.declared.request.Request.TheVariants as request
 use Rattle.tab_proto.specs.Requests.{request_term, IsSession, IsRequest, IsNumbered, HasNoNumber, AsksOneShot}
@@ -26,26 +24,13 @@ use Rattle.tab_session.specs.declared.answered.Answer.{Answer}
 use Rattle.tab_session.specs.StepsMade.{IsStepMade}
 use Rattle.tab_session.specs.OneSessions.{IsDriven}
 
--- what the core is asked for it
-abbrev pub ask_for : Request → Ask
-ask_for request.Join = Join no_outbox
-ask_for request.Leave = Leave
-ask_for request.Retry = Retry
-ask_for request.Take = Take
-ask_for (request.Do c) = DoCommand c
+-- a post that can hold so many items, and has none
+abbrev pub empty_post : ℕ → Outbox
+empty_post capacity = record { items = []; refusals = 0; capacity = Some capacity }
 
--- every command that the core serves, and what is no command
-abbrev pub serves_request : Request → Bool
-serves_request (request.Do c) = serves c
-serves_request r = true
-
-pub record IsServedRequest (r : Request) : Type 0 where
-  pub formed : IsRequest r
-  pub served : serves_request r ≡ true
-
--- the term is no request that is served
+-- the term is no request
 abbrev pub AsksNothing : PlainTerm → Type 0
-AsksNothing t = (session : ℕ) (a : Request) → IsSession session → IsServedRequest a → request_term session a ≢ t
+AsksNothing t = (session : ℕ) (a : Request) → IsSession session → IsRequest a → request_term session a ≢ t
 
 -- a one-shot is run by its driver, and any other request is one step
 abbrev pub is_step : Request → Bool
@@ -55,26 +40,6 @@ is_step r = true
 abbrev pub IsDrivenRequest : State → ℕ → Request → Reply → State → Type 0
 IsDrivenRequest σ session (request.Do c) r μ = IsDriven σ session c r μ
 IsDrivenRequest σ session a r μ = ⊥
-
-abbrev pub IsMadeOf : State → ℕ → Request → Reply → State → Type 0
-IsMadeOf σ session a r μ = (is_step a ≡ true) × IsStepMade σ session (ask_for a) r μ ⊎ IsDrivenRequest σ session a r μ
-
--- a step that takes memory
-abbrev pub TakesStep : State → ℕ → Request → Type 0
-TakesStep σ session a = (is_step a ≡ true) × (takes_no_memory σ session (ask_for a) ≡ false)
-
--- what a request asks for was made, or its step was refused for memory; or it is refused as one that is not served
-abbrev pub RepliesTo : State → ℕ → Request → Reply → State → Type 0
-RepliesTo σ session a r μ =
-    (serves_request a ≡ true) × (IsMadeOf σ session a r μ ⊎ TakesStep σ session a × (r ≡ NoMemory) × (μ ≡ σ))
-    ⊎ (serves_request a ≡ false) × (r ≡ BadCommand) × (μ ≡ σ)
-
-pub record IsMade (σ : State) (t : PlainTerm) (x : Answer) (μ : State) : Type 0 where
-  pub asked : Request
-  pub spelled : request_term x.session asked ≡ t
-  pub session : IsSession x.session
-  pub served : IsServedRequest asked
-  pub made : IsMadeOf σ x.session asked x.reply μ
 
 -- the number under which a term is refused
 abbrev pub IsNumberOf : PlainTerm → ℕ → Type 0
@@ -87,51 +52,79 @@ pub record IsNoCommand (σ : State) (t : PlainTerm) (x : Answer) (μ : State) : 
   pub same : μ ≡ σ
   pub under : IsNumberOf t x.session
 
-abbrev pub AnsweredTerm : State → PlainTerm → Answer → State → Type 0
-AnsweredTerm σ t x μ = IsNoCommand σ t x μ ⊎ IsMade σ t x μ
+-- each session joins with a post of the same capacity
+module _ (capacity : ℕ) where
+  -- what the core is asked for it
+  abbrev pub ask_for : Request → Ask
+  ask_for request.Join = Join (empty_post capacity)
+  ask_for request.Leave = Leave
+  ask_for request.Retry = Retry
+  ask_for request.Take = Take
+  ask_for (request.Do c) = DoCommand c
 
-abbrev pub AnsweredRead : State → Result PlainTerm Stop → Answer → State → Type 0
-AnsweredRead σ (Err f) x μ = (x ≡ record { session = 0; reply = BadTerm }) × (μ ≡ σ)
-AnsweredRead σ (Ok t) x μ = AnsweredTerm σ t x μ
+  abbrev pub IsMadeOf : State → ℕ → Request → Reply → State → Type 0
+  IsMadeOf σ session a r μ = (is_step a ≡ true) × IsStepMade σ session (ask_for a) r μ ⊎ IsDrivenRequest σ session a r μ
 
--- the term is a request that is served, as one step that takes memory
-pub record AsksServed (σ : State) (t : PlainTerm) : Type 0 where
-  pub session : ℕ
-  pub asked : Request
-  pub spelled : request_term session asked ≡ t
-  pub served : IsServedRequest asked
-  pub takes : TakesStep σ session asked
+  -- a step that takes memory
+  abbrev pub TakesStep : State → ℕ → Request → Type 0
+  TakesStep σ session a = (is_step a ≡ true) × (takes_no_memory σ session (ask_for a) ≡ false)
 
--- what takes memory once its payload is decoded: the parts of a one-shot, and a step that takes some; what
--- a one-shot's driver is refused stands in its calls
-abbrev pub TakesMemory : State → PlainTerm → ℕ → Type 0
-TakesMemory σ t session = IsNumbered t session × (AsksOneShot t ⊎ AsksServed σ t)
+  -- what a request asks for was made, or its step was refused for memory
+  abbrev pub RepliesTo : State → ℕ → Request → Reply → State → Type 0
+  RepliesTo σ session a r μ = IsMadeOf σ session a r μ ⊎ TakesStep σ session a × (r ≡ NoMemory) × (μ ≡ σ)
 
--- refused for memory, with nothing changed
-pub record RefusedTerm (σ : State) (t : PlainTerm) (x : Answer) (μ : State) : Type 0 where
-  pub reply : x.reply ≡ NoMemory
-  pub same : μ ≡ σ
-  pub under : TakesMemory σ t x.session
+  pub record IsMade (σ : State) (t : PlainTerm) (x : Answer) (μ : State) : Type 0 where
+    pub asked : Request
+    pub spelled : request_term x.session asked ≡ t
+    pub session : IsSession x.session
+    pub formed : IsRequest asked
+    pub made : IsMadeOf σ x.session asked x.reply μ
 
--- under 0 where the payload could not be decoded for want of memory
-abbrev pub IsUnderRead : State → Result PlainTerm Stop → ℕ → Type 0
-IsUnderRead σ (Err f) session = session ≡ 0
-IsUnderRead σ (Ok t) session = (session ≡ 0) ⊎ TakesMemory σ t session
+  abbrev pub AnsweredTerm : State → PlainTerm → Answer → State → Type 0
+  AnsweredTerm σ t x μ = IsNoCommand σ t x μ ⊎ IsMade σ t x μ
 
-pub record Refused (σ : State) (read : Result PlainTerm Stop) (x : Answer) (μ : State) : Type 0 where
-  pub reply : x.reply ≡ NoMemory
-  pub same : μ ≡ σ
-  pub under : IsUnderRead σ read x.session
+  abbrev pub AnsweredRead : State → Result PlainTerm Stop → Answer → State → Type 0
+  AnsweredRead σ (Err f) x μ = (x ≡ record { session = 0; reply = BadTerm }) × (μ ≡ σ)
+  AnsweredRead σ (Ok t) x μ = AnsweredTerm σ t x μ
 
-abbrev pub Answered : State → List ℕ → Answer → State → Type 0
-Answered σ payload x μ = AnsweredRead σ (whole payload) x μ ⊎ Refused σ (whole payload) x μ
+  -- the term asks for one step, which takes memory
+  pub record AsksStep (σ : State) (t : PlainTerm) : Type 0 where
+    pub session : ℕ
+    pub asked : Request
+    pub spelled : request_term session asked ≡ t
+    pub formed : IsRequest asked
+    pub takes : TakesStep σ session asked
 
--- payloads answered one after another
-abbrev pub AnsweredAll : State → List (List ℕ) → List Answer → State → Type 0
-AnsweredAll σ [] [] τ = τ ≡ σ
-AnsweredAll σ (p ∷ ps) [] τ = ⊥
-AnsweredAll σ [] (x ∷ xs) τ = ⊥
-AnsweredAll σ (p ∷ ps) (x ∷ xs) τ = (μ : State) × Answered σ p x μ × AnsweredAll μ ps xs τ
+  -- what takes memory once its payload is decoded: the parts of a one-shot, and a step that takes some; what
+  -- a one-shot's driver is refused stands in its calls
+  abbrev pub TakesMemory : State → PlainTerm → ℕ → Type 0
+  TakesMemory σ t session = IsNumbered t session × (AsksOneShot t ⊎ AsksStep σ t)
+
+  -- refused for memory, with nothing changed
+  pub record RefusedTerm (σ : State) (t : PlainTerm) (x : Answer) (μ : State) : Type 0 where
+    pub reply : x.reply ≡ NoMemory
+    pub same : μ ≡ σ
+    pub under : TakesMemory σ t x.session
+
+  -- under 0 where the payload could not be decoded for want of memory
+  abbrev pub IsUnderRead : State → Result PlainTerm Stop → ℕ → Type 0
+  IsUnderRead σ (Err f) session = session ≡ 0
+  IsUnderRead σ (Ok t) session = (session ≡ 0) ⊎ TakesMemory σ t session
+
+  pub record Refused (σ : State) (read : Result PlainTerm Stop) (x : Answer) (μ : State) : Type 0 where
+    pub reply : x.reply ≡ NoMemory
+    pub same : μ ≡ σ
+    pub under : IsUnderRead σ read x.session
+
+  abbrev pub Answered : State → List ℕ → Answer → State → Type 0
+  Answered σ payload x μ = AnsweredRead σ (whole payload) x μ ⊎ Refused σ (whole payload) x μ
+
+  -- payloads answered one after another
+  abbrev pub AnsweredAll : State → List (List ℕ) → List Answer → State → Type 0
+  AnsweredAll σ [] [] τ = τ ≡ σ
+  AnsweredAll σ (p ∷ ps) [] τ = ⊥
+  AnsweredAll σ [] (x ∷ xs) τ = ⊥
+  AnsweredAll σ (p ∷ ps) (x ∷ xs) τ = (μ : State) × Answered σ p x μ × AnsweredAll μ ps xs τ
 
 -- no answer of a run is a want of memory
 abbrev pub NoneRefused : List Answer → Type 0

@@ -3,3 +3,4 @@ pub mod OneSessions
 pub mod OneSeats
 pub mod AnsweredPayloads
 pub mod Replays
+pub mod Bounded

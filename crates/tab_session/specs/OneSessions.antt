@@ -1,23 +1,17 @@
 -- What the calls of a one-shot's driver do on one session of a core, one after another.
-use Rattle.std.specs.Prelude.{◌≡◌, ℕ, true, false, List, [], ◌∷◌, None, ◌⊎◌}
+use Rattle.std.specs.Prelude.{◌≡◌, ℕ, List, [], ◌∷◌, None}
 use Rattle.tab_model.specs.State.{State}
 use Rattle.tab_model.specs.Outcome.{DoCommand}
 use Rattle.tab_model.specs.declared.data.Command.{Command}
 use Rattle.tab_model.specs.declared.data.Reply.{Reply}
-use Rattle.tab_model.specs.declared.data.Reply.TheVariants.{BadCommand}
-use Rattle.tab_core.specs.Served.{serves}
 use Rattle.tab_oneshot.specs.Calls.{Call, Asked, Waited, Again}
 use Rattle.tab_oneshot.specs.OneShots.{IsOneShot}
 use Rattle.tab_session.specs.StepsMade.{StepMadeOrRefused}
 
--- a command is a step of the session; one that isn't served is none
-abbrev pub Made : State → ℕ → Command → Reply → State → Type 0
-Made σ n c r μ = (serves c ≡ true) × StepMadeOrRefused σ n (DoCommand c) r μ ⊎ (serves c ≡ false) × (r ≡ BadCommand) × (μ ≡ σ)
-
--- here no one can wait
+-- each command is a step of the session; here no one can wait
 abbrev pub Ran : ℕ → State → List Call → State → Type 0
 Ran n σ [] τ = τ ≡ σ
-Ran n σ (Asked c r ∷ calls) τ = (μ : State) × Made σ n c r μ × Ran n μ calls τ
+Ran n σ (Asked c r ∷ calls) τ = (μ : State) × StepMadeOrRefused σ n (DoCommand c) r μ × Ran n μ calls τ
 Ran n σ (Waited w ∷ calls) τ = (w ≡ None) × Ran n σ calls τ
 Ran n σ (Again ∷ calls) τ = Ran n σ calls τ
 

@@ -23,80 +23,9 @@ fresh = new limits
 abbrev pub frames_of : List Answer → List ℕ
 frames_of rs = flat_map answer_frame rs
 
--- a run over all these payloads says these replies
-pub record IsRun (σ : State) (ps : List (List ℕ)) (rs : List Answer) : Type 0 where
-  pub last : State
-  pub ran : AnsweredAll σ ps rs last
-
--- the frames of all replies were written
-pub record WroteAll (σ : State) (ps : List (List ℕ)) (old new : Option (List ℕ)) : Type 0 where
-  pub replies : List Answer
-  pub said : IsRun σ ps replies
-  pub text : Appends old new (frames_of replies)
-
--- a beginning of the text was written
-pub record WroteSome (σ : State) (ps : List (List ℕ)) (old new : Option (List ℕ)) : Type 0 where
-  pub replies : List Answer
-  pub said : IsRun σ ps replies
-  pub count : ℕ
-  pub text : Appends old new (take count (frames_of replies))
-
--- the frames of the first replies were written
-pub record WroteFirst (σ : State) (ps : List (List ℕ)) (old new : Option (List ℕ)) : Type 0 where
-  pub first : List Answer
-  pub others : List Answer
-  pub said : IsRun σ ps (first ++ others)
-  pub text : Appends old new (frames_of first)
-
 abbrev pub BeginsTooLong : List Answer → Type 0
 BeginsTooLong [] = ⊥
 BeginsTooLong (r ∷ rs) = 4294967295 < length (answer_payload r)
-
--- the frames of the replies before one that is too long were written
-pub record WroteBefore (σ : State) (ps : List (List ℕ)) (old new : Option (List ℕ)) : Type 0 where
-  pub first : List Answer
-  pub others : List Answer
-  pub said : IsRun σ ps (first ++ others)
-  pub text : Appends old new (frames_of first)
-  pub next : BeginsTooLong others
-
-pub record Passed (σ τ : State) (ps : List (List ℕ)) (old new : Option (List ℕ)) : Type 0 where
-  pub replies : List Answer
-  pub ran : AnsweredAll σ ps replies τ
-  pub text : Appends old new (frames_of replies)
-
--- one payload was answered, and its frame added
-pub record Put (σ μ : State) (p : List ℕ) (old new : List ℕ) : Type 0 where
-  pub answer : Answer
-  pub answered : Answered σ p answer μ
-  pub text : new ≡ old ++ answer_frame answer
-
--- one payload was answered, and its frame could not be added
-pub record Unput (σ μ : State) (p : List ℕ) (old new : List ℕ) (e : EncodeFault) : Type 0 where
-  pub answer : Answer
-  pub answered : Answered σ p answer μ
-  pub why : NotPut answer e
-  pub same : new ≡ old
-
-abbrev pub ServedOne : State → List ℕ → State → List ℕ → List ℕ → Result (Unit {0}) EncodeFault → Type 0
-ServedOne σ p μ old new (Ok u) = Put σ μ p old new
-ServedOne σ p μ old new (Err e) = Unput σ μ p old new e
-
--- these payloads were served
-abbrev pub Served : State → State → List (List ℕ) → Option (List ℕ) → Option (List ℕ) → Result (Unit {0}) Ended → Type 0
-Served σ τ ps old new (Ok u) = Passed σ τ ps old new
-Served σ τ ps old new (Err Damaged) = ⊥
-Served σ τ ps old new (Err Device) = WroteSome σ ps old new
-Served σ τ ps old new (Err TooLong) = WroteBefore σ ps old new
-Served σ τ ps old new (Err NoMemory) = WroteFirst σ ps old new
-
--- the whole stream was replayed by a new core
-abbrev pub Replayed : List ℕ → Option (List ℕ) → Option (List ℕ) → Result (Unit {0}) Ended → Type 0
-Replayed stream old new (Ok u) = (rest_of stream ≡ []) × WroteAll fresh (payloads stream) old new
-Replayed stream old new (Err Damaged) = (rest_of stream ≢ []) × WroteAll fresh (payloads stream) old new
-Replayed stream old new (Err Device) = WroteSome fresh (payloads stream) old new
-Replayed stream old new (Err TooLong) = WroteBefore fresh (payloads stream) old new
-Replayed stream old new (Err NoMemory) = WroteFirst fresh (payloads stream) old new
 
 abbrev pub ended_of : EncodeFault → Ended
 ended_of puts.TooLong = TooLong
@@ -124,27 +53,99 @@ Faults a b c d (Err Device) = (Rises a b × (d ≡ c)) ⊎ ((b ≡ a) × Rises c
 Faults a b c d (Err TooLong) = Sound a b c d
 Faults a b c d (Err NoMemory) = Sound a b c d
 
--- the loop over the payloads of a piece: what was said, and how a run goes on
-pub record IsServing (σ now : State) (all left : List (List ℕ)) (old new : Option (List ℕ)) (buffer : List ℕ) : Type 0 where
-  pub said : List Answer
-  pub goes : (ss : List Answer) (τ : State) → AnsweredAll now left ss τ → AnsweredAll σ all (said ++ ss) τ
-  pub written : List ℕ
-  pub text : Appends old new written
-  pub whole : written ++ buffer ≡ frames_of said
+module _ (capacity : ℕ) where
+  -- a run over all these payloads says these replies
+  pub record IsRun (σ : State) (ps : List (List ℕ)) (rs : List Answer) : Type 0 where
+    pub last : State
+    pub ran : AnsweredAll capacity σ ps rs last
 
--- the loop over the reader
-pub record IsReplaying (stream : List ℕ) (left : Option (List ℕ)) (held : List ℕ) (rounds : ℕ) (now : State) (old new : Option (List ℕ)) : Type 0 where
-  pub more : List ℕ
-  pub has : left ≡ Some more
-  pub done : List (List ℕ)
-  pub said : List Answer
-  pub found : payloads stream ≡ done ++ payloads (held ++ more)
-  pub ends : rest_of stream ≡ rest_of (held ++ more)
-  pub goes : (qs : List (List ℕ)) (ss : List Answer) (τ : State) → AnsweredAll now qs ss τ → AnsweredAll fresh (done ++ qs) (said ++ ss) τ
-  pub text : Appends old new (frames_of said)
-  pub count : rounds + length more ≤ length stream
+  -- the frames of all replies were written
+  pub record WroteAll (σ : State) (ps : List (List ℕ)) (old new : Option (List ℕ)) : Type 0 where
+    pub replies : List Answer
+    pub said : IsRun σ ps replies
+    pub text : Appends old new (frames_of replies)
 
--- after a piece the loop goes on, or the whole is said
-abbrev pub Advances : Result (Unit {0}) Ended → List ℕ → Option (List ℕ) → List ℕ → ℕ → State → Option (List ℕ) → Option (List ℕ) → Type 0
-Advances (Ok u) stream left held rounds now old new = IsReplaying stream left held rounds now old new
-Advances (Err e) stream left held rounds now old new = Replayed stream old new (Err e)
+  -- a beginning of the text was written
+  pub record WroteSome (σ : State) (ps : List (List ℕ)) (old new : Option (List ℕ)) : Type 0 where
+    pub replies : List Answer
+    pub said : IsRun σ ps replies
+    pub count : ℕ
+    pub text : Appends old new (take count (frames_of replies))
+
+  -- the frames of the first replies were written
+  pub record WroteFirst (σ : State) (ps : List (List ℕ)) (old new : Option (List ℕ)) : Type 0 where
+    pub first : List Answer
+    pub others : List Answer
+    pub said : IsRun σ ps (first ++ others)
+    pub text : Appends old new (frames_of first)
+
+  -- the frames of the replies before one that is too long were written
+  pub record WroteBefore (σ : State) (ps : List (List ℕ)) (old new : Option (List ℕ)) : Type 0 where
+    pub first : List Answer
+    pub others : List Answer
+    pub said : IsRun σ ps (first ++ others)
+    pub text : Appends old new (frames_of first)
+    pub next : BeginsTooLong others
+
+  pub record Passed (σ τ : State) (ps : List (List ℕ)) (old new : Option (List ℕ)) : Type 0 where
+    pub replies : List Answer
+    pub ran : AnsweredAll capacity σ ps replies τ
+    pub text : Appends old new (frames_of replies)
+
+  -- one payload was answered, and its frame added
+  pub record Put (σ μ : State) (p : List ℕ) (old new : List ℕ) : Type 0 where
+    pub answer : Answer
+    pub answered : Answered capacity σ p answer μ
+    pub text : new ≡ old ++ answer_frame answer
+
+  -- one payload was answered, and its frame could not be added
+  pub record Unput (σ μ : State) (p : List ℕ) (old new : List ℕ) (e : EncodeFault) : Type 0 where
+    pub answer : Answer
+    pub answered : Answered capacity σ p answer μ
+    pub why : NotPut answer e
+    pub same : new ≡ old
+
+  abbrev pub ServedOne : State → List ℕ → State → List ℕ → List ℕ → Result (Unit {0}) EncodeFault → Type 0
+  ServedOne σ p μ old new (Ok u) = Put σ μ p old new
+  ServedOne σ p μ old new (Err e) = Unput σ μ p old new e
+
+  -- these payloads were served
+  abbrev pub Served : State → State → List (List ℕ) → Option (List ℕ) → Option (List ℕ) → Result (Unit {0}) Ended → Type 0
+  Served σ τ ps old new (Ok u) = Passed σ τ ps old new
+  Served σ τ ps old new (Err Damaged) = ⊥
+  Served σ τ ps old new (Err Device) = WroteSome σ ps old new
+  Served σ τ ps old new (Err TooLong) = WroteBefore σ ps old new
+  Served σ τ ps old new (Err NoMemory) = WroteFirst σ ps old new
+
+  -- the whole stream was replayed by a new core
+  abbrev pub Replayed : List ℕ → Option (List ℕ) → Option (List ℕ) → Result (Unit {0}) Ended → Type 0
+  Replayed stream old new (Ok u) = (rest_of stream ≡ []) × WroteAll fresh (payloads stream) old new
+  Replayed stream old new (Err Damaged) = (rest_of stream ≢ []) × WroteAll fresh (payloads stream) old new
+  Replayed stream old new (Err Device) = WroteSome fresh (payloads stream) old new
+  Replayed stream old new (Err TooLong) = WroteBefore fresh (payloads stream) old new
+  Replayed stream old new (Err NoMemory) = WroteFirst fresh (payloads stream) old new
+
+  -- the loop over the payloads of a piece: what was said, and how a run goes on
+  pub record IsServing (σ now : State) (all left : List (List ℕ)) (old new : Option (List ℕ)) (buffer : List ℕ) : Type 0 where
+    pub said : List Answer
+    pub goes : (ss : List Answer) (τ : State) → AnsweredAll capacity now left ss τ → AnsweredAll capacity σ all (said ++ ss) τ
+    pub written : List ℕ
+    pub text : Appends old new written
+    pub whole : written ++ buffer ≡ frames_of said
+
+  -- the loop over the reader
+  pub record IsReplaying (stream : List ℕ) (left : Option (List ℕ)) (held : List ℕ) (rounds : ℕ) (now : State) (old new : Option (List ℕ)) : Type 0 where
+    pub more : List ℕ
+    pub has : left ≡ Some more
+    pub done : List (List ℕ)
+    pub said : List Answer
+    pub found : payloads stream ≡ done ++ payloads (held ++ more)
+    pub ends : rest_of stream ≡ rest_of (held ++ more)
+    pub goes : (qs : List (List ℕ)) (ss : List Answer) (τ : State) → AnsweredAll capacity now qs ss τ → AnsweredAll capacity fresh (done ++ qs) (said ++ ss) τ
+    pub text : Appends old new (frames_of said)
+    pub count : rounds + length more ≤ length stream
+
+  -- after a piece the loop goes on, or the whole is said
+  abbrev pub Advances : Result (Unit {0}) Ended → List ℕ → Option (List ℕ) → List ℕ → ℕ → State → Option (List ℕ) → Option (List ℕ) → Type 0
+  Advances (Ok u) stream left held rounds now old new = IsReplaying stream left held rounds now old new
+  Advances (Err e) stream left held rounds now old new = Replayed stream old new (Err e)

@@ -1,16 +1,19 @@
 -- A step of a core that a request asks for, made or refused for memory (this project's own rules).
-use Rattle.std.specs.Prelude.{◌≡◌, ℕ, [], false, Option, ◌⊎◌}
+use Rattle.std.specs.Prelude.{◌≡◌, ℕ, List, false, Option, ◌⊎◌}
 use Rattle.tab_model.specs.State.{State}
 use Rattle.tab_model.specs.Outcome.{Ask, outcome}
+use Rattle.tab_model.specs.Run.{Allowed}
 use Rattle.tab_model.specs.declared.data.Entry.{Entry}
 use Rattle.tab_model.specs.declared.data.Reply.{Reply}
 use Rattle.tab_model.specs.declared.data.Reply.TheVariants.{NoMemory}
 use Rattle.tab_core.specs.Runs.{takes_no_memory}
 
--- the step was made
+-- the step was made, with those whose posts refused in it
 pub record IsStepMade (σ : State) (session : ℕ) (a : Ask) (r : Reply) (μ : State) : Type 0 where
+  pub over : List ℕ
+  pub allowed : Allowed σ over session a
   pub entry : Option Entry
-  pub made : outcome σ [] session a ≡ record { state = μ; reply = r; entry = entry }
+  pub made : outcome σ over session a ≡ record { state = μ; reply = r; entry = entry }
 
 -- or it was refused for memory that it takes, with nothing changed
 abbrev pub StepMadeOrRefused : State → ℕ → Ask → Reply → State → Type 0

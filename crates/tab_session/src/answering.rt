@@ -1,30 +1,33 @@
 //! One payload, and how it is answered.
 
-ghost use Rattle.std.specs.Prelude.{◌≡◌, ◌++◌, ◌⊎◌, true, IfErr, OnOk, OnErr};
+ghost use Rattle.std.specs.Prelude.{◌≡◌, ◌++◌, ◌⊎◌, ℕ, IfErr, OnOk, OnErr};
 ghost use Rattle.tab_term.specs.View.{term};
-ghost use Rattle.tab_core.specs.Runs.{ask_of, serves_step};
+ghost use Rattle.tab_model.specs.Outcome.{Join};
+ghost use Rattle.tab_core.specs.Runs.{ask_of};
+ghost use Rattle.tab_outbox.specs.Posts.{as_outbox};
 ghost use Rattle.tab_proto.specs.declared.request.Request.TheVariants as request;
 ghost use Rattle.tab_oneshot.specs.OneShots.{is_one_shot as is_one_shot_command};
 ghost use Rattle.tab_session.specs.StepsMade.{StepMadeOrRefused};
-ghost use Rattle.tab_session.specs.AnsweredPayloads.{IsNumberOf, Answered, AnsweredTerm, RefusedTerm, RepliesTo, answer_frame, NotPut};
+ghost use Rattle.tab_session.specs.AnsweredPayloads.{IsNumberOf, Answered, AnsweredTerm, RefusedTerm, RepliesTo, answer_frame, empty_post, NotPut};
 
 use crate::Answer;
 use crate::one_session::drive;
 use std::alloc::Global;
-use tab_core::{Core, Step, is_served};
+use tab_core::{Core, Step};
 use tab_etf::{EncodeFault, EtfFault, decode};
 use tab_model::{Command, Reply, Told};
+use tab_outbox::RingPost;
 use tab_proto::{ProtoFault, Request, append_reply, read_request, session_of};
 use tab_term::Term;
 
 /// Answers a payload: what is no term is BadTerm under 0, and a term that asks nothing is BadCommand, under the number in
 /// `{Session, X}` or else under 0. A step that is refused for memory is answered NoMemory, and has changed nothing. A one-shot
-/// is answered by the steps of its driver.
-pub fn answer(core: &mut Core, alloc: Global, payload: &[u8]) -> Answer
-    ensures { Answered core.old payload.now result core.new }
+/// is answered by the steps of its driver. A session that joins has a post for so many items as `outbox` says.
+pub fn answer(core: &mut Core<RingPost>, alloc: Global, outbox: usize, payload: &[u8]) -> Answer
+    ensures { Answered outbox core.old payload.now result core.new }
 {
     match decode(alloc, payload) {
-        Ok(held) => answer_to(core, alloc, held),
+        Ok(held) => answer_to(core, alloc, outbox, held),
         Err(EtfFault::At(_, _)) => Answer {
             session: 0,
             reply: Told::new(Reply::BadTerm),
@@ -36,14 +39,14 @@ pub fn answer(core: &mut Core, alloc: Global, payload: &[u8]) -> Answer
     }
 }
 
-fn answer_to(core: &mut Core, alloc: Global, held: Term) -> Answer
-    ensures { AnsweredTerm core.old (term held) result core.new ⊎ RefusedTerm core.old (term held) result core.new }
+fn answer_to(core: &mut Core<RingPost>, alloc: Global, outbox: usize, held: Term) -> Answer
+    ensures { AnsweredTerm outbox core.old (term held) result core.new ⊎ RefusedTerm outbox core.old (term held) result core.new }
 {
     let number = number_of(&held);
     match read_request(alloc, held) {
         Ok((session, request)) => Answer {
             session,
-            reply: reply_to(core, alloc, session, request),
+            reply: reply_to(core, alloc, outbox, session, request),
         },
         Err(ProtoFault::BadCommand) => Answer {
             session: number,
@@ -66,12 +69,18 @@ fn number_of(held: &Term) -> u32
     }
 }
 
-/// A command that the core doesn't serve yet is refused as no command; a one-shot is run by its driver.
-fn reply_to(core: &mut Core, alloc: Global, session: u32, request: Request) -> Told
-    ensures { RepliesTo core.old session request result core.new }
+/// A one-shot is run by its driver, and any other request is one step.
+fn reply_to(
+    core: &mut Core<RingPost>,
+    alloc: Global,
+    outbox: usize,
+    session: u32,
+    request: Request,
+) -> Told
+    ensures { RepliesTo outbox core.old session request result core.new }
 {
     match request {
-        Request::Join => reply_of(core, session, Step::Join),
+        Request::Join => join(core, alloc, outbox, session),
         Request::Leave => reply_of(core, session, Step::Leave),
         Request::Retry => reply_of(core, session, Step::Retry),
         Request::Take => reply_of(core, session, Step::Take),
@@ -79,12 +88,24 @@ fn reply_to(core: &mut Core, alloc: Global, session: u32, request: Request) -> T
     }
 }
 
-fn reply_to_command(core: &mut Core, alloc: Global, session: u32, command: Command) -> Told
-    ensures { RepliesTo core.old session (request.Do command) result core.new }
+/// A session joins with a post of its own.
+fn join(core: &mut Core<RingPost>, alloc: Global, outbox: usize, session: u32) -> Told
+    ensures { StepMadeOrRefused core.old session (Join (empty_post outbox)) result core.new }
 {
-    if !is_served(&command) {
-        return Told::new(Reply::BadCommand);
+    match RingPost::with_capacity(alloc, outbox) {
+        Ok(post) => reply_of(core, session, Step::Join(post)),
+        Err(_) => Told::new(Reply::NoMemory),
     }
+}
+
+fn reply_to_command(
+    core: &mut Core<RingPost>,
+    alloc: Global,
+    session: u32,
+    command: Command,
+) -> Told
+    ensures { (outbox : ℕ) → RepliesTo outbox core.old session (request.Do command) result core.new }
+{
     if is_one_shot(&command) {
         return drive(core, alloc, session, command);
     }
@@ -101,9 +122,8 @@ fn is_one_shot(command: &Command) -> bool
 }
 
 /// The reply of one step.
-fn reply_of(core: &mut Core, session: u32, step: Step) -> Told
-    requires { serves_step step ≡ true }
-    ensures { StepMadeOrRefused core.old session (ask_of step) result core.new }
+fn reply_of(core: &mut Core<RingPost>, session: u32, step: Step<RingPost>) -> Told
+    ensures { StepMadeOrRefused core.old session (ask_of as_outbox step) result core.new }
 {
     match core.step(session, step) {
         Ok(stepped) => stepped.into_reply(),

@@ -8,24 +8,25 @@ ghost use Rattle.tab_model.specs.Refusals.{IsSole};
 ghost use Rattle.tab_model.specs.Run.{IsTied};
 ghost use Rattle.tab_session.specs.declared.answered.Answer.{Answer as AnswerOf};
 ghost use Rattle.tab_session.specs.AnsweredPayloads.{NoneRefused, NoneWaits, AreOf, taken_by};
+ghost use Rattle.tab_session.specs.Bounded.{IsBounded};
 ghost use Rattle.tab_session.specs.Replays.{IsRun};
 
 /// A run is one of the model: whatever log and taken items led to its first state, they go on with it. So from a new core
 /// the log of a run is legal, the tables are those of the log's commits run alone in order, open transactions were told
 /// what they are told alone, and what each session has taken is a beginning of what the log owes it.
 pub fn runs_have_a_history()
-    ensures sound { (σ : State) (ps : List (List ℕ)) (xs : List AnswerOf) (s : IsRun σ ps xs) (log : List Entry) (taken : ℕ → List Item) → IsSound σ → IsTied σ log taken → IsSound s.last }
-    ensures tied { (σ : State) (ps : List (List ℕ)) (xs : List AnswerOf) (s : IsRun σ ps xs) (log : List Entry) (taken : ℕ → List Item) → IsSound σ → IsTied σ log taken → (more : List Entry) × IsTied s.last (log ++ more) (λ m. taken m ++ taken_by m xs) }
+    ensures sound { (outbox : ℕ) (σ : State) (ps : List (List ℕ)) (xs : List AnswerOf) (s : IsRun outbox σ ps xs) (log : List Entry) (taken : ℕ → List Item) → IsSound σ → IsTied σ log taken → IsSound s.last }
+    ensures tied { (outbox : ℕ) (σ : State) (ps : List (List ℕ)) (xs : List AnswerOf) (s : IsRun outbox σ ps xs) (log : List Entry) (taken : ℕ → List Item) → IsSound σ → IsTied σ log taken → (more : List Entry) × IsTied s.last (log ++ more) (λ m. taken m ++ taken_by m xs) }
 {}
 
 /// There is one answer to each payload; and where no memory was refused, the payloads alone say which: two runs over the
-/// same payloads say the same.
+/// same payloads say the same, from a state whose posts all have a capacity, as they have in a replay.
 pub fn an_answer_follows()
-    ensures each { (σ : State) (ps : List (List ℕ)) (xs : List AnswerOf) → IsRun σ ps xs → length xs ≡ length ps }
-    ensures once { (σ : State) (ps : List (List ℕ)) (xs ys : List AnswerOf) → NoneRefused xs → NoneRefused ys → IsRun σ ps xs → IsRun σ ps ys → xs ≡ ys }
+    ensures each { (outbox : ℕ) (σ : State) (ps : List (List ℕ)) (xs : List AnswerOf) → IsRun outbox σ ps xs → length xs ≡ length ps }
+    ensures once { (outbox : ℕ) (σ : State) (ps : List (List ℕ)) (xs ys : List AnswerOf) → IsBounded σ → NoneRefused xs → NoneRefused ys → IsRun outbox σ ps xs → IsRun outbox σ ps ys → xs ≡ ys }
 {}
 
 /// Where all payloads are of one session, and no other sits, no answer is a wait or a restart.
 pub fn one_session_never_waits()
-    ensures { (n : ℕ) (σ : State) (ps : List (List ℕ)) (xs : List AnswerOf) → AreOf n ps → IsSole n σ → IsRun σ ps xs → NoneWaits xs }
+    ensures { (outbox n : ℕ) (σ : State) (ps : List (List ℕ)) (xs : List AnswerOf) → AreOf n ps → IsSole n σ → IsRun outbox σ ps xs → NoneWaits xs }
 {}

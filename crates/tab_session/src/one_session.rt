@@ -1,24 +1,23 @@
 //! One session of a core, as the seat of a one-shot's driver.
 
 ghost use Rattle.std.specs.Prelude.{◌≡◌, List, true, IsOk};
-ghost use Rattle.tab_model.specs.Outcome.{is_abort};
+ghost use Rattle.tab_model.specs.Outcome.{DoCommand, is_abort};
 ghost use Rattle.tab_oneshot.specs.Calls.{Call, answer_in};
 ghost use Rattle.tab_oneshot.specs.OneShots.{is_one_shot, IsOneShot};
-ghost use Rattle.tab_session.specs.OneSessions.{Made, Ran};
+ghost use Rattle.tab_session.specs.OneSessions.{Ran};
+ghost use Rattle.tab_session.specs.StepsMade.{StepMadeOrRefused};
 
 use std::alloc::{AllocError, Global};
-use tab_core::{Core, Step, is_served};
-use tab_model::{Command, Reply, Told};
+use tab_core::{Core, Step};
+use tab_model::{Command, Told};
 use tab_oneshot::{Steps, one_shot};
+use tab_outbox::RingPost;
 
-/// A command of the session; one that the core doesn't serve is no command.
-fn hand_in(core: &mut Core, session: u32, command: Command) -> Result<Told, AllocError>
-    ensures made { Made core.old session command (answer_in result) core.new }
+/// A command of the session.
+fn hand_in(core: &mut Core<RingPost>, session: u32, command: Command) -> Result<Told, AllocError>
+    ensures made { StepMadeOrRefused core.old session (DoCommand command) (answer_in result) core.new }
     ensures abort { is_abort command ≡ true → IsOk result }
 {
-    if !is_served(&command) {
-        return Ok(Told::new(Reply::BadCommand));
-    }
     match core.step(session, Step::Do(command)) {
         Ok(stepped) => Ok(stepped.into_reply()),
         Err(refused) => Err(refused),
@@ -27,7 +26,7 @@ fn hand_in(core: &mut Core, session: u32, command: Command) -> Result<Told, Allo
 
 /// The seat of one session, where no one can wait.
 pub struct OneSession<'a> {
-    core: &'a mut Core,
+    core: &'a mut Core<RingPost>,
     session: u32,
 }
 
@@ -52,7 +51,7 @@ impl<'a> Steps for OneSession<'a> {
 }
 
 /// Runs a one-shot on a session.
-pub fn drive(core: &mut Core, alloc: Global, session: u32, command: Command) -> Told
+pub fn drive(core: &mut Core<RingPost>, alloc: Global, session: u32, command: Command) -> Told
     requires { is_one_shot command ≡ true }
     ensures { (calls : List Call) × Ran session core.old calls core.new × IsOneShot command calls result }
 {

@@ -12,6 +12,7 @@ use std::io::{Read, Write};
 use tab_core::Core;
 use tab_etf::{Counted, Splitter};
 use tab_model::Limits;
+use tab_outbox::RingPost;
 
 /// The largest piece that is read at once.
 const PIECE: usize = 65_536;
@@ -27,7 +28,8 @@ const LIMITS: Limits = Limits {
 
 fn run_all<R: Read, W: Write>(
     alloc: Global,
-    core: &mut Core,
+    core: &mut Core<RingPost>,
+    outbox: usize,
     splitter: &mut Splitter,
     piece: &mut [u8],
     input: &mut Counted<R>,
@@ -37,7 +39,7 @@ fn run_all<R: Read, W: Write>(
     requires splitter { splitter.old ≡ record { rest = []; over = None; before = [] } }
     requires room { 0 < length piece.old }
     ensures bytes { IfSome (R.remaining input.old.inner) (λ stream. length stream < 2 ^ 64 - 1 →
-        Replayed stream (W.contents output.old.inner) (W.contents output.new.inner) result) }
+        Replayed outbox stream (W.contents output.old.inner) (W.contents output.new.inner) result) }
     ensures faults { Faults input.old.faults input.new.faults output.old.faults output.new.faults result }
 {
     for round in 0..u64::MAX {
@@ -45,7 +47,7 @@ fn run_all<R: Read, W: Write>(
         if count == 0 {
             return end_of_stream(splitter);
         }
-        serve_piece(alloc, core, splitter, &piece[..count], output)?;
+        serve_piece(alloc, core, outbox, splitter, &piece[..count], output)?;
     }
     end_of_stream(splitter)
 }
@@ -62,7 +64,8 @@ fn end_of_stream(splitter: &Splitter) -> Result<(), Ended>
     }
 }
 
-/// Reads the frames of a stream, and writes the frames of their replies, in order, with a flush after each piece.
+/// Reads the frames of a stream, and writes the frames of their replies, in order, with a flush after each piece. Each
+/// session's post holds so many items as `outbox` says.
 ///
 /// The replies to all whole frames are written before it ends as `Damaged`; before `TooLong` and `NoMemory`, those to
 /// the first frames, whole; before `Device`, a beginning of them.
@@ -70,9 +73,10 @@ pub fn replay<R: Read, W: Write>(
     alloc: Global,
     input: &mut Counted<R>,
     output: &mut Counted<W>,
+    outbox: usize,
 ) -> Result<(), Ended>
     ensures bytes { IfSome (R.remaining input.old.inner) (λ stream. length stream < 2 ^ 64 - 1 →
-        Replayed stream (W.contents output.old.inner) (W.contents output.new.inner) result) }
+        Replayed outbox stream (W.contents output.old.inner) (W.contents output.new.inner) result) }
     ensures faults { Faults input.old.faults input.new.faults output.old.faults output.new.faults result }
 {
     let mut core = Core::new(alloc, LIMITS);
@@ -80,5 +84,13 @@ pub fn replay<R: Read, W: Write>(
     let Ok(mut piece) = vec![in alloc; 0u8; PIECE] else {
         return Err(Ended::NoMemory);
     };
-    run_all(alloc, &mut core, &mut splitter, &mut piece, input, output)
+    run_all(
+        alloc,
+        &mut core,
+        outbox,
+        &mut splitter,
+        &mut piece,
+        input,
+        output,
+    )
 }

@@ -11,6 +11,7 @@ use std::alloc::Global;
 use std::io::Write;
 use tab_core::Core;
 use tab_etf::{Counted, EncodeFault, Frame, FrameFault, Splitter};
+use tab_outbox::RingPost;
 
 /// So many bytes of replies are kept before they are written.
 const KEPT: usize = 65_536;
@@ -27,29 +28,31 @@ fn payload_in(frame: &Frame) -> &[u8]
 /// Answers one payload, and adds the frame of its reply. On an error the bytes are as before.
 fn serve_one(
     alloc: Global,
-    core: &mut Core,
+    core: &mut Core<RingPost>,
+    outbox: usize,
     frame: &Frame,
     buffer: &mut Vec<u8>,
 ) -> Result<(), EncodeFault>
-    ensures { ServedOne core.old (payload_of frame.now) core.new buffer.old.items buffer.new.items result }
+    ensures { ServedOne outbox core.old (payload_of frame.now) core.new buffer.old.items buffer.new.items result }
 {
-    let answer = answer(core, alloc, payload_in(frame));
+    let answer = answer(core, alloc, outbox, payload_in(frame));
     put_answer(&answer, buffer)
 }
 
 /// Answers the payloads of these frames, and writes the replies.
 fn serve_all<W: Write>(
     alloc: Global,
-    core: &mut Core,
+    core: &mut Core<RingPost>,
+    outbox: usize,
     frames: &[Frame],
     output: &mut Counted<W>,
 ) -> Result<(), Ended>
-    ensures served { Served core.old core.new (contents frames.now) (W.contents output.old.inner) (W.contents output.new.inner) result }
+    ensures served { Served outbox core.old core.new (contents frames.now) (W.contents output.old.inner) (W.contents output.new.inner) result }
     ensures faults { OneFault output.old.faults output.new.faults result }
 {
     let mut buffer = Vec::new(alloc);
     for frame in frames {
-        if let Err(fault) = serve_one(alloc, core, frame, &mut buffer) {
+        if let Err(fault) = serve_one(alloc, core, outbox, frame, &mut buffer) {
             output.put(&buffer)?;
             return Err(Ended::from(fault));
         }
@@ -66,23 +69,24 @@ fn serve_all<W: Write>(
 /// Serves the frames that are whole with this piece.
 pub fn serve_piece<W: Write>(
     alloc: Global,
-    core: &mut Core,
+    core: &mut Core<RingPost>,
+    outbox: usize,
     splitter: &mut Splitter,
     piece: &[u8],
     output: &mut Counted<W>,
 ) -> Result<(), Ended>
     requires { splitter.old.over ≡ None }
     ensures piece { (stream : List ℕ) (old left new_left : Option (List ℕ)) (i : ℕ) →
-        IsReplaying stream left splitter.old.rest i core.old old (W.contents output.old.inner) →
+        IsReplaying outbox stream left splitter.old.rest i core.old old (W.contents output.old.inner) →
         Consumes left new_left piece.now → 0 < length piece.now →
-        Advances result stream new_left splitter.new.rest (i + 1) core.new old (W.contents output.new.inner) }
+        Advances outbox result stream new_left splitter.new.rest (i + 1) core.new old (W.contents output.new.inner) }
     ensures going { OnOk result (splitter.new.over ≡ None) }
     ensures faults { OneFault output.old.faults output.new.faults result }
 {
     match splitter.feed(piece) {
-        Ok(frames) => serve_all(alloc, core, &frames, output),
+        Ok(frames) => serve_all(alloc, core, outbox, &frames, output),
         Err(FrameFault::FrameTooLong(_)) => {
-            serve_all(alloc, core, splitter.before_fault(), output)?;
+            serve_all(alloc, core, outbox, splitter.before_fault(), output)?;
             Err(Ended::Damaged)
         }
         Err(_) => Err(Ended::NoMemory),

@@ -18,7 +18,7 @@ fn a_device_fails_at_each_call(rt: HostRuntime) -> Result<(), Fail> {
     let output = bytes(alloc, OUTPUT)?;
     for left in 0..16u32 {
         for (reads, writes) in [(left, u32::MAX), (u32::MAX, left)] {
-            let (ended, written) = run(alloc, &input, 8, reads, writes);
+            let (ended, written) = run(alloc, 64, &input, 8, reads, writes);
             assert_eq!(rt; ended, Err(Ended::Device), "call {left}");
             assert!(rt; output.starts_with(&written), "call {left}");
         }

@@ -6,11 +6,15 @@
 #[cfg(test)]
 mod devices;
 #[cfg(test)]
+mod events;
+#[cfg(test)]
 mod levels;
 #[cfg(test)]
 mod locks;
 #[cfg(test)]
 mod one_shots;
+#[cfg(test)]
+mod outboxes;
 #[cfg(test)]
 mod running;
 #[cfg(test)]

@@ -10,6 +10,8 @@ use tab_session::{Ended, replay};
 /// no code with this one, made them.
 pub struct Row {
     pub name: &'static str,
+    /// How many items each session's post holds.
+    pub outbox: usize,
     pub ended: Result<(), Ended>,
     pub input: &'static str,
     pub output: &'static str,
@@ -18,6 +20,7 @@ pub struct Row {
 /// Replays a stream on devices that take or give `size` bytes at once and fail after so many calls, and gives what was written.
 pub fn run(
     alloc: Global,
+    outbox: usize,
     input: &[u8],
     size: usize,
     reads: u32,
@@ -34,7 +37,7 @@ pub fn run(
         size,
         left: writes,
     });
-    let ended = replay(alloc, &mut reader, &mut writer);
+    let ended = replay(alloc, &mut reader, &mut writer, outbox);
     (ended, writer.into_inner().inner)
 }
 
@@ -44,7 +47,7 @@ pub fn all_answered<R: Abort>(rt: &R, alloc: Global, rows: &[Row]) -> Result<(),
         let input = bytes(alloc, row.input)?;
         let output = bytes(alloc, row.output)?;
         for size in [1, 2, 3, 65_536usize] {
-            let (ended, written) = run(alloc, &input, size, u32::MAX, u32::MAX);
+            let (ended, written) = run(alloc, row.outbox, &input, size, u32::MAX, u32::MAX);
             assert_eq!(rt; ended, row.ended, "{}, pieces of {size}", row.name);
             assert!(rt;
                 written.as_slice() == output.as_slice(),

@@ -61,6 +61,12 @@ impl<P: Post + Drop> Seat<P> {
         self.number
     }
 
+    pub fn post(&self) -> &P
+        ensures { P.outbox result.now ≡ self.now.outbox }
+    {
+        &self.post
+    }
+
     pub fn overflow(&self) -> Option<u64>
         ensures { result ≡ self.now.overflow }
     {

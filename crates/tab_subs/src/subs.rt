@@ -1,6 +1,6 @@
 //! All sessions' subscriptions.
 
-ghost use Rattle.std.specs.Prelude.{◌≡◌, ◌<◌, ◌∷◌, ◌++◌, [], Some, None, IfOk, OnOk, OnErr, MatchOption, map};
+ghost use Rattle.std.specs.Prelude.{◌≡◌, ◌<◌, ◌∷◌, ◌++◌, [], Some, None, IfOk, OnOk, OnErr, MatchOption, map, option_map};
 ghost use Rattle.tab_model.specs.Slices.{batch_for, end_for};
 ghost use Rattle.tab_model.specs.State.{level_in, without_watch};
 ghost use Rattle.tab_model.specs.declared.data.Item.TheVariants as Item;
@@ -191,6 +191,16 @@ impl<P: Post + Drop> Subs<P> {
             return None;
         };
         self.seats[place].level(table)
+    }
+
+    /// The post of a session that is joined.
+    pub fn post(&self, session: u64) -> Option<&P>
+        ensures { option_map (λ p. P.outbox p.now) result ≡ option_map (λ s. s.outbox) (at self.now session) }
+    {
+        let Some(place) = self.place(session) else {
+            return None;
+        };
+        Some(self.seats[place].post())
     }
 
     /// The number of the session's overflow, where it was not told yet.

@@ -1,3 +1,4 @@
+pub mod EventLemmas
 pub mod ChangingLemmas
 pub mod InfoLemmas
 pub mod NamedLemmas

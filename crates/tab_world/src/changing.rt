@@ -16,8 +16,8 @@ use tab_term::Atom;
 /// changed, in place where nothing is shared.
 #[derive(Drop)]
 pub struct Changing {
-    world: World,
-    newer: Option<IndexedTable>,
+    pub(crate) world: World,
+    pub(crate) newer: Option<IndexedTable>,
 }
 
 impl Model for Changing {

@@ -6,10 +6,12 @@
 #![tactic(auto)]
 
 mod changing;
+mod event;
 mod schemas;
 mod tags;
 mod world;
 
+pub use changing::Changing;
 pub use schemas::{Redefined, redefine, table_info};
 pub use tags::{table_of_change, tag};
 pub use world::World;

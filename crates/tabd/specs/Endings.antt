@@ -7,6 +7,8 @@ use Rattle.tab_session.specs.declared.ended.Ended.{Ended}
 use Rattle.tab_session.specs.declared.ended.Ended.TheVariants.{Damaged, Device, TooLong, NoMemory}
 use Rattle.tabd.specs.declared.ending.End.{End}
 use Rattle.tabd.specs.declared.ending.End.TheVariants.{Done, WrongWords, Stopped}
+use Rattle.tabd.specs.declared.words.Run.{Run}
+use Rattle.tabd.specs.declared.words.Run.TheVariants.{Replay}
 
 -- 0: done, or help was asked for; 1: device, too long or no memory; 2: wrong words; 3: damaged input
 abbrev pub status_of : End → ℕ
@@ -54,8 +56,12 @@ pub record Streams : Type 0 where
 abbrev pub streams : Option (List ℕ) → Option (List ℕ) → ℕ → ℕ → Streams
 streams i o f g = record { input = i; output = o; input_faults = f; output_faults = g }
 
+-- how many items each session's post holds
+abbrev pub outbox_of : Run → ℕ
+outbox_of (Replay outbox) = outbox
+
 -- the program replayed its input onto its output, and ends by a device fault exactly where one rose
-abbrev pub Plays : Streams → Streams → End → Type 0
-Plays old new end = (r : Result (Unit {0}) Ended) × (end ≡ end_of r)
-    × IfSome old.input (λ stream. length stream < 2 ^ 64 - 1 → Replayed stream old.output new.output r)
+abbrev pub Plays : ℕ → Streams → Streams → End → Type 0
+Plays outbox old new end = (r : Result (Unit {0}) Ended) × (end ≡ end_of r)
+    × IfSome old.input (λ stream. length stream < 2 ^ 64 - 1 → Replayed outbox stream old.output new.output r)
     × Faults old.input_faults new.input_faults old.output_faults new.output_faults r

@@ -1,10 +1,10 @@
 //! A run of the program between its words and its status.
 
-ghost use Rattle.std.specs.Prelude.{◌≡◌, ◌≤◌, OnOk, OnErr, IfErr};
+ghost use Rattle.std.specs.Prelude.{◌≡◌, ◌≤◌, IfOk, OnErr, IfErr};
 ghost use Rattle.std.specs.Process.{exit_status};
 ghost use Rattle.clap.specs.Words.{kind_of};
 ghost use Rattle.tabd.specs.declared.ending.End.{End as EndOf};
-ghost use Rattle.tabd.specs.Endings.{IsShown, Plays, end_of_words, status_of, streams};
+ghost use Rattle.tabd.specs.Endings.{IsShown, Plays, end_of_words, outbox_of, status_of, streams};
 
 use crate::ending::{End, end_of_replay, end_of_words, message_of, status_of};
 use crate::words::Run;
@@ -23,7 +23,7 @@ pub fn run<H: AllocGlobal + Print + Eprint, R: Read, W: Write>(
     input: &mut Counted<R>,
     output: &mut Counted<W>,
 ) -> ExitCode
-    ensures replayed { OnOk asked ((end : EndOf) × (exit_status result ≡ status_of end) × Plays (streams (R.remaining input.old.inner) (W.contents output.old.inner) input.old.faults output.old.faults) (streams (R.remaining input.new.inner) (W.contents output.new.inner) input.new.faults output.new.faults) end) }
+    ensures replayed { IfOk asked (λ words. (end : EndOf) × (exit_status result ≡ status_of end) × Plays (outbox_of words) (streams (R.remaining input.old.inner) (W.contents output.old.inner) input.old.faults output.old.faults) (streams (R.remaining input.new.inner) (W.contents output.new.inner) input.new.faults output.new.faults) end) }
     ensures shown { IfErr asked (λ error. (end : EndOf) × (exit_status result ≡ status_of end) × IsShown (end_of_words (kind_of error)) end) }
     ensures input { OnErr asked (input.new ≡ input.old) }
     ensures output { OnErr asked (output.new ≡ output.old) }
@@ -38,21 +38,26 @@ fn perform<H: AllocGlobal + Print + Eprint, R: Read, W: Write>(
     input: &mut Counted<R>,
     output: &mut Counted<W>,
 ) -> End
-    ensures replayed { OnOk asked (Plays (streams (R.remaining input.old.inner) (W.contents output.old.inner) input.old.faults output.old.faults) (streams (R.remaining input.new.inner) (W.contents output.new.inner) input.new.faults output.new.faults) result) }
+    ensures replayed { IfOk asked (λ words. Plays (outbox_of words) (streams (R.remaining input.old.inner) (W.contents output.old.inner) input.old.faults output.old.faults) (streams (R.remaining input.new.inner) (W.contents output.new.inner) input.new.faults output.new.faults) result) }
     ensures shown { IfErr asked (λ error. IsShown (end_of_words (kind_of error)) result) }
     ensures input { OnErr asked (input.new ≡ input.old) }
     ensures output { OnErr asked (output.new ≡ output.old) }
 {
     match asked {
-        Ok(Run::Replay) => play(rt.alloc(), input, output),
+        Ok(Run::Replay { outbox }) => play(rt.alloc(), input, output, outbox),
         Err(error) => show(rt, &error),
     }
 }
 
-fn play<R: Read, W: Write>(alloc: Global, input: &mut Counted<R>, output: &mut Counted<W>) -> End
-    ensures { Plays (streams (R.remaining input.old.inner) (W.contents output.old.inner) input.old.faults output.old.faults) (streams (R.remaining input.new.inner) (W.contents output.new.inner) input.new.faults output.new.faults) result }
+fn play<R: Read, W: Write>(
+    alloc: Global,
+    input: &mut Counted<R>,
+    output: &mut Counted<W>,
+    outbox: u32,
+) -> End
+    ensures { Plays outbox (streams (R.remaining input.old.inner) (W.contents output.old.inner) input.old.faults output.old.faults) (streams (R.remaining input.new.inner) (W.contents output.new.inner) input.new.faults output.new.faults) result }
 {
-    end_of_replay(replay(alloc, input, output))
+    end_of_replay(replay(alloc, input, output, outbox as usize))
 }
 
 /// Shows the parser's text. Out of memory has none of its own.

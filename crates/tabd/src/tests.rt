@@ -2,14 +2,31 @@ use crate::words::{Run, read_words};
 use clap::error::ErrorKind;
 use std::test::Fail;
 
+/// Words that ask for a replay, and how many items a session's post then holds.
+const REPLAYS: [(&[&str], u32); 4] = [
+    (&["tabd", "replay"], 64),
+    (&["tabd", "replay", "--outbox", "1"], 1),
+    (&["tabd", "replay", "--outbox", "65536"], 65_536),
+    (&["tabd", "replay", "--outbox=3"], 3),
+];
+
 /// Words that ask for no run, and why.
-const OTHERS: [(&[&str], ErrorKind); 7] = [
+const OTHERS: [(&[&str], ErrorKind); 10] = [
     (&["tabd"], ErrorKind::MissingSubcommand),
     (&["tabd", "serve"], ErrorKind::InvalidSubcommand),
     (
-        &["tabd", "replay", "--outbox", "3"],
-        ErrorKind::UnknownArgument,
+        &["tabd", "replay", "--outbox", "0"],
+        ErrorKind::ValueValidation,
     ),
+    (
+        &["tabd", "replay", "--outbox", "65537"],
+        ErrorKind::ValueValidation,
+    ),
+    (
+        &["tabd", "replay", "--outbox", "many"],
+        ErrorKind::ValueValidation,
+    ),
+    (&["tabd", "replay", "--outbox"], ErrorKind::InvalidValue),
     (&["tabd", "replay", "replay"], ErrorKind::UnknownArgument),
     (&["tabd", "--help"], ErrorKind::DisplayHelp),
     (&["tabd", "replay", "--help"], ErrorKind::DisplayHelp),
@@ -17,8 +34,10 @@ const OTHERS: [(&[&str], ErrorKind); 7] = [
 ];
 
 #[test]
-fn replay_is_asked_for(rt: HostRuntime) -> Result<(), Fail> {
-    assert!(rt; read_words(rt.alloc(), &["tabd", "replay"])? == Run::Replay);
+fn replays_are_asked_for(rt: HostRuntime) -> Result<(), Fail> {
+    for (words, outbox) in REPLAYS {
+        assert_eq!(rt; read_words(rt.alloc(), words)?, Run::Replay { outbox });
+    }
     Ok(())
 }
 

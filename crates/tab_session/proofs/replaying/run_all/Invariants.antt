@@ -11,7 +11,7 @@ pub record Kept (A B C D E : Type 0) : Type 0 where
 
 abbrev pub invariant-loop-round : goal.invariant-loop-round
 invariant-loop-round g l = Kept
-    (IfSome (g.R.Read.remaining l.initial.input.inner) (λ stream. IsReplaying stream (g.R.Read.remaining l.input.inner) l.splitter.rest l.round l.core (g.W.Write.contents l.initial.output.inner) (g.W.Write.contents l.output.inner)))
+    (IfSome (g.R.Read.remaining l.initial.input.inner) (λ stream. IsReplaying l.fn.outbox stream (g.R.Read.remaining l.input.inner) l.splitter.rest l.round l.core (g.W.Write.contents l.initial.output.inner) (g.W.Write.contents l.output.inner)))
     (l.splitter.over ≡ None)
     (0 < length l.piece)
     (l.input.faults ≡ l.initial.input.faults)

@@ -1,0 +1,12 @@
+use Rattle.std.proofs.Common.{◌≡◌, subst}
+use Rattle.tab_model.specs.State.{IsSound}
+use Rattle.tab_core.proofs.SoundLemmas.{sound_with}
+use Rattle.tab_core.proofs.Core.step.Goals as goal
+
+pub returns : goal.returns
+returns g c = record {
+  done = c.make-stepped.ensures.done;
+  free = c.make-stepped.ensures.free;
+  err = c.make-stepped.ensures.err;
+  sound = subst IsSound c.self.view_is (sound_with c.self.inside.subs c.self.inside.manager c.self.invariant.sound);
+}

@@ -1,0 +1,20 @@
+use Rattle.std.proofs.Common.{◌≡◌, sym, ◌∙◌, Some, None}
+use Rattle.tab_core.proofs.MarksLemmas.{free, end_refused, end_made}
+use Rattle.tab_core.proofs.Core.unsubscribe.Goals as goal
+
+pub returns-in-Some-clause-done : goal.returns-in-Some-clause-done
+returns-in-Some-clause-done g c =
+    end_refused c.self.inside.subs c.self.inside.manager c.args.self.now c.self.invariant c.self.view_is c.args.session c.args.table c.args.level
+    c.in-Some.refusal (sym c.in-Some.is ∙ c.in_ok-refusal.ensures) c.without_entry.result c.without_entry.ensures
+
+pub invariant_of-self-2 : goal.invariant_of-self-2
+invariant_of-self-2 g c = record {
+  same = (end_made c.self.inside.subs c.self.inside.manager c.args.self.now c.self.invariant c.self.view_is c.args.session c.args.table c.args.level
+      (free _ _ c.in_default.not-Some c.in_ok-refusal.ensures) c.in_ok-marked.marked c.unsubscribe.new.self c.in_ok-marked.ensures.ok c.marked_reply.result c.marked_reply.ensures).1;
+  sound = c.self.invariant.sound;
+}
+
+pub returns-clause-done : goal.returns-clause-done
+returns-clause-done g c =
+    (end_made c.self.inside.subs c.self.inside.manager c.args.self.now c.self.invariant c.self.view_is c.args.session c.args.table c.args.level
+    (free _ _ c.in_default.not-Some c.in_ok-refusal.ensures) c.in_ok-marked.marked c.unsubscribe.new.self c.in_ok-marked.ensures.ok c.marked_reply.result c.marked_reply.ensures).0

@@ -1,0 +1,33 @@
+-- A core is sound where its manager is: who watches has no part in it.
+use Rattle.std.proofs.Common.{◌≡◌, ◌≢◌, ℕ, ◌<◌, ◌≤◌, List, [], ◌∷◌, Bool, true, false, refl, sym, ap, ◌∙◌, subst, Option, Some, None}
+use Rattle.std.specs.Prelude.{map, option_map}
+use Rattle.tab_model.specs.Alone.{replies, start}
+use Rattle.tab_model.specs.State.{Transaction, Seat, State, seat_at, transaction_at, moves_in, told_in_transaction, age_in, AreDistinct, IsSound}
+use Rattle.tab_model.specs.Locks.{Apart, locks_of}
+use Rattle.tab_subs.specs.Subscribers.{Subscriber}
+use Rattle.tab_core.specs.Seats.{seat_with, state_with}
+use Rattle.tab_core.proofs.Frames.{at_dressed, transactions_dressed}
+
+distinct_with : (bs : List Subscriber) (ss : List Seat) → AreDistinct ss → AreDistinct (map (seat_with bs) ss)
+distinct_with bs [] d = tt
+distinct_with bs (s ∷ ss) d = (at_dressed bs ss s.number ∙ ap (option_map (seat_with bs)) d.0, distinct_with bs ss d.1)
+
+-- a seat of the core is one of the manager
+seated : (bs : List Subscriber) (o : Option Seat) (s : Seat) → option_map (seat_with bs) o ≡ Some s → (x : Seat) × (o ≡ Some x)
+seated bs None s h = cc
+seated bs (Some x) s h = (x, refl)
+
+abbrev AreApart : Option Transaction → Option Transaction → Type 0
+AreApart o p = Apart (locks_of (moves_in o)) (locks_of (moves_in p))
+
+pub sound_with : (bs : List Subscriber) (σ : State) → IsSound σ → IsSound (state_with bs σ)
+sound_with bs σ k = record {
+  told = λ n. subst (λ (o : Option Transaction). replies (start σ.tables (age_in o)) (moves_in o) ≡ told_in_transaction o) (sym (transactions_dressed bs σ n)) (k.told n);
+  apart = λ m n other. subst (λ (o : Option Transaction). AreApart o (transaction_at (state_with bs σ) n)) (sym (transactions_dressed bs σ m))
+      (subst (λ (o : Option Transaction). AreApart (transaction_at σ m) o) (sym (transactions_dressed bs σ n)) (k.apart m n other));
+  ages = λ m n t u h i. k.ages m n t u (sym (transactions_dressed bs σ m) ∙ h) (sym (transactions_dressed bs σ n) ∙ i);
+  taken = λ n t h. k.taken n t (sym (transactions_dressed bs σ n) ∙ h);
+  joined = λ n s h. let x = seated bs (seat_at σ.seats n) s (sym (at_dressed bs σ.seats n) ∙ h) in k.joined n x.0 x.1;
+  distinct = distinct_with bs σ.seats k.distinct;
+  ordered = k.ordered;
+}

@@ -1,0 +1,34 @@
+-- What a commit owes to those who watch the tables that it changes (Mnesia User's Guide, "Mnesia Event Handling").
+use Rattle.std.specs.Prelude.{◌≡◌, ℕ, List, Bool, true, false, Option, Some, None, is_some}
+use Rattle.std.specs.List.{filter, list_any}
+use Rattle.tab_model.specs.declared.data.Change.{Change}
+use Rattle.tab_model.specs.declared.data.Event.{Event}
+use Rattle.tab_model.specs.Events.{change_all, events, surviving}
+use Rattle.tab_model.specs.Operations.{table_of_change}
+use Rattle.tab_model.specs.State.{State, Transaction}
+use Rattle.tab_model.specs.Worlds.{World}
+use Rattle.tab_manager.specs.Outermost.{outermost}
+use Rattle.tab_subs.specs.Subscribers.{Subscriber, watched}
+use Rattle.tab_core.specs.declared.committing.Updated.{Updated}
+
+abbrev pub is_watched : List Subscriber → Event → Bool
+is_watched bs e = is_some (watched bs e.tab)
+
+abbrev pub are_watched : List Subscriber → List Change → Bool
+are_watched bs cs = list_any (λ c. is_some (watched bs (table_of_change c))) cs
+
+-- the tables after the changes, and the events that someone watches
+pub record Updates (w : World) (bs : List Subscriber) (age : ℕ) (cs : List Change) (u : Updated) : Type 0 where
+  pub tables : u.tables ≡ change_all w cs
+  pub events : u.events.items ≡ filter (is_watched bs) (events w age cs)
+
+-- nothing where no one watches
+abbrev pub Owes : World → List Subscriber → ℕ → List Change → Option Updated → Type 0
+Owes w bs age cs None = are_watched bs cs ≡ false
+Owes w bs age cs (Some u) = (are_watched bs cs ≡ true) × Updates w bs age cs u
+
+-- they are those of the session's transaction, which its commit ends
+pub record Commits (σ : State) (bs : List Subscriber) (n : ℕ) (u : Updated) : Type 0 where
+  pub transaction : Transaction
+  pub ends : outermost σ n ≡ Some transaction
+  pub updates : Updates σ.tables bs transaction.age (surviving transaction.moves transaction.told) u

@@ -1,0 +1,35 @@
+-- What refuses a subscription, and what marks and Takes are answered (the order of the refusals is this project's own rule).
+use Rattle.std.specs.Prelude.{ℕ, List, if◌then◌else◌, Option, Some, None}
+use Rattle.tab_model.specs.declared.data.Entry.{Entry}
+use Rattle.tab_model.specs.declared.data.Reply.{Reply}
+use Rattle.tab_model.specs.declared.data.Reply.TheVariants as reply
+use Rattle.tab_model.specs.declared.data.Level.{Level}
+use Rattle.tab_model.specs.State.{Seat, State, is_waiting, level_in}
+use Rattle.tab_model.specs.Outcome.{is_at}
+use Rattle.tab_manager.specs.declared.step.Stepped.{Stepped}
+use Rattle.tab_subs.specs.declared.answers.Taken.{Taken}
+use Rattle.tab_subs.specs.declared.answers.Taken.TheVariants as taken
+use Rattle.tab_subs.specs.declared.answers.Marked.{Marked}
+use Rattle.tab_subs.specs.declared.answers.Marked.TheVariants as mark
+
+-- of a session that has not joined, that waits, or that its own state refuses
+abbrev pub refused_by : State → ℕ → (Seat → Option Reply) → Option Seat → Option Reply
+refused_by σ n f None = Some reply.BadSession
+refused_by σ n f (Some s) = if is_waiting σ n then Some reply.WaitingNow else f s
+
+-- a table that the session doesn't watch at that level
+abbrev pub unsubscribe_refusal : List ℕ → Level → Seat → Option Reply
+unsubscribe_refusal t l s = if is_at (level_in s.watching t) l then None else Some (reply.NotSubscribed t)
+
+-- the reply to a mark that a post took or refused, and the entry of one that it took
+abbrev pub marked_reply : Option Marked → Entry → Stepped
+marked_reply None e = record { reply = reply.BadSession; entry = None }
+marked_reply (Some mark.Full) e = record { reply = reply.OutboxFull; entry = None }
+marked_reply (Some mark.Told) e = record { reply = reply.SubscribedHere; entry = Some e }
+
+-- the reply to a Take
+abbrev pub taken_reply : Option Taken → Stepped
+taken_reply None = record { reply = reply.BadSession; entry = None }
+taken_reply (Some (taken.Item x)) = record { reply = reply.Taken x; entry = None }
+taken_reply (Some (taken.Overflow n)) = record { reply = reply.Overflow n; entry = None }
+taken_reply (Some taken.Empty) = record { reply = reply.Empty; entry = None }

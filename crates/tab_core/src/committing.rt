@@ -1,0 +1,204 @@
+//! Outermost commits and schema commands, with what they owe to who watches.
+
+ghost use Rattle.std.specs.Prelude.{◌≡◌, ◌+◌, ◌∷◌, ◌++◌, [], IfOk, IsOk, OnOk, OnErr, true};
+ghost use Rattle.std.specs.List.{filter};
+ghost use Rattle.tab_model.specs.declared.data.Command.TheVariants as command;
+ghost use Rattle.tab_model.specs.Outcome.{DoCommand};
+ghost use Rattle.tab_model.specs.Events.{event_of};
+ghost use Rattle.tab_core.specs.Owing.{are_watched as are_watched_by, is_watched, Commits, Owes, Updates};
+ghost use Rattle.tab_core.specs.Runs.{StepsTo, takes_no_memory};
+ghost use Rattle.tab_core.specs.Seats.{state_with, IsKept};
+
+use crate::Core;
+use crate::step::with_overflowed;
+use std::alloc::{AllocError, Global};
+use tab_manager::{Ending, Manager, Step, Stepped};
+use tab_model::{Change, Command, Event, Schema};
+use tab_outbox::Post;
+use tab_subs::Subs;
+use tab_term::Atom;
+use tab_world::{Changing, World, table_of_change};
+
+/// The tables that a commit leaves, and those of its events that someone watches.
+pub(crate) struct Updated {
+    pub tables: World,
+    pub events: Vec<Event>,
+}
+
+impl Drop for Updated {
+    fn drop(self) {
+        let Updated { tables, events } = self;
+        drop(tables);
+        drop(events);
+    }
+}
+
+impl Updated {
+    fn into_tables(self) -> World
+        ensures { result ≡ self.tables }
+    {
+        let Updated { tables, events } = self;
+        drop(events);
+        tables
+    }
+}
+
+impl<P: Post + Drop> Core<P> {
+    /// All growths come first, then the tables move in, the locks go and the batches are put: from there nothing fails.
+    pub(crate) fn commit(&mut self, session: u32) -> Result<Stepped, AllocError>
+        ensures done { IfOk result (λ s. StepsTo self.old session (DoCommand command.Commit) s self.new) }
+        ensures free { takes_no_memory self.old session (DoCommand command.Commit) ≡ true → IsOk result }
+        ensures err { OnErr result (self.new ≡ self.old) }
+    {
+        let Some(ending) = self.manager.outermost(session) else {
+            return self.manager.step(session, Step::Do(Command::Commit));
+        };
+        let Some(updated) = owed(self.alloc, self.manager.tables(), &self.subs, &ending)? else {
+            return self.manager.step(session, Step::Do(Command::Commit));
+        };
+        deliver_commit(
+            self.alloc,
+            &mut self.manager,
+            &mut self.subs,
+            session,
+            updated,
+        )
+    }
+
+    /// A table's deletion owes end marks; no other schema command owes anything.
+    pub(crate) fn schema(&mut self, session: u32, schema: Schema) -> Result<Stepped, AllocError>
+        ensures done { IfOk result (λ s. StepsTo self.old session (DoCommand (command.Schema schema)) s self.new) }
+        ensures err { OnErr result (self.new ≡ self.old) }
+    {
+        let Schema::Remove(table) = &schema else {
+            return self
+                .manager
+                .step(session, Step::Do(Command::Schema(schema)));
+        };
+        let number = next_commit(&self.manager)?;
+        let prepared = self.subs.prepare_end(self.alloc, table, number)?;
+        let stepped = self
+            .manager
+            .step(session, Step::Do(Command::Schema(schema)))?;
+        if stepped.entry.is_none() {
+            return Ok(stepped);
+        }
+        let over = self.subs.deliver(prepared);
+        Ok(with_overflowed(stepped, over))
+    }
+}
+
+/// A commit whose tables and events are made. A refusal leaves all as it was.
+fn deliver_commit<P: Post + Drop>(
+    alloc: Global,
+    manager: &mut Manager,
+    subs: &mut Subs<P>,
+    session: u32,
+    updated: Updated,
+) -> Result<Stepped, AllocError>
+    requires kept { IsKept subs.old manager.old }
+    requires ends { Commits manager.old subs.old session updated }
+    ensures done { IfOk result (λ s. StepsTo (state_with subs.old manager.old) session (DoCommand command.Commit) s (state_with subs.new manager.new)) }
+    ensures kept { IsKept subs.new manager.new }
+    ensures err { OnErr result (state_with subs.new manager.new ≡ state_with subs.old manager.old) }
+{
+    let number = next_commit(manager)?;
+    let prepared = subs.prepare(alloc, number, &updated.events)?;
+    let stepped = manager.commit(session, updated.into_tables());
+    let over = subs.deliver(prepared);
+    Ok(with_overflowed(stepped, over))
+}
+
+// A number past a machine word is memory that is not there.
+fn next_commit(manager: &Manager) -> Result<u64, AllocError>
+    ensures { IfOk result (λ number. number ≡ manager.now.commits + 1) }
+{
+    match manager.commits().checked_add(1) {
+        Some(number) => Ok(number),
+        None => Err(AllocError),
+    }
+}
+
+/// What a commit owes to who watches, if it owes anything.
+fn owed<P: Post + Drop>(
+    alloc: Global,
+    tables: &World,
+    subs: &Subs<P>,
+    ending: &Ending<'_>,
+) -> Result<Option<Updated>, AllocError>
+    ensures owes { IfOk result (Owes tables.now subs.now ending.now.age ending.now.updates.now) }
+    ensures free { ending.now.updates.now ≡ [] → IsOk result }
+{
+    if ending.updates.is_empty() {
+        return Ok(None);
+    }
+    let nameless = Atom::from_short_text(alloc, "")?;
+    if !are_watched(subs, ending.updates, &nameless) {
+        return Ok(None);
+    }
+    let updated = changed_tables(alloc, tables, subs, ending, &nameless)?;
+    Ok(Some(updated))
+}
+
+/// Whether someone watches a table of the changes.
+fn are_watched<P: Post + Drop>(subs: &Subs<P>, changes: &[Change], nameless: &Atom) -> bool
+    requires { nameless.now ≡ [] }
+    ensures { result ≡ are_watched_by subs.now changes.now }
+{
+    for change in changes {
+        if subs.watched(table_of_change(change, nameless)).is_some() {
+            return true;
+        }
+    }
+    false
+}
+
+/// One pass over the changes: the tables after them, and the events that someone watches.
+fn changed_tables<P: Post + Drop>(
+    alloc: Global,
+    tables: &World,
+    subs: &Subs<P>,
+    ending: &Ending<'_>,
+    nameless: &Atom,
+) -> Result<Updated, AllocError>
+    requires { nameless.now ≡ [] }
+    ensures { IfOk result (Updates tables.now subs.now ending.now.age ending.now.updates.now) }
+{
+    let mut changing = Changing::new(tables.share()?);
+    let mut events = Vec::new(alloc);
+    for change in ending.updates {
+        push_watched(
+            alloc,
+            &mut events,
+            &changing,
+            subs,
+            ending.age,
+            change,
+            nameless,
+        )?;
+        changing = changing.changed(alloc, change, nameless)?;
+    }
+    let tables = changing.into_world(alloc)?;
+    Ok(Updated { tables, events })
+}
+
+/// The event of a change that is about to be made, where someone watches its table.
+fn push_watched<P: Post + Drop>(
+    alloc: Global,
+    events: &mut Vec<Event>,
+    changing: &Changing,
+    subs: &Subs<P>,
+    age: u64,
+    change: &Change,
+    nameless: &Atom,
+) -> Result<(), AllocError>
+    requires { nameless.now ≡ [] }
+    ensures { OnOk result (events.new.items ≡ events.old.items ++ filter (is_watched subs.now) (event_of changing.now age change.now ∷ [])) }
+{
+    if subs.watched(table_of_change(change, nameless)).is_none() {
+        return Ok(());
+    }
+    let event = changing.event(alloc, age, change, nameless)?;
+    events.push(event)?;
+    Ok(())
+}

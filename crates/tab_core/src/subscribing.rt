@@ -1,0 +1,142 @@
+//! Subscriptions begin and end.
+
+ghost use Rattle.std.specs.Prelude.{◌≡◌, None, IfOk, OnErr};
+ghost use Rattle.tab_model.specs.declared.data.Command.TheVariants as command;
+ghost use Rattle.tab_model.specs.Outcome.{DoCommand, is_at as is_at_of, subscribe_refusal as subscribe_refusal_of};
+ghost use Rattle.tab_model.specs.State.{seat_at};
+ghost use Rattle.tab_core.specs.Subscribing.{marked_reply as marked_reply_of, refused_by, unsubscribe_refusal as unsubscribe_refusal_of};
+ghost use Rattle.tab_core.specs.Runs.{StepsTo};
+
+use crate::Core;
+use crate::dump::dump_of;
+use std::alloc::AllocError;
+use tab_events::Level;
+use tab_manager::Stepped;
+use tab_model::{Entry, Reply, Told};
+use tab_outbox::Post;
+use tab_subs::Marked;
+use tab_term::Atom;
+
+impl<P: Post + Drop> Core<P> {
+    /// The session watches the table from here on. Its begin mark has the table's records as they are committed, where a
+    /// dump is asked for.
+    pub(crate) fn subscribe(
+        &mut self,
+        session: u32,
+        table: Atom,
+        level: Level,
+        dump: bool,
+    ) -> Result<Stepped, AllocError>
+        ensures done { IfOk result (λ s. StepsTo self.old session (DoCommand (command.Subscribe table level dump)) s self.new) }
+        ensures err { OnErr result (self.new ≡ self.old) }
+    {
+        if let Some(refusal) = self.subscribe_refusal(session, &table)? {
+            return Ok(Stepped::without_entry(refusal));
+        }
+        let records = dump_of(self.alloc, self.manager.tables(), &table, dump)?;
+        let named = table.try_clone(self.alloc)?;
+        let marked = self
+            .subs
+            .subscribe(self.alloc, session as u64, named, level, records)?;
+        Ok(marked_reply(
+            marked,
+            Entry::Subscribed {
+                session: session as u64,
+                table,
+                level,
+                dump,
+            },
+        ))
+    }
+
+    /// What refuses a subscription but its post.
+    fn subscribe_refusal(&self, session: u32, table: &Atom) -> Result<Option<Reply>, AllocError>
+        ensures { IfOk result (λ refusal. refusal ≡ refused_by self.now session (λ s. subscribe_refusal_of self.now s table.now) (seat_at self.now.seats session)) }
+    {
+        if let Some(refusal) = self.session_refusal(session) {
+            return Ok(Some(refusal));
+        }
+        if self.subs.overflow(session as u64).is_some() {
+            return Ok(Some(Reply::OverflowUntold));
+        }
+        if self.manager.tables().table(table).is_none() {
+            return Ok(Some(Reply::SubNoTable(table.try_clone(self.alloc)?)));
+        }
+        if self.subs.level(session as u64, table).is_some() {
+            return Ok(Some(Reply::AlreadySubscribed(table.try_clone(self.alloc)?)));
+        }
+        Ok(None)
+    }
+
+    /// A command of a session that has not joined, or that waits.
+    fn session_refusal(&self, session: u32) -> Option<Reply>
+        ensures { result ≡ refused_by self.now session (λ s. None) (seat_at self.now.seats session) }
+    {
+        if !self.manager.joined(session) {
+            return Some(Reply::BadSession);
+        }
+        if self.manager.waits(session) {
+            return Some(Reply::WaitingNow);
+        }
+        None
+    }
+
+    /// The session watches the table no more.
+    pub(crate) fn unsubscribe(
+        &mut self,
+        session: u32,
+        table: Atom,
+        level: Level,
+    ) -> Result<Stepped, AllocError>
+        ensures done { IfOk result (λ s. StepsTo self.old session (DoCommand (command.Unsubscribe table level)) s self.new) }
+        ensures err { OnErr result (self.new ≡ self.old) }
+    {
+        if let Some(refusal) = self.unsubscribe_refusal(session, &table, level)? {
+            return Ok(Stepped::without_entry(refusal));
+        }
+        let marked = self.subs.unsubscribe(self.alloc, session as u64, &table)?;
+        Ok(marked_reply(marked, Entry::Unsubscribed(session as u64, table)))
+    }
+
+    /// What refuses the end of a subscription but its post.
+    fn unsubscribe_refusal(
+        &self,
+        session: u32,
+        table: &Atom,
+        level: Level,
+    ) -> Result<Option<Reply>, AllocError>
+        ensures { IfOk result (λ refusal. refusal ≡ refused_by self.now session (unsubscribe_refusal_of table.now level) (seat_at self.now.seats session)) }
+    {
+        if let Some(refusal) = self.session_refusal(session) {
+            return Ok(Some(refusal));
+        }
+        if is_at(self.subs.level(session as u64, table), level) {
+            return Ok(None);
+        }
+        Ok(Some(Reply::NotSubscribed(table.try_clone(self.alloc)?)))
+    }
+}
+
+/// Whether a table is watched at this level.
+fn is_at(watched: Option<Level>, level: Level) -> bool
+    ensures { result ≡ is_at_of watched level }
+{
+    matches!(
+        (watched, level),
+        (Some(Level::Simple), Level::Simple) | (Some(Level::Detailed), Level::Detailed)
+    )
+}
+
+/// The reply to a mark that was put into a post, or refused by it.
+fn marked_reply(marked: Option<Marked>, entry: Entry) -> Stepped
+    ensures { result ≡ marked_reply_of marked entry }
+{
+    match marked {
+        None => Stepped::without_entry(Reply::BadSession),
+        Some(Marked::Full) => Stepped::without_entry(Reply::OutboxFull),
+        Some(Marked::Told) => Stepped {
+            reply: Told::new(Reply::SubscribedHere),
+            entry: Some(entry),
+        },
+    }
+}

@@ -1,0 +1,348 @@
+-- The ends of levels and sessions: an abort, a child's commit, a restart, a leave.
+use Rattle.std.proofs.Common.{zero, ◌||◌, inl, inr, ◌≡◌, ◌≢◌, ℕ, suc, ◌+◌, ◌<◌, ◌≤◌, List, [], ◌∷◌, ◌++◌, Bool, true, false, ◌&&◌, not, refl, sym, ap, ◌∙◌, subst, arith, length, Option, Some, None, get_or, set}
+use Rattle.std.specs.Prelude.{◌==◌, ◌⊎◌, remove, nat_le, nat_lt, if◌then◌else◌, is_some, IfSome, map, option_map}
+use Rattle.std.specs.List.{list_any, filter}
+use Rattle.tab_term.specs.declared.term.Term.{Term}
+use Rattle.tab_locks.specs.Members.{SameMembers}
+use Rattle.tab_model.specs.declared.data.Command.TheVariants as command
+use Rattle.tab_model.specs.declared.data.Move.{Move}
+use Rattle.tab_model.specs.declared.data.Move.TheVariants.{Do, Open, Close, Undo}
+use Rattle.tab_model.specs.declared.data.Reply.{Reply}
+use Rattle.tab_model.specs.declared.data.Reply.TheVariants as reply
+use Rattle.tab_model.specs.Ages.{Ages, without, forget}
+use Rattle.tab_model.specs.Alone.{Mid, start, after, next, back, back_to, told}
+use Rattle.tab_model.specs.declared.data.Operation.{Operation}
+use Rattle.tab_model.specs.Operations.{failure, effect}
+use Rattle.tab_model.specs.Locks.{locks_of}
+use Rattle.tab_model.specs.Worlds.{World, Table}
+use Rattle.tab_model.specs.State as plain
+use Rattle.tab_model.specs.State.{Seat, State, without_request, is_waiting, held_by, held_in, queued_in, mid_of, count_moves}
+use Rattle.tab_model.specs.Outcome.{DoCommand, Leave, outcome, nothing, abort, command_if, is_abort, is_empty, ends, made, with_queue, without_seat, leave, commit, commit_at, begin, nested, opened, change}
+use Rattle.tab_model.proofs.StepsBySeat.{lock_of_move, locks-more}
+use Rattle.tab_txstore.specs.Stores.{Store, no_store, store_next, lent_for, Fits}
+use Rattle.tab_txstore.proofs.FitsLemmas.{fits_new, fits_next}
+use Rattle.tab_manager.specs.declared.seat.Transaction as kept
+use Rattle.tab_manager.specs.declared.seat.Seat as code
+use Rattle.tab_manager.specs.declared.queue.Request as request
+use Rattle.tab_manager.specs.declared.machine.Machine.{Machine}
+use Rattle.tab_manager.specs.Seats.{transaction_of, seat_of, queued_of, state_of, transaction_in, at, StandsAt}
+use Rattle.tab_manager.specs.Works.{with_store, forgotten_if, ended, undone, joined, UndoesIf, Undoes, NestsIf, NestsTo}
+use Rattle.tab_manager.specs.Kept.{opens, count_open, Agree, IsKept}
+use Rattle.tab_manager.proofs.HeldLocks.{split, held_gone, same_without}
+use Rattle.tab_manager.proofs.Places.{without_filtered, removed, at_filtered, counts_fewer}
+use Rattle.tab_manager.proofs.Keeping as keep
+use Rattle.tab_manager.proofs.Keeping.{none_waits, state_with, IsNext, Leaves, leaves, kept_same, kept_step, state_next}
+use Rattle.tab_manager.proofs.Numbers.{le_true}
+use Rattle.tab_model.specs.declared.data.Limit.TheVariants as limit
+use Rattle.tab_manager.proofs.Moving.{empty_counts, moved, moved_if, moves, without_twice}
+
+pub seat_is : (x y : code.Seat) → x.number ≡ y.number → x.transaction ≡ y.transaction → x ≡ y
+seat_is x y h g = λ j. record { number = h j; transaction = g j }
+
+-- an age is kept through all moves
+age_stays : (m : Mid) (xs : List Move) → (after m xs).age ≡ m.age
+age_stays m [] = refl
+age_stays m (x ∷ xs) = age_stays (next m x) xs ∙ one x
+  where
+    gone_back : (ws : List World) → (back_to m ws).age ≡ m.age
+    gone_back [] = refl
+    gone_back (w ∷ ws) = refl
+
+    if_failed : (b : Bool) (o : Operation) → Mid.age (if b then back m else record { age = m.age; now = effect m.now o; saved = m.saved; base = m.base }) ≡ m.age
+    if_failed true o = gone_back m.saved
+    if_failed false o = refl
+
+    one : (y : Move) → (next m y).age ≡ m.age
+    one (Do o) = if_failed (is_some (failure m.now o)) o
+    one Open = refl
+    one Close = refl
+    one Undo = gone_back m.saved
+
+tid_told : (w : World) (age : ℕ) (xs : List Move) → told (after (start w age) xs) Open ≡ Some (reply.Tid age)
+tid_told w age xs = ap (λ a. Some (reply.Tid a)) (age_stays (start w age) xs)
+
+and_false : (b : Bool) → (b && false) ≡ false
+and_false true = refl
+and_false false = refl
+
+pub undoes_at : (t : kept.Transaction) (s s2 : code.Seat) (g : Ages) (s' : code.Seat) (g' : Ages) → s2 ≡ s → s.transaction ≡ Some t → IfSome s2.transaction (λ u. Undoes u s2 g s' g') → Undoes t s g s' g'
+undoes_at t s s2 g s' g' same open_t h = subst (λ o. IfSome o (λ u. Undoes u s g s' g')) open_t (subst (λ (x : code.Seat). IfSome x.transaction (λ u. Undoes u x g s' g')) same h)
+
+pub nothing_to_abort : (m : Machine) (n i : ℕ) (s : code.Seat) → IsKept m → StandsAt m.seats.items n i → s ≡ get_or m.seats.items i s → (r : Term) → s.transaction ≡ None → outcome (state_of m) [] n (DoCommand (command.Abort r)) ≡ nothing (state_of m) reply.NoTransaction
+nothing_to_abort m n i s k there at_i r none =
+    keep.sits (state_of m) n (seat_of s) (DoCommand (command.Abort r)) (keep.here m n i s k there at_i)
+    ∙ ap (command_if (state_of m) [] (seat_of s) (command.Abort r)) (and_false (is_waiting (state_of m) s.number))
+    ∙ ap (abort (state_of m) (seat_of s) r) (ap (option_map transaction_of) none)
+
+module _ (m : Machine) (n i : ℕ) (s : code.Seat) (k : IsKept m) (there : StandsAt m.seats.items n i) (at_i : s ≡ get_or m.seats.items i s) (t : kept.Transaction) (open_t : s.transaction ≡ Some t) where
+  abbrev σ : State
+  σ = state_of m
+
+  -- whether level 1 ends
+  pub outermost : is_empty (mid_of σ (transaction_of t)).saved ≡ (length t.store.levels.saved == 0)
+  outermost = empty_counts (mid_of σ (transaction_of t)).saved ∙ ap (λ d. d == 0) (keep.depth m n i s k there at_i t open_t)
+
+  -- a move without a lock: the seat after it agrees with all else
+  pub level_agrees : (x : Move) (lent : Option Table) (r : Option Reply) → lent ≡ lent_for m.world x → lock_of_move x ≡ [] → (m' : Machine) → m'.world ≡ m.world → m'.seats.items ≡ set m.seats.items i (moved s t (store_next lent t.store x r)) → m'.limits ≡ m.limits → m'.begun ≡ m.begun → m'.commits ≡ m.commits
+      → m'.ages.held ≡ m.ages.held → m'.ages.queue ≡ queued_in (map queued_of m'.queue.items) → Agree m'
+  level_agrees x lent r is_lent lockless m' world seats limits begun commits held queue =
+      keep.seat_agrees m n i s k there at_i (moved s t (store_next lent t.store x r)) refl m' world seats limits
+      (subst (SameMembers (held_in (map seat_of (set m.seats.items i (moved s t (store_next lent t.store x r)))))) (sym held) (keep.same_locks m n i s k there at_i (moved s t (store_next lent t.store x r)) refl locks)) queue own
+      (let a = k.agree.ages in omega (arith, a, begun))
+      (let c = keep.counts' m n i s k there at_i (moved s t (store_next lent t.store x r)) refl in let d = k.agree.counted in let e : opens s.transaction ≡ 1 = ap opens open_t in omega (arith, c, d, e, begun, commits))
+    where
+      locks : held_by (Some (transaction_of (with_store t (store_next lent t.store x r)))) ≡ held_by (seat_of s).transaction
+      locks = ap (plain.with_age t.age) (locks-more t.store.moves x ∙ ap (λ ls. locks_of t.store.moves ++ ls) lockless ∙ Rattle.std.proofs.Common.append-nil (locks_of t.store.moves)) ∙ ap held_by (ap (option_map transaction_of) (sym open_t))
+
+      own : (u : kept.Transaction) → Some (with_store t (store_next lent t.store x r)) ≡ Some u → Fits u.store m.world
+      own u h = let same : with_store t (store_next lent t.store x r) ≡ u = cc in
+          subst (λ (v : kept.Transaction). Fits v.store m.world) same (subst (λ l. Fits (store_next l t.store x r) m.world) (sym is_lent) (fits_next t.store m.world x r (keep.fit m n i s k there at_i t open_t)))
+
+  -- the transaction is over, or empty again: it holds no locks
+  pub over_agrees : (s' : code.Seat) → s'.number ≡ s.number → held_by (seat_of s').transaction ≡ [] → ((u : kept.Transaction) → s'.transaction ≡ Some u → Fits u.store m.world) → opens s'.transaction ≤ 1
+      → (m' : Machine) → m'.world ≡ m.world → m'.seats.items ≡ set m.seats.items i s' → m'.limits ≡ m.limits → m'.begun ≡ m.begun → m'.commits ≡ m.commits
+      → m'.ages.held ≡ without t.age m.ages.held → m'.ages.queue ≡ queued_in (map queued_of m'.queue.items) → Agree m'
+  over_agrees s' number none own few m' world seats limits begun commits held queue =
+      keep.seat_agrees m n i s k there at_i s' number m' world seats limits
+      (subst (SameMembers (held_in (map seat_of (set m.seats.items i s')))) (sym held) (keep.no_locks m n i s k there at_i s' number t open_t none)) queue own
+      (let a = k.agree.ages in omega (arith, a, begun))
+      (let c = keep.counts' m n i s k there at_i s' number in let d = k.agree.counted in let e : opens s.transaction ≡ 1 = ap opens open_t in omega (arith, c, d, e, few, begun, commits))
+
+  -- ---- an abort
+  pub aborts : (r : Term) (s' : code.Seat) (g' : Ages) (qs : List request.Request) → Undoes t s m.ages s' g' → qs ≡ filter (λ q. not (q.session == n)) m.queue.items
+      → outcome σ [] n (DoCommand (command.Abort r)) ≡ nothing (state_with m (set m.seats.items i s') qs) (reply.UserAbort r)
+  aborts r s' g' qs u is =
+      keep.sits σ n (seat_of s) (DoCommand (command.Abort r)) (keep.here m n i s k there at_i)
+      ∙ ap (command_if σ [] (seat_of s) (command.Abort r)) (and_false (is_waiting σ s.number))
+      ∙ ap (abort σ (seat_of s) r) (ap (option_map transaction_of) open_t)
+      ∙ ap (λ qq. made (with_queue σ qq) (seat_of s) (transaction_of t) Undo (reply.UserAbort r)) (ap (without_request (map queued_of m.queue.items)) (keep.is m n i s k there at_i) ∙ sym (ap (map queued_of) is ∙ keep.queued_filtered n m.queue.items))
+      ∙ moves m n i s k there at_i t open_t qs None Undo None (reply.UserAbort r) (length t.store.levels.saved == 0) refl outermost
+      ∙ by (length t.store.levels.saved == 0) u
+    where
+      by : (b : Bool) → UndoesIf b t s m.ages s' g' → nothing (state_with m (set m.seats.items i (moved_if b s t (store_next None t.store Undo None))) qs) (reply.UserAbort r) ≡ nothing (state_with m (set m.seats.items i s') qs) (reply.UserAbort r)
+      by true v = ap (λ x. nothing (state_with m (set m.seats.items i x) qs) (reply.UserAbort r)) (sym v.0)
+      by false v = ap (λ x. nothing (state_with m (set m.seats.items i x) qs) (reply.UserAbort r)) (sym v.0)
+
+  pub abort_agrees : (s' : code.Seat) (g' : Ages) → Undoes t s m.ages s' g' → (m' : Machine) → m'.world ≡ m.world → m'.seats.items ≡ set m.seats.items i s' → m'.limits ≡ m.limits → m'.begun ≡ m.begun → m'.commits ≡ m.commits
+      → m'.ages ≡ g' → m'.queue.items ≡ filter (λ q. not (q.session == n)) m.queue.items → Agree m'
+  abort_agrees s' g' u m' world seats limits begun commits ages is = by (length t.store.levels.saved == 0) u
+    where
+      dropped : without t.age m.ages.queue ≡ queued_in (map queued_of m'.queue.items)
+      dropped = keep.dropped m n i s k there at_i t open_t ∙ ap (λ qs. queued_in (map queued_of qs)) (sym is)
+
+      by : (b : Bool) → UndoesIf b t s m.ages s' g' → Agree m'
+      by true v = over_agrees (ended s) refl refl (λ x h. cc) (omega arith) m' world (seats ∙ ap (set m.seats.items i) v.0) limits begun commits (ap (λ (g : Ages). g.held) ages ∙ v.1)
+          (ap (λ (g : Ages). g.queue) ages ∙ v.2 ∙ without_twice t.age m.ages.queue ∙ dropped)
+      by false v = level_agrees Undo None None refl refl m' world (seats ∙ ap (set m.seats.items i) v.0) limits begun commits (ap (λ (g : Ages). g.held) (ages ∙ v.1)) (ap (λ (g : Ages). g.queue) (ages ∙ v.1) ∙ dropped)
+
+  pub abort_exit : (r : Term) (s' : code.Seat) (g' : Ages) (m' : Machine) → Undoes t s m.ages s' g' → IsNext m m' (set m.seats.items i s') (filter (λ q. not (q.session == n)) m.queue.items) → m'.ages ≡ g' → Leaves m m' n (DoCommand (command.Abort r)) (reply.UserAbort r)
+  abort_exit r s' g' m' u nx ages =
+      leaves m m' (set m.seats.items i s') (filter (λ q. not (q.session == n)) m.queue.items) n (DoCommand (command.Abort r)) (reply.UserAbort r) k nx (aborts r s' g' (filter (λ q. not (q.session == n)) m.queue.items) u refl)
+      (abort_agrees s' g' u m' nx.world nx.seats nx.limits nx.begun nx.commits ages nx.queue)
+
+  -- ---- a child's commit
+  pub joins : is_waiting σ n ≡ false → (length t.store.levels.saved == 0) ≡ false → outcome σ [] n (DoCommand command.Commit) ≡ nothing (state_with m (set m.seats.items i (moved s t (store_next None t.store Close (Some reply.AtomicOk)))) m.queue.items) reply.AtomicOk
+  joins idle deep =
+      keep.asks m n i s k there at_i command.Commit idle
+      ∙ ap (commit σ [] (seat_of s)) (ap (option_map transaction_of) open_t)
+      ∙ ap (commit_at σ [] (seat_of s) (transaction_of t)) (outermost ∙ deep)
+      ∙ moves m n i s k there at_i t open_t m.queue.items None Close (Some reply.AtomicOk) reply.Done false refl refl
+
+  -- ---- a child's begin
+  pub nests : is_waiting σ n ≡ false → (s' : code.Seat) (r : Reply) → s'.number ≡ s.number → NestsTo m.limits t s'.transaction r → outcome σ [] n (DoCommand command.Begin) ≡ nothing (state_with m (set m.seats.items i s') m.queue.items) r
+  nests idle s' r number new =
+      keep.asks m n i s k there at_i command.Begin idle
+      ∙ ap (begin σ (seat_of s)) (ap (option_map transaction_of) open_t)
+      ∙ ap (λ d. nested σ (seat_of s) (transaction_of t) (nat_lt (suc d) m.limits.nesting) (nat_lt (count_moves t.store.moves) m.limits.operations)) (keep.depth m n i s k there at_i t open_t)
+      ∙ at_transaction s'.transaction refl new
+    where
+      same_seats : s'.transaction ≡ Some t → set m.seats.items i s' ≡ m.seats.items
+      same_seats h = ap (set m.seats.items i) (let e : s' ≡ s = seat_is s' s number (h ∙ sym open_t) in e) ∙ keep.unchanged m n i s k there at_i
+
+      by : (a b : Bool) (new : kept.Transaction) → s'.transaction ≡ Some new → NestsIf t a b new r → nested σ (seat_of s) (transaction_of t) a b ≡ nothing (state_with m (set m.seats.items i s') m.queue.items) r
+      by true true new e v =
+          moves m n i s k there at_i t open_t m.queue.items None Open (Some (reply.Tid t.age)) reply.Done false (tid_told m.world t.age t.store.moves) refl
+          ∙ (λ j. nothing (state_with m (set m.seats.items i (sym (seat_is s' (moved s t (store_next None t.store Open (Some (reply.Tid t.age)))) number (e ∙ ap Some v.0)) j)) m.queue.items) (sym v.1 j))
+      by true false new e v = λ j. nothing (state_with m (sym (same_seats (e ∙ ap Some v.0)) j) m.queue.items) (sym v.1 j)
+      by false b new e v = λ j. nothing (state_with m (sym (same_seats (e ∙ ap Some v.0)) j) m.queue.items) (sym v.1 j)
+
+      at_transaction : (o : Option kept.Transaction) → s'.transaction ≡ o → NestsTo m.limits t o r
+          → nested σ (seat_of s) (transaction_of t) (nat_lt (suc (length t.store.levels.saved)) m.limits.nesting) (nat_lt (count_moves t.store.moves) m.limits.operations) ≡ nothing (state_with m (set m.seats.items i s') m.queue.items) r
+      at_transaction None e v = absurd v
+      at_transaction (Some new) e v = by (nat_lt (suc (length t.store.levels.saved)) m.limits.nesting) (nat_lt (count_moves t.store.moves) m.limits.operations) new e v
+
+  pub seat_stays : (m' : Machine) → m'.seats.items ≡ set m.seats.items i s → m'.world ≡ m.world → m'.limits ≡ m.limits → m'.begun ≡ m.begun → m'.commits ≡ m.commits → m'.ages ≡ m.ages → m'.queue ≡ m.queue → Agree m'
+  seat_stays m' seats world limits begun commits ages queue =
+      keep.seat_agrees m n i s k there at_i s refl m' world seats limits
+      (subst (SameMembers (held_in (map seat_of (set m.seats.items i s)))) (sym (ap (λ (g : Ages). g.held) ages)) (keep.same_locks m n i s k there at_i s refl refl))
+      (ap (λ (g : Ages). g.queue) ages ∙ k.agree.queue ∙ ap (λ (qs : Rattle.std.specs.Global.Vec request.Request). queued_in (map queued_of qs.items)) (sym queue))
+      (λ u h. let same : t ≡ u = one_some (sym open_t ∙ h) in subst (λ (v : kept.Transaction). Fits v.store m.world) same (keep.fit m n i s k there at_i t open_t))
+      (let a = k.agree.ages in omega (arith, a, begun))
+      (let c = keep.counts' m n i s k there at_i s refl in let d = k.agree.counted in omega (arith, c, d, begun, commits))
+    where
+      one_some : {u : kept.Transaction} → Some t ≡ Some u → t ≡ u
+      one_some h = cc
+
+  pub nest_agrees : (s' : code.Seat) (r : Reply) → s'.number ≡ s.number → NestsTo m.limits t s'.transaction r → (m' : Machine) → m'.world ≡ m.world → m'.seats.items ≡ set m.seats.items i s' → m'.limits ≡ m.limits → m'.begun ≡ m.begun → m'.commits ≡ m.commits
+      → m'.ages ≡ m.ages → m'.queue ≡ m.queue → Agree m'
+  nest_agrees s' r number new m' world seats limits begun commits ages queue = at_transaction s'.transaction refl new
+    where
+      queue_is : m'.ages.queue ≡ queued_in (map queued_of m'.queue.items)
+      queue_is = ap (λ (g : Ages). g.queue) ages ∙ k.agree.queue ∙ ap (λ (qs : Rattle.std.specs.Global.Vec request.Request). queued_in (map queued_of qs.items)) (sym queue)
+
+      locks : (lent : Option Table) → held_by (Some (transaction_of (with_store t (store_next lent t.store Open (Some (reply.Tid t.age)))))) ≡ held_by (Some (transaction_of t))
+      locks lent = ap (plain.with_age t.age) (locks-more t.store.moves Open ∙ Rattle.std.proofs.Common.append-nil (locks_of t.store.moves))
+
+      as_before : s' ≡ s → Agree m'
+      as_before e = seat_stays m' (seats ∙ ap (set m.seats.items i) e) world limits begun commits ages queue
+
+      by : (a b : Bool) (new : kept.Transaction) → s'.transaction ≡ Some new → NestsIf t a b new r → Agree m'
+      by true true new e v = level_agrees Open None (Some (reply.Tid t.age)) refl refl m' world
+          (seats ∙ ap (set m.seats.items i) (seat_is s' (moved s t (store_next None t.store Open (Some (reply.Tid t.age)))) number (e ∙ ap Some v.0))) limits begun commits (ap (λ (g : Ages). g.held) ages) queue_is
+      by true false new e v = as_before (seat_is s' s number (e ∙ ap Some v.0 ∙ sym open_t))
+      by false b new e v = as_before (seat_is s' s number (e ∙ ap Some v.0 ∙ sym open_t))
+
+      at_transaction : (o : Option kept.Transaction) → s'.transaction ≡ o → NestsTo m.limits t o r → Agree m'
+      at_transaction None e v = absurd v
+      at_transaction (Some new) e v = by (nat_lt (suc (length t.store.levels.saved)) m.limits.nesting) (nat_lt (count_moves t.store.moves) m.limits.operations) new e v
+
+  pub join_exit : (s' : code.Seat) (m' : Machine) → is_waiting σ n ≡ false → (length t.store.levels.saved == 0) ≡ false → s' ≡ joined s → IsNext m m' (set m.seats.items i s') m.queue.items → m'.ages ≡ m.ages → Leaves m m' n (DoCommand command.Commit) reply.AtomicOk
+  join_exit s' m' idle deep is nx ages =
+      let e : s' ≡ moved s t (store_next None t.store Close (Some reply.AtomicOk)) = is ∙ ap (λ o. let z : code.Seat = record { number = s.number; transaction = option_map (λ v. with_store v (store_next None v.store Close (Some reply.AtomicOk))) o } in z) open_t in
+      leaves m m' (set m.seats.items i s') m.queue.items n (DoCommand command.Commit) reply.AtomicOk k nx
+      (joins idle deep ∙ ap (λ z. nothing (state_with m (set m.seats.items i z) m.queue.items) reply.AtomicOk) (sym e))
+      (level_agrees Close None (Some reply.AtomicOk) refl refl m' nx.world (nx.seats ∙ ap (set m.seats.items i) e) nx.limits nx.begun nx.commits (ap (λ (g : Ages). g.held) ages)
+      (ap (λ (g : Ages). g.queue) ages ∙ k.agree.queue ∙ ap (λ qs. queued_in (map queued_of qs)) (sym nx.queue)))
+
+  pub nest_exit : (s' : code.Seat) (r : Reply) (m' : Machine) → is_waiting σ n ≡ false → s'.number ≡ s.number → NestsTo m.limits t s'.transaction r → IsNext m m' (set m.seats.items i s') m.queue.items → m'.ages ≡ m.ages → m'.queue ≡ m.queue → Leaves m m' n (DoCommand command.Begin) r
+  nest_exit s' r m' idle number new nx ages queue =
+      leaves m m' (set m.seats.items i s') m.queue.items n (DoCommand command.Begin) r k nx (nests idle s' r number new)
+      (nest_agrees s' r number new m' nx.world nx.seats nx.limits nx.begun nx.commits ages queue)
+
+  pub nest_refused : (s' : code.Seat) (m' : Machine) → s'.number ≡ s.number → s'.transaction ≡ s.transaction → IsNext m m' (set m.seats.items i s') m.queue.items → m'.ages ≡ m.ages → m'.queue ≡ m.queue → (state_of m' ≡ state_of m) × IsKept m'
+  nest_refused s' m' number transaction nx ages queue =
+      let is_s : s' ≡ s = seat_is s' s number transaction in
+      let before : state_of m' ≡ state_of m = sym (state_next m m' (set m.seats.items i s') m.queue.items nx) ∙ ap (λ ss. state_with m ss m.queue.items) (ap (set m.seats.items i) is_s ∙ keep.unchanged m n i s k there at_i) in
+      (before, kept_same m m' k (seat_stays m' (nx.seats ∙ ap (set m.seats.items i) is_s) nx.world nx.limits nx.begun nx.commits ages queue) before)
+
+-- ---- level 1 begins
+
+module _ (m : Machine) (n i : ℕ) (s : code.Seat) (k : IsKept m) (there : StandsAt m.seats.items n i) (at_i : s ≡ get_or m.seats.items i s) (closed : s.transaction ≡ None) (idle : is_waiting (state_of m) n ≡ false) where
+  begins_if : (b : Bool) → nat_le (m.begun + 1) m.limits.ages ≡ b → outcome (state_of m) [] n (DoCommand command.Begin) ≡ opened (state_of m) (seat_of s) b
+  begins_if b h = keep.asks m n i s k there at_i command.Begin idle ∙ ap (begin (state_of m) (seat_of s)) (ap (option_map transaction_of) closed) ∙ ap (opened (state_of m) (seat_of s)) h
+
+  pub no_more_ages : nat_le (m.begun + 1) m.limits.ages ≡ false → outcome (state_of m) [] n (DoCommand command.Begin) ≡ nothing (state_of m) (reply.SystemLimit limit.Ages)
+  no_more_ages h = begins_if false h
+
+  pub commits_nothing : outcome (state_of m) [] n (DoCommand command.Commit) ≡ nothing (state_of m) reply.NoTransaction
+  commits_nothing = keep.asks m n i s k there at_i command.Commit idle ∙ ap (commit (state_of m) [] (seat_of s)) (ap (option_map transaction_of) closed)
+
+  -- the machine with the new transaction in the seat
+  abbrev pub begun_at : code.Seat
+  begun_at = record { number = s.number; transaction = Some (record { age = m.begun + 1; store = no_store }) }
+
+  pub begin_exit : (m' : Machine) → nat_le (m.begun + 1) m.limits.ages ≡ true → m'.world ≡ m.world → m'.seats.items ≡ set m.seats.items i begun_at → m'.queue ≡ m.queue → m'.limits ≡ m.limits → m'.begun ≡ m.begun + 1 → m'.commits ≡ m.commits → m'.greatest ≡ m.greatest → m'.ages ≡ m.ages
+      → Leaves m m' n (DoCommand command.Begin) (reply.Tid (m.begun + 1))
+  begin_exit m' room world seats queue limits begun commits greatest ages =
+      let e = begins_if true room ∙ (λ j. let τ : State = record { tables = sym world j; seats = changed j; queue = map queued_of (queue_items j); next_age = sym begun j + 1; commits = sym commits j; greatest = sym greatest j; limits = sym limits j } in nothing τ (reply.Tid (m.begun + 1))) in
+      (e, kept_step m m' n (DoCommand command.Begin) (reply.Tid (m.begun + 1)) None k agrees e)
+    where
+      queue_items : m.queue.items ≡ m'.queue.items
+      queue_items = ap (λ (qs : Rattle.std.specs.Global.Vec request.Request). qs.items) (sym queue)
+
+      changed : change (map seat_of m.seats.items) (seat_of begun_at) ≡ map seat_of m'.seats.items
+      changed = sym (keep.seats' m n i s k there at_i begun_at refl) ∙ ap (map seat_of) (sym seats)
+
+      none_held : held_by (seat_of begun_at).transaction ≡ held_by (seat_of s).transaction
+      none_held = ap (λ o. held_by (option_map transaction_of o)) (sym closed)
+
+      new_fits : (u : kept.Transaction) → begun_at.transaction ≡ Some u → Fits u.store m.world
+      new_fits u h = let same : (let z : kept.Transaction = record { age = m.begun + 1; store = no_store } in z) ≡ u = cc in subst (λ (v : kept.Transaction). Fits v.store m.world) same (fits_new m.world)
+
+      within : m.begun + 1 ≤ m.limits.ages
+      within = le_true (m.begun + 1) m.limits.ages room
+
+      agrees : Agree m'
+      agrees = keep.seat_agrees m n i s k there at_i begun_at refl m' world seats limits
+          (subst (SameMembers (held_in (map seat_of (set m.seats.items i begun_at)))) (sym (ap (λ (g : Ages). g.held) ages)) (keep.same_locks m n i s k there at_i begun_at refl none_held))
+          (ap (λ (g : Ages). g.queue) ages ∙ k.agree.queue ∙ ap (λ (qs : Rattle.std.specs.Global.Vec request.Request). queued_in (map queued_of qs.items)) (sym queue))
+          new_fits
+          (omega (arith, within, begun))
+          (let c = keep.counts' m n i s k there at_i begun_at refl in let d = k.agree.counted in let f : opens s.transaction ≡ 0 = ap opens closed in omega (arith, c, d, f, begun, commits))
+
+-- ---- a session leaves, with its transaction, if there is one
+
+open_left : (t : Option kept.Transaction) → (t ≡ None) ⊎ ((x : kept.Transaction) × (t ≡ Some x))
+open_left None = inl refl
+open_left (Some x) = inr (x, refl)
+
+pub leave_exit : (m : Machine) (n i : ℕ) (s : code.Seat) → IsKept m → StandsAt m.seats.items n i → s ≡ get_or m.seats.items i s → (m' : Machine) → m'.world ≡ m.world → m'.limits ≡ m.limits → m'.begun ≡ m.begun → m'.commits ≡ m.commits → m'.greatest ≡ m.greatest
+    → m'.seats.items ≡ remove (set m.seats.items i (ended s)) i → m'.queue.items ≡ filter (λ q. not (q.session == n)) m.queue.items → m'.ages ≡ forgotten_if m.ages s.transaction
+    → Leaves m m' n Leave reply.Done
+leave_exit m n i s k there at_i m' world limits begun commits greatest seats queue ages =
+    let e = keep.sits (state_of m) n (seat_of s) Leave (keep.here m n i s k there at_i)
+    ∙ (λ j. let τ : State = record { tables = sym world j; seats = seats_are j; queue = queue_is j; next_age = sym begun j + 1; commits = sym commits j; greatest = sym greatest j; limits = sym limits j } in nothing τ reply.Done) in
+    (e, kept_step m m' n Leave reply.Done None k agrees e)
+  where
+    is : s.number ≡ n
+    is = keep.is m n i s k there at_i
+
+    gone : remove (set m.seats.items i (ended s)) i ≡ filter (λ x. not (x.number == n)) m.seats.items
+    gone = removed n m.seats.items i s (ended s) k.sound.distinct there.within at_i is
+
+    seats_here : m'.seats.items ≡ filter (λ x. not (x.number == n)) m.seats.items
+    seats_here = seats ∙ gone
+
+    seats_are : without_seat (map seat_of m.seats.items) s.number ≡ map seat_of m'.seats.items
+    seats_are = ap (without_seat (map seat_of m.seats.items)) is ∙ sym (without_filtered n m.seats.items) ∙ ap (map seat_of) (sym seats_here)
+
+    queue_is : without_request (map queued_of m.queue.items) s.number ≡ map queued_of m'.queue.items
+    queue_is = ap (without_request (map queued_of m.queue.items)) is ∙ sym (keep.queued_filtered n m.queue.items) ∙ ap (map queued_of) (sym queue)
+
+    -- no transaction: no locks, and no request
+    closed_held : s.transaction ≡ None → SameMembers (held_in (map seat_of m'.seats.items)) m'.ages.held
+    closed_held none p =
+        ap (λ (g : Ages). list_any p g.held) (ages ∙ ap (forgotten_if m.ages) none) ∙ k.agree.held p
+        ∙ split p (map seat_of m.seats.items) n (seat_of s) k.sound.distinct (keep.here m n i s k there at_i) is
+        ∙ ap (λ o. list_any p (held_by (option_map transaction_of o)) || list_any p (held_in (without_seat (map seat_of m.seats.items) n))) none
+        ∙ ap (λ ss. list_any p (held_in ss)) (sym (without_filtered n m.seats.items) ∙ ap (map seat_of) (sym seats_here))
+
+    closed_queue : s.transaction ≡ None → m'.ages.queue ≡ queued_in (map queued_of m'.queue.items)
+    closed_queue none =
+        ap (λ (g : Ages). g.queue) (ages ∙ ap (forgotten_if m.ages) none) ∙ k.agree.queue
+        ∙ ap queued_in (sym (none_waits (plain.transaction_at (state_of m)) n (map queued_of m.queue.items) (ap plain.transaction_in (keep.here m n i s k there at_i) ∙ ap (option_map transaction_of) none) k.owners) ∙ sym (keep.queued_filtered n m.queue.items) ∙ ap (map queued_of) (sym queue))
+
+    open_held : (t : kept.Transaction) → s.transaction ≡ Some t → SameMembers (held_in (map seat_of m'.seats.items)) m'.ages.held
+    open_held t open_t p =
+        ap (λ (g : Ages). list_any p g.held) (ages ∙ ap (forgotten_if m.ages) open_t)
+        ∙ same_without t.age (held_in (map seat_of m.seats.items)) m.ages.held k.agree.held p
+        ∙ sym (held_gone (state_of m) n (seat_of s) (transaction_of t) k.sound (keep.here m n i s k there at_i) is (ap (option_map transaction_of) open_t) p)
+        ∙ ap (λ ss. list_any p (held_in ss)) (sym (without_filtered n m.seats.items) ∙ ap (map seat_of) (sym seats_here))
+
+    open_queue : (t : kept.Transaction) → s.transaction ≡ Some t → m'.ages.queue ≡ queued_in (map queued_of m'.queue.items)
+    open_queue t open_t = ap (λ (g : Ages). g.queue) (ages ∙ ap (forgotten_if m.ages) open_t) ∙ keep.dropped m n i s k there at_i t open_t ∙ ap (λ qs. queued_in (map queued_of qs)) (sym queue)
+
+    with : SameMembers (held_in (map seat_of m'.seats.items)) m'.ages.held → m'.ages.queue ≡ queued_in (map queued_of m'.queue.items) → Agree m'
+    with held requests = record {
+      held = held;
+      queue = requests;
+      fits = λ q t h. subst (Fits t.store) (sym world) (k.agree.fits q t (still q t (ap (λ ss. transaction_in (at ss q)) (sym seats_here) ∙ h)));
+      ages = subst (λ (l : Rattle.tab_model.specs.declared.data.Limits.Limits). m'.begun ≤ l.ages) (sym limits) (let a = k.agree.ages in omega (arith, a, begun));
+      counted = subst (λ ss. m'.commits + count_open ss ≤ m'.begun) (sym seats_here) (let d = k.agree.counted in let f = counts_fewer n m.seats.items in omega (arith, d, f, begun, commits));
+      word = subst (λ (l : Rattle.tab_model.specs.declared.data.Limits.Limits). l.ages < 18446744073709551616) (sym limits) k.agree.word;
+      sessions = subst (λ (l : Rattle.tab_model.specs.declared.data.Limits.Limits). l.sessions ≤ 64) (sym limits) k.agree.sessions;
+    }
+      where
+        still : (q : ℕ) (t : kept.Transaction) → transaction_in (at (filter (λ x. not (x.number == n)) m.seats.items) q) ≡ Some t → transaction_in (at m.seats.items q) ≡ Some t
+        still q t h = by (q == n) (sym (ap transaction_in (at_filtered n q m.seats.items)) ∙ h)
+          where
+            by : (b : Bool) → transaction_in (if b then None else at m.seats.items q) ≡ Some t → transaction_in (at m.seats.items q) ≡ Some t
+            by true g = cc
+            by false g = g
+
+    agrees : Agree m'
+    agrees = by (open_left s.transaction)
+      where
+        by : ((s.transaction ≡ None) ⊎ ((x : kept.Transaction) × (s.transaction ≡ Some x))) → Agree m'
+        by (inl none) = with (closed_held none) (closed_queue none)
+        by (inr x) = with (open_held x.0 x.1) (open_queue x.0 x.1)

@@ -1,0 +1,11 @@
+pub mod Answering
+pub mod HeldLocks
+pub mod Keeping
+pub mod Moving
+pub mod Committing
+pub mod LevelEnds
+pub mod Numbers
+pub mod OperatingLemmas
+pub mod Places
+pub mod OneShots
+pub mod OutermostLemmas

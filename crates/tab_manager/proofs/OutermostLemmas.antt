@@ -1,0 +1,127 @@
+-- Which transaction a commit ends.
+use Rattle.std.proofs.Common.{◌≡◌, ℕ, List, Bool, true, false, refl, sym, ap, ◌∙◌, subst, length, Option, Some, None, get_or}
+use Rattle.std.specs.Prelude.{◌==◌, if◌then◌else◌, is_some, IsSome, MatchOption, option_map}
+use Rattle.tab_model.specs.declared.data.Change.{Change}
+use Rattle.tab_model.specs.Events.{change_all, surviving}
+use Rattle.tab_model.specs.State as plain
+use Rattle.tab_model.specs.State.{State, Transaction, transaction_at, is_waiting, mid_of}
+use Rattle.tab_model.specs.Outcome.{is_empty}
+use Rattle.tab_txstore.proofs.FitsLemmas.{updates_survive}
+use Rattle.tab_model.specs.Worlds.{World}
+use Rattle.tab_manager.specs.declared.seat.Transaction as kept
+use Rattle.tab_manager.specs.declared.seat.Seat as code
+use Rattle.tab_manager.specs.declared.machine.Machine.{Machine}
+use Rattle.tab_manager.specs.Seats.{no_seat, transaction_of, seat_of, state_of, at, StandsAt}
+use Rattle.tab_manager.specs.Kept.{IsKept}
+use Rattle.tab_manager.specs.Outermost.{outermost, outermost_of, ending_of}
+use Rattle.tab_manager.proofs.Places.{at_of}
+use Rattle.tab_manager.proofs.Keeping as keep
+use Rattle.tab_manager.proofs.Keeping.{the_seat}
+use Rattle.tab_manager.proofs.LevelEnds as ending
+
+none_if : (σ : State) (b : Bool) (o : Option Transaction) → outermost_of σ o ≡ None → (if b then None else outermost_of σ o) ≡ None
+none_if σ true o h = refl
+none_if σ false o h = h
+
+pub none_ends : (σ : State) (n : ℕ) → outermost σ n ≡ None → option_map ending_of (outermost σ n) ≡ None
+none_ends σ n h = ap (option_map ending_of) h
+
+pub waits_none : (σ : State) (n : ℕ) → is_waiting σ n ≡ true → outermost σ n ≡ None
+waits_none σ n h = ap (λ b. if b then None else outermost_of σ (transaction_at σ n)) h
+
+pub closed_none : (σ : State) (n : ℕ) → transaction_at σ n ≡ None → outermost σ n ≡ None
+closed_none σ n h = none_if σ (is_waiting σ n) (transaction_at σ n) (ap (outermost_of σ) h)
+
+pub stranger_none : (m : Machine) (n : ℕ) → at m.seats.items n ≡ None → outermost (state_of m) n ≡ None
+stranger_none m n h = closed_none (state_of m) n (ap plain.transaction_in (at_of m.seats.items n ∙ ap (option_map seat_of) h))
+
+pub not_none : (σ : State) (n : ℕ) (t : Transaction) → outermost σ n ≡ None → outermost σ n ≡ Some t → ⊥
+not_none σ n t h g = none_some (sym h ∙ g)
+  where
+    none_some : None ≡ Some t → ⊥
+    none_some q = cc
+
+pub is_open : (o : Option kept.Transaction) (t : kept.Transaction) → o ≡ Some t → IsSome o
+is_open o t h = ap is_some h
+
+-- what a transaction says that is one
+found : (σ : State) (b : Bool) (o : Option Transaction) (t : Transaction) → (if b then None else outermost_of σ o) ≡ Some t → (b ≡ false) × (o ≡ Some t) × (is_empty (mid_of σ t).saved ≡ true)
+found σ true o t h = cc
+found σ false None t h = cc
+found σ false (Some u) t h = by (is_empty (mid_of σ u).saved) refl h
+  where
+    by : (b : Bool) → is_empty (mid_of σ u).saved ≡ b → (if b then Some u else None) ≡ Some t → (false ≡ false) × (Some u ≡ Some t) × (is_empty (mid_of σ t).saved ≡ true)
+    by true e g = (refl, g, subst (λ (x : Transaction). is_empty (mid_of σ x).saved ≡ true) (one g) e)
+      where
+        one : Some u ≡ Some t → u ≡ t
+        one q = cc
+    by false e g = cc
+
+-- a session's open transaction, where it ends with a commit
+pub record IsEnding (m : Machine) (n i : ℕ) (t : Transaction) : Type 0 where
+  pub held : kept.Transaction
+  pub opened : (the_seat m n i).transaction ≡ Some held
+  pub is : transaction_of held ≡ t
+  pub idle : is_waiting (state_of m) n ≡ false
+  pub deep : (length held.store.levels.saved == 0) ≡ true
+
+module _ (m : Machine) (n i : ℕ) (k : IsKept m) (there : StandsAt m.seats.items n i) where
+  abbrev σ : State
+  σ = state_of m
+
+  abbrev s : code.Seat
+  s = the_seat m n i
+
+  transactions : transaction_at σ n ≡ option_map transaction_of s.transaction
+  transactions = ap plain.transaction_in (keep.here m n i s k there (keep.at_place m n i there))
+
+  pub no_transaction_none : s.transaction ≡ None → outermost σ n ≡ None
+  no_transaction_none h = closed_none σ n (transactions ∙ ap (option_map transaction_of) h)
+
+  module _ (t : kept.Transaction) (open_t : s.transaction ≡ Some t) where
+    saved : (b : Bool) → (length t.store.levels.saved == 0) ≡ b → is_empty (mid_of σ (transaction_of t)).saved ≡ b
+    saved b h = ending.outermost m n i s k there (keep.at_place m n i there) t open_t ∙ h
+
+    pub child_none : (length t.store.levels.saved == 0) ≡ false → outermost σ n ≡ None
+    child_none h = none_if σ (is_waiting σ n) (transaction_at σ n) (ap (outermost_of σ) (keep.mine m n i s k there (keep.at_place m n i there) t open_t) ∙ ap (λ b. if b then Some (transaction_of t) else None) (saved false h))
+
+    pub ends : (updates : List Change) → updates ≡ t.store.levels.now.updates → is_waiting σ n ≡ false → (length t.store.levels.saved == 0) ≡ true → Some (t.age, updates) ≡ option_map ending_of (outermost σ n)
+    ends updates is idle h =
+        ap (λ us. Some (t.age, us)) (is ∙ updates_survive t.store m.world (keep.fit m n i s k there (keep.at_place m n i there) t open_t))
+        ∙ sym (ap (option_map ending_of) ((λ j. if idle j then None else outermost_of σ (keep.mine m n i s k there (keep.at_place m n i there) t open_t j)) ∙ ap (λ b. if b then Some (transaction_of t) else None) (saved true h)))
+
+  pub is_ending : (t : Transaction) → outermost σ n ≡ Some t → IsEnding m n i t
+  is_ending t h = by s.transaction refl
+    where
+      at_n : (is_waiting σ n ≡ false) × (transaction_at σ n ≡ Some t) × (is_empty (mid_of σ t).saved ≡ true)
+      at_n = found σ (is_waiting σ n) (transaction_at σ n) t h
+
+      by : (o : Option kept.Transaction) → s.transaction ≡ o → IsEnding m n i t
+      by None e = absurd (some_none (sym at_n.1 ∙ transactions ∙ ap (option_map transaction_of) e))
+        where
+          some_none : Some t ≡ None → ⊥
+          some_none q = cc
+      by (Some u) e = record {
+        held = u;
+        opened = e;
+        is = same;
+        idle = at_n.0;
+        deep = sym (ending.outermost m n i s k there (keep.at_place m n i there) u e) ∙ ap (λ (x : Transaction). is_empty (mid_of σ x).saved) same ∙ at_n.2;
+      }
+        where
+          one : Some (transaction_of u) ≡ Some t → transaction_of u ≡ t
+          one q = cc
+
+          same : transaction_of u ≡ t
+          same = one (sym (transactions ∙ ap (option_map transaction_of) e) ∙ at_n.1)
+
+  -- its changes are those of its store
+  pub updates_are : (t : Transaction) (e : IsEnding m n i t) → change_all m.world (surviving t.moves t.told) ≡ change_all m.world e.held.store.levels.now.updates
+  updates_are t e =
+      ap (λ (x : Transaction). change_all m.world (surviving x.moves x.told)) (sym e.is)
+      ∙ ap (change_all m.world) (sym (updates_survive e.held.store m.world (keep.fit m n i s k there (keep.at_place m n i there) e.held e.opened)))
+
+-- who has a place has joined
+pub joined_is : (m : Machine) (n : ℕ) (o : Option ℕ) → MatchOption o (at m.seats.items n ≡ None) (StandsAt m.seats.items n) → is_some o ≡ is_some (plain.seat_at (state_of m).seats n)
+joined_is m n None h = sym (ap is_some (at_of m.seats.items n ∙ ap (option_map seat_of) h))
+joined_is m n (Some i) h = sym (ap is_some (at_of m.seats.items n ∙ ap (option_map seat_of) (h.seat (no_seat n))))

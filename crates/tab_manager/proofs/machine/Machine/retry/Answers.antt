@@ -1,0 +1,143 @@
+use Rattle.std.proofs.Common.{◌≡◌, true, false, refl, sym, ap, ◌∙◌, subst, get_or, set, not, rules}
+use Rattle.std.specs.Prelude.{◌==◌, IfSome, IsSome, map}
+use Rattle.std.proofs.lemmas.Fn.{filter_same}
+use Rattle.arrayvec.specs.ArrayVec.{with_items}
+use Rattle.tab_model.specs.Ages as plain
+use Rattle.tab_model.specs.Outcome.{nothing}
+use Rattle.tab_model.specs.State.{request_in}
+use Rattle.tab_locks.specs.Placed.{placed}
+use Rattle.tab_manager.specs.declared.seat.Seat as code
+use Rattle.tab_manager.specs.declared.queue.Request as request
+use Rattle.tab_manager.specs.Seats.{state_of, queued_of}
+use Rattle.tab_manager.specs.Works as works
+use Rattle.tab_manager.proofs.Places.{refilled}
+use Rattle.tab_manager.proofs.Keeping as keep
+use Rattle.tab_manager.proofs.Keeping.{the_seat, parts}
+use Rattle.tab_manager.proofs.OperatingLemmas as operating
+use Rattle.tab_manager.proofs.machine.Machine.retry.Goals as goal
+
+pub returns-in_default-clause-ok : goal.returns-in_default-clause-ok
+returns-in_default-clause-ok c =
+    let m = c.args.self.now in
+    let n = c.args.session in
+    let i = c.args.place in
+    operating.nothing_queued m n i (the_seat m n i) c.requires.kept c.requires.there (keep.at_place m n i c.requires.there) (ap (λ qs. request_in (map queued_of qs) n) (sym c.deref.ensures.value) ∙ c.in_default.ensures)
+    ∙ ap (nothing (state_of m)) (sym c.new.ensures)
+
+pub may_go-requires : goal.may_go-requires
+may_go-requires c =
+    let m = c.args.self.now in
+    let n = c.args.session in
+    let i = c.args.place in
+    let there = c.requires.there in
+    let s = the_seat m n i in
+    let at_i = keep.at_place m n i there in
+    let q = c.in-Some.request.now in
+    let rq = ap (λ qs. request_in (map queued_of qs) n) (sym c.deref.ensures.value) ∙ c.in-Some.ensures in
+    let r = operating.requested m n i s c.requires.kept there at_i q rq in
+    subst IsSome (sym r.request) refl
+
+pub returns-then-not-may_go-clause-ok : goal.returns-then-not-may_go-clause-ok
+returns-then-not-may_go-clause-ok c =
+    let m = c.args.self.now in
+    let n = c.args.session in
+    let i = c.args.place in
+    let there = c.requires.there in
+    let s = the_seat m n i in
+    let at_i = keep.at_place m n i there in
+    let q = c.in-Some.request.now in
+    let rq = ap (λ qs. request_in (map queued_of qs) n) (sym c.deref.ensures.value) ∙ c.in-Some.ensures in
+    let r = operating.requested m n i s c.requires.kept there at_i q rq in
+    operating.waits_on m n i s c.requires.kept there at_i q rq (sym (subst (λ x. IfSome x (λ z. false ≡ plain.can_retry m.ages z)) r.request c.if-not-may_go.ensures))
+    ∙ ap (nothing (state_of m)) (sym c.new-then-not-may_go.ensures)
+
+pub grant-requires-clause-queued : goal.grant-requires-clause-queued
+grant-requires-clause-queued c =
+    let m = c.args.self.now in
+    let n = c.args.session in
+    let i = c.args.place in
+    let there = c.requires.there in
+    let s = the_seat m n i in
+    let at_i = keep.at_place m n i there in
+    let q = c.in-Some.request.now in
+    let rq = ap (λ qs. request_in (map queued_of qs) n) (sym c.deref.ensures.value) ∙ c.in-Some.ensures in
+    let r = operating.requested m n i s c.requires.kept there at_i q rq in
+    subst IsSome (sym r.request) refl
+
+pub work-requires : goal.work-requires
+work-requires c =
+    let m = c.args.self.now in
+    let n = c.args.session in
+    let i = c.args.place in
+    let there = c.requires.there in
+    let s = the_seat m n i in
+    let at_i = keep.at_place m n i there in
+    let q = c.in-Some.request.now in
+    let rq = ap (λ qs. request_in (map queued_of qs) n) (sym c.deref.ensures.value) ∙ c.in-Some.ensures in
+    let r = operating.requested m n i s c.requires.kept there at_i q rq in
+    let s2 = get_or c.deref_mut.result.now i c.index-deref_mut-place.result in
+    let same = keep.read m n i there c.deref_mut.result.now c.index-deref_mut-place.result c.deref_mut.ensures.value in
+    subst IsSome (sym (ap (λ (x : code.Seat). x.transaction) same ∙ r.open_t)) refl
+
+pub returns-in_err-worked-clause-err : goal.returns-in_err-worked-clause-err
+returns-in_err-worked-clause-err c =
+    let m = c.args.self.now in
+    let n = c.args.session in
+    let i = c.args.place in
+    let there = c.requires.there in
+    let s = the_seat m n i in
+    let at_i = keep.at_place m n i there in
+    let q = c.in-Some.request.now in
+    let rq = ap (λ qs. request_in (map queued_of qs) n) (sym c.deref.ensures.value) ∙ c.in-Some.ensures in
+    let r = operating.requested m n i s c.requires.kept there at_i q rq in
+    let s2 = get_or c.deref_mut.result.now i c.index-deref_mut-place.result in
+    let same = keep.read m n i there c.deref_mut.result.now c.index-deref_mut-place.result c.deref_mut.ensures.value in
+    let granted = subst (λ x. IfSome x (λ z. (let g : plain.Ages = record { held = placed z m.ages.held; queue = m.ages.queue } in c.grant.new.self ≡ g))) r.request c.in_ok-grant.ensures.ok in
+    let u = operating.undone r.transaction s2 c.work.new.seat c.grant.new.self c.work.new.ages (ap (λ (x : code.Seat). x.transaction) same ∙ r.open_t) c.in_err-worked.ensures.undone in
+    let all = operating.refused_exit m n i s c.requires.kept there at_i r.transaction r.open_t s2 c.work.new.seat (parts m (with_items m.seats (set c.deref_mut.result.now i c.work.new.seat)) c.work.new.ages m.queue) same c.in_err-worked.ensures.number u.0
+    (record { world = refl; seats = refilled m.seats.items _ i c.work.new.seat c.deref_mut.ensures.value; queue = refl; limits = refl; begun = refl; commits = refl; greatest = refl })
+    (u.1 ∙ operating.given_back m.ages c.grant.new.self r.transaction.age _ (ap (λ a. Rattle.tab_locks.specs.Placed.without_last a c.grant.new.self.held) r.age ∙ c.in_ok-grant.ensures.undo) granted) in
+    keep.always c.from_residual-in_err-worked.result all.0
+
+pub returns-in_err-worked-clause-kept : goal.returns-in_err-worked-clause-kept
+returns-in_err-worked-clause-kept c =
+    let m = c.args.self.now in
+    let n = c.args.session in
+    let i = c.args.place in
+    let there = c.requires.there in
+    let s = the_seat m n i in
+    let at_i = keep.at_place m n i there in
+    let q = c.in-Some.request.now in
+    let rq = ap (λ qs. request_in (map queued_of qs) n) (sym c.deref.ensures.value) ∙ c.in-Some.ensures in
+    let r = operating.requested m n i s c.requires.kept there at_i q rq in
+    let s2 = get_or c.deref_mut.result.now i c.index-deref_mut-place.result in
+    let same = keep.read m n i there c.deref_mut.result.now c.index-deref_mut-place.result c.deref_mut.ensures.value in
+    let granted = subst (λ x. IfSome x (λ z. (let g : plain.Ages = record { held = placed z m.ages.held; queue = m.ages.queue } in c.grant.new.self ≡ g))) r.request c.in_ok-grant.ensures.ok in
+    let u = operating.undone r.transaction s2 c.work.new.seat c.grant.new.self c.work.new.ages (ap (λ (x : code.Seat). x.transaction) same ∙ r.open_t) c.in_err-worked.ensures.undone in
+    let all = operating.refused_exit m n i s c.requires.kept there at_i r.transaction r.open_t s2 c.work.new.seat (parts m (with_items m.seats (set c.deref_mut.result.now i c.work.new.seat)) c.work.new.ages m.queue) same c.in_err-worked.ensures.number u.0
+    (record { world = refl; seats = refilled m.seats.items _ i c.work.new.seat c.deref_mut.ensures.value; queue = refl; limits = refl; begun = refl; commits = refl; greatest = refl })
+    (u.1 ∙ operating.given_back m.ages c.grant.new.self r.transaction.age _ (ap (λ a. Rattle.tab_locks.specs.Placed.without_last a c.grant.new.self.held) r.age ∙ c.in_ok-grant.ensures.undo) granted) in
+    all.1
+
+pub returns : goal.returns
+returns c =
+    let m = c.args.self.now in
+    let n = c.args.session in
+    let i = c.args.place in
+    let there = c.requires.there in
+    let s = the_seat m n i in
+    let at_i = keep.at_place m n i there in
+    let q = c.in-Some.request.now in
+    let rq = ap (λ qs. request_in (map queued_of qs) n) (sym c.deref.ensures.value) ∙ c.in-Some.ensures in
+    let r = operating.requested m n i s c.requires.kept there at_i q rq in
+    let s2 = get_or c.deref_mut.result.now i c.index-deref_mut-place.result in
+    let same = keep.read m n i there c.deref_mut.result.now c.index-deref_mut-place.result c.deref_mut.ensures.value in
+    let granted = subst (λ x. IfSome x (λ z. (let g : plain.Ages = record { held = placed z m.ages.held; queue = m.ages.queue } in c.grant.new.self ≡ g))) r.request c.in_ok-grant.ensures.ok in
+    let before = c.in_ok-worked.ensures.held ∙ granted in
+    let all = operating.retry_exit m n i s c.requires.kept there at_i q rq c.in_ok-worked.worked s2 c.work.new.seat c.end_if.new.seat c.drop_wait.new.self c.end_if.new.ages
+    (parts m (with_items m.seats (set c.deref_mut.result.now i c.end_if.new.seat)) c.end_if.new.ages c.retain.new.self)
+    (record { same = same; number = c.in_ok-worked.ensures.number; works = subst (λ o. IfSome s2.transaction (λ u. works.WorksTo m.world u o c.in_ok-worked.worked c.work.new.seat.transaction)) c.in_ok-try_clone.ensures c.in_ok-worked.ensures.ok; end = c.end_if.ensures.seat })
+    (sym (subst (λ x. IfSome x (λ z. true ≡ plain.can_retry m.ages z)) r.request c.if-not-may_go.ensures))
+    (c.drop_wait.ensures ∙ (λ j. let g : plain.Ages = record { held = plain.Ages.held (before j); queue = plain.without q.age (plain.Ages.queue (before j)) } in g)) c.end_if.ensures.ages
+    (record { world = refl; seats = refilled m.seats.items _ i c.end_if.new.seat c.deref_mut.ensures.value; queue = filter_same _ (λ (x : request.Request). not (x.session == n)) _ (λ x b f t. search rules) _ _ c.retain.ensures.filtered; limits = refl; begun = refl; commits = refl; greatest = refl }) refl in
+    record { ok = all.0 ∙ ap (nothing (state_of (parts m (with_items m.seats (set c.deref_mut.result.now i c.end_if.new.seat)) c.end_if.new.ages c.retain.new.self))) (sym c.into_reply.ensures); free = λ h. refl; err = tt; kept = all.1 }

@@ -1,0 +1,6 @@
+pub mod Seats
+pub mod Works
+pub mod Kept
+pub mod Quiet
+pub mod Steps
+pub mod Outermost

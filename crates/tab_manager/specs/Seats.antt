@@ -1,0 +1,52 @@
+-- The parts that a manager keeps, as the state that definitions speak of (this project's own).
+use Rattle.std.specs.Prelude.{◌≡◌, ◌<◌, ℕ, ◌+◌, List, [], ◌∷◌, ◌==◌, if◌then◌else◌, Option, None, Some, map, length, option_map, slice_index_or, slice_set}
+use Rattle.tab_model.specs.State.{Transaction, Outbox, Seat, Queued, State, seat_at}
+use Rattle.tab_model.specs.Outcome.{change}
+use Rattle.tab_manager.specs.declared.seat.Transaction as kept
+use Rattle.tab_manager.specs.declared.seat.Seat as code
+use Rattle.tab_manager.specs.declared.queue.Request as request
+use Rattle.tab_manager.specs.declared.machine.Machine.{Machine}
+
+-- no item is ever put into it
+abbrev pub no_outbox : Outbox
+no_outbox = record { items = []; refusals = 0; capacity = Some 0 }
+
+abbrev pub transaction_of : kept.Transaction → Transaction
+transaction_of t = record { age = t.age; moves = t.store.moves; told = t.store.told }
+
+abbrev pub seat_of : code.Seat → Seat
+seat_of s = record { number = s.number; transaction = option_map transaction_of s.transaction; watching = []; outbox = no_outbox; overflow = None }
+
+-- a seat without a transaction
+abbrev pub no_seat : ℕ → code.Seat
+no_seat n = record { number = n; transaction = None }
+
+abbrev pub queued_of : request.Request → Queued
+queued_of q = record { session = q.session; age = q.age; operation = q.operation }
+
+abbrev pub state_of : Machine → State
+state_of m = record {
+  tables = m.world;
+  seats = map seat_of m.seats.items;
+  queue = map queued_of m.queue.items;
+  next_age = m.begun + 1;
+  commits = m.commits;
+  greatest = m.greatest;
+  limits = m.limits;
+}
+
+abbrev pub transaction_in : Option code.Seat → Option kept.Transaction
+transaction_in None = None
+transaction_in (Some s) = s.transaction
+
+abbrev pub at : List code.Seat → ℕ → Option code.Seat
+at [] n = None
+at (s ∷ ss) n = if s.number == n then Some s else at ss n
+
+-- the session stands at this place
+pub record StandsAt (ss : List code.Seat) (n i : ℕ) : Type 0 where
+  pub within : i < length ss
+  pub seat : (d : code.Seat) → at ss n ≡ Some (slice_index_or ss i d)
+  pub number : (d : code.Seat) → (slice_index_or ss i d).number ≡ n
+  pub changed : (s : code.Seat) → s.number ≡ n → change (map seat_of ss) (seat_of s) ≡ map seat_of (slice_set ss i s)
+  pub replaced : (s : code.Seat) → s.number ≡ n → (m : ℕ) → at (slice_set ss i s) m ≡ (if m == n then Some s else at ss m)

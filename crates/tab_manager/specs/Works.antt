@@ -1,0 +1,75 @@
+-- What becomes of a seat and of its transaction's locks.
+use Rattle.std.specs.Prelude.{◌≡◌, ℕ, suc, [], Bool, true, false, ◌&&◌, ◌==◌, nat_lt, if◌then◌else◌, Option, None, Some, length, option_map}
+use Rattle.tab_model.specs.declared.data.Operation.{Operation}
+use Rattle.tab_model.specs.declared.data.Move.TheVariants.{Do, Open, Close, Undo}
+use Rattle.tab_model.specs.declared.data.Limits.{Limits}
+use Rattle.tab_model.specs.declared.data.Limit.TheVariants as limit
+use Rattle.tab_model.specs.declared.data.Entry.TheVariants as entry
+use Rattle.tab_model.specs.declared.data.Reply.TheVariants as reply
+use Rattle.tab_model.specs.declared.data.Reply.{Reply}
+use Rattle.tab_model.specs.Ages.{Ages, forget, without}
+use Rattle.tab_model.specs.State.{count_moves}
+use Rattle.tab_model.specs.Alone.{start, after, replies}
+use Rattle.tab_model.specs.Events.{is_failure}
+use Rattle.tab_model.specs.Operations.{table_of, answer}
+use Rattle.tab_model.specs.Worlds.{World, find, IsOrderedWorld}
+use Rattle.tab_txstore.specs.Stores.{Store, no_store, store_next, Fits}
+use Rattle.tab_manager.specs.declared.seat.Transaction as kept
+use Rattle.tab_manager.specs.declared.seat.Seat as code
+use Rattle.tab_manager.specs.declared.operating.Worked.{Worked}
+use Rattle.tab_manager.specs.declared.step.Stepped.{Stepped}
+
+abbrev pub with_store : kept.Transaction → Store → kept.Transaction
+with_store t s = record { age = t.age; store = s }
+
+abbrev pub ended : code.Seat → code.Seat
+ended s = record { number = s.number; transaction = None }
+
+abbrev pub emptied : code.Seat → code.Seat
+emptied s = record { number = s.number; transaction = option_map (λ t. with_store t no_store) s.transaction }
+
+abbrev pub forgotten_if : Ages → Option kept.Transaction → Ages
+forgotten_if g None = g
+forgotten_if g (Some t) = forget g t.age
+
+-- an operation that was made: its reply, as its transaction alone is told it, and whether that ended the transaction
+pub record Works (w : World) (t : kept.Transaction) (o : Operation) (x : Worked) (new : kept.Transaction) : Type 0 where
+  pub store : new ≡ with_store t (store_next (find w (table_of o)) t.store (Do o) (Some x.reply))
+  pub answer : (age : ℕ) → IsOrderedWorld w → Fits t.store w → replies (start w age) t.store.moves ≡ t.store.told → x.reply ≡ answer (after (start w age) t.store.moves).now o
+  pub over : x.over ≡ ((length t.store.levels.saved == 0) && is_failure (Some x.reply))
+
+abbrev pub NestsIf : kept.Transaction → Bool → Bool → kept.Transaction → Reply → Type 0
+NestsIf t true true new r = (new ≡ with_store t (store_next None t.store Open (Some (reply.Tid t.age)))) × (r ≡ reply.Tid t.age)
+NestsIf t true false new r = (new ≡ t) × (r ≡ reply.SystemLimit limit.Operations)
+NestsIf t false room new r = (new ≡ t) × (r ≡ reply.SystemLimit limit.Nesting)
+
+abbrev pub WorksTo : World → kept.Transaction → Operation → Worked → Option kept.Transaction → Type 0
+WorksTo w t o x None = ⊥
+WorksTo w t o x (Some new) = Works w t o x new
+
+-- a child's begin (the order of the limits is this project's own rule)
+abbrev pub Nests : Limits → kept.Transaction → kept.Transaction → Reply → Type 0
+Nests ls t new r = NestsIf t (nat_lt (suc (length t.store.levels.saved)) ls.nesting) (nat_lt (count_moves t.store.moves) ls.operations) new r
+
+abbrev pub NestsTo : Limits → kept.Transaction → Option kept.Transaction → Reply → Type 0
+NestsTo ls t None r = ⊥
+NestsTo ls t (Some new) r = Nests ls t new r
+
+-- a child's commit
+abbrev pub joined : code.Seat → code.Seat
+joined s = record { number = s.number; transaction = option_map (λ t. with_store t (store_next None t.store Close (Some reply.AtomicOk))) s.transaction }
+
+-- a child's abort
+abbrev pub undone : kept.Transaction → kept.Transaction
+undone t = with_store t (store_next None t.store Undo None)
+
+-- an abort: of the whole, or of a child
+abbrev pub UndoesIf : Bool → kept.Transaction → code.Seat → Ages → code.Seat → Ages → Type 0
+UndoesIf true t s g s' g' = (s' ≡ ended s) × (g'.held ≡ without t.age g.held) × (g'.queue ≡ without t.age (without t.age g.queue))
+UndoesIf false t s g s' g' = (s' ≡ record { number = s.number; transaction = Some (undone t) }) × (g' ≡ record { held = g.held; queue = without t.age g.queue })
+
+abbrev pub Undoes : kept.Transaction → code.Seat → Ages → code.Seat → Ages → Type 0
+Undoes t s g s' g' = UndoesIf (length t.store.levels.saved == 0) t s g s' g'
+
+abbrev pub committed : ℕ → ℕ → kept.Transaction → Stepped
+committed number session t = record { reply = reply.Atomic number; entry = Some (entry.Committed number session t.age t.store.moves t.store.told []) }

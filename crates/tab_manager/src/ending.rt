@@ -1,0 +1,78 @@
+//! Outermost commits.
+
+ghost use Rattle.std.specs.Prelude.{◌≡◌, Some, false, option_map};
+ghost use Rattle.tab_model.specs.declared.data.Command.TheVariants as command;
+ghost use Rattle.tab_model.specs.Events.{change_all, surviving};
+ghost use Rattle.tab_model.specs.State.{Transaction as Opened, is_waiting};
+ghost use Rattle.tab_model.specs.Outcome.{DoCommand};
+ghost use Rattle.tab_manager.specs.Seats.{state_of, StandsAt};
+ghost use Rattle.tab_manager.specs.Kept.{IsKept};
+ghost use Rattle.tab_manager.specs.Outermost.{outermost, ending_of, told_of};
+ghost use Rattle.tab_manager.specs.Steps.{StepsTo};
+
+use crate::levels::finish;
+use crate::machine::Machine;
+use crate::step::Stepped;
+use tab_model::Change;
+use tab_world::World;
+
+/// A transaction that its commit would end: its age, and its updates in order.
+#[derive(Clone, Copy)]
+pub struct Ending<'a> {
+    pub age: u64,
+    pub updates: &'a [Change],
+}
+
+impl Machine {
+    pub fn outermost(&self, session: u32) -> Option<Ending<'_>>
+        requires kept { IsKept self.now }
+        ensures { option_map told_of result ≡ option_map ending_of (outermost (state_of self.now) session) }
+    {
+        if self.waits(session) {
+            return None;
+        }
+        match self.place(session) {
+            Some(place) => self.ending(session, place),
+            None => None,
+        }
+    }
+
+    /// Of a session that waits for nothing.
+    fn ending(&self, session: u32, place: usize) -> Option<Ending<'_>>
+        requires kept { IsKept self.now }
+        requires there { StandsAt self.now.seats.items session place }
+        requires idle { is_waiting (state_of self.now) session ≡ false }
+        ensures { option_map told_of result ≡ option_map ending_of (outermost (state_of self.now) session) }
+    {
+        let Some(transaction) = &self.seats[place].transaction else {
+            return None;
+        };
+        if transaction.store.depth() > 0 {
+            return None;
+        }
+        Some(Ending {
+            age: transaction.age,
+            updates: transaction.store.updates(),
+        })
+    }
+
+    /// The tables have the transaction's updates. From here nothing fails.
+    pub fn commit_as(&mut self, session: u32, world: World) -> Stepped
+        requires kept { IsKept self.old }
+        requires there { (t : Opened) × (outermost (state_of self.old) session ≡ Some t) × (world ≡ change_all self.old.world (surviving t.moves t.told)) }
+        ensures done { StepsTo (state_of self.old) session (DoCommand command.Commit) result (state_of self.new) }
+        ensures kept { IsKept self.new }
+    {
+        let Some(place) = self.place(session) else {
+            unreachable!();
+        };
+        self.world = world;
+        self.commits += 1;
+        finish(
+            self.alloc,
+            self.commits,
+            &mut self.seats[place],
+            &mut self.ages,
+        )
+    }
+}

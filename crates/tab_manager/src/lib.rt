@@ -1,0 +1,133 @@
+//! The manager of transactions: sessions, their transactions and locks, over tables.
+//!
+//! Contracts see a manager as one plain state (`State` of tab_model) in which nobody watches a table, and a step is a
+//! function of it (`outcome`). Of a one-shot a step opens level 1 alone: its driver does the rest.
+
+#![tactic(auto)]
+
+ghost use Rattle.std.specs.Prelude.{◌≡◌, ◌≤◌, ◌&&◌, IfOk, IsOk, OnErr, Some, true, is_some, length, nat_lt, option_map};
+ghost use Rattle.tab_model.specs.declared.data.Command.TheVariants as command;
+ghost use Rattle.tab_model.specs.Events.{change_all, surviving};
+ghost use Rattle.tab_model.specs.Outcome.{DoCommand};
+ghost use Rattle.tab_model.specs.State.{Transaction, new, seat_at, is_waiting, IsSound};
+ghost use Rattle.tab_manager.specs.Outermost.{outermost, ending_of, told_of};
+ghost use Rattle.tab_manager.specs.Steps.{ask_of, is_quiet_step, StepsTo, takes_no_memory};
+
+mod command;
+mod ending;
+mod levels;
+mod machine;
+mod operating;
+mod queue;
+mod redefining;
+mod seat;
+mod sessions;
+mod step;
+
+use crate::machine::Machine;
+pub use ending::Ending;
+use std::alloc::{AllocError, Global};
+use std::marker::Model;
+pub use step::{Step, Stepped};
+use tab_model::Limits;
+use tab_world::World;
+
+/// The sessions' transactions and locks, and the tables.
+///
+/// Contracts see it as one plain state. Whenever a manager stands, each open transaction was told what it is told
+/// alone on the tables as they are, and no two transactions hold locks that conflict (`IsSound`).
+#[derive(Drop)]
+pub struct Manager {
+    machine: Machine,
+}
+
+impl Model for Manager {
+    ghost use Rattle.std.specs.Coded.{codes};
+    ghost use Rattle.tab_term.specs.Code.{term_code, terms_code, pairs_code};
+    ghost use Rattle.tab_model.specs.State.{State};
+    ghost use Rattle.tab_manager.specs.Seats.{state_of};
+    ghost use Rattle.tab_manager.specs.Kept.{IsKept};
+
+    ghost Value = { State };
+
+    ghost coded = { Prim.hlevel (codes, term_code, terms_code, pairs_code) };
+
+    ghost view = { λ a. state_of a.machine };
+
+    ghost invariant = { λ a. IsKept a.machine };
+}
+
+impl Manager {
+    /// A manager without tables and sessions. It has 64 sessions at most.
+    pub fn new(alloc: Global, limits: Limits) -> Manager
+        requires { limits.sessions ≤ 64 }
+        ensures { result ≡ new limits }
+    {
+        Manager {
+            machine: Machine::new(alloc, limits),
+        }
+    }
+
+    /// One step of a session, whole or, where memory that it takes is refused, not at all.
+    pub fn step(&mut self, session: u32, step: Step) -> Result<Stepped, AllocError>
+        requires { is_quiet_step step ≡ true }
+        ensures done { IfOk result (λ s. StepsTo self.old session (ask_of step) s self.new) }
+        ensures free { takes_no_memory self.old session (ask_of step) ≡ true → IsOk result }
+        ensures err { OnErr result (self.new ≡ self.old) }
+        ensures sound { IsSound self.new }
+    {
+        self.machine.step(session, step)
+    }
+
+    /// The transaction that a commit of the session would end, and what it would change: of a session that waits for
+    /// nothing, and stands in no child.
+    pub fn outermost(&self, session: u32) -> Option<Ending<'_>>
+        ensures { option_map told_of result ≡ option_map ending_of (outermost self.now session) }
+    {
+        self.machine.outermost(session)
+    }
+
+    /// The outermost commit of the session, whose changes the caller has made to the tables.
+    pub fn commit(&mut self, session: u32, tables: World) -> Stepped
+        requires { (t : Transaction) × (outermost self.old session ≡ Some t) × (tables ≡ change_all self.old.tables (surviving t.moves t.told)) }
+        ensures done { StepsTo self.old session (DoCommand command.Commit) result self.new }
+        ensures sound { IsSound self.new }
+    {
+        self.machine.commit_as(session, tables)
+    }
+
+    /// The tables as they are committed.
+    pub fn tables(&self) -> &World
+        ensures { result.now ≡ self.now.tables }
+    {
+        &self.machine.world
+    }
+
+    /// How many commits there were.
+    pub fn commits(&self) -> u64
+        ensures { result ≡ self.now.commits }
+    {
+        self.machine.commits
+    }
+
+    /// Whether the session has joined.
+    pub fn joined(&self, session: u32) -> bool
+        ensures { result ≡ is_some (seat_at self.now.seats session) }
+    {
+        self.machine.joined(session)
+    }
+
+    /// Whether the session waits for a lock.
+    pub fn waits(&self, session: u32) -> bool
+        ensures { result ≡ is_waiting self.now session }
+    {
+        self.machine.waits(session)
+    }
+
+    /// Whether the session's number and the limit of sessions let it join.
+    pub fn admits(&self, session: u32) -> bool
+        ensures { result ≡ (nat_lt self.now.greatest session && nat_lt (length self.now.seats) self.now.limits.sessions) }
+    {
+        self.machine.admits(session)
+    }
+}

@@ -1,0 +1,180 @@
+//! The parts of a manager, and its steps.
+
+ghost use Rattle.std.specs.Prelude.{◌≡◌, ◌≤◌, [], Some, None, IfOk, IsOk, OnErr, MatchOption, false, true};
+ghost use Rattle.tab_model.specs.State.{new, is_waiting};
+ghost use Rattle.tab_model.specs.Outcome.{DoCommand, nothing, outcome};
+ghost use Rattle.tab_manager.specs.Steps.{StepsTo, ask_of, is_quiet_step, takes_no_memory};
+ghost use Rattle.tab_manager.specs.Quiet.{is_quiet};
+ghost use Rattle.tab_manager.specs.Seats.{state_of, at, StandsAt};
+ghost use Rattle.tab_manager.specs.Kept.{IsKept};
+
+use crate::command::{Asked, AskedSchema};
+use crate::queue::{Request, find};
+use crate::seat::Seat;
+use crate::step::{Step, Stepped};
+use arrayvec::ArrayVec;
+use std::alloc::{AllocError, Global};
+use tab_model::{Command, Limits, Reply};
+use tab_operations::Pending;
+use tab_waitdie::Ages;
+use tab_world::World;
+
+/// How many sessions are joined at most. Their seats are searched one after another.
+pub(crate) const SESSIONS: usize = 64;
+
+/// The tables, the sessions with their transactions in the order of joining, who holds locks and who waits.
+pub(crate) struct Machine {
+    pub alloc: Global,
+    pub world: World,
+    pub seats: ArrayVec<Seat, SESSIONS>,
+    pub ages: Ages,
+    pub queue: Vec<Request>,
+    /// How many outermost transactions have begun.
+    pub begun: u64,
+    pub commits: u64,
+    pub greatest: u32,
+    pub limits: Limits,
+}
+
+// A derived Drop would be taken apart, field by field, at each exit of each caller.
+impl Drop for Machine {
+    fn drop(self) {
+        let Machine {
+            alloc: _,
+            world,
+            seats,
+            ages,
+            queue,
+            begun: _,
+            commits: _,
+            greatest: _,
+            limits: _,
+        } = self;
+        drop(world);
+        drop(seats);
+        drop(ages);
+        drop(queue);
+    }
+}
+
+impl Machine {
+    pub fn new(alloc: Global, limits: Limits) -> Machine
+        requires { limits.sessions ≤ 64 }
+        ensures state { state_of result ≡ new limits }
+        ensures kept { IsKept result }
+    {
+        Machine {
+            alloc,
+            world: World::empty(),
+            seats: ArrayVec::new(),
+            ages: Ages::new(alloc),
+            queue: Vec::new(alloc),
+            begun: 0,
+            commits: 0,
+            greatest: 0,
+            limits,
+        }
+    }
+
+    /// Where a session's seat stands, if it has joined.
+    pub fn place(&self, session: u32) -> Option<usize>
+        ensures { MatchOption result (at self.now.seats.items session ≡ None) (StandsAt self.now.seats.items session) }
+    {
+        for (place, seat) in self.seats.iter().enumerate() {
+            if seat.number == session {
+                return Some(place);
+            }
+        }
+        None
+    }
+
+    pub fn step(&mut self, session: u32, step: Step) -> Result<Stepped, AllocError>
+        requires quiet { is_quiet_step step ≡ true }
+        requires kept { IsKept self.old }
+        ensures done { IfOk result (λ s. StepsTo (state_of self.old) session (ask_of step) s (state_of self.new)) }
+        ensures free { takes_no_memory (state_of self.old) session (ask_of step) ≡ true → IsOk result }
+        ensures err { OnErr result (state_of self.new ≡ state_of self.old) }
+        ensures kept { IsKept self.new }
+    {
+        let Some(place) = self.place(session) else {
+            return Ok(Stepped::without_entry(self.stranger(session, &step)));
+        };
+        match step {
+            Step::Join => Ok(Stepped::without_entry(Reply::BadSession)),
+            Step::Leave => Ok(Stepped::without_entry(self.leave(session, place))),
+            Step::Retry => Ok(Stepped::told(self.retry(session, place)?)),
+            Step::Do(command) => self.command(session, place, Asked { command }),
+        }
+    }
+
+    /// A command of a joined session.
+    fn command(&mut self, session: u32, place: usize, asked: Asked) -> Result<Stepped, AllocError>
+        requires quiet { is_quiet asked.command ≡ true }
+        requires kept { IsKept self.old }
+        requires there { StandsAt self.old.seats.items session place }
+        ensures done { IfOk result (λ s. outcome (state_of self.old) [] session (DoCommand asked.command) ≡ record { state = state_of self.new; reply = s.reply; entry = s.entry }) }
+        ensures free { takes_no_memory (state_of self.old) session (DoCommand asked.command) ≡ true → IsOk result }
+        ensures err { OnErr result (state_of self.new ≡ state_of self.old) }
+        ensures kept { IsKept self.new }
+    {
+        let waits = find(&self.queue, session).is_some();
+        match asked.into_command() {
+            Command::Abort(reason) => {
+                Ok(Stepped::without_entry(self.abort(session, place, reason)))
+            }
+            _ if waits => Ok(Stepped::without_entry(Reply::WaitingNow)),
+            command => self.idle_command(session, place, Asked { command }),
+        }
+    }
+
+    /// A command of a session that waits for nothing.
+    fn idle_command(
+        &mut self,
+        session: u32,
+        place: usize,
+        asked: Asked,
+    ) -> Result<Stepped, AllocError>
+        requires quiet { is_quiet asked.command ≡ true }
+        requires kept { IsKept self.old }
+        requires there { StandsAt self.old.seats.items session place }
+        requires idle { is_waiting (state_of self.old) session ≡ false }
+        ensures done { IfOk result (λ s. outcome (state_of self.old) [] session (DoCommand asked.command) ≡ record { state = state_of self.new; reply = s.reply; entry = s.entry }) }
+        ensures free { takes_no_memory (state_of self.old) session (DoCommand asked.command) ≡ true → IsOk result }
+        ensures err { OnErr result (state_of self.new ≡ state_of self.old) }
+        ensures kept { IsKept self.new }
+    {
+        match asked.into_command() {
+            Command::Begin => Ok(Stepped::without_entry(self.begin(session, place)?)),
+            Command::Commit => self.commit(session, place),
+            Command::Abort(reason) => Ok(Stepped::without_entry(self.abort(
+                session, place, reason,
+            ))),
+            Command::Do(operation) => {
+                let pending = Pending { operation };
+                Ok(Stepped::told(self.operate(session, place, pending)?))
+            }
+            Command::Schema(schema) => self.schema(session, place, AskedSchema { schema }),
+            Command::TableInfo(name, item) => {
+                Ok(Stepped::without_entry(self.table_info(session, &name, item)?))
+            }
+            Command::OneShot(parts, _) => {
+                drop(parts);
+                Ok(Stepped::without_entry(self.one_shot(session, place)?))
+            }
+            _ => unreachable!(),
+        }
+    }
+
+    /// A session that has not joined can do nothing but join.
+    fn stranger(&mut self, session: u32, step: &Step) -> Reply
+        requires kept { IsKept self.old }
+        requires stranger { at self.old.seats.items session ≡ None }
+        ensures done { outcome (state_of self.old) [] session (ask_of step.now) ≡ nothing (state_of self.new) result }
+        ensures kept { IsKept self.new }
+    {
+        match step {
+            Step::Join => self.join(session),
+            _ => Reply::BadSession,
+        }
+    }
+}

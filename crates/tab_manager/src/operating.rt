@@ -1,0 +1,188 @@
+//! Operations of a transaction, and their locks.
+
+ghost use Rattle.std.specs.Prelude.{◌≡◌, ◌&&◌, ◌==◌, [], Some, IfOk, IfSome, IsOk, IsSome, OnErr, false, if◌then◌else◌, option_map, length};
+ghost use Rattle.tab_model.specs.declared.data.Command.TheVariants as command;
+ghost use Rattle.tab_model.specs.Ages.{forget as forgotten};
+ghost use Rattle.tab_model.specs.Events.{is_failure as is_failure_of};
+ghost use Rattle.tab_model.specs.State.{is_waiting};
+ghost use Rattle.tab_model.specs.Outcome.{DoCommand, Retry, nothing, outcome};
+ghost use Rattle.tab_locks.specs.Placed.{without_last};
+ghost use Rattle.tab_waitdie.specs.Decisions.{ages as ages_with};
+ghost use Rattle.tab_manager.specs.Seats.{state_of, StandsAt};
+ghost use Rattle.tab_manager.specs.Kept.{IsKept};
+ghost use Rattle.tab_manager.specs.Works.{Works, WorksTo, emptied, ended, forgotten_if};
+
+use crate::machine::Machine;
+use crate::queue::{Request, find};
+use crate::seat::{Seat, Transaction};
+use std::alloc::{AllocError, Global};
+use tab_model::{Limit, Reply, Told};
+use tab_operations::{Pending, needs, perform};
+use tab_txstore::is_failure;
+use tab_waitdie::{Ages, Answer};
+use tab_world::World;
+
+/// What an operation was told, and whether it ended its transaction: by a failure at level 1.
+pub(crate) struct Worked {
+    pub reply: Told,
+    pub over: bool,
+}
+
+impl Drop for Worked {
+    fn drop(self) {
+        let Worked { reply, over: _ } = self;
+        drop(reply);
+    }
+}
+
+impl Worked {
+    fn into_reply(self) -> Told
+        ensures { result ≡ self.reply }
+    {
+        let Worked { reply, over: _ } = self;
+        reply
+    }
+}
+
+impl Machine {
+    /// An operation of a session that waits for nothing.
+    pub fn operate(
+        &mut self,
+        session: u32,
+        place: usize,
+        pending: Pending,
+    ) -> Result<Told, AllocError>
+        requires kept { IsKept self.old }
+        requires there { StandsAt self.old.seats.items session place }
+        requires idle { is_waiting (state_of self.old) session ≡ false }
+        ensures ok { IfOk result (λ r. outcome (state_of self.old) [] session (DoCommand (command.Do pending.operation)) ≡ nothing (state_of self.new) r) }
+        ensures err { OnErr result (state_of self.new ≡ state_of self.old) }
+        ensures kept { IsKept self.new }
+    {
+        let Some(transaction) = &self.seats[place].transaction else {
+            return Ok(Told::new(Reply::NoTransaction));
+        };
+        if transaction.store.count() as u64 >= self.limits.operations {
+            return Ok(Told::new(Reply::SystemLimit(Limit::Operations)));
+        }
+        let age = transaction.age;
+        self.queue.reserve(1)?;
+        let lock = needs(self.alloc, &pending.operation)?;
+        match self.ages.request(age, lock)? {
+            Answer::Granted => {
+                let seat = &mut self.seats[place];
+                let worked = work(self.alloc, &self.world, seat, &mut self.ages, pending)?;
+                end_if(worked.over, seat, &mut self.ages);
+                Ok(worked.into_reply())
+            }
+            Answer::Wait => {
+                self.queue.push_reserved(Request {
+                    session,
+                    age,
+                    operation: pending.into_operation(),
+                });
+                Ok(Told::new(Reply::Waiting))
+            }
+            Answer::Die => {
+                restart(&mut self.seats[place], &mut self.ages);
+                Ok(Told::new(Reply::Restart))
+            }
+        }
+    }
+
+    /// The queued operation of a session, if there is one, asks again for its lock.
+    pub fn retry(&mut self, session: u32, place: usize) -> Result<Told, AllocError>
+        requires kept { IsKept self.old }
+        requires there { StandsAt self.old.seats.items session place }
+        ensures ok { IfOk result (λ r. outcome (state_of self.old) [] session Retry ≡ nothing (state_of self.new) r) }
+        ensures free { is_waiting (state_of self.old) session ≡ false → IsOk result }
+        ensures err { OnErr result (state_of self.new ≡ state_of self.old) }
+        ensures kept { IsKept self.new }
+    {
+        let Some(request) = find(&self.queue, session) else {
+            return Ok(Told::new(Reply::NotWaiting));
+        };
+        let age = request.age;
+        if !self.ages.may_go(age) {
+            return Ok(Told::new(Reply::Waiting));
+        }
+        let pending = Pending {
+            operation: request.operation.try_clone(self.alloc)?,
+        };
+        self.ages.grant(age)?;
+        let seat = &mut self.seats[place];
+        let worked = work(self.alloc, &self.world, seat, &mut self.ages, pending)?;
+        self.ages.drop_wait(age);
+        self.queue.retain(|request| request.session != session);
+        end_if(worked.over, seat, &mut self.ages);
+        Ok(worked.into_reply())
+    }
+}
+
+/// An operation whose lock was granted last. Where it is refused memory, the lock goes again.
+fn work(
+    alloc: Global,
+    world: &World,
+    seat: &mut Seat,
+    ages: &mut Ages,
+    pending: Pending,
+) -> Result<Worked, AllocError>
+    requires { IsSome seat.old.transaction }
+    ensures number { seat.new.number ≡ seat.old.number }
+    ensures ok { IfSome seat.old.transaction (λ t. IfOk result (λ x. WorksTo world.now t pending.operation x seat.new.transaction)) }
+    ensures held { IfOk result (λ x. ages.new ≡ ages.old) }
+    ensures undone { IfSome seat.old.transaction (λ t. OnErr result ((seat.new.transaction ≡ seat.old.transaction) × (ages.new ≡ ages_with (without_last t.age ages.old.held) ages.old.queue))) }
+{
+    let Some(transaction) = &mut seat.transaction else {
+        unreachable!();
+    };
+    work_in(alloc, world, transaction, ages, pending)
+}
+
+fn work_in(
+    alloc: Global,
+    world: &World,
+    transaction: &mut Transaction,
+    ages: &mut Ages,
+    pending: Pending,
+) -> Result<Worked, AllocError>
+    ensures ok { IfOk result (λ x. Works world.now transaction.old pending.operation x transaction.new) }
+    ensures held { IfOk result (λ x. ages.new ≡ ages.old) }
+    ensures undone { OnErr result ((transaction.new ≡ transaction.old) × (ages.new ≡ ages_with (without_last transaction.old.age ages.old.held) ages.old.queue)) }
+{
+    let outermost = transaction.store.depth() == 0;
+    match perform(alloc, world, &mut transaction.store, pending) {
+        Ok(reply) => {
+            let over = outermost && is_failure(reply.reply());
+            Ok(Worked { reply, over })
+        }
+        Err(error) => {
+            ages.unhold(transaction.age);
+            Err(error)
+        }
+    }
+}
+
+/// The transaction is over, with its locks and its queued request.
+pub(crate) fn end_if(over: bool, seat: &mut Seat, ages: &mut Ages)
+    ensures seat { seat.new ≡ (if over then ended seat.old else seat.old) }
+    ensures ages { ages.new ≡ (if over then forgotten_if ages.old seat.old.transaction else ages.old) }
+{
+    if over {
+        if let Some(transaction) = &seat.transaction {
+            ages.forget(transaction.age);
+        }
+        seat.transaction = None;
+    }
+}
+
+/// A younger transaction gives way: its operations and locks are gone, its age stays.
+fn restart(seat: &mut Seat, ages: &mut Ages)
+    ensures seat { seat.new ≡ emptied seat.old }
+    ensures ages { ages.new ≡ forgotten_if ages.old seat.old.transaction }
+{
+    if let Some(transaction) = &mut seat.transaction {
+        transaction.store.clear();
+        ages.forget(transaction.age);
+    }
+}

@@ -1,0 +1,69 @@
+//! Sessions join and leave.
+
+ghost use Rattle.std.specs.Prelude.{◌≡◌, ◌&&◌, [], None, is_some, length, nat_lt};
+ghost use Rattle.tab_model.specs.Outcome.{Join, Leave, nothing, outcome};
+ghost use Rattle.tab_model.specs.State.{is_waiting, seat_at};
+ghost use Rattle.tab_manager.specs.Seats.{state_of, no_outbox, at, StandsAt};
+ghost use Rattle.tab_manager.specs.Kept.{IsKept};
+
+use crate::machine::Machine;
+use crate::operating::end_if;
+use crate::queue::find;
+use crate::seat::Seat;
+use tab_model::{Limit, Reply};
+
+impl Machine {
+    /// Whether the session waits for a lock.
+    pub fn waits(&self, session: u32) -> bool
+        ensures { result ≡ is_waiting (state_of self.now) session }
+    {
+        find(&self.queue, session).is_some()
+    }
+
+    pub fn joined(&self, session: u32) -> bool
+        ensures { result ≡ is_some (seat_at (state_of self.now).seats session) }
+    {
+        self.place(session).is_some()
+    }
+
+    /// Whether the session's number and the limit of sessions let it join.
+    pub fn admits(&self, session: u32) -> bool
+        ensures { result ≡ (nat_lt self.now.greatest session && nat_lt (length self.now.seats.items) self.now.limits.sessions) }
+    {
+        session > self.greatest && (self.seats.len() as u64) < self.limits.sessions
+    }
+
+    /// Of a session that has not joined. Takes no memory.
+    pub fn join(&mut self, session: u32) -> Reply
+        requires kept { IsKept self.old }
+        requires stranger { at self.old.seats.items session ≡ None }
+        ensures ok { outcome (state_of self.old) [] session (Join no_outbox) ≡ nothing (state_of self.new) result }
+        ensures kept { IsKept self.new }
+    {
+        if session <= self.greatest {
+            return Reply::BadSession;
+        }
+        if self.seats.len() as u64 >= self.limits.sessions {
+            return Reply::SystemLimit(Limit::Sessions);
+        }
+        self.seats.push(Seat {
+            number: session,
+            transaction: None,
+        });
+        self.greatest = session;
+        Reply::Done
+    }
+
+    /// The session's transaction, locks and queued request are gone. Takes no memory.
+    pub fn leave(&mut self, session: u32, place: usize) -> Reply
+        requires kept { IsKept self.old }
+        requires there { StandsAt self.old.seats.items session place }
+        ensures ok { outcome (state_of self.old) [] session Leave ≡ nothing (state_of self.new) result }
+        ensures kept { IsKept self.new }
+    {
+        end_if(true, &mut self.seats[place], &mut self.ages);
+        self.seats.remove(place);
+        self.queue.retain(|request| request.session != session);
+        Reply::Done
+    }
+}

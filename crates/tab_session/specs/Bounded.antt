@@ -1,0 +1,11 @@
+-- Whose posts have a capacity.
+use Rattle.std.specs.Prelude.{◌≡◌, List, true, is_some}
+use Rattle.std.specs.List.{AllByRecursion}
+use Rattle.tab_model.specs.State.{Seat, State}
+
+abbrev pub HasCapacity : Seat → Type 0
+HasCapacity s = is_some s.outbox.capacity ≡ true
+
+-- so each post's capacity decides what it refuses
+abbrev pub IsBounded : State → Type 0
+IsBounded σ = AllByRecursion HasCapacity σ.seats
