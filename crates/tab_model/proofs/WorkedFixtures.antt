@@ -26,7 +26,7 @@ abbrev pub usual : Limits
 usual = record { sessions = 64; nesting = 16; operations = 1000; tables = 256; ages = 1000000; journal = 1024 }
 
 abbrev pub empty_outbox : ℕ → Outbox
-empty_outbox c = record { items = []; refusals = 0; capacity = Some c }
+empty_outbox c = record { items = []; refusals = 0; capacity = Some c; mailbox = None }
 
 abbrev pub call : ℕ → Ask → Call
 call n a = record { session = n; ask = a; over = [] }

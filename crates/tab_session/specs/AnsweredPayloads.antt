@@ -26,7 +26,7 @@ use Rattle.tab_session.specs.OneSessions.{IsDriven}
 
 -- a post that can hold so many items, and has none
 abbrev pub empty_post : ℕ → Outbox
-empty_post capacity = record { items = []; refusals = 0; capacity = Some capacity }
+empty_post capacity = record { items = []; refusals = 0; capacity = Some capacity; mailbox = None }
 
 -- the term is no request
 abbrev pub AsksNothing : PlainTerm → Type 0
