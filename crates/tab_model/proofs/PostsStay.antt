@@ -1,5 +1,5 @@
 -- What a session's post is, its capacity and which mailbox it is, stays while it is joined.
-use Rattle.std.proofs.Common.{◌≡◌, ℕ, suc, ◌+◌, List, [], ◌∷◌, ◌++◌, Bool, true, false, ◌&&◌, not, refl, sym, ap, ◌∙◌, subst, length, Option, Some, None}
+use Rattle.std.proofs.Common.{◌≡◌, ◌≤◌, arith, ℕ, suc, ◌+◌, List, [], ◌∷◌, ◌++◌, Bool, true, false, ◌&&◌, not, refl, sym, ap, ◌∙◌, subst, length, Option, Some, None}
 use Rattle.std.specs.Prelude.{◌==◌, ◌||◌, if◌then◌else◌, nat_lt, nat_le, is_some, IfSome, map}
 use Rattle.std.specs.List.{AllByRecursion, filter}
 use Rattle.tab_term.specs.declared.term.Term.{Term}
@@ -20,6 +20,7 @@ use Rattle.tab_model.specs.State.{AreDistinct, IsSound, Outbox, Transaction, Wat
 use Rattle.tab_model.specs.Outcome.{Ask, Join, Leave, Retry, Take, DoCommand, Outcome, outcome, is_empty, change, without_seat, made, decided, within, operate, retried, retry_in, retry, opened, nested, begin, one_shot, abort, overflowed, pushed, takable, given, batch_to, commit_at, commit, events_now, unwatched, end_to, has_room, schema_if, schema, marked, subscribe_refusal, subscribe, unsubscribe, is_at, do_command, is_abort, command_if, give, leave, join, unseated, seated, by_seat}
 use Rattle.tab_model.specs.Run.{Allowed, Pinned, put_ask, put_command, put_commit, put_schema}
 
+use Rattle.std.proofs.lemmas.Bool.Decides.{nat_tests}
 use Rattle.tab_model.proofs.Seats.{eq_true, itself, found}
 
 some_is : (x y : Seat) → Some x ≡ Some y → x ≡ y
@@ -251,7 +252,7 @@ module _ (σ : State) (sound : IsSound σ) where
 
 -- ---- channel posts
 
-abbrev IsChannel : ℕ → Option ℕ → Option ℕ → Type 0
+abbrev pub IsChannel : ℕ → Option ℕ → Option ℕ → Type 0
 IsChannel n c m = c ≡ None
 
 -- where all posts are channels' and who joins brings a channel's

@@ -1,5 +1,5 @@
 -- Worked rows: words for small runs.
-use Rattle.std.specs.Prelude.{ℕ, List, [], Some, pos, codes, false}
+use Rattle.std.specs.Prelude.{ℕ, List, [], Some, None, pos, codes, false}
 use Rattle.tab_term.specs.Data.{PlainTerm, int, atom, tuple, PlainTerms, none, one_more}
 use Rattle.tab_term.specs.declared.term.Term.TheVariants as is
 use Rattle.tab_model.specs.declared.data.Operation.{Operation}

@@ -1,5 +1,5 @@
 -- How a payload is answered, and the bytes of an answer (this project's own rules).
-use Rattle.std.specs.Prelude.{◌≡◌, ◌≢◌, ℕ, Bool, true, false, not, ◌<◌, List, [], ◌∷◌, length, Some, Result, Ok, Err, ◌⊎◌}
+use Rattle.std.specs.Prelude.{◌≡◌, ◌≢◌, ℕ, Bool, true, false, not, ◌<◌, List, [], ◌∷◌, length, Some, None, Result, Ok, Err, ◌⊎◌}
 use Rattle.std.specs.List.{All, flat_map}
 use Rattle.tab_term.specs.Data.{PlainTerm}
 use Rattle.tab_term.specs.Canon.{canon}
