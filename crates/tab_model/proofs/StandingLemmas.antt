@@ -13,10 +13,10 @@ use Rattle.tab_model.specs.Log.{entered, serial, serial_from, stands, in_force, 
 use Rattle.tab_model.specs.Slices.{dump_of, owed, slice_after, slice}
 use Rattle.tab_model.specs.History.{Base, empty, level_at, in_force_since, owed_on, owed_since, slice_since_after, slice_since, IsHistory, folded, Admits, forgotten}
 use Rattle.tab_model.specs.State.{Outbox, Seat, State, new, seat_at, IsSound}
-use Rattle.tab_model.specs.Outcome.{Ask, Join, Leave, Retry, Take, DoCommand, outcome}
+use Rattle.tab_model.specs.Outcome.{Ask, Join, Leave, Retry, Take, DoCommand, by_seat, without_seat, outcome}
 use Rattle.tab_model.specs.Run.{entries, item_of, taken_now, JoinsEmpty, IsTied, IsNew}
 use Rattle.tab_model.specs.Standing.{AreChannels, JoinsChannel, is_joined, MayStand, IsFolded, Stands, still_joined}
-use Rattle.tab_model.proofs.Seats.{other_number, serial_more, in_force_more, commits-push}
+use Rattle.tab_model.proofs.Seats.{other_number, found, itself, seat_at-without, serial_more, in_force_more, commits-push}
 use Rattle.tab_model.proofs.Schedules.{new_tied}
 use Rattle.tab_model.proofs.TiedSteps.{step_tied}
 use Rattle.tab_model.proofs.PostsStay.{IsChannel, JoinsAs, channels_stay}
@@ -242,3 +242,13 @@ forget_stands past b log σ q gone k = record {
   };
   channels = k.channels;
 }
+
+-- who was joined and leaves may stand no more
+pub left_away : (σ : State) (over : List ℕ) (n : ℕ) → IsSound σ → is_joined σ n ≡ true → MayStand (outcome σ over n Leave).state n → ⊥
+unfolding outcome
+left_away σ over n sound joined may = by (seat_at σ.seats n) refl joined may
+  where
+    by : (o : Option Seat) → seat_at σ.seats n ≡ o → is_some o ≡ true → MayStand (by_seat σ over n Leave o).state n → ⊥
+    by None e j m = cc
+    by (Some s) e j (inl h) = is_there (seat_at (without_seat σ.seats s.number) n) (seat_at-without σ.seats s.number n ∙ ap (λ b. if b then None else seat_at σ.seats n) (ap (λ k. n == k) (found σ.seats s n e) ∙ itself n)) h
+    by (Some s) e j (inr h) = not_above σ.greatest n h (sound.joined n s e)
