@@ -2,7 +2,8 @@
 use std::marker::{Brand, PhantomData};
 use std::sync::Wait;
 
-/// A type that names a register, so that what was seen of two registers has two types.
+/// A type that names a register, so that what was seen of two registers has two types. Which register it names is said
+/// by the proof of a call that passes it, mostly as `Brand`, to a function over all such types.
 pub trait Naming {
     ghost use Rattle.logbook.specs.Pages.{Book};
 
