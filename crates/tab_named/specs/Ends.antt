@@ -3,7 +3,7 @@ use Rattle.std.specs.Prelude.{◌≡◌, ℕ, List, [], Some, None}
 use Rattle.tab_model.specs.declared.data.Item.{Item}
 use Rattle.tab_model.specs.State.{Outbox}
 use Rattle.tab_names.specs.declared.naming.Naming.{Ghosts}
-use Rattle.tab_post.specs.Ends.{sent_by, taken_by, capacity_of}
+use Rattle.tab_post.specs.Ends.{sent_by, taken_by}
 use Rattle.tab_post.specs.Ends as ends
 use Rattle.tab_named.specs.declared.post.SeatPost.{SeatPost}
 use Rattle.tab_named.specs.declared.inbox.SeatInbox.{SeatInbox}
@@ -25,9 +25,12 @@ module _ {H : Type 0} {N : Ghosts H} where
   abbrev pub mailbox_of : SeatInbox H N → ℕ
   mailbox_of i = i.place
 
-  -- as a post, it shows all that was ever sent and which mailbox it is of, and no capacity decides what it refuses
+  abbrev pub capacity_of : SeatPost H N → ℕ
+  capacity_of p = ends.capacity_of p.post
+
+  -- it shows what its channel's post does, all that was ever sent among it, and which mailbox it is of
   abbrev pub as_outbox : SeatPost H N → Outbox
-  as_outbox p = record { items = sent p; refusals = p.post.refusals; capacity = None; mailbox = Some p.place }
+  as_outbox p = let b = ends.as_outbox p.post in record { items = b.items; refusals = b.refusals; capacity = b.capacity; mailbox = Some p.place }
 
   -- the second is the first after some calls
   abbrev pub IsSamePost : SeatPost H N → SeatPost H N → Type 0
@@ -37,4 +40,4 @@ module _ {H : Type 0} {N : Ghosts H} where
   pub record AreNew (capacity : ℕ) (p : SeatPost H N) (i : SeatInbox H N) : Type 0 where
     pub outbox : as_outbox p ≡ empty_outbox (mailbox_of i)
     pub taken : received i ≡ []
-    pub room : capacity_of p.post ≡ capacity
+    pub room : capacity_of p ≡ capacity

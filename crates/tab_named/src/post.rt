@@ -22,8 +22,8 @@ impl<H: House> Post for SeatPost<H> {
     ghost use Rattle.std.proofs.Common.{◌∙◌};
     ghost use Rattle.tab_model.specs.Outcome.{pushed, refused};
     ghost use Rattle.tab_outbox.specs.Posts.{refused_item, IsFull};
-    ghost use Rattle.tab_post.specs.Ends.{capacity_of, WasFull};
-    ghost use Rattle.tab_named.specs.Ends.{as_outbox, sent, IsSamePost};
+    ghost use Rattle.tab_post.specs.Ends.{WasFull};
+    ghost use Rattle.tab_named.specs.Ends.{as_outbox, sent, capacity_of, IsSamePost};
 
     ghost outbox = { λ s. as_outbox s };
 
@@ -39,7 +39,7 @@ impl<H: House> Post for SeatPost<H> {
         ensures decided { IfSome (as_outbox self.old).capacity (λ c. is_err result ≡ nat_le c (length (as_outbox self.old).items)) }
         ensures ok { OnOk result (as_outbox self.new ≡ pushed (as_outbox self.old) (item ∷ [])) }
         ensures err { IfErr result (λ r. (refused_item r ≡ item) × (as_outbox self.new ≡ refused (as_outbox self.old))) }
-        ensures full { IfErr result (λ r. IsFull r → WasFull (capacity_of self.old.post) (sent self.old)) }
+        ensures full { IfErr result (λ r. IsFull r → WasFull (capacity_of self.old) (sent self.old)) }
     {
         self.post.put(item)
     }
