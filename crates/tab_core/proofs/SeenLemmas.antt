@@ -15,14 +15,17 @@ count_seats : (bs : List Subscriber) (ss : List Seat) → length ss ≡ length (
 count_seats bs [] = refl
 count_seats bs (s ∷ ss) = ap suc (count_seats bs ss)
 
-module _ (bs : List Subscriber) (σ ρ : State) (view : state_with bs σ ≡ ρ) (n : ℕ) where
-  pub joined_seen : is_some (seat_at σ.seats n) ≡ is_joined ρ n
-  joined_seen = by (seat_at σ.seats n) refl ∙ ap (λ (μ : State). is_joined μ n) view
-    where
-      by : (o : Option Seat) → seat_at σ.seats n ≡ o → is_some o ≡ is_joined (state_with bs σ) n
-      by None e = sym (ap is_some (mapped_none bs σ n e))
-      by (Some s) e = sym (ap is_some (mapped_some bs σ n s e))
+mapped : {A B C : Type 0} (f : A → C) (g : B → C) (o : Option A) (p : Option B) → option_map f o ≡ option_map g p → is_some o ≡ is_some p
+mapped f g None None e = refl
+mapped f g (Some x) None e = cc
+mapped f g None (Some y) e = cc
+mapped f g (Some x) (Some y) e = refl
 
+pub joined_seen : {A : Type 0} (f : A → Outbox) (o : Option A) (bs : List Subscriber) (σ ρ : State) → state_with bs σ ≡ ρ → IsKept bs σ → (n : ℕ) → option_map f o ≡ option_map (λ (b : Subscriber). b.outbox) (at bs n) → is_some o ≡ is_joined ρ n
+joined_seen f o bs σ ρ view k n h =
+    mapped f (λ (s : Seat). s.outbox) o (seat_at (state_with bs σ).seats n) (h ∙ post_seen bs σ k n) ∙ ap (λ (μ : State). is_joined μ n) view
+
+module _ (bs : List Subscriber) (σ ρ : State) (view : state_with bs σ ≡ ρ) (n : ℕ) where
   pub waits_seen : is_waiting σ n ≡ is_waiting ρ n
   waits_seen = ap (λ (μ : State). is_waiting μ n) view
 

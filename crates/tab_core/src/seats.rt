@@ -9,11 +9,11 @@ use crate::Core;
 use tab_outbox::{Mailbox, Met, Post};
 
 impl<P: Post + Drop> Core<P> {
-    /// Whether the session has joined.
-    pub fn joined(&self, session: u32) -> bool
+    /// Whether a session of this number is joined.
+    pub fn joined(&self, session: u64) -> bool
         ensures { result ≡ is_joined self.now session }
     {
-        self.manager.joined(session)
+        self.subs.post(session).is_some()
     }
 
     /// Whether the session waits for a lock.
