@@ -35,4 +35,5 @@ class Connection:
         return self.events.popleft() if self.events else self.receive()
 
     def close(self):
+        self.stream.close()
         self.socket.close()

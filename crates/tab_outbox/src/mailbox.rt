@@ -1,7 +1,7 @@
 //! Posts of which the items are taken at another end.
 
 ghost use Rattle.std.specs.Prelude.{◌≡◌, ℕ, List};
-ghost use Rattle.tab_model.specs.declared.data.Item.Item as ItemOf;
+ghost use Rattle.tab_model.specs.declared.data.Item.{Item as ItemOf};
 ghost use Rattle.tab_outbox.specs.Mailboxes.{Tells};
 
 use crate::post::Post;
