@@ -3,6 +3,7 @@ use Rattle.std.proofs.Common.{◌≡◌, ◌≢◌, ◌≤◌, ◌<◌, ◌⊎�
 use Rattle.std.specs.Prelude.{◌==◌, ◌-◌, ◌^◌, if◌then◌else◌, nat_lt, is_some}
 use Rattle.std.proofs.lemmas.Bool.Decides.{nat_tests}
 use Rattle.tab_model.specs.declared.data.Command.{Command}
+use Rattle.tab_model.specs.declared.data.Command.TheVariants as command
 use Rattle.tab_model.specs.declared.data.Entry.{Entry}
 use Rattle.tab_model.specs.declared.data.Limits.{Limits}
 use Rattle.tab_model.specs.declared.data.Reply.{Reply}
@@ -11,13 +12,16 @@ use Rattle.tab_model.specs.Standing.{JoinsChannel, MayStand, Stands, is_joined, 
 use Rattle.tab_model.specs.State.{Outbox, Seat, State, new, seat_at, IsSound}
 use Rattle.tab_model.specs.Outcome.{Ask, Join, Leave, Retry, Take, DoCommand, Outcome, outcome}
 use Rattle.tab_model.specs.Run.{Allowed, entries}
-use Rattle.tab_model.proofs.Entering.{enters_none}
+use Rattle.tab_model.proofs.Entering.{enters_none, seat_never}
 use Rattle.tab_model.proofs.PostsStay.{post_stays}
 use Rattle.tab_model.proofs.Schedules.{new_sound}
 use Rattle.tab_model.proofs.StandingLemmas.{new_stands, step_stands, fold_stands, forget_stands, history_of, sent_is, sent_grows, left_away}
 use Rattle.tab_journal.specs.Journals.{Kept, fold_oldest, forget}
+use Rattle.tab_core.specs.Runs.{takes_no_memory}
+use Rattle.tab_book.specs.declared.step.Step.{Step}
+use Rattle.tab_book.specs.declared.step.Step.TheVariants as step
 use Rattle.tab_book.specs.Running.{Running, IsRunning, Holds}
-use Rattle.tab_book.specs.Steps.{is_full, oldest_joined, folded, with_room, with_entries, forgetting, StepsFrom, KeepsPosts}
+use Rattle.tab_book.specs.Steps.{is_full, oldest_joined, folded, with_room, with_entries, forgetting, StepsFrom, KeepsPosts, ask_of, is_never_refused}
 
 pub new_holds : (outbox : ℕ) (limits : Limits) (n : ℕ) → 1 ≤ outbox → 1 ≤ n → Holds outbox (new limits) (record { base = empty; entries = []; limit = n })
 new_holds outbox limits n room limit = record {
@@ -144,3 +148,26 @@ a_fold σ n a j h = ap (λ b. if b then folded σ j else j) h
 
 pub room_left : (outbox : ℕ) (σ : State) (j : Kept) → Holds outbox σ j → is_full j ≡ false → length j.entries < j.limit
 room_left outbox σ j k h = let w = k.within in grind (arith, nat_tests)
+
+-- ---- what is never refused
+
+nothing_entered : (b c : Bool) → c ≡ false → (b && c) ≡ false
+nothing_entered true c h = h
+nothing_entered false c h = refl
+
+pub never_refused : (σ : State) (n : ℕ) (j : Kept) (s : Step) → is_never_refused s ≡ true → (takes_no_memory σ n (ask_of s) ≡ true) × ((is_full j && may_enter σ n (ask_of s)) ≡ false)
+never_refused σ n j step.Leave h = (refl, nothing_entered (is_full j) (may_enter σ n Leave) refl)
+never_refused σ n j step.Retry h = cc
+never_refused σ n j (step.Do (command.Abort r)) h = (refl, nothing_entered (is_full j) (may_enter σ n (DoCommand (command.Abort r))) (seat_never σ n (DoCommand (command.Abort r)) by))
+  where
+    by : (b : Bool) → Rattle.tab_model.specs.Standing.may_enter_seat σ n (DoCommand (command.Abort r)) b ≡ false
+    by true = refl
+    by false = refl
+never_refused σ n j (step.Do (command.Schema c)) h = cc
+never_refused σ n j (step.Do (command.TableInfo t i)) h = cc
+never_refused σ n j (step.Do command.Begin) h = cc
+never_refused σ n j (step.Do command.Commit) h = cc
+never_refused σ n j (step.Do (command.Do o)) h = cc
+never_refused σ n j (step.Do (command.Subscribe t l dump)) h = cc
+never_refused σ n j (step.Do (command.Unsubscribe t l)) h = cc
+never_refused σ n j (step.Do (command.OneShot parts retries)) h = cc

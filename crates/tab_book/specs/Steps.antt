@@ -8,7 +8,7 @@ use Rattle.tab_model.specs.declared.data.Reply.{Reply}
 use Rattle.tab_model.specs.History.{slice_since_after}
 use Rattle.tab_model.specs.Standing.{is_joined, still_joined, may_enter}
 use Rattle.tab_model.specs.State.{Outbox, Seat, State, seat_at}
-use Rattle.tab_model.specs.Outcome.{Ask, Leave, Retry, DoCommand, fresh, outcome}
+use Rattle.tab_model.specs.Outcome.{Ask, Leave, Retry, DoCommand, fresh, is_abort, outcome}
 use Rattle.tab_model.specs.Run.{Allowed, entries}
 use Rattle.tab_journal.specs.Journals.{Kept, fold_oldest, forget}
 use Rattle.tab_named.specs.Ends.{empty_outbox}
@@ -22,6 +22,12 @@ abbrev pub ask_of : Step → Ask
 ask_of step.Leave = Leave
 ask_of (step.Do c) = DoCommand c
 ask_of step.Retry = Retry
+
+-- a session can leave and abort whatever memory is left
+abbrev pub is_never_refused : Step → Bool
+is_never_refused step.Leave = true
+is_never_refused (step.Do c) = is_abort c
+is_never_refused step.Retry = false
 
 abbrev pub is_full : Kept → Bool
 is_full j = length j.entries == j.limit

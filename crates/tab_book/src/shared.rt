@@ -1,7 +1,11 @@
 //! A book that threads share.
 
+ghost use Rattle.std.specs.Prelude.{◌≡◌, ◌≢◌, true, IfOk, IsOk};
+ghost use Rattle.tab_model.specs.declared.data.Reply.TheVariants as reply;
+ghost use Rattle.tab_model.specs.Outcome.{is_abort};
 ghost use Rattle.tab_named.specs.Ends.{received};
 ghost use Rattle.tab_book.specs.Inboxes.{TakesIt};
+ghost use Rattle.tab_book.specs.Steps.{is_never_refused};
 
 use crate::book::Book;
 use crate::step::{Drained, JoinFault, Step};
@@ -61,12 +65,16 @@ impl<H: House> Shared<H> {
     }
 
     /// A command of the session, once: it is told `Waiting` where it has to wait for a lock.
-    pub fn step(&self, house: &H, seat: &Seat, command: Command) -> Result<Told, AllocError> {
+    pub fn step(&self, house: &H, seat: &Seat, command: Command) -> Result<Told, AllocError>
+        ensures { is_abort command ≡ true → IsOk result }
+    {
         self.make(&mut self.book.lock(house), seat, Step::Do(command))
     }
 
     /// Waits for a release, and asks again for the lock that the session waits for, until it is told otherwise.
-    pub fn retry(&self, house: &H, seat: &Seat) -> Result<Told, AllocError> {
+    pub fn retry(&self, house: &H, seat: &Seat) -> Result<Told, AllocError>
+        ensures { IfOk result (λ r. r ≢ reply.Waiting) }
+    {
         let mut book = self.book.lock(house);
         for _ in house.forever() {
             let told = self.make(&mut book, seat, Step::Retry)?;
@@ -97,7 +105,9 @@ impl<H: House> Shared<H> {
     }
 
     /// A step, after which all that wait are woken where it released locks or dropped a queued request.
-    fn make(&self, book: &mut Book<H>, seat: &Seat, step: Step) -> Result<Told, AllocError> {
+    fn make(&self, book: &mut Book<H>, seat: &Seat, step: Step) -> Result<Told, AllocError>
+        ensures { is_never_refused step ≡ true → IsOk result }
+    {
         let retries = matches!(step, Step::Retry);
         let was_open = book.is_open(seat.session);
         let waited = book.waits(seat.session);
