@@ -13,7 +13,7 @@ ghost use Rattle.tab_proto.specs.Replies.{reply_term as reply_term_of, item_term
 
 use std::io::Write;
 use tab_etf::{
-    Body, Counted, EncodeFault, FrameFault, Leaf, Outline, append_frame, append_outline, write_outline,
+    Body, Counted, EncodeFault, FrameFault, Leaf, Outline, append_outline, write_outline,
 };
 use tab_model::{Ending, Item, Kind, Level, Limit, Reply, TableInfo};
 use tab_term::{Atom, Term, Terms};
@@ -46,25 +46,6 @@ pub fn append_reply(
     append_outline(&response_of(session, reply), out)
 }
 
-/// Adds the frames of an item as a subscriber reads it: of a batch one for each of its events, in order, else one of its
-/// mark. On an error some of them may stand.
-pub fn append_item(item: &Item, out: &mut Vec<u8>) -> Result<(), EncodeFault> {
-    match item {
-        Item::Batch(_, events) => {
-            for event in events.as_slice() {
-                append_frame(event, out)?;
-            }
-            Ok(())
-        }
-        mark => append_outline(&item_outline(mark), out),
-    }
-}
-
-/// Adds the frame of an overflow.
-pub fn append_overflow(number: u64, out: &mut Vec<u8>) -> Result<(), EncodeFault> {
-    append_outline(&worded("mnesia_overflow", Leaf::Number(number)), out)
-}
-
 fn response_of(session: Option<u32>, reply: &Reply) -> Outline<'_>
     ensures term { outline_term result ≡ response session reply.now }
     ensures short { IsShortOutline result }
@@ -81,7 +62,7 @@ fn response_of(session: Option<u32>, reply: &Reply) -> Outline<'_>
     }
 }
 
-fn outline_of(reply: &Reply) -> Outline<'_>
+pub(crate) fn outline_of(reply: &Reply) -> Outline<'_>
     ensures { IsOutlineOf result (reply_term_of reply.now) }
 {
     match reply {
@@ -248,7 +229,7 @@ fn told_of<'a>(text: &'a str, first: Leaf<'a>, second: Leaf<'a>) -> Outline<'a>
     }
 }
 
-fn item_outline(item: &Item) -> Outline<'_>
+pub(crate) fn item_outline(item: &Item) -> Outline<'_>
     ensures { IsOutlineOf result (item_term_of item.now) }
 {
     match item {
