@@ -8,6 +8,7 @@ mod call;
 mod command_terms;
 mod commands;
 mod fault;
+mod events;
 mod first_words;
 mod laws;
 mod levels;
@@ -19,7 +20,8 @@ mod requests;
 mod telling;
 
 pub use command_terms::term_of;
-pub use commands::command;
+pub use commands::{command, read_command};
+pub use events::{append_item, append_overflow};
 pub use fault::ProtoFault;
 pub use laws::requests_are_apart;
 pub use replying::{append_reply, write_reply};
