@@ -7,4 +7,6 @@ mod client;
 #[cfg(test)]
 mod gates;
 #[cfg(test)]
+mod held;
+#[cfg(test)]
 mod threads;
