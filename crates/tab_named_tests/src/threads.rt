@@ -64,10 +64,7 @@ fn exchange<H: House + Threads + Abort + Send + Sync>(
     Ok(())
 }
 
-fn exchange_named<
-    J: Naming + Send + Sync,
-    R: Wait + Threads + Abort + Copy + Send + Sync,
->(
+fn exchange_named<J: Naming + Send + Sync, R: Wait + Threads + Abort + Copy + Send + Sync>(
     rt: R,
     alloc: Global,
     opened: Opened<Line>,
