@@ -8,7 +8,7 @@ use Rattle.tab_model.specs.declared.data.Reply.{Reply}
 use Rattle.tab_model.specs.History.{slice_since_after}
 use Rattle.tab_model.specs.Standing.{is_joined, still_joined, may_enter}
 use Rattle.tab_model.specs.State.{Outbox, Seat, State, seat_at}
-use Rattle.tab_model.specs.Outcome.{Ask, Leave, Retry, DoCommand, fresh, is_abort, outcome}
+use Rattle.tab_model.specs.Outcome.{Ask, Join, Leave, Retry, Take, DoCommand, fresh, is_abort, outcome}
 use Rattle.tab_model.specs.Run.{Allowed, entries}
 use Rattle.tab_journal.specs.Journals.{Kept, fold_oldest, forget}
 use Rattle.tab_named.specs.Ends.{empty_outbox}
@@ -47,10 +47,17 @@ with_room σ n a j = if is_full j && may_enter σ n a then folded σ j else j
 abbrev pub with_entries : Kept → List Entry → Kept
 with_entries j es = record { base = j.base; entries = j.entries ++ es; limit = j.limit }
 
--- a session that leaves is forgotten
+-- whether a joined session leaves
+abbrev pub leaves : State → ℕ → Ask → Bool
+leaves σ n Leave = is_joined σ n
+leaves σ n (Join b) = false
+leaves σ n Retry = false
+leaves σ n Take = false
+leaves σ n (DoCommand c) = false
+
+-- it is forgotten
 abbrev pub forgetting : State → ℕ → Ask → Kept → Kept
-forgetting σ n Leave j = if is_joined σ n then forget j n else j
-forgetting σ n a j = j
+forgetting σ n a j = if leaves σ n a then forget j n else j
 
 -- a step that was made, over a journal with room for its entry
 pub record StepsFrom (σ : State) (journal : Kept) (n : ℕ) (a : Ask) (r : Reply) (new : Running) : Type 0 where

@@ -6,7 +6,7 @@ ghost use Rattle.tab_model.specs.Run.{entries};
 ghost use Rattle.tab_model.specs.Standing.{may_enter as may_enter_of};
 ghost use Rattle.tab_core.specs.Runs.{takes_no_memory, ask_of as core_ask_of};
 ghost use Rattle.tab_book.specs.Running.{IsRunning};
-ghost use Rattle.tab_book.specs.Steps.{ask_of, is_full, folded, oldest_joined as oldest_joined_of, with_entries, StepsFrom, StepsTo, MayFold, KeepsPosts};
+ghost use Rattle.tab_book.specs.Steps.{ask_of, is_full, leaves as leaves_of, folded, oldest_joined as oldest_joined_of, with_entries, StepsFrom, StepsTo, MayFold, KeepsPosts};
 
 use crate::book::Book;
 use crate::step::Step;
@@ -40,7 +40,7 @@ impl<H: House> Book<H> {
         ensures err { OnErr result (self.new ≡ self.old) }
         ensures posts { KeepsPosts self.old.state self.new.state }
     {
-        let leaves = matches!(step, Step::Leave) && self.core.joined(session as u64);
+        let leaves = self.leaves(session, &step);
         let stepped = self.core.step(session, core_step(step))?;
         let reply = entered(&mut self.journal, stepped);
         if leaves {
@@ -66,6 +66,16 @@ impl<H: House> Book<H> {
     {
         match self.journal.entry(0) {
             Some(Entry::Subscribed { session, .. }) => self.core.joined(*session),
+            _ => false,
+        }
+    }
+
+    /// Whether a joined session leaves.
+    fn leaves(&self, session: u32, step: &Step) -> bool
+        ensures { result ≡ leaves_of self.now.state session (ask_of step.now) }
+    {
+        match step {
+            Step::Leave => self.core.joined(session as u64),
             _ => false,
         }
     }

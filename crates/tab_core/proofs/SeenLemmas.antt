@@ -32,9 +32,6 @@ module _ (bs : List Subscriber) (σ ρ : State) (view : state_with bs σ ≡ ρ)
   pub admits_seen : (nat_lt σ.greatest n && nat_lt (length σ.seats) σ.limits.sessions) ≡ (nat_lt ρ.greatest n && nat_lt (length ρ.seats) ρ.limits.sessions)
   admits_seen = ap (λ k. nat_lt σ.greatest n && nat_lt k σ.limits.sessions) (count_seats bs σ.seats) ∙ ap (λ (μ : State). nat_lt μ.greatest n && nat_lt (length μ.seats) μ.limits.sessions) view
 
-  pub greatest_seen : σ.greatest ≡ ρ.greatest
-  greatest_seen = ap (λ (μ : State). μ.greatest) view
-
   pub levels_seen : min (levels_of σ n) (2 ^ 64 - 1) ≡ min (levels_of ρ n) (2 ^ 64 - 1)
   levels_seen = ap (λ k. min k (2 ^ 64 - 1)) (by (seat_at σ.seats n) refl ∙ ap (λ (μ : State). levels_of μ n) view)
     where

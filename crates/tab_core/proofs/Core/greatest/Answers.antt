@@ -1,6 +1,6 @@
-use Rattle.std.proofs.Common.{◌∙◌}
-use Rattle.tab_core.proofs.SeenLemmas.{greatest_seen}
+use Rattle.std.proofs.Common.{ap, ◌∙◌}
+use Rattle.tab_model.specs.State.{State}
 use Rattle.tab_core.proofs.Core.greatest.Goals as goal
 
 pub returns : goal.returns
-returns g c = c.greatest.ensures ∙ greatest_seen c.self.inside.subs c.self.inside.manager _ c.self.view_is c.args.session
+returns g c = c.greatest.ensures ∙ ap (λ (μ : State). μ.greatest) c.self.view_is
