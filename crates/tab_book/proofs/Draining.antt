@@ -63,3 +63,32 @@ module _ (b : Running) (n mailbox : ℕ) (before after : List Item) where
 pub takes : (σ : State) (over : List ℕ) (n : ℕ) (s : Seat) → seat_at σ.seats n ≡ Some s → AreChannels σ → outcome σ over n Take ≡ give σ s [] s.overflow
 unfolding outcome
 takes σ over n s here channels = ap (by_seat σ over n Take) here ∙ ap (λ c. give σ s (takable s.outbox c) s.overflow) (found_has IsChannel σ.seats n s channels here)
+
+-- ---- what a Take then tells
+
+module _ (σ : State) (j : Kept) (over : List ℕ) (n : ℕ) (s : Seat) (here : seat_at σ.seats n ≡ Some s) (channels : AreChannels σ) (o : Outcome) (is : outcome σ over n Take ≡ o) where
+  abbrev now : Running
+  now = record { state = σ; journal = j }
+
+  given : o ≡ give σ s [] s.overflow
+  given = sym is ∙ takes σ over n s here channels
+
+  same_state : o.state ≡ (outcome σ [] n Take).state
+  same_state = ap (λ (x : Outcome). x.state) (given ∙ sym (takes σ [] n s here channels))
+
+  pub tells : (c : ℕ) → o.reply ≡ reply.Overflow c → (s : Seat) × (seat_at σ.seats n ≡ Some s) × TellsOverflow now n s.overflow (Overflow c) (record { state = o.state; journal = j })
+  tells c r = (s, here, by s.overflow (ap (λ (x : Outcome). x.reply) (sym given) ∙ r))
+    where
+      by : (l : Option ℕ) → (give σ s [] l).reply ≡ reply.Overflow c → TellsOverflow now n l (Overflow c) (record { state = o.state; journal = j })
+      by None e = cc
+      by (Some m) e = (ap Overflow (one (sym e)), λ i. record { state = same_state i; journal = j })
+        where
+          one : reply.Overflow c ≡ reply.Overflow m → c ≡ m
+          one q = cc
+
+  pub tells_none : ((c : ℕ) → o.reply ≡ reply.Overflow c → ⊥) → (s : Seat) × (seat_at σ.seats n ≡ Some s) × TellsOverflow now n s.overflow AllTaken (record { state = o.state; journal = j })
+  tells_none not = (s, here, by s.overflow (ap (λ (x : Outcome). x.reply) given) (ap (λ (x : Outcome). x.state) given))
+    where
+      by : (l : Option ℕ) → o.reply ≡ (give σ s [] l).reply → o.state ≡ (give σ s [] l).state → TellsOverflow now n l AllTaken (record { state = o.state; journal = j })
+      by None e f = (refl, λ i. record { state = f i; journal = j })
+      by (Some m) e f = absurd (not m e)

@@ -1,6 +1,7 @@
 -- What holds of a book's parts is kept by its steps, its folds, its joins and its leaves.
 use Rattle.std.proofs.Common.{◌≡◌, ◌≢◌, ◌≤◌, ◌<◌, ◌⊎◌, inl, inr, ℕ, ◌+◌, List, [], ◌∷◌, ◌++◌, Bool, true, false, ◌&&◌, refl, sym, ap, ◌∙◌, subst, arith, append-nil, length, Option, Some, None}
-use Rattle.std.specs.Prelude.{◌==◌, ◌-◌, ◌^◌, if◌then◌else◌, nat_lt, is_some}
+use Rattle.std.specs.Bool.{Decides}
+use Rattle.std.specs.Prelude.{Result, Ok, Err, IfOk, OnOk, OnErr, ◌==◌, ◌-◌, ◌^◌, if◌then◌else◌, nat_lt, is_some}
 use Rattle.std.proofs.lemmas.Bool.Decides.{nat_tests}
 use Rattle.tab_model.specs.declared.data.Command.{Command}
 use Rattle.tab_model.specs.declared.data.Command.TheVariants as command
@@ -21,7 +22,7 @@ use Rattle.tab_core.specs.Runs.{takes_no_memory}
 use Rattle.tab_book.specs.declared.step.Step.{Step}
 use Rattle.tab_book.specs.declared.step.Step.TheVariants as step
 use Rattle.tab_book.specs.Running.{Running, IsRunning, Holds}
-use Rattle.tab_book.specs.Steps.{is_full, oldest_joined, folded, with_room, with_entries, forgetting, StepsFrom, KeepsPosts, ask_of, is_never_refused}
+use Rattle.tab_book.specs.Steps.{is_full, oldest_joined, folded, with_room, with_entries, leaves, forgetting, StepsFrom, KeepsPosts, ask_of, is_never_refused}
 
 pub new_holds : (outbox : ℕ) (limits : Limits) (n : ℕ) → 1 ≤ outbox → 1 ≤ n → Holds outbox (new limits) (record { base = empty; entries = []; limit = n })
 new_holds outbox limits n room limit = record {
@@ -171,3 +172,60 @@ never_refused σ n j (step.Do (command.Do o)) h = cc
 never_refused σ n j (step.Do (command.Subscribe t l dump)) h = cc
 never_refused σ n j (step.Do (command.Unsubscribe t l)) h = cc
 never_refused σ n j (step.Do (command.OneShot parts retries)) h = cc
+
+-- ---- as the calls of a book say it
+
+pub audits : {E : Type 0} (r : Result Bool E) (P : Type 0) → P → IfOk r (λ is. Decides is P) → IfOk r (λ is. is ≡ true)
+audits (Ok b) P p h = h.1 p
+audits (Err e) P p h = tt
+
+-- whether or not memory was refused
+pub fold_kept : {A E : Type 0} (r : Result A E) (outbox : ℕ) (σ : State) (j now : Kept) (joined : Bool) → Holds outbox σ j → joined ≡ oldest_joined σ j.entries
+    → OnOk r (now ≡ fold_oldest joined j) → OnErr r (now ≡ j) → Holds outbox σ now
+fold_kept (Ok x) outbox σ j now joined k is ok err = subst (Holds outbox σ) (ap (λ b. fold_oldest b j) (sym is) ∙ sym ok) (fold_holds outbox σ j k)
+fold_kept (Err e) outbox σ j now joined k is ok err = subst (Holds outbox σ) (sym err) k
+
+-- a Take gives no entry
+pub take_holds : (outbox : ℕ) (σ : State) (j : Kept) → Holds outbox σ j → (over : List ℕ) (n : ℕ) (o : Outcome) → outcome σ over n Take ≡ o → IsSound o.state → Holds outbox o.state j
+take_holds outbox σ j k over n o is sound =
+    let none : entries o.entry ≡ [] = ap (λ (x : Outcome). entries x.entry) (sym is) ∙ ap entries (enters_none σ over n Take (seat_never σ n Take (λ b. refl))) in
+    subst (Holds outbox o.state) (ap (with_entries j) none ∙ (λ i. record { base = j.base; entries = append-nil j.entries i; limit = j.limit }))
+    (step_holds outbox σ j k over n Take o is tt sound (λ some. absurd (some none)))
+
+-- ---- a step that was made, with its entry and its leaving
+
+module _ (outbox : ℕ) (σ : State) (j : Kept) (k : Holds outbox σ j) (over : List ℕ) (n : ℕ) (a : Ask) (o : Outcome) (is : outcome σ over n a ≡ o) (joins : JoinsChannel a) where
+  pub made_holds : IsSound o.state → (may_enter σ n a ≡ true → length j.entries < j.limit) → (entered now : Kept) → entered ≡ with_entries j (entries o.entry)
+      → (b : Bool) → b ≡ leaves σ n a → now ≡ (if b then forget entered n else entered) → Holds outbox o.state now
+  made_holds sound room entered now e b l f = by b l (subst (Holds outbox o.state) (sym e) (step_holds outbox σ j k over n a o is joins sound (one_fits σ j over n a o is room))) f
+    where
+      by : (b : Bool) → b ≡ leaves σ n a → Holds outbox o.state entered → now ≡ (if b then forget entered n else entered) → Holds outbox o.state now
+      by true l h f = subst (Holds outbox o.state) (sym f) (forget_holds outbox o.state entered n (gone l) h)
+        where
+          gone : true ≡ leaves σ n a → MayStand o.state n → ⊥
+          gone l = of_leave a is l
+            where
+              of_leave : (a : Ask) → outcome σ over n a ≡ o → true ≡ leaves σ n a → MayStand o.state n → ⊥
+              of_leave Leave q l = leaver_gone σ over n o k.sound (sym l) q
+              of_leave (Join b) q l = cc
+              of_leave Retry q l = cc
+              of_leave Take q l = cc
+              of_leave (DoCommand c) q l = cc
+      by false l h f = subst (Holds outbox o.state) (sym f) h
+
+  pub made_steps : Allowed σ over n a → (entered now : Kept) → entered ≡ with_entries j (entries o.entry) → (b : Bool) → b ≡ leaves σ n a → now ≡ (if b then forget entered n else entered)
+      → StepsFrom σ j n a o.reply (record { state = o.state; journal = now })
+  made_steps allowed entered now e b l f = record {
+    over = over;
+    entry = o.entry;
+    allowed = allowed;
+    core = is;
+    entered = f ∙ (λ i. if l i then forget (e i) n else e i);
+    sent = step_sent outbox σ j k over n a o is joins;
+  }
+
+-- a session's own step joins no one
+pub own_ask : (s : Step) → JoinsChannel (ask_of s)
+own_ask step.Leave = tt
+own_ask (step.Do c) = tt
+own_ask step.Retry = tt

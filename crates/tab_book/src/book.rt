@@ -102,7 +102,6 @@ impl<H: House> Book<H> {
         ensures ok { IfOk result (λ r. Joins self.old r.0 (mailbox_of r.1) (received r.1) self.new) }
         ensures err { IfErr result (λ e. Refuses self.old e self.new) }
         ensures posts { KeepsPosts self.old.state self.new.state }
-        ensures running { IsRunning self.new }
     {
         if !self.has_room() {
             return Err(JoinFault::Limit);

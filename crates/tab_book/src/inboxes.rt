@@ -4,7 +4,6 @@ ghost use Rattle.std.specs.Prelude.{◌≡◌, Some};
 ghost use Rattle.tab_model.specs.State.{Seat, seat_at};
 ghost use Rattle.tab_named.specs.Ends.{mailbox_of, received};
 ghost use Rattle.tab_book.specs.Inboxes.{Drains, TellsOverflow};
-ghost use Rattle.tab_book.specs.Running.{IsRunning};
 ghost use Rattle.tab_book.specs.Steps.{KeepsPosts};
 
 use crate::book::Book;
@@ -21,7 +20,6 @@ impl<H: House> Book<H> {
         ensures drained { Drains self.old session (mailbox_of inbox.old) (received inbox.old) result (received inbox.new) self.new }
         ensures mailbox { mailbox_of inbox.new ≡ mailbox_of inbox.old }
         ensures posts { KeepsPosts self.old.state self.new.state }
-        ensures running { IsRunning self.new }
     {
         match self.core.meet(session, inbox) {
             None => Drained::Left,

@@ -5,7 +5,6 @@ ghost use Rattle.tab_model.specs.State.{Outbox};
 ghost use Rattle.tab_model.specs.Run.{entries};
 ghost use Rattle.tab_model.specs.Standing.{may_enter as may_enter_of};
 ghost use Rattle.tab_core.specs.Runs.{takes_no_memory, ask_of as core_ask_of};
-ghost use Rattle.tab_book.specs.Running.{IsRunning};
 ghost use Rattle.tab_book.specs.Steps.{ask_of, is_full, leaves as leaves_of, folded, oldest_joined as oldest_joined_of, with_entries, StepsFrom, StepsTo, MayFold, KeepsPosts};
 
 use crate::book::Book;
@@ -25,7 +24,6 @@ impl<H: House> Book<H> {
         ensures free { takes_no_memory self.old.state session (ask_of step) ≡ true → (is_full self.old.journal && may_enter_of self.old.state session (ask_of step)) ≡ false → IsOk result }
         ensures err { OnErr result (MayFold self.old session (ask_of step) self.new) }
         ensures posts { KeepsPosts self.old.state self.new.state }
-        ensures running { IsRunning self.new }
     {
         if self.journal.full() && self.may_enter(session, &step) {
             self.fold()?;
