@@ -92,3 +92,12 @@ module _ (σ : State) (j : Kept) (over : List ℕ) (n : ℕ) (s : Seat) (here : 
       by : (l : Option ℕ) → o.reply ≡ (give σ s [] l).reply → o.state ≡ (give σ s [] l).state → TellsOverflow now n l AllTaken (record { state = o.state; journal = j })
       by None e f = (refl, λ i. record { state = f i; journal = j })
       by (Some m) e f = absurd (not m e)
+
+-- ---- as the call says it
+
+module _ (b : Running) (n mailbox : ℕ) (before after : List Item) (r : Option Met) (x : Met) (is : r ≡ Some x) where
+  pub taken_there_at : x ≡ met.All → Meets (boxes b n) mailbox before r after → (s : Seat) × (seat_at b.state.seats n ≡ Some s)
+  taken_there_at e h = taken_there b n mailbox before after (subst (λ (o : Option Met). Meets (boxes b n) mailbox before o after) (is ∙ ap Some e) h)
+
+  pub apart_at : x ≡ met.Apart → Meets (boxes b n) mailbox before r after → Drains b n mailbox before AllTaken after b
+  apart_at e h = apart b n mailbox before after (subst (λ (o : Option Met). Meets (boxes b n) mailbox before o after) (is ∙ ap Some e) h)

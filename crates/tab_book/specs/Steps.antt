@@ -88,12 +88,14 @@ KeepsPosts σ τ = (m : ℕ) (s r : Seat) → seat_at σ.seats m ≡ Some s → 
 abbrev pub has_room : State → Bool
 has_room σ = nat_lt σ.greatest (2 ^ 32 - 1) && nat_lt (length σ.seats) σ.limits.sessions
 
+abbrev pub with_seat : State → ℕ → Outbox → State
+with_seat σ n b = record { tables = σ.tables; seats = σ.seats ++ fresh n b ∷ []; queue = σ.queue; next_age = σ.next_age; commits = σ.commits; greatest = n; limits = σ.limits }
+
 -- the next number joins, whose post's other end is that of this mailbox, and nothing was taken there
 pub record Joins (old : Running) (session mailbox : ℕ) (taken : List Item) (new : Running) : Type 0 where
   pub room : has_room old.state ≡ true
   pub number : session ≡ old.state.greatest + 1
-  pub seats : new.state.seats ≡ old.state.seats ++ fresh session (empty_outbox mailbox) ∷ []
-  pub state : new.state ≡ record { tables = old.state.tables; seats = new.state.seats; queue = old.state.queue; next_age = old.state.next_age; commits = old.state.commits; greatest = session; limits = old.state.limits }
+  pub state : new.state ≡ with_seat old.state session (empty_outbox mailbox)
   pub nothing_taken : taken ≡ []
   pub journal : new.journal ≡ old.journal
 

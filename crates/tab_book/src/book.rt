@@ -1,11 +1,11 @@
 //! A core over mailboxes, and its journal.
 
-ghost use Rattle.std.specs.Prelude.{◌≡◌, ◌≤◌, ◌+◌, [], true, IfOk, IfErr, OnErr};
+ghost use Rattle.std.specs.Prelude.{◌≡◌, ◌≤◌, ◌+◌, ℕ, [], true, IfOk, IfErr, OnOk, OnErr};
 ghost use Rattle.tab_model.specs.History.{empty as empty_base};
 ghost use Rattle.tab_model.specs.State.{new as new_state};
-ghost use Rattle.tab_named.specs.Ends.{mailbox_of, received};
+ghost use Rattle.tab_named.specs.Ends.{as_outbox, empty_outbox, mailbox_of, received};
 ghost use Rattle.tab_book.specs.Running.{IsRunning};
-ghost use Rattle.tab_book.specs.Steps.{Joins, Refuses, has_room as has_room_of, KeepsPosts};
+ghost use Rattle.tab_book.specs.Steps.{Joins, Refuses, has_room as has_room_of, with_seat, KeepsPosts};
 
 use crate::step::JoinFault;
 use std::alloc::{AllocError, Global};
@@ -116,10 +116,23 @@ impl<H: House> Book<H> {
         ) else {
             return Err(JoinFault::NoMemory);
         };
-        match self.core.step(session, Step::Join(post)) {
-            Ok(_) => Ok((session, inbox)),
+        match self.seat(session, post) {
+            Ok(()) => Ok((session, inbox)),
             Err(_) => Err(JoinFault::NoMemory),
         }
+    }
+
+    /// The session joins with this post.
+    fn seat(&mut self, session: u32, post: SeatPost<H>) -> Result<(), AllocError>
+        requires room { has_room_of self.old.state ≡ true }
+        requires number { session ≡ self.old.state.greatest + 1 }
+        requires new { (m : ℕ) × (as_outbox post ≡ empty_outbox m) }
+        ensures ok { OnOk result (self.new ≡ record { state = with_seat self.old.state session (as_outbox post); journal = self.old.journal }) }
+        ensures err { OnErr result (self.new ≡ self.old) }
+    {
+        let stepped = self.core.step(session, Step::Join(post))?;
+        drop(stepped.into_reply());
+        Ok(())
     }
 
     /// Whether the session has a transaction open.
