@@ -2,16 +2,18 @@
 use Rattle.std.proofs.Common.{◌≡◌, ◌≢◌, ◌≤◌, ◌<◌, ◌⊎◌, inl, inr, ℕ, ◌+◌, List, [], ◌∷◌, ◌++◌, Bool, true, false, ◌&&◌, refl, sym, ap, ◌∙◌, subst, arith, append-nil, length, Option, Some, None}
 use Rattle.std.specs.Bool.{Decides}
 use Rattle.std.specs.Prelude.{Result, Ok, Err, IfOk, OnOk, OnErr, ◌==◌, ◌-◌, ◌^◌, if◌then◌else◌, nat_lt, is_some}
+use Rattle.std.proofs.lemmas.Bool.{and_parts}
 use Rattle.std.proofs.lemmas.Bool.Decides.{nat_tests}
 use Rattle.tab_model.specs.declared.data.Command.{Command}
 use Rattle.tab_model.specs.declared.data.Command.TheVariants as command
 use Rattle.tab_model.specs.declared.data.Entry.{Entry}
 use Rattle.tab_model.specs.declared.data.Limits.{Limits}
 use Rattle.tab_model.specs.declared.data.Reply.{Reply}
+use Rattle.tab_model.specs.declared.data.Reply.TheVariants as reply
 use Rattle.tab_model.specs.History.{Base, empty, slice_since_after}
 use Rattle.tab_model.specs.Standing.{JoinsChannel, MayStand, Stands, is_joined, still_joined, may_enter}
 use Rattle.tab_model.specs.State.{Outbox, Seat, State, new, seat_at, IsSound}
-use Rattle.tab_model.specs.Outcome.{Ask, Join, Leave, Retry, Take, DoCommand, Outcome, outcome}
+use Rattle.tab_model.specs.Outcome.{Ask, Join, Leave, Retry, Take, DoCommand, Outcome, outcome, nothing, join, by_seat}
 use Rattle.tab_model.specs.Run.{Allowed, entries}
 use Rattle.tab_model.proofs.Entering.{enters_none, seat_never}
 use Rattle.tab_model.proofs.PostsStay.{post_stays}
@@ -19,10 +21,11 @@ use Rattle.tab_model.proofs.Schedules.{new_sound}
 use Rattle.tab_model.proofs.StandingLemmas.{new_stands, step_stands, fold_stands, forget_stands, history_of, sent_is, sent_grows, left_away}
 use Rattle.tab_journal.specs.Journals.{Kept, fold_oldest, forget}
 use Rattle.tab_core.specs.Runs.{takes_no_memory}
+use Rattle.tab_named.specs.Ends.{empty_outbox}
 use Rattle.tab_book.specs.declared.step.Step.{Step}
 use Rattle.tab_book.specs.declared.step.Step.TheVariants as step
 use Rattle.tab_book.specs.Running.{Running, IsRunning, Holds}
-use Rattle.tab_book.specs.Steps.{is_full, oldest_joined, folded, with_room, with_entries, leaves, forgetting, StepsFrom, KeepsPosts, ask_of, is_never_refused}
+use Rattle.tab_book.specs.Steps.{is_full, oldest_joined, folded, with_room, with_entries, leaves, forgetting, has_room, with_seat, StepsFrom, KeepsPosts, ask_of, is_never_refused}
 
 pub new_holds : (outbox : ℕ) (limits : Limits) (n : ℕ) → 1 ≤ outbox → 1 ≤ n → Holds outbox (new limits) (record { base = empty; entries = []; limit = n })
 new_holds outbox limits n room limit = record {
@@ -229,3 +232,28 @@ pub own_ask : (s : Step) → JoinsChannel (ask_of s)
 own_ask step.Leave = tt
 own_ask (step.Do c) = tt
 own_ask step.Retry = tt
+
+-- ---- the next number joins
+
+pub joins_made : (σ : State) (over : List ℕ) (n : ℕ) (b : Outbox) → IsSound σ → has_room σ ≡ true → n ≡ σ.greatest + 1 → outcome σ over n (Join b) ≡ nothing (with_seat σ n b) reply.Done
+unfolding outcome
+joins_made σ over n b sound room is = by (seat_at σ.seats n) refl
+  where
+    above : nat_lt σ.greatest n ≡ true
+    above = grind (arith, nat_tests)
+
+    by : (o : Option Seat) → seat_at σ.seats n ≡ o → by_seat σ over n (Join b) o ≡ nothing (with_seat σ n b) reply.Done
+    by None e = λ i. join σ n b (above i) ((and_parts (nat_lt σ.greatest (2 ^ 32 - 1)) (nat_lt (length σ.seats) σ.limits.sessions) room).1 i)
+    by (Some s) e = let le = sound.joined n s e in absurd (omega (arith, le, is))
+
+pub join_holds : (outbox : ℕ) (σ : State) (j : Kept) → Holds outbox σ j → (over : List ℕ) (n : ℕ) (b : Outbox) (o : Outcome) → outcome σ over n (Join b) ≡ o → (b.capacity ≡ None) × (b.items ≡ []) → IsSound o.state → Holds outbox o.state j
+join_holds outbox σ j k over n b o is fresh sound =
+    let none : entries o.entry ≡ [] = ap (λ (x : Outcome). entries x.entry) (sym is) ∙ ap entries (enters_none σ over n (Join b) (seat_never σ n (Join b) (λ c. refl))) in
+    subst (Holds outbox o.state) (ap (with_entries j) none ∙ (λ i. record { base = j.base; entries = append-nil j.entries i; limit = j.limit }))
+    (step_holds outbox σ j k over n (Join b) o is fresh sound (λ some. absurd (some none)))
+
+pub new_post : (b : Outbox) → (m : ℕ) × (b ≡ empty_outbox m) → (b.capacity ≡ None) × (b.items ≡ [])
+new_post b h = (ap (λ (x : Outbox). x.capacity) h.1, ap (λ (x : Outbox). x.items) h.1)
+
+pub join_posts : (σ : State) (n : ℕ) (b : Outbox) → IsSound σ → has_room σ ≡ true → n ≡ σ.greatest + 1 → KeepsPosts σ (with_seat σ n b)
+join_posts σ n b sound room is m s x g h = post_stays σ sound [] n (Join b) m s x g (ap (λ (o : Outcome). seat_at o.state.seats m) (joins_made σ [] n b sound room is) ∙ h)

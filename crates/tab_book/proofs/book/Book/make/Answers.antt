@@ -46,7 +46,7 @@ returns-clause-done g c =
     subst (λ (b : Running). StepsFrom b.state b.journal n a c.entered-reply.result c.if-leaves.self) c.self.view_is
     (subst (λ (r : Reply). StepsFrom σ j n a r c.if-leaves.self) (sym c.entered-reply.ensures.reply)
     (elim c.if-leaves.branch [
-      then-leaves w ↦ subst (λ (x : Running). StepsFrom σ j n a c.in_ok-stepped.stepped.reply x) (sym w.self-is)
+      | then-leaves w ↦ subst (λ (x : Running). StepsFrom σ j n a c.in_ok-stepped.stepped.reply x) (sym w.self-is)
           (made w.forget.new.self c.entered-reply.ensures.journal true (w.if-leaves.ensures ∙ ap (λ (b : Running). leaves b.state n a) (sym c.self.view_is)) w.forget.ensures)
       | else-leaves w ↦ subst (λ (x : Running). StepsFrom σ j n a c.in_ok-stepped.stepped.reply x) (sym w.self-is)
           (made c.entered-reply.new.journal c.entered-reply.ensures.journal false (w.if-leaves.ensures ∙ ap (λ (b : Running). leaves b.state n a) (sym c.self.view_is)) refl)
@@ -61,6 +61,6 @@ returns-clause-posts g c =
     let posts : KeepsPosts σ c.step.new.self = step_posts c.self.inside.outbox σ c.self.inside.journal c.self.invariant done.0 n a _ done.2 in
     subst (λ (b : Running). KeepsPosts b.state c.if-leaves.self.state) c.self.view_is
     (elim c.if-leaves.branch [
-      then-leaves w ↦ subst (λ (x : Running). KeepsPosts σ x.state) (sym w.self-is) posts
+      | then-leaves w ↦ subst (λ (x : Running). KeepsPosts σ x.state) (sym w.self-is) posts
       | else-leaves w ↦ subst (λ (x : Running). KeepsPosts σ x.state) (sym w.self-is) posts
     ])
