@@ -1,4 +1,4 @@
-ghost use Rattle.std.specs.Prelude.{◌≡◌, [], OnOk, OnErr, IfOk, true};
+ghost use Rattle.std.specs.Prelude.{◌≡◌, ◌==◌, [], OnOk, OnErr, IfOk, true};
 ghost use Rattle.std.specs.List.{list_any};
 ghost use Rattle.tab_locks.specs.Questions.{fits};
 ghost use Rattle.tab_locks.specs.Members.{HasMore, Drops};
@@ -6,27 +6,22 @@ ghost use Rattle.tab_locks.specs.Spots.{is_holding};
 
 use crate::question::Question;
 use std::alloc::{AllocError, Global};
-use std::collections::BTreeSet;
 use std::marker::Model;
 
-/// The owners of locks on one part of a table, by their ages.
+/// The owners of locks on one part of a table, by their ages. Mostly there is one, and there are no more than sessions.
 #[derive(Drop)]
 pub(crate) struct Holders {
-    readers: BTreeSet<u64>,
-    writers: BTreeSet<u64>,
+    readers: Vec<u64>,
+    writers: Vec<u64>,
 }
 
 impl Model for Holders {
     ghost use Rattle.std.specs.Prelude.{List};
-    ghost use Rattle.std.specs.Ordering.{nat_cmp};
-    ghost use Rattle.std.specs.BTreeSet.{IsOrdered};
     ghost use Rattle.tab_locks.specs.Spots.{Holding, holdings};
 
     ghost Value = { List Holding };
 
-    ghost view = { λ a. holdings a.readers.keys a.writers.keys };
-
-    ghost invariant = { λ a. IsOrdered nat_cmp a.readers × IsOrdered nat_cmp a.writers };
+    ghost view = { λ a. holdings a.readers.items a.writers.items };
 }
 
 impl Holders {
@@ -34,8 +29,8 @@ impl Holders {
         ensures { result ≡ [] }
     {
         Holders {
-            readers: BTreeSet::new(alloc),
-            writers: BTreeSet::new(alloc),
+            readers: Vec::new(alloc),
+            writers: Vec::new(alloc),
         }
     }
 
@@ -64,32 +59,47 @@ impl Holders {
         ensures err { OnErr result (self.new ≡ self.old) }
     {
         if write {
-            self.writers.insert(age)?;
+            put(&mut self.writers, age)
         } else {
-            self.readers.insert(age)?;
+            put(&mut self.readers, age)
         }
-        Ok(())
     }
 
     pub fn remove(&mut self, age: u64, write: bool)
         ensures { Drops (is_holding (age, write)) self.old self.new }
     {
         if write {
-            self.writers.remove(&age);
+            take(&mut self.writers, age);
         } else {
-            self.readers.remove(&age);
+            take(&mut self.readers, age);
         }
     }
 }
 
-fn any_of(ages: &BTreeSet<u64>, question: Question, write: bool) -> bool
-    ensures { result ≡ list_any (λ a. fits question.relation (question.age, question.write) (a, write)) ages.now.keys }
+fn put(ages: &mut Vec<u64>, age: u64) -> Result<(), AllocError>
+    ensures ok { OnOk result (HasMore age ages.old.items ages.new.items) }
+    ensures err { OnErr result (ages.new.items ≡ ages.old.items) }
+{
+    if !ages.contains(&age) {
+        ages.push(age)?;
+    }
+    Ok(())
+}
+
+fn take(ages: &mut Vec<u64>, age: u64)
+    ensures { Drops (λ a. a == age) ages.old.items ages.new.items }
+{
+    ages.retain(|other| *other != age);
+}
+
+fn any_of(ages: &[u64], question: Question, write: bool) -> bool
+    ensures { result ≡ list_any (λ a. fits question.relation (question.age, question.write) (a, write)) ages.now }
 {
     ages.iter().any(|age| question.fits(*age, write))
 }
 
-fn is_filled(ages: &BTreeSet<u64>) -> bool
-    ensures { result ≡ list_any (λ _. true) ages.now.keys }
+fn is_filled(ages: &[u64]) -> bool
+    ensures { result ≡ list_any (λ _. true) ages.now }
 {
     !ages.is_empty()
 }

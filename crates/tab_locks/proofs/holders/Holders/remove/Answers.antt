@@ -7,16 +7,16 @@ use Rattle.tab_locks.proofs.holders.Holders.remove.Goals as goal
 
 pub returns-then-write : goal.returns-then-write
 returns-then-write c =
-    let new = holdings c.self.inside.readers.keys c.remove.new.self.keys in
+    let new = holdings c.self.inside.readers.items c.take.new.ages.items in
     let gone = λ (b : Bool). Drops (is_holding (c.args.age, b)) c.args.self.now new in
     subst gone (sym c.if-write.true) (λ p.
-    writer_gone p c.args.age c.self.inside.readers.keys c.self.inside.writers.keys c.remove.new.self.keys c.self.invariant.1 c.remove.ensures.keys
+    writer_gone p c.args.age c.self.inside.readers.items c.self.inside.writers.items c.take.new.ages.items c.take.ensures
     ∙ ap (list_any (λ h. p h && not (is_holding (c.args.age, true) h))) c.self.view_is)
 
 pub returns-else-write : goal.returns-else-write
 returns-else-write c =
-    let new = holdings c.remove-else-write.new.self.keys c.self.inside.writers.keys in
+    let new = holdings c.take-else-write.new.ages.items c.self.inside.writers.items in
     let gone = λ (b : Bool). Drops (is_holding (c.args.age, b)) c.args.self.now new in
     subst gone (sym c.if-write.false) (λ p.
-    reader_gone p c.args.age c.self.inside.readers.keys c.self.inside.writers.keys c.remove-else-write.new.self.keys c.self.invariant.0 c.remove-else-write.ensures.keys
+    reader_gone p c.args.age c.self.inside.readers.items c.self.inside.writers.items c.take-else-write.new.ages.items c.take-else-write.ensures
     ∙ ap (list_any (λ h. p h && not (is_holding (c.args.age, false) h))) c.self.view_is)
