@@ -1,4 +1,4 @@
-ghost use Rattle.std.specs.Prelude.{◌≡◌, ◌==◌, [], OnOk, OnErr, IfOk, true};
+ghost use Rattle.std.specs.Prelude.{◌≡◌, [], OnOk, OnErr, IfOk, true};
 ghost use Rattle.std.specs.List.{list_any};
 ghost use Rattle.tab_locks.specs.Questions.{fits};
 ghost use Rattle.tab_locks.specs.Members.{HasMore, Drops};
@@ -8,20 +8,20 @@ use crate::question::Question;
 use std::alloc::{AllocError, Global};
 use std::marker::Model;
 
-/// The owners of locks on one part of a table, by their ages. Mostly there is one, and there are no more than sessions.
+/// The owners of locks on one part of a table, by their ages, each with whether it holds for writing. Mostly there is one, and
+/// no more than two for each session.
 #[derive(Drop)]
 pub(crate) struct Holders {
-    readers: Vec<u64>,
-    writers: Vec<u64>,
+    held: Vec<(u64, bool)>,
 }
 
 impl Model for Holders {
     ghost use Rattle.std.specs.Prelude.{List};
-    ghost use Rattle.tab_locks.specs.Spots.{Holding, holdings};
+    ghost use Rattle.tab_locks.specs.Spots.{Holding};
 
     ghost Value = { List Holding };
 
-    ghost view = { λ a. holdings a.readers.items a.writers.items };
+    ghost view = { λ a. a.held.items };
 }
 
 impl Holders {
@@ -29,8 +29,7 @@ impl Holders {
         ensures { result ≡ [] }
     {
         Holders {
-            readers: Vec::new(alloc),
-            writers: Vec::new(alloc),
+            held: Vec::new(alloc),
         }
     }
 
@@ -45,61 +44,53 @@ impl Holders {
     pub fn is_occupied(&self) -> bool
         ensures { result ≡ list_any (λ _. true) self.now }
     {
-        is_filled(&self.readers) || is_filled(&self.writers)
+        is_filled(&self.held)
     }
 
     pub fn any(&self, question: Question) -> bool
         ensures { result ≡ list_any (fits question.relation (question.age, question.write)) self.now }
     {
-        any_of(&self.readers, question, false) || any_of(&self.writers, question, true)
+        any_of(&self.held, question)
     }
 
     pub fn add(&mut self, age: u64, write: bool) -> Result<(), AllocError>
         ensures ok { OnOk result (HasMore (age, write) self.old self.new) }
         ensures err { OnErr result (self.new ≡ self.old) }
     {
-        if write {
-            put(&mut self.writers, age)
-        } else {
-            put(&mut self.readers, age)
+        if !is_among(&self.held, age, write) {
+            self.held.push((age, write))?;
         }
+        Ok(())
     }
 
     pub fn remove(&mut self, age: u64, write: bool)
         ensures { Drops (is_holding (age, write)) self.old self.new }
     {
-        if write {
-            take(&mut self.writers, age);
-        } else {
-            take(&mut self.readers, age);
-        }
+        self.held.retain(|holding| !is_it(*holding, age, write));
     }
 }
 
-fn put(ages: &mut Vec<u64>, age: u64) -> Result<(), AllocError>
-    ensures ok { OnOk result (HasMore age ages.old.items ages.new.items) }
-    ensures err { OnErr result (ages.new.items ≡ ages.old.items) }
+fn is_it(holding: (u64, bool), age: u64, write: bool) -> bool
+    ensures { result ≡ is_holding (age, write) holding }
 {
-    if !ages.contains(&age) {
-        ages.push(age)?;
-    }
-    Ok(())
+    holding.0 == age && holding.1 == write
 }
 
-fn take(ages: &mut Vec<u64>, age: u64)
-    ensures { Drops (λ a. a == age) ages.old.items ages.new.items }
+fn is_among(held: &[(u64, bool)], age: u64, write: bool) -> bool
+    ensures { result ≡ list_any (is_holding (age, write)) held.now }
 {
-    ages.retain(|other| *other != age);
+    held.iter().any(|holding| is_it(*holding, age, write))
 }
 
-fn any_of(ages: &[u64], question: Question, write: bool) -> bool
-    ensures { result ≡ list_any (λ a. fits question.relation (question.age, question.write) (a, write)) ages.now }
+fn any_of(held: &[(u64, bool)], question: Question) -> bool
+    ensures { result ≡ list_any (fits question.relation (question.age, question.write)) held.now }
 {
-    ages.iter().any(|age| question.fits(*age, write))
+    held.iter()
+        .any(|holding| question.fits(holding.0, holding.1))
 }
 
-fn is_filled(ages: &[u64]) -> bool
-    ensures { result ≡ list_any (λ _. true) ages.now }
+fn is_filled(held: &[(u64, bool)]) -> bool
+    ensures { result ≡ list_any (λ _. true) held.now }
 {
-    !ages.is_empty()
+    !held.is_empty()
 }
