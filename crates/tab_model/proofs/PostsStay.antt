@@ -19,7 +19,6 @@ use Rattle.tab_model.specs.Schemas.{table_of_schema, schema_refusal, removed}
 use Rattle.tab_model.specs.State.{AreDistinct, IsSound, Outbox, Transaction, Watch, Seat, Queued, State, seat_at, request_in, is_waiting, ages_of, is_busy, level_in, mid_of, count_moves}
 use Rattle.tab_model.specs.Outcome.{Ask, Join, Leave, Retry, Take, DoCommand, Outcome, outcome, is_empty, change, without_seat, made, decided, within, operate, retried, retry_in, retry, opened, nested, begin, one_shot, abort, overflowed, pushed, takable, given, batch_to, commit_at, commit, events_now, unwatched, end_to, has_room, schema_if, schema, marked, subscribe_refusal, subscribe, unsubscribe, is_at, do_command, is_abort, command_if, give, leave, join, unseated, seated, by_seat}
 use Rattle.tab_model.specs.Run.{Allowed, Pinned, put_ask, put_command, put_commit, put_schema}
-
 use Rattle.std.proofs.lemmas.Bool.Decides.{nat_tests}
 use Rattle.tab_model.proofs.Seats.{eq_true, itself, found}
 

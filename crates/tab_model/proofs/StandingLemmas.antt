@@ -176,8 +176,8 @@ module _ (past : List Entry) (b : Base) (log : List Entry) (σ : State) (k : Sta
   pub sent_grows : (more : List Entry) (τ : State) (r : Seat) → Stands past b (log ++ more) τ → seat_at τ.seats n ≡ Some r → r.outbox.items ≡ s.outbox.items ++ slice_since_after b n log more
   sent_grows more τ r h there =
       let now : r.outbox.items ≡ slice n past ++ slice_since b n (log ++ more)
-          = (h.tied.seats n r there).items ∙ slice_parts n past (log ++ more) ∙ ap (λ xs. slice n past ++ xs)
-            (ap (λ es. slice_after n es (log ++ more)) (sym (append-nil past)) ∙ slice_is past b n k.folded.tables (λ t. k.folded.levels n t (inl (is_seat (seat_at σ.seats n) s here))) [] (log ++ more)) in
+      = (h.tied.seats n r there).items ∙ slice_parts n past (log ++ more) ∙ ap (λ xs. slice n past ++ xs)
+      (ap (λ es. slice_after n es (log ++ more)) (sym (append-nil past)) ∙ slice_is past b n k.folded.tables (λ t. k.folded.levels n t (inl (is_seat (seat_at σ.seats n) s here))) [] (log ++ more)) in
       now ∙ ap (λ xs. slice n past ++ xs) (since_parts b n [] log more) ∙ sym (append_assoc (slice n past) _ _) ∙ ap (λ xs. xs ++ slice_since_after b n log more) (sym sent_is)
 
 -- ---- the oldest entry is folded
