@@ -9,4 +9,5 @@ pub mod StepsLemmas
 pub mod SessionsLemmas
 pub mod MarksLemmas
 pub mod Dumps
+pub mod SeenLemmas
 pub mod SoundLemmas

@@ -65,7 +65,7 @@ module _ (bs : List Subscriber) (σ : State) (k : IsKept bs σ) (n : ℕ) (s : S
   gives : (b : Subscriber) → IsMine b → (items : List Item) (l : Option ℕ) → subs.Subscriber.overflow b ≡ l
       → give (state_with bs σ) (dress (Some b) s) items l ≡ record { state = state_with (change bs (subs.give b items l).0) σ; reply = (taken_reply (Some (subs.give b items l).1)).reply; entry = None }
   gives b m (x ∷ xs) l e =
-      ap (λ τ. nothing τ (reply.Taken x)) (changed b (record { number = b.number; watching = b.watching; outbox = record { items = xs; refusals = b.outbox.refusals; capacity = b.outbox.capacity }; overflow = b.overflow }) m refl)
+      ap (λ τ. nothing τ (reply.Taken x)) (changed b (record { number = b.number; watching = b.watching; outbox = record { items = xs; refusals = b.outbox.refusals; capacity = b.outbox.capacity; mailbox = b.outbox.mailbox }; overflow = b.overflow }) m refl)
   gives b m [] None e = ap (λ cs. nothing (state_with cs σ) reply.Empty) (sym (change_itself bs b (ap (at bs) m.number ∙ m.there)))
   gives b m [] (Some c) e = ap (λ τ. nothing τ (reply.Overflow c)) (changed b (record { number = b.number; watching = b.watching; outbox = b.outbox; overflow = None }) m refl)
 

@@ -33,7 +33,7 @@ use Rattle.tab_core.proofs.Batches.{no_batches}
 -- ---- nothing is owed
 
 full : (b : Subscriber) → subs.given 0 [] [] b ≡ b
-full b = λ i. record { number = b.number; watching = b.watching; outbox = record { items = append-nil b.outbox.items i; refusals = b.outbox.refusals; capacity = b.outbox.capacity }; overflow = b.overflow }
+full b = λ i. record { number = b.number; watching = b.watching; outbox = record { items = append-nil b.outbox.items i; refusals = b.outbox.refusals; capacity = b.outbox.capacity; mailbox = b.outbox.mailbox }; overflow = b.overflow }
 
 pub none_given : (n : ℕ) (bs : List Subscriber) → given_all n [] None (map (λ (b : Subscriber). []) bs) bs ≡ bs
 none_given n [] = refl

@@ -5,16 +5,17 @@
 
 #![tactic(auto)]
 
-ghost use Rattle.std.specs.Prelude.{◌≡◌, ◌≤◌, ◌++◌, ℕ, List, IfOk, IsOk, OnErr, option_map, true};
+ghost use Rattle.std.specs.Prelude.{◌≡◌, ◌≤◌, ◌++◌, ℕ, List, IfOk, IsOk, OnErr, true};
 ghost use Rattle.tab_model.specs.declared.data.Entry.{Entry as EntryOf};
 ghost use Rattle.tab_model.specs.declared.data.Item.{Item as ItemOf};
-ghost use Rattle.tab_model.specs.State.{new, seat_at, IsSound};
+ghost use Rattle.tab_model.specs.State.{new, IsSound};
 ghost use Rattle.tab_model.specs.Outcome.{DoCommand};
 ghost use Rattle.tab_model.specs.Run.{IsTied};
 ghost use Rattle.tab_core.specs.Runs.{ask_of, asks_of, AllJoinEmpty, StepsTo, StepsOrNoMemory, RunsTo, taken_in, takes_no_memory};
 
 mod committing;
 mod dump;
+mod seats;
 mod sessions;
 mod step;
 mod subscribing;
@@ -139,13 +140,6 @@ impl<P: Post + Drop> Core<P> {
             Ok(stepped) => stepped.into_reply(),
             Err(_) => Told::new(Reply::NoMemory),
         }
-    }
-
-    /// The post of a session that is joined.
-    pub fn post(&self, session: u32) -> Option<&P>
-        ensures { option_map (λ p. P.outbox p.now) result ≡ option_map (λ s. s.outbox) (seat_at self.now.seats session) }
-    {
-        self.subs.post(session as u64)
     }
 
     /// The tables as they are committed.

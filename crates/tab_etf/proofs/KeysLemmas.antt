@@ -1,6 +1,5 @@
 -- Pairs in the order of their keys: one more put in, and one taken out.
-use Rattle.std.proofs.Common.{◌≡◌, ℕ, suc, ◌≤◌, Bool, true, false, ◌||◌, refl, sym, ap, ◌∙◌, max, arith}
-use Rattle.std.specs.declared.cmp.Ordering.{Ordering}
+use Rattle.std.proofs.Common.{◌≡◌, suc, Bool, true, false, ◌||◌, refl, sym, ap, ◌∙◌, max, arith}
 use Rattle.std.specs.declared.cmp.Ordering.TheVariants.{Less, Equal, Greater}
 use Rattle.std.specs.Ordering.{match_ordering, ordering_reverse, is_eq}
 use Rattle.std.specs.Cmp.{IsTotalOrder}

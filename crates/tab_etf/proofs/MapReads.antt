@@ -1,13 +1,12 @@
 -- Reading pairs one after the other, as a loop does over std's map.
-use Rattle.std.proofs.Common.{◌≡◌, ℕ, suc, ◌-◌, ◌+◌, ◌≤◌, ◌<◌, Bool, true, false, cond, ◌||◌, List, [], ◌∷◌, length, Result, Ok, Err, Option, Some, None, refl, sym, ap, ap₂, ◌∙◌, arith}
+use Rattle.std.proofs.Common.{◌≡◌, ℕ, suc, ◌-◌, ◌+◌, ◌≤◌, ◌<◌, Bool, true, false, cond, ◌||◌, List, [], ◌∷◌, length, Result, Ok, Err, Option, Some, refl, sym, ap, ap₂, ◌∙◌, arith}
 use Rattle.std.specs.declared.cmp.Ordering.TheVariants.{Less, Equal, Greater}
 use Rattle.std.specs.Option.{is_some}
 use Rattle.std.specs.Ordering.{match_ordering, is_eq}
 use Rattle.std.specs.Map.{lookup}
 use Rattle.std.specs.BTreeMap.{insert_entry}
 use Rattle.tab_term.specs.declared.term.Term.{Term}
-use Rattle.tab_term.specs.Data.{PlainTerm, PlainPairs, no_pair, one_pair}
-use Rattle.tab_term.specs.Same.{same}
+use Rattle.tab_term.specs.Data.{PlainTerm, PlainPairs, one_pair}
 use Rattle.tab_term.specs.Canon.{canon}
 use Rattle.tab_term.specs.Numbers.{lists_are}
 use Rattle.tab_term.specs.Order.{bytes_cmp}
@@ -19,7 +18,7 @@ use Rattle.tab_etf.specs.Keys.{key_cmp, has_key, put_pair}
 use Rattle.tab_etf.specs.declared.fault.Stop.{Stop}
 use Rattle.tab_etf.specs.declared.fault.ReadError.{ReadError}
 use Rattle.tab_etf.specs.declared.fault.ReadError.TheVariants as errors
-use Rattle.tab_etf.specs.Reading.{◌>>=◌, Fails, Reads, stop, key_at, pair_at, pairs_from}
+use Rattle.tab_etf.specs.Reading.{Fails, Reads, stop, key_at, pair_at, pairs_from}
 use Rattle.tab_etf.specs.declared.fault.Fault.TheVariants as faults
 
 module _ (s : Vec ℕ) (k : Term) (spelled : s.items ≡ canon (term k)) where

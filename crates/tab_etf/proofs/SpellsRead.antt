@@ -11,7 +11,7 @@ use Rattle.tab_term.specs.Data.{PlainTerm, int, atom, tuple, list, bin, map, Pla
 use Rattle.tab_term.specs.Numbers.{low_value}
 use Rattle.tab_etf.specs.declared.fault.Stop.{Stop}
 use Rattle.tab_etf.specs.Spells.{numbers, signed_value, IsAtomText, IsLatin1Text, Spells, small_integer_ext, integer_ext, small_big_ext, atom_ext, small_atom_ext, atom_utf8_ext, small_atom_utf8_ext, small_tuple_ext, large_tuple_ext, nil_ext, string_ext, list_ext, binary_ext, map_ext, SpellAll, nothing, one_first, SpellPairs, no_pairs, one_last}
-use Rattle.tab_etf.specs.Keys.{KeysAscend, HasOneMore, put_pair}
+use Rattle.tab_etf.specs.Keys.{KeysAscend, HasOneMore}
 use Rattle.tab_etf.proofs.KeysLemmas.{more_count, more_depth, more_new, put_more, ascend_less}
 use Rattle.tab_etf.proofs.MapReads.{key_is_new, pair_is_read}
 use Rattle.tab_etf.specs.Reading.{Reads, text_at, short_text_at, small_integer, integer, small_big, latin1_is, utf8_is, atom_by, latin1_atom, small_latin1_atom, utf8_atom, small_utf8_atom, string, binary, times, small_tuple, large_tuple, end_of_list, long_list, pair_at, pairs_from, map_at, leaf, behind, term_at}

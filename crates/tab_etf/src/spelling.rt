@@ -2,7 +2,7 @@
 
 ghost use Rattle.std.specs.Prelude.{◌≡◌, ◌<◌, ◌+◌, ◌^◌, ◌++◌, ◌∷◌, [], List, ℕ, length, true, unsigned_abs};
 ghost use Rattle.tab_term.specs.Canon.{is_byte as is_byte_of, int_tag, int_contents, sign_of, magnitude, length_field, atom_tag, atom_length_field, tuple_tag, arity_field, is_byte_term, byte_of, all_bytes, bytes_of, list_tag as list_tag_of, list_contents, canon, canons, pair_canons};
-ghost use Rattle.std.specs.Int.{w16, to_be_bytes};
+ghost use Rattle.std.specs.Int.{w16, w32, to_be_bytes};
 ghost use Rattle.tab_term.specs.Data.{count, pair_count};
 ghost use Rattle.tab_term.specs.View.{term, terms, pairs as pairs_of};
 ghost use Rattle.tab_etf.specs.Writing.{Writes};
@@ -15,6 +15,14 @@ use tab_term::spelling::{
     four_bytes_of, is_byte, list_tag, low_first, sign_byte, significant_of,
 };
 use tab_term::{Pairs, Term, Terms};
+
+/// A tag and four bytes, to be put at once.
+fn tagged(tag: u8, n: u32) -> [u8; 5]
+    ensures { result ≡ tag ∷ to_be_bytes w32 n }
+{
+    let [a, b, c, d] = n.to_be_bytes();
+    [tag, a, b, c, d]
+}
 
 // ---- integers
 
@@ -49,8 +57,7 @@ pub fn put_int<W: Write>(writer: &mut Writer<W>, z: i128)
     if is_byte(z) {
         writer.put(&[SMALL_INTEGER_EXT, one_byte(z)]);
     } else if fits_four(z) {
-        writer.put(&[INTEGER_EXT]);
-        writer.put(&four_bytes_of(z).to_be_bytes());
+        writer.put(&tagged(INTEGER_EXT, four_bytes_of(z)));
     } else {
         put_big(writer, z);
     }
@@ -100,8 +107,12 @@ pub fn put_tuple_head<W: Write>(writer: &mut Writer<W>, n: usize)
 fn put_tagged<W: Write>(writer: &mut Writer<W>, tag: u8, n: usize)
     ensures { Writes W.contents writer.old writer.new (tag ∷ length_field n) }
 {
-    writer.put(&[tag]);
-    put_length(writer, n);
+    if n < 0xffff_ffff {
+        writer.put(&tagged(tag, n as u32));
+    } else {
+        writer.put(&[tag]);
+        put_length(writer, n);
+    }
 }
 
 #[tactic(auto, using(crate::proofs::WritingLemmas::writes_then))]

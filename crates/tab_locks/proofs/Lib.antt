@@ -1,6 +1,5 @@
 pub mod Passing
 pub mod Lookups
-pub mod AgeSets
 pub mod Holdings
 pub mod MapMembers
 pub mod KeySpots
@@ -9,3 +8,4 @@ pub mod TableLocks
 pub mod Listing
 pub mod HoldAndRelease
 pub mod WithoutLast
+pub mod Standing

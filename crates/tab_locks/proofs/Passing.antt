@@ -1,7 +1,8 @@
 -- Whether some member of a list passes a test.
-use Rattle.std.proofs.Common.{◌≡◌, List, [], ◌∷◌, ◌++◌, Bool, true, false, ◌||◌, ◌&&◌, not, refl, ◌∙◌}
-use Rattle.std.specs.Prelude.{map}
-use Rattle.std.specs.List.{list_any, flat_map}
+use Rattle.std.proofs.Common.{◌≡◌, List, [], ◌∷◌, ◌++◌, Bool, true, false, ◌||◌, ◌&&◌, not, refl, sym, ◌∙◌}
+use Rattle.std.proofs.Math.Bool.{and-true, and-false}
+use Rattle.std.specs.Prelude.{map, if◌then◌else◌}
+use Rattle.std.specs.List.{list_any, filter, flat_map}
 use Rattle.std.proofs.lemmas.List.Folds.{list_any-append}
 
 pub or_swap : (a b c : Bool) → (a || (b || c)) ≡ (b || (a || c))
@@ -30,6 +31,24 @@ module _ {X : Type 0} where
   pub any_more : (p : X → Bool) (xs : List X) (x : X) → list_any p (xs ++ x ∷ []) ≡ (p x || list_any p xs)
   any_more p [] x = refl
   any_more p (y ∷ xs) x = (λ i. p y || any_more p xs x i) ∙ or_swap (p y) (p x) (list_any p xs)
+
+  -- those that another test keeps
+  pub any_filter : (p q : X → Bool) (xs : List X) → list_any p (filter q xs) ≡ list_any (λ x. p x && q x) xs
+  any_filter p q [] = refl
+  any_filter p q (x ∷ xs) = by (q x) (any_filter p q xs)
+    where
+      by : (b : Bool) → list_any p (filter q xs) ≡ list_any (λ x. p x && q x) xs → list_any p (if b then x ∷ filter q xs else filter q xs) ≡ ((p x && b) || list_any (λ x. p x && q x) xs)
+      by true ih = λ i. sym (and-true (p x)) i || ih i
+      by false ih = λ i. sym (and-false (p x)) i || ih i
+
+  -- a test that another implies
+  pub any_below : (p q : X → Bool) (xs : List X) → ((x : X) → q x ≡ false → p x ≡ false) → list_any q xs ≡ false → list_any p xs ≡ false
+  any_below p q [] f h = refl
+  any_below p q (x ∷ xs) f h = by (q x) refl h (any_below p q xs f)
+    where
+      by : (b : Bool) → q x ≡ b → (b || list_any q xs) ≡ false → (list_any q xs ≡ false → list_any p xs ≡ false) → (p x || list_any p xs) ≡ false
+      by true e h ih = absurd cc
+      by false e h ih = λ i. f x e i || ih h i
 
   -- what has no member
   pub none_there : (xs : List X) (b : Bool) → not b ≡ true → b ≡ list_any (λ x. true) xs → [] ≡ xs

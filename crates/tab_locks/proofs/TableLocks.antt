@@ -14,7 +14,7 @@ use Rattle.tab_term.specs.OrderLaws.{matches_bytes}
 use Rattle.tab_model.specs.Locks.{Part, lock, meets, contains}
 use Rattle.tab_model.specs.Ages.{Owned}
 use Rattle.tab_locks.specs.declared.question.Relation.{Relation}
-use Rattle.tab_locks.specs.declared.question.Relation.TheVariants.{Opposing, Blocking, Covering}
+use Rattle.tab_locks.specs.declared.question.Relation.TheVariants.{Meeting, Opposing, Blocking, Covering}
 use Rattle.tab_locks.specs.Questions.{asked, fits, reaches}
 use Rattle.tab_locks.specs.Members.{HasMore, SameMembers, Drops}
 use Rattle.tab_locks.specs.Spots.{Spot, locks_on, locks_in, stands_on, stands_at}
@@ -55,6 +55,7 @@ by_parts_and false false c d e = refl
 
 asked_by_parts : (r : Relation) (age : ℕ) (write : Bool) (t u : List ℕ) (part : Part) (s : Spot)
     → asked r (age, lock t part write) (s.1.0, lock u s.0 s.1.1) ≡ (bytes_eq t u && (reaches r part s.0 && fits r (age, write) s.1))
+asked_by_parts Meeting age write t u part s = ap (λ b. bytes_eq t u && b) (sym (and-true (meets part s.0)))
 asked_by_parts Opposing age write t u part s = by_parts (not (s.1.0 == age)) (bytes_eq t u) (write || s.1.1) (meets part s.0)
 asked_by_parts Blocking age write t u part s = by_parts_and (not (s.1.0 == age)) (bytes_eq t u) (write || s.1.1) (meets part s.0) (not (nat_lt age s.1.0))
 asked_by_parts Covering age write t u part s =

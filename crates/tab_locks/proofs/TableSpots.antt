@@ -8,7 +8,7 @@ use Rattle.tab_term.specs.Data.{PlainTerm}
 use Rattle.tab_term.specs.Same.{same, same_equiv}
 use Rattle.tab_model.specs.Locks.{Part, All, Key}
 use Rattle.tab_locks.specs.declared.question.Relation.{Relation}
-use Rattle.tab_locks.specs.declared.question.Relation.TheVariants.{Opposing, Blocking, Covering}
+use Rattle.tab_locks.specs.declared.question.Relation.TheVariants.{Meeting, Opposing, Blocking, Covering}
 use Rattle.tab_locks.specs.Questions.{reaches}
 use Rattle.tab_locks.specs.Members.{HasMore, SameMembers, Drops}
 use Rattle.tab_locks.specs.Spots.{Holding, Spot, KeySpot, spots_of, stands_on, stands_on_key, is_holding}
@@ -18,6 +18,8 @@ pub any_spots : (p : Spot → Bool) (all : List Holding) (keys : List KeySpot) �
 any_spots p all keys = list_any-append p (map (λ h. (All, h)) all) (map (λ s. (Key s.0, s.1)) keys) ∙ (λ i. any_map p (λ (h : Holding). (All, h)) all i || any_map p (λ (s : KeySpot). (Key s.0, s.1)) keys i)
 
 reaches_all : (r : Relation) (part : Part) → reaches r part All ≡ true
+reaches_all Meeting All = refl
+reaches_all Meeting (Key k) = refl
 reaches_all Opposing All = refl
 reaches_all Opposing (Key k) = refl
 reaches_all Blocking All = refl
@@ -25,6 +27,7 @@ reaches_all Blocking (Key k) = refl
 reaches_all Covering part = refl
 
 reaches_key : (r : Relation) (j k : PlainTerm) → reaches r (Key j) (Key k) ≡ same j k
+reaches_key Meeting j k = refl
 reaches_key Opposing j k = refl
 reaches_key Blocking j k = refl
 reaches_key Covering j k = same_equiv.symm k j

@@ -1,11 +1,11 @@
 -- The held locks as one list: owners by ascending age, each owner's locks in the order of granting.
-use Rattle.std.specs.Prelude.{ℕ, List, [], ◌∷◌, Bool, not, ◌&&◌, ◌==◌, nat_lt, if◌then◌else◌, map}
+use Rattle.std.specs.Prelude.{ℕ, List, [], ◌∷◌, Bool, not, ◌&&◌, ◌==◌, nat_lt, if◌then◌else◌, map, Option, Some, None}
 use Rattle.std.specs.Global.{Vec}
 use Rattle.std.specs.List.{flat_map, list_any}
 use Rattle.std.specs.Ordering.{nat_cmp}
 use Rattle.std.specs.BTreeMap.{BTreeMap, IsOrdered}
 use Rattle.tab_model.specs.declared.data.Lock as code
-use Rattle.tab_model.specs.Ages.{Owned, opposes, blocks}
+use Rattle.tab_model.specs.Ages.{Owned, opposes, blocks, covers_own}
 use Rattle.tab_locks.specs.Members.{SameMembers}
 use Rattle.tab_locks.specs.Plain.{lock_of}
 use Rattle.tab_locks.specs.Spots.{stands_at}
@@ -40,3 +40,7 @@ is_of age locks x = list_any (λ l. stands_at age (lock_of l) x) locks
 -- whether a request conflicts with a held lock of another owner, and if so, whether with one of an older owner
 abbrev pub conflict_with : Owned → List Owned → Conflict
 conflict_with r held = if list_any (opposes r) held then (if list_any (blocks r) held then WithOlder else WithYounger) else Free
+
+-- the same, and none where a lock of its own owner serves
+abbrev pub standing : Owned → List Owned → Option Conflict
+standing r held = if list_any (covers_own r) held then None else Some (conflict_with r held)

@@ -20,10 +20,6 @@ Spot = Part × Holding
 abbrev pub KeySpot : Type 0
 KeySpot = PlainTerm × Holding
 
--- who reads and who writes one part of a table
-abbrev pub holdings : List ℕ → List ℕ → List Holding
-holdings readers writers = map (λ a. (a, false)) readers ++ map (λ a. (a, true)) writers
-
 abbrev pub key_spots : List (Term × List Holding) → List KeySpot
 key_spots keys = flat_map (λ e. map (λ h. (term e.0, h)) e.1) keys
 

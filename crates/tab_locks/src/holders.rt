@@ -6,27 +6,22 @@ ghost use Rattle.tab_locks.specs.Spots.{is_holding};
 
 use crate::question::Question;
 use std::alloc::{AllocError, Global};
-use std::collections::BTreeSet;
 use std::marker::Model;
 
-/// The owners of locks on one part of a table, by their ages.
+/// The owners of locks on one part of a table, by their ages, each with whether it holds for writing. Mostly there is one, and
+/// no more than two for each session.
 #[derive(Drop)]
 pub(crate) struct Holders {
-    readers: BTreeSet<u64>,
-    writers: BTreeSet<u64>,
+    held: Vec<(u64, bool)>,
 }
 
 impl Model for Holders {
     ghost use Rattle.std.specs.Prelude.{List};
-    ghost use Rattle.std.specs.Ordering.{nat_cmp};
-    ghost use Rattle.std.specs.BTreeSet.{IsOrdered};
-    ghost use Rattle.tab_locks.specs.Spots.{Holding, holdings};
+    ghost use Rattle.tab_locks.specs.Spots.{Holding};
 
     ghost Value = { List Holding };
 
-    ghost view = { λ a. holdings a.readers.keys a.writers.keys };
-
-    ghost invariant = { λ a. IsOrdered nat_cmp a.readers × IsOrdered nat_cmp a.writers };
+    ghost view = { λ a. a.held.items };
 }
 
 impl Holders {
@@ -34,8 +29,7 @@ impl Holders {
         ensures { result ≡ [] }
     {
         Holders {
-            readers: BTreeSet::new(alloc),
-            writers: BTreeSet::new(alloc),
+            held: Vec::new(alloc),
         }
     }
 
@@ -50,23 +44,21 @@ impl Holders {
     pub fn is_occupied(&self) -> bool
         ensures { result ≡ list_any (λ _. true) self.now }
     {
-        is_filled(&self.readers) || is_filled(&self.writers)
+        is_filled(&self.held)
     }
 
     pub fn any(&self, question: Question) -> bool
         ensures { result ≡ list_any (fits question.relation (question.age, question.write)) self.now }
     {
-        any_of(&self.readers, question, false) || any_of(&self.writers, question, true)
+        any_of(&self.held, question)
     }
 
     pub fn add(&mut self, age: u64, write: bool) -> Result<(), AllocError>
         ensures ok { OnOk result (HasMore (age, write) self.old self.new) }
         ensures err { OnErr result (self.new ≡ self.old) }
     {
-        if write {
-            self.writers.insert(age)?;
-        } else {
-            self.readers.insert(age)?;
+        if !is_among(&self.held, age, write) {
+            self.held.push((age, write))?;
         }
         Ok(())
     }
@@ -74,22 +66,31 @@ impl Holders {
     pub fn remove(&mut self, age: u64, write: bool)
         ensures { Drops (is_holding (age, write)) self.old self.new }
     {
-        if write {
-            self.writers.remove(&age);
-        } else {
-            self.readers.remove(&age);
-        }
+        self.held.retain(|holding| !is_it(*holding, age, write));
     }
 }
 
-fn any_of(ages: &BTreeSet<u64>, question: Question, write: bool) -> bool
-    ensures { result ≡ list_any (λ a. fits question.relation (question.age, question.write) (a, write)) ages.now.keys }
+fn is_it(holding: (u64, bool), age: u64, write: bool) -> bool
+    ensures { result ≡ is_holding (age, write) holding }
 {
-    ages.iter().any(|age| question.fits(*age, write))
+    holding.0 == age && holding.1 == write
 }
 
-fn is_filled(ages: &BTreeSet<u64>) -> bool
-    ensures { result ≡ list_any (λ _. true) ages.now.keys }
+fn is_among(held: &[(u64, bool)], age: u64, write: bool) -> bool
+    ensures { result ≡ list_any (is_holding (age, write)) held.now }
 {
-    !ages.is_empty()
+    held.iter().any(|holding| is_it(*holding, age, write))
+}
+
+fn any_of(held: &[(u64, bool)], question: Question) -> bool
+    ensures { result ≡ list_any (fits question.relation (question.age, question.write)) held.now }
+{
+    held.iter()
+        .any(|holding| question.fits(holding.0, holding.1))
+}
+
+fn is_filled(held: &[(u64, bool)]) -> bool
+    ensures { result ≡ list_any (λ _. true) held.now }
+{
+    !held.is_empty()
 }

@@ -7,7 +7,7 @@ ghost use Rattle.tab_model.specs.State.{is_in};
 ghost use Rattle.tab_locks.specs.Plain.{is_write as is_write_of, lock_of};
 ghost use Rattle.tab_locks.specs.Questions.{asked};
 ghost use Rattle.tab_locks.specs.Members.{HasMore, SameMembers, Drops};
-ghost use Rattle.tab_locks.specs.Spots.{stands_at};
+ghost use Rattle.tab_locks.specs.Spots.{locks_in, stands_at};
 ghost use Rattle.tab_term.specs.Order.{bytes_cmp};
 
 use crate::on_table::OnTable;
@@ -89,37 +89,27 @@ impl Index {
         }
     }
 
-    /// Takes an owner away from the table and part of a lock, in its mode.
+    /// Takes an owner away from the table and part of a lock, in its mode. A table that no one holds a lock on goes away.
     pub fn remove(&mut self, age: u64, lock: &Lock)
         ensures { Drops (stands_at age (lock_of lock.now)) self.old self.new }
     {
-        self.remove_spot(age, lock);
-        self.prune(&lock.table);
-    }
-
-    fn remove_spot(&mut self, age: u64, lock: &Lock)
-        ensures { Drops (stands_at age (lock_of lock.now)) self.old self.new }
-    {
-        if let Some(spots) = self.tables.get_mut(&lock.table) {
-            spots.remove(&lock.what, age, is_write(lock.mode));
-        }
-    }
-
-    /// Takes a table away that no one holds a lock on.
-    fn prune(&mut self, table: &Atom)
-        ensures { SameMembers self.old self.new }
-    {
-        if is_bare(&self.tables, table) {
-            forget(&mut self.tables, table);
+        if take(&mut self.tables, age, lock) {
+            forget(&mut self.tables, &lock.table);
         }
     }
 }
 
-fn is_bare(tables: &BTreeMap<Atom, OnTable>, table: &Atom) -> bool
-    ensures { IsTrue result → get_by (bytes_cmp table.now) tables.now ≡ Some [] }
+/// Takes an owner away from the table and part of a lock, and says whether that was the last one on the table.
+fn take(tables: &mut BTreeMap<Atom, OnTable>, age: u64, lock: &Lock) -> bool
+    ensures dropped { Drops (stands_at age (lock_of lock.now)) (locks_in tables.old.entries) (locks_in tables.new.entries) }
+    ensures bare { IsTrue result → get_by (bytes_cmp lock.now.table) tables.new ≡ Some [] }
+    ensures ordered { IsOrdered bytes_cmp tables.new }
 {
-    match tables.get(table) {
-        Some(spots) => !spots.is_occupied(),
+    match tables.get_mut(&lock.table) {
+        Some(spots) => {
+            spots.remove(&lock.what, age, is_write(lock.mode));
+            !spots.is_occupied()
+        }
         None => false,
     }
 }

@@ -6,7 +6,7 @@ ghost use Rattle.tab_term.specs.Same.{same};
 ghost use Rattle.tab_term.specs.View.{term};
 ghost use Rattle.tab_locks.specs.Questions.{fits};
 ghost use Rattle.tab_locks.specs.Members.{HasMore, SameMembers, Drops};
-ghost use Rattle.tab_locks.specs.Spots.{stands_on_key};
+ghost use Rattle.tab_locks.specs.Spots.{key_spots, stands_on_key};
 ghost use Rattle.tab_term.specs.Order.{term_cmp};
 
 use crate::holders::Holders;
@@ -91,26 +91,11 @@ impl Keys {
         }
     }
 
+    /// A key that no one holds a lock on goes away, so that a question about all of the table doesn't look at it.
     pub fn remove(&mut self, key: &Term, age: u64, write: bool)
         ensures { Drops (stands_on_key (term key.now) (age, write)) self.old self.new }
     {
-        self.remove_holder(key, age, write);
-        self.prune(key);
-    }
-
-    fn remove_holder(&mut self, key: &Term, age: u64, write: bool)
-        ensures { Drops (stands_on_key (term key.now) (age, write)) self.old self.new }
-    {
-        if let Some(holders) = self.holders.get_mut(key) {
-            holders.remove(age, write);
-        }
-    }
-
-    /// Takes a key away that no one holds a lock on, so that a question about all of the table doesn't look at it.
-    fn prune(&mut self, key: &Term)
-        ensures { SameMembers self.old self.new }
-    {
-        if is_bare(&self.holders, key) {
+        if take(&mut self.holders, key, age, write) {
             forget(&mut self.holders, key);
         }
     }
@@ -128,11 +113,17 @@ fn is_any_occupied(holders: &BTreeMap<Term, Holders>) -> bool
     holders.values().any(|at_key| at_key.is_occupied())
 }
 
-fn is_bare(holders: &BTreeMap<Term, Holders>, key: &Term) -> bool
-    ensures { IsTrue result → get_by (term_cmp key.now) holders.now ≡ Some [] }
+/// Takes an owner away from a key, and says whether that was the last one.
+fn take(holders: &mut BTreeMap<Term, Holders>, key: &Term, age: u64, write: bool) -> bool
+    ensures dropped { Drops (stands_on_key (term key.now) (age, write)) (key_spots holders.old.entries) (key_spots holders.new.entries) }
+    ensures bare { IsTrue result → get_by (term_cmp key.now) holders.new ≡ Some [] }
+    ensures ordered { IsOrdered term_cmp holders.new }
 {
-    match holders.get(key) {
-        Some(at_key) => !at_key.is_occupied(),
+    match holders.get_mut(key) {
+        Some(at_key) => {
+            at_key.remove(age, write);
+            !at_key.is_occupied()
+        }
         None => false,
     }
 }

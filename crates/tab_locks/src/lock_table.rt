@@ -8,7 +8,7 @@ ghost use Rattle.tab_model.specs.State.{is_in};
 ghost use Rattle.tab_locks.specs.Plain.{lock_of, part_of};
 ghost use Rattle.tab_locks.specs.Spots.{same_part, same_lock};
 ghost use Rattle.tab_locks.specs.Members.{HasMore, SameMembers, Drops};
-ghost use Rattle.tab_locks.specs.Placed.{placed, without_last, listed, is_of, conflict_with};
+ghost use Rattle.tab_locks.specs.Placed.{placed, without_last, listed, is_of, conflict_with, standing as standing_of};
 ghost use Rattle.tab_locks.specs.declared.lock_table.Conflict.TheVariants.{WithYounger, WithOlder};
 
 use crate::index::Index;
@@ -90,6 +90,20 @@ impl LockTable {
             return Conflict::Free;
         }
         Conflict::with(self.index.any(Relation::Blocking, age, lock))
+    }
+
+    /// Whom a request conflicts with, or `None` where a lock of its own owner serves. It takes no memory. Mostly no one holds a
+    /// lock there, and then one search tells.
+    pub fn standing(&self, age: u64, lock: &Lock) -> Option<Conflict>
+        ensures { result ≡ standing_of (age, lock_of lock.now) self.now }
+    {
+        if !self.index.any(Relation::Meeting, age, lock) {
+            return Some(Conflict::Free);
+        }
+        if self.covered(age, lock) {
+            return None;
+        }
+        Some(self.conflicts(age, lock))
     }
 
     /// Whether some lock is on this table, or on a key of it.

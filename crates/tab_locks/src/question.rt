@@ -3,10 +3,11 @@ ghost use Rattle.tab_term.specs.Data.{PlainTerm};
 ghost use Rattle.tab_model.specs.Locks.{All, Key};
 ghost use Rattle.tab_locks.specs.Questions.{fits as fits_of, reaches};
 
-/// What is asked of a held lock: whether it is another owner's and conflicts, whether that owner is older too, whether it
-/// is the same owner's and serves.
+/// What is asked of a held lock: whether it is on what is asked for, whoever holds it; whether it is another owner's and
+/// conflicts, whether that owner is older too; whether it is the same owner's and serves.
 #[derive(Clone, Copy)]
 pub(crate) enum Relation {
+    Meeting,
     Opposing,
     Blocking,
     Covering,
@@ -26,7 +27,7 @@ impl Question {
         ensures { (k : PlainTerm) → result ≡ reaches self.relation All (Key k) }
     {
         match self.relation {
-            Relation::Opposing | Relation::Blocking => true,
+            Relation::Meeting | Relation::Opposing | Relation::Blocking => true,
             Relation::Covering => false,
         }
     }
@@ -35,6 +36,7 @@ impl Question {
         ensures { result ≡ fits_of self.relation (self.age, self.write) (age, write) }
     {
         match self.relation {
+            Relation::Meeting => true,
             Relation::Opposing => age != self.age && (self.write || write),
             Relation::Blocking => age < self.age && (self.write || write),
             Relation::Covering => age == self.age && (write || !self.write),

@@ -1,8 +1,9 @@
 -- Which transaction a commit ends.
-use Rattle.std.proofs.Common.{◌≡◌, ℕ, List, Bool, true, false, refl, sym, ap, ◌∙◌, subst, length, Option, Some, None, get_or}
+use Rattle.std.proofs.Common.{◌≡◌, ℕ, suc, List, Bool, true, false, refl, sym, ap, ◌∙◌, subst, length, Option, Some, None, get_or}
 use Rattle.std.specs.Prelude.{◌==◌, if◌then◌else◌, is_some, IsSome, MatchOption, option_map}
 use Rattle.tab_model.specs.declared.data.Change.{Change}
 use Rattle.tab_model.specs.Events.{change_all, surviving}
+use Rattle.tab_model.specs.Standing.{levels_in, levels_of}
 use Rattle.tab_model.specs.State as plain
 use Rattle.tab_model.specs.State.{State, Transaction, transaction_at, is_waiting, mid_of}
 use Rattle.tab_model.specs.Outcome.{is_empty}
@@ -34,6 +35,9 @@ closed_none σ n h = none_if σ (is_waiting σ n) (transaction_at σ n) (ap (out
 
 pub stranger_none : (m : Machine) (n : ℕ) → at m.seats.items n ≡ None → outermost (state_of m) n ≡ None
 stranger_none m n h = closed_none (state_of m) n (ap plain.transaction_in (at_of m.seats.items n ∙ ap (option_map seat_of) h))
+
+pub stranger_levels : (m : Machine) (n : ℕ) → at m.seats.items n ≡ None → levels_of (state_of m) n ≡ 0
+stranger_levels m n h = ap (λ o. levels_in (state_of m) (plain.transaction_in o)) (at_of m.seats.items n ∙ ap (option_map seat_of) h)
 
 pub not_none : (σ : State) (n : ℕ) (t : Transaction) → outermost σ n ≡ None → outermost σ n ≡ Some t → ⊥
 not_none σ n t h g = none_some (sym h ∙ g)
@@ -78,7 +82,13 @@ module _ (m : Machine) (n i : ℕ) (k : IsKept m) (there : StandsAt m.seats.item
   pub no_transaction_none : s.transaction ≡ None → outermost σ n ≡ None
   no_transaction_none h = closed_none σ n (transactions ∙ ap (option_map transaction_of) h)
 
+  pub no_levels : s.transaction ≡ None → levels_of σ n ≡ 0
+  no_levels h = ap (levels_in σ) (transactions ∙ ap (option_map transaction_of) h)
+
   module _ (t : kept.Transaction) (open_t : s.transaction ≡ Some t) where
+    pub levels_open : levels_of σ n ≡ suc (length t.store.levels.saved)
+    levels_open = ap (levels_in σ) (keep.mine m n i s k there (keep.at_place m n i there) t open_t) ∙ ap suc (keep.depth m n i s k there (keep.at_place m n i there) t open_t)
+
     saved : (b : Bool) → (length t.store.levels.saved == 0) ≡ b → is_empty (mid_of σ (transaction_of t)).saved ≡ b
     saved b h = ending.outermost m n i s k there (keep.at_place m n i there) t open_t ∙ h
 

@@ -9,7 +9,7 @@ use Rattle.tab_manager.specs.declared.machine.Machine.{Machine}
 
 -- no item is ever put into it
 abbrev pub no_outbox : Outbox
-no_outbox = record { items = []; refusals = 0; capacity = Some 0 }
+no_outbox = record { items = []; refusals = 0; capacity = Some 0; mailbox = None }
 
 abbrev pub transaction_of : kept.Transaction → Transaction
 transaction_of t = record { age = t.age; moves = t.store.moves; told = t.store.told }

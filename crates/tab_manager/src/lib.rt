@@ -5,10 +5,11 @@
 
 #![tactic(auto)]
 
-ghost use Rattle.std.specs.Prelude.{◌≡◌, ◌≤◌, ◌&&◌, IfOk, IsOk, OnErr, Some, true, is_some, length, nat_lt, option_map};
+ghost use Rattle.std.specs.Prelude.{◌≡◌, ◌≤◌, ◌^◌, ◌-◌, ◌&&◌, IfOk, IsOk, OnErr, Some, true, is_some, length, min, nat_lt, option_map};
 ghost use Rattle.tab_model.specs.declared.data.Command.TheVariants as command;
 ghost use Rattle.tab_model.specs.Events.{change_all, surviving};
 ghost use Rattle.tab_model.specs.Outcome.{DoCommand};
+ghost use Rattle.tab_model.specs.Standing.{levels_of};
 ghost use Rattle.tab_model.specs.State.{Transaction, new, seat_at, is_waiting, IsSound};
 ghost use Rattle.tab_manager.specs.Outermost.{outermost, ending_of, told_of};
 ghost use Rattle.tab_manager.specs.Steps.{ask_of, is_quiet_step, StepsTo, takes_no_memory};
@@ -122,6 +123,20 @@ impl Manager {
         ensures { result ≡ is_waiting self.now session }
     {
         self.machine.waits(session)
+    }
+
+    /// The greatest number that has joined.
+    pub fn greatest(&self) -> u32
+        ensures { result ≡ self.now.greatest }
+    {
+        self.machine.greatest
+    }
+
+    /// How many levels the session has open, up to the greatest 64 bit number.
+    pub fn levels(&self, session: u32) -> u64
+        ensures { result ≡ min (levels_of self.now session) (2 ^ 64 - 1) }
+    {
+        self.machine.levels(session)
     }
 
     /// Whether the session's number and the limit of sessions let it join.

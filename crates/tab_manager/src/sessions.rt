@@ -1,7 +1,8 @@
 //! Sessions join and leave.
 
-ghost use Rattle.std.specs.Prelude.{◌≡◌, ◌&&◌, [], None, is_some, length, nat_lt};
+ghost use Rattle.std.specs.Prelude.{◌≡◌, ◌^◌, ◌-◌, ◌&&◌, [], None, is_some, length, min, nat_lt};
 ghost use Rattle.tab_model.specs.Outcome.{Join, Leave, nothing, outcome};
+ghost use Rattle.tab_model.specs.Standing.{levels_of};
 ghost use Rattle.tab_model.specs.State.{is_waiting, seat_at};
 ghost use Rattle.tab_manager.specs.Seats.{state_of, no_outbox, at, StandsAt};
 ghost use Rattle.tab_manager.specs.Kept.{IsKept};
@@ -24,6 +25,28 @@ impl Machine {
         ensures { result ≡ is_some (seat_at (state_of self.now).seats session) }
     {
         self.place(session).is_some()
+    }
+
+    /// How many levels the session has open, up to the greatest 64 bit number.
+    pub fn levels(&self, session: u32) -> u64
+        requires kept { IsKept self.now }
+        ensures { result ≡ min (levels_of (state_of self.now) session) (2 ^ 64 - 1) }
+    {
+        match self.place(session) {
+            Some(place) => self.levels_at(session, place),
+            None => 0,
+        }
+    }
+
+    fn levels_at(&self, session: u32, place: usize) -> u64
+        requires kept { IsKept self.now }
+        requires there { StandsAt self.now.seats.items session place }
+        ensures { result ≡ min (levels_of (state_of self.now) session) (2 ^ 64 - 1) }
+    {
+        let Some(transaction) = &self.seats[place].transaction else {
+            return 0;
+        };
+        (transaction.store.depth() as u64).saturating_add(1)
     }
 
     /// Whether the session's number and the limit of sessions let it join.

@@ -63,13 +63,13 @@ answer_item (Some t) (op.AllKeys n) = refl
 answer_item (Some t) (op.ReadLockTable n) = refl
 answer_item (Some t) (op.WriteLockTable n) = refl
 
-said_item : (m : Mid) (x : Move) (r : Reply) → item_of r ≡ [] → item_of (said (told m x) r) ≡ []
+pub said_item : (m : Mid) (x : Move) (r : Reply) → item_of r ≡ [] → item_of (said (told m x) r) ≡ []
 said_item m (Do o) r h = answer_item (find m.now (Rattle.tab_model.specs.Operations.table_of o)) o
 said_item m Open r h = refl
 said_item m Close r h = refl
 said_item m Undo r h = h
 
-info_item : (n : List ℕ) (i : InfoItem) (t : Option Table) → item_of (table_info n i t) ≡ []
+pub info_item : (n : List ℕ) (i : InfoItem) (t : Option Table) → item_of (table_info n i t) ≡ []
 info_item n i None = refl
 info_item n item.Kind (Some t) = refl
 info_item n item.Attributes (Some t) = refl
@@ -154,7 +154,7 @@ unless_nil true = refl
 unless_nil false = refl
 
 -- no refusal gives an item
-abbrev item_in : Option Reply → List Item
+abbrev pub item_in : Option Reply → List Item
 item_in None = []
 item_in (Some x) = item_of x
 
@@ -170,7 +170,7 @@ if_some : (b : Bool) (r : Reply) → item_of r ≡ [] → item_in (if b then Non
 if_some true r h = refl
 if_some false r h = h
 
-refusal_item : (w : World) (c : Schema) → item_in (schema_refusal w c) ≡ []
+pub refusal_item : (w : World) (c : Schema) → item_in (schema_refusal w c) ≡ []
 refusal_item w (Create t os) = create_item (find w t)
   where
     create_item : (x : Option Table) → item_in (create_refusal t os x) ≡ []
@@ -192,7 +192,7 @@ refusal_item w (DelIndex t a) = del_item (find w t)
     del_item None = refl
     del_item (Some x) = if_some (is_indexed x.def (position x.def (term a))) (reply.NoIndex t a) refl
 
-sub_item : (σ : State) (s : Seat) (t : List ℕ) → item_in (subscribe_refusal σ s t) ≡ []
+pub sub_item : (σ : State) (s : Seat) (t : List ℕ) → item_in (subscribe_refusal σ s t) ≡ []
 sub_item σ s t = cases (is_some s.overflow) (not (is_some (find σ.tables t))) (is_some (level_in s.watching t))
   where
     cases : (a b c : Bool) → item_in (if a then Some reply.OverflowUntold else (if b then Some (reply.SubNoTable t) else (if c then Some (reply.AlreadySubscribed t) else None))) ≡ []

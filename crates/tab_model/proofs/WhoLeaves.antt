@@ -168,7 +168,7 @@ unseated_gone n σ m Retry gone = gone
 unseated_gone n σ m Take gone = gone
 unseated_gone n σ m (DoCommand c) gone = gone
 
-step_gone : (n : ℕ) (σ : State) (over : List ℕ) (m : ℕ) (a : Ask) → IsGone n σ → IsGone n (outcome σ over m a).state
+pub step_gone : (n : ℕ) (σ : State) (over : List ℕ) (m : ℕ) (a : Ask) → IsGone n σ → IsGone n (outcome σ over m a).state
 unfolding outcome
 step_gone n σ over m a gone = cases (seat_at σ.seats m)
   where

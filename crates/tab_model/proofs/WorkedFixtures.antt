@@ -1,5 +1,5 @@
 -- Worked rows: words for small runs.
-use Rattle.std.specs.Prelude.{ℕ, List, [], Some, pos, codes, false}
+use Rattle.std.specs.Prelude.{ℕ, List, [], Some, None, pos, codes, false}
 use Rattle.tab_term.specs.Data.{PlainTerm, int, atom, tuple, PlainTerms, none, one_more}
 use Rattle.tab_term.specs.declared.term.Term.TheVariants as is
 use Rattle.tab_model.specs.declared.data.Operation.{Operation}
@@ -26,7 +26,7 @@ abbrev pub usual : Limits
 usual = record { sessions = 64; nesting = 16; operations = 1000; tables = 256; ages = 1000000; journal = 1024 }
 
 abbrev pub empty_outbox : ℕ → Outbox
-empty_outbox c = record { items = []; refusals = 0; capacity = Some c }
+empty_outbox c = record { items = []; refusals = 0; capacity = Some c; mailbox = None }
 
 abbrev pub call : ℕ → Ask → Call
 call n a = record { session = n; ask = a; over = [] }

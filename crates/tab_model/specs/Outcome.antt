@@ -73,11 +73,11 @@ with_queue σ q = record { tables = σ.tables; seats = σ.seats; queue = q; next
 
 -- posts
 abbrev pub pushed : Outbox → List Item → Outbox
-pushed b items = record { items = b.items ++ items; refusals = b.refusals; capacity = b.capacity }
+pushed b items = record { items = b.items ++ items; refusals = b.refusals; capacity = b.capacity; mailbox = b.mailbox }
 
 -- a post refuses: its count rises, up to the greatest 64 bit number
 abbrev pub refused : Outbox → Outbox
-refused b = record { items = b.items; refusals = min (b.refusals + 1) (2 ^ 64 - 1); capacity = b.capacity }
+refused b = record { items = b.items; refusals = min (b.refusals + 1) (2 ^ 64 - 1); capacity = b.capacity; mailbox = b.mailbox }
 
 -- moves
 abbrev pub more : Transaction → Move → Option Reply → Transaction
@@ -319,7 +319,7 @@ command_if σ over s c false = do_command σ over s c
 -- a Take: the next item, else an overflow, which is told once, else empty
 abbrev pub give : State → Seat → List Item → Option ℕ → Outcome
 give σ s (x ∷ xs) l =
-    nothing (with_seat σ (record { number = s.number; transaction = s.transaction; watching = s.watching; outbox = record { items = xs; refusals = s.outbox.refusals; capacity = s.outbox.capacity }; overflow = s.overflow })) (reply.Taken x)
+    nothing (with_seat σ (record { number = s.number; transaction = s.transaction; watching = s.watching; outbox = record { items = xs; refusals = s.outbox.refusals; capacity = s.outbox.capacity; mailbox = s.outbox.mailbox }; overflow = s.overflow })) (reply.Taken x)
 give σ s [] None = nothing σ reply.Empty
 give σ s [] (Some n) = nothing (with_seat σ (record { number = s.number; transaction = s.transaction; watching = s.watching; outbox = s.outbox; overflow = None })) (reply.Overflow n)
 

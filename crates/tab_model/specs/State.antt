@@ -25,6 +25,7 @@ pub record Outbox : Type 0 where
   pub items : List Item
   pub refusals : ℕ
   pub capacity : Option ℕ
+  pub mailbox : Option ℕ
 
 pub record Watch : Type 0 where
   pub table : List ℕ

@@ -34,11 +34,12 @@ ghost use Rattle.tab_model.specs.Ages.{Ages, Owned, Granted, Wait, Die, Covered,
 ghost use Rattle.tab_model.specs.Log.{entered, serial, serial_from, stands, in_force, IsRight, IsLegal, commits_from};
 ghost use Rattle.tab_model.specs.Since.{changes_on, changes_told, deletes, StandsSince, AllStood, AllAged, RowsSince};
 ghost use Rattle.tab_model.specs.Slices.{dump_of, owed, slice, slice_after};
-ghost use Rattle.tab_model.specs.History.{Base, empty, in_force_since, owed_since, slice_since, IsHistory, tables_after, folded, Admits, forgotten};
+ghost use Rattle.tab_model.specs.History.{Base, empty, in_force_since, owed_since, slice_since, slice_since_after, IsHistory, tables_after, folded, Admits, forgotten};
 ghost use Rattle.tab_model.specs.State.{State, Seat, Transaction, Queued, new, seat_at, transaction_at, request_in, ages_of, age_at, moves_at, told_at, level_in, IsSound};
 ghost use Rattle.tab_model.specs.Outcome.{Ask, Retry, Take, DoCommand, outcome};
 ghost use Rattle.tab_model.specs.Refusals.{AsBefore, standing, counted, requested, queued, empty_again, restarted, Restarts, EndsLevel, IsSole};
 ghost use Rattle.tab_model.specs.Run.{Call, AllJoinEmpty, Begins, leaves, JoinsEmpty, IsTied, outcome_of, after_all, log_of, replies_of, taken_of, entries, taken_now};
+ghost use Rattle.tab_model.specs.Standing.{JoinsChannel, MayStand, Stands, still_joined, may_enter};
 ghost use Rattle.tab_model.specs.Callers.{Callers, newcomers, entry_told, told_one, callers_after, log_told, queue_after, next_after, no_post, post_after, AreHeard};
 
 /// For every schedule of steps: commits are numbered in order and were told what they are told alone in that order;
@@ -256,4 +257,20 @@ pub fn a_session_alone_never_waits()
     ensures alone { (σ : State) (over : List ℕ) (n : ℕ) (a : Ask) → IsSole n σ → IsSole n (outcome σ over n a).state }
     ensures waiting { (σ : State) (over : List ℕ) (n : ℕ) (a : Ask) → IsSole n σ → (outcome σ over n a).reply ≢ reply.Waiting }
     ensures restart { (σ : State) (over : List ℕ) (n : ℕ) (a : Ask) → IsSole n σ → (outcome σ over n a).reply ≢ reply.Restart }
+{}
+
+/// A running book: its journal starts from a base, into which its oldest entries were folded. Whatever was folded, a new
+/// book, each step of its core with channels for posts, each fold of the oldest entry, and each forgetting of a session that
+/// left keep that the base and the journal are a history of the core's tables, and that a joined session was sent what it
+/// was owed of what is folded and then its slice of the journal from the base. A step gives an entry only where it may.
+#[tactic(auto, using(crate::proofs::StandingLemmas::new_stands, crate::proofs::StandingLemmas::step_stands, crate::proofs::StandingLemmas::fold_stands, crate::proofs::StandingLemmas::forget_stands, crate::proofs::StandingLemmas::history_of, crate::proofs::StandingLemmas::sent_is, crate::proofs::StandingLemmas::sent_grows, crate::proofs::Entering::enters_only))]
+pub fn a_state_stands_over_its_journal()
+    ensures new { (limits : Limits) → Stands [] empty [] (new limits) }
+    ensures step { (past log : List Entry) (b : Base) (σ : State) (over : List ℕ) (n : ℕ) (a : Ask) → IsSound σ → JoinsChannel a → Stands past b log σ → Stands past b (log ++ entries (outcome σ over n a).entry) (outcome σ over n a).state }
+    ensures fold { (past log : List Entry) (b : Base) (e : Entry) (σ : State) → Stands past b (e ∷ log) σ → Stands (past ++ e ∷ []) (folded (still_joined σ e) b e) log σ }
+    ensures forget { (past log : List Entry) (b : Base) (σ : State) (n : ℕ) → (MayStand σ n → ⊥) → Stands past b log σ → Stands past (forgotten b n) log σ }
+    ensures history { (past log : List Entry) (b : Base) (σ : State) → Stands past b log σ → IsHistory b log σ.tables }
+    ensures sent { (past log : List Entry) (b : Base) (σ : State) (n : ℕ) (s : Seat) → Stands past b log σ → seat_at σ.seats n ≡ Some s → s.outbox.items ≡ slice n past ++ slice_since b n log }
+    ensures grows { (past log more : List Entry) (b : Base) (σ τ : State) (n : ℕ) (s r : Seat) → Stands past b log σ → seat_at σ.seats n ≡ Some s → Stands past b (log ++ more) τ → seat_at τ.seats n ≡ Some r → r.outbox.items ≡ s.outbox.items ++ slice_since_after b n log more }
+    ensures enters { (σ : State) (over : List ℕ) (n : ℕ) (a : Ask) (e : Entry) → (outcome σ over n a).entry ≡ Some e → may_enter σ n a ≡ true }
 {}

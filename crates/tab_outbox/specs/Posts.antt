@@ -1,5 +1,5 @@
 -- What a post says of its answers (this project's own).
-use Rattle.std.specs.Prelude.{◌≡◌, ℕ, List, ◌∷◌, Some}
+use Rattle.std.specs.Prelude.{◌≡◌, ℕ, List, ◌∷◌, Some, None}
 use Rattle.tab_model.specs.declared.data.Item.{Item}
 use Rattle.tab_model.specs.State.{Outbox}
 use Rattle.tab_model.specs.Outcome.{takable}
@@ -20,6 +20,7 @@ pub record GivesFirst (old new : Outbox) (x : Item) : Type 0 where
   pub first : takable old old.capacity ≡ x ∷ new.items
   pub refusals : new.refusals ≡ old.refusals
   pub capacity : new.capacity ≡ old.capacity
+  pub mailbox : new.mailbox ≡ old.mailbox
 
 -- a ring of items, and how often it refused one
 pub record Ring : Type 0 where
@@ -29,4 +30,4 @@ pub record Ring : Type 0 where
 
 -- its capacity decides
 abbrev pub as_outbox : Ring → Outbox
-as_outbox r = record { items = r.items; refusals = r.refusals; capacity = Some r.capacity }
+as_outbox r = record { items = r.items; refusals = r.refusals; capacity = Some r.capacity; mailbox = None }

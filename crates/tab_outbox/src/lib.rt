@@ -2,10 +2,12 @@
 
 #![tactic(auto)]
 
+mod mailbox;
 mod post;
 mod refused;
 mod ring;
 
+pub use mailbox::{Mailbox, Met};
 pub use post::Post;
 pub use refused::Refused;
 pub use ring::RingPost;

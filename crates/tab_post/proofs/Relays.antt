@@ -6,7 +6,8 @@ use Rattle.crossbeam_channel.specs.Fifo.{Pushes, Pops, Forks, Merges, Learns}
 use Rattle.atomic_table.proofs.Lists.{at_set, at_snoc}
 use Rattle.tab_model.specs.declared.data.Item.{Item}
 use Rattle.tab_post.specs.declared.rule.Hand.{Hand}
-use Rattle.tab_post.specs.Rule.{hand, Knows, Relayed, StartsWith, EndsWith}
+use Rattle.tab_outbox.specs.Mailboxes.{StartsWith}
+use Rattle.tab_post.specs.Rule.{hand, Knows, Relayed, EndsWith}
 
 at_end : (l : List Hand) (a b : Hand) (j : ℕ) → get_elem? l j ≢ some b → get_elem? (l ++ a ∷ []) j ≡ some b → j ≡ length l
 at_end [] a b zero n e = refl

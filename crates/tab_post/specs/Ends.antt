@@ -26,7 +26,7 @@ module _ {R : Type 0} where
 
   -- as a post, it shows all that was ever sent, and no capacity decides what it refuses
   abbrev pub as_outbox : ChannelPost R → Outbox
-  as_outbox p = record { items = sent_by p; refusals = p.refusals; capacity = None }
+  as_outbox p = record { items = sent_by p; refusals = p.refusals; capacity = None; mailbox = None }
 
   -- the two ends of one mailbox
   abbrev pub AreEnds : ChannelPost R → Inbox R → Type 0

@@ -8,9 +8,6 @@ use Rattle.tab_post.specs.declared.rule.Hand.{Hand}
 abbrev pub hand : Bool → Bool → List Item → List Item → Hand
 hand a b sent taken = record { sends = a; takes = b; sent = sent; taken = taken }
 
-abbrev pub StartsWith : List Item → List Item → Type 0
-StartsWith all xs = (others : List Item) × (all ≡ xs ++ others)
-
 abbrev pub EndsWith : List Item → List Item → Type 0
 EndsWith all xs = (others : List Item) × (all ≡ others ++ xs)
 

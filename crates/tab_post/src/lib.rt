@@ -14,6 +14,6 @@ mod rule;
 
 pub use ends::mailbox;
 pub use inbox::Inbox;
-pub use meeting::{Met, meet};
+pub use meeting::meet;
 pub use post::{ChannelPost, Line};
 pub use rule::{Hand, InOrder};

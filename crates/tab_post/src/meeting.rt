@@ -1,23 +1,15 @@
 //! Both ends of a mailbox in one hand.
 
 ghost use Rattle.std.specs.Prelude.{◌≡◌};
-ghost use Rattle.tab_post.specs.Rule.{StartsWith};
 ghost use Rattle.tab_post.specs.Ends.{as_outbox, sent_by, taken_by, AreEnds, IsSamePost, IsSameInbox};
-ghost use Rattle.tab_post.specs.Meetings.{Takes};
+ghost use Rattle.tab_outbox.specs.Mailboxes.{Takes};
 
 use crate::inbox::Inbox;
 use crate::post::ChannelPost;
 use crate::rule::{Ends, Idle, Meets};
 use std::mem;
 use std::sync::Wait;
-use tab_outbox::Item;
-
-/// What both ends show: an item that was left and is now taken, or that all that was sent is taken.
-#[derive(Drop)]
-pub enum Met {
-    Going(Item),
-    All,
-}
+use tab_outbox::Met;
 
 /// Takes one item more, or shows that all that was sent is taken. While it has both ends nothing more is sent.
 pub fn meet<R: Wait>(post: &mut ChannelPost<R>, inbox: &mut Inbox<R>) -> Met
@@ -25,7 +17,6 @@ pub fn meet<R: Wait>(post: &mut ChannelPost<R>, inbox: &mut Inbox<R>) -> Met
     ensures post { IsSamePost post.old post.new × (as_outbox post.new ≡ as_outbox post.old) }
     ensures inbox { IsSameInbox inbox.old inbox.new }
     ensures met { Takes (sent_by post.new) (taken_by inbox.old) result (taken_by inbox.new) }
-    ensures begins { StartsWith (sent_by post.new) (taken_by inbox.new) }
 {
     // The two passes become one of both ends, which learns how what was taken stands to what was sent.
     let spare = post.line.another::<Idle>(&mut post.pass);

@@ -95,7 +95,8 @@ pub struct Meets;
 
 impl Outcome<Item, Hand> for Meets {
     ghost use Rattle.std.specs.Prelude.{◌≡◌, [], ◌∷◌, ◌++◌};
-    ghost use Rattle.tab_post.specs.Rule.{hand, StartsWith};
+    ghost use Rattle.tab_outbox.specs.Mailboxes.{StartsWith};
+    ghost use Rattle.tab_post.specs.Rule.{hand};
 
     ghost then = { λ v x w. (w ≡ hand v.sends v.takes v.sent (v.taken ++ x ∷ [])) × StartsWith v.sent (v.taken ++ x ∷ []) };
 }

@@ -5,8 +5,8 @@ ghost use Rattle.tab_post.specs.Ends.{AreEnds};
 use crate::items::{batch, is_batch, is_gone, is_received};
 use std::alloc::Global;
 use std::sync::Wait;
-use tab_outbox::{Post, Refused};
-use tab_post::{ChannelPost, Inbox, Met, mailbox, meet};
+use tab_outbox::{Met, Post, Refused};
+use tab_post::{ChannelPost, Inbox, mailbox, meet};
 
 /// Items are batches, known by their commits.
 enum Call {

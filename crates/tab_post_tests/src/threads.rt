@@ -8,8 +8,8 @@ use std::process::Abort;
 use std::sync::Wait;
 use std::test::*;
 use std::thread::join;
-use tab_outbox::{Post, Refused};
-use tab_post::{ChannelPost, Inbox, Met, mailbox, meet};
+use tab_outbox::{Met, Post, Refused};
+use tab_post::{ChannelPost, Inbox, mailbox, meet};
 
 const COUNT: u64 = 1000;
 

@@ -3,3 +3,4 @@ pub mod Reading
 pub mod Requests
 pub mod Replies
 pub mod FirstWords
+pub mod Events

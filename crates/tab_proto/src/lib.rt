@@ -7,6 +7,7 @@ mod building;
 mod call;
 mod command_terms;
 mod commands;
+mod events;
 mod fault;
 mod first_words;
 mod laws;
@@ -19,7 +20,8 @@ mod requests;
 mod telling;
 
 pub use command_terms::term_of;
-pub use commands::command;
+pub use commands::{command, read_command};
+pub use events::{append_item, append_overflow};
 pub use fault::ProtoFault;
 pub use laws::requests_are_apart;
 pub use replying::{append_reply, write_reply};

@@ -62,7 +62,7 @@ fn response_of(session: Option<u32>, reply: &Reply) -> Outline<'_>
     }
 }
 
-fn outline_of(reply: &Reply) -> Outline<'_>
+pub(crate) fn outline_of(reply: &Reply) -> Outline<'_>
     ensures { IsOutlineOf result (reply_term_of reply.now) }
 {
     match reply {
@@ -229,7 +229,7 @@ fn told_of<'a>(text: &'a str, first: Leaf<'a>, second: Leaf<'a>) -> Outline<'a>
     }
 }
 
-fn item_outline(item: &Item) -> Outline<'_>
+pub(crate) fn item_outline(item: &Item) -> Outline<'_>
     ensures { IsOutlineOf result (item_term_of item.now) }
 {
     match item {

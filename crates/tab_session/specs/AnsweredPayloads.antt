@@ -1,5 +1,5 @@
 -- How a payload is answered, and the bytes of an answer (this project's own rules).
-use Rattle.std.specs.Prelude.{◌≡◌, ◌≢◌, ℕ, Bool, true, false, not, ◌<◌, List, [], ◌∷◌, length, Some, Result, Ok, Err, ◌⊎◌}
+use Rattle.std.specs.Prelude.{◌≡◌, ◌≢◌, ℕ, Bool, true, false, not, ◌<◌, List, [], ◌∷◌, length, Some, None, Result, Ok, Err, ◌⊎◌}
 use Rattle.std.specs.List.{All, flat_map}
 use Rattle.tab_term.specs.Data.{PlainTerm}
 use Rattle.tab_term.specs.Canon.{canon}
@@ -26,7 +26,7 @@ use Rattle.tab_session.specs.OneSessions.{IsDriven}
 
 -- a post that can hold so many items, and has none
 abbrev pub empty_post : ℕ → Outbox
-empty_post capacity = record { items = []; refusals = 0; capacity = Some capacity }
+empty_post capacity = record { items = []; refusals = 0; capacity = Some capacity; mailbox = None }
 
 -- the term is no request
 abbrev pub AsksNothing : PlainTerm → Type 0

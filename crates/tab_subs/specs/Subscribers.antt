@@ -61,7 +61,7 @@ Marks ss (Some s) ws x (Some m) new =
 -- a Take: the next item, else an overflow, which is told once, else empty
 abbrev pub give : Subscriber → List Item → Option ℕ → Subscriber × Taken
 give s (x ∷ xs) l =
-    (record { number = s.number; watching = s.watching; outbox = record { items = xs; refusals = s.outbox.refusals; capacity = s.outbox.capacity }; overflow = s.overflow }, taken.Item x)
+    (record { number = s.number; watching = s.watching; outbox = record { items = xs; refusals = s.outbox.refusals; capacity = s.outbox.capacity; mailbox = s.outbox.mailbox }; overflow = s.overflow }, taken.Item x)
 give s [] None = (s, taken.Empty)
 give s [] (Some n) = (record { number = s.number; watching = s.watching; outbox = s.outbox; overflow = None }, taken.Overflow n)
 

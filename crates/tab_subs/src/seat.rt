@@ -7,6 +7,7 @@ ghost use Rattle.tab_model.specs.declared.data.Item.TheVariants as Item;
 ghost use Rattle.tab_model.specs.declared.data.Ending.TheVariants as Ending;
 ghost use Rattle.std.specs.Prelude.{option_to_list};
 ghost use Rattle.std.specs.Option.{option_copied};
+ghost use Rattle.tab_outbox.specs.Mailboxes.{Tells};
 ghost use Rattle.tab_subs.specs.Deliveries.{received, unwatched, IsDecided};
 ghost use Rattle.tab_subs.specs.Subscribers.{fresh, take as take_of, marked, is_full};
 
@@ -17,7 +18,7 @@ use std::alloc::{AllocError, Global};
 use std::marker::Model;
 use tab_events::{Item, Level};
 use tab_model::Ending;
-use tab_outbox::Post;
+use tab_outbox::{Mailbox, Met, Post};
 use tab_term::{Atom, Terms};
 
 /// A session's seat.
@@ -177,5 +178,16 @@ impl<P: Post + Drop> Seat<P> {
             return Ok(None);
         }
         Ok(Some(Item::Ended(table.try_clone(alloc)?, Ending::Deleted)))
+    }
+}
+
+impl<P: Mailbox + Drop> Seat<P> {
+    /// Takes one item more at the post's other end, or shows that all that was put is taken.
+    pub fn meet(&mut self, end: &mut P::End) -> Met
+        ensures same { self.new ≡ self.old }
+        ensures end { P.mailbox end.new ≡ P.mailbox end.old }
+        ensures met { Tells self.old.outbox (P.mailbox end.old) (P.taken end.old) result (P.taken end.new) }
+    {
+        self.post.meet(end)
     }
 }

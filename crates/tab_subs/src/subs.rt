@@ -5,6 +5,7 @@ ghost use Rattle.tab_model.specs.Slices.{batch_for, end_for};
 ghost use Rattle.tab_model.specs.State.{level_in, without_watch};
 ghost use Rattle.tab_model.specs.declared.data.Item.TheVariants as Item;
 ghost use Rattle.tab_model.specs.declared.data.Ending.TheVariants as Ending;
+ghost use Rattle.tab_outbox.specs.Mailboxes.{Meets};
 ghost use Rattle.tab_subs.specs.Deliveries.{Delivers};
 ghost use Rattle.tab_subs.specs.Subscribers.{Subscriber, fresh, at, without, taken_from, level_of, overflow_of, watched, higher as higher_of, StandsAt, Marks, AllBelow, numbers};
 
@@ -17,7 +18,7 @@ use std::collections::VecDeque;
 use std::marker::Model;
 use tab_events::{Event, Level};
 use tab_model::Numbers;
-use tab_outbox::Post;
+use tab_outbox::{Mailbox, Met, Post};
 use tab_term::{Atom, Terms};
 
 /// The joined sessions, in the order of their numbers.
@@ -222,6 +223,21 @@ impl<P: Post + Drop> Subs<P> {
             highest = higher(highest, seat.level(table));
         }
         highest
+    }
+}
+
+impl<P: Mailbox + Drop> Subs<P> {
+    /// Takes one item more at the other end of the session's post, or shows that all that was put is taken. None of a
+    /// session that isn't joined.
+    pub fn meet(&mut self, session: u64, end: &mut P::End) -> Option<Met>
+        ensures same { self.new ≡ self.old }
+        ensures end { P.mailbox end.new ≡ P.mailbox end.old }
+        ensures met { Meets (option_map (λ s. s.outbox) (at self.old session)) (P.mailbox end.old) (P.taken end.old) result (P.taken end.new) }
+    {
+        let Some(place) = self.place(session) else {
+            return None;
+        };
+        Some(self.seats[place].meet(end))
     }
 }
 

@@ -1,8 +1,8 @@
 -- Terms that compare equal are one term, and no spelling begins another.
-use Rattle.std.proofs.Common.{◌≡◌, ◌≢◌, ℕ, ◌+◌, ◌*◌, ◌^◌, ◌%◌, ◌<◌, Bool, true, false, nat_lt, ◌==◌, if◌then◌else◌, List, [], ◌∷◌, ◌++◌, length, refl, sym, ap, ap₂, ◌∙◌, Ordering, Less, Equal, Greater, nat_cmp, arith}
+use Rattle.std.proofs.Common.{◌≡◌, ◌≢◌, ℕ, ◌+◌, ◌*◌, ◌^◌, ◌%◌, ◌<◌, ◌≤◌, Bool, true, false, nat_lt, ◌==◌, if◌then◌else◌, List, [], ◌∷◌, ◌++◌, length, refl, sym, ap, ap₂, ◌∙◌, Ordering, Less, Equal, Greater, nat_cmp, arith}
 use Rattle.std.specs.Prelude.{ℤ, pos, negsuc, unsigned_abs}
 use Rattle.std.specs.Ordering.{ordering_then, is_eq}
-use Rattle.std.proofs.lemmas.Bool.{ltb-true}
+use Rattle.std.proofs.lemmas.Bool.{ltb-true, ltb-false}
 use Rattle.std.proofs.lemmas.Bool.Decides.{same_from_decides}
 use Rattle.tab_term.specs.Same.{same, same-Decides}
 use Rattle.std.specs.Str.{bytes_eq}
@@ -20,7 +20,7 @@ use Rattle.std.proofs.lemmas.Cmp.{tied_itself, nat_list_cmp_total, on_total}
 use Rattle.tab_term.specs.Data.{PlainTerm, int, atom, tuple, list, bin, map, PlainTerms, none, one_more, PlainPairs, no_pair, one_pair, count, pair_count}
 use Rattle.tab_term.specs.Canon.{canon, tag, int_tag, int_contents, magnitude, significant, before_zeros, is_byte, fits_four, sign_of}
 use Rattle.tab_term.specs.Order.{order, by_tag, contents_order, members_order, pairs_order, bytes_cmp}
-use Rattle.tab_term.specs.Numbers.{then_both, equal_is, lists_are, high_cmp, low_value, low_is, then_equal, tie_is}
+use Rattle.tab_term.specs.Numbers.{then_both, equal_is, lists_are, high_cmp, low_value, low_is, then_equal, tie_is, less_is, greater_is}
 use Rattle.tab_term.specs.Compare.{canon_cmp, apart, int_at, int_tag_at}
 
 -- ---- integers
@@ -222,3 +222,61 @@ bigs_at x y g h e = by (is_byte x) (fits_four x) (is_byte y) (fits_four y) g h e
     by false false false true g h e = absurd (omega arith)
     by false true _ _ g h e = absurd cc
     by true _ _ _ g h e = absurd cc
+
+-- ---- two integers, whatever their tags
+
+byte_fits : (z : ℤ) → is_byte z ≡ true → fits_four z ≡ true
+byte_fits (pos n) h = grind (arith, ltb-true n 256 h)
+byte_fits (negsuc n) h = absurd cc
+
+byte_as_four : (z : ℤ) → is_byte z ≡ true → cast_unsigned w32 z ≡ unsigned_abs z
+byte_as_four (pos n) h = omega (arith, ltb-true n 256 h)
+byte_as_four (negsuc n) h = absurd cc
+
+byte_below : (z : ℤ) → is_byte z ≡ true → cast_unsigned w32 z < 256
+byte_below (pos n) h = omega (arith, ltb-true n 256 h)
+byte_below (negsuc n) h = absurd cc
+
+four_above : (z : ℤ) → is_byte z ≡ false → fits_four z ≡ true → 256 ≤ cast_unsigned w32 z
+four_above (pos n) g h = omega (arith, ltb-false n 256 g, ltb-true n (2 ^ 31) h)
+four_above (negsuc n) g h = omega (arith, ltb-true n (2 ^ 31) h)
+
+abbrev two_at : Bool → Bool → Bool → Bool → ℤ → ℤ → Ordering
+two_at p q r s x y = ordering_then (nat_cmp (int_tag_at p q) (int_tag_at r s)) (bytes_cmp (int_at p q x) (int_at r s y))
+
+fours_by : (p r : Bool) (x y : ℤ) → is_byte x ≡ p → is_byte y ≡ r → fits_four x ≡ true → fits_four y ≡ true → two_at p true r true x y ≡ nat_cmp (cast_unsigned w32 x) (cast_unsigned w32 y)
+fours_by true true x y hp hr hx hy = then_equal (nat_cmp (unsigned_abs x) (unsigned_abs y)) ∙ ap₂ nat_cmp (sym (byte_as_four x hp)) (sym (byte_as_four y hr))
+fours_by true false x y hp hr hx hy = sym (less_is (cast_unsigned w32 x) (cast_unsigned w32 y) (omega (arith, byte_below x hp, four_above y hr hy)))
+fours_by false true x y hp hr hx hy = sym (greater_is (cast_unsigned w32 x) (cast_unsigned w32 y) (omega (arith, byte_below y hr, four_above x hp hx)))
+fours_by false false x y hp hr hx hy = four_cmp x y hx hy
+
+two_is : (p q r s : Bool) (x y : ℤ) → is_byte x ≡ p → fits_four x ≡ q → is_byte y ≡ r → fits_four y ≡ s → order (int x) (int y) ≡ two_at p q r s x y
+unfolding int_contents
+two_is p q r s x y hp hq hr hs = cc
+
+pub fours_order : (x y : ℤ) → fits_four x ≡ true → fits_four y ≡ true → order (int x) (int y) ≡ nat_cmp (cast_unsigned w32 x) (cast_unsigned w32 y)
+fours_order x y hx hy = two_is (is_byte x) true (is_byte y) true x y refl hx refl hy ∙ fours_by (is_byte x) (is_byte y) x y refl refl hx hy
+
+no_byte : (z : ℤ) → fits_four z ≡ false → is_byte z ≡ false
+no_byte z h = by (is_byte z) refl
+  where
+    by : (p : Bool) → is_byte z ≡ p → p ≡ false
+    by true e = let f = byte_fits z e in absurd cc
+    by false e = refl
+
+pub four_first : (x y : ℤ) → fits_four x ≡ true → fits_four y ≡ false → order (int x) (int y) ≡ Less
+four_first x y hx hy = by (is_byte x) refl
+  where
+    by : (p : Bool) → is_byte x ≡ p → order (int x) (int y) ≡ Less
+    by true e = two_is true true false false x y e hx (no_byte y hy) hy
+    by false e = two_is false true false false x y e hx (no_byte y hy) hy
+
+pub four_last : (x y : ℤ) → fits_four x ≡ false → fits_four y ≡ true → order (int x) (int y) ≡ Greater
+four_last x y hx hy = by (is_byte y) refl
+  where
+    by : (p : Bool) → is_byte y ≡ p → order (int x) (int y) ≡ Greater
+    by true e = two_is false false true true x y (no_byte x hx) hx e hy
+    by false e = two_is false false false true x y (no_byte x hx) hx e hy
+
+pub bigs_order : (x y : ℤ) → fits_four x ≡ false → fits_four y ≡ false → order (int x) (int y) ≡ bytes_cmp (length (magnitude (unsigned_abs x)) ∷ sign_of x ∷ magnitude (unsigned_abs x)) (length (magnitude (unsigned_abs y)) ∷ sign_of y ∷ magnitude (unsigned_abs y))
+bigs_order x y hx hy = two_is false false false false x y (no_byte x hx) hx (no_byte y hy) hy

@@ -1,17 +1,17 @@
 //! Changes of an overlay, in place where no saved level shares it.
-ghost use Rattle.std.specs.Prelude.{◌≡◌, IfSome, IsSome, OnOk, OnErr};
+ghost use Rattle.std.specs.Prelude.{◌≡◌, IfOk, IfSome, IsSome, OnOk, OnErr};
 ghost use Rattle.tab_term.specs.Order.{bytes_cmp, term_cmp};
 ghost use Rattle.std.specs.Option.{option_copied};
 ghost use Rattle.tab_term.specs.View.{term, terms};
-ghost use Rattle.tab_model.specs.Names.{plain_terms};
+ghost use Rattle.tab_model.specs.Names.{plain_terms, terms_list};
 ghost use Rattle.tab_map.specs.Entries.{lookup, insert_entry};
 ghost use Rattle.tab_map.specs.Revised.{revised_at};
 ghost use Rattle.tab_rows.specs.Joined.{followed_by};
-ghost use Rattle.tab_txstore.specs.Overlays.{touched, seen_at, touch as touch_of};
+ghost use Rattle.tab_txstore.specs.Overlays.{touched, left as left_of, seen_at, touch as touch_of};
 ghost use Rattle.tab_txstore.specs.Kept.{Appends};
 
 use crate::change::key_of;
-use crate::left::left;
+use crate::left::{left, only};
 use std::alloc::{AllocError, Global};
 use tab_index::IndexedTable;
 use tab_map::{Map, Revise};
@@ -101,10 +101,26 @@ pub fn touch(
         append(overlay, alloc, name, key, row)?;
         return Ok(());
     }
-    let kind = lent.def().kind;
-    let records = left(alloc, kind, seen(overlay, lent, &key), change)?;
+    let records = left_at(overlay, alloc, lent, &key, change)?;
     put(overlay, alloc, name, key, records)?;
     Ok(())
+}
+
+// What a change leaves at its key. A write to a set takes the place of what stands there, so that it isn't looked for.
+fn left_at(
+    overlay: &Map<Atom, Map<Term, Terms>>,
+    alloc: Global,
+    lent: &IndexedTable,
+    key: &Term,
+    change: &Change,
+) -> Result<Terms, AllocError>
+    ensures { IfOk result (λ after. after ≡ plain_terms (left_of lent.now.def.kind (terms_list (plain_terms (seen_at (touched overlay.now lent.now.def.name) lent.now.rows (term key.now)))) change.now)) }
+{
+    let kind = lent.def().kind;
+    if let (Kind::Set, Change::Write(row)) = (kind, change) {
+        return only(alloc, row);
+    }
+    left(alloc, kind, seen(overlay, lent, key), change)
 }
 
 // The record of a write that a bag puts after others, which were touched before.

@@ -1,5 +1,5 @@
 -- The answer by whom a request conflicts with, among who holds and among who waits.
-use Rattle.std.proofs.Common.{◌≡◌, List, [], ◌∷◌, ◌++◌, Bool, true, false, ◌||◌, ◌&&◌, not, refl, sym, ap, ◌∙◌}
+use Rattle.std.proofs.Common.{◌≡◌, List, [], ◌∷◌, ◌++◌, Bool, true, false, ◌||◌, ◌&&◌, not, refl, sym, ap, ◌∙◌, Some, None}
 use Rattle.std.proofs.lemmas.List.Folds.{list_any-append}
 use Rattle.std.specs.Prelude.{if◌then◌else◌}
 use Rattle.std.specs.List.{list_any}
@@ -7,7 +7,7 @@ use Rattle.tab_model.specs.Ages as plain
 use Rattle.tab_model.specs.Ages.{Owned, opposes, covers_own, blocks, decide, before, can_retry}
 use Rattle.tab_locks.specs.declared.lock_table.Conflict.{Conflict}
 use Rattle.tab_locks.specs.declared.lock_table.Conflict.TheVariants.{Free, WithYounger, WithOlder}
-use Rattle.tab_locks.specs.Placed.{conflict_with}
+use Rattle.tab_locks.specs.Placed.{conflict_with, standing}
 use Rattle.tab_locks.proofs.Passing.{any_map}
 use Rattle.tab_waitdie.specs.declared.waiting.Waiting.{Waiting}
 use Rattle.tab_waitdie.specs.Queue.{owned, queued}
@@ -49,14 +49,29 @@ by_tests false false true false h h' = refl
 by_tests false false false true h h' = let e = h' refl in absurd cc
 by_tests false false false false h h' = refl
 
-pub decided : (r : Owned) (held queue : List Owned) → list_any (covers_own r) held ≡ false → answer_of (answer_to (conflict_with r held) (conflict_with r queue)) ≡ decide (ages held queue) r
+decided : (r : Owned) (held queue : List Owned) → list_any (covers_own r) held ≡ false → answer_of (answer_to (conflict_with r held) (conflict_with r queue)) ≡ decide (ages held queue) r
 unfolding by_whom
 decided r held queue n =
     by_tests (list_any (opposes r) held) (list_any (blocks r) held) (list_any (opposes r) queue) (list_any (blocks r) queue) (older_opposes r held) (older_opposes r queue)
     ∙ (λ i. if sym n i || not (sym (list_any-append (opposes r) held queue) i) then plain.Granted else if sym (list_any-append (blocks r) held queue) i then plain.Die else plain.Wait)
 
-pub granted : (r : Owned) (held queue : List Owned) → list_any (covers_own r) held ≡ true → plain.Granted ≡ decide (ages held queue) r
+granted : (r : Owned) (held queue : List Owned) → list_any (covers_own r) held ≡ true → plain.Granted ≡ decide (ages held queue) r
 granted r held queue h = λ i. if sym h i || not (list_any (opposes r) (held ++ queue)) then plain.Granted else if list_any (blocks r) (held ++ queue) then plain.Die else plain.Wait
+
+-- the same by what the held locks tell at once
+pub granted_where : (r : Owned) (held queue : List Owned) → None ≡ standing r held → plain.Granted ≡ decide (ages held queue) r
+granted_where r held queue h = by (list_any (covers_own r) held) refl h
+  where
+    by : (b : Bool) → list_any (covers_own r) held ≡ b → None ≡ (if b then None else Some (conflict_with r held)) → plain.Granted ≡ decide (ages held queue) r
+    by true e h = granted r held queue e
+    by false e h = absurd cc
+
+pub decided_where : (o : Conflict) (r : Owned) (held queue : List Owned) → Some o ≡ standing r held → answer_of (answer_to o (conflict_with r queue)) ≡ decide (ages held queue) r
+decided_where o r held queue h = by (list_any (covers_own r) held) refl h
+  where
+    by : (b : Bool) → list_any (covers_own r) held ≡ b → Some o ≡ (if b then None else Some (conflict_with r held)) → answer_of (answer_to o (conflict_with r queue)) ≡ decide (ages held queue) r
+    by true e h = absurd cc
+    by false e h = let is : o ≡ conflict_with r held = cc in ap (λ x. answer_of (answer_to x (conflict_with r queue))) is ∙ decided r held queue e
 
 pub any_queued : (p : Owned → Bool) (ws : List Waiting) → list_any p (queued ws) ≡ list_any (λ w. p (owned w)) ws
 any_queued p ws = any_map p owned ws

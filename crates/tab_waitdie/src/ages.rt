@@ -94,13 +94,10 @@ impl Ages {
     fn decide(&self, age: u64, lock: &Lock) -> Answer
         ensures { answer_of result ≡ decision self.now (age, lock_of lock.now) }
     {
-        if self.locks.covered(age, lock) {
-            return Answer::Granted;
+        match self.locks.standing(age, lock) {
+            None => Answer::Granted,
+            Some(held) => answer_to(held, conflicts_in(&self.queue, age, lock)),
         }
-        answer_to(
-            self.locks.conflicts(age, lock),
-            conflicts_in(&self.queue, age, lock),
-        )
     }
 
     /// Asks again for a queued request. It looks at the held locks and at the requests queued before it.

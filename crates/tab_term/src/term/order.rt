@@ -8,15 +8,13 @@ ghost use Rattle.std.specs.Ordering.{nat_cmp, ordering_then, on};
 ghost use Rattle.std.specs.Cmp.{IsTotalOrder};
 ghost use Rattle.std.specs.declared.cmp.Ordering.TheVariants.{Equal};
 ghost use Rattle.std.specs.Cmp.Lexicographic.{slice_cmp};
-ghost use Rattle.tab_term.specs.Data.{PlainTerm, count, pair_count};
+ghost use Rattle.tab_term.specs.Data.{PlainTerm, int, count, pair_count};
 ghost use Rattle.tab_term.specs.View.{term, terms, pairs as pairs_of};
-ghost use Rattle.tab_term.specs.Canon.{int_tag as int_tag_of, int_contents, sign_of, magnitude, canon};
+ghost use Rattle.tab_term.specs.Canon.{sign_of, magnitude, canon};
 ghost use Rattle.tab_term.specs.Order.{order, members_order, pairs_order};
 
 use crate::atom::Atom;
-use crate::spelling::{
-    fits_four, four_bytes_of, is_byte, low_first, sign_byte, significant_of, tag,
-};
+use crate::spelling::{fits_four, four_bytes_of, low_first, sign_byte, significant_of, tag};
 use crate::term::{Pairs, Term, Terms};
 use std::cmp::Ordering;
 
@@ -53,19 +51,17 @@ fn compare_bigs(x: i128, y: i128) -> Ordering
     )
 }
 
-/// Of two integers with one tag.
-#[tactic(auto, using(crate::specs::OrderLaws::bytes_at, crate::specs::OrderLaws::fours_at, crate::specs::OrderLaws::bigs_at))]
+/// The bytes of integers that four bytes hold order them, those of one byte before the others, as their tags do.
+#[tactic(auto, using(crate::specs::OrderLaws::fours_order, crate::specs::OrderLaws::four_first, crate::specs::OrderLaws::four_last, crate::specs::OrderLaws::bigs_order))]
 fn compare_ints(x: i128, y: i128) -> Ordering
-    requires { int_tag_of x ≡ int_tag_of y }
-    ensures { result ≡ slice_cmp nat_cmp (int_contents x) (int_contents y) }
+    ensures { result ≡ order (int x) (int y) }
 {
-    if is_byte(x) {
-        return x.unsigned_abs().cmp(&y.unsigned_abs());
+    match (fits_four(x), fits_four(y)) {
+        (true, true) => four_bytes_of(x).cmp(&four_bytes_of(y)),
+        (true, false) => Ordering::Less,
+        (false, true) => Ordering::Greater,
+        (false, false) => compare_bigs(x, y),
     }
-    if fits_four(x) {
-        return four_bytes_of(x).cmp(&four_bytes_of(y));
-    }
-    compare_bigs(x, y)
 }
 
 #[cycle(order)]
@@ -73,13 +69,15 @@ fn compare_ints(x: i128, y: i128) -> Ordering
 fn compare(a: &Term, b: &Term) -> Ordering
     ensures { result ≡ order (term a.now) (term b.now) }
 {
+    if let (Term::Int(x), Term::Int(y)) = (a, b) {
+        return compare_ints(*x, *y);
+    }
     let p = tag(a);
     let q = tag(b);
     if p != q {
         return p.cmp(&q);
     }
     match (a, b) {
-        (Term::Int(x), Term::Int(y)) => compare_ints(*x, *y),
         (Term::Atom(x), Term::Atom(y)) => compare_atoms(x, y),
         (Term::Tuple(xs), Term::Tuple(ys)) => compare_all(xs, ys),
         (Term::List(xs), Term::List(ys)) => compare_all(xs, ys),

@@ -1,10 +1,10 @@
 use Rattle.std.proofs.Common.{refl, ap, ◌∙◌}
 use Rattle.tab_term.specs.Order.{term_cmp}
-use Rattle.tab_term.specs.View.{terms}
+use Rattle.tab_term.specs.View.{term}
 use Rattle.tab_map.specs.Entries.{insert_entry}
 use Rattle.tab_model.specs.declared.data.TableDef.{TableDef}
-use Rattle.tab_model.specs.Names.{plain_terms, terms_list}
-use Rattle.tab_txstore.specs.Overlays.{touched, left}
+use Rattle.tab_model.specs.Names.{plain_terms}
+use Rattle.tab_txstore.specs.Overlays.{touched, seen_at}
 use Rattle.tab_txstore.proofs.LeftLemmas.{touch_made}
 use Rattle.tab_txstore.proofs.TouchingLemmas.{appends_there, appended_touch}
 use Rattle.tab_txstore.proofs.touching.touch.Goals as goal
@@ -27,7 +27,5 @@ returns-clause-ok c =
     let key = c.in_ok-key.key in
     let name = c.in_ok-name.ensures ∙ ap (λ (d : TableDef). d.name) c.def.ensures in
     let keys = touched v c.in_ok-name.name in
-    touch_made x v u c.in_ok-name.name key (terms c.seen.result.now) c.in_ok-records.records keys (insert_entry term_cmp (key, c.in_ok-records.records) keys) c.put.new.overlay
-    name c.in_ok-key.ensures c.seen.ensures
-    (c.in_ok-records.ensures ∙ ap (λ (d : TableDef). plain_terms (left d.kind (terms_list (terms c.seen.result.now)) u)) c.def-2.ensures)
-    refl refl c.in_ok-put.ensures.ok
+    touch_made x v u c.in_ok-name.name key (plain_terms (seen_at (touched v x.def.name) x.rows (term key))) c.in_ok-records.records keys (insert_entry term_cmp (key, c.in_ok-records.records) keys) c.put.new.overlay
+    name c.in_ok-key.ensures refl c.in_ok-records.ensures refl refl c.in_ok-put.ensures.ok

@@ -1,0 +1,259 @@
+-- What holds of a book's parts is kept by its steps, its folds, its joins and its leaves.
+use Rattle.std.proofs.Common.{◌≡◌, ◌≢◌, ◌≤◌, ◌<◌, ◌⊎◌, inl, inr, ℕ, ◌+◌, List, [], ◌∷◌, ◌++◌, Bool, true, false, ◌&&◌, refl, sym, ap, ◌∙◌, subst, arith, append-nil, length, Option, Some, None}
+use Rattle.std.specs.Bool.{Decides}
+use Rattle.std.specs.Prelude.{Result, Ok, Err, IfOk, OnOk, OnErr, ◌==◌, ◌-◌, ◌^◌, if◌then◌else◌, nat_lt, is_some}
+use Rattle.std.proofs.lemmas.Bool.{and_parts}
+use Rattle.std.proofs.lemmas.Bool.Decides.{nat_tests}
+use Rattle.tab_model.specs.declared.data.Command.{Command}
+use Rattle.tab_model.specs.declared.data.Command.TheVariants as command
+use Rattle.tab_model.specs.declared.data.Entry.{Entry}
+use Rattle.tab_model.specs.declared.data.Limits.{Limits}
+use Rattle.tab_model.specs.declared.data.Reply.{Reply}
+use Rattle.tab_model.specs.declared.data.Reply.TheVariants as reply
+use Rattle.tab_model.specs.History.{Base, empty, slice_since_after}
+use Rattle.tab_model.specs.Standing.{JoinsChannel, MayStand, Stands, is_joined, still_joined, may_enter}
+use Rattle.tab_model.specs.State.{Outbox, Seat, State, new, seat_at, IsSound}
+use Rattle.tab_model.specs.Outcome.{Ask, Join, Leave, Retry, Take, DoCommand, Outcome, outcome, nothing, join, by_seat}
+use Rattle.tab_model.specs.Run.{Allowed, entries}
+use Rattle.tab_model.proofs.Entering.{enters_none, seat_never}
+use Rattle.tab_model.proofs.PostsStay.{post_stays}
+use Rattle.tab_model.proofs.Schedules.{new_sound}
+use Rattle.tab_model.proofs.StandingLemmas.{new_stands, step_stands, fold_stands, forget_stands, history_of, sent_is, sent_grows, left_away}
+use Rattle.tab_journal.specs.Journals.{Kept, fold_oldest, forget}
+use Rattle.tab_core.specs.Runs.{takes_no_memory}
+use Rattle.tab_named.specs.Ends.{empty_outbox}
+use Rattle.tab_book.specs.declared.step.Step.{Step}
+use Rattle.tab_book.specs.declared.step.Step.TheVariants as step
+use Rattle.tab_book.specs.Running.{Running, IsRunning, Holds}
+use Rattle.tab_book.specs.Steps.{is_full, oldest_joined, folded, with_room, with_entries, leaves, forgetting, has_room, with_seat, StepsFrom, KeepsPosts, ask_of, is_never_refused}
+
+pub new_holds : (outbox : ℕ) (limits : Limits) (n : ℕ) → 1 ≤ outbox → 1 ≤ n → Holds outbox (new limits) (record { base = empty; entries = []; limit = n })
+new_holds outbox limits n room limit = record {
+  room = room;
+  limit = limit;
+  within = omega arith;
+  sound = new_sound limits;
+  past = [];
+  stands = new_stands limits;
+}
+
+pub running : (outbox : ℕ) (σ : State) (j : Kept) → Holds outbox σ j → IsRunning (record { state = σ; journal = j })
+running outbox σ j k = record {
+  history = history_of k.past j.base j.entries σ k.stands;
+  sound = k.sound;
+  sent = λ n s here. record { before = Rattle.tab_model.specs.Slices.slice n k.past; is = sent_is k.past j.base j.entries σ k.stands n s here };
+}
+
+-- ---- the oldest entry is folded
+
+module _ (outbox : ℕ) (σ : State) where
+  pub fold_holds : (j : Kept) → Holds outbox σ j → Holds outbox σ (folded σ j)
+  fold_holds j k = by j.entries refl
+    where
+      by : (es : List Entry) → j.entries ≡ es → Holds outbox σ (Rattle.tab_journal.specs.Journals.without_oldest (oldest_joined σ es) j.base es j.limit)
+      by [] e = record { room = k.room; limit = k.limit; within = let w = k.within in omega arith; sound = k.sound; past = k.past; stands = subst (λ (es : List Entry). Stands k.past j.base es σ) e k.stands }
+      by (x ∷ es) e = record {
+        room = k.room;
+        limit = k.limit;
+        within = shorter x es (subst (λ (ys : List Entry). length ys ≤ j.limit) e k.within);
+        sound = k.sound;
+        past = k.past ++ x ∷ [];
+        stands = fold_stands k.past j.base x es σ (subst (λ (ys : List Entry). Stands k.past j.base ys σ) e k.stands);
+      }
+        where
+          shorter : (y : Entry) (ys : List Entry) → length (y ∷ ys) ≤ j.limit → length ys ≤ j.limit
+          shorter y ys h = omega (arith, h)
+
+  pub fold_makes_room : (j : Kept) → Holds outbox σ j → is_full j ≡ true → length (folded σ j).entries < (folded σ j).limit
+  fold_makes_room j k full = by j.entries (equal (length j.entries) j.limit full)
+    where
+      equal : (a b : ℕ) → (a == b) ≡ true → a ≡ b
+      equal a b h = grind (arith, nat_tests)
+
+      by : (es : List Entry) → length es ≡ j.limit → length (Kept.entries (Rattle.tab_journal.specs.Journals.without_oldest (oldest_joined σ es) j.base es j.limit)) < Kept.limit (Rattle.tab_journal.specs.Journals.without_oldest (oldest_joined σ es) j.base es j.limit)
+      by [] e = let l = k.limit in omega (arith, e, l)
+      by (x ∷ es) e = omega (arith, e)
+
+  pub has_entry : (j : Kept) → Holds outbox σ j → is_full j ≡ true → 0 < length j.entries
+  has_entry j k full = let l = k.limit in let e = equal (length j.entries) j.limit full in omega (arith, l, e)
+    where
+      equal : (a b : ℕ) → (a == b) ≡ true → a ≡ b
+      equal a b h = grind (arith, nat_tests)
+
+-- ---- a step
+
+-- an entry comes only where there is room for it
+pub one_fits : (σ : State) (j : Kept) (over : List ℕ) (n : ℕ) (a : Ask) (o : Outcome) → outcome σ over n a ≡ o → (may_enter σ n a ≡ true → length j.entries < j.limit) → entries o.entry ≢ [] → length j.entries < j.limit
+one_fits σ j over n a o is room some = by (may_enter σ n a) refl
+  where
+    by : (b : Bool) → may_enter σ n a ≡ b → length j.entries < j.limit
+    by true e = room e
+    by false e = absurd (some (ap entries (ap (λ (x : Outcome). x.entry) (sym is) ∙ enters_none σ over n a e)))
+
+longer : (es more : List Entry) (n : ℕ) → (more ≡ []) ⊎ (length more ≡ 1) → length es ≤ n → (more ≢ [] → length es < n) → length (es ++ more) ≤ n
+longer es [] n h w room = subst (λ (xs : List Entry). length xs ≤ n) (sym (append-nil es)) w
+longer es (x ∷ []) n h w room = let r = room (λ e. cc) in let c = count es x in omega (arith, r, c)
+  where
+    count : (ys : List Entry) (y : Entry) → length (ys ++ y ∷ []) ≡ length ys + 1
+    count [] y = refl
+    count (z ∷ ys) y = let ih = count ys y in omega (arith, ih)
+longer es (x ∷ y ∷ more) n (inl e) w room = cc
+longer es (x ∷ y ∷ more) n (inr e) w room = absurd (two e)
+  where
+    two : length (x ∷ y ∷ more) ≡ 1 → ⊥
+    two h = omega (arith, h)
+
+at_most_one : (o : Option Entry) → (entries o ≡ []) ⊎ (length (entries o) ≡ 1)
+at_most_one None = inl refl
+at_most_one (Some e) = inr refl
+
+module _ (outbox : ℕ) (σ : State) (j : Kept) (k : Holds outbox σ j) (over : List ℕ) (n : ℕ) (a : Ask) (o : Outcome) (is : outcome σ over n a ≡ o) where
+  pub next_stands : JoinsChannel a → Stands k.past j.base (j.entries ++ entries o.entry) o.state
+  next_stands joins = subst (λ (x : Outcome). Stands k.past j.base (j.entries ++ entries x.entry) x.state) is (step_stands k.past j.base j.entries σ over n a k.sound joins k.stands)
+
+  pub step_holds : JoinsChannel a → IsSound o.state → (entries o.entry ≢ [] → length j.entries < j.limit) → Holds outbox o.state (with_entries j (entries o.entry))
+  step_holds joins sound room = record {
+    room = k.room;
+    limit = k.limit;
+    within = longer j.entries (entries o.entry) j.limit (at_most_one o.entry) k.within room;
+    sound = sound;
+    past = k.past;
+    stands = next_stands joins;
+  }
+
+  pub step_sent : JoinsChannel a → (m : ℕ) (s x : Seat) → seat_at σ.seats m ≡ Some s → seat_at o.state.seats m ≡ Some x → x.outbox.items ≡ s.outbox.items ++ slice_since_after j.base m j.entries (entries o.entry)
+  step_sent joins m s x g h = sent_grows k.past j.base j.entries σ k.stands m s g (entries o.entry) o.state x (next_stands joins) h
+
+  pub step_posts : KeepsPosts σ o.state
+  step_posts m s x g h = post_stays σ k.sound over n a m s x g (ap (λ (y : Outcome). seat_at y.state.seats m) is ∙ h)
+
+-- ---- who leaves is forgotten
+
+pub forget_holds : (outbox : ℕ) (σ : State) (j : Kept) (n : ℕ) → (MayStand σ n → ⊥) → Holds outbox σ j → Holds outbox σ (forget j n)
+forget_holds outbox σ j n gone k = record {
+  room = k.room;
+  limit = k.limit;
+  within = k.within;
+  sound = k.sound;
+  past = k.past;
+  stands = forget_stands k.past j.base j.entries σ n gone k.stands;
+}
+
+pub leaver_gone : (σ : State) (over : List ℕ) (n : ℕ) (o : Outcome) → IsSound σ → is_joined σ n ≡ true → outcome σ over n Leave ≡ o → MayStand o.state n → ⊥
+leaver_gone σ over n o sound joined is may = left_away σ over n sound joined (subst (λ (x : Outcome). MayStand x.state n) (sym is) may)
+
+-- ---- a journal with room
+
+pub no_fold : (σ : State) (n : ℕ) (a : Ask) (j : Kept) → (is_full j && may_enter σ n a) ≡ false → with_room σ n a j ≡ j
+no_fold σ n a j h = ap (λ b. if b then folded σ j else j) h
+
+pub a_fold : (σ : State) (n : ℕ) (a : Ask) (j : Kept) → (is_full j && may_enter σ n a) ≡ true → with_room σ n a j ≡ folded σ j
+a_fold σ n a j h = ap (λ b. if b then folded σ j else j) h
+
+pub room_left : (outbox : ℕ) (σ : State) (j : Kept) → Holds outbox σ j → is_full j ≡ false → length j.entries < j.limit
+room_left outbox σ j k h = let w = k.within in grind (arith, nat_tests)
+
+-- ---- what is never refused
+
+nothing_entered : (b c : Bool) → c ≡ false → (b && c) ≡ false
+nothing_entered true c h = h
+nothing_entered false c h = refl
+
+pub never_refused : (σ : State) (n : ℕ) (j : Kept) (s : Step) → is_never_refused s ≡ true → (takes_no_memory σ n (ask_of s) ≡ true) × ((is_full j && may_enter σ n (ask_of s)) ≡ false)
+never_refused σ n j step.Leave h = (refl, nothing_entered (is_full j) (may_enter σ n Leave) refl)
+never_refused σ n j step.Retry h = cc
+never_refused σ n j (step.Do (command.Abort r)) h = (refl, nothing_entered (is_full j) (may_enter σ n (DoCommand (command.Abort r))) (seat_never σ n (DoCommand (command.Abort r)) by))
+  where
+    by : (b : Bool) → Rattle.tab_model.specs.Standing.may_enter_seat σ n (DoCommand (command.Abort r)) b ≡ false
+    by true = refl
+    by false = refl
+never_refused σ n j (step.Do (command.Schema c)) h = cc
+never_refused σ n j (step.Do (command.TableInfo t i)) h = cc
+never_refused σ n j (step.Do command.Begin) h = cc
+never_refused σ n j (step.Do command.Commit) h = cc
+never_refused σ n j (step.Do (command.Do o)) h = cc
+never_refused σ n j (step.Do (command.Subscribe t l dump)) h = cc
+never_refused σ n j (step.Do (command.Unsubscribe t l)) h = cc
+never_refused σ n j (step.Do (command.OneShot parts retries)) h = cc
+
+-- ---- as the calls of a book say it
+
+pub audits : {E : Type 0} (r : Result Bool E) (P : Type 0) → P → IfOk r (λ is. Decides is P) → IfOk r (λ is. is ≡ true)
+audits (Ok b) P p h = h.1 p
+audits (Err e) P p h = tt
+
+-- whether or not memory was refused
+pub fold_kept : {A E : Type 0} (r : Result A E) (outbox : ℕ) (σ : State) (j now : Kept) (joined : Bool) → Holds outbox σ j → joined ≡ oldest_joined σ j.entries
+    → OnOk r (now ≡ fold_oldest joined j) → OnErr r (now ≡ j) → Holds outbox σ now
+fold_kept (Ok x) outbox σ j now joined k is ok err = subst (Holds outbox σ) (ap (λ b. fold_oldest b j) (sym is) ∙ sym ok) (fold_holds outbox σ j k)
+fold_kept (Err e) outbox σ j now joined k is ok err = subst (Holds outbox σ) (sym err) k
+
+-- a Take gives no entry
+pub take_holds : (outbox : ℕ) (σ : State) (j : Kept) → Holds outbox σ j → (over : List ℕ) (n : ℕ) (o : Outcome) → outcome σ over n Take ≡ o → IsSound o.state → Holds outbox o.state j
+take_holds outbox σ j k over n o is sound =
+    let none : entries o.entry ≡ [] = ap (λ (x : Outcome). entries x.entry) (sym is) ∙ ap entries (enters_none σ over n Take (seat_never σ n Take (λ b. refl))) in
+    subst (Holds outbox o.state) (ap (with_entries j) none ∙ (λ i. record { base = j.base; entries = append-nil j.entries i; limit = j.limit }))
+    (step_holds outbox σ j k over n Take o is tt sound (λ some. absurd (some none)))
+
+-- ---- a step that was made, with its entry and its leaving
+
+module _ (outbox : ℕ) (σ : State) (j : Kept) (k : Holds outbox σ j) (over : List ℕ) (n : ℕ) (a : Ask) (o : Outcome) (is : outcome σ over n a ≡ o) (joins : JoinsChannel a) where
+  pub made_holds : IsSound o.state → (may_enter σ n a ≡ true → length j.entries < j.limit) → (entered now : Kept) → entered ≡ with_entries j (entries o.entry)
+      → (b : Bool) → b ≡ leaves σ n a → now ≡ (if b then forget entered n else entered) → Holds outbox o.state now
+  made_holds sound room entered now e b l f = by b l (subst (Holds outbox o.state) (sym e) (step_holds outbox σ j k over n a o is joins sound (one_fits σ j over n a o is room))) f
+    where
+      by : (b : Bool) → b ≡ leaves σ n a → Holds outbox o.state entered → now ≡ (if b then forget entered n else entered) → Holds outbox o.state now
+      by true l h f = subst (Holds outbox o.state) (sym f) (forget_holds outbox o.state entered n (gone l) h)
+        where
+          gone : true ≡ leaves σ n a → MayStand o.state n → ⊥
+          gone l = of_leave a is l
+            where
+              of_leave : (a : Ask) → outcome σ over n a ≡ o → true ≡ leaves σ n a → MayStand o.state n → ⊥
+              of_leave Leave q l = leaver_gone σ over n o k.sound (sym l) q
+              of_leave (Join b) q l = cc
+              of_leave Retry q l = cc
+              of_leave Take q l = cc
+              of_leave (DoCommand c) q l = cc
+      by false l h f = subst (Holds outbox o.state) (sym f) h
+
+  pub made_steps : Allowed σ over n a → (entered now : Kept) → entered ≡ with_entries j (entries o.entry) → (b : Bool) → b ≡ leaves σ n a → now ≡ (if b then forget entered n else entered)
+      → StepsFrom σ j n a o.reply (record { state = o.state; journal = now })
+  made_steps allowed entered now e b l f = record {
+    over = over;
+    entry = o.entry;
+    allowed = allowed;
+    core = is;
+    entered = f ∙ (λ i. if l i then forget (e i) n else e i);
+    sent = step_sent outbox σ j k over n a o is joins;
+  }
+
+-- a session's own step joins no one
+pub own_ask : (s : Step) → JoinsChannel (ask_of s)
+own_ask step.Leave = tt
+own_ask (step.Do c) = tt
+own_ask step.Retry = tt
+
+-- ---- the next number joins
+
+pub joins_made : (σ : State) (over : List ℕ) (n : ℕ) (b : Outbox) → IsSound σ → has_room σ ≡ true → n ≡ σ.greatest + 1 → outcome σ over n (Join b) ≡ nothing (with_seat σ n b) reply.Done
+unfolding outcome
+joins_made σ over n b sound room is = by (seat_at σ.seats n) refl
+  where
+    above : nat_lt σ.greatest n ≡ true
+    above = grind (arith, nat_tests)
+
+    by : (o : Option Seat) → seat_at σ.seats n ≡ o → by_seat σ over n (Join b) o ≡ nothing (with_seat σ n b) reply.Done
+    by None e = λ i. join σ n b (above i) ((and_parts (nat_lt σ.greatest (2 ^ 32 - 1)) (nat_lt (length σ.seats) σ.limits.sessions) room).1 i)
+    by (Some s) e = let le = sound.joined n s e in absurd (omega (arith, le, is))
+
+pub join_holds : (outbox : ℕ) (σ : State) (j : Kept) → Holds outbox σ j → (over : List ℕ) (n : ℕ) (b : Outbox) (o : Outcome) → outcome σ over n (Join b) ≡ o → (b.capacity ≡ None) × (b.items ≡ []) → IsSound o.state → Holds outbox o.state j
+join_holds outbox σ j k over n b o is fresh sound =
+    let none : entries o.entry ≡ [] = ap (λ (x : Outcome). entries x.entry) (sym is) ∙ ap entries (enters_none σ over n (Join b) (seat_never σ n (Join b) (λ c. refl))) in
+    subst (Holds outbox o.state) (ap (with_entries j) none ∙ (λ i. record { base = j.base; entries = append-nil j.entries i; limit = j.limit }))
+    (step_holds outbox σ j k over n (Join b) o is fresh sound (λ some. absurd (some none)))
+
+pub new_post : (b : Outbox) → (m : ℕ) × (b ≡ empty_outbox m) → (b.capacity ≡ None) × (b.items ≡ [])
+new_post b h = (ap (λ (x : Outbox). x.capacity) h.1, ap (λ (x : Outbox). x.items) h.1)
+
+pub join_posts : (σ : State) (n : ℕ) (b : Outbox) → IsSound σ → has_room σ ≡ true → n ≡ σ.greatest + 1 → KeepsPosts σ (with_seat σ n b)
+join_posts σ n b sound room is m s x g h = post_stays σ sound [] n (Join b) m s x g (ap (λ (o : Outcome). seat_at o.state.seats m) (joins_made σ [] n b sound room is) ∙ h)

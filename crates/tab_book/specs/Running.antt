@@ -1,0 +1,34 @@
+-- What holds of a book whenever it is seen: its journal replays to its tables, its transactions were told right, and each
+-- session was sent what it is owed (this project's own).
+use Rattle.std.specs.Prelude.{◌≡◌, ◌≤◌, ℕ, List, ◌++◌, Some, length}
+use Rattle.tab_model.specs.declared.data.Entry.{Entry}
+use Rattle.tab_model.specs.declared.data.Item.{Item}
+use Rattle.tab_model.specs.History.{slice_since, IsHistory}
+use Rattle.tab_model.specs.Standing.{Stands}
+use Rattle.tab_model.specs.State.{Seat, State, seat_at, IsSound}
+use Rattle.tab_journal.specs.Journals.{Kept}
+
+pub record Running : Type 0 where
+  pub state : State
+  pub journal : Kept
+
+pub record EndsWith (all xs : List Item) : Type 0 where
+  pub before : List Item
+  pub is : all ≡ before ++ xs
+
+pub record IsRunning (b : Running) : Type 0 where
+  -- the journal is legal from its base and ends in the tables
+  pub history : IsHistory b.journal.base b.journal.entries b.state.tables
+  -- each open transaction was told what it is told alone, on the tables as they are now
+  pub sound : IsSound b.state
+  -- the last that a joined session was sent is what it is owed since the base
+  pub sent : (n : ℕ) (s : Seat) → seat_at b.state.seats n ≡ Some s → EndsWith s.outbox.items (slice_since b.journal.base n b.journal.entries)
+
+-- what a book's parts have to do with each other; past is what was folded into the base
+pub record Holds (outbox : ℕ) (σ : State) (journal : Kept) : Type 0 where
+  pub room : 1 ≤ outbox
+  pub limit : 1 ≤ journal.limit
+  pub within : length journal.entries ≤ journal.limit
+  pub sound : IsSound σ
+  pub past : List Entry
+  pub stands : Stands past journal.base journal.entries σ

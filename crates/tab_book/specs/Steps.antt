@@ -1,0 +1,104 @@
+-- What the calls of a book do (this project's own). A step is the core's, and its entry is put into the journal, from which
+-- the oldest goes first where it is full.
+use Rattle.std.specs.Prelude.{◌≡◌, ◌⊎◌, ◌<◌, ◌+◌, ◌-◌, ◌^◌, ℕ, List, [], ◌∷◌, ◌++◌, Bool, true, false, ◌&&◌, ◌==◌, nat_lt, if◌then◌else◌, Option, Some, None, length}
+use Rattle.tab_model.specs.declared.data.Command.{Command}
+use Rattle.tab_model.specs.declared.data.Entry.{Entry}
+use Rattle.tab_model.specs.declared.data.Item.{Item}
+use Rattle.tab_model.specs.declared.data.Reply.{Reply}
+use Rattle.tab_model.specs.History.{slice_since_after}
+use Rattle.tab_model.specs.Standing.{is_joined, still_joined, may_enter}
+use Rattle.tab_model.specs.State.{Outbox, Seat, State, seat_at}
+use Rattle.tab_model.specs.Outcome.{Ask, Join, Leave, Retry, Take, DoCommand, fresh, is_abort, outcome}
+use Rattle.tab_model.specs.Run.{Allowed, entries}
+use Rattle.tab_journal.specs.Journals.{Kept, fold_oldest, forget}
+use Rattle.tab_named.specs.Ends.{empty_outbox}
+use Rattle.tab_book.specs.declared.step.Step.{Step}
+use Rattle.tab_book.specs.declared.step.Step.TheVariants as step
+use Rattle.tab_book.specs.declared.step.JoinFault.{JoinFault}
+use Rattle.tab_book.specs.declared.step.JoinFault.TheVariants.{Limit, NoMemory}
+use Rattle.tab_book.specs.Running.{Running}
+
+abbrev pub ask_of : Step → Ask
+ask_of step.Leave = Leave
+ask_of (step.Do c) = DoCommand c
+ask_of step.Retry = Retry
+
+-- a session can leave and abort whatever memory is left
+abbrev pub is_never_refused : Step → Bool
+is_never_refused step.Leave = true
+is_never_refused (step.Do c) = is_abort c
+is_never_refused step.Retry = false
+
+abbrev pub is_full : Kept → Bool
+is_full j = length j.entries == j.limit
+
+-- of the oldest entry, whether its session is still joined
+abbrev pub oldest_joined : State → List Entry → Bool
+oldest_joined σ [] = false
+oldest_joined σ (e ∷ es) = still_joined σ e
+
+abbrev pub folded : State → Kept → Kept
+folded σ j = fold_oldest (oldest_joined σ j.entries) j
+
+-- the oldest entry is folded where there is no room for one that the step may give
+abbrev pub with_room : State → ℕ → Ask → Kept → Kept
+with_room σ n a j = if is_full j && may_enter σ n a then folded σ j else j
+
+abbrev pub with_entries : Kept → List Entry → Kept
+with_entries j es = record { base = j.base; entries = j.entries ++ es; limit = j.limit }
+
+-- whether a joined session leaves
+abbrev pub leaves : State → ℕ → Ask → Bool
+leaves σ n Leave = is_joined σ n
+leaves σ n (Join b) = false
+leaves σ n Retry = false
+leaves σ n Take = false
+leaves σ n (DoCommand c) = false
+
+-- it is forgotten
+abbrev pub forgetting : State → ℕ → Ask → Kept → Kept
+forgetting σ n a j = if leaves σ n a then forget j n else j
+
+-- a step that was made, over a journal with room for its entry
+pub record StepsFrom (σ : State) (journal : Kept) (n : ℕ) (a : Ask) (r : Reply) (new : Running) : Type 0 where
+  pub over : List ℕ
+  pub entry : Option Entry
+  pub allowed : Allowed σ over n a
+  pub core : outcome σ over n a ≡ record { state = new.state; reply = r; entry = entry }
+  pub entered : new.journal ≡ forgetting σ n a (with_entries journal (entries entry))
+  -- each session that stays was sent what the entry owes it
+  pub sent : (m : ℕ) (s x : Seat) → seat_at σ.seats m ≡ Some s → seat_at new.state.seats m ≡ Some x
+      → x.outbox.items ≡ s.outbox.items ++ slice_since_after journal.base m journal.entries (entries entry)
+
+abbrev pub StepsTo : Running → ℕ → Ask → Reply → Running → Type 0
+StepsTo old n a r new = StepsFrom old.state (with_room old.state n a old.journal) n a r new
+
+-- one that was refused for memory left the journal as it was, or the oldest entry folded
+pub record MayFold (old : Running) (n : ℕ) (a : Ask) (new : Running) : Type 0 where
+  pub state : new.state ≡ old.state
+  pub journal : (new.journal ≡ old.journal) ⊎ (new.journal ≡ with_room old.state n a old.journal)
+
+-- a session that stays has the post that it had
+abbrev pub KeepsPosts : State → State → Type 0
+KeepsPosts σ τ = (m : ℕ) (s r : Seat) → seat_at σ.seats m ≡ Some s → seat_at τ.seats m ≡ Some r → (r.outbox.capacity ≡ s.outbox.capacity) × (r.outbox.mailbox ≡ s.outbox.mailbox)
+
+-- ---- joining
+
+-- fewer are joined than the limit says, and a number is left
+abbrev pub has_room : State → Bool
+has_room σ = nat_lt σ.greatest (2 ^ 32 - 1) && nat_lt (length σ.seats) σ.limits.sessions
+
+abbrev pub with_seat : State → ℕ → Outbox → State
+with_seat σ n b = record { tables = σ.tables; seats = σ.seats ++ fresh n b ∷ []; queue = σ.queue; next_age = σ.next_age; commits = σ.commits; greatest = n; limits = σ.limits }
+
+-- the next number joins, whose post's other end is that of this mailbox, and nothing was taken there
+pub record Joins (old : Running) (session mailbox : ℕ) (taken : List Item) (new : Running) : Type 0 where
+  pub room : has_room old.state ≡ true
+  pub number : session ≡ old.state.greatest + 1
+  pub state : new.state ≡ with_seat old.state session (empty_outbox mailbox)
+  pub nothing_taken : taken ≡ []
+  pub journal : new.journal ≡ old.journal
+
+abbrev pub Refuses : Running → JoinFault → Running → Type 0
+Refuses old Limit new = (has_room old.state ≡ false) × (new ≡ old)
+Refuses old NoMemory new = (has_room old.state ≡ true) × (new ≡ old)

@@ -1,0 +1,153 @@
+//! A core over mailboxes, and its journal.
+
+ghost use Rattle.std.specs.Prelude.{◌≡◌, ◌≤◌, ◌+◌, ℕ, [], true, IfOk, IfErr, OnOk, OnErr};
+ghost use Rattle.tab_model.specs.History.{empty as empty_base};
+ghost use Rattle.tab_model.specs.State.{new as new_state};
+ghost use Rattle.tab_named.specs.Ends.{as_outbox, empty_outbox, mailbox_of, received};
+ghost use Rattle.tab_book.specs.Running.{IsRunning};
+ghost use Rattle.tab_book.specs.Steps.{Joins, Refuses, has_room as has_room_of, with_seat, KeepsPosts};
+
+use crate::step::JoinFault;
+use std::alloc::{AllocError, Global};
+use std::marker::Model;
+use tab_core::{Core, Step};
+use tab_journal::Journal;
+use tab_model::Limits;
+use tab_named::{SeatInbox, SeatPost, enter};
+use tab_names::{Front, House, Opened, Register};
+use tab_post::Line;
+use tab_world::World;
+
+/// A core whose sessions have mailboxes, and its journal.
+#[derive(Drop)]
+pub struct Book<H: House> {
+    house: H,
+    pub(crate) alloc: Global,
+    outbox: usize,
+    register: Register<Line, H>,
+    front: Front<Line, H>,
+    pub(crate) core: Core<SeatPost<H>>,
+    pub(crate) journal: Journal,
+}
+
+impl<H: House> Model for Book<H> {
+    ghost use Rattle.std.specs.Coded.{codes};
+    ghost use Rattle.tab_term.specs.Code.{term_code, terms_code, pairs_code};
+    ghost use Rattle.tab_book.specs.Running.{Running, Holds};
+
+    ghost Value = { Running };
+
+    ghost coded = { Prim.hlevel (codes, term_code, terms_code, pairs_code) };
+
+    ghost view = { λ a. record { state = a.core; journal = a.journal } };
+
+    ghost invariant = { λ a. Holds a.outbox a.core a.journal };
+}
+
+impl<H: House> Book<H> {
+    /// No tables and no sessions. The journal has at most as many entries as the limits say, 1 at least, and each mailbox
+    /// room for `outbox` items. It has 64 sessions at most.
+    pub fn new(
+        house: H,
+        alloc: Global,
+        opened: Opened<Line>,
+        limits: Limits,
+        outbox: usize,
+    ) -> Result<Book<H>, AllocError>
+        requires room { 1 ≤ outbox }
+        requires sessions { limits.sessions ≤ 64 }
+        requires journal { 1 ≤ limits.journal }
+        requires name { opened ≡ H.book }
+        ensures { IfOk result (λ b. b ≡ record { state = new_state limits; journal = record { base = empty_base; entries = []; limit = limits.journal } }) }
+    {
+        let (register, front) = opened.named::<H>();
+        let journal = Journal::with_limit(alloc, limits.journal as usize)?;
+        Ok(Book {
+            house,
+            alloc,
+            outbox,
+            register,
+            front,
+            core: Core::new(alloc, limits),
+            journal,
+        })
+    }
+
+    /// The tables as they are committed.
+    pub fn tables(&self) -> &World
+        ensures tables { result.now ≡ self.now.state.tables }
+        ensures running { IsRunning self.now }
+    {
+        self.core.tables()
+    }
+
+    /// The entries that stand, and the base that they start from.
+    pub fn journal(&self) -> &Journal
+        ensures journal { result.now ≡ self.now.journal }
+        ensures running { IsRunning self.now }
+    {
+        &self.journal
+    }
+
+    /// True: the entries are run again from the base, which takes as long as the transactions did.
+    pub fn audit(&self) -> Result<bool, AllocError>
+        ensures { IfOk result (λ is. is ≡ true) }
+    {
+        self.journal
+            .audit(self.alloc, self.journal.base(), self.core.tables())
+    }
+
+    /// A session joins, with a mailbox of its own, whose receiving end is given out.
+    pub fn join(&mut self) -> Result<(u32, SeatInbox<H>), JoinFault>
+        ensures ok { IfOk result (λ r. Joins self.old r.0 (mailbox_of r.1) (received r.1) self.new) }
+        ensures err { IfErr result (λ e. Refuses self.old e self.new) }
+        ensures posts { KeepsPosts self.old.state self.new.state }
+    {
+        if !self.has_room() {
+            return Err(JoinFault::Limit);
+        }
+        let session = self.core.greatest() + 1;
+        let Ok((post, inbox)) = enter(
+            &self.register,
+            &mut self.front,
+            self.house,
+            self.alloc,
+            self.outbox,
+        ) else {
+            return Err(JoinFault::NoMemory);
+        };
+        match self.seat(session, post) {
+            Ok(()) => Ok((session, inbox)),
+            Err(_) => Err(JoinFault::NoMemory),
+        }
+    }
+
+    /// The session joins with this post.
+    fn seat(&mut self, session: u32, post: SeatPost<H>) -> Result<(), AllocError>
+        requires room { has_room_of self.old.state ≡ true }
+        requires number { session ≡ self.old.state.greatest + 1 }
+        requires new { (m : ℕ) × (as_outbox post ≡ empty_outbox m) }
+        ensures ok { OnOk result (self.new ≡ record { state = with_seat self.old.state session (as_outbox post); journal = self.old.journal }) }
+        ensures err { OnErr result (self.new ≡ self.old) }
+    {
+        let stepped = self.core.step(session, Step::Join(post))?;
+        drop(stepped.into_reply());
+        Ok(())
+    }
+
+    /// Whether the session has a transaction open.
+    pub(crate) fn is_open(&self, session: u32) -> bool {
+        self.core.levels(session) > 0
+    }
+
+    /// Whether the session waits for a lock.
+    pub(crate) fn waits(&self, session: u32) -> bool {
+        self.core.waits(session)
+    }
+
+    fn has_room(&self) -> bool
+        ensures { result ≡ has_room_of self.now.state }
+    {
+        self.core.greatest() < u32::MAX && self.core.admits(self.core.greatest() + 1)
+    }
+}

@@ -1,0 +1,16 @@
+//! The running book: a core over mailboxes and its journal, under one lock, for many threads.
+//!
+//! Whenever the book is got, its journal replays from its base to its tables, each open transaction was told what it is told
+//! alone on them, and each joined session was sent what the journal owes it (`IsRunning`).
+
+#![tactic(auto)]
+
+mod book;
+mod inboxes;
+mod shared;
+mod step;
+mod steps;
+
+pub use book::Book;
+pub use shared::{Seat, Shared};
+pub use step::{Drained, JoinFault, Step};

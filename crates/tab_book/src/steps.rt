@@ -1,0 +1,119 @@
+//! Steps of a book.
+
+ghost use Rattle.std.specs.Prelude.{◌≡◌, ◌≢◌, ◌<◌, ◌&&◌, [], true, false, IfOk, IsOk, OnOk, OnErr, length};
+ghost use Rattle.tab_model.specs.State.{Outbox};
+ghost use Rattle.tab_model.specs.Run.{entries};
+ghost use Rattle.tab_model.specs.Standing.{may_enter as may_enter_of};
+ghost use Rattle.tab_core.specs.Runs.{takes_no_memory, ask_of as core_ask_of};
+ghost use Rattle.tab_book.specs.Steps.{ask_of, is_full, leaves as leaves_of, folded, oldest_joined as oldest_joined_of, with_entries, StepsFrom, StepsTo, MayFold, KeepsPosts};
+
+use crate::book::Book;
+use crate::step::Step;
+use std::alloc::AllocError;
+use tab_core::{Step as CoreStep, Stepped};
+use tab_journal::Journal;
+use tab_model::{Command, Entry, Told};
+use tab_names::House;
+
+impl<H: House> Book<H> {
+    /// One step of a session, with its entry put into the journal. Where the journal is full and the step may give an entry
+    /// the oldest is folded into the base first, which takes memory; where that is refused, or the step's, nothing else
+    /// changed.
+    pub fn step(&mut self, session: u32, step: Step) -> Result<Told, AllocError>
+        ensures done { IfOk result (λ r. StepsTo self.old session (ask_of step) r self.new) }
+        ensures free { takes_no_memory self.old.state session (ask_of step) ≡ true → (is_full self.old.journal && may_enter_of self.old.state session (ask_of step)) ≡ false → IsOk result }
+        ensures err { OnErr result (MayFold self.old session (ask_of step) self.new) }
+        ensures posts { KeepsPosts self.old.state self.new.state }
+    {
+        if self.journal.full() && self.may_enter(session, &step) {
+            self.fold()?;
+        }
+        self.make(session, step)
+    }
+
+    fn make(&mut self, session: u32, step: Step) -> Result<Told, AllocError>
+        requires room { may_enter_of self.old.state session (ask_of step) ≡ true → length self.old.journal.entries < self.old.journal.limit }
+        ensures done { IfOk result (λ r. StepsFrom self.old.state self.old.journal session (ask_of step) r self.new) }
+        ensures free { takes_no_memory self.old.state session (ask_of step) ≡ true → IsOk result }
+        ensures err { OnErr result (self.new ≡ self.old) }
+        ensures posts { KeepsPosts self.old.state self.new.state }
+    {
+        let leaves = self.leaves(session, &step);
+        let stepped = self.core.step(session, core_step(step))?;
+        let reply = entered(&mut self.journal, stepped);
+        if leaves {
+            self.journal.forget(session as u64);
+        }
+        Ok(reply)
+    }
+
+    /// The oldest entry is folded into the base.
+    fn fold(&mut self) -> Result<(), AllocError>
+        requires full { is_full self.old.journal ≡ true }
+        ensures ok { OnOk result (self.new ≡ record { state = self.old.state; journal = folded self.old.state self.old.journal }) }
+        ensures room { OnOk result (length self.new.journal.entries < self.new.journal.limit) }
+        ensures err { OnErr result (self.new ≡ self.old) }
+    {
+        let joined = self.oldest_joined();
+        self.journal.fold_oldest(self.alloc, joined)
+    }
+
+    /// Of the oldest entry, where it is a subscription, whether its session is still joined.
+    fn oldest_joined(&self) -> bool
+        ensures { result ≡ oldest_joined_of self.now.state self.now.journal.entries }
+    {
+        match self.journal.entry(0) {
+            Some(Entry::Subscribed { session, .. }) => self.core.joined(*session),
+            _ => false,
+        }
+    }
+
+    /// Whether a joined session leaves.
+    fn leaves(&self, session: u32, step: &Step) -> bool
+        ensures { result ≡ leaves_of self.now.state session (ask_of step.now) }
+    {
+        match step {
+            Step::Leave => self.core.joined(session as u64),
+            _ => false,
+        }
+    }
+
+    /// Whether the step may give an entry: a commit of level 1, a schema command, a begin or an end of a subscription.
+    fn may_enter(&self, session: u32, step: &Step) -> bool
+        ensures { result ≡ may_enter_of self.now.state session (ask_of step.now) }
+    {
+        match step {
+            Step::Do(Command::Commit) => self.core.levels(session) == 1,
+            Step::Do(Command::Schema(_) | Command::Subscribe(..) | Command::Unsubscribe(..)) => {
+                self.core.joined(session as u64)
+            }
+            _ => false,
+        }
+    }
+}
+
+fn core_step<P>(step: Step) -> CoreStep<P>
+    ensures { (f : P → Outbox) → core_ask_of f result ≡ ask_of step }
+{
+    match step {
+        Step::Leave => CoreStep::Leave,
+        Step::Do(command) => CoreStep::Do(command),
+        Step::Retry => CoreStep::Retry,
+    }
+}
+
+/// The reply, with the entry put into the journal.
+fn entered(journal: &mut Journal, stepped: Stepped) -> Told
+    requires { entries stepped.entry ≢ [] → length journal.old.entries < journal.old.limit }
+    ensures reply { result ≡ stepped.reply }
+    ensures journal { journal.new ≡ with_entries journal.old (entries stepped.entry) }
+{
+    let Stepped { reply, entry } = stepped;
+    let Some(entry) = entry else {
+        return reply;
+    };
+    match journal.try_push(entry) {
+        Ok(()) => reply,
+        Err(_) => unreachable!(),
+    }
+}

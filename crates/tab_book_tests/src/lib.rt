@@ -1,0 +1,12 @@
+//! Tests of tab_book. Tests prove their crate once more, so they stand in a crate of their own.
+
+#![tactic(auto)]
+
+#[cfg(test)]
+mod commands;
+#[cfg(test)]
+mod counters;
+#[cfg(test)]
+mod overflow;
+#[cfg(test)]
+mod waking;

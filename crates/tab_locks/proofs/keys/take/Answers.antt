@@ -1,0 +1,30 @@
+use Rattle.std.proofs.Common.{refl, sym, ap, ◌∙◌, subst, List, Some}
+use Rattle.std.specs.Option.{option_copied_mut}
+use Rattle.std.specs.Prelude.{IsSome}
+use Rattle.std.specs.BTreeMap.{BTreeMap}
+use Rattle.tab_term.specs.declared.term.Term.{Term}
+use Rattle.tab_term.specs.View.{term}
+use Rattle.tab_locks.specs.Members.{Drops}
+use Rattle.tab_locks.specs.Spots.{Holding, key_spots, stands_on_key}
+use Rattle.tab_locks.proofs.Passing.{none_there}
+use Rattle.tab_locks.proofs.KeySpots.{dropped_at, none_at}
+use Rattle.tab_locks.proofs.keys.take.Goals as goal
+
+pub returns-in-Some-clause-dropped : goal.returns-in-Some-clause-dropped
+returns-in-Some-clause-dropped c =
+    let w = c.remove.new.self in
+    let found = sym (ap option_copied_mut (sym c.in-Some.is) ∙ c.get_mut.ensures.value) in
+    dropped_at c.args.key.now (c.args.age, c.args.write) c.in-Some.at_key.now w c.args.holders.now.entries (c.get_mut.follows.lender w).entries c.get_mut.ensures.ordered found (c.get_mut.follows.holds w).0 c.remove.ensures
+
+pub returns-in-None-clause-dropped : goal.returns-in-None-clause-dropped
+returns-in-None-clause-dropped c =
+    let missing = sym (ap option_copied_mut (sym c.in-None.is) ∙ c.get_mut.ensures.value) in
+    let gone = stands_on_key (term c.args.key.now) (c.args.age, c.args.write) in
+    let at_none = λ (m : BTreeMap Term (List Holding)). Drops gone (key_spots c.args.holders.now.entries) (key_spots m.entries) in
+    subst at_none (sym c.get_mut.follows.holds-at-none) (none_at c.args.key.now (c.args.age, c.args.write) c.args.holders.now.entries missing)
+
+pub returns-in-Some-clause-bare : goal.returns-in-Some-clause-bare
+returns-in-Some-clause-bare c = λ bare.
+    let w = c.remove.new.self in
+    let found = sym (ap option_copied_mut (sym c.in-Some.is) ∙ c.get_mut.ensures.value) in
+    ((c.get_mut.follows.holds w).3 (subst IsSome (sym found) refl)).1 ∙ ap Some (sym (none_there w c.is_occupied.result bare c.is_occupied.ensures))

@@ -1,0 +1,154 @@
+-- A session with a channel's post is given no item by a step: its items are taken at the other end.
+use Rattle.std.proofs.Common.{◌≡◌, ℕ, List, [], ◌∷◌, Bool, true, false, refl, sym, ap, ◌∙◌, subst, Option, Some, None}
+use Rattle.std.specs.Prelude.{nat_lt, length}
+use Rattle.std.specs.List.{AllByRecursion}
+use Rattle.tab_term.specs.declared.term.Term.{Term}
+use Rattle.tab_model.specs.declared.data.Operation.{Operation}
+use Rattle.tab_model.specs.declared.data.Move.TheVariants.{Do, Open, Close, Undo}
+use Rattle.tab_model.specs.declared.data.Item.{Item}
+use Rattle.tab_model.specs.declared.data.Level.{Level}
+use Rattle.tab_model.specs.declared.data.Entry.{Entry}
+use Rattle.tab_model.specs.declared.data.Schema.{Schema}
+use Rattle.tab_model.specs.declared.data.Command.{Command}
+use Rattle.tab_model.specs.declared.data.Command.TheVariants as command
+use Rattle.tab_model.specs.declared.data.Reply.{Reply}
+use Rattle.tab_model.specs.declared.data.Reply.TheVariants as reply
+use Rattle.tab_model.specs.Worlds.{find}
+use Rattle.tab_model.specs.Ages.{Answer, Granted, Wait, Die}
+use Rattle.tab_model.specs.Schemas.{schema_refusal}
+use Rattle.tab_model.specs.State.{Transaction, Outbox, Watch, Seat, Queued, State, seat_at, level_in, mid_of}
+use Rattle.tab_model.specs.Outcome.{Ask, Join, Leave, Retry, Take, DoCommand, Outcome, outcome, decided, within, operate, retried, retry_in, retry, opened, nested, begin, one_shot, abort, commit_at, commit, schema_if, schema, table_info, is_at, marked, subscribe_refusal, subscribe, unsubscribe, do_command, command_if, give, takable, seated, join, unseated, by_seat}
+use Rattle.tab_model.specs.Run.{item_of}
+use Rattle.tab_model.specs.Standing.{AreChannels}
+use Rattle.tab_model.proofs.PostsStay.{IsChannel, found_has}
+use Rattle.tab_model.proofs.TiedSteps.{item_in, said_item, info_item, refusal_item, sub_item}
+
+abbrev GivesNone : Outcome → Type 0
+GivesNone o = item_of o.reply ≡ []
+
+module _ (σ : State) (s : Seat) where
+  decided_gives : (t : Transaction) (o : Operation) (a : Answer) → GivesNone (decided σ s t o a)
+  decided_gives t o Granted = said_item (mid_of σ t) (Do o) reply.Done refl
+  decided_gives t o Wait = refl
+  decided_gives t o Die = refl
+
+  within_gives : (t : Transaction) (o : Operation) (b : Bool) → GivesNone (within σ s t o b)
+  within_gives t o false = refl
+  within_gives t o true = decided_gives t o _
+
+  operate_gives : (o : Operation) (x : Option Transaction) → GivesNone (operate σ s o x)
+  operate_gives o None = refl
+  operate_gives o (Some t) = within_gives t o _
+
+  retried_gives : (t : Transaction) (o : Operation) (b : Bool) → GivesNone (retried σ s t o b)
+  retried_gives t o false = refl
+  retried_gives t o true = said_item (mid_of σ t) (Do o) reply.Done refl
+
+  retry_in_gives : (o : Operation) (x : Option Transaction) → GivesNone (retry_in σ s o x)
+  retry_in_gives o None = refl
+  retry_in_gives o (Some t) = retried_gives t o _
+
+  retry_gives : (q : Option Queued) → GivesNone (retry σ s q)
+  retry_gives None = refl
+  retry_gives (Some q) = retry_in_gives q.operation s.transaction
+
+  opened_gives : (b : Bool) → GivesNone (opened σ s b)
+  opened_gives false = refl
+  opened_gives true = refl
+
+  nested_gives : (t : Transaction) (a b : Bool) → GivesNone (nested σ s t a b)
+  nested_gives t false b = refl
+  nested_gives t true false = refl
+  nested_gives t true true = refl
+
+  begin_gives : (x : Option Transaction) → GivesNone (begin σ s x)
+  begin_gives None = opened_gives _
+  begin_gives (Some t) = nested_gives t _ _
+
+  one_shot_gives : (x : Option Transaction) → GivesNone (one_shot σ s x)
+  one_shot_gives None = opened_gives _
+  one_shot_gives (Some t) = refl
+
+  abort_gives : (r : Term) (x : Option Transaction) → GivesNone (abort σ s r x)
+  abort_gives r None = refl
+  abort_gives r (Some t) = refl
+
+  commit_at_gives : (over : List ℕ) (t : Transaction) (b : Bool) → GivesNone (commit_at σ over s t b)
+  commit_at_gives over t false = refl
+  commit_at_gives over t true = refl
+
+  commit_gives : (over : List ℕ) (x : Option Transaction) → GivesNone (commit σ over s x)
+  commit_gives over None = refl
+  commit_gives over (Some t) = commit_at_gives over t _
+
+  schema_if_gives : (over : List ℕ) (c : Schema) (r : Option Reply) (busy room : Bool) → item_in r ≡ [] → GivesNone (schema_if σ over c r busy room)
+  schema_if_gives over c (Some r) busy room h = h
+  schema_if_gives over c None true room h = refl
+  schema_if_gives over c None false false h = refl
+  schema_if_gives over c None false true h = refl
+
+  schema_gives : (over : List ℕ) (c : Schema) (x : Option Transaction) → GivesNone (schema σ over c x)
+  schema_gives over c (Some t) = refl
+  schema_gives over c None = schema_if_gives over c (schema_refusal σ.tables c) _ _ (refusal_item σ.tables c)
+
+  marked_gives : (full : Bool) (ws : List Watch) (x : Item) (e : Entry) → GivesNone (marked σ full s ws x e)
+  marked_gives true ws x e = refl
+  marked_gives false ws x e = refl
+
+  subscribe_gives : (over : List ℕ) (t : List ℕ) (l : Level) (dump : Bool) (r : Option Reply) → item_in r ≡ [] → GivesNone (subscribe σ over s t l dump r)
+  subscribe_gives over t l dump (Some r) h = h
+  subscribe_gives over t l dump None h = marked_gives _ _ _ _
+
+  unsubscribe_gives : (over : List ℕ) (t : List ℕ) (b : Bool) → GivesNone (unsubscribe σ over s t b)
+  unsubscribe_gives over t false = refl
+  unsubscribe_gives over t true = marked_gives _ _ _ _
+
+  do_gives : (over : List ℕ) (c : Command) → GivesNone (do_command σ over s c)
+  do_gives over (command.Schema c) = schema_gives over c s.transaction
+  do_gives over (command.TableInfo t i) = info_item t i (find σ.tables t)
+  do_gives over command.Begin = begin_gives s.transaction
+  do_gives over command.Commit = commit_gives over s.transaction
+  do_gives over (command.Abort r) = abort_gives r s.transaction
+  do_gives over (command.Do o) = operate_gives o s.transaction
+  do_gives over (command.Subscribe t l dump) = subscribe_gives over t l dump (subscribe_refusal σ s t) (sub_item σ s t)
+  do_gives over (command.Unsubscribe t l) = unsubscribe_gives over t (is_at (level_in s.watching t) l)
+  do_gives over (command.OneShot parts retries) = one_shot_gives s.transaction
+
+  command_gives : (over : List ℕ) (c : Command) (b : Bool) → GivesNone (command_if σ over s c b)
+  command_gives over c true = refl
+  command_gives over c false = do_gives over c
+
+  take_gives : (c : Option ℕ) → c ≡ None → GivesNone (give σ s (takable s.outbox c) s.overflow)
+  take_gives (Some k) e = cc
+  take_gives None e = by s.overflow
+    where
+      by : (o : Option ℕ) → GivesNone (give σ s [] o)
+      by None = refl
+      by (Some n) = refl
+
+  seated_gives : (over : List ℕ) (a : Ask) → s.outbox.capacity ≡ None → GivesNone (seated σ over s a)
+  seated_gives over (Join b) h = refl
+  seated_gives over Leave h = refl
+  seated_gives over Retry h = retry_gives _
+  seated_gives over Take h = take_gives s.outbox.capacity h
+  seated_gives over (DoCommand c) h = command_gives over c _
+
+unseated_gives : (σ : State) (n : ℕ) (a : Ask) → GivesNone (unseated σ n a)
+unseated_gives σ n (Join b) = by (nat_lt σ.greatest n) (nat_lt (length σ.seats) σ.limits.sessions)
+  where
+    by : (x y : Bool) → GivesNone (join σ n b x y)
+    by false y = refl
+    by true false = refl
+    by true true = refl
+unseated_gives σ n Leave = refl
+unseated_gives σ n Retry = refl
+unseated_gives σ n Take = refl
+unseated_gives σ n (DoCommand c) = refl
+
+pub no_item : (σ : State) (over : List ℕ) (n : ℕ) (a : Ask) → AreChannels σ → item_of (outcome σ over n a).reply ≡ []
+unfolding outcome
+no_item σ over n a channels = by (seat_at σ.seats n) refl
+  where
+    by : (o : Option Seat) → seat_at σ.seats n ≡ o → GivesNone (by_seat σ over n a o)
+    by None e = unseated_gives σ n a
+    by (Some s) e = seated_gives σ s over a (found_has IsChannel σ.seats n s channels e)

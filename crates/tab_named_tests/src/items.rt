@@ -1,0 +1,21 @@
+//! Items that tests know by a number.
+use std::alloc::Global;
+use tab_outbox::Item;
+use tab_term::Terms;
+
+/// A batch without events, of the commit with this number.
+pub fn batch(alloc: Global, commit: u64) -> Item {
+    Item::Batch(commit, Terms::from_vec(Vec::new(alloc)))
+}
+
+pub fn is_batch(item: &Item, commit: u64) -> bool {
+    matches!(item, Item::Batch(number, _) if *number == commit)
+}
+
+/// It was received, and is the batch of this commit.
+pub fn is_received(item: &Option<Item>, commit: u64) -> bool {
+    match item {
+        Some(item) => is_batch(item, commit),
+        None => false,
+    }
+}

@@ -1,0 +1,21 @@
+-- The rule of a register, and what a step on it tells (this project's own).
+use Rattle.std.specs.Prelude.{◌≡◌, ◌==◌, ◌<◌, ℕ, true, List, [], ◌∷◌, ◌++◌, length, MatchBool}
+use mathlib.Core.List.{IsPrefix}
+use Rattle.logbook.specs.Pages.{Cell, Step, View, Book, Named}
+
+-- a register's first word
+abbrev pub head_of : Book → Named
+head_of b = record { tracked = true; key = 0; book = b }
+
+module _ {E : Type 0} where
+  -- the first word is the number of entries
+  pub record IsCounted (cells : List Cell) (entries : List E) : Type 0 where
+    pub words : cells ≡ (length entries, true) ∷ (0, true) ∷ []
+
+  -- the entry was put behind all that had been seen; or there were others, and now all are seen
+  abbrev pub Adds : Step E → View E ℕ → ℕ → View E ℕ → Type 0
+  Adds s v found w = MatchBool (found == s.old) (w.0 ≡ v.0 ++ s.ask ∷ []) (length w.0 ≡ found)
+
+  -- of one register, the second is a longer beginning than the first
+  abbrev pub IsLonger : List E → List E → Type 0
+  IsLonger xs ys = IsPrefix xs ys × (length xs < length ys)

@@ -1,0 +1,68 @@
+//! A register, from its beginning.
+
+ghost use Rattle.std.specs.Prelude.{◌≡◌, []};
+ghost use Rattle.tab_names.specs.Rules.{head_of};
+
+use crate::front::Front;
+use crate::naming::Naming;
+use crate::rule::Counted;
+use logbook::{Seen, Start, Word};
+use std::marker::{Model, PhantomData};
+
+/// A new register, which no type names yet. Contracts see which one it is.
+#[derive(Drop)]
+pub struct Opened<E> {
+    head: Word<E, u64, Counted>,
+    seen: Seen<E, u64, Counted>,
+}
+
+impl<E> Model for Opened<E> {
+    ghost use Rattle.std.specs.Prelude.{◌≡◌, []};
+    ghost use Rattle.logbook.specs.Pages.{Book, book_coded};
+    ghost use Rattle.tab_names.specs.Rules.{head_of};
+
+    ghost Value = { Book };
+
+    ghost coded = { book_coded };
+
+    ghost view = { λ o. o.seen.book };
+
+    ghost invariant = { λ o. (o.seen.log ≡ []) × (o.head ≡ head_of o.seen.book) };
+}
+
+impl<E> Opened<E> {
+    pub fn new() -> Opened<E> {
+        let (seen, mut first, _second) = Seen::open(Start::alone(), 0, 0);
+        Opened {
+            head: Word::tracked(0, &mut first),
+            seen,
+        }
+    }
+
+    /// The register under its name, and what was seen of it: nothing.
+    pub fn named<J: Naming>(self) -> (Register<E, J>, Front<E, J>)
+        requires { self ≡ J.book }
+        ensures { result.1 ≡ [] }
+    {
+        let Opened { head, seen } = self;
+        (
+            Register {
+                head,
+                of: PhantomData,
+            },
+            Front {
+                len: 0,
+                seen,
+                of: PhantomData,
+            },
+        )
+    }
+}
+
+/// The register that the type `J` names.
+#[derive(Drop)]
+pub struct Register<E, J: Naming> {
+    pub(crate) head: Word<E, u64, Counted>,
+    of: PhantomData<J>,
+    ghost head_is: { head ≡ head_of J.book },
+}

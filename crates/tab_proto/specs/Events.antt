@@ -1,0 +1,17 @@
+-- The frames of events: each event of a batch has one (this project's own).
+use Rattle.std.specs.Prelude.{ℕ, List, [], ◌∷◌, ◌++◌}
+use Rattle.tab_term.specs.Canon.{canon}
+use Rattle.tab_term.specs.Data.{PlainTerms, none, one_more}
+use Rattle.tab_etf.specs.Frames.{frame}
+use Rattle.tab_model.specs.declared.data.Item.{Item}
+use Rattle.tab_model.specs.declared.data.Item.TheVariants.{Began, Batch, Ended}
+use Rattle.tab_proto.specs.Replies.{item_term}
+
+abbrev pub event_frames : PlainTerms → List ℕ
+event_frames none = []
+event_frames (one_more e es) = frame (131 ∷ canon e) ++ event_frames es
+
+abbrev pub item_frames : Item → List ℕ
+item_frames (Batch n events) = event_frames events
+item_frames (Began t l dump) = frame (131 ∷ canon (item_term (Began t l dump)))
+item_frames (Ended t e) = frame (131 ∷ canon (item_term (Ended t e)))

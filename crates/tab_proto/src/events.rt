@@ -1,0 +1,41 @@
+//! Items as a connection reads them.
+
+ghost use Rattle.std.specs.Prelude.{◌≡◌, ◌++◌, ◌∷◌, OnOk};
+ghost use Rattle.tab_model.specs.declared.data.Reply.TheVariants as told;
+ghost use Rattle.tab_term.specs.Canon.{canon};
+ghost use Rattle.tab_term.specs.View.{terms};
+ghost use Rattle.tab_etf.specs.Frames.{frame};
+ghost use Rattle.tab_proto.specs.Events.{event_frames, item_frames};
+ghost use Rattle.tab_proto.specs.Replies.{reply_term};
+
+use crate::replying::{item_outline, outline_of};
+use tab_etf::{EncodeFault, append_frame, append_outline};
+use tab_model::{Item, Reply};
+use tab_term::Term;
+
+/// Adds the frames of an item: of a batch one for each of its events, in order, else that of its mark. On an error some of
+/// them stand.
+pub fn append_item(item: &Item, out: &mut Vec<u8>) -> Result<(), EncodeFault>
+    ensures { OnOk result (out.new.items ≡ out.old.items ++ item_frames item.now) }
+{
+    match item {
+        Item::Batch(_, events) => append_events(events.as_slice(), out),
+        mark => append_outline(&item_outline(mark), out),
+    }
+}
+
+fn append_events(events: &[Term], out: &mut Vec<u8>) -> Result<(), EncodeFault>
+    ensures { OnOk result (out.new.items ≡ out.old.items ++ event_frames (terms events.now)) }
+{
+    for event in events {
+        append_frame(event, out)?;
+    }
+    Ok(())
+}
+
+/// Adds the frame of `{mnesia_overflow, N}`.
+pub fn append_overflow(number: u64, out: &mut Vec<u8>) -> Result<(), EncodeFault>
+    ensures { OnOk result (out.new.items ≡ out.old.items ++ frame (131 ∷ canon (reply_term (told.Overflow number)))) }
+{
+    append_outline(&outline_of(&Reply::Overflow(number)), out)
+}
