@@ -47,15 +47,15 @@ outline_length o = omega (arith, ap length (outline_canon o), length-append (hea
 
 -- ---- what is written, part by part
 
-module _ {W : Type 0} {contents : W → Option (List ℕ)} where
-  pub writes_pair : {a b c d : Writer W} (s t : PlainTerm) → Writes contents a b (104 ∷ 2 ∷ []) → Writes contents b c (canon s) → Writes contents c d (canon t) → Writes contents a d (canon (pair s t))
+module _ {W : Type 0} {contents : W → Option (List ℕ)} {faults : W → ℕ} where
+  pub writes_pair : {a b c d : Writer W} (s t : PlainTerm) → Writes contents faults a b (104 ∷ 2 ∷ []) → Writes contents faults b c (canon s) → Writes contents faults c d (canon t) → Writes contents faults a d (canon (pair s t))
   writes_pair s t p q r = writes_as (writes_then p (writes_then q r)) (sym (pair_canon s t))
 
-  pub writes_triple : {a b c d e : Writer W} (s t u : PlainTerm) → Writes contents a b (104 ∷ 3 ∷ []) → Writes contents b c (canon s) → Writes contents c d (canon t) → Writes contents d e (canon u) → Writes contents a e (canon (triple s t u))
+  pub writes_triple : {a b c d e : Writer W} (s t u : PlainTerm) → Writes contents faults a b (104 ∷ 3 ∷ []) → Writes contents faults b c (canon s) → Writes contents faults c d (canon t) → Writes contents faults d e (canon u) → Writes contents faults a e (canon (triple s t u))
   writes_triple s t u p q r w = writes_as (writes_then p (writes_then q (writes_then r w))) (sym (triple_canon s t u))
 
-  pub writes_four : {a b c d e f : Writer W} (s t u v : PlainTerm) → Writes contents a b (104 ∷ 4 ∷ []) → Writes contents b c (canon s) → Writes contents c d (canon t) → Writes contents d e (canon u) → Writes contents e f (canon v) → Writes contents a f (canon (four s t u v))
+  pub writes_four : {a b c d e f : Writer W} (s t u v : PlainTerm) → Writes contents faults a b (104 ∷ 4 ∷ []) → Writes contents faults b c (canon s) → Writes contents faults c d (canon t) → Writes contents faults d e (canon u) → Writes contents faults e f (canon v) → Writes contents faults a f (canon (four s t u v))
   writes_four s t u v p q r w x = writes_as (writes_then p (writes_then q (writes_then r (writes_then w x)))) (sym (four_canon s t u v))
 
-  pub writes_outline : {a b c d : Writer W} (o : Outline) → Writes contents a b (head_canon o.first) → Writes contents b c (head_canon o.second) → Writes contents c d (canon (body_term o.body)) → Writes contents a d (canon (outline_term o))
+  pub writes_outline : {a b c d : Writer W} (o : Outline) → Writes contents faults a b (head_canon o.first) → Writes contents faults b c (head_canon o.second) → Writes contents faults c d (canon (body_term o.body)) → Writes contents faults a d (canon (outline_term o))
   writes_outline o p q r = writes_as (writes_then p (writes_then q r)) (sym (outline_canon o))

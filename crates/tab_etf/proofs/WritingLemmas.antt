@@ -123,30 +123,30 @@ puts_cut a b s fa fb ka p =
 
 -- ---- the same of a writer
 
-module _ {W : Type 0} {contents : W → Option (List ℕ)} where
-  pub writes_then : {a b c : Writer W} {s t : List ℕ} → Writes contents a b s → Writes contents b c t → Writes contents a c (s ++ t)
+module _ {W : Type 0} {contents : W → Option (List ℕ)} {faults : W → ℕ} where
+  pub writes_then : {a b c : Writer W} {s t : List ℕ} → Writes contents faults a b s → Writes contents faults b c t → Writes contents faults a c (s ++ t)
   writes_then p q = record { same = q.same ∙ p.same; puts = puts_then _ _ _ _ _ p.puts q.puts }
 
-  pub writes_none : (a : Writer W) → Writes contents a a []
-  writes_none a = record { same = refl; puts = puts_none (output contents a) }
+  pub writes_none : (a : Writer W) → Writes contents faults a a []
+  writes_none a = record { same = refl; puts = puts_none (output contents faults a) }
 
-  pub writes_as : {a b : Writer W} {s t : List ℕ} → Writes contents a b s → s ≡ t → Writes contents a b t
+  pub writes_as : {a b : Writer W} {s t : List ℕ} → Writes contents faults a b s → s ≡ t → Writes contents faults a b t
   writes_as p e = record { same = p.same; puts = puts_as _ _ _ _ p.puts e }
 
 -- a writer that was new, once all is handed over, and where its device failed
-module _ {W : Type 0} {contents : W → Option (List ℕ)} {a b : Writer W} {faults : ℕ} {sent : Option (List ℕ)} {s : List ℕ}
-    (fresh : output contents a ≡ record { failed = false; faults = faults; sent = sent; kept = [] }) (p : Writes contents a b s) where
-  puts_fresh : Puts (record { failed = false; faults = faults; sent = sent; kept = [] }) (output contents b) s
-  puts_fresh = subst (λ (o : Output). Puts o (output contents b) s) fresh p.puts
+module _ {W : Type 0} {contents : W → Option (List ℕ)} {faults : W → ℕ} {a b : Writer W} {was : ℕ} {sent : Option (List ℕ)} {s : List ℕ}
+    (fresh : output contents faults a ≡ record { failed = false; faults = was; sent = sent; kept = [] }) (p : Writes contents faults a b s) where
+  puts_fresh : Puts (record { failed = false; faults = was; sent = sent; kept = [] }) (output contents faults b) s
+  puts_fresh = subst (λ (o : Output). Puts o (output contents faults b) s) fresh p.puts
 
-  pub writes_done : b.failed ≡ false → b.bytes.items ≡ [] → {inner : W} → inner ≡ b.device.now.inner → Appends sent (contents inner) s
+  pub writes_done : b.failed ≡ false → b.bytes.items ≡ [] → {device : W} → device ≡ b.device.now → Appends sent (contents device) s
   writes_done f k e = rw e (puts_done _ _ _ refl f refl k puts_fresh).0
 
-  pub writes_sound : b.failed ≡ false → b.bytes.items ≡ [] → {n : ℕ} → n ≡ b.device.now.faults → n ≡ faults
-  writes_sound f k e = e ∙ (puts_done _ _ _ refl f refl k puts_fresh).1
+  pub writes_sound : b.failed ≡ false → b.bytes.items ≡ [] → {device : W} → device ≡ b.device.now → faults device ≡ was
+  writes_sound f k e = rw e (puts_done _ _ _ refl f refl k puts_fresh).1
 
-  pub writes_cut : b.failed ≡ true → {inner : W} → inner ≡ b.device.now.inner → (n : ℕ) × Appends sent (contents inner) (take n s)
+  pub writes_cut : b.failed ≡ true → {device : W} → device ≡ b.device.now → (n : ℕ) × Appends sent (contents device) (take n s)
   writes_cut f e = rw e (puts_cut _ _ _ refl f refl puts_fresh).0
 
-  pub writes_rose : b.failed ≡ true → {n : ℕ} → n ≡ b.device.now.faults → n ≡ min (faults + 1) (2 ^ 64 - 1)
-  writes_rose f e = e ∙ (puts_cut _ _ _ refl f refl puts_fresh).1
+  pub writes_rose : b.failed ≡ true → {device : W} → device ≡ b.device.now → faults device ≡ min (was + 1) (2 ^ 64 - 1)
+  writes_rose f e = rw e (puts_cut _ _ _ refl f refl puts_fresh).1

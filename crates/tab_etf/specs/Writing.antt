@@ -12,8 +12,8 @@ pub record Output : Type 0 where
   pub sent : Option (List ℕ)  -- what the device holds, where that is known
   pub kept : List ℕ
 
-abbrev pub output : {W : Type 0} → (W → Option (List ℕ)) → Writer W → Output
-output contents w = record { failed = w.failed; faults = w.device.now.faults; sent = contents w.device.now.inner; kept = w.bytes.items }
+abbrev pub output : {W : Type 0} → (W → Option (List ℕ)) → (W → ℕ) → Writer W → Output
+output contents faults w = record { failed = w.failed; faults = faults w.device.now; sent = contents w.device.now; kept = w.bytes.items }
 
 -- how many faults there are, if there were f before
 abbrev pub HasFaults : ℕ → Bool → ℕ → Type 0
@@ -40,9 +40,9 @@ pub record Puts (old new : Output) (bytes : List ℕ) : Type 0 where
   pub text : KnownGrows old old.sent new new.sent bytes
 
 -- a writer keeps its device, and these bytes are written next
-pub record Writes {W : Type 0} (contents : W → Option (List ℕ)) (old new : Writer W) (bytes : List ℕ) : Type 0 where
+pub record Writes {W : Type 0} (contents : W → Option (List ℕ)) (faults : W → ℕ) (old new : Writer W) (bytes : List ℕ) : Type 0 where
   pub same : new.device.ghost_name ≡ old.device.ghost_name
-  pub puts : Puts (output contents old) (output contents new) bytes
+  pub puts : Puts (output contents faults old) (output contents faults new) bytes
 
 -- bytes handed to the device: those that were kept, and these
 abbrev pub Hands : Bool → ℕ → Option (List ℕ) → Bool → ℕ → Option (List ℕ) → List ℕ → Type 0

@@ -1,15 +1,9 @@
-//! Readers and writers whose faults are counted.
+//! Readers and writers of the standard library as devices.
 
-ghost use Rattle.std.specs.Prelude.{◌≡◌, ◌+◌, ◌≤◌, ℕ, min, take, length, OnOk, OnErr, IfOk};
-ghost use Rattle.std.specs.Io.KnownBytes.{Appends, Keeps, ReadConsumes};
+ghost use Rattle.std.specs.Prelude.{◌≡◌, ◌+◌, min, true};
 
+use crate::device::{Broken, Source, Target};
 use std::io::{Read, Write};
-use thiserror::Error;
-
-/// The device failed.
-#[derive(Clone, Copy, Debug, PartialEq, Eq, Error)]
-#[error("the device failed")]
-pub struct Broken;
 
 /// A reader or a writer, and how often it has failed.
 ///
@@ -19,14 +13,20 @@ pub struct Broken;
 pub struct Counted<T> {
     inner: T,
     faults: u64,
+    flushed: bool,
 }
 
 impl<T> Counted<T> {
     pub fn new(inner: T) -> Counted<T>
         ensures inner { result.inner ≡ inner }
         ensures faults { result.faults ≡ 0 }
+        ensures flushed { result.flushed ≡ true }
     {
-        Counted { inner, faults: 0 }
+        Counted {
+            inner,
+            faults: 0,
+            flushed: true,
+        }
     }
 
     /// How often the device failed so far. At `u64::MAX` the number stays.
@@ -52,14 +52,12 @@ impl<T> Counted<T> {
     }
 }
 
-impl<R: Read> Counted<R> {
-    /// One read into this buffer. No byte comes only at the stream's end, or where the buffer has no room.
-    pub fn get(&mut self, buf: &mut [u8]) -> Result<usize, Broken>
-        ensures bound { IfOk result (λ n. n ≤ length buf.new) }
-        ensures bytes { ReadConsumes (R.remaining self.old.inner) (R.remaining self.new.inner) result buf.new }
-        ensures same { OnOk result (self.new.faults ≡ self.old.faults) }
-        ensures rose { OnErr result (self.new.faults ≡ min (self.old.faults + 1) u64.MAX) }
-    {
+impl<R: Read> Source for Counted<R> {
+    ghost remaining = { λ c. R.remaining c.inner };
+
+    ghost faults = { λ c. c.faults };
+
+    fn get(&mut self, buf: &mut [u8]) -> Result<usize, Broken> {
         match self.inner.read(buf) {
             Ok(count) => Ok(count),
             Err(_) => Err(self.fault()),
@@ -67,32 +65,28 @@ impl<R: Read> Counted<R> {
     }
 }
 
-impl<W: Write> Counted<W> {
-    /// Writes all the bytes; where that fails, a beginning of them.
-    pub fn put(&mut self, bytes: &[u8]) -> Result<(), Broken>
-        ensures ok { OnOk result (Appends (W.contents self.old.inner) (W.contents self.new.inner) bytes.now) }
-        ensures same { OnOk result (self.new.faults ≡ self.old.faults) }
-        ensures part { OnErr result ((n : ℕ) × Appends (W.contents self.old.inner) (W.contents self.new.inner) (take n bytes.now)) }
-        ensures rose { OnErr result (self.new.faults ≡ min (self.old.faults + 1) u64.MAX) }
-    {
-        let mut at = 0;
-        while at < bytes.len() {
-            match self.inner.write(&bytes[at..]) {
-                Ok(0) => return Err(self.fault()),
-                Ok(count) => at += count,
-                Err(_) => return Err(self.fault()),
-            }
+impl<W: Write> Target for Counted<W> {
+    ghost contents = { λ c. W.contents c.inner };
+
+    ghost faults = { λ c. c.faults };
+
+    ghost is_flushed = { λ c. c.flushed };
+
+    fn give(&mut self, bytes: &[u8]) -> Result<usize, Broken> {
+        self.flushed = false;
+        match self.inner.write(bytes) {
+            Ok(0) if !bytes.is_empty() => Err(self.fault()),
+            Ok(count) => Ok(count),
+            Err(_) => Err(self.fault()),
         }
-        Ok(())
     }
 
-    pub fn flush(&mut self) -> Result<(), Broken>
-        ensures bytes { Keeps (W.contents self.old.inner) (W.contents self.new.inner) }
-        ensures same { OnOk result (self.new.faults ≡ self.old.faults) }
-        ensures rose { OnErr result (self.new.faults ≡ min (self.old.faults + 1) u64.MAX) }
-    {
+    fn flush(&mut self) -> Result<(), Broken> {
         match self.inner.flush() {
-            Ok(()) => Ok(()),
+            Ok(()) => {
+                self.flushed = true;
+                Ok(())
+            }
             Err(_) => Err(self.fault()),
         }
     }

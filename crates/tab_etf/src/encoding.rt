@@ -9,13 +9,13 @@ ghost use Rattle.tab_etf.specs.Frames.{frame};
 ghost use Rattle.tab_etf.specs.Outlines.{outline_term, IsShortOutline};
 ghost use Rattle.tab_etf.specs.Writing.{IsUnwritten};
 
-use crate::counted::{Broken, Counted};
+use crate::counted::Counted;
+use crate::device::{Broken, Target};
 use crate::framing::FrameFault;
 use crate::measuring::encoded_len;
 use crate::outline::{Body, Leaf, Outline, outline_len, put_outline};
 use crate::writer::Writer;
 use std::alloc::{AllocError, Global};
-use std::io::Write;
 use tab_term::Term;
 use thiserror::Error;
 
@@ -52,12 +52,12 @@ fn held(value: &Term) -> Outline<'_>
 }
 
 /// Writes these bytes and the spelling behind them; where that fails, a beginning of them.
-fn spell<W: Write>(device: &mut Counted<W>, head: &[u8], outline: &Outline) -> Result<(), Broken>
+fn spell<W: Target>(device: &mut W, head: &[u8], outline: &Outline) -> Result<(), Broken>
     requires { IsShortOutline outline.now }
-    ensures ok { OnOk result (Appends (W.contents device.old.inner) (W.contents device.new.inner) (head.now ++ canon (outline_term outline.now))) }
-    ensures same { OnOk result (device.new.faults ≡ device.old.faults) }
-    ensures part { OnErr result ((n : ℕ) × Appends (W.contents device.old.inner) (W.contents device.new.inner) (take n (head.now ++ canon (outline_term outline.now)))) }
-    ensures rose { OnErr result (device.new.faults ≡ min (device.old.faults + 1) u64.MAX) }
+    ensures ok { OnOk result (Appends (W.contents device.old) (W.contents device.new) (head.now ++ canon (outline_term outline.now))) }
+    ensures same { OnOk result (W.faults device.new ≡ W.faults device.old) }
+    ensures part { OnErr result ((n : ℕ) × Appends (W.contents device.old) (W.contents device.new) (take n (head.now ++ canon (outline_term outline.now)))) }
+    ensures rose { OnErr result (W.faults device.new ≡ min (W.faults device.old + 1) u64.MAX) }
 {
     let mut writer = Writer::new(device);
     writer.put(head);
@@ -81,20 +81,20 @@ fn frame_head(len: u32) -> [u8; 5]
 ///
 /// It takes no memory: pieces of at most 512 bytes wait on the stack. At `Device` a beginning of the
 /// frame is written; at `FrameTooLong` nothing is.
-pub fn write_frame<W: Write>(device: &mut Counted<W>, value: &Term) -> Result<(), FrameFault>
-    ensures ok { OnOk result (Appends (W.contents device.old.inner) (W.contents device.new.inner) (frame (131 ∷ canon (term value.now)))) }
-    ensures same { OnOk result (device.new.faults ≡ device.old.faults) }
-    ensures err { IfErr result (λ e. IsUnwritten e (131 ∷ canon (term value.now)) (W.contents device.old.inner) (W.contents device.new.inner) device.old.faults device.new.faults) }
+pub fn write_frame<W: Target>(device: &mut W, value: &Term) -> Result<(), FrameFault>
+    ensures ok { OnOk result (Appends (W.contents device.old) (W.contents device.new) (frame (131 ∷ canon (term value.now)))) }
+    ensures same { OnOk result (W.faults device.new ≡ W.faults device.old) }
+    ensures err { IfErr result (λ e. IsUnwritten e (131 ∷ canon (term value.now)) (W.contents device.old) (W.contents device.new) (W.faults device.old) (W.faults device.new)) }
 {
     write_outline(device, &held(value))
 }
 
 /// Writes the frame of a term that is given by its parts, as `write_frame` writes one that was built.
-pub fn write_outline<W: Write>(device: &mut Counted<W>, outline: &Outline) -> Result<(), FrameFault>
+pub fn write_outline<W: Target>(device: &mut W, outline: &Outline) -> Result<(), FrameFault>
     requires { IsShortOutline outline.now }
-    ensures ok { OnOk result (Appends (W.contents device.old.inner) (W.contents device.new.inner) (frame (131 ∷ canon (outline_term outline.now)))) }
-    ensures same { OnOk result (device.new.faults ≡ device.old.faults) }
-    ensures err { IfErr result (λ e. IsUnwritten e (131 ∷ canon (outline_term outline.now)) (W.contents device.old.inner) (W.contents device.new.inner) device.old.faults device.new.faults) }
+    ensures ok { OnOk result (Appends (W.contents device.old) (W.contents device.new) (frame (131 ∷ canon (outline_term outline.now)))) }
+    ensures same { OnOk result (W.faults device.new ≡ W.faults device.old) }
+    ensures err { IfErr result (λ e. IsUnwritten e (131 ∷ canon (outline_term outline.now)) (W.contents device.old) (W.contents device.new) (W.faults device.old) (W.faults device.new)) }
 {
     let Some(len) = outline_len(outline) else {
         return Err(FrameFault::FrameTooLong(u32::MAX));

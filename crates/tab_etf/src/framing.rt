@@ -4,7 +4,7 @@ ghost use Rattle.std.specs.Prelude.{◌≡◌, IfOk};
 ghost use Rattle.tab_etf.specs.declared.framing.FrameFault.TheVariants.{Device, NoMemory};
 ghost use Rattle.tab_etf.specs.Frames.{payload_of, IsTold};
 
-use crate::counted::Broken;
+use crate::device::Broken;
 use std::alloc::{AllocError, AllocFailed, Global};
 use thiserror::Error;
 

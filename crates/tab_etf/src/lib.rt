@@ -3,6 +3,7 @@
 
 mod counted;
 mod decoding;
+mod device;
 mod encoding;
 mod fault;
 mod framing;
@@ -14,8 +15,9 @@ mod spelling;
 mod splitting;
 mod writer;
 
-pub use counted::{Broken, Counted};
+pub use counted::Counted;
 pub use decoding::{decode, spellings_are_apart};
+pub use device::{Broken, Source, Target, give_all};
 pub use encoding::{EncodeFault, append_frame, append_outline, encode, write_frame, write_outline};
 pub use fault::{EtfFault, Fault};
 pub use framing::{Frame, FrameFault};

@@ -5,10 +5,10 @@ ghost use Rattle.tab_term.specs.Canon.{canon};
 ghost use Rattle.tab_etf.specs.Outlines.{leaf_term, body_term, outline_term, head_canon, IsShort, IsShortBody, IsShortHead, IsShortOutline};
 ghost use Rattle.tab_etf.specs.Writing.{Writes};
 
+use crate::device::Target;
 use crate::measuring::{LONGEST, atom_len, int_len, list_len, spelled_len};
 use crate::spelling::{put, put_atom, put_int, put_list};
 use crate::writer::Writer;
-use std::io::Write;
 use tab_term::spelling::SMALL_TUPLE_EXT;
 use tab_term::{Term, Terms};
 
@@ -41,9 +41,9 @@ pub struct Outline<'a> {
 }
 
 #[tactic(auto, unfolding(tab_term::specs::Canon::canon))]
-fn put_leaf<W: Write>(writer: &mut Writer<W>, leaf: &Leaf)
+fn put_leaf<W: Target>(writer: &mut Writer<W>, leaf: &Leaf)
     requires { IsShort leaf.now }
-    ensures { Writes W.contents writer.old writer.new (canon (leaf_term leaf.now)) }
+    ensures { Writes W.contents W.faults writer.old writer.new (canon (leaf_term leaf.now)) }
 {
     match leaf {
         Leaf::Word(text) => put_atom(writer, text),
@@ -54,9 +54,9 @@ fn put_leaf<W: Write>(writer: &mut Writer<W>, leaf: &Leaf)
 }
 
 #[tactic(auto, using(crate::proofs::WritingLemmas::writes_then, crate::proofs::WritingLemmas::writes_none))]
-fn put_head<W: Write>(writer: &mut Writer<W>, head: &Option<Leaf>)
+fn put_head<W: Target>(writer: &mut Writer<W>, head: &Option<Leaf>)
     requires { IsShortHead head.now }
-    ensures { Writes W.contents writer.old writer.new (head_canon head.now) }
+    ensures { Writes W.contents W.faults writer.old writer.new (head_canon head.now) }
 {
     if let Some(leaf) = head {
         writer.put(&[SMALL_TUPLE_EXT, 2]);
@@ -65,9 +65,9 @@ fn put_head<W: Write>(writer: &mut Writer<W>, head: &Option<Leaf>)
 }
 
 #[tactic(auto, using(crate::proofs::OutlinesLemmas::writes_pair, crate::proofs::OutlinesLemmas::writes_triple, crate::proofs::OutlinesLemmas::writes_four))]
-fn put_body<W: Write>(writer: &mut Writer<W>, body: &Body)
+fn put_body<W: Target>(writer: &mut Writer<W>, body: &Body)
     requires { IsShortBody body.now }
-    ensures { Writes W.contents writer.old writer.new (canon (body_term body.now)) }
+    ensures { Writes W.contents W.faults writer.old writer.new (canon (body_term body.now)) }
 {
     match body {
         Body::One(only) => put_leaf(writer, only),
@@ -94,9 +94,9 @@ fn put_body<W: Write>(writer: &mut Writer<W>, body: &Body)
 
 /// Writes the canonical spelling.
 #[tactic(auto, using(crate::proofs::OutlinesLemmas::writes_outline))]
-pub fn put_outline<W: Write>(writer: &mut Writer<W>, outline: &Outline)
+pub fn put_outline<W: Target>(writer: &mut Writer<W>, outline: &Outline)
     requires { IsShortOutline outline.now }
-    ensures { Writes W.contents writer.old writer.new (canon (outline_term outline.now)) }
+    ensures { Writes W.contents W.faults writer.old writer.new (canon (outline_term outline.now)) }
 {
     put_head(writer, &outline.first);
     put_head(writer, &outline.second);

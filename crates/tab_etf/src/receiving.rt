@@ -5,23 +5,22 @@ ghost use Rattle.std.specs.Io.KnownBytes.{Consumes, IsAtEnd};
 ghost use Rattle.tab_etf.specs.Arrivals.{ReadsFrame, ReadsPayload, CountsFaults};
 ghost use Rattle.tab_etf.specs.Frames.{IsTold};
 
-use crate::counted::{Broken, Counted};
+use crate::device::{Broken, Source};
 use crate::framing::{Frame, FrameFault};
 use crate::splitting::LIMIT;
 use std::alloc::Global;
-use std::io::Read;
 
 /// How many bytes of a payload are read at once.
 const CHUNK: usize = 4096;
 
 /// Reads until the buffer is full or the stream ends, and returns how many bytes came.
-fn fill<R: Read>(reader: &mut Counted<R>, buf: &mut [u8]) -> Result<usize, Broken>
+fn fill<R: Source>(reader: &mut R, buf: &mut [u8]) -> Result<usize, Broken>
     ensures bound { IfOk result (λ n. n ≤ length buf.new) }
-    ensures bytes { IfOk result (λ n. Consumes (R.remaining reader.old.inner) (R.remaining reader.new.inner) (take n buf.new)) }
-    ensures end { IfOk result (λ n. n < length buf.new → IsAtEnd (R.remaining reader.new.inner)) }
-    ensures same { OnOk result (reader.new.faults ≡ reader.old.faults) }
-    ensures part { OnErr result ((got : List ℕ) × Consumes (R.remaining reader.old.inner) (R.remaining reader.new.inner) got) }
-    ensures rose { OnErr result (reader.new.faults ≡ min (reader.old.faults + 1) u64.MAX) }
+    ensures bytes { IfOk result (λ n. Consumes (R.remaining reader.old) (R.remaining reader.new) (take n buf.new)) }
+    ensures end { IfOk result (λ n. n < length buf.new → IsAtEnd (R.remaining reader.new)) }
+    ensures same { OnOk result (R.faults reader.new ≡ R.faults reader.old) }
+    ensures part { OnErr result ((got : List ℕ) × Consumes (R.remaining reader.old) (R.remaining reader.new) got) }
+    ensures rose { OnErr result (R.faults reader.new ≡ min (R.faults reader.old + 1) u64.MAX) }
 {
     let mut at = 0;
     while at < buf.len() {
@@ -45,14 +44,10 @@ fn keep(kept: &mut Vec<u8>, lost: bool, bytes: &[u8]) -> bool
 }
 
 /// Reads a payload of so many bytes. Its buffer grows as they come, and where it can't, they are read over.
-fn read_payload<R: Read>(
-    alloc: Global,
-    reader: &mut Counted<R>,
-    count: usize,
-) -> Result<Frame, FrameFault>
-    ensures payload { ReadsPayload (R.remaining reader.old.inner) (R.remaining reader.new.inner) count result }
+fn read_payload<R: Source>(alloc: Global, reader: &mut R, count: usize) -> Result<Frame, FrameFault>
+    ensures payload { ReadsPayload (R.remaining reader.old) (R.remaining reader.new) count result }
     ensures told { IfOk result IsTold }
-    ensures faults { CountsFaults result reader.old.faults reader.new.faults }
+    ensures faults { CountsFaults result (R.faults reader.old) (R.faults reader.new) }
 {
     let mut payload = Vec::new(alloc);
     let mut lost = false;
@@ -77,13 +72,10 @@ fn read_payload<R: Read>(
 ///
 /// Of a frame over 1,048,576 bytes only the length is read. At `NoMemory` its payload was read over, so
 /// that the next frame can be read. A stream that ends inside a frame is `CutOff`.
-pub fn read_frame<R: Read>(
-    alloc: Global,
-    reader: &mut Counted<R>,
-) -> Result<Option<Frame>, FrameFault>
-    ensures frame { ReadsFrame (R.remaining reader.old.inner) (R.remaining reader.new.inner) result }
+pub fn read_frame<R: Source>(alloc: Global, reader: &mut R) -> Result<Option<Frame>, FrameFault>
+    ensures frame { ReadsFrame (R.remaining reader.old) (R.remaining reader.new) result }
     ensures told { IfOk result (λ frame. IfSome frame IsTold) }
-    ensures faults { CountsFaults result reader.old.faults reader.new.faults }
+    ensures faults { CountsFaults result (R.faults reader.old) (R.faults reader.new) }
 {
     let mut head = [0; 4];
     let came = fill(reader, &mut head)?;

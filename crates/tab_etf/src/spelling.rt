@@ -7,8 +7,8 @@ ghost use Rattle.tab_term.specs.Data.{count, pair_count};
 ghost use Rattle.tab_term.specs.View.{term, terms, pairs as pairs_of};
 ghost use Rattle.tab_etf.specs.Writing.{Writes};
 
+use crate::device::Target;
 use crate::writer::Writer;
-use std::io::Write;
 use tab_term::spelling::{
     ATOM_UTF8_EXT, BINARY_EXT, INTEGER_EXT, LARGE_TUPLE_EXT, LIST_EXT, MAP_EXT, NIL_EXT,
     SMALL_ATOM_UTF8_EXT, SMALL_BIG_EXT, SMALL_INTEGER_EXT, SMALL_TUPLE_EXT, STRING_EXT, fits_four,
@@ -34,25 +34,25 @@ fn one_byte(z: i128) -> u8
 }
 
 #[tactic(auto, using(crate::proofs::WritingLemmas::writes_then))]
-fn put_digits<W: Write>(writer: &mut Writer<W>, sign: u8, digits: &[u8])
+fn put_digits<W: Target>(writer: &mut Writer<W>, sign: u8, digits: &[u8])
     requires { length digits.now < 256 }
-    ensures { Writes W.contents writer.old writer.new (110 ∷ length digits.now ∷ sign ∷ digits.now) }
+    ensures { Writes W.contents W.faults writer.old writer.new (110 ∷ length digits.now ∷ sign ∷ digits.now) }
 {
     writer.put(&[SMALL_BIG_EXT, digits.len() as u8, sign]);
     writer.put(digits);
 }
 
 #[tactic(auto, using(crate::proofs::WritingLemmas::writes_then))]
-fn put_big<W: Write>(writer: &mut Writer<W>, z: i128)
-    ensures { Writes W.contents writer.old writer.new (110 ∷ length (magnitude (unsigned_abs z)) ∷ sign_of z ∷ magnitude (unsigned_abs z)) }
+fn put_big<W: Target>(writer: &mut Writer<W>, z: i128)
+    ensures { Writes W.contents W.faults writer.old writer.new (110 ∷ length (magnitude (unsigned_abs z)) ∷ sign_of z ∷ magnitude (unsigned_abs z)) }
 {
     let bytes = low_first(z.unsigned_abs());
     put_digits(writer, sign_byte(z), significant_of(&bytes));
 }
 
 #[tactic(auto, using(crate::proofs::WritingLemmas::writes_then))]
-pub fn put_int<W: Write>(writer: &mut Writer<W>, z: i128)
-    ensures { Writes W.contents writer.old writer.new (int_tag z ∷ int_contents z) }
+pub fn put_int<W: Target>(writer: &mut Writer<W>, z: i128)
+    ensures { Writes W.contents W.faults writer.old writer.new (int_tag z ∷ int_contents z) }
 {
     if is_byte(z) {
         writer.put(&[SMALL_INTEGER_EXT, one_byte(z)]);
@@ -66,8 +66,8 @@ pub fn put_int<W: Write>(writer: &mut Writer<W>, z: i128)
 // ---- lengths and texts
 
 #[tactic(auto, using(crate::proofs::WritingLemmas::writes_then))]
-fn put_length<W: Write>(writer: &mut Writer<W>, n: usize)
-    ensures { Writes W.contents writer.old writer.new (length_field n) }
+fn put_length<W: Target>(writer: &mut Writer<W>, n: usize)
+    ensures { Writes W.contents W.faults writer.old writer.new (length_field n) }
 {
     if n < 0xffff_ffff {
         writer.put(&(n as u32).to_be_bytes());
@@ -78,9 +78,9 @@ fn put_length<W: Write>(writer: &mut Writer<W>, n: usize)
 }
 
 #[tactic(auto, using(crate::proofs::WritingLemmas::writes_then))]
-fn put_atom_head<W: Write>(writer: &mut Writer<W>, n: usize)
+fn put_atom_head<W: Target>(writer: &mut Writer<W>, n: usize)
     requires { n < 2 ^ 16 }
-    ensures { Writes W.contents writer.old writer.new (atom_tag n ∷ atom_length_field n) }
+    ensures { Writes W.contents W.faults writer.old writer.new (atom_tag n ∷ atom_length_field n) }
 {
     if n < 256 {
         writer.put(&[SMALL_ATOM_UTF8_EXT, n as u8]);
@@ -91,8 +91,8 @@ fn put_atom_head<W: Write>(writer: &mut Writer<W>, n: usize)
 }
 
 #[tactic(auto, using(crate::proofs::WritingLemmas::writes_then))]
-pub fn put_tuple_head<W: Write>(writer: &mut Writer<W>, n: usize)
-    ensures { Writes W.contents writer.old writer.new (tuple_tag n ∷ arity_field n) }
+pub fn put_tuple_head<W: Target>(writer: &mut Writer<W>, n: usize)
+    ensures { Writes W.contents W.faults writer.old writer.new (tuple_tag n ∷ arity_field n) }
 {
     if n < 256 {
         writer.put(&[SMALL_TUPLE_EXT, n as u8]);
@@ -104,8 +104,8 @@ pub fn put_tuple_head<W: Write>(writer: &mut Writer<W>, n: usize)
 
 /// A tag, a length or a count, and so many bytes.
 #[tactic(auto, using(crate::proofs::WritingLemmas::writes_then))]
-fn put_tagged<W: Write>(writer: &mut Writer<W>, tag: u8, n: usize)
-    ensures { Writes W.contents writer.old writer.new (tag ∷ length_field n) }
+fn put_tagged<W: Target>(writer: &mut Writer<W>, tag: u8, n: usize)
+    ensures { Writes W.contents W.faults writer.old writer.new (tag ∷ length_field n) }
 {
     if n < 0xffff_ffff {
         writer.put(&tagged(tag, n as u32));
@@ -116,17 +116,17 @@ fn put_tagged<W: Write>(writer: &mut Writer<W>, tag: u8, n: usize)
 }
 
 #[tactic(auto, using(crate::proofs::WritingLemmas::writes_then))]
-pub fn put_atom<W: Write>(writer: &mut Writer<W>, text: &str)
+pub fn put_atom<W: Target>(writer: &mut Writer<W>, text: &str)
     requires { length text.now < 2 ^ 16 }
-    ensures { Writes W.contents writer.old writer.new (atom_tag (length text.now) ∷ atom_length_field (length text.now) ++ text.now) }
+    ensures { Writes W.contents W.faults writer.old writer.new (atom_tag (length text.now) ∷ atom_length_field (length text.now) ++ text.now) }
 {
     put_atom_head(writer, text.len());
     writer.put(text.as_bytes());
 }
 
 #[tactic(auto, using(crate::proofs::WritingLemmas::writes_then))]
-fn put_binary<W: Write>(writer: &mut Writer<W>, bytes: &[u8])
-    ensures { Writes W.contents writer.old writer.new (109 ∷ length_field (length bytes.now) ++ bytes.now) }
+fn put_binary<W: Target>(writer: &mut Writer<W>, bytes: &[u8])
+    ensures { Writes W.contents W.faults writer.old writer.new (109 ∷ length_field (length bytes.now) ++ bytes.now) }
 {
     put_tagged(writer, BINARY_EXT, bytes.len());
     writer.put(bytes);
@@ -144,9 +144,9 @@ fn byte_in(t: &Term) -> u8
     }
 }
 
-fn put_bytes<W: Write>(writer: &mut Writer<W>, ts: &[Term])
+fn put_bytes<W: Target>(writer: &mut Writer<W>, ts: &[Term])
     requires { all_bytes (terms ts.now) ≡ true }
-    ensures { Writes W.contents writer.old writer.new (bytes_of (terms ts.now)) }
+    ensures { Writes W.contents W.faults writer.old writer.new (bytes_of (terms ts.now)) }
 {
     for t in ts {
         writer.put_byte(byte_in(t));
@@ -154,10 +154,10 @@ fn put_bytes<W: Write>(writer: &mut Writer<W>, ts: &[Term])
 }
 
 #[tactic(auto, using(crate::proofs::WritingLemmas::writes_then))]
-fn put_string<W: Write>(writer: &mut Writer<W>, ts: &[Term])
+fn put_string<W: Target>(writer: &mut Writer<W>, ts: &[Term])
     requires bytes { all_bytes (terms ts.now) ≡ true }
     requires short { length ts.now < 2 ^ 16 }
-    ensures { Writes W.contents writer.old writer.new (107 ∷ to_be_bytes w16 (length ts.now) ++ bytes_of (terms ts.now)) }
+    ensures { Writes W.contents W.faults writer.old writer.new (107 ∷ to_be_bytes w16 (length ts.now) ++ bytes_of (terms ts.now)) }
 {
     writer.put(&[STRING_EXT]);
     writer.put(&(ts.len() as u16).to_be_bytes());
@@ -168,8 +168,8 @@ fn put_string<W: Write>(writer: &mut Writer<W>, ts: &[Term])
 
 #[cycle(put)]
 #[tactic(auto, using(crate::proofs::WritingLemmas::writes_then), unfolding(tab_term::specs::Canon::canon))]
-pub fn put<W: Write>(writer: &mut Writer<W>, t: &Term)
-    ensures { Writes W.contents writer.old writer.new (canon (term t.now)) }
+pub fn put<W: Target>(writer: &mut Writer<W>, t: &Term)
+    ensures { Writes W.contents W.faults writer.old writer.new (canon (term t.now)) }
 {
     match t {
         Term::Int(z) => put_int(writer, *z),
@@ -183,8 +183,8 @@ pub fn put<W: Write>(writer: &mut Writer<W>, t: &Term)
 
 #[cycle(put)]
 #[tactic(auto, using(crate::proofs::WritingLemmas::writes_then))]
-fn put_tuple<W: Write>(writer: &mut Writer<W>, ts: &Terms)
-    ensures { Writes W.contents writer.old writer.new (tuple_tag (count ts.now) ∷ arity_field (count ts.now) ++ canons ts.now) }
+fn put_tuple<W: Target>(writer: &mut Writer<W>, ts: &Terms)
+    ensures { Writes W.contents W.faults writer.old writer.new (tuple_tag (count ts.now) ∷ arity_field (count ts.now) ++ canons ts.now) }
 {
     let items = ts.as_slice();
     put_tuple_head(writer, items.len());
@@ -193,8 +193,8 @@ fn put_tuple<W: Write>(writer: &mut Writer<W>, ts: &Terms)
 
 #[cycle(put)]
 #[tactic(auto, using(crate::proofs::WritingLemmas::writes_then))]
-pub fn put_list<W: Write>(writer: &mut Writer<W>, ts: &Terms)
-    ensures { Writes W.contents writer.old writer.new (list_tag_of ts.now ∷ list_contents ts.now (canons ts.now)) }
+pub fn put_list<W: Target>(writer: &mut Writer<W>, ts: &Terms)
+    ensures { Writes W.contents W.faults writer.old writer.new (list_tag_of ts.now ∷ list_contents ts.now (canons ts.now)) }
 {
     let items = ts.as_slice();
     match list_tag(ts) {
@@ -210,8 +210,8 @@ pub fn put_list<W: Write>(writer: &mut Writer<W>, ts: &Terms)
 
 #[cycle(put)]
 #[tactic(auto, using(crate::proofs::WritingLemmas::writes_then))]
-fn put_map<W: Write>(writer: &mut Writer<W>, ps: &Pairs)
-    ensures { Writes W.contents writer.old writer.new (116 ∷ length_field (pair_count ps.now) ++ pair_canons ps.now) }
+fn put_map<W: Target>(writer: &mut Writer<W>, ps: &Pairs)
+    ensures { Writes W.contents W.faults writer.old writer.new (116 ∷ length_field (pair_count ps.now) ++ pair_canons ps.now) }
 {
     let items = ps.as_slice();
     put_tagged(writer, MAP_EXT, items.len());
@@ -220,8 +220,8 @@ fn put_map<W: Write>(writer: &mut Writer<W>, ps: &Pairs)
 
 #[cycle(put)]
 #[tactic(auto, using(tab_term::proofs::Lists::weight_at))]
-fn put_all<W: Write>(writer: &mut Writer<W>, ts: &[Term])
-    ensures { Writes W.contents writer.old writer.new (canons (terms ts.now)) }
+fn put_all<W: Target>(writer: &mut Writer<W>, ts: &[Term])
+    ensures { Writes W.contents W.faults writer.old writer.new (canons (terms ts.now)) }
 {
     for t in ts {
         put(writer, t);
@@ -230,8 +230,8 @@ fn put_all<W: Write>(writer: &mut Writer<W>, ts: &[Term])
 
 #[cycle(put)]
 #[tactic(auto, using(tab_term::proofs::Lists::pair_weight_at))]
-fn put_pairs<W: Write>(writer: &mut Writer<W>, ps: &[(Term, Term)])
-    ensures { Writes W.contents writer.old writer.new (pair_canons (pairs_of ps.now)) }
+fn put_pairs<W: Target>(writer: &mut Writer<W>, ps: &[(Term, Term)])
+    ensures { Writes W.contents W.faults writer.old writer.new (pair_canons (pairs_of ps.now)) }
 {
     for p in ps {
         put(writer, &p.0);

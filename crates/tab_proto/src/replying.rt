@@ -11,9 +11,8 @@ ghost use Rattle.tab_etf.specs.Writing.{IsUnwritten};
 ghost use Rattle.tab_proto.specs.Commands.{level_word as level_word_of};
 ghost use Rattle.tab_proto.specs.Replies.{reply_term as reply_term_of, item_term as item_term_of, info_term as info_term_of, limit_word as limit_word_of, kind_word as kind_word_of, ending_word as ending_word_of, response, IsOutlineOf};
 
-use std::io::Write;
 use tab_etf::{
-    Body, Counted, EncodeFault, FrameFault, Leaf, Outline, append_outline, write_outline,
+    Body, EncodeFault, FrameFault, Leaf, Outline, Target, append_outline, write_outline,
 };
 use tab_model::{Ending, Item, Kind, Level, Limit, Reply, TableInfo};
 use tab_term::{Atom, Term, Terms};
@@ -21,14 +20,14 @@ use tab_term::{Atom, Term, Terms};
 /// Writes the frame of `{Session, Reply}`, or of `{reply, Reply}` where no session is named.
 ///
 /// It takes no memory. At `Device` a beginning of the frame is written; at `FrameTooLong` nothing is.
-pub fn write_reply<W: Write>(
-    device: &mut Counted<W>,
+pub fn write_reply<W: Target>(
+    device: &mut W,
     session: Option<u32>,
     reply: &Reply,
 ) -> Result<(), FrameFault>
-    ensures ok { OnOk result (Appends (W.contents device.old.inner) (W.contents device.new.inner) (frame (131 ∷ canon (response session reply.now)))) }
-    ensures same { OnOk result (device.new.faults ≡ device.old.faults) }
-    ensures err { IfErr result (λ e. IsUnwritten e (131 ∷ canon (response session reply.now)) (W.contents device.old.inner) (W.contents device.new.inner) device.old.faults device.new.faults) }
+    ensures ok { OnOk result (Appends (W.contents device.old) (W.contents device.new) (frame (131 ∷ canon (response session reply.now)))) }
+    ensures same { OnOk result (W.faults device.new ≡ W.faults device.old) }
+    ensures err { IfErr result (λ e. IsUnwritten e (131 ∷ canon (response session reply.now)) (W.contents device.old) (W.contents device.new) (W.faults device.old) (W.faults device.new)) }
 {
     write_outline(device, &response_of(session, reply))
 }

@@ -1,5 +1,5 @@
 -- What a replay writes of what it reads.
-use Rattle.std.specs.Prelude.{◌≡◌, ◌≢◌, ℕ, ◌+◌, ◌<◌, ◌≤◌, ◌-◌, ◌^◌, min, List, [], ◌∷◌, ◌++◌, length, take, Option, Some, Result, Ok, Err, ◌⊎◌}
+use Rattle.std.specs.Prelude.{◌≡◌, ◌≢◌, ℕ, ◌+◌, ◌<◌, ◌≤◌, ◌-◌, ◌^◌, min, List, [], ◌∷◌, ◌++◌, length, take, Option, Some, Result, Ok, Err, ◌⊎◌, Bool, true}
 use Rattle.std.specs.List.{flat_map}
 use Rattle.std.specs.Io.KnownBytes.{Appends}
 use Rattle.tab_etf.specs.Streams.{payloads, rest_of}
@@ -52,6 +52,14 @@ Faults a b c d (Err Damaged) = Sound a b c d
 Faults a b c d (Err Device) = (Rises a b × (d ≡ c)) ⊎ ((b ≡ a) × Rises c d)
 Faults a b c d (Err TooLong) = Sound a b c d
 Faults a b c d (Err NoMemory) = Sound a b c d
+
+-- at the stream's end and at damage all that was written has been flushed
+abbrev pub HasFlushed : Result (Unit {0}) Ended → Bool → Type 0
+HasFlushed (Ok u) flushed = flushed ≡ true
+HasFlushed (Err Damaged) flushed = flushed ≡ true
+HasFlushed (Err Device) flushed = Unit {0}
+HasFlushed (Err TooLong) flushed = Unit {0}
+HasFlushed (Err NoMemory) flushed = Unit {0}
 
 module _ (capacity : ℕ) where
   -- a run over all these payloads says these replies

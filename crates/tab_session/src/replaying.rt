@@ -1,16 +1,15 @@
 //! A whole stream of requests.
 
-ghost use Rattle.std.specs.Prelude.{◌≡◌, ◌≢◌, [], None, ◌<◌, ◌-◌, ◌^◌, length, IfSome, IfErr, OnOk};
+ghost use Rattle.std.specs.Prelude.{◌≡◌, ◌≢◌, [], None, true, ◌<◌, ◌-◌, ◌^◌, length, IfSome, IfErr, OnOk};
 ghost use Rattle.tab_etf.specs.Streams.{payloads, rest_of};
 ghost use Rattle.tab_session.specs.declared.ended.Ended.TheVariants.{Damaged};
-ghost use Rattle.tab_session.specs.Replays.{Replayed, Faults, fresh};
+ghost use Rattle.tab_session.specs.Replays.{Replayed, Faults, HasFlushed, fresh};
 
 use crate::Ended;
 use crate::serving::serve_piece;
 use std::alloc::Global;
-use std::io::{Read, Write};
 use tab_core::Core;
-use tab_etf::{Counted, Splitter};
+use tab_etf::{Source, Splitter, Target};
 use tab_model::Limits;
 use tab_outbox::RingPost;
 
@@ -26,21 +25,22 @@ const LIMITS: Limits = Limits {
     journal: 1024,
 };
 
-fn run_all<R: Read, W: Write>(
+fn run_all<R: Source, W: Target>(
     alloc: Global,
     core: &mut Core<RingPost>,
     outbox: usize,
     splitter: &mut Splitter,
     piece: &mut [u8],
-    input: &mut Counted<R>,
-    output: &mut Counted<W>,
+    input: &mut R,
+    output: &mut W,
 ) -> Result<(), Ended>
     requires core { core.old ≡ fresh }
     requires splitter { splitter.old ≡ record { rest = []; over = None; before = [] } }
     requires room { 0 < length piece.old }
-    ensures bytes { IfSome (R.remaining input.old.inner) (λ stream. length stream < 2 ^ 64 - 1 →
-        Replayed outbox stream (W.contents output.old.inner) (W.contents output.new.inner) result) }
-    ensures faults { Faults input.old.faults input.new.faults output.old.faults output.new.faults result }
+    ensures bytes { IfSome (R.remaining input.old) (λ stream. length stream < 2 ^ 64 - 1 →
+        Replayed outbox stream (W.contents output.old) (W.contents output.new) result) }
+    ensures faults { Faults (R.faults input.old) (R.faults input.new) (W.faults output.old) (W.faults output.new) result }
+    ensures flushed { W.is_flushed output.old ≡ true → HasFlushed result (W.is_flushed output.new) }
 {
     for round in 0..u64::MAX {
         let count = input.get(piece)?;
@@ -69,15 +69,16 @@ fn end_of_stream(splitter: &Splitter) -> Result<(), Ended>
 ///
 /// The replies to all whole frames are written before it ends as `Damaged`; before `TooLong` and `NoMemory`, those to
 /// the first frames, whole; before `Device`, a beginning of them.
-pub fn replay<R: Read, W: Write>(
+pub fn replay<R: Source, W: Target>(
     alloc: Global,
-    input: &mut Counted<R>,
-    output: &mut Counted<W>,
+    input: &mut R,
+    output: &mut W,
     outbox: usize,
 ) -> Result<(), Ended>
-    ensures bytes { IfSome (R.remaining input.old.inner) (λ stream. length stream < 2 ^ 64 - 1 →
-        Replayed outbox stream (W.contents output.old.inner) (W.contents output.new.inner) result) }
-    ensures faults { Faults input.old.faults input.new.faults output.old.faults output.new.faults result }
+    ensures bytes { IfSome (R.remaining input.old) (λ stream. length stream < 2 ^ 64 - 1 →
+        Replayed outbox stream (W.contents output.old) (W.contents output.new) result) }
+    ensures faults { Faults (R.faults input.old) (R.faults input.new) (W.faults output.old) (W.faults output.new) result }
+    ensures flushed { W.is_flushed output.old ≡ true → HasFlushed result (W.is_flushed output.new) }
 {
     let mut core = Core::new(alloc, LIMITS);
     let mut splitter = Splitter::new(alloc);

@@ -1,16 +1,15 @@
 //! The frames of one piece of the stream, and what is written for them.
 
-ghost use Rattle.std.specs.Prelude.{◌≡◌, ◌+◌, ◌<◌, ℕ, List, Option, None, length, OnOk};
+ghost use Rattle.std.specs.Prelude.{◌≡◌, ◌+◌, ◌<◌, ℕ, List, Option, None, true, length, OnOk};
 ghost use Rattle.std.specs.Io.KnownBytes.{Consumes};
 ghost use Rattle.tab_etf.specs.Frames.{contents, payload_of};
-ghost use Rattle.tab_session.specs.Replays.{IsReplaying, Advances, Served, ServedOne, OneFault};
+ghost use Rattle.tab_session.specs.Replays.{IsReplaying, Advances, Served, ServedOne, OneFault, HasFlushed};
 
 use crate::Ended;
 use crate::answering::{answer, put_answer};
 use std::alloc::Global;
-use std::io::Write;
 use tab_core::Core;
-use tab_etf::{Counted, EncodeFault, Frame, FrameFault, Splitter};
+use tab_etf::{EncodeFault, Frame, FrameFault, Splitter, Target, give_all};
 use tab_outbox::RingPost;
 
 /// So many bytes of replies are kept before they are written.
@@ -40,48 +39,50 @@ fn serve_one(
 }
 
 /// Answers the payloads of these frames, and writes the replies.
-fn serve_all<W: Write>(
+fn serve_all<W: Target>(
     alloc: Global,
     core: &mut Core<RingPost>,
     outbox: usize,
     frames: &[Frame],
-    output: &mut Counted<W>,
+    output: &mut W,
 ) -> Result<(), Ended>
-    ensures served { Served outbox core.old core.new (contents frames.now) (W.contents output.old.inner) (W.contents output.new.inner) result }
-    ensures faults { OneFault output.old.faults output.new.faults result }
+    ensures served { Served outbox core.old core.new (contents frames.now) (W.contents output.old) (W.contents output.new) result }
+    ensures faults { OneFault (W.faults output.old) (W.faults output.new) result }
+    ensures flushed { OnOk result (W.is_flushed output.new ≡ true) }
 {
     let mut buffer = Vec::new(alloc);
     for frame in frames {
         if let Err(fault) = serve_one(alloc, core, outbox, frame, &mut buffer) {
-            output.put(&buffer)?;
+            give_all(output, &buffer)?;
             return Err(Ended::from(fault));
         }
         if buffer.len() >= KEPT {
-            output.put(&buffer)?;
+            give_all(output, &buffer)?;
             buffer.clear();
         }
     }
-    output.put(&buffer)?;
+    give_all(output, &buffer)?;
     output.flush()?;
     Ok(())
 }
 
 /// Serves the frames that are whole with this piece.
-pub fn serve_piece<W: Write>(
+pub fn serve_piece<W: Target>(
     alloc: Global,
     core: &mut Core<RingPost>,
     outbox: usize,
     splitter: &mut Splitter,
     piece: &[u8],
-    output: &mut Counted<W>,
+    output: &mut W,
 ) -> Result<(), Ended>
     requires { splitter.old.over ≡ None }
     ensures piece { (stream : List ℕ) (old left new_left : Option (List ℕ)) (i : ℕ) →
-        IsReplaying outbox stream left splitter.old.rest i core.old old (W.contents output.old.inner) →
+        IsReplaying outbox stream left splitter.old.rest i core.old old (W.contents output.old) →
         Consumes left new_left piece.now → 0 < length piece.now →
-        Advances outbox result stream new_left splitter.new.rest (i + 1) core.new old (W.contents output.new.inner) }
+        Advances outbox result stream new_left splitter.new.rest (i + 1) core.new old (W.contents output.new) }
     ensures going { OnOk result (splitter.new.over ≡ None) }
-    ensures faults { OneFault output.old.faults output.new.faults result }
+    ensures faults { OneFault (W.faults output.old) (W.faults output.new) result }
+    ensures flushed { HasFlushed result (W.is_flushed output.new) }
 {
     match splitter.feed(piece) {
         Ok(frames) => serve_all(alloc, core, outbox, &frames, output),

@@ -24,7 +24,7 @@ abbrev pub decreases-put_pairs : goal.decreases-put_pairs
 decreases-put_pairs g l = 3 * pair_nodes (pairs l.ps.now) + 1
 
 abbrev pub invariant-put_all-loop-t : goal.invariant-put_all-loop-t
-invariant-put_all-loop-t g l = Writes g.W.Write.contents l.initial.writer l.writer (canons (terms (take l.t-index l.ts)))
+invariant-put_all-loop-t g l = Writes g.W.Target.contents g.W.Target.faults l.initial.writer l.writer (canons (terms (take l.t-index l.ts)))
 
 abbrev pub invariant-put_pairs-loop-p : goal.invariant-put_pairs-loop-p
-invariant-put_pairs-loop-p g l = Writes g.W.Write.contents l.initial.writer l.writer (pair_canons (pairs (take l.p-index l.ps)))
+invariant-put_pairs-loop-p g l = Writes g.W.Target.contents g.W.Target.faults l.initial.writer l.writer (pair_canons (pairs (take l.p-index l.ps)))

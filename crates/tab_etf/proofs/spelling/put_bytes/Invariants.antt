@@ -5,4 +5,4 @@ use Rattle.tab_etf.specs.Writing.{Writes}
 use Rattle.tab_etf.proofs.spelling.put_bytes.Given as goal
 
 abbrev pub invariant-loop-t : goal.invariant-loop-t
-invariant-loop-t g l = Writes g.W.Write.contents l.initial.writer l.writer (bytes_of (terms (take l.t-index l.ts))) × (all_bytes (terms (drop l.t-index l.ts)) ≡ true)
+invariant-loop-t g l = Writes g.W.Target.contents g.W.Target.faults l.initial.writer l.writer (bytes_of (terms (take l.t-index l.ts))) × (all_bytes (terms (drop l.t-index l.ts)) ≡ true)

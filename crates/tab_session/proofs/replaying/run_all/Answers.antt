@@ -12,6 +12,7 @@ loop-round-init g c = record {
   room = c.requires.room;
   input = refl;
   output = refl;
+  flushed = λ h. h;
 }
 
 pub returns-then-count-eq0-clause-bytes : goal.returns-then-count-eq0-clause-bytes
