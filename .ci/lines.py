@@ -10,6 +10,7 @@ made. One line tells each case that differs; the last line is `N passed, M faile
 
 import os
 import re
+import resource
 import subprocess
 import sys
 
@@ -22,6 +23,9 @@ DAMAGED = b"tabd: damaged input\n"
 DEVICE = b"tabd: device\n"
 LONGEST = 1_048_576
 GREATEST = 4_294_967_295
+# A process that reads what follows has so many bytes of addresses: room for the bytes that came, and not for all that their
+# counts announce.
+LITTLE = 64 * 1_048_576
 
 # Words, the status, and what standard output and standard error begin with; where a text is empty, nothing stands there.
 WORDS = [
@@ -34,6 +38,14 @@ WORDS = [
     (["replay", "--outbox", "65537"], 2, b"", b"error: "),
     (["replay", "--outbox", "1"], 0, b"", b""),
     ([b"\xff\xfe"], 2, b"", b"error: "),
+    (["serve"], 2, b"", b"error: "),
+    (["serve", "--port", "0"], 2, b"", b"error: "),
+    (["serve", "--port", "65536", "--connections", "1"], 2, b"", b"error: "),
+    (["serve", "--port", "0", "--connections", "0"], 2, b"", b"error: "),
+    (["serve", "--port", "0", "--connections", "65"], 2, b"", b"error: "),
+    (["serve", "--port", "0", "--connections", "1", "--journal", "15"], 2, b"", b"error: "),
+    (["serve", "--port", "0", "--connections", "1", "--journal", "65537"], 2, b"", b"error: "),
+    (["serve", "--port", "0", "--connections", "1", "--outbox", "0"], 2, b"", b"error: "),
     (["--version"], 0, b"tabd 0.1.0\n", b""),
     (["--help"], 0, b"A server of named in-memory tables", b""),
     (["replay", "--help"], 0, b"Answers the frames of standard input", b""),
@@ -131,6 +143,21 @@ def run(program, words, **streams):
     return done.returncode, done.stdout, done.stderr
 
 
+def announced():
+    """Payloads whose counts announce far more than comes: 64 lists, tuples or maps of 65,535 members, each in the one before."""
+    payloads = [b"\x83" + head * 64 for head in (b"\x6c\0\0\xff\xff", b"\x69\0\0\xff\xff", b"\x74\0\0\xff\xff")]
+    asked = b"".join(len(payload).to_bytes(4, "big") + payload for payload in payloads)
+    return asked, frames(*[(0, ("error", "badterm"))] * len(payloads))
+
+
+def memory_faults(program):
+    """Counts reserve no more than the bytes that came."""
+    given, told = announced()
+    limit = lambda: resource.setrlimit(resource.RLIMIT_AS, (LITTLE, LITTLE))
+    found = run(program, ["replay"], input=given, stdout=subprocess.PIPE, preexec_fn=limit)
+    yield None if found == (0, told, b"") else f"counts in little memory: {found}"
+
+
 def is_told(wanted, found):
     return found.startswith(wanted) if wanted else not found
 
@@ -170,7 +197,7 @@ def main():
     if len(sys.argv) != 2:
         sys.exit(__doc__)
     program = os.path.abspath(sys.argv[1])
-    tried = [fault for faults in (word_faults, stream_faults, device_faults) for fault in faults(program)]
+    tried = [fault for faults in (word_faults, stream_faults, memory_faults, device_faults) for fault in faults(program)]
     failed = [fault for fault in tried if fault]
     for fault in failed:
         print(fault)

@@ -1,9 +1,10 @@
 //! Frames: cut anywhere, and over devices that fail.
 
 use std::alloc::{AllocError, Global};
-use std::io::Write;
 use std::test::Fail;
-use tab_etf::{Broken, Counted, Frame, FrameFault, Splitter, decode, read_frame, write_frame};
+use tab_etf::{
+    Broken, Counted, Frame, FrameFault, Splitter, Target, decode, read_frame, write_frame,
+};
 use tab_fixtures::{Device, bytes};
 
 /// Frames of terms.
@@ -54,6 +55,30 @@ fn frames_are_found_at_every_cut(rt: HostRuntime) -> Result<(), Fail> {
         assert_eq!(rt; splitter.finish(), Ok(()), "cut at {cut}");
         assert_eq!(rt; splitter.before_fault().len(), 0, "cut at {cut}");
     }
+    Ok(())
+}
+
+/// The longest frame that is read. Were the bytes that wait looked at or moved at each piece, it would take hours.
+#[test]
+fn a_long_frame_comes_byte_by_byte(rt: HostRuntime) -> Result<(), Fail> {
+    let alloc = rt.alloc();
+    let mut splitter = Splitter::new(alloc);
+    let mut lengths = Vec::new(alloc);
+    for _ in 0..2 {
+        for byte in [0x00, 0x10, 0x00, 0x00u8] {
+            assert_eq!(rt; splitter.feed(&[byte])?.len(), 0);
+        }
+        for _ in 0..1_048_576u32 {
+            for frame in &splitter.feed(&[7])? {
+                lengths.push(match frame {
+                    Frame::Empty => 0,
+                    Frame::Payload(payload) => payload.len(),
+                })?;
+            }
+        }
+    }
+    assert_eq!(rt; lengths.as_slice(), [1_048_576usize; 2].as_slice());
+    assert_eq!(rt; splitter.finish(), Ok(()));
     Ok(())
 }
 
