@@ -1,8 +1,9 @@
 -- The exit statuses and the lines on standard error. Source: this project's own rule.
-use Rattle.std.specs.Prelude.{◌≡◌, ℕ, ◌<◌, ◌-◌, ◌^◌, List, Option, Some, None, codes, ◌⊎◌, Result, Ok, Err, IfSome, length}
+use Rattle.std.specs.Prelude.{◌≡◌, ℕ, ◌<◌, ◌-◌, ◌^◌, List, [], ◌∷◌, ◌++◌, take, Option, Some, None, codes, ◌⊎◌, Result, Ok, Err, IfSome, length}
 use Rattle.clap.specs.declared.error.kind.ErrorKind.{ErrorKind}
 use Rattle.clap.specs.declared.error.kind.ErrorKind.TheVariants as kind
-use Rattle.tab_session.specs.Replays.{Replayed, Faults}
+use Rattle.std.specs.Io.KnownBytes.{Appends, Keeps}
+use Rattle.tab_session.specs.Replays.{Replayed, Faults, Rises}
 use Rattle.tab_session.specs.declared.ended.Ended.{Ended}
 use Rattle.tab_session.specs.declared.ended.Ended.TheVariants.{Damaged, Device, TooLong, NoMemory}
 use Rattle.tabd.specs.declared.ending.End.{End}
@@ -19,14 +20,14 @@ status_of (Stopped Device) = 1
 status_of (Stopped TooLong) = 1
 status_of (Stopped NoMemory) = 1
 
--- the line on standard error; the text of wrong words is the parser's
-abbrev pub message_of : End → Option (List ℕ)
-message_of Done = None
-message_of WrongWords = None
-message_of (Stopped Damaged) = Some (codes "tabd: damaged input")
-message_of (Stopped Device) = Some (codes "tabd: device")
-message_of (Stopped TooLong) = Some (codes "tabd: too long")
-message_of (Stopped NoMemory) = Some (codes "tabd: no memory")
+-- the line on standard error, with its line feed; the text of wrong words is the parser's
+abbrev pub line_of : End → Option (List ℕ)
+line_of Done = None
+line_of WrongWords = None
+line_of (Stopped Damaged) = Some (codes "tabd: damaged input" ++ 10 ∷ [])
+line_of (Stopped Device) = Some (codes "tabd: device" ++ 10 ∷ [])
+line_of (Stopped TooLong) = Some (codes "tabd: too long" ++ 10 ∷ [])
+line_of (Stopped NoMemory) = Some (codes "tabd: no memory" ++ 10 ∷ [])
 
 -- how words that ask for no run end the program: help and the version are shown, memory can run out
 -- at the start, and else the words are wrong
@@ -36,10 +37,26 @@ end_of_words kind.DisplayVersion = Done
 end_of_words kind.OutOfMemory = Stopped NoMemory
 end_of_words k = WrongWords
 
--- how the program ends once the parser's text is shown: help that can't be written is a device fault
+-- why a text was not put on a device
+abbrev pub IsTextFault : Ended → Type 0
+IsTextFault e = (e ≡ Device) ⊎ (e ≡ NoMemory)
+
+-- how the program ends once the parser's text is shown: help that can't be written is a device fault, and its text takes memory
 abbrev pub IsShown : End → End → Type 0
-IsShown Done end = (end ≡ Done) ⊎ (end ≡ Stopped Device)
+IsShown Done end = (end ≡ Done) ⊎ ((e : Ended) × IsTextFault e × (end ≡ Stopped e))
 IsShown end shown = shown ≡ end
+
+-- what of the output and of the errors holds by where the parser's text goes: of help on the errors, of a mistake on the
+-- output, and of want of memory, which has no text, on both
+abbrev pub OnStreams : End → Type 0 → Type 0 → Type 0
+OnStreams Done output errors = errors
+OnStreams WrongWords output errors = output
+OnStreams (Stopped e) output errors = output × errors
+
+-- the errors have this line more, or a beginning of it where they failed; where there is no line, nothing
+abbrev pub TellsEnd : Option (List ℕ) → Option (List ℕ) → Option (List ℕ) → ℕ → ℕ → Type 0
+TellsEnd None old new faults faults' = Keeps old new × (faults' ≡ faults)
+TellsEnd (Some line) old new faults faults' = (Appends old new line × (faults' ≡ faults)) ⊎ (((n : ℕ) × Appends old new (take n line)) × Rises faults faults')
 
 -- how a replay ends the program
 abbrev pub end_of : Result (Unit {0}) Ended → End

@@ -1,7 +1,7 @@
 //! How a run of the program ends: its status, and its line on standard error.
 
 ghost use Rattle.std.specs.Prelude.{◌≡◌, ◌≤◌, option_map};
-ghost use Rattle.tabd.specs.Endings.{end_of, end_of_words, message_of, status_of};
+ghost use Rattle.tabd.specs.Endings.{end_of, end_of_words, line_of, status_of};
 
 use crate::Ended;
 use clap::error::ErrorKind;
@@ -51,16 +51,15 @@ pub fn status_of(end: &End) -> u8
     }
 }
 
-/// The program's own line on standard error, with no line feed. Wrong words have the parser's text
-/// in its place.
-pub fn message_of(end: &End) -> Option<&'static str>
-    ensures { option_map (λ line. line.now) result ≡ message_of end.now }
+/// The program's own line on standard error. Wrong words have the parser's text in its place.
+pub fn line_of(end: &End) -> Option<&'static str>
+    ensures { option_map (λ line. line.now) result ≡ line_of end.now }
 {
     match end {
         End::Done | End::WrongWords => None,
-        End::Stopped(Ended::Damaged) => Some("tabd: damaged input"),
-        End::Stopped(Ended::Device) => Some("tabd: device"),
-        End::Stopped(Ended::TooLong) => Some("tabd: too long"),
-        End::Stopped(Ended::NoMemory) => Some("tabd: no memory"),
+        End::Stopped(Ended::Damaged) => Some("tabd: damaged input\n"),
+        End::Stopped(Ended::Device) => Some("tabd: device\n"),
+        End::Stopped(Ended::TooLong) => Some("tabd: too long\n"),
+        End::Stopped(Ended::NoMemory) => Some("tabd: no memory\n"),
     }
 }

@@ -19,5 +19,14 @@ use words::asked;
 fn main(rt: HostRuntime) -> ExitCode {
     let mut input = Counted::new(rt.stdin());
     let mut output = Counted::new(rt.stdout());
-    run::<Brand, _, _, _>(&rt, Opened::new(), asked(&rt), &mut input, &mut output)
+    let mut errors = Counted::new(rt.stderr());
+    let opened = Opened::new();
+    run::<Brand, _, _, _, _>(
+        &rt,
+        opened,
+        asked(&rt),
+        &mut input,
+        &mut output,
+        &mut errors,
+    )
 }

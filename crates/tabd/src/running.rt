@@ -1,83 +1,85 @@
 //! A run of the program between its words and its status.
 
-ghost use Rattle.std.specs.Prelude.{◌≡◌, ◌≤◌, IfOk, OnErr, IfErr};
+ghost use Rattle.std.specs.Prelude.{◌≡◌, ◌≤◌, IfOk, OnOk, OnErr, IfErr};
 ghost use Rattle.std.specs.Process.{exit_status};
 ghost use Rattle.clap.specs.Words.{kind_of};
 ghost use Rattle.tabd.specs.declared.ending.End.{End as EndOf};
-ghost use Rattle.tabd.specs.Endings.{IfReplay, IsShown, Plays, end_of_words, status_of, streams};
+ghost use Rattle.tabd.specs.Endings.{IfReplay, IsShown, IsTextFault, OnStreams, Plays, TellsEnd, end_of_words, line_of, status_of, streams};
 
-use crate::ending::{End, end_of_replay, end_of_words, message_of, status_of};
+use crate::ending::{End, end_of_replay, end_of_words, line_of, status_of};
 use crate::serving::{Sizes, listen};
 use crate::words::Run;
 use crate::{Ended, replay};
 use clap::Error;
 use std::alloc::Global;
-use std::io::{Read, Write};
 use std::net::{Net, TcpListener, TcpStream};
 use std::process::ExitCode;
 use std::sync::Wait;
 use std::thread::Threads;
-use tab_etf::Counted;
+use tab_etf::{Source, Target, give_all};
 use tab_names::{Naming, Opened};
 use tab_post::Line;
 
-/// Does what the words ask for, and gives the program's exit status. Words that ask for no run leave input and output as
-/// they are.
-pub fn run<J, H, R, W>(
+/// Does what the words ask for, and gives the program's exit status. On the errors stands the line of this end and nothing
+/// else, but that of wrong words the parser's text stands there. Its text of what was asked for, as help, is put on the output.
+pub fn run<J, H, R, W, E>(
     rt: &H,
     opened: Opened<Line>,
     asked: Result<Run, Error>,
-    input: &mut Counted<R>,
-    output: &mut Counted<W>,
+    input: &mut R,
+    output: &mut W,
+    errors: &mut E,
 ) -> ExitCode
 where
     J: Naming + Send + Sync,
     H: AllocGlobal
-        + Print
-        + Eprint
         + Net<Listener = TcpListener, Stream = TcpStream>
         + Threads
         + Wait
         + Copy
         + Send
         + Sync,
-    R: Read,
-    W: Write,
+    R: Source,
+    W: Target,
+    E: Target,
     requires { opened ≡ J.book }
-    ensures replayed { IfOk asked (λ words. (end : EndOf) × (exit_status result ≡ status_of end) × IfReplay words (λ outbox. Plays outbox (streams (R.remaining input.old.inner) (W.contents output.old.inner) input.old.faults output.old.faults) (streams (R.remaining input.new.inner) (W.contents output.new.inner) input.new.faults output.new.faults) end)) }
-    ensures shown { IfErr asked (λ error. (end : EndOf) × (exit_status result ≡ status_of end) × IsShown (end_of_words (kind_of error)) end) }
+    ensures replayed { IfOk asked (λ words. (end : EndOf) × (exit_status result ≡ status_of end)
+        × IfReplay words (λ outbox. Plays outbox (streams (R.remaining input.old) (W.contents output.old) (R.faults input.old) (W.faults output.old)) (streams (R.remaining input.new) (W.contents output.new) (R.faults input.new) (W.faults output.new)) end)
+        × TellsEnd (line_of end) (E.contents errors.old) (E.contents errors.new) (E.faults errors.old) (E.faults errors.new)) }
+    ensures shown { IfErr asked (λ error. (end : EndOf) × (exit_status result ≡ status_of end) × IsShown (end_of_words (kind_of error)) end
+        × OnStreams (end_of_words (kind_of error)) (output.new ≡ output.old) (TellsEnd (line_of end) (E.contents errors.old) (E.contents errors.new) (E.faults errors.old) (E.faults errors.new))) }
     ensures input { OnErr asked (input.new ≡ input.old) }
-    ensures output { OnErr asked (output.new ≡ output.old) }
 {
-    let end = perform::<J, H, R, W>(rt, opened, asked, input, output);
-    ExitCode::from(tell(rt, &end))
+    let end = perform::<J, H, R, W, E>(rt, opened, asked, input, output, errors);
+    ExitCode::from(tell(errors, &end))
 }
 
-fn perform<J, H, R, W>(
+fn perform<J, H, R, W, E>(
     rt: &H,
     opened: Opened<Line>,
     asked: Result<Run, Error>,
-    input: &mut Counted<R>,
-    output: &mut Counted<W>,
+    input: &mut R,
+    output: &mut W,
+    errors: &mut E,
 ) -> End
 where
     J: Naming + Send + Sync,
     H: AllocGlobal
-        + Print
-        + Eprint
         + Net<Listener = TcpListener, Stream = TcpStream>
         + Threads
         + Wait
         + Copy
         + Send
         + Sync,
-    R: Read,
-    W: Write,
+    R: Source,
+    W: Target,
+    E: Target,
     requires { opened ≡ J.book }
-    ensures replayed { IfOk asked (λ words. IfReplay words (λ outbox. Plays outbox (streams (R.remaining input.old.inner) (W.contents output.old.inner) input.old.faults output.old.faults) (streams (R.remaining input.new.inner) (W.contents output.new.inner) input.new.faults output.new.faults) result)) }
+    ensures replayed { IfOk asked (λ words. IfReplay words (λ outbox. Plays outbox (streams (R.remaining input.old) (W.contents output.old) (R.faults input.old) (W.faults output.old)) (streams (R.remaining input.new) (W.contents output.new) (R.faults input.new) (W.faults output.new)) result)) }
+    ensures quiet { OnOk asked (errors.new ≡ errors.old) }
     ensures shown { IfErr asked (λ error. IsShown (end_of_words (kind_of error)) result) }
+    ensures streams { IfErr asked (λ error. OnStreams (end_of_words (kind_of error)) (output.new ≡ output.old) (errors.new ≡ errors.old)) }
     ensures input { OnErr asked (input.new ≡ input.old) }
-    ensures output { OnErr asked (output.new ≡ output.old) }
 {
     match asked {
         Ok(Run::Replay { outbox }) => play(rt.alloc(), input, output, outbox),
@@ -96,45 +98,51 @@ where
             };
             listen::<J, H, W>(*rt, rt.alloc(), opened, port, sizes, output)
         }
-        Err(error) => show(rt, &error),
+        Err(error) => show(rt.alloc(), &error, output, errors),
     }
 }
 
-fn play<R: Read, W: Write>(
-    alloc: Global,
-    input: &mut Counted<R>,
-    output: &mut Counted<W>,
-    outbox: u32,
-) -> End
-    ensures { Plays outbox (streams (R.remaining input.old.inner) (W.contents output.old.inner) input.old.faults output.old.faults) (streams (R.remaining input.new.inner) (W.contents output.new.inner) input.new.faults output.new.faults) result }
+fn play<R: Source, W: Target>(alloc: Global, input: &mut R, output: &mut W, outbox: u32) -> End
+    ensures { Plays outbox (streams (R.remaining input.old) (W.contents output.old) (R.faults input.old) (W.faults output.old)) (streams (R.remaining input.new) (W.contents output.new) (R.faults input.new) (W.faults output.new)) result }
 {
     end_of_replay(replay(alloc, input, output, outbox as usize))
 }
 
-/// Shows the parser's text. Out of memory has none of its own.
-fn show<H: Print + Eprint>(rt: &H, error: &Error) -> End
-    ensures { IsShown (end_of_words (kind_of error.now)) result }
+/// Shows the parser's text: what was asked for on the output, a mistake on the errors. Out of memory has none of its own.
+fn show<W: Target, E: Target>(alloc: Global, error: &Error, output: &mut W, errors: &mut E) -> End
+    ensures end { IsShown (end_of_words (kind_of error.now)) result }
+    ensures streams { OnStreams (end_of_words (kind_of error.now)) (output.new ≡ output.old) (errors.new ≡ errors.old) }
 {
     match end_of_words(error.kind()) {
-        End::Done => match error.print(rt) {
+        End::Done => match put_text(alloc, error, output) {
             Ok(()) => End::Done,
-            Err(_) => End::Stopped(Ended::Device),
+            Err(ended) => End::Stopped(ended),
         },
         End::WrongWords => {
-            let _ = error.print(rt);
+            let _told = put_text(alloc, error, errors);
             End::WrongWords
         }
         stopped => stopped,
     }
 }
 
+fn put_text<W: Target>(alloc: Global, error: &Error, device: &mut W) -> Result<(), Ended>
+    ensures { IfErr result IsTextFault }
+{
+    let text = format!(in alloc; "{error}").map_err(|_| Ended::NoMemory)?;
+    give_all(device, text.as_bytes())?;
+    device.flush()?;
+    Ok(())
+}
+
 /// Writes the line of this end, and gives its status. No one is left to hear that the line failed.
-fn tell<H: Eprint>(rt: &H, end: &End) -> u8
+fn tell<E: Target>(errors: &mut E, end: &End) -> u8
     ensures status { result ≡ status_of end.now }
     ensures bound { result ≤ 3 }
+    ensures line { TellsEnd (line_of end.now) (E.contents errors.old) (E.contents errors.new) (E.faults errors.old) (E.faults errors.new) }
 {
-    if let Some(line) = message_of(end) {
-        let _ = rt.eprintln(line);
+    if let Some(line) = line_of(end) {
+        let _told = give_all(errors, line.as_bytes());
     }
     status_of(end)
 }

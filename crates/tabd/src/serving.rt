@@ -6,13 +6,12 @@ use crate::Ended;
 use crate::ending::End;
 use std::alloc::{AllocError, Global};
 use std::io;
-use std::io::Write;
 use std::marker::PhantomData;
 use std::net::{Net, TcpListener, TcpStream};
 use std::sync::Wait;
 use std::thread::Threads;
 use tab_book::{Book, Shared};
-use tab_etf::Counted;
+use tab_etf::{Target, give_all};
 use tab_model::Limits;
 use tab_names::{House, Naming, Opened};
 use tab_post::Line;
@@ -47,12 +46,12 @@ pub fn listen<J, R, W>(
     opened: Opened<Line>,
     port: u16,
     sizes: Sizes,
-    output: &mut Counted<W>,
+    output: &mut W,
 ) -> End
 where
     J: Naming + Send + Sync,
     R: Net<Listener = TcpListener, Stream = TcpStream> + Threads + Wait + Copy + Send + Sync,
-    W: Write,
+    W: Target,
     requires name { opened ≡ J.book }
     requires outbox { 1 ≤ sizes.outbox }
     requires journal { 1 ≤ sizes.journal }
@@ -69,17 +68,17 @@ where
 }
 
 /// Says which port it is, at once, so that clients can connect.
-fn listening<R: Net<Listener = TcpListener, Stream = TcpStream>, W: Write>(
+fn listening<R: Net<Listener = TcpListener, Stream = TcpStream>, W: Target>(
     rt: &R,
     alloc: Global,
     port: u16,
-    output: &mut Counted<W>,
+    output: &mut W,
 ) -> Result<TcpListener, Ended> {
     let listener = TcpListener::bind(rt, ("127.0.0.1", port)).map_err(|_| Ended::Device)?;
     let address = listener.local_addr().map_err(|_| Ended::Device)?;
     let line = format!(in alloc; "listening on 127.0.0.1:{}\n", address.port());
     let line = line.map_err(|_| Ended::NoMemory)?;
-    output.put(line.as_bytes())?;
+    give_all(output, line.as_bytes())?;
     output.flush()?;
     Ok(listener)
 }
