@@ -34,7 +34,7 @@ pub fn serve_session<H: House, R: Read, W: Write, G: Gate>(
     house: &H,
     alloc: Global,
     shared: &Shared<H>,
-    seat: Seat,
+    seat: &Seat,
     watch: &Watch,
     reader: &mut Counted<R>,
     sink: &FrameSink<W>,
@@ -44,12 +44,12 @@ pub fn serve_session<H: House, R: Read, W: Write, G: Gate>(
         alloc,
         house,
         shared,
-        seat,
+        seat: *seat,
         watch,
         answers: Answers::new(alloc, sink, gate, seat.session()),
     };
     let _ended = served.stream(reader);
-    shared.leave(house, &seat);
+    shared.leave(house, seat);
     watch.stop(house);
 }
 
