@@ -109,12 +109,12 @@ term-send =
     as_row_send
     term.the_field
     (
-      send-Term
-      (as_row_send i128-field (plain_send _ _ _ _ _))
-      (as_row_send atom.the_field atom_marks.the_send)
-      terms-send
-      (as_row_send bytes.the_field bytes_marks.the_send)
-      pairs-send
+    send-Term
+    (as_row_send i128-field (plain_send _ _ _ _ _))
+    (as_row_send atom.the_field atom_marks.the_send)
+    terms-send
+    (as_row_send bytes.the_field bytes_marks.the_send)
+    pairs-send
     )
 
 pairs-sync : IsSync pairs.the_row
@@ -131,12 +131,12 @@ term-sync =
     as_row_sync
     term.the_field
     (
-      sync-Term
-      (as_row_sync i128-field (plain_sync _ _ _ _ _))
-      (as_row_sync atom.the_field atom_marks.the_sync)
-      terms-sync
-      (as_row_sync bytes.the_field bytes_marks.the_sync)
-      pairs-sync
+    sync-Term
+    (as_row_sync i128-field (plain_sync _ _ _ _ _))
+    (as_row_sync atom.the_field atom_marks.the_sync)
+    terms-sync
+    (as_row_sync bytes.the_field bytes_marks.the_sync)
+    pairs-sync
     )
 
 operation-send : IsSend operation.the_row
