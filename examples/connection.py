@@ -2,14 +2,25 @@
 
 import io
 import socket
+import struct
 from collections import deque
 
 from frames import frame, read, take
 
+# A reply or an event that has not come after so many seconds is an error.
+PATIENCE = 10
+
 
 class Connection:
-    def __init__(self, port):
-        self.socket = socket.create_connection(("127.0.0.1", port))
+    """Where the room is small, little stands between the server and who does not read."""
+
+    def __init__(self, port, small=False):
+        self.socket = socket.socket()
+        self.socket.settimeout(PATIENCE)
+        if small:
+            self.socket.setsockopt(socket.SOL_SOCKET, socket.SO_RCVBUF, 4096)
+            self.socket.setsockopt(socket.IPPROTO_TCP, socket.TCP_MAXSEG, 536)
+        self.socket.connect(("127.0.0.1", port))
         self.socket.setsockopt(socket.IPPROTO_TCP, socket.TCP_NODELAY, 1)
         self.stream = self.socket.makefile("rb")
         self.events = deque()
@@ -21,9 +32,12 @@ class Connection:
         take(payload, 1)
         return read(payload)
 
+    def send(self, what):
+        self.socket.sendall(frame(what))
+
     def ask(self, what):
         """The reply to a request. Events that come before it are kept."""
-        self.socket.sendall(frame(what))
+        self.send(what)
         while True:
             term = self.receive()
             if isinstance(term, tuple) and term[0] == "reply":
@@ -33,6 +47,11 @@ class Connection:
     def event(self):
         """The next event, which it waits for."""
         return self.events.popleft() if self.events else self.receive()
+
+    def break_off(self):
+        """Closes at once: what was sent and not read is lost."""
+        self.socket.setsockopt(socket.SOL_SOCKET, socket.SO_LINGER, struct.pack("ii", 1, 0))
+        self.close()
 
     def close(self):
         self.stream.close()

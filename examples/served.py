@@ -38,8 +38,8 @@ def write(port, seed, told):
 class Mirror:
     """A copy of the table, by key."""
 
-    def __init__(self, port):
-        self.connection, self.copy, self.told = Connection(port), None, {"dumps": 0, "events": 0, "overflows": 0}
+    def __init__(self, port, small=False):
+        self.connection, self.copy, self.told = Connection(port, small), None, {"dumps": 0, "events": 0, "overflows": 0}
         self.subscribe()
 
     def subscribe(self):

@@ -1,99 +1,22 @@
--- The ends of a mailbox may go to another thread where their handle may. An item may, since the ring of terms has the law where each of
--- its layers does.
-use mathlib.Core.List.{[], ◌∷◌}
+-- The ends of a mailbox with a place may go to another thread where their handle may.
 use denote.RattleType.{RattleType}
 use denote.Hole.{as_row}
-use denote.Struct.Tuple.{Tuple, tuple_type}
-use denote.Struct.Field.{row_field, u64-field, i128-field}
+use denote.Struct.Field.{u64-field}
 use denote.Param.Send.{IsSend, plain_send}
-use denote.Param.SendFields.{as_row_send, declared_send, variants_send}
-use Rattle.std.specs.contracts.alloc.Global as global
-use Rattle.std.specs.contracts.vec.Vec as vec
-use Rattle.std.specs.contracts.impls.GlobalAllocator.TheImpl.{ghosts}
-use Rattle.std.proofs.vec.Vec.TheSendSync as vec_marks
-use Rattle.std.proofs.alloc.Global.TheSendSync as global_marks
-use Rattle.std.below.std_heap.proofs.GlobalAllocator.TheSendSync as heap_marks
-use Rattle.tab_term.proofs.atom.Atom.TheSendSync as atom_marks
-use Rattle.tab_term.proofs.bytes.Bytes.TheSendSync as bytes_marks
-use Rattle.tab_term.proofs.term.Pairs.TheLaws.TheKnot.{send-Terms}
-use Rattle.tab_term.specs.contracts.atom.Atom as atom
-use Rattle.tab_term.specs.contracts.bytes.Bytes as bytes
-use Rattle.tab_term.specs.contracts.term.Terms as terms
-use Rattle.tab_model.specs.contracts.data.Item as item
-use Rattle.tab_post.specs.contracts.post.ChannelPost as post
-use Rattle.tab_post.specs.contracts.rule.Hand as hand
-use Rattle.crossbeam_channel.specs.contracts.flavors.array.Doing as doing
-use Rattle.crossbeam_channel.specs.contracts.flavors.array.Key as key
-use Rattle.atomic_table.specs.contracts.shared.Seat as seat
-use Rattle.atomic_table.specs.contracts.badge.Badge as badge
-use Rattle.tab_post.specs.contracts.inbox.Inbox as inbox
-use Rattle.crossbeam_channel.proofs.flavors.array.ruled.Sending.TheSendSync as sending_marks
-use Rattle.crossbeam_channel.proofs.flavors.array.ruled.Receiving.TheSendSync as receiving_marks
-use Rattle.crossbeam_channel.proofs.flavors.array.Rows.TheSendSync as rows_marks
-use Rattle.atomic_table.proofs.shared.Seat.TheSendSync as seat_marks
-use Rattle.atomic_table.proofs.badge.Badge.TheSendSync as badge_marks
-use Rattle.tab_model.proofs.data.Level.TheSendSync as level_marks
-use Rattle.tab_model.proofs.data.Ending.TheSendSync as ending_marks
-use Rattle.std.proofs.option.Option.TheSendSync as option_marks
+use denote.Param.SendFields.{as_row_send, declared_send}
+use Rattle.tab_post.proofs.Crossing.{ChannelPost-send, Inbox-send}
 use Rattle.tab_names.specs.declared.naming.Naming.{Ghosts}
 use Rattle.tab_names.specs.contracts.front.Front as front
 use Rattle.tab_names.proofs.front.Front.TheSendSync as front_marks
 use Rattle.tab_named.specs.contracts.post.SeatPost as seat_post
 use Rattle.tab_named.specs.contracts.inbox.SeatInbox as seat_inbox
 
-vec_send : (R : RattleType) → IsSend R → IsSend (vec.the_row R global.the_row ghosts)
-vec_send R s = vec_marks.the_send R global.the_row ghosts s global_marks.the_send heap_marks.the_frees
-
-pair_send : (R : RattleType) → IsSend R → IsSend (Tuple (R ∷ R ∷ []))
-pair_send R s = declared_send (tuple_type (R ∷ R ∷ [])) (as_row_send (row_field R) s, (as_row_send (row_field R) s, tt))
-
-terms_send : IsSend terms.the_row
-terms_send =
-    send-Terms
-    (λ h s. vec_send (Tuple (h ∷ h ∷ [])) (pair_send h s))
-    vec_send
-    (as_row_send i128-field (plain_send _ _ _ _ _))
-    (as_row_send atom.the_field atom_marks.the_send)
-    (as_row_send bytes.the_field bytes_marks.the_send)
-
-terms_field : IsSend (as_row (row_field terms.the_row))
-terms_field = as_row_send (row_field terms.the_row) terms_send
-
-atom_field : IsSend (as_row atom.the_field)
-atom_field = as_row_send atom.the_field atom_marks.the_send
-
-item_send : IsSend item.the_row
-item_send =
-    variants_send item.enum (
-      (atom_field, (level_marks.the_send, (option_marks.the_send terms.the_row terms_send, tt))),
-      (
-        (as_row_send u64-field (plain_send _ _ _ _ _), (terms_field, tt)),
-        ((atom_field, (ending_marks.the_send, tt)), tt),
-      ),
-    )
-
-pass_send : IsSend (seat.the_row (badge.the_row (key.the_row item.the_row)) (doing.the_row item.the_row hand.the_row))
-pass_send = seat_marks.the_send (badge.the_row (key.the_row item.the_row)) (doing.the_row item.the_row hand.the_row) (badge_marks.the_send (key.the_row item.the_row))
-
-post_send : (R : RattleType) → IsSend R → IsSend (post.the_row R)
-post_send R r =
-    declared_send (post.the_type R) (
-      as_row_send (row_field R) r,
-      (
-        search (sending_marks.the_send, rows_marks.the_send, rows_marks.the_sync, badge_marks.the_send, option_marks.the_send, item_send, global_marks.the_send, global_marks.the_sync, heap_marks.the_frees) depth 12,
-        (pass_send, (as_row_send u64-field (plain_send _ _ _ _ _), tt)),
-      ),
-    )
-
-inbox_send : (R : RattleType) → IsSend R → IsSend (inbox.the_row R)
-inbox_send R r = declared_send (inbox.the_type R) (as_row_send (row_field R) r, (search (receiving_marks.the_send, rows_marks.the_send, rows_marks.the_sync, badge_marks.the_send, option_marks.the_send, item_send, global_marks.the_send, global_marks.the_sync, heap_marks.the_frees) depth 12, (pass_send, tt)))
-
 front_send : (E J : RattleType) (names : Ghosts J.Denot) → IsSend (as_row (front.the_field E J names))
 front_send E J names = front_marks.the_send E J names
 
 module _ (H : RattleType) (names : Ghosts H.Denot) where
   pub SeatPost-send : IsSend H → IsSend (seat_post.the_row H names)
-  SeatPost-send h = declared_send (seat_post.the_type H names) (post_send H h, (as_row_send u64-field (plain_send _ _ _ _ _), (search front_send, tt)))
+  SeatPost-send h = declared_send (seat_post.the_type H names) (ChannelPost-send H h, (as_row_send u64-field (plain_send _ _ _ _ _), (search front_send, tt)))
 
   pub SeatInbox-send : IsSend H → IsSend (seat_inbox.the_row H names)
-  SeatInbox-send h = declared_send (seat_inbox.the_type H names) (inbox_send H h, (as_row_send u64-field (plain_send _ _ _ _ _), (search front_send, tt)))
+  SeatInbox-send h = declared_send (seat_inbox.the_type H names) (Inbox-send H h, (as_row_send u64-field (plain_send _ _ _ _ _), (search front_send, tt)))

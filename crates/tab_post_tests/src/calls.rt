@@ -57,7 +57,7 @@ fn is_right<R: Wait>(
         Call::Pull => post.pull().is_none(),
         Call::Going(commit) => match meet(post, inbox) {
             Met::Going(item) => is_batch(&item, *commit),
-            Met::All => false,
+            Met::Apart | Met::All => false,
         },
         Call::All => matches!(meet(post, inbox), Met::All),
         Call::Receive(commit) => is_received(&inbox.receive(), *commit),

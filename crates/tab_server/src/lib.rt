@@ -7,6 +7,7 @@
 
 mod accepting;
 mod answers;
+mod connection;
 mod events;
 mod gate;
 mod requests;

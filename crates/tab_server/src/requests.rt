@@ -6,9 +6,9 @@ use crate::seated::Seated;
 use crate::sink::FrameSink;
 use crate::watch::Watch;
 use std::alloc::Global;
-use std::io::{Read, Write};
+use std::io::Write;
 use tab_book::{Seat, Shared};
-use tab_etf::{Counted, EtfFault, Frame, FrameFault, Splitter, decode};
+use tab_etf::{EtfFault, Frame, FrameFault, Source, Splitter, decode};
 use tab_model::{Command, Reply, Told};
 use tab_names::House;
 use tab_oneshot::{Steps, one_shot};
@@ -30,13 +30,13 @@ pub struct Served<'a, H: House, W: Write, G: Gate> {
 
 /// Answers the requests of a session in order, until its stream ends, a read or a write fails, a frame is too long or no
 /// memory is found for one. Then the session leaves.
-pub fn serve_session<H: House, R: Read, W: Write, G: Gate>(
+pub fn serve_session<H: House, R: Source, W: Write, G: Gate>(
     house: &H,
     alloc: Global,
     shared: &Shared<H>,
-    seat: Seat,
+    seat: &Seat,
     watch: &Watch,
-    reader: &mut Counted<R>,
+    reader: &mut R,
     sink: &FrameSink<W>,
     gate: &G,
 ) {
@@ -44,17 +44,17 @@ pub fn serve_session<H: House, R: Read, W: Write, G: Gate>(
         alloc,
         house,
         shared,
-        seat,
+        seat: *seat,
         watch,
         answers: Answers::new(alloc, sink, gate, seat.session()),
     };
     let _ended = served.stream(reader);
-    shared.leave(house, &seat);
+    shared.leave(house, seat);
     watch.stop(house);
 }
 
 impl<'a, H: House, W: Write, G: Gate> Served<'a, H, W, G> {
-    fn stream<R: Read>(&mut self, reader: &mut Counted<R>) -> Result<(), Unwritten> {
+    fn stream<R: Source>(&mut self, reader: &mut R) -> Result<(), Unwritten> {
         let mut splitter = Splitter::new(self.alloc);
         let Ok(mut piece) = vec![in self.alloc; 0u8; PIECE] else {
             return Err(Unwritten);

@@ -5,7 +5,7 @@ ghost use Rattle.std.specs.Io.KnownBytes.{Appends};
 
 use std::io::Write;
 use std::sync::{Mutex, Wait};
-use tab_etf::{Broken, Counted};
+use tab_etf::{Broken, Counted, give_all};
 
 /// A device that frames are written to, until it fails.
 #[derive(Drop)]
@@ -35,7 +35,7 @@ impl<W: Write> Sink<W> {
         if self.broken {
             return Err(Broken);
         }
-        let put = self.device.put(frames);
+        let put = give_all(&mut self.device, frames);
         self.broken = put.is_err();
         put
     }

@@ -49,6 +49,11 @@ impl Watch {
         *phase == Phase::Waiting
     }
 
+    /// Whether a request waits for a lock now.
+    pub fn waits<R: Wait>(&self, rt: &R) -> bool {
+        *self.phase.lock(rt) == Phase::Waiting
+    }
+
     /// Waits until that request waits no more.
     pub fn over<R: Wait>(&self, rt: &R) {
         let phase = self

@@ -7,11 +7,16 @@ use tab_etf::{Counted, Frame, append_frame, decode, read_frame};
 use tab_fixtures::{Shape, build};
 use tab_term::Term;
 
-/// A connection: frames are written to the one end and read from the other.
+/// So many frames of the other kind may come before one that is waited for.
+const MOST: u32 = 100;
+
+/// A connection: frames are written to the one end and read from the other. Replies come in their order and events in
+/// theirs, so what comes before the kind that is waited for is kept.
 pub struct Client {
     alloc: Global,
     writer: TcpStream,
     reader: Counted<TcpStream>,
+    kept: Vec<Term>,
 }
 
 impl Drop for Client {
@@ -20,9 +25,11 @@ impl Drop for Client {
             alloc: _,
             writer,
             reader,
+            kept,
         } = self;
         drop(writer);
         drop(reader);
+        drop(kept);
     }
 }
 
@@ -38,6 +45,7 @@ impl Client {
             alloc,
             writer,
             reader,
+            kept: Vec::new(alloc),
         })
     }
 
@@ -48,9 +56,21 @@ impl Client {
         Ok(())
     }
 
-    /// Whether the next frame has this term.
+    /// Whether the next reply, or else the next event, is this term.
     pub fn reads(&mut self, wanted: &Shape) -> Result<bool, Fail> {
-        Ok(self.next()? == build(self.alloc, wanted)?)
+        let wanted = build(self.alloc, wanted)?;
+        let kind = is_reply(&wanted);
+        if let Some(at) = self.kept.iter().position(|term| is_reply(term) == kind) {
+            return Ok(self.kept.remove(at) == wanted);
+        }
+        for _ in 0..MOST {
+            let term = self.next()?;
+            if is_reply(&term) == kind {
+                return Ok(term == wanted);
+            }
+            self.kept.push(term)?;
+        }
+        Err("neither reply nor event".into())
     }
 
     fn next(&mut self) -> Result<Term, Fail> {
@@ -61,10 +81,14 @@ impl Client {
             _ => Err("no frame".into()),
         }
     }
+}
 
-    /// Asks, and says whether the next frame is `{reply, Wanted}`.
-    pub fn asks(&mut self, request: &Shape, wanted: &'static Shape) -> Result<bool, Fail> {
-        self.send(request)?;
-        self.reads(wanted)
+fn is_reply(term: &Term) -> bool {
+    match term {
+        Term::Tuple(terms) => match terms.as_slice().first() {
+            Some(Term::Atom(word)) => word.as_str() == "reply",
+            _ => false,
+        },
+        _ => false,
     }
 }

@@ -11,7 +11,7 @@ use std::sync::atomic::{AtomicBool, Ordering};
 use std::sync::{Mutex, Wait};
 use std::test::*;
 use std::thread::{Threads, join};
-use tab_book::{Book, Seat, Shared};
+use tab_book::{Book, Drained, Seat, Shared};
 use tab_etf::append_frame;
 use tab_fixtures::Shape::{Atom, Int, Tuple};
 use tab_fixtures::{Shape, atom, build, build_all};
@@ -106,12 +106,32 @@ fn commit<H: House>(
     }
 }
 
-/// Three commits while the event thread is held; then what it writes, and the reader leaves.
+/// How many items were there for a session; None where it overflowed or left.
+fn taken<H: House>(
+    house: &H,
+    shared: &Shared<H>,
+    seat: &Seat,
+    inbox: &mut SeatInbox<H>,
+) -> Option<u32> {
+    let mut count = 0u32;
+    for _ in house.forever() {
+        match shared.drained(house, seat, inbox) {
+            Drained::Going(_) => count = count.saturating_add(1),
+            Drained::AllTaken => return Some(count),
+            Drained::Overflow(_) | Drained::Left => return None,
+        }
+    }
+    unreachable!()
+}
+
+/// Three commits while the event thread is held, of which the writer itself gets each event; then what that thread writes,
+/// and the reader leaves.
 fn commit_all<H: House>(
     house: &H,
     alloc: Global,
     shared: &Shared<H>,
     writer: &Seat,
+    mut inbox: SeatInbox<H>,
     reader: &Seat,
     pipe: &Pipe,
 ) -> Result<bool, Fail> {
@@ -120,9 +140,11 @@ fn commit_all<H: House>(
             break;
         }
     }
-    let mut right = true;
+    let mut right = taken(house, shared, writer, &mut inbox) == Some(1);
     for number in 1..4u64 {
-        right = right && commit(house, alloc, shared, writer, number as i128)? == Some(number);
+        right = right
+            && commit(house, alloc, shared, writer, number as i128)? == Some(number)
+            && taken(house, shared, writer, &mut inbox) == Some(1);
     }
     pipe.open.store(true, Ordering::SeqCst);
     let wanted = frames(alloc)?;
@@ -143,18 +165,22 @@ fn run<H: House + Threads + Send + Sync>(
     requires { opened ≡ H.book }
 {
     let shared = Shared::new(Book::new(house, alloc, opened, LIMITS, 2)?);
-    let (writer, _others) = shared.join(&house).map_err(|_| "join")?;
+    let (writer, others) = shared.join(&house).map_err(|_| "join")?;
     let (reader, inbox) = shared.join(&house).map_err(|_| "join")?;
     let create = Schema::Create(atom(alloc, "t")?, build_all(alloc, &[])?);
     shared.call(&house, &writer, Command::Schema(create))?;
-    let watch = Command::Subscribe(atom(alloc, "t")?, Level::Simple, false);
-    shared.call(&house, &reader, watch)?;
+    for seat in [&writer, &reader] {
+        let watch = Command::Subscribe(atom(alloc, "t")?, Level::Simple, false);
+        shared.call(&house, seat, watch)?;
+    }
     let pipe = Pipe {
         written: Mutex::new(Vec::new(alloc)),
         reached: AtomicBool::new(false),
         open: AtomicBool::new(false),
     };
-    side_by_side(&house, alloc, &shared, &writer, &reader, inbox, &pipe)
+    side_by_side(
+        &house, alloc, &shared, &writer, others, &reader, inbox, &pipe,
+    )
 }
 
 fn side_by_side<H: House + Threads + Send + Sync>(
@@ -162,6 +188,7 @@ fn side_by_side<H: House + Threads + Send + Sync>(
     alloc: Global,
     shared: &Shared<H>,
     writer: &Seat,
+    others: SeatInbox<H>,
     reader: &Seat,
     mut inbox: SeatInbox<H>,
     pipe: &Pipe,
@@ -172,7 +199,7 @@ fn side_by_side<H: House + Threads + Send + Sync>(
             let sink = FrameSink::new(Held { house, pipe });
             event_loop(house, alloc, shared, reader, &mut inbox, &sink);
         },
-        move || commit_all(house, alloc, shared, writer, reader, pipe),
+        move || commit_all(house, alloc, shared, writer, others, reader, pipe),
     );
     right
 }

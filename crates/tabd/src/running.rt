@@ -7,7 +7,7 @@ ghost use Rattle.tabd.specs.declared.ending.End.{End as EndOf};
 ghost use Rattle.tabd.specs.Endings.{IfReplay, IsShown, IsTextFault, OnStreams, Plays, TellsEnd, end_of_words, line_of, status_of, streams};
 
 use crate::ending::{End, end_of_replay, end_of_words, line_of, status_of};
-use crate::serving::{Sizes, listen};
+use crate::serving::listen;
 use crate::words::Run;
 use crate::{Ended, replay};
 use clap::Error;
@@ -83,19 +83,7 @@ where
 {
     match asked {
         Ok(Run::Replay { outbox }) => play(rt.alloc(), input, output, outbox),
-        Ok(
-            Run::Serve {
-                port,
-                connections,
-                outbox,
-                journal,
-            },
-        ) => {
-            let sizes = Sizes {
-                connections,
-                outbox,
-                journal,
-            };
+        Ok(Run::Serve { port, sizes }) => {
             listen::<J, H, W>(*rt, rt.alloc(), opened, port, sizes, output)
         }
         Err(error) => show(rt.alloc(), &error, output, errors),

@@ -18,11 +18,13 @@ use tab_post::Line;
 use tab_server::{Open, serve};
 
 /// What a server is given: how many connections it accepts, how many items wait for a session, how many entries stand.
-#[derive(Clone, Copy, Debug)]
+#[derive(Clone, Copy, Debug, PartialEq, Eq)]
 pub struct Sizes {
     pub connections: u32,
     pub outbox: u32,
     pub journal: u32,
+    ghost outbox_room: { 1 ≤ outbox },
+    ghost journal_room: { 1 ≤ journal },
 }
 
 const fn limits(journal: u32) -> Limits
@@ -52,9 +54,7 @@ where
     J: Naming + Send + Sync,
     R: Net<Listener = TcpListener, Stream = TcpStream> + Threads + Wait + Copy + Send + Sync,
     W: Target,
-    requires name { opened ≡ J.book }
-    requires outbox { 1 ≤ sizes.outbox }
-    requires journal { 1 ≤ sizes.journal }
+    requires { opened ≡ J.book }
 {
     let listener = match listening(&rt, alloc, port, output) {
         Ok(listener) => listener,
@@ -90,9 +90,7 @@ fn run<H: House + Threads + Send + Sync>(
     listener: &TcpListener,
     sizes: Sizes,
 ) -> Result<io::Result<()>, AllocError>
-    requires name { opened ≡ H.book }
-    requires outbox { 1 ≤ sizes.outbox }
-    requires journal { 1 ≤ sizes.journal }
+    requires { opened ≡ H.book }
 {
     let limits = limits(sizes.journal);
     let book = Book::new(house, alloc, opened, limits, sizes.outbox as usize)?;

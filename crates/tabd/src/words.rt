@@ -1,8 +1,9 @@
 //! The words of the command line.
 
 ghost use Rattle.std.specs.Prelude.{◌≤◌, IfOk};
-ghost use Rattle.tabd.specs.Words.{AreInRange};
+ghost use Rattle.tabd.specs.Words.{AreInRange, AreSizes};
 
+use crate::serving::Sizes;
 use clap::error::ErrorKind;
 use clap::{Arg, ArgAction, ArgMatches, Command, Error, value_parser};
 use std::alloc::{AllocError, Global};
@@ -14,16 +15,9 @@ use std::rt::Env;
 #[derive(Clone, Copy, Debug, PartialEq, Eq)]
 pub enum Run {
     /// Each session's post holds so many items.
-    Replay {
-        outbox: u32,
-    },
+    Replay { outbox: u32 },
     /// So many connections are served on the port, where 0 lets the system choose one.
-    Serve {
-        port: u16,
-        connections: u32,
-        outbox: u32,
-        journal: u32,
-    },
+    Serve { port: u16, sizes: Sizes },
 }
 
 fn outbox<'a>(alloc: Global) -> Arg<'a> {
@@ -84,9 +78,7 @@ pub fn read_words<'a, S: AsStr>(alloc: Global, words: &'a [S]) -> Result<Run, Er
     if let Some(serve) = matches.subcommand_matches("serve") {
         return Ok(Run::Serve {
             port: serve.get_one("port").unwrap_or(0),
-            connections: number(serve, "connections", 1, 64, 1),
-            outbox: number(serve, "outbox", 1, 65_536, 64),
-            journal: number(serve, "journal", 16, 65_536, 1024),
+            sizes: sizes(serve),
         });
     }
     Ok(Run::Replay {
@@ -95,6 +87,16 @@ pub fn read_words<'a, S: AsStr>(alloc: Global, words: &'a [S]) -> Result<Run, Er
             None => 64,
         },
     })
+}
+
+fn sizes(matches: &ArgMatches<'_>) -> Sizes
+    ensures { AreSizes result }
+{
+    Sizes {
+        connections: number(matches, "connections", 1, 64, 1),
+        outbox: number(matches, "outbox", 1, 65_536, 64),
+        journal: number(matches, "journal", 16, 65_536, 1024),
+    }
 }
 
 /// The number of an option, which the parser has found in its range, or what stands for it where it is not given.

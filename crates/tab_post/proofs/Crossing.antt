@@ -1,4 +1,5 @@
--- Items may go to another thread: the ring of terms has the law where each of its layers does, and an item holds terms.
+-- The ends of a mailbox may go to another thread where their handle may. An item may, since the ring of terms has the law where each of
+-- its layers does.
 use mathlib.Core.List.{[], ◌∷◌}
 use denote.RattleType.{RattleType}
 use denote.Hole.{as_row}
@@ -41,7 +42,7 @@ vec_send R s = vec_marks.the_send R global.the_row ghosts s global_marks.the_sen
 pair_send : (R : RattleType) → IsSend R → IsSend (Tuple (R ∷ R ∷ []))
 pair_send R s = declared_send (tuple_type (R ∷ R ∷ [])) (as_row_send (row_field R) s, (as_row_send (row_field R) s, tt))
 
-pub terms_send : IsSend terms.the_row
+terms_send : IsSend terms.the_row
 terms_send =
     send-Terms
     (λ h s. vec_send (Tuple (h ∷ h ∷ [])) (pair_send h s))
@@ -56,7 +57,7 @@ terms_field = as_row_send (row_field terms.the_row) terms_send
 atom_field : IsSend (as_row atom.the_field)
 atom_field = as_row_send atom.the_field atom_marks.the_send
 
-pub item_send : IsSend item.the_row
+item_send : IsSend item.the_row
 item_send =
     variants_send item.enum (
       (atom_field, (level_marks.the_send, (option_marks.the_send terms.the_row terms_send, tt))),
@@ -69,8 +70,8 @@ item_send =
 pass_send : IsSend (seat.the_row (badge.the_row (key.the_row item.the_row)) (doing.the_row item.the_row hand.the_row))
 pass_send = seat_marks.the_send (badge.the_row (key.the_row item.the_row)) (doing.the_row item.the_row hand.the_row) (badge_marks.the_send (key.the_row item.the_row))
 
-pub post_send : (R : RattleType) → IsSend R → IsSend (post.the_row R)
-post_send R r =
+pub ChannelPost-send : (R : RattleType) → IsSend R → IsSend (post.the_row R)
+ChannelPost-send R r =
     declared_send (post.the_type R) (
       as_row_send (row_field R) r,
       (
@@ -79,5 +80,5 @@ post_send R r =
       ),
     )
 
-pub inbox_send : (R : RattleType) → IsSend R → IsSend (inbox.the_row R)
-inbox_send R r = declared_send (inbox.the_type R) (as_row_send (row_field R) r, (search (receiving_marks.the_send, rows_marks.the_send, rows_marks.the_sync, badge_marks.the_send, option_marks.the_send, item_send, global_marks.the_send, global_marks.the_sync, heap_marks.the_frees) depth 12, (pass_send, tt)))
+pub Inbox-send : (R : RattleType) → IsSend R → IsSend (inbox.the_row R)
+Inbox-send R r = declared_send (inbox.the_type R) (as_row_send (row_field R) r, (search (receiving_marks.the_send, rows_marks.the_send, rows_marks.the_sync, badge_marks.the_send, option_marks.the_send, item_send, global_marks.the_send, global_marks.the_sync, heap_marks.the_frees) depth 12, (pass_send, tt)))
