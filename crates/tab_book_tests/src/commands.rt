@@ -12,7 +12,8 @@ pub const LIMITS: Limits = Limits {
     journal: 1024,
 };
 
-fn name(alloc: Global) -> Result<Atom, AllocError> {
+/// The name of the table.
+pub fn name(alloc: Global) -> Result<Atom, AllocError> {
     Atom::from_short_text(alloc, "t")
 }
 
@@ -31,6 +32,10 @@ pub fn create(alloc: Global) -> Result<Command, AllocError> {
 
 pub fn write(alloc: Global, key: i128, value: i128) -> Result<Command, AllocError> {
     Ok(Command::Do(Operation::Write(record(alloc, key, value)?)))
+}
+
+pub fn delete(alloc: Global, key: i128) -> Result<Command, AllocError> {
+    Ok(Command::Do(Operation::Delete(name(alloc)?, Term::Int(key))))
 }
 
 pub fn read(alloc: Global, key: i128) -> Result<Command, AllocError> {

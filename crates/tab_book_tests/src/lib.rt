@@ -7,6 +7,8 @@ mod commands;
 #[cfg(test)]
 mod counters;
 #[cfg(test)]
+mod mirrors;
+#[cfg(test)]
 mod overflow;
 #[cfg(test)]
 mod waking;

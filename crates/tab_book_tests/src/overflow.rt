@@ -23,7 +23,7 @@ enum Shown {
     Left,
 }
 
-fn shown(drained: &Drained) -> Shown {
+fn show(drained: &Drained) -> Shown {
     match drained {
         Drained::Going(Item::Began(..)) => Shown::Began,
         Drained::Going(Item::Batch(commit, _)) => Shown::Batch(*commit),
@@ -60,18 +60,18 @@ fn overflow<H: House>(house: H, alloc: Global, opened: Opened<Line>) -> Result<V
         commit(&house, alloc, &shared, &writer, key)?;
     }
     // An inbox of another session takes nothing.
-    seen.push(shown(&shared.drained(&house, &reader, &mut others)))?;
+    seen.push(show(&shared.drained(&house, &reader, &mut others)))?;
     let refused = shared.call(&house, &reader, subscribe(alloc, false)?)?;
     if !matches!(refused.reply(), Reply::OverflowUntold) {
         return Err("not refused".into());
     }
     for _ in 0..4 {
-        seen.push(shown(&shared.drained(&house, &reader, &mut inbox)))?;
+        seen.push(show(&shared.drained(&house, &reader, &mut inbox)))?;
     }
     shared.call(&house, &reader, subscribe(alloc, false)?)?;
-    seen.push(shown(&shared.drained(&house, &reader, &mut inbox)))?;
+    seen.push(show(&shared.drained(&house, &reader, &mut inbox)))?;
     shared.leave(&house, &reader);
-    seen.push(shown(&shared.drained(&house, &reader, &mut inbox)))?;
+    seen.push(show(&shared.drained(&house, &reader, &mut inbox)))?;
     Ok(seen)
 }
 

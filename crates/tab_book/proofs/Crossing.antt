@@ -1,0 +1,273 @@
+-- A book may go to another thread where its handle may. What it holds may: terms, and what is built of them.
+use mathlib.Core.List.{[], ◌∷◌}
+use denote.RattleType.{RattleType}
+use denote.Hole.{as_row}
+use denote.Struct.Tuple.{Tuple, tuple_type}
+use denote.Struct.Field.{row_field, u64-field, i128-field}
+use denote.Param.Send.{IsSend, IsSync, plain_send, plain_sync, sendable}
+use denote.Param.SendFields.{as_row_send, as_row_sync, declared_send, declared_sync, variants_send, variants_sync}
+use Rattle.std.proofs.Crossing.{Vec-send, Vec-sync, Arc-send, Arc-sync, crosses, frees, send as heap_send}
+use Rattle.std.proofs.MapsCrossing.{BTreeMap-send}
+use Rattle.tab_map.proofs.Crossing.{Map-send, Map-sync}
+use Rattle.tab_term.proofs.atom.Atom.TheSendSync as atom_marks
+use Rattle.tab_term.proofs.bytes.Bytes.TheSendSync as bytes_marks
+use Rattle.tab_term.proofs.term.Pairs.TheLaws.TheKnot.{send-Terms, sync-Terms, send-Term, sync-Term, send-Pairs, sync-Pairs}
+use Rattle.tab_term.specs.contracts.atom.Atom as atom
+use Rattle.tab_term.specs.contracts.bytes.Bytes as bytes
+use Rattle.tab_term.specs.contracts.term.Terms as terms
+use Rattle.tab_term.specs.contracts.term.Pairs as pairs
+use Rattle.tab_term.specs.contracts.term.Term as term
+use Rattle.tab_model.specs.contracts.data.Operation as operation
+use Rattle.tab_model.specs.contracts.data.Reply as reply
+use Rattle.tab_model.specs.contracts.data.Entry as entry
+use Rattle.tab_model.specs.contracts.told.Told as told
+use Rattle.tab_model.specs.contracts.data.Item as item
+use Rattle.tab_model.specs.contracts.data.TableInfo as info
+use Rattle.tab_model.specs.contracts.data.Change as change
+use Rattle.tab_model.specs.contracts.data.Lock as lock
+use Rattle.tab_model.proofs.data.Limit.TheSendSync as limit_marks
+use Rattle.tab_model.specs.contracts.data.Move as move
+use Rattle.tab_model.specs.contracts.data.Schema as schema
+use Rattle.tab_model.specs.contracts.lists.Moves as moves
+use Rattle.tab_model.specs.contracts.lists.Replies as replies
+use Rattle.tab_model.proofs.lists.Numbers.TheSendSync as numbers_marks
+use Rattle.tab_model.proofs.data.Level.TheSendSync as level_marks
+use Rattle.tab_model.proofs.data.TableDef.TheSendSync as definition_marks
+use Rattle.tab_index.specs.contracts.index.Index as index
+use Rattle.tab_rows.specs.contracts.rows.Rows as rows
+use Rattle.tab_index.specs.contracts.table.IndexedTable as table
+use Rattle.tab_world.specs.contracts.world.World as world
+use Rattle.tab_txstore.specs.contracts.levels.Levels as levels
+use Rattle.tab_txstore.specs.contracts.store.TxStore as store
+use Rattle.tab_locks.specs.contracts.lock_table.LockTable as locks
+use Rattle.tab_locks.specs.contracts.index.Index as places
+use Rattle.tab_locks.specs.contracts.on_table.OnTable as on_table
+use Rattle.tab_locks.specs.contracts.keys.Keys as keys
+use Rattle.tab_locks.proofs.holders.Holders.TheSendSync as holders_marks
+use Rattle.tab_waitdie.specs.contracts.ages.Ages as ages
+use Rattle.tab_manager.specs.contracts.Manager as manager
+use Rattle.tab_manager.specs.contracts.machine.Machine as machine
+use Rattle.tab_manager.specs.contracts.seat.Seat as seat
+use Rattle.tab_manager.specs.contracts.seat.Transaction as transaction
+use Rattle.tab_manager.specs.contracts.queue.Request as request
+use Rattle.tab_journal.specs.contracts.base.Base as base
+use Rattle.tab_outbox.specs.declared.post.Post.{Ghosts}
+use Rattle.tab_subs.proofs.subs.Subs.TheSendSync as subs_marks
+use Rattle.tab_core.specs.contracts.Core as core
+use Rattle.tab_names.specs.declared.naming.Naming as naming
+use Rattle.tab_names.specs.declared.naming.House as house
+use Rattle.std.specs.declared.sync.Wait as waiting
+use Rattle.std.specs.declared.clone.Clone as cloning
+use Rattle.tab_names.proofs.front.Front.TheSendSync as front_marks
+use Rattle.tab_names.proofs.register.Register.TheSendSync as register_marks
+use Rattle.tab_named.proofs.Crossing.{SeatPost-send}
+use Rattle.tab_book.specs.contracts.book.Book as book
+use Rattle.tab_book.specs.contracts.shared.Shared as shared
+use Rattle.arrayvec.proofs.array_vec.ArrayVec.TheSendSync as array_marks
+use Rattle.circular_buffer.proofs.heap.HeapCircularBuffer.TheSendSync as buffer_marks
+use Rattle.tab_model.proofs.data.Limits.TheSendSync as limits_marks
+use Rattle.tab_journal.specs.contracts.journal.Journal as journal
+use Rattle.tab_journal.proofs.subscriptions.Subscription.TheSendSync as subscription_marks
+
+ruleset parts = (sendable, as_row_send, as_row_sync, declared_send, declared_sync, variants_send, variants_sync, Vec-send, Vec-sync, Arc-send, Arc-sync, Map-send, Map-sync, BTreeMap-send, atom_marks.the_send, atom_marks.the_sync)
+
+pair_send : (R : RattleType) → IsSend R → IsSend (Tuple (R ∷ R ∷ []))
+pair_send R s = declared_send (tuple_type (R ∷ R ∷ [])) (as_row_send (row_field R) s, (as_row_send (row_field R) s, tt))
+
+pair_sync : (R : RattleType) → IsSync R → IsSync (Tuple (R ∷ R ∷ []))
+pair_sync R s = declared_sync (tuple_type (R ∷ R ∷ [])) (as_row_sync (row_field R) s, (as_row_sync (row_field R) s, tt))
+
+terms-send : IsSend terms.the_row
+terms-send =
+    send-Terms
+    (λ h s. Vec-send (Tuple (h ∷ h ∷ [])) (pair_send h s))
+    Vec-send
+    (as_row_send i128-field (plain_send _ _ _ _ _))
+    (as_row_send atom.the_field atom_marks.the_send)
+    (as_row_send bytes.the_field bytes_marks.the_send)
+
+terms-sync : IsSync terms.the_row
+terms-sync =
+    sync-Terms
+    (λ h s. Vec-sync (Tuple (h ∷ h ∷ [])) (pair_sync h s))
+    Vec-sync
+    (as_row_sync i128-field (plain_sync _ _ _ _ _))
+    (as_row_sync atom.the_field atom_marks.the_sync)
+    (as_row_sync bytes.the_field bytes_marks.the_sync)
+
+pairs-send : IsSend pairs.the_row
+pairs-send =
+    send-Pairs
+    (λ h s. Vec-send (Tuple (h ∷ h ∷ [])) (pair_send h s))
+    Vec-send
+    (as_row_send i128-field (plain_send _ _ _ _ _))
+    (as_row_send atom.the_field atom_marks.the_send)
+    (as_row_send bytes.the_field bytes_marks.the_send)
+
+term-send : IsSend term.the_row
+term-send =
+    as_row_send
+    term.the_field
+    (
+    send-Term
+    (as_row_send i128-field (plain_send _ _ _ _ _))
+    (as_row_send atom.the_field atom_marks.the_send)
+    terms-send
+    (as_row_send bytes.the_field bytes_marks.the_send)
+    pairs-send
+    )
+
+pairs-sync : IsSync pairs.the_row
+pairs-sync =
+    sync-Pairs
+    (λ h s. Vec-sync (Tuple (h ∷ h ∷ [])) (pair_sync h s))
+    Vec-sync
+    (as_row_sync i128-field (plain_sync _ _ _ _ _))
+    (as_row_sync atom.the_field atom_marks.the_sync)
+    (as_row_sync bytes.the_field bytes_marks.the_sync)
+
+term-sync : IsSync term.the_row
+term-sync =
+    as_row_sync
+    term.the_field
+    (
+    sync-Term
+    (as_row_sync i128-field (plain_sync _ _ _ _ _))
+    (as_row_sync atom.the_field atom_marks.the_sync)
+    terms-sync
+    (as_row_sync bytes.the_field bytes_marks.the_sync)
+    pairs-sync
+    )
+
+operation-send : IsSend operation.the_row
+operation-send = search (parts, term-send, terms-send) depth 20
+
+info-send : IsSend info.the_row
+info-send = search (parts, terms-send) depth 20
+
+info-sync : IsSync info.the_row
+info-sync = search (parts, terms-sync) depth 20
+
+item-send : IsSend item.the_row
+item-send = search (parts, terms-send) depth 20
+
+item-sync : IsSync item.the_row
+item-sync = search (parts, terms-sync) depth 20
+
+reply-send : IsSend reply.the_row
+reply-send =
+    let a = as_row_send atom.the_field atom_marks.the_send in let ts = as_row_send (row_field terms.the_row) terms-send in let n = as_row_send u64-field (plain_send _ _ _ _ _) in
+    variants_send reply.enum (tt, (tt, (tt, (tt, (tt, (tt, (tt, ((limit_marks.the_send, tt), (tt, ((a, tt), ((a, (term-send, tt)), ((a, (term-send, tt)), ((term-send, tt), ((a, tt), ((a, tt), ((a, (term-send, tt)), ((a, tt), ((a, tt), ((a, tt), (tt, (tt, (tt, (tt, (tt, ((n, tt), ((n, tt), (tt, ((ts, tt), (tt, (tt, ((ts, tt), (tt, ((info-send, tt), ((item-send, tt), ((n, tt), (tt, tt))))))))))))))))))))))))))))))))))))
+
+reply-sync : IsSync reply.the_row
+reply-sync =
+    let a = as_row_sync atom.the_field atom_marks.the_sync in let ts = as_row_sync (row_field terms.the_row) terms-sync in let n = as_row_sync u64-field (plain_sync _ _ _ _ _) in
+    variants_sync reply.enum (tt, (tt, (tt, (tt, (tt, (tt, (tt, ((limit_marks.the_sync, tt), (tt, ((a, tt), ((a, (term-sync, tt)), ((a, (term-sync, tt)), ((term-sync, tt), ((a, tt), ((a, tt), ((a, (term-sync, tt)), ((a, tt), ((a, tt), ((a, tt), (tt, (tt, (tt, (tt, (tt, ((n, tt), ((n, tt), (tt, ((ts, tt), (tt, (tt, ((ts, tt), (tt, ((info-sync, tt), ((item-sync, tt), ((n, tt), (tt, tt))))))))))))))))))))))))))))))))))))
+
+told-send : IsSend told.the_row
+told-send = search (parts, reply-send, reply-sync) depth 20
+
+move-send : IsSend move.the_row
+move-send = search (parts, operation-send) depth 20
+
+moves-send : IsSend moves.the_row
+moves-send = search (parts, move-send) depth 20
+
+replies-send : IsSend replies.the_row
+replies-send = search (parts, told-send) depth 20
+
+schema-send : IsSend schema.the_row
+schema-send = search (parts, term-send, terms-send) depth 20
+
+entry-send : IsSend entry.the_row
+entry-send = search (parts, moves-send, replies-send, schema-send, numbers_marks.the_send, level_marks.the_send) depth 30
+
+rows-send : IsSend rows.the_row
+rows-send = search (parts, term-send, term-sync, terms-send, terms-sync) depth 30
+
+rows-sync : IsSync rows.the_row
+rows-sync = search (parts, term-send, term-sync, terms-send, terms-sync) depth 30
+
+index-send : IsSend index.the_row
+index-send = search (parts, term-send, term-sync) depth 30
+
+index-sync : IsSync index.the_row
+index-sync = search (parts, term-send, term-sync) depth 30
+
+table-send : IsSend table.the_row
+table-send = search (parts, rows-send, index-send, definition_marks.the_send, definition_marks.the_sync) depth 30
+
+table-sync : IsSync table.the_row
+table-sync = search (parts, rows-sync, index-sync, definition_marks.the_send, definition_marks.the_sync) depth 30
+
+world-send : IsSend world.the_row
+world-send = search (parts, table-send, table-sync) depth 30
+
+change-send : IsSend change.the_row
+change-send = search (parts, term-send) depth 20
+
+overlay-send : IsSend levels.the_row
+overlay-send = search (parts, change-send, term-send, term-sync, terms-send, terms-sync) depth 30
+
+store-send : IsSend store.the_row
+store-send = search (parts, move-send, told-send, overlay-send) depth 30
+
+lock-send : IsSend lock.the_row
+lock-send = search (parts, term-send) depth 20
+
+keys-send : IsSend keys.the_row
+keys-send = search (parts, term-send, holders_marks.the_send) depth 30
+
+on_table-send : IsSend on_table.the_row
+on_table-send = search (parts, keys-send, holders_marks.the_send) depth 30
+
+places-send : IsSend places.the_row
+places-send = search (parts, on_table-send) depth 30
+
+locks-send : IsSend locks.the_row
+locks-send = search (parts, lock-send, places-send) depth 30
+
+ages-send : IsSend ages.the_row
+ages-send = search (parts, locks-send, lock-send) depth 30
+
+transaction-send : IsSend transaction.the_row
+transaction-send = search (parts, store-send) depth 20
+
+seat-send : IsSend seat.the_row
+seat-send = search (parts, transaction-send) depth 20
+
+request-send : IsSend request.the_row
+request-send = search (parts, operation-send) depth 20
+
+machine-send : IsSend machine.the_row
+machine-send =
+    declared_send machine.the_type (
+      search parts,
+      (
+        search (parts, world-send),
+        (
+          search (parts, array_marks.the_send, seat-send) depth 20,
+          (search (parts, ages-send), (search (parts, request-send) depth 20, (search parts, (search parts, (search parts, (search (parts, limits_marks.the_send), tt)))))),
+        ),
+      ),
+    )
+
+manager-send : IsSend manager.the_row
+manager-send = search (parts, machine-send) depth 20
+
+base-send : IsSend base.the_row
+base-send = search (parts, world-send, subscription_marks.the_send) depth 30
+
+journal-send : IsSend journal.the_row
+journal-send = search (parts, base-send, entry-send, buffer_marks.the_send, frees, heap_send) depth 40
+
+module _ (P : RattleType) (g : Ghosts P.Denot) where
+  core-send : IsSend P → IsSend (core.the_row P g)
+  core-send p = search (parts, manager-send, subs_marks.the_send) depth 30
+
+module _ (H : RattleType) (names : naming.Ghosts H.Denot) (rooms : house.Ghosts H.Denot) (waits : waiting.Ghosts H.Denot) (clones : cloning.Ghosts H.Denot) where
+  pub Book-send : IsSend H → IsSend (book.the_row H names rooms waits clones)
+  Book-send h = search (parts, core-send, SeatPost-send, journal-send, register_marks.the_send, front_marks.the_send) depth 30
+
+  pub Shared-sync : IsSend H → IsSync (shared.the_row H rooms names waits clones)
+  Shared-sync h = search (parts, crosses, Book-send) depth 30
