@@ -20,7 +20,7 @@ use tab_term::{Atom, Term, Terms};
 
 const KEYS: i128 = 3;
 
-const EACH: i128 = 20;
+const EACH: u32 = 20;
 
 /// One before the threads start, and those of two threads.
 const COMMITS: u64 = 41;
@@ -57,7 +57,13 @@ fn commit_all<H: House>(
     from: i128,
 ) -> Result<(), AllocError> {
     for count in 0..EACH {
-        commit(house, alloc, shared, seat, from.saturating_add(count))?;
+        commit(
+            house,
+            alloc,
+            shared,
+            seat,
+            from.saturating_add(i128::from(count)),
+        )?;
     }
     Ok(())
 }
