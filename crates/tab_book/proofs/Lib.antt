@@ -1,3 +1,4 @@
 pub mod Keeping
 pub mod Draining
 pub mod Crossing
+pub mod Closures

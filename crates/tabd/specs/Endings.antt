@@ -9,7 +9,7 @@ use Rattle.tab_session.specs.declared.ended.Ended.TheVariants.{Damaged, Device, 
 use Rattle.tabd.specs.declared.ending.End.{End}
 use Rattle.tabd.specs.declared.ending.End.TheVariants.{Done, WrongWords, Stopped}
 use Rattle.tabd.specs.declared.words.Run.{Run}
-use Rattle.tabd.specs.declared.words.Run.TheVariants.{Replay}
+use Rattle.tabd.specs.declared.words.Run.TheVariants.{Replay, Serve}
 
 -- 0: done, or help was asked for; 1: device, too long or no memory; 2: wrong words; 3: damaged input
 abbrev pub status_of : End → ℕ
@@ -73,9 +73,10 @@ pub record Streams : Type 0 where
 abbrev pub streams : Option (List ℕ) → Option (List ℕ) → ℕ → ℕ → Streams
 streams i o f g = record { input = i; output = o; input_faults = f; output_faults = g }
 
--- how many items each session's post holds
-abbrev pub outbox_of : Run → ℕ
-outbox_of (Replay outbox) = outbox
+-- what holds of a replay, by how many items each session's post holds
+abbrev pub IfReplay : Run → (ℕ → Type 0) → Type 0
+IfReplay (Replay outbox) P = P outbox
+IfReplay (Serve port sizes) P = Unit {0}
 
 -- the program replayed its input onto its output, and ends by a device fault exactly where one rose
 abbrev pub Plays : ℕ → Streams → Streams → End → Type 0

@@ -3,13 +3,16 @@
 
 mod ending;
 mod running;
+mod serving;
 #[cfg(test)]
 mod tests;
 mod words;
 
 use running::run;
+use std::marker::Brand;
 use std::process::ExitCode;
 use tab_etf::Counted;
+use tab_names::Opened;
 use tab_session::{Ended, replay};
 use words::asked;
 
@@ -17,5 +20,13 @@ fn main(rt: HostRuntime) -> ExitCode {
     let mut input = Counted::new(rt.stdin());
     let mut output = Counted::new(rt.stdout());
     let mut errors = Counted::new(rt.stderr());
-    run(rt.alloc(), asked(&rt), &mut input, &mut output, &mut errors)
+    let opened = Opened::new();
+    run::<Brand, _, _, _, _>(
+        &rt,
+        opened,
+        asked(&rt),
+        &mut input,
+        &mut output,
+        &mut errors,
+    )
 }

@@ -4,52 +4,89 @@ ghost use Rattle.std.specs.Prelude.{◌≡◌, ◌≤◌, IfOk, OnOk, OnErr, IfE
 ghost use Rattle.std.specs.Process.{exit_status};
 ghost use Rattle.clap.specs.Words.{kind_of};
 ghost use Rattle.tabd.specs.declared.ending.End.{End as EndOf};
-ghost use Rattle.tabd.specs.Endings.{IsShown, IsTextFault, OnStreams, Plays, TellsEnd, end_of_words, line_of, outbox_of, status_of, streams};
+ghost use Rattle.tabd.specs.Endings.{IfReplay, IsShown, IsTextFault, OnStreams, Plays, TellsEnd, end_of_words, line_of, status_of, streams};
 
 use crate::ending::{End, end_of_replay, end_of_words, line_of, status_of};
+use crate::serving::listen;
 use crate::words::Run;
 use crate::{Ended, replay};
 use clap::Error;
 use std::alloc::Global;
+use std::net::{Net, TcpListener, TcpStream};
 use std::process::ExitCode;
+use std::sync::Wait;
+use std::thread::Threads;
 use tab_etf::{Source, Target, give_all};
+use tab_names::{Naming, Opened};
+use tab_post::Line;
 
 /// Does what the words ask for, and gives the program's exit status. On the errors stands the line of this end and nothing
 /// else, but that of wrong words the parser's text stands there. Its text of what was asked for, as help, is put on the output.
-pub fn run<R: Source, W: Target, E: Target>(
-    alloc: Global,
+pub fn run<J, H, R, W, E>(
+    rt: &H,
+    opened: Opened<Line>,
     asked: Result<Run, Error>,
     input: &mut R,
     output: &mut W,
     errors: &mut E,
 ) -> ExitCode
+where
+    J: Naming + Send + Sync,
+    H: AllocGlobal
+        + Net<Listener = TcpListener, Stream = TcpStream>
+        + Threads
+        + Wait
+        + Copy
+        + Send
+        + Sync,
+    R: Source,
+    W: Target,
+    E: Target,
+    requires { opened ≡ J.book }
     ensures replayed { IfOk asked (λ words. (end : EndOf) × (exit_status result ≡ status_of end)
-        × Plays (outbox_of words) (streams (R.remaining input.old) (W.contents output.old) (R.faults input.old) (W.faults output.old)) (streams (R.remaining input.new) (W.contents output.new) (R.faults input.new) (W.faults output.new)) end
+        × IfReplay words (λ outbox. Plays outbox (streams (R.remaining input.old) (W.contents output.old) (R.faults input.old) (W.faults output.old)) (streams (R.remaining input.new) (W.contents output.new) (R.faults input.new) (W.faults output.new)) end)
         × TellsEnd (line_of end) (E.contents errors.old) (E.contents errors.new) (E.faults errors.old) (E.faults errors.new)) }
     ensures shown { IfErr asked (λ error. (end : EndOf) × (exit_status result ≡ status_of end) × IsShown (end_of_words (kind_of error)) end
         × OnStreams (end_of_words (kind_of error)) (output.new ≡ output.old) (TellsEnd (line_of end) (E.contents errors.old) (E.contents errors.new) (E.faults errors.old) (E.faults errors.new))) }
     ensures input { OnErr asked (input.new ≡ input.old) }
 {
-    let end = perform(alloc, asked, input, output, errors);
+    let end = perform::<J, H, R, W, E>(rt, opened, asked, input, output, errors);
     ExitCode::from(tell(errors, &end))
 }
 
-fn perform<R: Source, W: Target, E: Target>(
-    alloc: Global,
+fn perform<J, H, R, W, E>(
+    rt: &H,
+    opened: Opened<Line>,
     asked: Result<Run, Error>,
     input: &mut R,
     output: &mut W,
     errors: &mut E,
 ) -> End
-    ensures replayed { IfOk asked (λ words. Plays (outbox_of words) (streams (R.remaining input.old) (W.contents output.old) (R.faults input.old) (W.faults output.old)) (streams (R.remaining input.new) (W.contents output.new) (R.faults input.new) (W.faults output.new)) result) }
+where
+    J: Naming + Send + Sync,
+    H: AllocGlobal
+        + Net<Listener = TcpListener, Stream = TcpStream>
+        + Threads
+        + Wait
+        + Copy
+        + Send
+        + Sync,
+    R: Source,
+    W: Target,
+    E: Target,
+    requires { opened ≡ J.book }
+    ensures replayed { IfOk asked (λ words. IfReplay words (λ outbox. Plays outbox (streams (R.remaining input.old) (W.contents output.old) (R.faults input.old) (W.faults output.old)) (streams (R.remaining input.new) (W.contents output.new) (R.faults input.new) (W.faults output.new)) result)) }
     ensures quiet { OnOk asked (errors.new ≡ errors.old) }
     ensures shown { IfErr asked (λ error. IsShown (end_of_words (kind_of error)) result) }
     ensures streams { IfErr asked (λ error. OnStreams (end_of_words (kind_of error)) (output.new ≡ output.old) (errors.new ≡ errors.old)) }
     ensures input { OnErr asked (input.new ≡ input.old) }
 {
     match asked {
-        Ok(Run::Replay { outbox }) => play(alloc, input, output, outbox),
-        Err(error) => show(alloc, &error, output, errors),
+        Ok(Run::Replay { outbox }) => play(rt.alloc(), input, output, outbox),
+        Ok(Run::Serve { port, sizes }) => {
+            listen::<J, H, W>(*rt, rt.alloc(), opened, port, sizes, output)
+        }
+        Err(error) => show(rt.alloc(), &error, output, errors),
     }
 }
 

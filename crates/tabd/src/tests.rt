@@ -13,7 +13,7 @@ const REPLAYS: [(&[&str], u32); 4] = [
 /// Words that ask for no run, and why.
 const OTHERS: [(&[&str], ErrorKind); 10] = [
     (&["tabd"], ErrorKind::MissingSubcommand),
-    (&["tabd", "serve"], ErrorKind::InvalidSubcommand),
+    (&["tabd", "servo"], ErrorKind::InvalidSubcommand),
     (
         &["tabd", "replay", "--outbox", "0"],
         ErrorKind::ValueValidation,

@@ -1,53 +1,121 @@
 //! The words of the command line.
 
+ghost use Rattle.std.specs.Prelude.{◌≤◌, IfOk};
+ghost use Rattle.tabd.specs.Words.{AreInRange, AreSizes};
+
+use crate::serving::Sizes;
 use clap::error::ErrorKind;
-use clap::{Arg, ArgAction, Command, Error, value_parser};
+use clap::{Arg, ArgAction, ArgMatches, Command, Error, value_parser};
 use std::alloc::{AllocError, Global};
 use std::convert::AsStr;
 use std::io;
 use std::rt::Env;
-
-/// How many items a session's post holds where the words don't say.
-const OUTBOX: u32 = 64;
 
 /// What the words ask for.
 #[derive(Clone, Copy, Debug, PartialEq, Eq)]
 pub enum Run {
     /// Each session's post holds so many items.
     Replay { outbox: u32 },
+    /// So many connections are served on the port, where 0 lets the system choose one.
+    Serve { port: u16, sizes: Sizes },
 }
 
-fn command<'a>(alloc: Global) -> Result<Command<'a>, AllocError> {
-    let outbox = Arg::new(alloc, "outbox")
+fn outbox<'a>(alloc: Global) -> Arg<'a> {
+    Arg::new(alloc, "outbox")
         .long("outbox")
         .value_name("ITEMS")
         .help("How many items wait for a session at most, 1 to 65536; 64 where it is not given")
         .action(ArgAction::Set)
-        .value_parser(value_parser!(u32).range(1..=65_536));
+        .value_parser(value_parser!(u32).range(1..=65_536))
+}
+
+fn serve<'a>(alloc: Global) -> Result<Command<'a>, AllocError> {
+    let port = Arg::new(alloc, "port")
+        .long("port")
+        .value_name("PORT")
+        .help("The port on 127.0.0.1; 0 lets the system choose one")
+        .required(true)
+        .action(ArgAction::Set)
+        .value_parser(value_parser!(u16));
+    let connections = Arg::new(alloc, "connections")
+        .long("connections")
+        .value_name("COUNT")
+        .help("How many connections are accepted, 1 to 64")
+        .required(true)
+        .action(ArgAction::Set)
+        .value_parser(value_parser!(u32).range(1..=64));
+    let journal = Arg::new(alloc, "journal")
+        .long("journal")
+        .value_name("ENTRIES")
+        .help("How many entries the journal holds at most, 16 to 65536; 1024 where it is not given")
+        .action(ArgAction::Set)
+        .value_parser(value_parser!(u32).range(16..=65_536));
+    Command::new(alloc, "serve")
+        .about("Serves each connection to a port as a session")
+        .arg(port)?
+        .arg(connections)?
+        .arg(outbox(alloc))?
+        .arg(journal)
+}
+
+fn command<'a>(alloc: Global) -> Result<Command<'a>, AllocError> {
     let replay = Command::new(alloc, "replay")
         .about("Answers the frames of standard input on standard output")
-        .arg(outbox)?;
+        .arg(outbox(alloc))?;
     Command::new(alloc, "tabd")
         .version("0.1.0")
         .about("A server of named in-memory tables with transactions and events")
         .subcommand_required(true)
-        .subcommand(replay)
+        .subcommand(replay)?
+        .subcommand(serve(alloc)?)
 }
 
 /// What these words ask for. The first is the program's name.
-pub fn read_words<'a, S: AsStr>(alloc: Global, words: &'a [S]) -> Result<Run, Error> {
+pub fn read_words<'a, S: AsStr>(alloc: Global, words: &'a [S]) -> Result<Run, Error>
+    ensures { IfOk result AreInRange }
+{
     let matches = command(alloc)?.try_get_matches_from(words)?;
-    let outbox = match matches.subcommand_matches("replay") {
-        Some(replay) => replay.get_one("outbox"),
-        None => None,
-    };
+    if let Some(serve) = matches.subcommand_matches("serve") {
+        return Ok(Run::Serve {
+            port: serve.get_one("port").unwrap_or(0),
+            sizes: sizes(serve),
+        });
+    }
     Ok(Run::Replay {
-        outbox: outbox.unwrap_or(OUTBOX),
+        outbox: match matches.subcommand_matches("replay") {
+            Some(replay) => number(replay, "outbox", 1, 65_536, 64),
+            None => 64,
+        },
     })
 }
 
+fn sizes(matches: &ArgMatches<'_>) -> Sizes
+    ensures { AreSizes result }
+{
+    Sizes {
+        connections: number(matches, "connections", 1, 64, 1),
+        outbox: number(matches, "outbox", 1, 65_536, 64),
+        journal: number(matches, "journal", 16, 65_536, 1024),
+    }
+}
+
+/// The number of an option, which the parser has found in its range, or what stands for it where it is not given.
+fn number(matches: &ArgMatches<'_>, name: &str, least: u32, most: u32, fallback: u32) -> u32
+    requires least { least ≤ fallback }
+    requires most { fallback ≤ most }
+    ensures least { least ≤ result }
+    ensures most { result ≤ most }
+{
+    match matches.get_one(name) {
+        Some(number) if least <= number && number <= most => number,
+        _ => fallback,
+    }
+}
+
 /// What the words of this process ask for.
-pub fn asked<H: Env + AllocGlobal>(rt: &H) -> Result<Run, Error> {
+pub fn asked<H: Env + AllocGlobal>(rt: &H) -> Result<Run, Error>
+    ensures { IfOk result AreInRange }
+{
     let alloc = rt.alloc();
     match std::env::args(rt) {
         Ok(words) => {

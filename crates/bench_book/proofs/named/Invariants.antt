@@ -1,0 +1,5 @@
+use Rattle.bench_book.proofs.named.Given as goal
+
+-- the register that was just opened
+abbrev pub ghosts-measured : goal.ghosts-measured
+ghosts-measured g a = record { book = a.opened }

@@ -1,0 +1,40 @@
+-- What the threads beside the one that answers take with them may go to another thread.
+use mathlib.Core.List.{[], ◌∷◌}
+use mir.Syntax.{named}
+use denote.Ref.{ShrRef}
+use denote.Param.{copied}
+use denote.Param.Send.{IsSync, sendable, shr_send, copied_send, copied_sync}
+use denote.Param.SendFields.{declared_sync, as_row_sync}
+use Rattle.std.proofs.Crossing.{crosses, send as heap_send}
+use Rattle.tab_book.proofs.Closures.{closure_send}
+use Rattle.tab_book.proofs.Crossing.{Shared-sync}
+use Rattle.tab_book.specs.contracts.shared.Shared as shared
+use Rattle.tab_book.specs.contracts.shared.Seat as seat
+use Rattle.tab_named.proofs.Crossing.{SeatInbox-send}
+use Rattle.tab_named.specs.contracts.inbox.SeatInbox as inbox
+use Rattle.tab_server.specs.contracts.connection.Connection as connection
+use Rattle.tab_server.proofs.accepting.fn.serve_streams.scope.Goals as goal
+
+connection-sync : IsSync connection.the_row
+connection-sync = search (sendable, crosses, declared_sync, as_row_sync) depth 20
+
+seat-sync : IsSync seat.the_row
+seat-sync = search (sendable, declared_sync, as_row_sync) depth 20
+
+pub spawn-watching-requires-send-F : goal.spawn-watching-requires-send-F
+spawn-watching-requires-send-F g c κs within =
+    let H = copied 0 g.row.H in
+    let send = copied_send 0 g.row.H c.requires.1.1.0 in
+    let sync = copied_sync 0 g.row.H c.requires.1.1.1 in
+    let sent = closure_send (ShrRef (named 5) κs.1.1.1.1.1.0 connection.the_row ∷ ShrRef (named 6) κs.1.1.1.1.1.1.0 H ∷ ShrRef (named 7) κs.1.1.1.1.1.1.1.0 (shared.the_row H g.H.House g.H.Naming g.H.Wait g.H.Clone) ∷ ShrRef (named 8) κs.1.1.1.1.1.1.1.1.0 seat.the_row ∷ [])
+        (shr_send _ _ _ connection-sync, (shr_send _ _ _ sync, (shr_send _ _ _ (Shared-sync H g.H.Naming g.H.House g.H.Wait g.H.Clone send), (shr_send _ _ _ seat-sync, tt)))) in
+    record { owned = sent.owned; leaving = sent.leaving }
+
+pub spawn-sending-requires-send-F : goal.spawn-sending-requires-send-F
+spawn-sending-requires-send-F g c κs within =
+    let H = copied 0 g.row.H in
+    let send = copied_send 0 g.row.H c.requires.1.1.0 in
+    let sync = copied_sync 0 g.row.H c.requires.1.1.1 in
+    let sent = closure_send (ShrRef (named 5) κs.1.1.1.1.1.0 H ∷ _ ∷ ShrRef (named 6) κs.1.1.1.1.1.1.0 (shared.the_row H g.H.House g.H.Naming g.H.Wait g.H.Clone) ∷ ShrRef (named 7) κs.1.1.1.1.1.1.1.0 seat.the_row ∷ inbox.the_row H g.H.Naming ∷ ShrRef (named 8) κs.1.1.1.1.1.1.1.1.0 connection.the_row ∷ [])
+        (shr_send _ _ _ sync, (heap_send, (shr_send _ _ _ (Shared-sync H g.H.Naming g.H.House g.H.Wait g.H.Clone send), (shr_send _ _ _ seat-sync, (SeatInbox-send H g.H.Naming send, (shr_send _ _ _ connection-sync, tt)))))) in
+    record { owned = sent.owned; leaving = sent.leaving }

@@ -1,0 +1,23 @@
+//! The server: connections over sockets, each a session of a book that all share.
+//!
+//! Three threads serve a connection: one reads its requests and answers them, one sends it its events, and one watches its
+//! stream while a request waits for a lock. The first two share the sink, whose lock is never taken while the book's is held.
+
+#![tactic(auto)]
+
+mod accepting;
+mod answers;
+mod connection;
+mod events;
+mod gate;
+mod requests;
+mod seated;
+mod sink;
+mod watch;
+
+pub use accepting::serve;
+pub use events::event_loop;
+pub use gate::{Gate, Open};
+pub use requests::serve_session;
+pub use sink::{FrameSink, Sink};
+pub use watch::Watch;

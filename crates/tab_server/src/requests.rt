@@ -1,0 +1,142 @@
+//! The requests of one connection.
+
+use crate::answers::{Answers, Unwritten};
+use crate::gate::Gate;
+use crate::seated::Seated;
+use crate::sink::FrameSink;
+use crate::watch::Watch;
+use std::alloc::Global;
+use std::io::Write;
+use tab_book::{Seat, Shared};
+use tab_etf::{EtfFault, Frame, FrameFault, Source, Splitter, decode};
+use tab_model::{Command, Reply, Told};
+use tab_names::House;
+use tab_oneshot::{Steps, one_shot};
+use tab_proto::{ProtoFault, read_command};
+
+/// The largest piece that is read at once.
+const PIECE: usize = 65_536;
+
+/// What a session is served with.
+#[derive(Drop)]
+pub struct Served<'a, H: House, W: Write, G: Gate> {
+    pub alloc: Global,
+    pub house: &'a H,
+    pub shared: &'a Shared<H>,
+    pub seat: Seat,
+    pub watch: &'a Watch,
+    pub answers: Answers<'a, W, G>,
+}
+
+/// Answers the requests of a session in order, until its stream ends, a read or a write fails, a frame is too long or no
+/// memory is found for one. Then the session leaves.
+pub fn serve_session<H: House, R: Source, W: Write, G: Gate>(
+    house: &H,
+    alloc: Global,
+    shared: &Shared<H>,
+    seat: &Seat,
+    watch: &Watch,
+    reader: &mut R,
+    sink: &FrameSink<W>,
+    gate: &G,
+) {
+    let mut served = Served {
+        alloc,
+        house,
+        shared,
+        seat: *seat,
+        watch,
+        answers: Answers::new(alloc, sink, gate, seat.session()),
+    };
+    let _ended = served.stream(reader);
+    shared.leave(house, seat);
+    watch.stop(house);
+}
+
+impl<'a, H: House, W: Write, G: Gate> Served<'a, H, W, G> {
+    fn stream<R: Source>(&mut self, reader: &mut R) -> Result<(), Unwritten> {
+        let mut splitter = Splitter::new(self.alloc);
+        let Ok(mut piece) = vec![in self.alloc; 0u8; PIECE] else {
+            return Err(Unwritten);
+        };
+        for _ in self.house.forever() {
+            let count = reader.get(&mut piece)?;
+            if count == 0 {
+                return Ok(());
+            }
+            self.piece(&mut splitter, &piece[..count])?;
+        }
+        unreachable!()
+    }
+
+    /// Answers the frames that are whole with this piece.
+    fn piece(&mut self, splitter: &mut Splitter, piece: &[u8]) -> Result<(), Unwritten> {
+        match splitter.feed(piece) {
+            Ok(frames) => self.frames(&frames),
+            Err(FrameFault::FrameTooLong(_)) => {
+                self.frames(splitter.before_fault())?;
+                self.answers.begin();
+                self.answers.keep(self.house, &Reply::BadTerm)?;
+                self.answers.write(self.house)?;
+                Err(Unwritten)
+            }
+            Err(_) => Err(Unwritten),
+        }
+    }
+
+    fn frames(&mut self, frames: &[Frame]) -> Result<(), Unwritten> {
+        for frame in frames {
+            self.answers.begin();
+            let told = match frame {
+                Frame::Empty => Told::new(Reply::BadTerm),
+                Frame::Payload(payload) => self.payload(payload),
+            };
+            self.answers.keep(self.house, told.reply())?;
+        }
+        self.answers.write(self.house)?;
+        Ok(())
+    }
+
+    fn payload(&mut self, payload: &[u8]) -> Told {
+        let held = match decode(self.alloc, payload) {
+            Ok(held) => held,
+            Err(EtfFault::At(_, _)) => return Told::new(Reply::BadTerm),
+            Err(EtfFault::NoMemory) => return Told::new(Reply::NoMemory),
+        };
+        match read_command(self.alloc, held) {
+            Ok(command) => self.command(command),
+            Err(ProtoFault::BadCommand) => Told::new(Reply::BadCommand),
+            Err(ProtoFault::NoMemory) => Told::new(Reply::NoMemory),
+        }
+    }
+
+    /// A one-shot is run by its driver; any other command is one step, whose answer it waits for.
+    fn command(&mut self, command: Command) -> Told {
+        let alloc = self.alloc;
+        let mut seated = self.seated();
+        if matches!(command, Command::OneShot(..)) {
+            return one_shot(&mut seated, alloc, command);
+        }
+        let told = seated.step(command);
+        let waits = match &told {
+            Ok(told) => matches!(told.reply(), Reply::Waiting),
+            Err(_) => false,
+        };
+        let told = if waits {
+            seated.wait().unwrap_or(told)
+        } else {
+            told
+        };
+        told.unwrap_or_else(|_| Told::new(Reply::NoMemory))
+    }
+
+    fn seated(&mut self) -> Seated<'a, '_, H, W, G> {
+        Seated {
+            house: self.house,
+            shared: self.shared,
+            seat: self.seat,
+            watch: self.watch,
+            answers: &mut self.answers,
+        }
+    }
+}

@@ -1,0 +1,61 @@
+//! Where a connection's frames are written.
+
+ghost use Rattle.std.specs.Prelude.{◌≡◌, ◌+◌, ℕ, Bool, true, false, min, take, OnOk, OnErr, IsErr};
+ghost use Rattle.std.specs.Io.KnownBytes.{Appends};
+
+use std::io::Write;
+use std::sync::{Mutex, Wait};
+use tab_etf::{Broken, Counted, give_all};
+
+/// A device that frames are written to, until it fails.
+#[derive(Drop)]
+pub struct Sink<W> {
+    device: Counted<W>,
+    broken: bool,
+}
+
+impl<W: Write> Sink<W> {
+    pub fn new(writer: W) -> Sink<W>
+        ensures { (result.broken ≡ false) × (result.device.inner ≡ writer) × (result.device.faults ≡ 0) }
+    {
+        Sink {
+            device: Counted::new(writer),
+            broken: false,
+        }
+    }
+
+    /// Writes whole frames. Once a write has failed nothing is written any more: of the frames in which it failed a
+    /// beginning is.
+    pub fn put(&mut self, frames: &[u8]) -> Result<(), Broken>
+        ensures ok { OnOk result ((self.old.broken ≡ false) × (self.new.broken ≡ false) × Appends (W.contents self.old.device.inner) (W.contents self.new.device.inner) frames.now) }
+        ensures same { OnOk result (self.new.device.faults ≡ self.old.device.faults) }
+        ensures first { self.old.broken ≡ false → OnErr result ((self.new.broken ≡ true) × (self.new.device.faults ≡ min (self.old.device.faults + 1) u64.MAX) × ((n : ℕ) × Appends (W.contents self.old.device.inner) (W.contents self.new.device.inner) (take n frames.now))) }
+        ensures later { self.old.broken ≡ true → IsErr result × (self.new ≡ self.old) }
+    {
+        if self.broken {
+            return Err(Broken);
+        }
+        let put = give_all(&mut self.device, frames);
+        self.broken = put.is_err();
+        put
+    }
+}
+
+/// A sink that two threads share.
+#[derive(Drop)]
+pub struct FrameSink<W> {
+    sink: Mutex<Sink<W>>,
+}
+
+impl<W: Write> FrameSink<W> {
+    pub fn new(writer: W) -> FrameSink<W> {
+        FrameSink {
+            sink: Mutex::new(Sink::new(writer)),
+        }
+    }
+
+    /// Writes whole frames, which no other's come between.
+    pub fn send<R: Wait>(&self, rt: &R, frames: &[u8]) -> Result<(), Broken> {
+        self.sink.lock(rt).put(frames)
+    }
+}

@@ -1,0 +1,99 @@
+//! A run of the server.
+
+ghost use Rattle.std.specs.Prelude.{◌≡◌, ◌≤◌};
+
+use crate::Ended;
+use crate::ending::End;
+use std::alloc::{AllocError, Global};
+use std::io;
+use std::marker::PhantomData;
+use std::net::{Net, TcpListener, TcpStream};
+use std::sync::Wait;
+use std::thread::Threads;
+use tab_book::{Book, Shared};
+use tab_etf::{Target, give_all};
+use tab_model::Limits;
+use tab_names::{House, Naming, Opened};
+use tab_post::Line;
+use tab_server::{Open, serve};
+
+/// What a server is given: how many connections it accepts, how many items wait for a session, how many entries stand.
+#[derive(Clone, Copy, Debug, PartialEq, Eq)]
+pub struct Sizes {
+    pub connections: u32,
+    pub outbox: u32,
+    pub journal: u32,
+    ghost outbox_room: { 1 ≤ outbox },
+    ghost journal_room: { 1 ≤ journal },
+}
+
+const fn limits(journal: u32) -> Limits
+    ensures sessions { result.sessions ≡ 64 }
+    ensures journal { result.journal ≡ journal }
+{
+    Limits {
+        sessions: 64,
+        nesting: 16,
+        operations: 1000,
+        tables: 256,
+        ages: 9_223_372_036_854_775_807,
+        journal: journal as u64,
+    }
+}
+
+/// Listens on the port, says so, and serves until all sessions have ended.
+pub fn listen<J, R, W>(
+    rt: R,
+    alloc: Global,
+    opened: Opened<Line>,
+    port: u16,
+    sizes: Sizes,
+    output: &mut W,
+) -> End
+where
+    J: Naming + Send + Sync,
+    R: Net<Listener = TcpListener, Stream = TcpStream> + Threads + Wait + Copy + Send + Sync,
+    W: Target,
+    requires { opened ≡ J.book }
+{
+    let listener = match listening(&rt, alloc, port, output) {
+        Ok(listener) => listener,
+        Err(ended) => return End::Stopped(ended),
+    };
+    match run((rt, PhantomData::<J>), alloc, opened, &listener, sizes) {
+        Ok(Ok(())) => End::Done,
+        Ok(Err(_)) => End::Stopped(Ended::Device),
+        Err(_) => End::Stopped(Ended::NoMemory),
+    }
+}
+
+/// Says which port it is, at once, so that clients can connect.
+fn listening<R: Net<Listener = TcpListener, Stream = TcpStream>, W: Target>(
+    rt: &R,
+    alloc: Global,
+    port: u16,
+    output: &mut W,
+) -> Result<TcpListener, Ended> {
+    let listener = TcpListener::bind(rt, ("127.0.0.1", port)).map_err(|_| Ended::Device)?;
+    let address = listener.local_addr().map_err(|_| Ended::Device)?;
+    let line = format!(in alloc; "listening on 127.0.0.1:{}\n", address.port());
+    let line = line.map_err(|_| Ended::NoMemory)?;
+    give_all(output, line.as_bytes())?;
+    output.flush()?;
+    Ok(listener)
+}
+
+fn run<H: House + Threads + Send + Sync>(
+    house: H,
+    alloc: Global,
+    opened: Opened<Line>,
+    listener: &TcpListener,
+    sizes: Sizes,
+) -> Result<io::Result<()>, AllocError>
+    requires { opened ≡ H.book }
+{
+    let limits = limits(sizes.journal);
+    let book = Book::new(house, alloc, opened, limits, sizes.outbox as usize)?;
+    let shared = Shared::new(book);
+    Ok(serve(&house, alloc, listener, &shared, sizes.connections, &Open))
+}
