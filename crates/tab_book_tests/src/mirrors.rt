@@ -7,6 +7,7 @@ use crate::commands::{LIMITS, create, delete, name, subscribe, write};
 use std::alloc::{AllocError, Global};
 use std::marker::{Brand, PhantomData};
 use std::sync::Wait;
+use std::sync::atomic::{AtomicU64, Ordering};
 use std::test::*;
 use std::thread;
 use std::thread::Threads;
@@ -18,7 +19,7 @@ use tab_names::{House, Naming, Opened};
 use tab_post::Line;
 use tab_term::{Atom, Term, Terms};
 
-const KEYS: i128 = 3;
+const KEYS: u64 = 3;
 
 const EACH: u32 = 20;
 
@@ -36,9 +37,9 @@ fn commit<H: House>(
     shared.call(house, seat, Command::Begin)?;
     for _ in house.forever() {
         let command = if value % 5 == 0 {
-            delete(alloc, value % KEYS)?
+            delete(alloc, value % i128::from(KEYS))?
         } else {
-            write(alloc, value % KEYS, value)?
+            write(alloc, value % i128::from(KEYS), value)?
         };
         let told = shared.call(house, seat, command)?;
         if matches!(told.reply(), Reply::Done) {
@@ -124,7 +125,7 @@ fn is_same<H: House>(
         return Ok(false);
     };
     for key in 0..KEYS {
-        let key = Term::Int(key);
+        let key = Term::Int(i128::from(key));
         if table.at(&key) != rows.at(&key) {
             return Ok(false);
         }
@@ -132,7 +133,7 @@ fn is_same<H: House>(
     Ok(table.size() == rows.size())
 }
 
-/// Up to the last commit, items are waited for and drained in turn.
+/// Up to the last commit, items are waited for and drained in turn. Whether the mirror has the records in the end.
 fn follow<H: House>(
     house: &H,
     alloc: Global,
@@ -155,6 +156,20 @@ fn follow<H: House>(
     is_same(house, alloc, shared, &mirror)
 }
 
+/// Counts a mirror that has the records in the end.
+fn follow_all<H: House>(
+    house: &H,
+    alloc: Global,
+    shared: &Shared<H>,
+    seat: Seat,
+    mut inbox: SeatInbox<H>,
+    same: &AtomicU64,
+) {
+    if let Ok(true) = follow(house, alloc, shared, &seat, &mut inbox) {
+        same.fetch_add(1, Ordering::SeqCst);
+    }
+}
+
 /// Two sessions that commit and two that follow.
 #[derive(Clone, Copy)]
 struct Seats {
@@ -162,52 +177,37 @@ struct Seats {
     readers: (Seat, Seat),
 }
 
-fn follow_both<H: House + Threads + Send + Sync>(
-    house: &H,
-    alloc: Global,
-    shared: &Shared<H>,
-    seats: &Seats,
-    first: &mut SeatInbox<H>,
-    second: &mut SeatInbox<H>,
-) -> Result<bool, AllocError> {
-    let both = thread::join(
-        house,
-        || follow(house, alloc, shared, &seats.readers.0, first),
-        || follow(house, alloc, shared, &seats.readers.1, second),
-    );
-    Ok(both.0? && both.1?)
-}
-
-fn commit_both<H: House + Threads + Send + Sync>(
-    house: &H,
-    alloc: Global,
-    shared: &Shared<H>,
-    seats: &Seats,
-) -> Result<(), AllocError> {
-    let both = thread::join(
-        house,
-        || commit_all(house, alloc, shared, &seats.writers.0, 1),
-        || commit_all(house, alloc, shared, &seats.writers.1, 101),
-    );
-    both.0?;
-    both.1
-}
-
+/// A thread for each mirror, and two that commit. Counts the mirrors that have the records in the end.
 fn run_threads<H: House + Threads + Send + Sync>(
     house: &H,
     alloc: Global,
     shared: &Shared<H>,
-    seats: &Seats,
-    first: &mut SeatInbox<H>,
-    second: &mut SeatInbox<H>,
-) -> Result<bool, AllocError> {
-    let both = thread::join(
-        house,
-        || commit_both(house, alloc, shared, seats),
-        || follow_both(house, alloc, shared, seats, first, second),
-    );
-    both.0?;
-    both.1
+    seats: Seats,
+    first: SeatInbox<H>,
+    second: SeatInbox<H>,
+    same: &AtomicU64,
+) {
+    let (reader, next_reader) = seats.readers;
+    let (writer, other) = seats.writers;
+    thread::scope(thread::scope_env(), house, |scope| {
+        let following =
+            scope.spawn(move || follow_all(house, alloc, shared, reader, first, same));
+        if following.is_err() {
+            return;
+        }
+        let beside =
+            scope.spawn(move || follow_all(house, alloc, shared, next_reader, second, same));
+        if beside.is_err() {
+            return;
+        }
+        let writing = scope.spawn(move || {
+            let _committed = commit_all(house, alloc, shared, &other, 101);
+        });
+        if writing.is_err() {
+            return;
+        }
+        let _committed = commit_all(house, alloc, shared, &writer, 1);
+    });
 }
 
 fn run<H: House + Threads + Send + Sync>(
@@ -220,8 +220,8 @@ fn run<H: House + Threads + Send + Sync>(
     let shared = Shared::new(Book::new(house, alloc, opened, LIMITS, 64)?);
     let (writer, _inbox) = shared.join(&house).map_err(|_| "join")?;
     let (other, _other_inbox) = shared.join(&house).map_err(|_| "join")?;
-    let (reader, mut first) = shared.join(&house).map_err(|_| "join")?;
-    let (next_reader, mut second) = shared.join(&house).map_err(|_| "join")?;
+    let (reader, first) = shared.join(&house).map_err(|_| "join")?;
+    let (next_reader, second) = shared.join(&house).map_err(|_| "join")?;
     shared.call(&house, &writer, create(alloc)?)?;
     commit(&house, alloc, &shared, &writer, 2)?;
     for seat in [reader, next_reader] {
@@ -231,7 +231,9 @@ fn run<H: House + Threads + Send + Sync>(
         writers: (writer, other),
         readers: (reader, next_reader),
     };
-    Ok(run_threads(&house, alloc, &shared, &seats, &mut first, &mut second)?)
+    let same = AtomicU64::new(0);
+    run_threads(&house, alloc, &shared, seats, first, second, &same);
+    Ok(same.load(Ordering::SeqCst) == 2)
 }
 
 fn run_named<J: Naming + Send + Sync, R: Threads + Wait + Copy + Send + Sync>(

@@ -6,6 +6,7 @@ use crate::commands::{LIMITS, abort, create, read, value_in, write};
 use std::alloc::{AllocError, Global};
 use std::marker::{Brand, PhantomData};
 use std::sync::Wait;
+use std::sync::atomic::{AtomicU64, Ordering};
 use std::test::*;
 use std::thread;
 use std::thread::Threads;
@@ -14,15 +15,20 @@ use tab_model::{Command, Reply};
 use tab_names::{House, Naming, Opened};
 use tab_post::Line;
 
-/// What the session that waits is told in the end.
+/// Counts a session that waits and is told the record in the end.
 fn wait<H: House>(
     house: &H,
     alloc: Global,
     shared: &Shared<H>,
-    seat: &Seat,
-) -> Result<bool, AllocError> {
-    let told = shared.call(house, seat, read(alloc, 1)?)?;
-    Ok(value_in(told.reply()).is_some())
+    seat: Seat,
+    told: &AtomicU64,
+) {
+    if let Ok(command) = read(alloc, 1)
+        && let Ok(answer) = shared.call(house, &seat, command)
+        && value_in(answer.reply()).is_some()
+    {
+        told.fetch_add(1, Ordering::SeqCst);
+    }
 }
 
 /// Aborts once the other session waits.
@@ -44,19 +50,22 @@ fn release<H: House>(
     Ok(matches!(told.reply(), Reply::UserAbort(_)))
 }
 
+/// Whether the abort is answered.
 fn wake<H: House + Threads + Send + Sync>(
     house: &H,
     alloc: Global,
     shared: &Shared<H>,
     holder: &Seat,
-    waiter: &Seat,
-) -> Result<bool, Fail> {
-    let both = thread::join(
-        house,
-        || wait(house, alloc, shared, waiter),
-        || release(house, alloc, shared, holder, waiter),
-    );
-    Ok(both.0? && both.1?)
+    waiter: Seat,
+    told: &AtomicU64,
+) -> Result<bool, AllocError> {
+    thread::scope(thread::scope_env(), house, |scope| {
+        let waiting = scope.spawn(move || wait(house, alloc, shared, waiter, told));
+        if waiting.is_err() {
+            return Ok(false);
+        }
+        release(house, alloc, shared, holder, &waiter)
+    })
 }
 
 fn run<H: House + Threads + Send + Sync>(
@@ -77,7 +86,9 @@ fn run<H: House + Threads + Send + Sync>(
     shared.call(&house, &older, Command::Begin)?;
     shared.call(&house, &younger, Command::Begin)?;
     shared.call(&house, &younger, write(alloc, 1, 2)?)?;
-    wake(&house, alloc, &shared, &younger, &older)
+    let told = AtomicU64::new(0);
+    let aborted = wake(&house, alloc, &shared, &younger, older, &told)?;
+    Ok(aborted && told.load(Ordering::SeqCst) == 1)
 }
 
 fn run_named<J: Naming + Send + Sync, R: Threads + Wait + Copy + Send + Sync>(

@@ -10,7 +10,8 @@ use std::marker::{Brand, PhantomData};
 use std::sync::atomic::{AtomicBool, Ordering};
 use std::sync::{Mutex, Wait};
 use std::test::*;
-use std::thread::{Threads, join};
+use std::thread;
+use std::thread::Threads;
 use tab_book::{Book, Drained, Seat, Shared};
 use tab_etf::append_frame;
 use tab_fixtures::Shape::{Atom, Int, Tuple};
@@ -179,8 +180,21 @@ fn run<H: House + Threads + Send + Sync>(
         open: AtomicBool::new(false),
     };
     side_by_side(
-        &house, alloc, &shared, &writer, others, &reader, inbox, &pipe,
+        &house, alloc, &shared, &writer, others, reader, inbox, &pipe,
     )
+}
+
+/// The reader's events, over the pipe.
+fn send_events<H: House>(
+    house: &H,
+    alloc: Global,
+    shared: &Shared<H>,
+    reader: Seat,
+    mut inbox: SeatInbox<H>,
+    pipe: &Pipe,
+) {
+    let sink = FrameSink::new(Held { house, pipe });
+    event_loop(house, alloc, shared, &reader, &mut inbox, &sink);
 }
 
 fn side_by_side<H: House + Threads + Send + Sync>(
@@ -189,19 +203,17 @@ fn side_by_side<H: House + Threads + Send + Sync>(
     shared: &Shared<H>,
     writer: &Seat,
     others: SeatInbox<H>,
-    reader: &Seat,
-    mut inbox: SeatInbox<H>,
+    reader: Seat,
+    inbox: SeatInbox<H>,
     pipe: &Pipe,
 ) -> Result<bool, Fail> {
-    let (_, right) = join(
-        house,
-        move || {
-            let sink = FrameSink::new(Held { house, pipe });
-            event_loop(house, alloc, shared, reader, &mut inbox, &sink);
-        },
-        move || commit_all(house, alloc, shared, writer, others, reader, pipe),
-    );
-    right
+    thread::scope(thread::scope_env(), house, |scope| {
+        let sending = scope.spawn(move || send_events(house, alloc, shared, reader, inbox, pipe));
+        if sending.is_err() {
+            return Ok(false);
+        }
+        commit_all(house, alloc, shared, writer, others, &reader, pipe)
+    })
 }
 
 fn run_named<J: Naming + Send + Sync, R: Threads + Wait + Copy + Send + Sync>(

@@ -7,8 +7,10 @@ use std::alloc::Global;
 use std::marker::{Brand, PhantomData};
 use std::net::{Net, Shutdown, SocketAddr, TcpListener, TcpStream};
 use std::sync::Wait;
+use std::sync::atomic::{AtomicU64, Ordering};
 use std::test::*;
-use std::thread::{Threads, join};
+use std::thread;
+use std::thread::Threads;
 use tab_book::{Book, Shared};
 use tab_fixtures::Shape;
 use tab_fixtures::Shape::{Atom, Int, List, Tuple};
@@ -154,6 +156,21 @@ pub fn play<R: Net<Stream = TcpStream>>(
     Ok(None)
 }
 
+/// Counts a server that ended well.
+fn serve_all<H: House + Threads + Send + Sync, G: Gate + Sync>(
+    house: &H,
+    alloc: Global,
+    listener: &TcpListener,
+    shared: &Shared<H>,
+    count: u32,
+    gate: &G,
+    served: &AtomicU64,
+) {
+    if serve(house, alloc, listener, shared, count, gate).is_ok() {
+        served.fetch_add(1, Ordering::SeqCst);
+    }
+}
+
 /// Serves as many connections as the script needs, beside it.
 pub fn run<H, R, G>(
     house: &H,
@@ -166,22 +183,44 @@ pub fn run<H, R, G>(
 ) -> Result<Option<usize>, Fail>
 where
     H: House + Threads + Send + Sync,
-    R: Net<Listener = TcpListener, Stream = TcpStream> + Sync,
+    R: Net<Listener = TcpListener, Stream = TcpStream>,
     G: Gate + Sync,
 {
     let listener = TcpListener::bind(rt, ("127.0.0.1", 0)).map_err(|_| "bind")?;
     let address = listener.local_addr().map_err(|_| "address")?;
-    let here = &listener;
-    let (served, played) = join(
-        house,
-        move || serve(house, alloc, here, shared, count, gate).is_ok(),
-        move || play(rt, alloc, address, count as usize, script),
-    );
-    let played = played?;
-    if !served {
+    let served = AtomicU64::new(0);
+    let differs = beside(house, rt, alloc, shared, gate, count, &listener, address, script, &served)?;
+    if served.load(Ordering::SeqCst) != 1 {
         return Err("not served".into());
     }
-    Ok(played)
+    Ok(differs)
+}
+
+fn beside<H, R, G>(
+    house: &H,
+    rt: &R,
+    alloc: Global,
+    shared: &Shared<H>,
+    gate: &G,
+    count: u32,
+    listener: &TcpListener,
+    address: SocketAddr,
+    script: &[(usize, Does)],
+    served: &AtomicU64,
+) -> Result<Option<usize>, Fail>
+where
+    H: House + Threads + Send + Sync,
+    R: Net<Listener = TcpListener, Stream = TcpStream>,
+    G: Gate + Sync,
+{
+    thread::scope(thread::scope_env(), house, |scope| {
+        let serving =
+            scope.spawn(move || serve_all(house, alloc, listener, shared, count, gate, served));
+        if serving.is_err() {
+            return Err("no thread".into());
+        }
+        play(rt, alloc, address, count as usize, script)
+    })
 }
 
 fn run_named<J, R>(rt: R, alloc: Global, opened: Opened<Line>) -> Result<Option<usize>, Fail>
