@@ -2,6 +2,7 @@
 """A load on `tabd serve`, with Python's standard library alone.
 
     load.py PROGRAM              as load.py crates/tabd/out/tabd
+    load.py PROGRAM COMMITS      so many of each of the sixteen writers, 400 where it is not given
 
 Writers commit transactions, made up by a seed, and make them again where they are restarted; every fourth is a one-shot. Now
 and then a writer breaks its connection off, in the middle of a transaction or while it waits for a reply, and goes on with a
@@ -21,7 +22,10 @@ from connection import Connection
 from served import Mirror
 
 WRITERS, MIRRORS, CONNECTIONS = 16, 3, 64
-COMMITS, KEYS, SECONDS = 400, 200, 35
+KEYS = 200
+COMMITS = int(sys.argv[2]) if len(sys.argv) > 2 else 400
+# Writers stop by then.
+SECONDS = 35 + COMMITS // 10
 
 
 class Load:
@@ -156,7 +160,7 @@ def main():
     if len(sys.argv) < 2:
         sys.exit(__doc__)
     words = ["serve", "--port", "0", "--connections", str(CONNECTIONS), "--outbox", "16", "--journal", "256"]
-    server = subprocess.Popen(sys.argv[1:] + words, stdout=subprocess.PIPE, text=True)
+    server = subprocess.Popen(sys.argv[1:2] + words, stdout=subprocess.PIPE, text=True)
     load, mirrors = Load(int(server.stdout.readline().rsplit(":", 1)[1]), server), [None] * MIRRORS
     begun, spare = time.monotonic(), load.left
     table, last, late = side_by_side(load, mirrors)

@@ -2,7 +2,7 @@
 
 ghost use Rattle.std.specs.Prelude.{◌≡◌};
 
-use crate::threads::{Does, LIMITS, run};
+use crate::threads::{Does, run_with};
 use std::alloc::Global;
 use std::marker::{Brand, PhantomData};
 use std::net::{Net, TcpListener, TcpStream};
@@ -12,7 +12,6 @@ use std::test::*;
 use std::thread;
 use std::thread::Threads;
 use std::time::{Clock, Duration};
-use tab_book::{Book, Shared};
 use tab_fixtures::Shape::{Atom, List, Tuple};
 use tab_names::{Naming, Opened};
 use tab_post::Line;
@@ -67,7 +66,7 @@ const SCRIPT: [(usize, Does); 4] = [
     ),
 ];
 
-fn run_named<J, R>(rt: R, alloc: Global, opened: Opened<Line>) -> Result<Option<usize>, Fail>
+fn run_named<J, R>(rt: &R, alloc: Global, opened: Opened<Line>) -> Result<Option<usize>, Fail>
 where
     J: Naming + Send + Sync,
     R: Net<Listener = TcpListener, Stream = TcpStream>
@@ -79,13 +78,11 @@ where
         + Sync,
     requires { opened ≡ J.book }
 {
-    let house = (rt, PhantomData::<J>);
-    let shared = Shared::new(Book::new(house, alloc, opened, LIMITS, 64)?);
     let gate = Held {
-        rt,
+        rt: *rt,
         answered: AtomicBool::new(false),
     };
-    let differs = run(&house, &rt, alloc, &shared, &gate, 2, &SCRIPT)?;
+    let differs = run_with((*rt, PhantomData::<J>), rt, alloc, opened, &gate, 2, &SCRIPT)?;
     if !gate.answered.load(Ordering::SeqCst) {
         return Err("held for good".into());
     }
@@ -94,7 +91,7 @@ where
 
 #[test]
 fn connections_are_served_side_by_side(rt: HostRuntime) -> Result<(), Fail> {
-    let differs = run_named::<Brand, _>(rt, rt.alloc(), Opened::new())?;
+    let differs = run_named::<Brand, _>(&rt, rt.alloc(), Opened::new())?;
     assert_eq!(rt; differs, None);
     Ok(())
 }

@@ -172,7 +172,7 @@ fn serve_all<H: House + Threads + Send + Sync, G: Gate + Sync>(
 }
 
 /// Serves as many connections as the script needs, beside it.
-pub fn run<H, R, G>(
+fn run<H, R, G>(
     house: &H,
     rt: &R,
     alloc: Global,
@@ -194,6 +194,26 @@ where
         return Err("not served".into());
     }
     Ok(differs)
+}
+
+/// On a book of its own.
+pub fn run_with<H, R, G>(
+    house: H,
+    rt: &R,
+    alloc: Global,
+    opened: Opened<Line>,
+    gate: &G,
+    count: u32,
+    script: &[(usize, Does)],
+) -> Result<Option<usize>, Fail>
+where
+    H: House + Threads + Send + Sync,
+    R: Net<Listener = TcpListener, Stream = TcpStream>,
+    G: Gate + Sync,
+    requires { opened ≡ H.book }
+{
+    let shared = Shared::new(Book::new(house, alloc, opened, LIMITS, 64)?);
+    run(&house, rt, alloc, &shared, gate, count, script)
 }
 
 fn beside<H, R, G>(
@@ -223,20 +243,18 @@ where
     })
 }
 
-fn run_named<J, R>(rt: R, alloc: Global, opened: Opened<Line>) -> Result<Option<usize>, Fail>
+fn run_named<J, R>(rt: &R, alloc: Global, opened: Opened<Line>) -> Result<Option<usize>, Fail>
 where
     J: Naming + Send + Sync,
     R: Net<Listener = TcpListener, Stream = TcpStream> + Threads + Wait + Copy + Send + Sync,
     requires { opened ≡ J.book }
 {
-    let house = (rt, PhantomData::<J>);
-    let shared = Shared::new(Book::new(house, alloc, opened, LIMITS, 64)?);
-    run(&house, &rt, alloc, &shared, &Open, 3, &SCRIPT)
+    run_with((*rt, PhantomData::<J>), rt, alloc, opened, &Open, 3, &SCRIPT)
 }
 
 #[test]
 fn others_go_on_while_a_transaction_is_open(rt: HostRuntime) -> Result<(), Fail> {
-    let differs = run_named::<Brand, _>(rt, rt.alloc(), Opened::new())?;
+    let differs = run_named::<Brand, _>(&rt, rt.alloc(), Opened::new())?;
     assert_eq!(rt; differs, None);
     Ok(())
 }
