@@ -190,13 +190,18 @@ fn run_threads<H: House + Threads + Send + Sync>(
     let (reader, next_reader) = seats.readers;
     let (writer, other) = seats.writers;
     thread::scope(thread::scope_env(), house, |scope| {
-        let following =
-            scope.spawn(move || follow_all(house, alloc, shared, reader, first, same));
+        let following = scope.spawn(move || follow_all(house, alloc, shared, reader, first, same));
         if following.is_err() {
             return;
         }
-        let beside =
-            scope.spawn(move || follow_all(house, alloc, shared, next_reader, second, same));
+        let beside = scope.spawn(move || follow_all(
+            house,
+            alloc,
+            shared,
+            next_reader,
+            second,
+            same,
+        ));
         if beside.is_err() {
             return;
         }

@@ -16,13 +16,7 @@ use tab_names::{House, Naming, Opened};
 use tab_post::Line;
 
 /// Counts a session that waits and is told the record in the end.
-fn wait<H: House>(
-    house: &H,
-    alloc: Global,
-    shared: &Shared<H>,
-    seat: Seat,
-    told: &AtomicU64,
-) {
+fn wait<H: House>(house: &H, alloc: Global, shared: &Shared<H>, seat: Seat, told: &AtomicU64) {
     if let Ok(command) = read(alloc, 1)
         && let Ok(answer) = shared.call(house, &seat, command)
         && value_in(answer.reply()).is_some()

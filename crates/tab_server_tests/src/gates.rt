@@ -82,7 +82,15 @@ where
         rt: *rt,
         answered: AtomicBool::new(false),
     };
-    let differs = run_with((*rt, PhantomData::<J>), rt, alloc, opened, &gate, 2, &SCRIPT)?;
+    let differs = run_with(
+        (*rt, PhantomData::<J>),
+        rt,
+        alloc,
+        opened,
+        &gate,
+        2,
+        &SCRIPT,
+    )?;
     if !gate.answered.load(Ordering::SeqCst) {
         return Err("held for good".into());
     }

@@ -4,14 +4,13 @@ ghost use Rattle.std.specs.Prelude.{◌≡◌};
 
 use crate::threads::LIMITS;
 use std::alloc::Global;
-use std::io;
 use std::io::Write;
 use std::marker::{Brand, PhantomData};
 use std::sync::atomic::{AtomicBool, Ordering};
 use std::sync::{Mutex, Wait};
 use std::test::*;
-use std::thread;
 use std::thread::Threads;
+use std::{io, thread};
 use tab_book::{Book, Drained, Seat, Shared};
 use tab_etf::append_frame;
 use tab_fixtures::Shape::{Atom, Int, Tuple};

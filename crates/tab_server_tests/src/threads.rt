@@ -189,7 +189,9 @@ where
     let listener = TcpListener::bind(rt, ("127.0.0.1", 0)).map_err(|_| "bind")?;
     let address = listener.local_addr().map_err(|_| "address")?;
     let served = AtomicU64::new(0);
-    let differs = beside(house, rt, alloc, shared, gate, count, &listener, address, script, &served)?;
+    let differs = beside(
+        house, rt, alloc, shared, gate, count, &listener, address, script, &served,
+    )?;
     if served.load(Ordering::SeqCst) != 1 {
         return Err("not served".into());
     }
@@ -234,8 +236,9 @@ where
     G: Gate + Sync,
 {
     thread::scope(thread::scope_env(), house, |scope| {
-        let serving =
-            scope.spawn(move || serve_all(house, alloc, listener, shared, count, gate, served));
+        let serving = scope.spawn(move || serve_all(
+            house, alloc, listener, shared, count, gate, served,
+        ));
         if serving.is_err() {
             return Err("no thread".into());
         }
@@ -249,7 +252,15 @@ where
     R: Net<Listener = TcpListener, Stream = TcpStream> + Threads + Wait + Copy + Send + Sync,
     requires { opened ≡ J.book }
 {
-    run_with((*rt, PhantomData::<J>), rt, alloc, opened, &Open, 3, &SCRIPT)
+    run_with(
+        (*rt, PhantomData::<J>),
+        rt,
+        alloc,
+        opened,
+        &Open,
+        3,
+        &SCRIPT,
+    )
 }
 
 #[test]
