@@ -39,9 +39,10 @@ fn commit<H: House>(
     alloc: Global,
     shared: &Shared<H>,
     seat: &Seat,
-    key: i128,
+    key: u64,
 ) -> Result<(), AllocError> {
-    for command in [Command::Begin, write(alloc, key, key)?, Command::Commit] {
+    let value = i128::from(key);
+    for command in [Command::Begin, write(alloc, value, value)?, Command::Commit] {
         shared.call(house, seat, command)?;
     }
     Ok(())
@@ -56,7 +57,7 @@ fn overflow<H: House>(house: H, alloc: Global, opened: Opened<Line>) -> Result<V
     let mut seen = Vec::new(alloc);
     shared.call(&house, &writer, create(alloc)?)?;
     shared.call(&house, &reader, subscribe(alloc, false)?)?;
-    for key in 1..4 {
+    for key in 1..4u64 {
         commit(&house, alloc, &shared, &writer, key)?;
     }
     // An inbox of another session takes nothing.
@@ -65,7 +66,7 @@ fn overflow<H: House>(house: H, alloc: Global, opened: Opened<Line>) -> Result<V
     if !matches!(refused.reply(), Reply::OverflowUntold) {
         return Err("not refused".into());
     }
-    for _ in 0..4 {
+    for _ in 0..4u32 {
         seen.push(show(&shared.drained(&house, &reader, &mut inbox)))?;
     }
     shared.call(&house, &reader, subscribe(alloc, false)?)?;
