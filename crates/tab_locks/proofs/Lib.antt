@@ -9,3 +9,4 @@ pub mod Listing
 pub mod HoldAndRelease
 pub mod WithoutLast
 pub mod Standing
+pub mod Filled

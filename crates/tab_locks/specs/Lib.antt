@@ -2,4 +2,5 @@ pub mod Plain
 pub mod Questions
 pub mod Members
 pub mod Spots
+pub mod Filled
 pub mod Placed

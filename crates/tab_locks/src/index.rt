@@ -1,4 +1,4 @@
-ghost use Rattle.std.specs.Prelude.{◌≡◌, [], OnOk, OnErr, IsTrue, Some};
+ghost use Rattle.std.specs.Prelude.{◌≡◌, [], OnOk, OnErr, IsTrue, IsFalse, Some};
 ghost use Rattle.std.specs.BTreeMap.{get_by, is_at, IsOrdered};
 ghost use Rattle.std.specs.List.{list_any};
 ghost use Rattle.std.specs.Map.{remove_entry};
@@ -8,6 +8,7 @@ ghost use Rattle.tab_locks.specs.Plain.{is_write as is_write_of, lock_of};
 ghost use Rattle.tab_locks.specs.Questions.{asked};
 ghost use Rattle.tab_locks.specs.Members.{HasMore, SameMembers, Drops};
 ghost use Rattle.tab_locks.specs.Spots.{locks_in, stands_at};
+ghost use Rattle.tab_locks.specs.Filled.{HasNoneEmpty};
 ghost use Rattle.tab_term.specs.Order.{bytes_cmp};
 
 use crate::on_table::OnTable;
@@ -26,10 +27,10 @@ pub(crate) struct Index {
 
 impl Model for Index {
     ghost use Rattle.std.specs.Prelude.{List};
-    ghost use Rattle.std.specs.BTreeMap.{IsOrdered};
     ghost use Rattle.std.specs.Coded.{codes};
     ghost use Rattle.tab_term.specs.Code.{term_code};
     ghost use Rattle.tab_model.specs.Ages.{Owned};
+    ghost use Rattle.tab_locks.specs.Filled.{IsPruned};
     ghost use Rattle.tab_locks.specs.Spots.{locks_in};
     ghost use Rattle.tab_term.specs.Order.{bytes_cmp};
 
@@ -39,7 +40,7 @@ impl Model for Index {
 
     ghost view = { λ a. locks_in a.tables.entries };
 
-    ghost invariant = { λ a. IsOrdered bytes_cmp a.tables };
+    ghost invariant = { λ a. IsPruned bytes_cmp a.tables };
 }
 
 impl Index {
@@ -101,8 +102,11 @@ impl Index {
 
 /// Takes an owner away from the table and part of a lock, and says whether that was the last one on the table.
 fn take(tables: &mut BTreeMap<Atom, OnTable>, age: u64, lock: &Lock) -> bool
+    requires { HasNoneEmpty tables.old.entries }
     ensures dropped { Drops (stands_at age (lock_of lock.now)) (locks_in tables.old.entries) (locks_in tables.new.entries) }
     ensures bare { IsTrue result → get_by (bytes_cmp lock.now.table) tables.new ≡ Some [] }
+    ensures filled { IsFalse result → HasNoneEmpty tables.new.entries }
+    ensures others { HasNoneEmpty (remove_entry (is_at (bytes_cmp lock.now.table)) tables.new.entries) }
     ensures ordered { IsOrdered bytes_cmp tables.new }
 {
     match tables.get_mut(&lock.table) {

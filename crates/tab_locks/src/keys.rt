@@ -1,4 +1,4 @@
-ghost use Rattle.std.specs.Prelude.{◌≡◌, ◌&&◌, [], OnOk, OnErr, IsTrue, Some, true};
+ghost use Rattle.std.specs.Prelude.{◌≡◌, ◌&&◌, [], OnOk, OnErr, IsTrue, IsFalse, Some, true};
 ghost use Rattle.std.specs.BTreeMap.{get_by, is_at, values, IsOrdered};
 ghost use Rattle.std.specs.List.{list_any};
 ghost use Rattle.std.specs.Map.{remove_entry};
@@ -7,6 +7,7 @@ ghost use Rattle.tab_term.specs.View.{term};
 ghost use Rattle.tab_locks.specs.Questions.{fits};
 ghost use Rattle.tab_locks.specs.Members.{HasMore, SameMembers, Drops};
 ghost use Rattle.tab_locks.specs.Spots.{key_spots, stands_on_key};
+ghost use Rattle.tab_locks.specs.Filled.{HasNoneEmpty};
 ghost use Rattle.tab_term.specs.Order.{term_cmp};
 
 use crate::holders::Holders;
@@ -24,9 +25,9 @@ pub(crate) struct Keys {
 
 impl Model for Keys {
     ghost use Rattle.std.specs.Prelude.{List};
-    ghost use Rattle.std.specs.BTreeMap.{IsOrdered};
     ghost use Rattle.std.specs.Coded.{codes};
     ghost use Rattle.tab_term.specs.Code.{term_code};
+    ghost use Rattle.tab_locks.specs.Filled.{IsPruned};
     ghost use Rattle.tab_locks.specs.Spots.{KeySpot, key_spots};
     ghost use Rattle.tab_term.specs.Order.{term_cmp};
 
@@ -36,7 +37,7 @@ impl Model for Keys {
 
     ghost view = { λ a. key_spots a.holders.entries };
 
-    ghost invariant = { λ a. IsOrdered term_cmp a.holders };
+    ghost invariant = { λ a. IsPruned term_cmp a.holders };
 }
 
 impl Keys {
@@ -115,8 +116,11 @@ fn is_any_occupied(holders: &BTreeMap<Term, Holders>) -> bool
 
 /// Takes an owner away from a key, and says whether that was the last one.
 fn take(holders: &mut BTreeMap<Term, Holders>, key: &Term, age: u64, write: bool) -> bool
+    requires { HasNoneEmpty holders.old.entries }
     ensures dropped { Drops (stands_on_key (term key.now) (age, write)) (key_spots holders.old.entries) (key_spots holders.new.entries) }
     ensures bare { IsTrue result → get_by (term_cmp key.now) holders.new ≡ Some [] }
+    ensures filled { IsFalse result → HasNoneEmpty holders.new.entries }
+    ensures others { HasNoneEmpty (remove_entry (is_at (term_cmp key.now)) holders.new.entries) }
     ensures ordered { IsOrdered term_cmp holders.new }
 {
     match holders.get_mut(key) {

@@ -27,7 +27,7 @@ impl<K: Abbreviate, V> Model for Entry<K, V> {
 }
 
 impl<K: Abbreviate + Drop, V: Drop> Entry<K, V> {
-    pub fn new(alloc: Global, pair: (K, V)) -> Result<Entry<K, V>, AllocError>
+    pub(crate) fn new(alloc: Global, pair: (K, V)) -> Result<Entry<K, V>, AllocError>
         ensures { IfOk result (λ e. e ≡ pair) }
     {
         let abbreviation = pair.0.abbreviated();
@@ -38,7 +38,7 @@ impl<K: Abbreviate + Drop, V: Drop> Entry<K, V> {
     }
 
     /// The same entry. It allocates nothing: the error is a count of owners that is full, at 2^63.
-    pub fn try_clone(&self) -> Result<Entry<K, V>, AllocError>
+    pub(crate) fn try_clone(&self) -> Result<Entry<K, V>, AllocError>
         ensures { IfOk result (λ e. e ≡ self.now) }
     {
         Ok(Entry {
@@ -47,6 +47,7 @@ impl<K: Abbreviate + Drop, V: Drop> Entry<K, V> {
         })
     }
 
+    /// The key and its value.
     pub fn pair(&self) -> &(K, V)
         ensures { result.now ≡ self.now }
     {
@@ -54,7 +55,7 @@ impl<K: Abbreviate + Drop, V: Drop> Entry<K, V> {
     }
 
     /// Gives the entry this key and what becomes of its value, in place where no other map holds it.
-    pub fn revise<R: Revise<V> + Drop>(
+    pub(crate) fn revise<R: Revise<V> + Drop>(
         &mut self,
         alloc: Global,
         key: K,
@@ -78,7 +79,7 @@ impl<K: Abbreviate + Drop, V: Drop> Entry<K, V> {
     }
 
     /// The entry's key, to be sought among other entries.
-    pub fn sought<'a>(&'a self) -> Sought<'a, K>
+    pub(crate) fn sought<'a>(&'a self) -> Sought<'a, K>
         ensures { result ≡ self.now.0 }
     {
         Sought {
@@ -106,7 +107,7 @@ impl<'a, K: Abbreviate> Model for Sought<'a, K> {
 }
 
 impl<'a, K: Abbreviate + Drop> Sought<'a, K> {
-    pub fn new(key: &'a K) -> Sought<'a, K>
+    pub(crate) fn new(key: &'a K) -> Sought<'a, K>
         ensures { result ≡ key.now }
     {
         Sought {
@@ -116,7 +117,7 @@ impl<'a, K: Abbreviate + Drop> Sought<'a, K> {
     }
 
     /// Where the key stands against the entry's. The keys are compared only where their numbers tie.
-    pub fn order<V: Drop>(&self, entry: &Entry<K, V>) -> Ordering
+    pub(crate) fn order<V: Drop>(&self, entry: &Entry<K, V>) -> Ordering
         ensures { result ≡ K.cmp self.now entry.now.0 }
     {
         if self.abbreviation < entry.abbreviation {

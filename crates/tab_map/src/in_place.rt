@@ -1,12 +1,14 @@
 //! Changes in place: a node that no other map shares is written, and one that is shared is copied first. Entries are
 //! put in here; `removal` takes them out.
-ghost use Rattle.std.specs.Prelude.{◌≤◌, length, ◌≡◌, OnOk, OnErr};
-ghost use Rattle.tab_map.specs.Entries.{Ascends, insert_entry, remove_entry};
+ghost use Rattle.std.specs.Prelude.{◌≤◌, length, ◌≡◌, IfOk, OnOk, OnErr};
+ghost use Rattle.std.specs.Option.{option_map};
+ghost use Rattle.tab_map.specs.Entries.{Ascends, insert_entry, lookup, remove_entry};
 ghost use Rattle.tab_map.specs.InOrder.{node_entries};
 
 use crate::entry::{Entry, Sought};
 use crate::{Map, Node, Tree, branches, row};
 use std::alloc::{AllocError, Global};
+use std::mem;
 use std::sync::Arc;
 use tab_key::Abbreviate;
 
@@ -17,10 +19,25 @@ impl<K: Abbreviate + Drop, V: Drop> Map<K, V> {
         ensures ok { OnOk result (self.new ≡ insert_entry K.cmp (key, value) self.old) }
         ensures err { OnErr result (self.new ≡ self.old) }
     {
-        let entry = Entry::new(alloc, (key, value))?;
-        self.put(alloc, entry)?;
-        self.grow(alloc);
+        self.replace(alloc, key, value)?;
         Ok(())
+    }
+
+    /// Puts this value at the key as `insert` does, and hands back the entry that stood there.
+    pub fn replace(
+        &mut self,
+        alloc: Global,
+        key: K,
+        value: V,
+    ) -> Result<Option<Entry<K, V>>, AllocError>
+        ensures ok { OnOk result (self.new ≡ insert_entry K.cmp (key, value) self.old) }
+        ensures replaced { IfOk result (λ o. option_map (λ e. e.1) o ≡ lookup K.cmp key self.old) }
+        ensures err { OnErr result (self.new ≡ self.old) }
+    {
+        let entry = Entry::new(alloc, (key, value))?;
+        let replaced = self.put(alloc, entry)?;
+        self.grow(alloc);
+        Ok(replaced)
     }
 
     /// Takes the entry at the key out. It allocates where it copies a shared node.
@@ -32,8 +49,9 @@ impl<K: Abbreviate + Drop, V: Drop> Map<K, V> {
     }
 
     #[cycle(put)]
-    fn put(&mut self, alloc: Global, entry: Entry<K, V>) -> Result<(), AllocError>
+    fn put(&mut self, alloc: Global, entry: Entry<K, V>) -> Result<Option<Entry<K, V>>, AllocError>
         ensures ok { OnOk result (self.new ≡ insert_entry K.cmp entry self.old) }
+        ensures replaced { IfOk result (λ o. option_map (λ e. e.1) o ≡ lookup K.cmp entry.0 self.old) }
         ensures err { OnErr result (self.new ≡ self.old) }
     {
         match &mut self.root {
@@ -41,42 +59,48 @@ impl<K: Abbreviate + Drop, V: Drop> Map<K, V> {
                 let mut items = Vec::new(alloc);
                 items.push(entry)?;
                 self.root = Tree::Leaf(Arc::new(alloc, items)?);
+                Ok(None)
             }
-            Tree::Leaf(items) => Map::put_in_row(alloc, items, entry)?,
+            Tree::Leaf(items) => {
+                let replaced = Map::put_in_row(alloc, items, entry)?;
+                Ok(replaced)
+            }
             Tree::Node(node) => {
                 Map::own(alloc, node)?;
                 let Some(node) = Arc::get_mut(node) else {
                     return Err(AllocError);
                 };
-                Map::put_under(alloc, node, entry)?;
+                let replaced = Map::put_under(alloc, node, entry)?;
+                Ok(replaced)
             }
         }
-        Ok(())
     }
 
     #[cycle(put)]
-    fn put_under(alloc: Global, node: &mut Node<K, V>, entry: Entry<K, V>) -> Result<(), AllocError>
+    fn put_under(
+        alloc: Global,
+        node: &mut Node<K, V>,
+        entry: Entry<K, V>,
+    ) -> Result<Option<Entry<K, V>>, AllocError>
         requires { Ascends K.cmp (node_entries node.old) }
         ensures ok { OnOk result (node_entries node.new ≡ insert_entry K.cmp entry (node_entries node.old)) }
+        ensures replaced { IfOk result (λ o. option_map (λ e. e.1) o ≡ lookup K.cmp entry.0 (node_entries node.old)) }
         ensures err { OnErr result (node_entries node.new ≡ node_entries node.old) }
         ensures kept { length node.old.branches.items ≤ length node.new.branches.items }
     {
         let found = branches::place(&node.branches, &entry.sought());
         match found {
-            Ok(n) => {
-                node.branches[n].entry = entry;
-                Ok(())
-            }
+            Ok(n) => Ok(Some(mem::replace(&mut node.branches[n].entry, entry))),
             Err(n) => match node.branches.get_mut(n) {
                 Some(branch) => {
-                    branch.below.put(alloc, entry)?;
+                    let replaced = branch.below.put(alloc, entry)?;
                     node.split(alloc, n);
-                    Ok(())
+                    Ok(replaced)
                 }
                 None => {
-                    node.last.put(alloc, entry)?;
+                    let replaced = node.last.put(alloc, entry)?;
                     node.split(alloc, n);
-                    Ok(())
+                    Ok(replaced)
                 }
             },
         }
@@ -86,9 +110,10 @@ impl<K: Abbreviate + Drop, V: Drop> Map<K, V> {
         alloc: Global,
         items: &mut Arc<Vec<Entry<K, V>>, Global>,
         entry: Entry<K, V>,
-    ) -> Result<(), AllocError>
+    ) -> Result<Option<Entry<K, V>>, AllocError>
         requires { Ascends K.cmp items.old.value.items }
         ensures ok { OnOk result (items.new.value.items ≡ insert_entry K.cmp entry items.old.value.items) }
+        ensures replaced { IfOk result (λ o. option_map (λ e. e.1) o ≡ lookup K.cmp entry.0 items.old.value.items) }
         ensures err { OnErr result (items.new.value.items ≡ items.old.value.items) }
     {
         Map::own_items(alloc, items)?;

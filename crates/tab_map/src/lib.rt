@@ -18,13 +18,15 @@ mod entry;
 mod in_place;
 mod iter;
 mod merge;
+mod nodes;
 mod removal;
 mod revision;
 mod row;
 mod set;
 mod split;
 
-use entry::{Entry, Sought};
+pub use entry::Entry;
+use entry::Sought;
 pub use iter::Iter;
 pub use revision::Revise;
 pub use set::{Keys, Set};

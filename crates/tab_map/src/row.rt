@@ -1,6 +1,6 @@
 //! Up to a few dozen entries in a row, which the leaves of a tree hold.
 ghost use Rattle.std.specs.Prelude.{◌≡◌, ◌≤◌, ◌<◌, IfOk, IfErr, OnOk, OnErr, length, slice_get};
-ghost use Rattle.std.specs.Option.{option_copied};
+ghost use Rattle.std.specs.Option.{option_copied, option_map};
 ghost use Rattle.std.specs.Ordering.{ordering_reverse};
 ghost use Rattle.tab_map.specs.Entries.{Ascends, lookup, insert_entry, remove_entry, entries_from, entries_above};
 ghost use Rattle.tab_map.specs.Places.{HasAt, IsGap};
@@ -10,6 +10,7 @@ use crate::entry::{Entry, Sought};
 use crate::revision::Revise;
 use std::alloc::{AllocError, Global};
 use std::cmp::Ordering;
+use std::mem;
 use tab_key::Abbreviate;
 
 /// The most entries in a row. A search in it touches few lines of memory, and a copy of it is short.
@@ -84,17 +85,20 @@ pub fn first_above<'a, K: Abbreviate + Drop, V: Drop>(
 pub fn put<K: Abbreviate + Drop, V: Drop>(
     items: &mut Vec<Entry<K, V>>,
     entry: Entry<K, V>,
-) -> Result<(), AllocError>
+) -> Result<Option<Entry<K, V>>, AllocError>
     requires { Ascends K.cmp items.old.items }
     ensures ok { OnOk result (items.new.items ≡ insert_entry K.cmp entry items.old.items) }
+    ensures replaced { IfOk result (λ o. option_map (λ e. e.1) o ≡ lookup K.cmp entry.0 items.old.items) }
     ensures err { OnErr result (items.new.items ≡ items.old.items) }
 {
     let found = place(items, &entry.sought());
     match found {
-        Ok(n) => items[n] = entry,
-        Err(n) => items.insert(n, entry)?,
+        Ok(n) => Ok(Some(mem::replace(&mut items[n], entry))),
+        Err(n) => {
+            items.insert(n, entry)?;
+            Ok(None)
+        }
     }
-    Ok(())
 }
 
 pub fn revise<K: Abbreviate + Drop, V: Drop, R: Revise<V> + Drop>(

@@ -6,6 +6,9 @@ use std::alloc::{AllocError, Global};
 use std::test::Fail;
 use tab_map::Map;
 
+// Of a thousand entries: rows of 8 entries each, a quarter of the nodes above them for every four, and the root.
+const NODES_OF_A_THOUSAND: usize = 125 * 4 / 3 + 2;
+
 // The same map, built at once.
 fn built_again(alloc: Global, map: &Map<u32, ()>) -> Result<Map<u32, ()>, AllocError>
     ensures { IfOk result (λ again. again ≡ map.now) }
@@ -54,7 +57,11 @@ fn changes_in_place(rt: HostRuntime) -> Result<(), Fail> {
             map.insert(rt.alloc(), order(n), ())?;
         }
         let kept = map.share()?;
-        for n in 0..100_000u32 {
+        for n in 0..99_000u32 {
+            map.remove(rt.alloc(), &order(n))?;
+        }
+        assert!(rt; map.nodes() < NODES_OF_A_THOUSAND, "{} nodes", map.nodes());
+        for n in 99_000..100_000u32 {
             map.remove(rt.alloc(), &order(n))?;
         }
         assert!(rt; map.is_empty());

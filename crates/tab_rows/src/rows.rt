@@ -2,6 +2,8 @@ ghost use Rattle.std.specs.Prelude.{◌≡◌, ◌≤◌, ◌+◌, [], ◌∷◌
 ghost use Rattle.std.specs.List.{list_any};
 ghost use Rattle.tab_model.specs.declared.data.Kind.TheVariants as Kind;
 ghost use Rattle.tab_term.specs.Same.{same};
+ghost use Rattle.tab_map.specs.Entries.{insert_entry};
+ghost use Rattle.tab_term.specs.Order.{term_cmp};
 ghost use Rattle.tab_term.specs.View.{term, terms};
 ghost use Rattle.tab_model.specs.Names.{plain_terms, terms_list};
 ghost use Rattle.tab_model.specs.Tables.{at, key as key_of_row, put as put_in, delete as delete_in, delete_object as delete_object_in, keys as keys_of_rows};
@@ -150,10 +152,10 @@ impl Rows {
         ensures ok { OnOk result (self.new ≡ (self.old.0, put_in self.old.0 self.old.1 (term row))) }
         ensures err { OnErr result (self.new ≡ self.old) }
     {
-        let size = one_more(self.size - self.count_at(&key))?;
+        let size = one_more(self.size)?;
         let records = only(alloc, row)?;
-        self.records.insert(alloc, key, records)?;
-        self.size = size;
+        let before = replace(&mut self.records, alloc, key, records)?;
+        self.size = size - before;
         Ok(())
     }
 
@@ -216,6 +218,25 @@ impl Rows {
         self.records.insert(alloc, key, left)?;
         self.size = size;
         Ok(())
+    }
+}
+
+// Puts these records at the key, and tells how many stood there: one search for both.
+fn replace(
+    by_key: &mut Map<Term, Terms>,
+    alloc: Global,
+    key: Term,
+    records: Terms,
+) -> Result<usize, AllocError>
+    requires { IsInOrder by_key.old }
+    ensures ok { OnOk result (by_key.new ≡ insert_entry term_cmp (key, records) by_key.old) }
+    ensures count { IfOk result (λ n. n ≡ length (at (joined by_key.old) (term key))) }
+    ensures within { IfOk result (λ n. n ≤ length (joined by_key.old)) }
+    ensures err { OnErr result (by_key.new ≡ by_key.old) }
+{
+    match by_key.replace(alloc, key, records)? {
+        Some(entry) => Ok(entry.pair().1.as_slice().len()),
+        None => Ok(0),
     }
 }
 

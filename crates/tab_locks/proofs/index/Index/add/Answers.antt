@@ -1,4 +1,4 @@
-use Rattle.std.proofs.Common.{sym, ap, ◌∙◌, subst, ℕ, List, Bool}
+use Rattle.std.proofs.Common.{true, sym, ap, ◌∙◌, subst, ℕ, List, Bool}
 use Rattle.std.specs.Option.{option_copied_mut}
 use Rattle.std.specs.BTreeMap.{BTreeMap, insert_entry}
 use Rattle.std.proofs.lemmas.Result.{on_ok_weaker, on_err_weaker}
@@ -10,6 +10,10 @@ use Rattle.tab_locks.specs.Spots.{Spot, locks_in}
 use Rattle.tab_locks.proofs.TableLocks.{more_in, same_in, new_in}
 use Rattle.tab_locks.proofs.index.Index.add.Goals as goal
 use Rattle.tab_term.specs.Order.{bytes_cmp}
+use Rattle.tab_locks.specs.Filled.{HasNoneEmpty}
+use Rattle.tab_locks.proofs.Filled.{filled_found, filled_grown, filled_written, filled_after}
+use Rattle.std.specs.BTreeMap.{is_at}
+use Rattle.std.specs.Map.{lookup}
 
 pub returns-in-Some-clause-ok : goal.returns-in-Some-clause-ok
 returns-in-Some-clause-ok c =
@@ -45,3 +49,25 @@ returns-in_ok-insert-in-None-clause-ok c =
     let more = new_in l.table c.in_ok-try_clone-in-None.field-0 (part_of l.what, (c.args.age, c.is_write-write.result)) only es new c.in_ok-try_clone-in-None.ensures missing
     (c.in_ok-insert-in-None.ensures.entries ∙ at_none) c.in_ok-only-in-None.ensures in
     subst (λ (b : Bool). before c.args.self.now b) c.is_write-write.ensures (subst (λ (v : List Owned). before v c.is_write-write.result) c.self.view_is more)
+
+pub invariant_of-self : goal.invariant_of-self
+invariant_of-self c =
+    let w = c.add.new.self in
+    let es = c.self.inside.tables.entries in
+    let found = sym (ap option_copied_mut (sym c.in-Some.is) ∙ c.get_mut.ensures.value) in
+    let was = filled_found (is_at (bytes_cmp c.args.lock.now.table)) es c.in-Some.spots.now found c.self.invariant.filled in
+    let one = filled_grown c.add.result (part_of c.args.lock.now.what, (c.args.age, c.is_write-write.result)) c.in-Some.spots.now w was c.add.ensures.ok c.add.ensures.err in
+    record {
+      ordered = (c.get_mut.follows.holds w).4;
+      filled = filled_written (is_at (bytes_cmp c.args.lock.now.table)) w es (c.get_mut.follows.lender w).entries (c.get_mut.follows.holds w).0 c.self.invariant.filled one;
+    }
+
+pub invariant_of-self-in-None : goal.invariant_of-self-in-None
+invariant_of-self-in-None c =
+    let same = c.get_mut.follows.holds-at-none in
+    let only = c.in_ok-only-in-None.only in
+    record {
+      ordered = c.insert.ensures.ordered;
+      filled = filled_after bytes_cmp c.in_ok-try_clone-in-None.field-0 only c.get_mut.follows.lender-at-none.entries c.insert.new.self.entries c.insert.result c.insert.ensures.entries c.insert.ensures.err
+          (subst (λ (m : BTreeMap (List ℕ) (List Spot)). HasNoneEmpty m.entries) (sym same) c.self.invariant.filled) (c.in_ok-only-in-None.ensures (λ y. true));
+    }

@@ -16,7 +16,7 @@ returns-in-Some c =
     let write = c.is_write.result in
     c.any.ensures
     ∙ ap (found_any (list_any (λ s. reaches r part s.0 && fits r (c.args.age, write) s.1))) (ap option_copied (sym c.in-Some.is) ∙ c.get.ensures.value)
-    ∙ sym (asked_at r c.args.age write l.table part c.self.inside.tables.entries c.self.invariant)
+    ∙ sym (asked_at r c.args.age write l.table part c.self.inside.tables.entries c.self.invariant.ordered)
     ∙ (λ i. list_any (asked r (c.args.age, lock l.table part (c.is_write.ensures i))) (c.self.view_is i))
 
 pub returns-in-None : goal.returns-in-None
@@ -26,5 +26,5 @@ returns-in-None c =
     let part = part_of l.what in
     let write = c.is_write.result in
     ap (found_any (list_any (λ s. reaches r part s.0 && fits r (c.args.age, write) s.1))) (ap option_copied (sym c.in-None.is) ∙ c.get.ensures.value)
-    ∙ sym (asked_at r c.args.age write l.table part c.self.inside.tables.entries c.self.invariant)
+    ∙ sym (asked_at r c.args.age write l.table part c.self.inside.tables.entries c.self.invariant.ordered)
     ∙ (λ i. list_any (asked r (c.args.age, lock l.table part (c.is_write.ensures i))) (c.self.view_is i))

@@ -1,4 +1,4 @@
-use Rattle.std.proofs.Common.{sym, ap, ◌∙◌, subst, List}
+use Rattle.std.proofs.Common.{true, sym, ap, ◌∙◌, subst, List}
 use Rattle.std.specs.Option.{option_copied_mut}
 use Rattle.std.proofs.lemmas.Result.{on_ok_weaker, on_err_weaker}
 use Rattle.std.specs.BTreeMap.{BTreeMap, insert_entry}
@@ -9,6 +9,11 @@ use Rattle.tab_locks.specs.Spots.{Holding, KeySpot, key_spots}
 use Rattle.tab_locks.proofs.KeySpots.{more_at, same_at, new_at}
 use Rattle.tab_locks.proofs.keys.Keys.add.Goals as goal
 use Rattle.tab_term.specs.Order.{term_cmp}
+use Rattle.tab_locks.specs.Filled.{HasNoneEmpty}
+use Rattle.tab_locks.proofs.Filled.{filled_found, filled_grown, filled_written, filled_after}
+use Rattle.std.specs.List.{list_any}
+use Rattle.std.specs.BTreeMap.{is_at}
+use Rattle.std.specs.Map.{lookup}
 
 pub returns-in-Some-clause-ok : goal.returns-in-Some-clause-ok
 returns-in-Some-clause-ok c =
@@ -40,3 +45,25 @@ returns-in_ok-insert-in-None-clause-ok c =
     let at_none = ap (λ (m : BTreeMap Term (List Holding)). insert_entry term_cmp m.entries c.in_ok-try_clone-in-None.field-0 only) c.get_mut.follows.holds-at-none in
     subst P c.self.view_is (new_at c.args.key.now c.in_ok-try_clone-in-None.field-0 (c.args.age, c.args.write) only es new c.in_ok-try_clone-in-None.ensures missing
     (c.in_ok-insert-in-None.ensures.entries ∙ at_none) c.in_ok-only-in-None.ensures)
+
+pub invariant_of-self : goal.invariant_of-self
+invariant_of-self c =
+    let w = c.add.new.self in
+    let es = c.self.inside.holders.entries in
+    let found = sym (ap option_copied_mut (sym c.in-Some.is) ∙ c.get_mut.ensures.value) in
+    let was = filled_found (is_at (term_cmp c.args.key.now)) es c.in-Some.holders.now found c.self.invariant.filled in
+    let one = filled_grown c.add.result (c.args.age, c.args.write) c.in-Some.holders.now w was c.add.ensures.ok (on_err_weaker c.add.result (λ same p. ap (list_any p) same) c.add.ensures.err) in
+    record {
+      ordered = (c.get_mut.follows.holds w).4;
+      filled = filled_written (is_at (term_cmp c.args.key.now)) w es (c.get_mut.follows.lender w).entries (c.get_mut.follows.holds w).0 c.self.invariant.filled one;
+    }
+
+pub invariant_of-self-in-None : goal.invariant_of-self-in-None
+invariant_of-self-in-None c =
+    let same = c.get_mut.follows.holds-at-none in
+    let only = c.in_ok-only-in-None.only in
+    record {
+      ordered = c.insert.ensures.ordered;
+      filled = filled_after term_cmp c.in_ok-try_clone-in-None.field-0 only c.get_mut.follows.lender-at-none.entries c.insert.new.self.entries c.insert.result c.insert.ensures.entries c.insert.ensures.err
+          (subst (λ (m : BTreeMap Term (List Holding)). HasNoneEmpty m.entries) (sym same) c.self.invariant.filled) (c.in_ok-only-in-None.ensures (λ y. true));
+    }
