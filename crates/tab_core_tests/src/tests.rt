@@ -68,7 +68,7 @@ enum Told {
 }
 
 /// One core after another, each with the steps of one session and what it is told.
-const SCRIPTS: [&[(u32, Asks, Told)]; 4] = [
+static SCRIPTS: [&[(u32, Asks, Told)]; 4] = [
     &[
         (1, Asks::Join, Told::Done),
         (1, Asks::Create("t"), Told::AtomicOk),
@@ -139,7 +139,7 @@ const SCRIPTS: [&[(u32, Asks, Told)]; 4] = [
 ];
 
 /// Two sessions: one waits for the other, which is restarted; a child is aborted; a session leaves with its locks.
-const TWO_SESSIONS: [(u32, Asks, Told); 35] = [
+static TWO_SESSIONS: [(u32, Asks, Told); 35] = [
     (1, Asks::Join, Told::Done),
     (2, Asks::Join, Told::Done),
     (3, Asks::Join, Told::Limit(Limit::Sessions)),
@@ -178,7 +178,7 @@ const TWO_SESSIONS: [(u32, Asks, Told); 35] = [
 ];
 
 /// Session 2 watches what session 1 commits, with a post of two items.
-const WATCHED: [(u32, Asks, Told); 40] = [
+static WATCHED: [(u32, Asks, Told); 40] = [
     (1, Asks::Join, Told::Done),
     (2, Asks::Join, Told::Done),
     (1, Asks::Create("t"), Told::AtomicOk),

@@ -17,7 +17,7 @@ enum Answer {
 use Answer::{Refused, Written};
 
 /// Payloads as hexadecimal digits, `63*6801` for two bytes 63 times, and what a program that shares no code with this one answers.
-const PAYLOADS: [(&str, Answer); 50] = [
+static PAYLOADS: [(&str, Answer); 50] = [
     ("", Refused(Fault::Truncated, 0)),
     ("82 61 01", Refused(Fault::Version, 0)),
     ("83 62 00 00", Refused(Fault::Truncated, 4)),
@@ -89,7 +89,7 @@ const PAYLOADS: [(&str, Answer); 50] = [
 ];
 
 /// Maps: the first six from that program, the others by hand.
-const MAPS: [(&str, Answer); 15] = [
+static MAPS: [(&str, Answer); 15] = [
     (
         "83 74 00000002 770162 6102 770161 6101",
         Written("83 74 00000002 770161 6101 770162 6102"),

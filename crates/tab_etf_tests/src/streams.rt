@@ -8,7 +8,7 @@ use tab_etf::{
 use tab_fixtures::{Device, bytes};
 
 /// Frames of terms.
-const FRAMES: [&str; 7] = [
+static FRAMES: [&str; 7] = [
     "0000000E 83 6802 7705 7265706C79 7702 6F6B",
     "00000018 83 6802 6101 6802 7705 7772697465 6803 7701 74 6101 7701 61",
     "0000000E 83 6802 6101 6802 7703 746964 6101",

@@ -25,7 +25,7 @@ enum Shape {
 }
 
 /// Ascending by the bytes of their spellings, as a program in another language spelled and sorted them.
-const TABLE: [Shape; 60] = [
+static TABLE: [Shape; 60] = [
     Shape::Int(0),
     Shape::Int(1),
     Shape::Int(255),
@@ -199,7 +199,7 @@ fn atoms_have_at_most_255_characters(rt: HostRuntime) {
 }
 
 /// A pattern, a term, whether it fits, and whether the pattern has a wildcard.
-const PATTERNS: [(Shape, Shape, bool, bool); 11] = [
+static PATTERNS: [(Shape, Shape, bool, bool); 11] = [
     (Shape::Atom("_", 1), Shape::List(3, 7), true, true),
     (Shape::Atom("_", 2), Shape::Atom("_", 1), false, false),
     (Shape::Atom("a", 1), Shape::Atom("a", 1), true, false),
@@ -225,7 +225,7 @@ fn patterns_match(rt: HostRuntime) {
 }
 
 /// A term, its depth, and its number: the tag of the spelling, and what comes next.
-const NUMBERS: [(Shape, u64, u64); 11] = [
+static NUMBERS: [(Shape, u64, u64); 11] = [
     (Shape::Int(7), 1, 0x0061_0000_0000_0007),
     (Shape::Int(256), 1, 0x0062_0000_0000_0100),
     (Shape::Int(-1), 1, 0x0062_0000_ffff_ffff),

@@ -45,7 +45,7 @@ const ROW_2: &[u8] = b"\x83h\x03w\x01ta\x02w\x01b";
 
 const ROW_3: &[u8] = b"\x83h\x03w\x01ta\x03w\x01c";
 
-const CASES: [Case; 6] = [
+static CASES: [Case; 6] = [
     Case {
         kind: Kind::Set,
         told: &[

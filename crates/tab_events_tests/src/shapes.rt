@@ -21,7 +21,7 @@ const ROW: &[u8] = b"\x83h\x03w\x01ta\x01w\x01a";
 
 const OLD: &[u8] = b"\x83h\x03w\x01ta\x01w\x01b";
 
-const CASES: [Case; 3] = [
+static CASES: [Case; 3] = [
     Case {
         update: Update::Write,
         simple: b"\x83h\x02w\x12mnesia_table_eventh\x03w\x05writeh\x03w\x01ta\x01w\x01ah\x02w\x03tida\x01",
@@ -40,7 +40,7 @@ const CASES: [Case; 3] = [
 ];
 
 /// Terms that no event has.
-const OTHERS: [&[u8]; 8] = [
+static OTHERS: [&[u8]; 8] = [
     b"\x83w\x12mnesia_table_event",
     // A record of arity 2.
     b"\x83h\x02w\x12mnesia_table_eventh\x03w\x05writeh\x02w\x01ta\x01h\x02w\x03tida\x01",

@@ -15,7 +15,7 @@ struct Case {
     found: Option<&'static [(i128, i128, i128)]>,
 }
 
-const CASES: [Case; 17] = [
+static CASES: [Case; 17] = [
     Case {
         kind: Kind::Set,
         steps: &[],

@@ -5,7 +5,7 @@ use tab_index::IndexedTable;
 use tab_model::{Change, Kind};
 use tab_term::Term;
 
-const RECORDS: [[Element; 3]; 5] = [
+static RECORDS: [[Element; 3]; 5] = [
     [Element::Number(1), Element::Number(7), Element::Number(5)],
     [Element::Number(1), Element::MapTo(2), Element::Number(5)],
     [Element::Number(1), Element::MapToAny, Element::Number(5)],
@@ -19,7 +19,7 @@ struct Case {
     found: &'static [usize],
 }
 
-const CASES: [Case; 9] = [
+static CASES: [Case; 9] = [
     Case {
         pattern: [Element::Number(1), Element::Any, Element::Number(5)],
         found: &[0, 1, 2],

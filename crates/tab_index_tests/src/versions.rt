@@ -28,7 +28,7 @@ struct Case {
     after: Seen,
 }
 
-const CASES: [Case; 5] = [
+static CASES: [Case; 5] = [
     Case {
         step: Step::Put(1, 8, 5),
         after: Seen {

@@ -54,7 +54,7 @@ fn a_journal_stays_right(rt: HostRuntime) {
 }
 
 /// The moves of commit 1, its number, the value at key 1 after it, and what an audit from no tables finds.
-const COMMITS: [(&[Made], u64, Option<i128>, bool); 9] = [
+static COMMITS: [(&[Made], u64, Option<i128>, bool); 9] = [
     (&[], 1, None, true),
     (&[], 2, None, false),
     (&[Made::Write(1), Made::Read(1)], 1, Some(1), true),

@@ -51,7 +51,7 @@ fn after(alloc: Global, commits: u64) -> Result<Journal, AllocError> {
 
 /// The number of commits, and then: the entries, the base's last commit, what its table t has, and the oldest and the
 /// newest entry's number.
-const JOURNALS: [(
+static JOURNALS: [(
     u64,
     usize,
     u64,
@@ -94,7 +94,7 @@ fn a_full_journal_hands_back(rt: HostRuntime) {
 }
 
 /// The moves of one commit, and the value that they leave at key 1.
-const COMMITS: [(&[Made], Option<i128>); 6] = [
+static COMMITS: [(&[Made], Option<i128>); 6] = [
     (&[], None),
     (&[Made::Write(1), Made::Write(2)], Some(2)),
     (

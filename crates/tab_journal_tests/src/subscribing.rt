@@ -18,7 +18,7 @@ enum Step {
 }
 
 /// Each step, folded at once, with the subscriptions after it.
-const STEPS: [(Step, &[(u64, &str)]); 14] = [
+static STEPS: [(Step, &[(u64, &str)]); 14] = [
     (Step::Create("t"), &[]),
     (Step::Create("u"), &[]),
     (Step::Subscribe(1, "t"), &[(1, "t")]),

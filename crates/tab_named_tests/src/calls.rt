@@ -28,7 +28,7 @@ enum Call {
 }
 
 /// Each call with the mailboxes that its post and its inbox are of.
-const CALLS: [(usize, usize, Call); 21] = [
+static CALLS: [(usize, usize, Call); 21] = [
     (0, 1, Call::Apart),
     (1, 0, Call::Apart),
     (0, 0, Call::All),

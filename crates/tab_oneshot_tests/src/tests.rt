@@ -15,7 +15,7 @@ struct Case {
     reply: &'static str,
 }
 
-const CASES: [Case; 46] = [
+static CASES: [Case; 46] = [
     Case {
         list: "rr",
         retries: 5,
@@ -439,14 +439,14 @@ fn restarts_are_counted(rt: HostRuntime) {
 }
 
 /// Runs in which each answer in turn is one that can't come, or that says that another used the seat.
-const RUNS: [(&str, &str, &str); 4] = [
+static RUNS: [(&str, &str, &str); 4] = [
     ("r(rxr)r", "TkTkukA", "odbdadc"),
     ("r(r)", "TkTwkjA", "odbdwcc"),
     ("((r", "TTTsuuu", "obbdzzz"),
     ("(r", "TTwNuu", "obdwzz"),
 ];
 
-const STRANGERS: [(u8, &str); 5] = [
+static STRANGERS: [(u8, &str); 5] = [
     (b'B', "{error,badsession}"),
     (b'X', "{error,no_transaction}"),
     (b'W', "{error,waiting}"),

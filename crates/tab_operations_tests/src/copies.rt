@@ -6,7 +6,7 @@ use tab_fixtures::{Shape, atom, build, build_all};
 use tab_model::{Operation, Reply};
 use tab_term::Term;
 
-const ASKED: [Asked; 10] = [
+static ASKED: [Asked; 10] = [
     Asked::Read("s", 1),
     Asked::ReadForWrite("s", -2),
     Asked::Write(&[Atom("s"), Int(1), Int(10)]),
@@ -59,7 +59,7 @@ fn copies_of_operations_ask_the_same(rt: HostRuntime) {
     }
 }
 
-const TOLD: [Told; 5] = [
+static TOLD: [Told; 5] = [
     Told::Done,
     Told::Found(&[Tuple(&[Atom("s"), Int(1), Int(10)]), Int(3)]),
     Told::NoTable("nosuch"),

@@ -7,7 +7,7 @@ use tab_operations::needs;
 use tab_term::Term;
 
 /// Operations, with the table of the lock, its key if it is on one, and its mode.
-const LOCKS: [(Asked, &str, Option<i128>, Mode); 12] = [
+static LOCKS: [(Asked, &str, Option<i128>, Mode); 12] = [
     (Asked::Read("s", 1), "s", Some(1), Mode::Read),
     (Asked::ReadForWrite("s", 1), "s", Some(1), Mode::Write),
     (

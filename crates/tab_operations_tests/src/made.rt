@@ -112,7 +112,7 @@ const INDEXED: Shape = Shape::Tuple(&[Shape::Atom("index"), Shape::List(&[Shape:
 
 const BAG: Shape = Shape::Tuple(&[Shape::Atom("type"), Shape::Atom("bag")]);
 
-const RECORDS: [Update; 5] = [
+static RECORDS: [Update; 5] = [
     Update::Write(&[Shape::Atom("s"), Shape::Int(1), Shape::Int(10)]),
     Update::Write(&[Shape::Atom("s"), Shape::Int(3), Shape::Int(30)]),
     Update::Write(&[Shape::Atom("b"), Shape::Int(1), Shape::Int(10)]),

@@ -16,7 +16,7 @@ struct Case {
     updates: usize,
 }
 
-const CASES: [Case; 9] = [
+static CASES: [Case; 9] = [
     // nothing is touched
     Case {
         steps: &[

@@ -25,7 +25,7 @@ const OLD_BAG: &[Shape] = &[
     Tuple(&[Atom("b"), Int(2), Int(10)]),
 ];
 
-const CASES: [Case; 4] = [
+static CASES: [Case; 4] = [
     Case {
         updates: &[],
         set: OLD_SET,
@@ -118,7 +118,7 @@ enum Outcome {
 }
 
 /// Schema commands, one after another, each with what it comes to.
-const COMMANDS: [(Command, Outcome); 10] = [
+static COMMANDS: [(Command, Outcome); 10] = [
     (Command::Create("u", &[]), Outcome::Done),
     (Command::Create("u", &[]), Outcome::AlreadyExists),
     (Command::Create("v", &[Atom("foo")]), Outcome::BadDefinition),
@@ -190,7 +190,7 @@ enum Info {
     NoTable,
 }
 
-const INFO: [(&str, InfoItem, Info); 6] = [
+static INFO: [(&str, InfoItem, Info); 6] = [
     ("s", InfoItem::Kind, Info::Kind(Kind::Set)),
     ("b", InfoItem::Kind, Info::Kind(Kind::Bag)),
     (

@@ -21,7 +21,7 @@ enum Call {
 }
 
 /// Each call with the count of refusals after it.
-const CALLS: [(Call, u64); 15] = [
+static CALLS: [(Call, u64); 15] = [
     (Call::All, 0),
     (Call::Put(1), 0),
     (Call::Put(2), 0),

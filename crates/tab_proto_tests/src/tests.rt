@@ -22,7 +22,7 @@ enum Wanted {
 }
 
 /// Payloads, the session of each, and what it asks.
-const REQUESTS: [(&[u8], u32, Wanted); 29] = [
+static REQUESTS: [(&[u8], u32, Wanted); 29] = [
     (b"\x83h\x02a\x01w\x04join", 1, Wanted::Join),
     (b"\x83h\x02a\x02w\x05leave", 2, Wanted::Leave),
     (b"\x83h\x02a\x03w\x05retry", 3, Wanted::Retry),
@@ -158,7 +158,7 @@ fn requests_are_read(rt: HostRuntime) {
 }
 
 /// Payloads of replies: the one of each line is that of `sample` at its number.
-const PAYLOADS: [&[u8]; 16] = [
+static PAYLOADS: [&[u8]; 16] = [
     b"\x83w\x02ok",
     b"\x83h\x02w\x03tida\x01",
     b"\x83h\x02w\x06atomica\x02",
@@ -272,7 +272,7 @@ fn replies_are_spelled(rt: HostRuntime) {
 }
 
 /// Payloads of every command.
-const COMMANDS: [&[u8]; 22] = [
+static COMMANDS: [&[u8]; 22] = [
     b"\x83h\x03w\x0ccreate_tablew\x01tl\x00\x00\x00\x01h\x02w\x04typew\x03bagj",
     b"\x83h\x02w\x0cdelete_tablew\x01t",
     b"\x83h\x03w\x0fadd_table_indexw\x01tw\x01a",
@@ -299,7 +299,7 @@ const COMMANDS: [&[u8]; 22] = [
 
 /// Payloads of terms that are near to commands: too many restarts, an inner transaction with restarts, a word in a tuple, a
 /// level, an item and an attribute that are none, a key without its table, another word than `dump`, an end with a dump.
-const NO_COMMANDS: [&[u8]; 9] = [
+static NO_COMMANDS: [&[u8]; 9] = [
     b"\x83h\x03w\x0btransactionjb\x00\x00\x03\xe9",
     b"\x83h\x03w\x0btransactionl\x00\x00\x00\x01h\x03w\x0btransactionja\x00ja\x00",
     b"\x83h\x03w\x0btransactionl\x00\x00\x00\x01h\x01w\x05beginja\x00",

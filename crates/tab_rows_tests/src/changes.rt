@@ -19,7 +19,7 @@ struct Case {
     size: usize,
 }
 
-const CASES: [Case; 9] = [
+static CASES: [Case; 9] = [
     Case {
         kind: Kind::Set,
         changes: &[],

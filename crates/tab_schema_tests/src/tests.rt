@@ -11,7 +11,7 @@ enum Wanted {
 
 const ATTRIBUTES: Shape = Tuple(&[Atom("attributes"), List(&[Atom("k"), Atom("v"), Atom("w")])]);
 
-const OPTIONS: [(&[Shape], Wanted); 12] = [
+static OPTIONS: [(&[Shape], Wanted); 12] = [
     (&[], Wanted::Def(Kind::Set, &["key", "val"], &[])),
     (
         &[
@@ -107,7 +107,7 @@ fn options_give_a_definition_or_the_first_fault(rt: HostRuntime) {
 }
 
 /// Terms, whether they fit as a record of `v` with three attributes, and the position that they name.
-const TERMS: [(Shape, bool, Option<usize>); 9] = [
+static TERMS: [(Shape, bool, Option<usize>); 9] = [
     (Tuple(&[Atom("v"), Int(1), Int(2), Int(3)]), true, None),
     (Tuple(&[Atom("v"), Int(1), Int(2)]), false, None),
     (Tuple(&[Atom("w"), Int(1), Int(2), Int(3)]), false, None),

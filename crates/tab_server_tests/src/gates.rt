@@ -47,7 +47,7 @@ impl<R: Threads + Clock> Gate for Held<R> {
 }
 
 /// The first reads its reply last.
-const SCRIPT: [(usize, Does); 4] = [
+static SCRIPT: [(usize, Does); 4] = [
     (
         0,
         Does::Sends(Tuple(&[Atom("create_table"), Atom("u"), List(&[])])),

@@ -56,7 +56,7 @@ impl<'a, H: House> Write for Held<'a, H> {
 }
 
 /// The begin mark, the events of two commits, and the overflow of the third.
-const FRAMES: [Shape; 4] = [
+static FRAMES: [Shape; 4] = [
     Tuple(&[Atom("mnesia_table_begin"), Atom("t"), Atom("simple")]),
     Tuple(&[
         Atom("mnesia_table_event"),

@@ -37,7 +37,7 @@ pub enum Does {
 const OK: Shape = Tuple(&[Atom("reply"), Atom("ok")]);
 
 /// Three connections, by their numbers.
-const SCRIPT: [(usize, Does); 26] = [
+static SCRIPT: [(usize, Does); 26] = [
     (
         0,
         Does::Sends(Tuple(&[Atom("create_table"), Atom("t"), List(&[])])),

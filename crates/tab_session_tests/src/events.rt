@@ -2,7 +2,7 @@
 use crate::running::{Row, all_answered};
 use std::test::Fail;
 
-const ROWS: [Row; 9] = [
+static ROWS: [Row; 9] = [
     Row {
         name: "set detailed",
         outbox: 64,

@@ -2,7 +2,7 @@
 use crate::running::{Row, all_answered};
 use std::test::Fail;
 
-const ROWS: [Row; 10] = [
+static ROWS: [Row; 10] = [
     Row {
         name: "older waits",
         outbox: 64,

@@ -2,7 +2,7 @@
 use crate::running::{Row, all_answered};
 use std::test::Fail;
 
-const ROWS: [Row; 6] = [
+static ROWS: [Row; 6] = [
     Row {
         name: "one shot",
         outbox: 64,

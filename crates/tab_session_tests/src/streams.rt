@@ -3,7 +3,7 @@ use crate::running::{Row, all_answered};
 use std::test::Fail;
 use tab_session::Ended;
 
-const ROWS: [Row; 11] = [
+static ROWS: [Row; 11] = [
     Row {
         name: "bytes",
         outbox: 64,

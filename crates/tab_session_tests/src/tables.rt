@@ -2,7 +2,7 @@
 use crate::running::{Row, all_answered};
 use std::test::Fail;
 
-const ROWS: [Row; 7] = [
+static ROWS: [Row; 7] = [
     Row {
         name: "definitions",
         outbox: 64,

@@ -32,7 +32,7 @@ enum Given {
     NotJoined,
 }
 
-const CALLS: [Call; 38] = [
+static CALLS: [Call; 38] = [
     Call::Watched("t", None),
     Call::Subscribe(1, "t", Level::Simple, Marked::Told),
     Call::Watched("t", Some(Level::Simple)),
@@ -78,7 +78,7 @@ const CALLS: [Call; 38] = [
 ];
 
 /// After those, of session 1 alone.
-const MARKS: [Call; 9] = [
+static MARKS: [Call; 9] = [
     Call::Subscribe(1, "t", Level::Detailed, Marked::Told),
     Call::Unsubscribe(1, "t", Marked::Told),
     Call::Watched("t", None),

@@ -12,7 +12,7 @@ enum Call {
 }
 
 /// Each call with the count of refusals after it.
-const CALLS: [(Call, u64); 10] = [
+static CALLS: [(Call, u64); 10] = [
     (Call::Pull(None), 0),
     (Call::Put(1), 0),
     (Call::Put(2), 0),

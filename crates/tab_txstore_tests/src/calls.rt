@@ -19,7 +19,7 @@ struct Case {
     updates: usize,
 }
 
-const CASES: [Case; 8] = [
+static CASES: [Case; 8] = [
     Case {
         kind: Kind::Set,
         steps: &[],

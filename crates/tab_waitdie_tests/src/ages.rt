@@ -23,7 +23,7 @@ enum Call {
 }
 
 /// The answers are from outside.
-const CALLS: [Call; 13] = [
+static CALLS: [Call; 13] = [
     Call::Request(2, Some(5), false, Answer::Granted),
     Call::Request(1, Some(5), true, Answer::Wait),
     Call::Request(3, Some(6), false, Answer::Granted),

@@ -17,7 +17,7 @@ enum Step {
     Locked(&'static str, bool),
 }
 
-const STEPS: [Step; 37] = [
+static STEPS: [Step; 37] = [
     Step::Conflicts(2, ("t", Some(5), Mode::Write), Conflict::Free),
     Step::Hold(3, ("t", Some(5), Mode::Read)),
     Step::Hold(3, ("t", Some(5), Mode::Read)),

@@ -3,7 +3,7 @@ use clap::error::ErrorKind;
 use std::test::Fail;
 
 /// Words that ask for a replay, and how many items a session's post then holds.
-const REPLAYS: [(&[&str], u32); 4] = [
+static REPLAYS: [(&[&str], u32); 4] = [
     (&["tabd", "replay"], 64),
     (&["tabd", "replay", "--outbox", "1"], 1),
     (&["tabd", "replay", "--outbox", "65536"], 65_536),
@@ -11,7 +11,7 @@ const REPLAYS: [(&[&str], u32); 4] = [
 ];
 
 /// Words that ask for no run, and why.
-const OTHERS: [(&[&str], ErrorKind); 10] = [
+static OTHERS: [(&[&str], ErrorKind); 10] = [
     (&["tabd"], ErrorKind::MissingSubcommand),
     (&["tabd", "servo"], ErrorKind::InvalidSubcommand),
     (
