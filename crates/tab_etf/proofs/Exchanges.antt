@@ -37,17 +37,17 @@ bit_small : (r j : ℕ) → bit r j ≤ 1
 bit_small r j = grind (arith, nat_tests)
 
 -- where the exchange of i and j takes its k-th element from
-abbrev source : ℕ → ℕ → ℕ → ℕ
+abbrev pub source : ℕ → ℕ → ℕ → ℕ
 source i j k = if k == i then j else (if k == j then i else k)
 
-source_once : (i j k l : ℕ) → source i j k ≡ source i j l → k ≡ l
+pub source_once : (i j k l : ℕ) → source i j k ≡ source i j l → k ≡ l
 source_once i j k l e = grind (arith, nat_tests)
 
-source_below : (n i j k : ℕ) → i < n → j < n → k < n → source i j k < n
+pub source_below : (n i j k : ℕ) → i < n → j < n → k < n → source i j k < n
 source_below n i j k a b c = grind (arith, nat_tests)
 
 module _ {X : Type 0} (xs ys : List X) (i j : ℕ) (s : SwappedAt xs ys i j) where
-  from_source : (k : ℕ) (d : X) → get_or ys k d ≡ get_or xs (source i j k) d
+  pub from_source : (k : ℕ) (d : X) → get_or ys k d ≡ get_or xs (source i j k) d
   from_source k d =
       elim (k == i) as (λ b. (k == i) ≡ b → get_or ys k d ≡ get_or xs (if b then j else (if k == j then i else k)) d) [
         | true ↦ λ e. let q : k ≡ i = grind (arith, nat_tests) in rw q (s.0 d)

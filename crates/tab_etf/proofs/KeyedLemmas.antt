@@ -59,8 +59,8 @@ module _ (ks : List Key) (ranks : List ℕ) where
   ranks_more i c distinct len h b before p d l = elim (cases_eq p i) [
     | inl e ↦ rw (e, get_or_default ks i d c h) (get_or-set_same ranks (get_or ks i c).pair i 0 (omega arith))
     | inr n ↦
-      let other : (get_or ks p d).pair ≢ (get_or ks i c).pair = λ q. distinct p i d (omega arith) h (q ∙ ap (λ (k : Key). k.pair) (get_or_default ks i c d h)) in
-      get_or-set_other ranks (get_or ks i c).pair (get_or ks p d).pair i 0 other ∙ before p d (omega arith)
+        let other : (get_or ks p d).pair ≢ (get_or ks i c).pair = λ q. distinct p i d (omega arith) h (q ∙ ap (λ (k : Key). k.pair) (get_or_default ks i c d h)) in
+        get_or-set_other ranks (get_or ks i c).pair (get_or ks p d).pair i 0 other ∙ before p d (omega arith)
   ]
 
 module _ (ks : List Key) (n : ℕ) (o : IsOrder ks n) (ranks : List ℕ) (r : AreRanks ks ranks) where
@@ -76,10 +76,10 @@ module _ (ks : List Key) (n : ℕ) (o : IsOrder ks n) (ranks : List ℕ) (r : Ar
       record {
         below = λ k h. let w = rank_of k (omega arith) in omega (arith, w.3, w.1);
         distinct = λ j k h g e.
-          let v = rank_of j (omega arith) in
-          let w = rank_of k (omega arith) in
-          let same : v.0 ≡ w.0 = sym v.3 ∙ e ∙ w.3 in
-          sym (v.2 no_key) ∙ ap (λ p. (get_or ks p no_key).pair) same ∙ w.2 no_key;
+            let v = rank_of j (omega arith) in
+            let w = rank_of k (omega arith) in
+            let same : v.0 ≡ w.0 = sym v.3 ∙ e ∙ w.3 in
+            sym (v.2 no_key) ∙ ap (λ p. (get_or ks p no_key).pair) same ∙ w.2 no_key;
       }
 
   pub ranked_by : (ps : List (Term × Term)) → length ps ≡ n → IsRankedBy (picked ps ks) ranks ps

@@ -6,10 +6,13 @@ use Rattle.tab_term.specs.Data.{PlainTerm, int, PlainPairs, no_pair, one_pair}
 use Rattle.tab_term.specs.Same.{same, same-Decides}
 use Rattle.tab_etf.specs.declared.fault.Fault.TheVariants as faults
 use Rattle.tab_etf.specs.declared.fault.Stop.{Stop}
+use Rattle.tab_etf.specs.declared.fault.ReadError.{ReadError}
+use Rattle.tab_etf.specs.declared.fault.ReadError.TheVariants as errors
 use Rattle.tab_etf.specs.declared.run.Key.{Key}
+use Rattle.tab_etf.specs.declared.run.Run.{Run}
 use Rattle.tab_etf.specs.Keys.{key_cmp, AllAbove, KeysAscend, HasOneMore, here, later, has_key, put_pair}
-use Rattle.tab_etf.specs.Reading.{stop}
-use Rattle.tab_etf.specs.Runs.{Entry, put_all}
+use Rattle.tab_etf.specs.Reading.{◌>>=◌, Fails, stop}
+use Rattle.tab_etf.specs.Runs.{Entry, put_all, IsFirstFault, Ran}
 use Rattle.tab_etf.proofs.KeysLemmas.{more_new, put_more}
 
 -- ---- what comes behind the entries
@@ -21,6 +24,35 @@ put_all_same ps (e ∷ es) f g h = ap (λ r. if has_key e.0 ps then stop faults.
 pub put_all_more : {A : Type 0} (ps : PlainPairs) (es : List Entry) (e : Entry) (f : PlainPairs → Result A Stop) → put_all ps es (λ qs. put_all qs (e ∷ []) f) ≡ put_all ps (es ++ e ∷ []) f
 put_all_more ps [] e f = refl
 put_all_more ps (d ∷ es) e f = ap (λ r. if has_key d.0 ps then stop faults.DuplicateKey d.2 else r) (put_all_more (put_pair d.0 d.1 ps) es e f)
+
+pub put_all_then : {A B : Type 0} (ps : PlainPairs) (es : List Entry) (f : PlainPairs → Result A Stop) (g : A → Result B Stop) → put_all ps es (λ qs. f qs >>= g) ≡ (put_all ps es f >>= g)
+put_all_then ps [] f g = refl
+put_all_then ps (e ∷ es) f g =
+    let others = put_all_then (put_pair e.0 e.1 ps) es f g in
+    elim (has_key e.0 ps) as (λ b. (if b then stop faults.DuplicateKey e.2 else put_all (put_pair e.0 e.1 ps) es (λ qs. f qs >>= g)) ≡ ((if b then stop faults.DuplicateKey e.2 else put_all (put_pair e.0 e.1 ps) es f) >>= g)) [
+      | true ↦ refl
+      | false ↦ others
+    ]
+
+-- what the pairs alone tell, of them and the bytes behind them
+module _ {A : Type 0} (es : List Entry) (after : A) (answer : Result (PlainPairs × A) Stop) (all : answer ≡ put_all no_pair es (λ ps. Ok (ps, after))) where
+  in_two : answer ≡ (put_all no_pair es (λ ps. Ok ps) >>= λ ps. Ok (ps, after))
+  in_two = all ∙ put_all_then no_pair es (λ ps. Ok ps) (λ ps. Ok (ps, after))
+
+  pub answer_is : (ps : PlainPairs) → put_all no_pair es (λ ps. Ok ps) ≡ Ok ps → answer ≡ Ok (ps, after)
+  answer_is ps e = in_two ∙ ap (λ r. r >>= λ ps. Ok (ps, after)) e
+
+  pub answer_fails : (e : ReadError) → Fails e (put_all no_pair es (λ ps. Ok ps)) → Fails e answer
+  answer_fails errors.Memory f = tt
+  answer_fails (errors.At s) f = in_two ∙ ap (λ r. r >>= λ ps. Ok (ps, after)) f
+
+pub answer_stops : {A : Type 0} (es : List Entry) (at first : Stop) (answer : Result A Stop) → answer ≡ put_all no_pair es (λ ps. Err at) → IsFirstFault es at first → answer ≡ Err first
+answer_stops es at first answer all f = all ∙ put_all_then no_pair es (λ ps. Err at) (λ (ps : PlainPairs). Err first) ∙ ap (λ r. r >>= λ (ps : PlainPairs). Err first) f
+
+-- an error says the same of the bytes, however they are lent
+pub in_bytes : {X : Type 0} (view : X → List ℕ) (run : Run) (e : ReadError) (answer : Result (PlainPairs × List ℕ) Stop) → Ran view run (Err e) answer → Ran (λ (x : List ℕ). x) run (Err e) answer
+in_bytes view run errors.Memory answer h = tt
+in_bytes view run (errors.At s) answer h = h
 
 -- ---- sorted keys, of which those of a number below m are kept
 
@@ -104,7 +136,7 @@ module _ (g : ℕ → Entry) where
   either false q e = e
 
   -- a key of a lower number is kept
-  kept_has : (m : ℕ) (t : PlainTerm) (ks : List Key) (p : ℕ) (d : Key) → p < length ks → (get_or ks p d).pair < m → (g (get_or ks p d).pair).0 ≡ t → has_key t (kept g m ks) ≡ true
+  pub kept_has : (m : ℕ) (t : PlainTerm) (ks : List Key) (p : ℕ) (d : Key) → p < length ks → (get_or ks p d).pair < m → (g (get_or ks p d).pair).0 ≡ t → has_key t (kept g m ks) ≡ true
   kept_has m t [] p d h l e = absurd (omega arith)
   kept_has m t (k ∷ ks) zero d h l e =
       let s : same t (g k.pair).0 ≡ true = (same-Decides t (g k.pair).0).1 (sym e) in

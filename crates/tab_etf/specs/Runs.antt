@@ -27,6 +27,10 @@ put_all ps (e ∷ es) go_on = if has_key e.0 ps then stop faults.DuplicateKey e.
 abbrev pub pair_then : {A : Type 0} → Reads → (PlainPairs × List ℕ → Result A Stop) → List ℕ → PlainPairs → Result A Stop
 pair_then read go_on bytes ps = pair_at read ps bytes >>= go_on
 
+-- the first fault, where the reading came to this one
+abbrev pub IsFirstFault : List Entry → Stop → Stop → Type 0
+IsFirstFault es at first = put_all {A = PlainPairs} no_pair es (λ ps. Err at) ≡ Err first
+
 -- a key as it is kept, with the entry that it belongs to
 pub record IsNoted (spelled : List ℕ) (i : ℕ) (k : Key) (e : Entry) : Type 0 where
   pub pair : k.pair ≡ i

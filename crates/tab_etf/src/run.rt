@@ -1,19 +1,19 @@
 //! The pairs of a map: in the order in which they are read, and then in the order of their keys.
 
-ghost use Rattle.std.specs.Prelude.{◌≡◌, ℕ, ◌++◌, ◌∷◌, [], List, length, Result, IsTrue, ◌↔◌, OnOk, IfOk, IsPermutation, ◌<◌, slice_index, slice_index_or};
+ghost use Rattle.std.specs.Prelude.{◌≡◌, ℕ, ◌++◌, ◌∷◌, [], List, length, Result, Ok, Err, IsTrue, ◌↔◌, OnOk, IfOk, IsPermutation, ◌<◌, slice_index, slice_index_or};
 ghost use Rattle.std.specs.List.Sorted.{IsSortedBy};
 ghost use Rattle.std.specs.Ordering.{is_lt};
 ghost use Rattle.tab_term.specs.declared.term.Term.{Term};
 ghost use Rattle.tab_term.specs.Canon.{canon};
-ghost use Rattle.tab_term.specs.Data.{PlainPairs};
+ghost use Rattle.tab_term.specs.Data.{PlainPairs, no_pair};
 ghost use Rattle.tab_term.specs.View.{term, pairs as pairs_of};
 ghost use Rattle.tab_etf.specs.declared.fault.Stop.{Stop};
-ghost use Rattle.tab_etf.specs.Reading.{Gives};
+ghost use Rattle.tab_etf.specs.Reading.{Gives, Fails};
 ghost use Rattle.tab_etf.specs.Keyed.{spelling_at, key_order, next_key, earlier, IsFirstTwice, IsOrder, AreRanks, AreRanked, picked};
-ghost use Rattle.tab_etf.specs.Runs.{Holds, Ran};
+ghost use Rattle.tab_etf.specs.Runs.{Entry, put_all, IsFirstFault, AreNoted, Holds, Ran};
 
 use crate::encoding::append_spelling;
-use crate::fault::{Fault, ReadError};
+use crate::fault::{Fault, ReadError, Stop};
 use crate::leaf::stop;
 use std::alloc::{AllocError, Global};
 use std::cmp::Ordering;
@@ -174,27 +174,71 @@ fn in_order(alloc: Global, pairs: Vec<(Term, Term)>, keys: &[Key]) -> Result<Pai
     Ok(Pairs::from_vec(pairs))
 }
 
-/// The pairs in ascending order of their keys, unless one key stands there twice. That is told before a fault of the reading,
-/// which came behind it.
-pub fn settled(
-    alloc: Global,
-    run: Run,
-    read: Result<&[u8], ReadError>,
-) -> Result<(Pairs, &[u8]), ReadError>
-    ensures { (answer : Result (PlainPairs × List ℕ) Stop) → Ran (λ x. x.now) run read answer → Gives (λ x. (x.0, x.1.now)) result answer }
+/// Sorts the keys, and finds the first that was read when it stood there already.
+fn sort_and_find(spelled: &[u8], keys: &mut [Key]) -> Option<Key>
+    ensures permutation { IsPermutation keys.old keys.new }
+    ensures sorted { IsSortedBy (λ k l. is_lt (key_order spelled.now k l)) keys.new }
+    ensures first { IsFirstTwice spelled.now keys.new (length keys.new) result }
 {
-    if let Err(ReadError::Memory) = read {
-        return Err(ReadError::Memory);
-    }
+    sort_keys(spelled, keys);
+    first_twice(spelled, keys)
+}
+
+/// The pairs in ascending order of their keys, unless one key stands there twice.
+fn ordered(alloc: Global, run: Run) -> Result<Pairs, ReadError>
+    requires { (es : List Entry) × Holds run es }
+    ensures { (es : List Entry) → Holds run es → Gives (λ ps. ps) result (put_all no_pair es (λ ps. Ok ps)) }
+{
     let Run {
         pairs,
         mut keys,
         spelled,
     } = run;
-    sort_keys(&spelled, &mut keys);
-    if let Some(key) = first_twice(&spelled, &keys) {
+    if let Some(key) = sort_and_find(&spelled, &mut keys) {
         return Err(stop(Fault::DuplicateKey, key.left));
     }
-    let rest = read?;
-    Ok((in_order(alloc, pairs, &keys)?, rest))
+    Ok(in_order(alloc, pairs, &keys)?)
+}
+
+/// The first fault, where the reading came to this one: a key that stands there twice was told before.
+fn first_fault(run: Run, at: Stop) -> Stop
+    ensures { (es : List Entry) → AreNoted run.spelled.items run.keys.items es → IsFirstFault es at result }
+{
+    let Run {
+        pairs: _,
+        mut keys,
+        spelled,
+    } = run;
+    match sort_and_find(&spelled, &mut keys) {
+        Some(key) => Stop {
+            fault: Fault::DuplicateKey,
+            left: key.left,
+        },
+        None => at,
+    }
+}
+
+/// The first fault, where the reading ended with this error. Without memory there is none to be told.
+fn first_error(run: Run, error: ReadError) -> ReadError
+    ensures { (answer : Result (PlainPairs × List ℕ) Stop) → Ran (λ (x : List ℕ). x) run (Err error) answer → Fails result answer }
+{
+    match error {
+        ReadError::At(at) => ReadError::At(first_fault(run, at)),
+        ReadError::Memory => ReadError::Memory,
+    }
+}
+
+/// The pairs that were read and the bytes behind them, or the first fault.
+pub fn settled(
+    alloc: Global,
+    run: Run,
+    read: Result<&[u8], ReadError>,
+) -> Result<(Pairs, &[u8]), ReadError>
+    requires { (answer : Result (PlainPairs × List ℕ) Stop) × Ran (λ x. x.now) run read answer }
+    ensures { (answer : Result (PlainPairs × List ℕ) Stop) → Ran (λ x. x.now) run read.entry answer → Gives (λ x. (x.0, x.1.now)) result answer }
+{
+    match read {
+        Ok(rest) => Ok((ordered(alloc, run)?, rest)),
+        Err(error) => Err(first_error(run, error)),
+    }
 }

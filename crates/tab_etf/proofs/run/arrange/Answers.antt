@@ -21,8 +21,7 @@ loop-i-preserved c =
     let i_in = c.loop-i-test.true in
     let j_in = old.0.below i i_in in
     let ss = c.swap-else-rank-i.new.self in
-    let j = get_or rs i 0 in
-    (
+    let j = get_or rs i 0 in (
       ranked_swap rs ss i j by len i_in j_in old.0,
       omega (arith, len, pairs_len, old.1),
       pairs_len ∙ old.2,
