@@ -2,6 +2,7 @@ pub mod Keys
 pub mod Keyed
 pub mod Spells
 pub mod Reading
+pub mod Runs
 pub mod Writing
 pub mod Frames
 pub mod Streams

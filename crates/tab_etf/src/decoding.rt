@@ -1,21 +1,19 @@
 //! Terms from bytes: one pass from left to right, with the first fault at its place.
 
-ghost use Rattle.std.specs.Prelude.{◌≡◌, ◌≤◌, ◌++◌, ◌∷◌, ◌<◌, ◌==◌, List, ℕ, length, IfOk, OnOk, IfErr, Ok, nat_lt, ◌&&◌};
-ghost use Rattle.tab_term.specs.Data.{PlainTerm, no_pair, depth};
-ghost use Rattle.tab_term.specs.Canon.{canon};
+ghost use Rattle.std.specs.Prelude.{◌≡◌, ◌≤◌, ◌++◌, ◌∷◌, ◌<◌, ◌==◌, List, [], ℕ, length, Result, IfOk, Ok, nat_lt, ◌&&◌};
+ghost use Rattle.tab_term.specs.Data.{PlainTerm, PlainPairs, no_pair, depth};
 ghost use Rattle.tab_term.specs.View.{term};
-ghost use Rattle.tab_etf.specs.Keyed.{AreSpelled, keyed};
-ghost use Rattle.tab_etf.specs.declared.fault.ReadError.TheVariants.{Memory};
+ghost use Rattle.tab_etf.specs.declared.fault.Stop.{Stop};
+ghost use Rattle.tab_etf.specs.Runs.{Entry, put_all, pair_then, Holds, GoesOn, Ran};
 ghost use Rattle.tab_etf.specs.Spells.{Spells};
-ghost use Rattle.tab_etf.specs.Reading.{Gives, Decodes, whole, end_of_list, times, small_tuple, large_tuple, long_list, key_at, pair_at, pairs_from, map_at, behind, term_at};
+ghost use Rattle.tab_etf.specs.Reading.{Gives, Decodes, whole, end_of_list, times, small_tuple, large_tuple, long_list, pairs_from, map_at, behind, term_at};
 
-use crate::encoding::spelling_of;
 use crate::fault::{EtfFault, Fault, ReadError};
 use crate::leaf::{leaf_of, stop, u8_at, u32_at};
-use std::alloc::{AllocError, Global};
-use std::collections::BTreeMap;
+use crate::run::{Run, settled};
+use std::alloc::Global;
 use tab_term::spelling::{LARGE_TUPLE_EXT, LIST_EXT, MAP_EXT, NIL_EXT, SMALL_TUPLE_EXT};
-use tab_term::{Pairs, Term, Terms};
+use tab_term::{Term, Terms};
 
 /// The deepest level that is read. The outermost term is at level 1.
 const LEVELS: usize = 64;
@@ -86,91 +84,40 @@ fn terms_of(
     Ok((Terms::from_vec(items), rest))
 }
 
-/// A key, and its canonical spelling.
-#[derive(Drop)]
-struct Key {
-    spelling: Vec<u8>,
-    term: Term,
-}
-
-fn spelled(alloc: Global, found: Term) -> Result<Key, ReadError>
-    ensures same { IfOk result (λ k. k.term ≡ found) }
-    ensures spelled { IfOk result (λ k. k.spelling.items ≡ canon (term k.term)) }
-    ensures memory { IfErr result (λ e. e ≡ Memory) }
-{
-    let spelling = spelling_of(alloc, &found)?;
-    Ok(Key {
-        spelling,
-        term: found,
-    })
-}
-
-/// A key that the map doesn't have yet. That is known before its value is read.
+/// The next pair. Its key is noted before its value is read: a key that stands there already is told first.
 #[cycle(read)]
-#[tactic(auto, unfolding(crate::specs::Reading::key_at))]
-fn key_of<'a>(
-    alloc: Global,
-    levels: usize,
-    map: &BTreeMap<Vec<u8>, (Term, Term)>,
-    bytes: &'a [u8],
-) -> Result<(Key, &'a [u8]), ReadError>
-    requires { AreSpelled map.now.entries }
-    ensures gives { Gives (λ x. (term x.0.term, x.1.now)) result (key_at (term_at levels) (keyed map.now.entries) bytes.now) }
-    ensures spelled { IfOk result (λ x. x.0.spelling.items ≡ canon (term x.0.term)) }
-{
-    let (found, rest) = term_of(alloc, levels, bytes)?;
-    let key = spelled(alloc, found)?;
-    if map.contains_key(&key.spelling) {
-        return Err(stop(Fault::DuplicateKey, bytes.len()));
-    }
-    Ok((key, rest))
-}
-
-#[cycle(read)]
-#[tactic(auto, unfolding(crate::specs::Reading::pair_at))]
 fn pair_of<'a>(
     alloc: Global,
     levels: usize,
-    map: &mut BTreeMap<Vec<u8>, (Term, Term)>,
+    run: &mut Run,
     bytes: &'a [u8],
 ) -> Result<&'a [u8], ReadError>
-    requires { AreSpelled map.old.entries }
-    ensures gives { Gives (λ x. (keyed map.new.entries, x.now)) result (pair_at (term_at levels) (keyed map.old.entries) bytes.now) }
-    ensures spelled { OnOk result (AreSpelled map.new.entries) }
+    ensures { (es : List Entry) (go_on : PlainPairs × List ℕ → Result (PlainPairs × List ℕ) Stop) → Holds run.old es → GoesOn (λ x. x.now) go_on run.new result (put_all no_pair es (pair_then (term_at levels) go_on bytes.now)) }
 {
-    let (key, rest) = key_of(alloc, levels, map, bytes)?;
+    let (key, rest) = term_of(alloc, levels, bytes)?;
+    run.note(&key, bytes.len())?;
     let (value, rest) = term_of(alloc, levels, rest)?;
-    map.insert(key.spelling, (key.term, value))?;
+    run.push(key, value)?;
     Ok(rest)
 }
 
-/// So many pairs, by their keys' spellings. The count alone makes no room.
+/// So many pairs, or those before the first fault, with no look at a key that stands there twice.
 #[cycle(read)]
-fn keyed_of(
+fn run_of<'a>(
     alloc: Global,
     levels: usize,
     count: u32,
-    bytes: &[u8],
-) -> Result<(BTreeMap<Vec<u8>, (Term, Term)>, &[u8]), ReadError>
-    ensures { Gives (λ x. (keyed x.0.entries, x.1.now)) result (pairs_from (term_at levels) count no_pair bytes.now) }
+    run: &mut Run,
+    bytes: &'a [u8],
+) -> Result<&'a [u8], ReadError>
+    requires { Holds run.old [] }
+    ensures { Ran (λ x. x.now) run.new result (pairs_from (term_at levels) count no_pair bytes.now) }
 {
-    let mut map = BTreeMap::new(alloc);
     let mut rest = bytes;
     for _ in 0..count {
-        rest = pair_of(alloc, levels, &mut map, rest)?;
+        rest = pair_of(alloc, levels, run, rest)?;
     }
-    Ok((map, rest))
-}
-
-/// The pairs in ascending order of their keys.
-fn in_order(alloc: Global, map: BTreeMap<Vec<u8>, (Term, Term)>) -> Result<Pairs, AllocError>
-    ensures { IfOk result (λ ps. ps ≡ keyed map.entries) }
-{
-    let mut pairs = Vec::with_capacity(alloc, map.len())?;
-    for pair in map.into_values() {
-        pairs.push(pair)?;
-    }
-    Ok(Pairs::from_vec(pairs))
+    Ok(rest)
 }
 
 #[cycle(read)]
@@ -179,8 +126,10 @@ fn map_of(alloc: Global, levels: usize, bytes: &[u8]) -> Result<(Term, &[u8]), R
     ensures { Gives (λ x. (term x.0, x.1.now)) result (map_at (term_at levels) bytes.now) }
 {
     let (count, rest) = u32_at(bytes)?;
-    let (map, rest) = keyed_of(alloc, levels, count, rest)?;
-    Ok((Term::Map(in_order(alloc, map)?), rest))
+    let mut run = Run::new(alloc);
+    let read = run_of(alloc, levels, count, &mut run, rest);
+    let (pairs, rest) = settled(alloc, run, read)?;
+    Ok((Term::Map(pairs), rest))
 }
 
 #[cycle(read)]

@@ -122,13 +122,12 @@ fn append(outline: &Outline, head: &[u8], len: usize, out: &mut Vec<u8>) -> Resu
     Ok(())
 }
 
-/// The canonical spelling of a term.
-pub fn spelling_of(alloc: Global, value: &Term) -> Result<Vec<u8>, AllocError>
-    ensures { IfOk result (λ bytes. bytes.items ≡ canon (term value.now)) }
+/// Adds the canonical spelling of a term. On an error the bytes are as before.
+pub fn append_spelling(value: &Term, out: &mut Vec<u8>) -> Result<(), AllocError>
+    ensures ok { OnOk result (out.new.items ≡ out.old.items ++ canon (term value.now)) }
+    ensures err { OnErr result (out.new.items ≡ out.old.items) }
 {
-    let mut out = Vec::new(alloc);
-    append(&held(value), &[], 0, &mut out)?;
-    Ok(out)
+    append(&held(value), &[], 0, out)
 }
 
 /// Adds the payload of a term: the byte 131 and the canonical spelling.

@@ -11,6 +11,7 @@ mod leaf;
 mod measuring;
 mod outline;
 mod receiving;
+mod run;
 mod spelling;
 mod splitting;
 mod writer;

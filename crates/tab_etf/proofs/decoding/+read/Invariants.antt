@@ -1,7 +1,7 @@
-use Rattle.std.proofs.Common.{◌≡◌, ◌*◌, ◌+◌, ◌-◌}
+use Rattle.std.proofs.Common.{◌≡◌, ◌*◌, ◌+◌, ◌-◌, List}
 use Rattle.tab_term.specs.Data.{no_pair}
 use Rattle.tab_term.specs.View.{terms}
-use Rattle.tab_etf.specs.Keyed.{AreSpelled, keyed}
+use Rattle.tab_etf.specs.Runs.{Entry, put_all, Holds}
 use Rattle.tab_etf.specs.Reading.{times, pairs_from, term_at}
 use Rattle.tab_etf.proofs.TimesLemmas.{with_front}
 use Rattle.tab_etf.proofs.decoding.+read.Given as goal
@@ -30,14 +30,11 @@ decreases-large_tuple_of l = 6 * l.levels + 4
 abbrev pub decreases-map_of : goal.decreases-map_of
 decreases-map_of l = 6 * l.levels + 4
 
-abbrev pub decreases-keyed_of : goal.decreases-keyed_of
-decreases-keyed_of l = 6 * l.levels + 3
+abbrev pub decreases-run_of : goal.decreases-run_of
+decreases-run_of l = 6 * l.levels + 3
 
-abbrev pub invariant-keyed_of-loop : goal.invariant-keyed_of-loop
-invariant-keyed_of-loop l = AreSpelled l.map.entries × (pairs_from (term_at l.levels) (l.count - l.counter) (keyed l.map.entries) l.rest ≡ pairs_from (term_at l.levels) l.count no_pair l.bytes)
+abbrev pub invariant-run_of-loop : goal.invariant-run_of-loop
+invariant-run_of-loop l = (es : List Entry) × Holds l.run es × (pairs_from (term_at l.levels) l.count no_pair l.bytes ≡ put_all no_pair es (λ ps. pairs_from (term_at l.levels) (l.count - l.counter) ps l.rest))
 
 abbrev pub decreases-pair_of : goal.decreases-pair_of
 decreases-pair_of l = 6 * l.levels + 2
-
-abbrev pub decreases-key_of : goal.decreases-key_of
-decreases-key_of l = 6 * l.levels + 1
