@@ -1,27 +1,23 @@
 -- What sorted keys say of the pairs as they were read.
-use Rattle.std.proofs.Common.{◌≡◌, ◌≢◌, ◌⊎◌, inl, inr, ℕ, suc, ◌+◌, ◌-◌, ◌<◌, ◌≤◌, true, false, true≢false, if◌then◌else◌, List, [], ◌∷◌, length, map, get_or, drop, drop-cons, drop_of_length-le, swap, AllPairs, All, IsPermutation, IsSortedBy, Option, Some, None, Result, Ok, Err, lt-ltb, refl, sym, ap, ap₂, ◌∙◌, arith}
+use Rattle.std.proofs.Common.{◌≡◌, ◌≢◌, inl, inr, ℕ, suc, ◌+◌, ◌-◌, ◌<◌, ◌≤◌, false, true≢false, List, [], ◌∷◌, length, get_or, drop, drop-cons, swap, AllPairs, All, IsPermutation, IsSortedBy, Some, None, Result, lt-ltb, refl, sym, ap, ap₂, ◌∙◌, arith}
 use Rattle.std.specs.declared.cmp.Ordering.{Ordering}
 use Rattle.std.specs.declared.cmp.Ordering.TheVariants.{Less, Equal, Greater}
 use Rattle.std.specs.Ordering.{is_lt, nat_cmp, ordering_then, ordering_reverse}
-use Rattle.std.specs.Cmp.{IsStrictWeakOrder}
 use Rattle.std.specs.List.{SwappedAt}
-use Rattle.std.proofs.lemmas.Bool.{cases_eq}
 use Rattle.std.proofs.lemmas.Bool.Decides.{nat_tests}
 use Rattle.std.proofs.lemmas.Cmp.{then_total, on_total, nat_cmp_total, nat_list_cmp_total, tied_itself}
 use Rattle.std.proofs.lemmas.List.{get_or_default}
 use Rattle.std.proofs.lemmas.List.Edits.{swapped_from_swap, swap_is, length-swap}
 use Rattle.std.proofs.lemmas.List.Sorted.{IsPermutation-keeps, All-permutation, Contains-permutation, length_permutation, ranks_by, sorted_far}
 use Rattle.tab_term.specs.declared.term.Term.{Term}
-use Rattle.tab_term.specs.Data.{PlainPairs, no_pair, one_pair}
-use Rattle.tab_term.specs.Canon.{canon}
+use Rattle.tab_term.specs.Data.{PlainPairs, no_pair}
 use Rattle.tab_term.specs.Numbers.{lists_are}
 use Rattle.tab_term.specs.Order.{bytes_cmp}
 use Rattle.tab_term.specs.OrderLaws.{canon_same}
-use Rattle.tab_term.specs.View.{term, pairs}
+use Rattle.tab_term.specs.View.{pairs}
 use Rattle.tab_etf.specs.declared.fault.Fault.TheVariants as faults
 use Rattle.tab_etf.specs.declared.fault.Stop.{Stop}
 use Rattle.tab_etf.specs.declared.run.Key.{Key}
-use Rattle.tab_etf.specs.Keys.{key_cmp, has_key, put_pair}
 use Rattle.tab_etf.specs.Keyed.{spelling_at, key_order, IsTwiceAt, IsFirstTwice, IsOrder, no_terms, picked}
 use Rattle.tab_etf.specs.Reading.{stop}
 use Rattle.tab_etf.specs.Runs.{Entry, put_all, IsNoted, AreNoted, ArePaired}
