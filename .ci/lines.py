@@ -26,6 +26,8 @@ GREATEST = 4_294_967_295
 # A process that reads what follows has so many bytes of addresses: room for the bytes that came, and not for all that their
 # counts announce.
 LITTLE = 64 * 1_048_576
+# The same for a process that reads a map as long as a payload may be: the pairs, with room for as many again, take 16 MB.
+FOR_A_MAP = 48 * 1_048_576
 
 # Words, the status, and what standard output and standard error begin with; where a text is empty, nothing stands there.
 WORDS = [
@@ -150,12 +152,21 @@ def announced():
     return asked, frames(*[(0, ("error", "badterm"))] * len(payloads))
 
 
+def longest_map():
+    """A request that is a map of as many integers as a payload holds, in falling order, each to the empty list."""
+    head = b"\x83h\x02a\x01t"
+    count = (LONGEST - len(head) - 4) // 6
+    pairs = b"".join(b"b" + key.to_bytes(4, "big") + b"j" for key in range(count, 0, -1))
+    payload = head + count.to_bytes(4, "big") + pairs
+    return len(payload).to_bytes(4, "big") + payload, frames((1, ("error", "badcommand")))
+
+
 def memory_faults(program):
-    """Counts reserve no more than the bytes that came."""
-    given, told = announced()
-    limit = lambda: resource.setrlimit(resource.RLIMIT_AS, (LITTLE, LITTLE))
-    found = run(program, ["replay"], input=given, stdout=subprocess.PIPE, preexec_fn=limit)
-    yield None if found == (0, told, b"") else f"counts in little memory: {found}"
+    """Counts reserve no more than the bytes that came, and a map little more than its pairs."""
+    for what, (given, told), size in [("counts", announced(), LITTLE), ("a map", longest_map(), FOR_A_MAP)]:
+        limit = lambda size=size: resource.setrlimit(resource.RLIMIT_AS, (size, size))
+        found = run(program, ["replay"], input=given, stdout=subprocess.PIPE, preexec_fn=limit)
+        yield None if found == (0, told, b"") else f"{what} in little memory: {found}"
 
 
 def is_told(wanted, found):
