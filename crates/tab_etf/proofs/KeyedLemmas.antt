@@ -1,5 +1,5 @@
 -- Sorted keys: the first that stands there twice, and the ranks of their pairs.
-use Rattle.std.proofs.Common.{◌≡◌, ◌≢◌, ◌⊎◌, inl, inr, ℕ, ◌+◌, ◌-◌, ◌<◌, ◌≤◌, Bool, true, false, nat_le, if◌then◌else◌, leb-true, leb-false, List, length, map, get_or, set, AllPairs, Option, Some, None, get_or-set_same, get_or-set_other, length-set, refl, sym, ap, ◌∙◌, arith}
+use Rattle.std.proofs.Common.{◌≡◌, ◌≢◌, ◌⊎◌, inl, inr, ℕ, ◌+◌, ◌-◌, ◌<◌, ◌≤◌, true, false, nat_le, if◌then◌else◌, leb-true, leb-false, List, length, get_or, set, AllPairs, Option, Some, None, get_or-set_same, get_or-set_other, refl, sym, ap, ◌∙◌, arith}
 use Rattle.std.proofs.lemmas.Bool.{cases_eq}
 use Rattle.std.proofs.lemmas.List.{get_or_default, get_or-map, length-map}
 use Rattle.tab_term.specs.declared.term.Term.{Term}

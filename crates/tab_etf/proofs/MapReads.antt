@@ -1,13 +1,12 @@
 -- Reading pairs one after the other, as a loop does.
-use Rattle.std.proofs.Common.{◌≡◌, ℕ, suc, ◌-◌, ◌+◌, ◌≤◌, ◌<◌, Bool, true, false, if◌then◌else◌, List, [], ◌∷◌, ◌++◌, length, Result, Ok, Err, refl, sym, ap, ◌∙◌, arith}
+use Rattle.std.proofs.Common.{◌≡◌, ℕ, suc, ◌-◌, ◌+◌, ◌≤◌, ◌<◌, true, false, List, [], ◌∷◌, ◌++◌, length, Result, Ok, Err, refl, ◌∙◌, arith}
 use Rattle.tab_term.specs.Data.{PlainTerm, PlainPairs, no_pair}
 use Rattle.tab_etf.specs.Keys.{has_key, put_pair}
 use Rattle.tab_etf.specs.declared.fault.Stop.{Stop}
 use Rattle.tab_etf.specs.declared.fault.ReadError.{ReadError}
 use Rattle.tab_etf.specs.declared.fault.ReadError.TheVariants as errors
 use Rattle.tab_etf.specs.declared.run.Run.{Run}
-use Rattle.tab_etf.specs.declared.fault.Fault.TheVariants as faults
-use Rattle.tab_etf.specs.Reading.{◌>>=◌, Fails, Reads, stop, key_at, pair_at, pairs_from}
+use Rattle.tab_etf.specs.Reading.{◌>>=◌, Fails, Reads, key_at, pair_at, pairs_from}
 use Rattle.tab_etf.specs.Runs.{Entry, put_all, pair_then, AreNoted, GoesOn}
 use Rattle.tab_etf.proofs.RunsLemmas.{put_all_same, put_all_more}
 

@@ -1,5 +1,5 @@
 -- One more key noted, and one more pair kept.
-use Rattle.std.proofs.Common.{◌≡◌, ◌⊎◌, inl, inr, ℕ, ◌+◌, ◌-◌, ◌<◌, ◌≤◌, ◌&&◌, Bool, true, nat_le, le-leb, if◌then◌else◌, List, [], ◌∷◌, ◌++◌, length, get_or, take, drop, take_all, drop_at, length-append, slice_range, refl, sym, ap, ap₂, ◌∙◌, arith}
+use Rattle.std.proofs.Common.{◌≡◌, ◌⊎◌, inl, inr, ℕ, ◌+◌, ◌-◌, ◌<◌, ◌≤◌, true, nat_le, le-leb, List, [], ◌∷◌, ◌++◌, length, get_or, take, drop, take_all, drop_at, length-append, slice_range, refl, sym, ap, ap₂, ◌∙◌, arith}
 use Rattle.std.proofs.lemmas.Bool.{cases_eq}
 use Rattle.std.proofs.lemmas.List.{get_or_append_left, get_or_push, take-append-le, drop-append-le, length-drop}
 use Rattle.tab_term.specs.declared.term.Term.{Term}

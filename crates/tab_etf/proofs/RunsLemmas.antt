@@ -1,5 +1,5 @@
 -- Entries put to the pairs one by one, and sorted at once.
-use Rattle.std.proofs.Common.{◌≡◌, ◌≢◌, ◌⊎◌, inl, inr, ℕ, zero, suc, ◌+◌, ◌<◌, ◌≤◌, Bool, true, false, ◌||◌, nat_lt, nat_le, ltb-true, lt-ltb, pos, List, [], ◌∷◌, ◌++◌, length, get_or, drop, drop-cons, AllPairs, Result, Ok, Err, if◌then◌else◌, refl, sym, ap, ◌∙◌, arith}
+use Rattle.std.proofs.Common.{◌≡◌, ◌≢◌, ◌⊎◌, inl, inr, ℕ, zero, suc, ◌<◌, ◌≤◌, Bool, true, false, ◌||◌, nat_lt, ltb-true, lt-ltb, pos, List, [], ◌∷◌, ◌++◌, length, get_or, drop, drop-cons, AllPairs, Result, Ok, Err, if◌then◌else◌, refl, sym, ap, ◌∙◌, arith}
 use Rattle.std.specs.declared.cmp.Ordering.TheVariants.{Less}
 use Rattle.std.proofs.lemmas.Bool.Decides.{nat_tests}
 use Rattle.tab_term.specs.Data.{PlainTerm, int, PlainPairs, no_pair, one_pair}

@@ -1,30 +1,26 @@
 -- What sorted keys say of the pairs as they were read.
-use Rattle.std.proofs.Common.{◌≡◌, ◌≢◌, ◌⊎◌, inl, inr, ℕ, suc, ◌+◌, ◌-◌, ◌<◌, ◌≤◌, true, false, true≢false, if◌then◌else◌, List, [], ◌∷◌, length, map, get_or, drop, drop-cons, drop_of_length-le, swap, AllPairs, All, IsPermutation, IsSortedBy, Option, Some, None, Result, Ok, Err, lt-ltb, refl, sym, ap, ap₂, ◌∙◌, arith}
+use Rattle.std.proofs.Common.{◌≡◌, ◌≢◌, inl, inr, ℕ, suc, ◌+◌, ◌-◌, ◌<◌, ◌≤◌, false, true≢false, List, [], ◌∷◌, length, get_or, drop, drop-cons, swap, AllPairs, All, IsPermutation, IsSortedBy, Option, Some, None, Result, Err, lt-ltb, refl, sym, ap, ap₂, ◌∙◌, arith}
 use Rattle.std.specs.declared.cmp.Ordering.{Ordering}
 use Rattle.std.specs.declared.cmp.Ordering.TheVariants.{Less, Equal, Greater}
 use Rattle.std.specs.Ordering.{is_lt, nat_cmp, ordering_then, ordering_reverse}
-use Rattle.std.specs.Cmp.{IsStrictWeakOrder}
 use Rattle.std.specs.List.{SwappedAt}
-use Rattle.std.proofs.lemmas.Bool.{cases_eq}
 use Rattle.std.proofs.lemmas.Bool.Decides.{nat_tests}
 use Rattle.std.proofs.lemmas.Cmp.{then_total, on_total, nat_cmp_total, nat_list_cmp_total, tied_itself}
 use Rattle.std.proofs.lemmas.List.{get_or_default}
 use Rattle.std.proofs.lemmas.List.Edits.{swapped_from_swap, swap_is, length-swap}
 use Rattle.std.proofs.lemmas.List.Sorted.{IsPermutation-keeps, All-permutation, Contains-permutation, length_permutation, ranks_by, sorted_far}
 use Rattle.tab_term.specs.declared.term.Term.{Term}
-use Rattle.tab_term.specs.Data.{PlainPairs, no_pair, one_pair}
-use Rattle.tab_term.specs.Canon.{canon}
+use Rattle.tab_term.specs.Data.{PlainPairs, no_pair}
 use Rattle.tab_term.specs.Numbers.{lists_are}
 use Rattle.tab_term.specs.Order.{bytes_cmp}
 use Rattle.tab_term.specs.OrderLaws.{canon_same}
-use Rattle.tab_term.specs.View.{term, pairs}
+use Rattle.tab_term.specs.View.{pairs}
 use Rattle.tab_etf.specs.declared.fault.Fault.TheVariants as faults
 use Rattle.tab_etf.specs.declared.fault.Stop.{Stop}
 use Rattle.tab_etf.specs.declared.run.Key.{Key}
-use Rattle.tab_etf.specs.Keys.{key_cmp, has_key, put_pair}
 use Rattle.tab_etf.specs.Keyed.{spelling_at, key_order, IsTwiceAt, IsFirstTwice, IsOrder, no_terms, picked}
 use Rattle.tab_etf.specs.Reading.{stop}
-use Rattle.tab_etf.specs.Runs.{Entry, put_all, IsNoted, AreNoted, ArePaired}
+use Rattle.tab_etf.specs.Runs.{Entry, put_all, first_stop, IsFirstFault, IsNoted, AreNoted, ArePaired}
 use Rattle.tab_etf.proofs.Exchanges.{source, source_once, source_below, from_source}
 use Rattle.tab_etf.proofs.KeyedLemmas.{no_key}
 use Rattle.tab_etf.proofs.RunsLemmas.{no_entry, entry_at, kept, kept_has, IsApart, puts}
@@ -162,6 +158,10 @@ module _ (s : List ℕ) (ks : List Key) (es : List Entry) (noted : AreNoted s ks
       once f =
           puts_until (length es) (omega arith) (apart (length es) (λ p d h t. absurd (f p h t)))
           ∙ ap (λ (rest : List Entry). put_all (kept (entry_at es) (length es) ss) rest go_on) (drop_all es)
+
+    pub stops_first : (at : Stop) (r : Option Key) → IsFirstTwice s ss (length ss) r → IsFirstFault es at (first_stop r at)
+    stops_first at None f = once (λ ps. Err at) f
+    stops_first at (Some k) f = twice (λ ps. Err at) k f
 
     kept_pairs : (ps : List (Term × Term)) → ArePaired ps es → (ls : List Key) → ((p : ℕ) (d : Key) → p < length ls → (get_or ls p d).pair < length es) → kept (entry_at es) (length es) ls ≡ pairs (picked ps ls)
     kept_pairs ps paired [] h = refl

@@ -1,5 +1,5 @@
 -- The keys of a map beside their spellings: sorted, and with the numbers of their pairs.
-use Rattle.std.specs.Prelude.{◌≡◌, ◌≢◌, ℕ, ◌+◌, ◌<◌, ◌≤◌, ◌&&◌, nat_le, if◌then◌else◌, pos, List, [], length, map, AllPairs, Contains, Option, Some, None, slice_index, slice_index_or, slice_range}
+use Rattle.std.specs.Prelude.{◌≡◌, ◌≢◌, ℕ, ◌+◌, ◌<◌, ◌≤◌, ◌&&◌, nat_le, if◌then◌else◌, pos, List, [], length, map, AllPairs, Option, Some, None, slice_index, slice_index_or, slice_range}
 use Rattle.std.specs.Ordering.{nat_cmp, ordering_then}
 use Rattle.std.specs.declared.cmp.Ordering.{Ordering}
 use Rattle.tab_term.specs.Order.{bytes_cmp}

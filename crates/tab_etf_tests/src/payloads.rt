@@ -192,31 +192,45 @@ fn of_three_bytes_259_payloads_are_terms(rt: HostRuntime) {
     assert_eq!(rt; count, 259);
 }
 
-/// A map of 1,000 integers as keys, each to the empty list.
-fn long_map(alloc: Global, falling: bool) -> Result<Vec<u8>, Fail> {
-    let mut out = bytes(alloc, "83 74 000003E8")?;
-    for i in 0..1_000u32 {
-        let key: u32 = if falling {
-            1_000_999u32.saturating_sub(i)
-        } else {
-            1_000_000u32.saturating_add(i)
-        };
+/// A map of 5,000 integers as keys, each to the empty list: from 1,000,000 on, in steps that go round after 5,000.
+fn long_map(alloc: Global, first: u32, step: u32) -> Result<Vec<u8>, Fail> {
+    let mut out = bytes(alloc, "83 74 00001388")?;
+    for i in 0..5_000u32 {
+        let key = first.wrapping_add(step.wrapping_mul(i)) % 5_000;
         out.push(98)?;
-        out.extend_from_slice(&key.to_be_bytes())?;
+        out.extend_from_slice(&1_000_000u32.saturating_add(key).to_be_bytes())?;
         out.push(106)?;
     }
     Ok(out)
 }
 
+/// The first key and the steps: falling, mixed, and every second one, which comes again at the 2,501st pair of six bytes each.
+const LONG_MAPS: [(u32, u32, Option<usize>); 4] = [
+    (0, 1, None),
+    (4_999, 4_999, None),
+    (0, 1_237, None),
+    (0, 2, Some(15_006)),
+];
+
 #[test]
 fn a_long_map_is_read_in_any_order(rt: HostRuntime) -> Result<(), Fail> {
     let alloc = rt.alloc();
-    let want = long_map(alloc, false)?;
-    for falling in [true, false] {
-        let term = decode(alloc, &long_map(alloc, falling)?)?;
-        let mut out = Vec::new(alloc);
-        encode(&term, &mut out)?;
-        assert!(rt; out.as_slice() == want.as_slice(), "the keys ascend");
+    let want = long_map(alloc, 0, 1)?;
+    for (first, step, twice) in &LONG_MAPS {
+        match (decode(alloc, &long_map(alloc, *first, *step)?), *twice) {
+            (Ok(term), None) => {
+                let mut out = Vec::new(alloc);
+                encode(&term, &mut out)?;
+                assert!(rt; out.as_slice() == want.as_slice(), "the keys ascend");
+            }
+            (Err(fault), Some(place)) => assert_eq!(rt;
+                fault,
+                EtfFault::At(Fault::DuplicateKey, place),
+                "{step}"
+            ),
+            (Ok(_), Some(_)) => assert!(rt; false, "{step} was read"),
+            (Err(fault), None) => assert!(rt; false, "{step}: {fault}"),
+        }
     }
     Ok(())
 }

@@ -1,8 +1,7 @@
 use Rattle.std.proofs.lemmas.Result.{err_from_is_err_and}
-use Rattle.std.proofs.Common.{ℕ, ◌+◌, ◌-◌, List, [], ◌∷◌, ◌++◌, length, Ok, Bor, refl, ap, sym, ◌∙◌}
-use Rattle.tab_term.specs.Data.{PlainPairs, no_pair}
+use Rattle.std.proofs.Common.{ℕ, ◌+◌, ◌-◌, List, [], ◌∷◌, ◌++◌, length, Ok, Bor, refl, ap, ◌∙◌}
+use Rattle.tab_term.specs.Data.{PlainPairs}
 use Rattle.tab_term.specs.View.{term, terms}
-use Rattle.tab_term.specs.declared.term.Term.{Term}
 use Rattle.tab_etf.specs.Reading.{times, pairs_from, term_at}
 use Rattle.tab_etf.proofs.TimesLemmas.{goes_on, ends, is_done}
 use Rattle.tab_etf.proofs.MapReads.{key_fails, value_fails, pair_goes_on, ended_as, pairs_next, pairs_end}

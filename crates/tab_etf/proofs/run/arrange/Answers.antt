@@ -1,4 +1,4 @@
-use Rattle.std.proofs.Common.{◌≡◌, ◌<◌, length, get_or, refl, ◌∙◌, arith}
+use Rattle.std.proofs.Common.{get_or, refl, ◌∙◌, arith}
 use Rattle.tab_etf.proofs.Exchanges.{ranked_swap, ranked_by_swap, still_placed, fewer, all_placed}
 use Rattle.tab_etf.proofs.run.arrange.Goals as goal
 

@@ -1,4 +1,4 @@
-use Rattle.std.proofs.Common.{◌≡◌, ℕ, ◌+◌, ◌-◌, ◌<◌, ◌≤◌, List, length, get_or}
+use Rattle.std.proofs.Common.{◌≡◌, ℕ, ◌+◌, ◌-◌, ◌<◌, List, length, get_or}
 use Rattle.tab_etf.specs.Keyed.{AreRanked}
 use Rattle.tab_etf.proofs.Exchanges.{IsRankedBy, misplaced}
 use Rattle.tab_etf.proofs.run.arrange.Given as goal

@@ -1,6 +1,6 @@
-use Rattle.std.proofs.Common.{◌≡◌, ◌∙◌, ◌+◌, ◌<◌, length, true≢false, sym, subst, arith, Some}
+use Rattle.std.proofs.Common.{◌∙◌, ◌+◌, ◌<◌, true≢false, sym, arith}
 use Rattle.std.proofs.lemmas.List.{get_or_default}
-use Rattle.tab_etf.specs.Keyed.{IsFirstTwice, earlier}
+use Rattle.tab_etf.specs.Keyed.{IsFirstTwice}
 use Rattle.tab_etf.proofs.KeyedLemmas.{no_key, twice_at, not_twice_at, twice_less, twice_more, twice_end}
 use Rattle.tab_etf.proofs.run.first_twice.Goals as goal
 use Rattle.tab_etf.proofs.run.first_twice.Goals.{then-are_alike, else-are_alike}

@@ -1,4 +1,4 @@
-use Rattle.std.proofs.Common.{◌≡◌, ◌∙◌, length, take_at, refl, subst, ap, sym, arith}
+use Rattle.std.proofs.Common.{◌∙◌, length, take_at, refl, subst, ap, sym}
 use Rattle.tab_term.specs.View.{pairs}
 use Rattle.tab_etf.specs.Keyed.{AreRanked, picked}
 use Rattle.tab_etf.proofs.KeyedLemmas.{are_ranked, ranked_by, picked_length}

@@ -1,6 +1,5 @@
-use Rattle.std.proofs.Common.{◌≡◌, ◌∙◌, ap, sym, subst, take_at, Ok, length}
+use Rattle.std.proofs.Common.{◌∙◌, ap, sym, subst, take_at, Ok, length}
 use Rattle.tab_term.specs.View.{pairs}
-use Rattle.tab_etf.specs.declared.run.Key.{Key}
 use Rattle.tab_etf.specs.Keyed.{IsOrder, picked}
 use Rattle.tab_etf.proofs.Settling.{is_order, twice, once, all_pairs}
 use Rattle.tab_etf.proofs.run.ordered.Goals as goal

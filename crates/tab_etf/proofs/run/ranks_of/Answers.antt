@@ -1,4 +1,4 @@
-use Rattle.std.proofs.Common.{◌∙◌, length-set, arith}
+use Rattle.std.proofs.Common.{◌∙◌, length-set}
 use Rattle.tab_etf.proofs.KeyedLemmas.{no_key, ranks_more}
 use Rattle.tab_etf.proofs.run.ranks_of.Goals as goal
 
