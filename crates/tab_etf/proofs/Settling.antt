@@ -1,5 +1,5 @@
 -- What sorted keys say of the pairs as they were read.
-use Rattle.std.proofs.Common.{◌≡◌, ◌≢◌, inl, inr, ℕ, suc, ◌+◌, ◌-◌, ◌<◌, ◌≤◌, false, true≢false, List, [], ◌∷◌, length, get_or, drop, drop-cons, swap, AllPairs, All, IsPermutation, IsSortedBy, Some, None, Result, lt-ltb, refl, sym, ap, ap₂, ◌∙◌, arith}
+use Rattle.std.proofs.Common.{◌≡◌, ◌≢◌, inl, inr, ℕ, suc, ◌+◌, ◌-◌, ◌<◌, ◌≤◌, false, true≢false, List, [], ◌∷◌, length, get_or, drop, drop-cons, swap, AllPairs, All, IsPermutation, IsSortedBy, Option, Some, None, Result, Err, lt-ltb, refl, sym, ap, ap₂, ◌∙◌, arith}
 use Rattle.std.specs.declared.cmp.Ordering.{Ordering}
 use Rattle.std.specs.declared.cmp.Ordering.TheVariants.{Less, Equal, Greater}
 use Rattle.std.specs.Ordering.{is_lt, nat_cmp, ordering_then, ordering_reverse}
@@ -20,7 +20,7 @@ use Rattle.tab_etf.specs.declared.fault.Stop.{Stop}
 use Rattle.tab_etf.specs.declared.run.Key.{Key}
 use Rattle.tab_etf.specs.Keyed.{spelling_at, key_order, IsTwiceAt, IsFirstTwice, IsOrder, no_terms, picked}
 use Rattle.tab_etf.specs.Reading.{stop}
-use Rattle.tab_etf.specs.Runs.{Entry, put_all, IsNoted, AreNoted, ArePaired}
+use Rattle.tab_etf.specs.Runs.{Entry, put_all, first_stop, IsFirstFault, IsNoted, AreNoted, ArePaired}
 use Rattle.tab_etf.proofs.Exchanges.{source, source_once, source_below, from_source}
 use Rattle.tab_etf.proofs.KeyedLemmas.{no_key}
 use Rattle.tab_etf.proofs.RunsLemmas.{no_entry, entry_at, kept, kept_has, IsApart, puts}
@@ -158,6 +158,10 @@ module _ (s : List ℕ) (ks : List Key) (es : List Entry) (noted : AreNoted s ks
       once f =
           puts_until (length es) (omega arith) (apart (length es) (λ p d h t. absurd (f p h t)))
           ∙ ap (λ (rest : List Entry). put_all (kept (entry_at es) (length es) ss) rest go_on) (drop_all es)
+
+    pub stops_first : (at : Stop) (r : Option Key) → IsFirstTwice s ss (length ss) r → IsFirstFault es at (first_stop r at)
+    stops_first at None f = once (λ ps. Err at) f
+    stops_first at (Some k) f = twice (λ ps. Err at) k f
 
     kept_pairs : (ps : List (Term × Term)) → ArePaired ps es → (ls : List Key) → ((p : ℕ) (d : Key) → p < length ls → (get_or ls p d).pair < length es) → kept (entry_at es) (length es) ls ≡ pairs (picked ps ls)
     kept_pairs ps paired [] h = refl

@@ -1,5 +1,5 @@
 -- Pairs as they are kept while a map is read.
-use Rattle.std.specs.Prelude.{◌≡◌, ℕ, ◌≤◌, ◌<◌, List, [], ◌∷◌, length, Result, Ok, Err, if◌then◌else◌, slice_index_or}
+use Rattle.std.specs.Prelude.{◌≡◌, ℕ, ◌≤◌, ◌<◌, List, [], ◌∷◌, length, Option, Some, None, Result, Ok, Err, if◌then◌else◌, slice_index_or}
 use Rattle.tab_term.specs.Data.{PlainTerm, PlainPairs, no_pair}
 use Rattle.tab_term.specs.Canon.{canon}
 use Rattle.tab_term.specs.View.{term}
@@ -26,6 +26,11 @@ put_all ps (e ∷ es) go_on = if has_key e.0 ps then stop faults.DuplicateKey e.
 -- the next pair, and then the rest
 abbrev pub pair_then : {A : Type 0} → Reads → (PlainPairs × List ℕ → Result A Stop) → List ℕ → PlainPairs → Result A Stop
 pair_then read go_on bytes ps = pair_at read ps bytes >>= go_on
+
+-- a key that stands there twice goes before the fault that the reading came to
+abbrev pub first_stop : Option Key → Stop → Stop
+first_stop None at = at
+first_stop (Some k) at = record { fault = faults.DuplicateKey; left = k.left }
 
 -- the first fault, where the reading came to this one
 abbrev pub IsFirstFault : List Entry → Stop → Stop → Type 0

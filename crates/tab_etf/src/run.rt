@@ -10,7 +10,7 @@ ghost use Rattle.tab_term.specs.View.{term, pairs as pairs_of};
 ghost use Rattle.tab_etf.specs.declared.fault.Stop.{Stop};
 ghost use Rattle.tab_etf.specs.Reading.{Gives, Fails};
 ghost use Rattle.tab_etf.specs.Keyed.{spelling_at, key_order, next_key, earlier, IsFirstTwice, IsOrder, AreRanks, AreRanked, picked};
-ghost use Rattle.tab_etf.specs.Runs.{Entry, put_all, IsFirstFault, AreNoted, Holds, Ran};
+ghost use Rattle.tab_etf.specs.Runs.{Entry, put_all, first_stop, IsFirstFault, AreNoted, Holds, Ran};
 
 use crate::encoding::append_spelling;
 use crate::fault::{Fault, ReadError, Stop};
@@ -200,7 +200,20 @@ fn ordered(alloc: Global, run: Run) -> Result<Pairs, ReadError>
     Ok(in_order(alloc, pairs, &keys)?)
 }
 
-/// The first fault, where the reading came to this one: a key that stands there twice was told before.
+/// A key that stands there twice goes before the fault that the reading came to, since it was told before its value was read.
+fn earlier_stop(found: Option<Key>, at: Stop) -> Stop
+    ensures { result ≡ first_stop found at }
+{
+    match found {
+        Some(key) => Stop {
+            fault: Fault::DuplicateKey,
+            left: key.left,
+        },
+        None => at,
+    }
+}
+
+/// The first fault, where the reading came to this one.
 fn first_fault(run: Run, at: Stop) -> Stop
     ensures { (es : List Entry) → AreNoted run.spelled.items run.keys.items es → IsFirstFault es at result }
 {
@@ -209,13 +222,7 @@ fn first_fault(run: Run, at: Stop) -> Stop
         mut keys,
         spelled,
     } = run;
-    match sort_and_find(&spelled, &mut keys) {
-        Some(key) => Stop {
-            fault: Fault::DuplicateKey,
-            left: key.left,
-        },
-        None => at,
-    }
+    earlier_stop(sort_and_find(&spelled, &mut keys), at)
 }
 
 /// The first fault, where the reading ended with this error. Without memory there is none to be told.
