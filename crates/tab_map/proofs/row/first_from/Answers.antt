@@ -7,3 +7,6 @@ returns-in-Ok g c = c.pair_at.ensures ∙ sym (has_from g.met.K.Ord.total _ _ _ 
 
 pub returns-in-Err : goal.returns-in-Err
 returns-in-Err g c = c.pair_at-in-Err.ensures ∙ sym (gap_from g.K.Ord.cmp _ _ _ c.in-Err.ensures.gap)
+
+pub place-requires : goal.place-requires
+place-requires g c = c.requires
