@@ -15,5 +15,5 @@ invariant_of-self-then-is_empty c =
       kind = ap (λ v. v.0) changed ∙ kept.kind;
       ordered = ap is_ordered (ap (λ v. v.1) changed) ∙ ordered-apply was.0 was.1 c.args.change.now kept.ordered;
       positions_are = kept.positions_are;
-      indexes_are = λ k d h. absurd (omega (arith, none, c.self.inside.indexes.len, h));
+      indexes_are = λ k d h. absurd (omega (arith, none, h));
     }
