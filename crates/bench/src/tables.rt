@@ -30,14 +30,14 @@ struct Sample {
     writes: Vec<Change>,
 }
 
-/// At this many records: a look-up, a new version of the table with one record written, without an index and with one, and
-/// a look-up by the index, each beside the standard map's `get` or `insert` in place; and writes of one key of a bag, which
-/// `records` doesn't change.
+/// At this many records: a look-up, a record written in place, a new version of the table with one record written, without an
+/// index and with one, and a look-up by the index, each beside the standard map's `get` or `insert` in place; and writes of
+/// one key of a bag, which `records` doesn't change.
 pub fn measure<H: AllocGlobal + Clock>(rt: &H, records: u32) -> Result<Vec<Figure>> {
     let alloc = rt.alloc();
     let calls = records.min(CALLS);
     let numbers = shuffled(alloc, records, 1)?;
-    let plain = filled(alloc, &writes(alloc, &numbers, 0)?)?;
+    let mut plain = filled(alloc, &writes(alloc, &numbers, 0)?)?;
     let indexed = plain.add_index(alloc, VALUE)?;
     let sample = sample_of(alloc, &shuffled(alloc, calls, 2)?)?;
     let mut standard = standard_of(alloc, &numbers)?;
@@ -45,15 +45,14 @@ pub fn measure<H: AllocGlobal + Clock>(rt: &H, records: u32) -> Result<Vec<Figur
     let read = reads(rt, &plain, &sample)?;
     let found = index_reads(rt, &indexed, &sample)?;
     let put = standard_writes(rt, &mut standard, &sample)?;
+    let with_index = versions(rt, indexed, &sample)?;
+    let changed = changes(rt, &mut plain, &sample)?;
     let lines = [
         ("read", read, got),
         ("index_read", found, got),
+        ("changed in place", changed, put),
         ("updated", versions(rt, plain, &sample)?, put),
-        (
-            "updated with an index",
-            versions(rt, indexed, &sample)?,
-            put,
-        ),
+        ("updated with an index", with_index, put),
     ];
     let mut figures = Vec::new(alloc);
     for (call, took, beside) in &lines {
@@ -216,6 +215,23 @@ fn index_reads<H: AllocGlobal + Clock>(
         ensure!(found.as_slice().len() == 1, "a value is not found");
     }
     Ok(start.elapsed(rt)?)
+}
+
+/// Each write in place, in a table that no other shares.
+fn changes<H: AllocGlobal + Clock>(
+    rt: &H,
+    table: &mut IndexedTable,
+    sample: &Sample,
+) -> Result<Duration> {
+    let alloc = rt.alloc();
+    let size = table.size();
+    let start = Instant::now(rt)?;
+    for write in &sample.writes {
+        table.change(alloc, write)?;
+    }
+    let took = start.elapsed(rt)?;
+    ensure!(table.size() == size, "a write added a record");
+    Ok(took)
 }
 
 /// A new version for each write, while the last one still stands.

@@ -1,4 +1,4 @@
-ghost use Rattle.std.specs.Prelude.{◌≡◌, [], IfOk, IfSome, OnOk, is_some, true, if◌then◌else◌, Some, None, length, map};
+ghost use Rattle.std.specs.Prelude.{◌≡◌, [], IfOk, IfSome, OnOk, OnErr, is_some, true, if◌then◌else◌, Some, None, length, map};
 ghost use Rattle.std.specs.List.{All};
 ghost use Rattle.std.specs.Option.{option_copied};
 ghost use Rattle.tab_term.specs.View.{term, terms};
@@ -16,6 +16,7 @@ use crate::indexes::{empty_indexes, new_place, other_indexes, positions_of, shar
 use crate::matching;
 use std::alloc::{AllocError, Global};
 use std::marker::Model;
+use std::slice;
 use std::sync::Arc;
 use tab_map::{Iter, Set};
 use tab_model::{Change, TableDef};
@@ -228,6 +229,20 @@ impl IndexedTable {
         }
         Ok(IndexedTable { def, rows, indexes })
     }
+
+    /// Makes a change. A table without indexes is changed in place where nothing is shared; one with indexes gives way to
+    /// its next version, since its parts can't change at once.
+    pub fn change(&mut self, alloc: Global, change: &Change) -> Result<(), AllocError>
+        ensures ok { OnOk result (self.new ≡ with_rows self.old (apply_in self.old.def.kind self.old.rows change.now)) }
+        ensures err { OnErr result (self.new ≡ self.old) }
+    {
+        if self.indexes.is_empty() {
+            change_rows(alloc, &mut self.rows, change)?;
+            return Ok(());
+        }
+        *self = self.updated(alloc, slice::from_ref(change))?;
+        Ok(())
+    }
 }
 
 fn change_indexes(
@@ -248,7 +263,8 @@ fn change_indexes(
 }
 
 fn change_rows(alloc: Global, rows: &mut Rows, change: &Change) -> Result<(), AllocError>
-    ensures { OnOk result (rows.new ≡ (rows.old.0, apply_in rows.old.0 rows.old.1 change.now)) }
+    ensures ok { OnOk result (rows.new ≡ (rows.old.0, apply_in rows.old.0 rows.old.1 change.now)) }
+    ensures err { OnErr result (rows.new ≡ rows.old) }
 {
     match change {
         Change::Write(row) => rows.put(alloc, row.try_clone(alloc)?),

@@ -126,17 +126,14 @@ pub fn beside(
 /// The table after a step, made of it where that changes records.
 pub fn stepped(
     alloc: Global,
-    table: IndexedTable,
+    mut table: IndexedTable,
     step: &Step,
 ) -> Result<IndexedTable, AllocError> {
-    match change(alloc, step)? {
-        Some(one) => {
-            let mut changes = Vec::with_capacity(alloc, 1)?;
-            changes.push(one)?;
-            table.applied(alloc, changes.as_slice())
-        }
-        None => beside(alloc, &table, step),
-    }
+    let Some(one) = change(alloc, step)? else {
+        return beside(alloc, &table, step);
+    };
+    table.change(alloc, &one)?;
+    Ok(table)
 }
 
 /// Whether these are the records, in this order.

@@ -150,8 +150,7 @@ fn commit_to(alloc: Global, world: &mut World, updates: &[Change]) -> Result<(),
     if updates.is_empty() {
         return Ok(());
     }
-    *world = world.updated(alloc, updates)?;
-    Ok(())
+    world.update(alloc, updates)
 }
 
 /// An open transaction is over, and leaves the log its entry.

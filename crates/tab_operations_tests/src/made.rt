@@ -87,12 +87,15 @@ fn change(alloc: Global, update: &Update) -> Result<Change, AllocError> {
     })
 }
 
+/// The tables after the updates. These stay as they were.
 pub fn updated(alloc: Global, world: &World, updates: &[Update]) -> Result<World, AllocError> {
     let mut changes = Vec::new(alloc);
     for update in updates {
         changes.push(change(alloc, update)?)?;
     }
-    world.updated(alloc, changes.as_slice())
+    let mut next = world.share()?;
+    next.update(alloc, changes.as_slice())?;
+    Ok(next)
 }
 
 fn created(

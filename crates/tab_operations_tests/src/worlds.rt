@@ -25,10 +25,19 @@ const OLD_BAG: &[Shape] = &[
     Tuple(&[Atom("b"), Int(2), Int(10)]),
 ];
 
-static CASES: [Case; 4] = [
+static CASES: [Case; 5] = [
     Case {
         updates: &[],
         set: OLD_SET,
+        bag: OLD_BAG,
+    },
+    Case {
+        updates: &[Update::Write(&[Atom("s"), Int(2), Int(5)])],
+        set: &[
+            Tuple(&[Atom("s"), Int(1), Int(10)]),
+            Tuple(&[Atom("s"), Int(2), Int(5)]),
+            Tuple(&[Atom("s"), Int(3), Int(30)]),
+        ],
         bag: OLD_BAG,
     },
     // changes of a key, one after another

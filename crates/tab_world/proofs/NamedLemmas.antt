@@ -1,15 +1,20 @@
 -- Finding and placing tables by name, in a map and in a world.
 use Rattle.std.proofs.Common.{◌≡◌, ℕ, List, [], ◌∷◌, false, refl, sym, ap, ◌∙◌, Some, None, Ordering, Less, Equal, Greater}
-use Rattle.std.specs.Prelude.{if◌then◌else◌}
+use Rattle.std.specs.Prelude.{if◌then◌else◌, IfSome, Option}
 use Rattle.std.specs.Str.{bytes_eq}
 use Rattle.std.specs.Ordering.{match_ordering, ordering_reverse, is_lt, is_eq}
 use Rattle.std.specs.Cmp.{IsTotalOrder}
 use Rattle.std.proofs.lemmas.Cmp.{nat_list_cmp_total}
+use Rattle.std.proofs.lemmas.Slice.Eq.{bytes_eq-Decides}
 use Rattle.tab_term.specs.OrderLaws.{matches_bytes}
 use Rattle.tab_map.specs.Entries.{lookup, insert_entry, remove_entry, AllAbove, Ascends}
+use Rattle.tab_map.specs.Revised.{revised_as, revised_at}
 use Rattle.tab_map.proofs.AscendsLemmas.{ascends_insert, ascends_remove}
+use Rattle.tab_model.specs.declared.data.Change.{Change}
 use Rattle.tab_model.specs.Names.{before}
-use Rattle.tab_model.specs.Worlds.{Table, name_of, find, place, without}
+use Rattle.tab_model.specs.Operations.{table_of_change, change_table, change_world}
+use Rattle.tab_model.specs.Tables.{apply}
+use Rattle.tab_model.specs.Worlds.{Table, name_of, find, place, with_rows, without}
 use Rattle.tab_world.specs.Named.{Entry, world_of, AllNamed, AreNamed}
 use Rattle.tab_term.specs.Order.{bytes_cmp}
 
@@ -68,6 +73,33 @@ all_named_insert (e ∷ es) x h k = cases (all_named_insert es x h k.1) (bytes_c
 
 pub named_insert : (es : List Entry) (t : Table) (n : List ℕ) → n ≡ name_of t → AreNamed es → AreNamed (insert_entry bytes_cmp (n, t) es)
 named_insert es t n e w = record { ascends = ascends_insert nat_list_cmp_total (n, t) es w.ascends; named = all_named_insert es (n, t) (sym e) w.named }
+
+named_at : (es : List Entry) (n : List ℕ) → AllNamed es → IfSome (lookup bytes_cmp n es) (λ t. n ≡ name_of t)
+named_at [] n k = tt
+named_at (e ∷ es) n k = cases (named_at es n k.1) (bytes_cmp n e.0) refl
+  where
+    cases : IfSome (lookup bytes_cmp n es) (λ t. n ≡ name_of t) → (o : Ordering) → bytes_cmp n e.0 ≡ o → IfSome (match_ordering o None (Some e.1) (lookup bytes_cmp n es)) (λ t. n ≡ name_of t)
+    cases ih Less h = tt
+    cases ih Equal h = (bytes_eq-Decides n e.0).0 (matches_bytes n e.0 ∙ ap is_eq h) ∙ sym k.0
+    cases ih Greater h = ih
+
+-- the table of a change, where it stands, with its records after the change
+abbrev pub changed : Change → Table → Table
+changed c t = with_rows t (apply t.def.kind t.rows c)
+
+pub altered : (es : List Entry) (c : Change) → AreNamed es → world_of (revised_at bytes_cmp (changed c) (table_of_change c) es) ≡ change_world (world_of es) c
+altered es c w = cases (lookup bytes_cmp (table_of_change c) es) (named_at es (table_of_change c) w.named) ∙ ap (λ o. change_table (world_of es) o c) (sym (found es (table_of_change c) w))
+  where
+    cases : (o : Option Table) → IfSome o (λ t. table_of_change c ≡ name_of t) → world_of (revised_as bytes_cmp (changed c) (table_of_change c) es o) ≡ change_table (world_of es) o c
+    cases None h = refl
+    cases (Some t) h = placed es (changed c t) (table_of_change c) h w.named
+
+pub named_altered : (es : List Entry) (c : Change) → AreNamed es → AreNamed (revised_at bytes_cmp (changed c) (table_of_change c) es)
+named_altered es c w = cases (lookup bytes_cmp (table_of_change c) es) (named_at es (table_of_change c) w.named)
+  where
+    cases : (o : Option Table) → IfSome o (λ t. table_of_change c ≡ name_of t) → AreNamed (revised_as bytes_cmp (changed c) (table_of_change c) es o)
+    cases None h = w
+    cases (Some t) h = named_insert es (changed c t) (table_of_change c) h w
 
 at_all : (n k : List ℕ) (es : List Entry) → bytes_cmp n k ≡ Equal → AllAbove bytes_cmp k es → AllAbove bytes_cmp n es
 at_all n k [] h a = tt

@@ -5,6 +5,7 @@
 
 #![tactic(auto)]
 
+mod altered;
 mod changing;
 mod event;
 mod schemas;

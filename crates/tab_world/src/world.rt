@@ -1,10 +1,13 @@
-ghost use Rattle.std.specs.Prelude.{◌≡◌, [], IfOk, nat_lt, length};
+ghost use Rattle.std.specs.Prelude.{◌≡◌, [], IfOk, OnOk, OnErr, nat_lt, length};
 ghost use Rattle.std.specs.Option.{option_copied};
 ghost use Rattle.tab_model.specs.Worlds.{find, place, without as without_table};
 ghost use Rattle.tab_model.specs.Events.{change_all};
+ghost use Rattle.tab_model.specs.Operations.{change_world};
 ghost use Rattle.tab_world.specs.Named.{world_of};
 
+use crate::altered::Altered;
 use crate::changing::Changing;
+use crate::tags::table_of_change;
 use std::alloc::{AllocError, Global};
 use std::marker::Model;
 use tab_index::IndexedTable;
@@ -93,6 +96,29 @@ impl World {
             changing = changing.changed(alloc, change, &nameless)?;
         }
         changing.into_world(alloc)
+    }
+
+    /// Makes the changes, in turn. Only one of a table without indexes is made in place: the tables of several stay until
+    /// memory for all of them is there.
+    pub fn update(&mut self, alloc: Global, changes: &[Change]) -> Result<(), AllocError>
+        ensures ok { OnOk result (self.new ≡ change_all self.old changes.now) }
+        ensures err { OnErr result (self.new ≡ self.old) }
+    {
+        match changes {
+            [change] => self.change(alloc, change)?,
+            _ => *self = self.updated(alloc, changes)?,
+        }
+        Ok(())
+    }
+
+    fn change(&mut self, alloc: Global, change: &Change) -> Result<(), AllocError>
+        ensures ok { OnOk result (self.new ≡ change_world self.old change.now) }
+        ensures err { OnErr result (self.new ≡ self.old) }
+    {
+        let nameless = Atom::from_short_text(alloc, "")?;
+        let name = table_of_change(change, &nameless).try_clone(alloc)?;
+        self.by_name.revise(alloc, name, Altered { change })?;
+        Ok(())
     }
 
     /// The tables without the one of this name. These stay as they were.

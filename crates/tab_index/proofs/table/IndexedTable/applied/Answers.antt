@@ -14,10 +14,10 @@ loop-change-preserved c =
     let kept = c.loop-change.invariant.kept in
     let changes = c.args.changes.now in
     let i = c.loop-change.change-index in
-    let rows = ap (λ v. v.1) c.in_ok-change_rows.ensures in
+    let rows = ap (λ v. v.1) c.in_ok-change_rows.ensures.ok in
     record {
       kept = record {
-        kind = ap (λ v. v.0) c.in_ok-change_rows.ensures ∙ kept.kind;
+        kind = ap (λ v. v.0) c.in_ok-change_rows.ensures.ok ∙ kept.kind;
         ordered = ap is_ordered rows ∙ ordered-apply was.0 was.1 change kept.ordered;
         positions_are = c.in_ok-change_indexes.ensures.positions ∙ kept.positions_are;
         indexes_are = subst (λ r. AreIndexesOf r c.change_indexes.new.indexes.items) (sym rows) c.in_ok-change_indexes.ensures.indexes;
