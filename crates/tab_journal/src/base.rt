@@ -3,10 +3,10 @@
 ghost use Rattle.std.specs.Prelude.{◌≡◌, IfOk, OnOk, OnErr};
 ghost use Rattle.tab_model.specs.declared.data.Schema.{Schema as SchemaOf};
 ghost use Rattle.tab_model.specs.Schemas.{schema_refusal, schema_effect};
-ghost use Rattle.tab_model.specs.History.{empty as empty_base, folded, forgotten, tables_after as tables_after_entry, number_after as number_after_entry, unless_refused};
+ghost use Rattle.tab_model.specs.History.{empty as empty_base, folded, forgotten, number_after as number_after_entry, unless_refused};
 ghost use Rattle.tab_model.specs.Worlds.{IsOrderedWorld};
 
-use crate::subscriptions::{Subscription, follow, forget};
+use crate::subscriptions::{Subscription, forget, keep, removed, subscribe, unsubscribe};
 use crate::survivors::surviving;
 use std::alloc::{AllocError, Global};
 use std::marker::Model;
@@ -79,10 +79,38 @@ impl Base {
         ensures ok { OnOk result (self.new ≡ folded joined self.old entry.now) }
         ensures err { OnErr result (self.new ≡ self.old) }
     {
-        let tables = tables_after(alloc, &self.tables, entry)?;
-        follow(&mut self.subscriptions, alloc, joined, entry)?;
-        self.commits = number_after(self.commits, entry);
-        self.tables = tables;
+        match entry {
+            Entry::Committed {
+                number,
+                moves,
+                told,
+                overflowed,
+                ..
+            } => {
+                let changes = surviving(alloc, moves.items.as_slice(), told.items.as_slice())?;
+                self.tables.update(alloc, changes.as_slice())?;
+                keep(&mut self.subscriptions, overflowed.items.as_slice(), None);
+                self.commits = *number;
+            }
+            Entry::Changed(command, overflowed) => {
+                self.tables = redefined(alloc, &self.tables, command)?;
+                let gone = removed(command);
+                keep(&mut self.subscriptions, overflowed.items.as_slice(), gone);
+            }
+            Entry::Subscribed {
+                session,
+                table,
+                level,
+                ..
+            } => {
+                if joined {
+                    subscribe(&mut self.subscriptions, alloc, *session, table, *level)?;
+                }
+            }
+            Entry::Unsubscribed(session, table) => {
+                unsubscribe(&mut self.subscriptions, *session, table);
+            }
+        }
         Ok(())
     }
 
@@ -102,21 +130,6 @@ pub fn number_after(commits: u64, entry: &Entry) -> u64
         Entry::Changed(_, _) => commits,
         Entry::Subscribed { .. } => commits,
         Entry::Unsubscribed(_, _) => commits,
-    }
-}
-
-/// The tables after an entry, which share with these all that did not change.
-fn tables_after(alloc: Global, tables: &World, entry: &Entry) -> Result<World, AllocError>
-    ensures { IfOk result (λ world. world ≡ tables_after_entry tables.now entry.now) }
-{
-    match entry {
-        Entry::Committed { moves, told, .. } => {
-            let changes = surviving(alloc, moves.items.as_slice(), told.items.as_slice())?;
-            tables.updated(alloc, changes.as_slice())
-        }
-        Entry::Changed(command, _) => redefined(alloc, tables, command),
-        Entry::Subscribed { .. } => tables.share(),
-        Entry::Unsubscribed(_, _) => tables.share(),
     }
 }
 

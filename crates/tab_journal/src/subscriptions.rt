@@ -5,11 +5,11 @@ ghost use Rattle.std.specs.Option.{option_copied};
 ghost use Rattle.std.specs.List.{filter};
 ghost use Rattle.tab_model.specs.Schemas.{removed as removed_by};
 ghost use Rattle.tab_model.specs.Log.{has_session as is_among, is_removed};
-ghost use Rattle.tab_model.specs.History.{Subscription as SubscriptionOf, is_of as is_subscription_of, outlasts as outlasts_entry, subscribed, subscriptions_after};
+ghost use Rattle.tab_model.specs.History.{Subscription as SubscriptionOf, is_of as is_subscription_of, outlasts as outlasts_entry, subscribed};
 
 use std::alloc::{AllocError, Global};
 use std::marker::Model;
-use tab_model::{Entry, Level, Schema};
+use tab_model::{Level, Schema};
 use tab_term::Atom;
 
 /// A session's subscription to a table.
@@ -46,7 +46,7 @@ fn has_session(sessions: &[u64], session: u64) -> bool
 }
 
 /// The table that a schema command ends.
-fn removed(command: &Schema) -> Option<&Atom>
+pub fn removed(command: &Schema) -> Option<&Atom>
     ensures { option_copied result ≡ removed_by command.now }
 {
     match command {
@@ -73,19 +73,21 @@ fn outlasts(subscription: &Subscription, overflowed: &[u64], gone: Option<&Atom>
 }
 
 /// Keeps the subscriptions that outlast an entry in which these sessions overflowed and this table was deleted.
-fn keep(subscriptions: &mut Vec<Subscription>, overflowed: &[u64], gone: Option<&Atom>)
+pub fn keep(subscriptions: &mut Vec<Subscription>, overflowed: &[u64], gone: Option<&Atom>)
     ensures { subscriptions.new.items ≡ filter (outlasts_entry overflowed.now (option_copied gone.entry)) subscriptions.old.items }
 {
     subscriptions.retain(|subscription| outlasts(subscription, overflowed, gone));
 }
 
-fn unsubscribe(subscriptions: &mut Vec<Subscription>, session: u64, table: &Atom)
+/// Takes a session's subscription to a table out.
+pub fn unsubscribe(subscriptions: &mut Vec<Subscription>, session: u64, table: &Atom)
     ensures { subscriptions.new.items ≡ filter (λ x. not (is_subscription_of session table.now x)) subscriptions.old.items }
 {
     subscriptions.retain(|subscription| !is_of(subscription, session, table));
 }
 
-fn subscribe(
+/// Puts a session's subscription to a table after the others, in place of an earlier one.
+pub fn subscribe(
     subscriptions: &mut Vec<Subscription>,
     alloc: Global,
     session: u64,
@@ -104,43 +106,6 @@ fn subscribe(
         level,
     });
     Ok(())
-}
-
-/// The subscriptions after an entry. Those of a session that has left are not taken in.
-pub fn follow(
-    subscriptions: &mut Vec<Subscription>,
-    alloc: Global,
-    joined: bool,
-    entry: &Entry,
-) -> Result<(), AllocError>
-    ensures ok { OnOk result (subscriptions.new.items ≡ subscriptions_after joined subscriptions.old.items entry.now) }
-    ensures err { OnErr result (subscriptions.new.items ≡ subscriptions.old.items) }
-{
-    match entry {
-        Entry::Committed { overflowed, .. } => {
-            keep(subscriptions, overflowed.items.as_slice(), None);
-            Ok(())
-        }
-        Entry::Changed(command, overflowed) => {
-            keep(subscriptions, overflowed.items.as_slice(), removed(command));
-            Ok(())
-        }
-        Entry::Subscribed {
-            session,
-            table,
-            level,
-            ..
-        } => {
-            if joined {
-                subscribe(subscriptions, alloc, *session, table, *level)?;
-            }
-            Ok(())
-        }
-        Entry::Unsubscribed(session, table) => {
-            unsubscribe(subscriptions, *session, table);
-            Ok(())
-        }
-    }
 }
 
 /// Drops the subscriptions of a session.
