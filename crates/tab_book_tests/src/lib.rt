@@ -1,14 +1,12 @@
-//! Tests of tab_book. Tests prove their crate once more, so they stand in a crate of their own.
+//! Tests of the public calls of what several threads share: mailboxes, the book, the server.
 
 #![tactic(auto)]
 
 #[cfg(test)]
-mod commands;
+mod book;
 #[cfg(test)]
-mod counters;
+mod named;
 #[cfg(test)]
-mod mirrors;
+mod post;
 #[cfg(test)]
-mod overflow;
-#[cfg(test)]
-mod waking;
+mod server;

@@ -1,0 +1,16 @@
+//! Tests of the public calls of what stands below tables: terms and their bytes, maps, definitions, records, requests, locks.
+
+#![tactic(auto)]
+
+#[cfg(test)]
+mod etf;
+#[cfg(test)]
+mod map;
+#[cfg(test)]
+mod proto;
+#[cfg(test)]
+mod rows;
+#[cfg(test)]
+mod schema;
+#[cfg(test)]
+mod waitdie;

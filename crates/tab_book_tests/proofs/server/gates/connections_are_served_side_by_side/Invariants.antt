@@ -1,0 +1,5 @@
+use Rattle.tab_book_tests.proofs.server.gates.connections_are_served_side_by_side.Given as goal
+
+-- the register that was just opened
+abbrev pub ghosts-run_named : goal.ghosts-run_named
+ghosts-run_named g a = record { book = a.opened }
