@@ -18,7 +18,7 @@ HERE = os.path.dirname(os.path.abspath(__file__))
 sys.path.insert(0, os.path.join(HERE, "..", "examples"))
 from frames import frame  # noqa: E402
 
-ROWS = os.path.join(HERE, "..", "crates", "tab_session_tests", "src")
+ROWS = os.path.join(HERE, "..", "crates", "tab_core_tests", "src", "session")
 DAMAGED = b"tabd: damaged input\n"
 DEVICE = b"tabd: device\n"
 LONGEST = 1_048_576
@@ -33,12 +33,17 @@ FOR_A_MAP = 48 * 1_048_576
 WORDS = [
     ([], 2, b"", b"error: "),
     (["nosuch"], 2, b"", b"error: "),
+    (["servo"], 2, b"", b"error: "),
     (["replay", "nosuch"], 2, b"", b"error: "),
+    (["replay", "replay"], 2, b"", b"error: "),
     (["--nosuch"], 2, b"", b"error: "),
     (["replay", "--outbox"], 2, b"", b"error: "),
     (["replay", "--outbox", "0"], 2, b"", b"error: "),
     (["replay", "--outbox", "65537"], 2, b"", b"error: "),
+    (["replay", "--outbox", "many"], 2, b"", b"error: "),
     (["replay", "--outbox", "1"], 0, b"", b""),
+    (["replay", "--outbox", "65536"], 0, b"", b""),
+    (["replay", "--outbox=3"], 0, b"", b""),
     ([b"\xff\xfe"], 2, b"", b"error: "),
     (["serve"], 2, b"", b"error: "),
     (["serve", "--port", "0"], 2, b"", b"error: "),

@@ -5,6 +5,8 @@
 #[cfg(test)]
 mod book;
 #[cfg(test)]
+mod items;
+#[cfg(test)]
 mod named;
 #[cfg(test)]
 mod post;

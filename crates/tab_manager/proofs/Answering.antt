@@ -66,11 +66,14 @@ not_refused (Err f) e h k = cc
 
 -- ---- an outermost commit
 
-module _ (m : Machine) (n i : ℕ) (s : code.Seat) (k : IsKept m) (there : StandsAt m.seats.items n i) (at_i : s ≡ get_or m.seats.items i s) (t : kept.Transaction) (open_t : s.transaction ≡ Some t) where
+module _ (m : Machine) (n i : ℕ) (k : IsKept m) (there : StandsAt m.seats.items n i) (t : kept.Transaction) (open_t : (the_seat m n i).transaction ≡ Some t) where
+  abbrev s : code.Seat
+  s = the_seat m n i
+
   pub no_updates : is_empty (moves_at (state_of m) n) ≡ true → t.store.levels.now.updates ≡ []
   no_updates h =
-      let none : t.store.moves ≡ [] = empty_is t.store.moves (ap (λ (o : Option plain.Transaction). is_empty (plain.moves_in o)) (sym (keep.mine m n i s k there at_i t open_t)) ∙ h) in
-      updates_survive t.store m.world (keep.fit m n i s k there at_i t open_t) ∙ ap (λ xs. surviving xs t.store.told) none
+      let none : t.store.moves ≡ [] = empty_is t.store.moves (ap (λ (o : Option plain.Transaction). is_empty (plain.moves_in o)) (sym (keep.mine m n i k there t open_t)) ∙ h) in
+      updates_survive t.store m.world (keep.fit m n i k there t open_t) ∙ ap (λ xs. surviving xs t.store.told) none
     where
       empty_is : {A : Type 0} (xs : List A) → is_empty xs ≡ true → xs ≡ []
       empty_is [] g = refl
@@ -105,25 +108,25 @@ module _ (m : Machine) (n i : ℕ) (s : code.Seat) (k : IsKept m) (there : Stand
           queue_items = ap (λ (qs : Rattle.std.specs.Global.Vec request.Request). qs.items) (sym queue)
 
       e : outcome (state_of m) [] n (DoCommand command.Commit) ≡ record { state = state_of m'; reply = x.reply; entry = x.entry }
-      e = keep.asks m n i s k there at_i command.Commit idle
+      e = keep.asks m n i k there command.Commit idle
           ∙ ap (commit (state_of m) [] (seat_of s)) (ap (option_map transaction_of) open_t)
-          ∙ ap (commit_at (state_of m) [] (seat_of s) (transaction_of t)) (outermost m n i s k there at_i t open_t ∙ deep)
-          ∙ committing.commits m n i s k there at_i t open_t m'.world world
+          ∙ ap (commit_at (state_of m) [] (seat_of s) (transaction_of t)) (outermost m n i k there t open_t ∙ deep)
+          ∙ committing.commits m n i k there t open_t m'.world world
           ∙ (λ j. record { state = state j; reply = Stepped.reply (sym told_is j); entry = Stepped.entry (sym told_is j) })
 
       ages_are : m'.ages ≡ forget m.ages t.age
       ages_are = ages ∙ ap (forgotten_if m.ages) open_2
 
       agrees : Agree m'
-      agrees = committing.commit_agrees m n i s k there at_i t open_t m' world (seats ∙ ap (set m.seats.items i) seat) limits begun commits (ap (λ (g : Ages). g.held) ages_are)
-          (ap (λ (g : Ages). g.queue) ages_are ∙ keep.not_queued m n i s k there at_i t open_t idle ∙ k.agree.queue ∙ ap (λ (qs : Rattle.std.specs.Global.Vec request.Request). queued_in (map queued_of qs.items)) (sym queue))
+      agrees = committing.commit_agrees m n i k there t open_t m' world (seats ∙ ap (set m.seats.items i) seat) limits begun commits (ap (λ (g : Ages). g.held) ages_are)
+          (ap (λ (g : Ages). g.queue) ages_are ∙ keep.not_queued m n i k there t open_t idle ∙ k.agree.queue ∙ ap (λ (qs : Rattle.std.specs.Global.Vec request.Request). queued_in (map queued_of qs.items)) (sym queue))
 
   pub commits_fit : m.commits + 1 < 18446744073709551616
   commits_fit =
-      let c = keep.counts' m n i s k there at_i s refl in
+      let c = keep.counts' m n i k there s refl in
       let d = k.agree.counted in
       let o : opens s.transaction ≡ 1 = ap opens open_t in
-      let p = opens_in m.seats.items i s there.within at_i in
+      let p = opens_in m.seats.items i s there.within (keep.at_place m n i there) in
       let a = k.agree.ages in let w = k.agree.word in omega (arith, d, o, p, a, w)
     where
       opens_in : (ss : List code.Seat) (j : ℕ) (x : code.Seat) → j < length ss → x ≡ get_or ss j x → opens x.transaction ≤ count_open ss
@@ -198,20 +201,23 @@ join_exit m n k stranger new room ss is = (e, kept_step m (joined m n stranger s
 
 -- ---- schema commands
 
-module _ (m : Machine) (n i : ℕ) (s : code.Seat) (there : StandsAt m.seats.items n i) (at_i : s ≡ get_or m.seats.items i s) where
-  seat_here : seat_at (map seat_of m.seats.items) n ≡ Some (seat_of s)
-  seat_here = at_of m.seats.items n ∙ ap (option_map seat_of) (there.seat s ∙ ap Some (sym at_i))
+module _ (m : Machine) (n i : ℕ) (there : StandsAt m.seats.items n i) where
+  abbrev sitting : code.Seat
+  sitting = the_seat m n i
 
-  number : s.number ≡ n
-  number = ap (λ (x : code.Seat). x.number) at_i ∙ there.number s
+  seat_here : seat_at (map seat_of m.seats.items) n ≡ Some (seat_of sitting)
+  seat_here = at_of m.seats.items n ∙ ap (option_map seat_of) (there.seat sitting ∙ ap Some (sym (keep.at_place m n i there)))
 
-  asked : (c : Schema) → is_waiting (state_of m) n ≡ false → outcome (state_of m) [] n (DoCommand (command.Schema c)) ≡ schema (state_of m) [] c (seat_of s).transaction
-  asked c idle = keep.idles (state_of m) n (seat_of s) (command.Schema c) seat_here number idle
+  number : sitting.number ≡ n
+  number = ap (λ (x : code.Seat). x.number) (keep.at_place m n i there) ∙ there.number sitting
 
-  pub schema_inside : (t : kept.Transaction) → s.transaction ≡ Some t → is_waiting (state_of m) n ≡ false → (c : Schema) → outcome (state_of m) [] n (DoCommand (command.Schema c)) ≡ nothing (state_of m) reply.InTransaction
+  asked : (c : Schema) → is_waiting (state_of m) n ≡ false → outcome (state_of m) [] n (DoCommand (command.Schema c)) ≡ schema (state_of m) [] c (seat_of sitting).transaction
+  asked c idle = keep.idles (state_of m) n (seat_of sitting) (command.Schema c) seat_here number idle
+
+  pub schema_inside : (t : kept.Transaction) → sitting.transaction ≡ Some t → is_waiting (state_of m) n ≡ false → (c : Schema) → outcome (state_of m) [] n (DoCommand (command.Schema c)) ≡ nothing (state_of m) reply.InTransaction
   schema_inside t open_t idle c = asked c idle ∙ ap (schema (state_of m) [] c) (ap (option_map transaction_of) open_t)
 
-  module _ (closed : s.transaction ≡ None) (idle : is_waiting (state_of m) n ≡ false) where
+  module _ (closed : sitting.transaction ≡ None) (idle : is_waiting (state_of m) n ≡ false) where
     decided : (c : Schema) (r : Option Reply) (busy room : Bool) → schema_refusal m.world c ≡ r → is_busy (state_of m) (table_of_schema c) ≡ busy → has_room (state_of m) c ≡ room
         → outcome (state_of m) [] n (DoCommand (command.Schema c)) ≡ schema_if (state_of m) [] c r busy room
     decided c r busy room a b d = asked c idle ∙ ap (schema (state_of m) [] c) (ap (option_map transaction_of) closed) ∙ (λ j. schema_if (state_of m) [] c (a j) (b j) (d j))

@@ -33,6 +33,7 @@ use Rattle.tab_manager.specs.Works.{ended}
 use Rattle.tab_manager.specs.Kept.{opens, count_open, Agree, IsKept}
 use Rattle.tab_manager.proofs.Places.{at_of}
 use Rattle.tab_manager.proofs.Keeping as keep
+use Rattle.tab_manager.proofs.Keeping.{the_seat}
 
 -- ---- nobody watches
 
@@ -53,14 +54,17 @@ all_ended n t (s ∷ ss) = λ i. none_ended n t s i ∷ all_ended n t ss i
 
 -- ---- an outermost commit
 
-module _ (m : Machine) (n i : ℕ) (s : code.Seat) (k : IsKept m) (there : StandsAt m.seats.items n i) (at_i : s ≡ get_or m.seats.items i s) (t : kept.Transaction) (open_t : s.transaction ≡ Some t) where
+module _ (m : Machine) (n i : ℕ) (k : IsKept m) (there : StandsAt m.seats.items n i) (t : kept.Transaction) (open_t : (the_seat m n i).transaction ≡ Some t) where
+  abbrev s : code.Seat
+  s = the_seat m n i
+
   abbrev σ : State
   σ = state_of m
 
   -- its updates make the tables that it leaves
   pub tables_after : change_all m.world t.store.levels.now.updates ≡ (mid_of σ (transaction_of t)).now
   tables_after =
-      ap (change_all m.world) (updates_survive t.store m.world (keep.fit m n i s k there at_i t open_t) ∙ ap (surviving t.store.moves) (sym (keep.right m n i s k there at_i t open_t)))
+      ap (change_all m.world) (updates_survive t.store m.world (keep.fit m n i k there t open_t) ∙ ap (surviving t.store.moves) (sym (keep.right m n i k there t open_t)))
       ∙ survivors_are m.world t.age t.store.moves
 
   pub commits : (w : World) → w ≡ change_all m.world t.store.levels.now.updates
@@ -78,7 +82,7 @@ module _ (m : Machine) (n i : ℕ) (s : code.Seat) (k : IsKept m) (there : Stand
       }
     where
       seats : map (λ x. given (m.commits + 1) [] (batch_to (m.commits + 1) (events_now σ (transaction_of t)) x) x) (change (map seat_of m.seats.items) (seat_of (ended s))) ≡ map seat_of (set m.seats.items i (ended s))
-      seats = ap (map (λ x. given (m.commits + 1) [] (batch_to (m.commits + 1) (events_now σ (transaction_of t)) x) x)) (sym (keep.seats' m n i s k there at_i (ended s) refl))
+      seats = ap (map (λ x. given (m.commits + 1) [] (batch_to (m.commits + 1) (events_now σ (transaction_of t)) x) x)) (sym (keep.seats' m n i k there (ended s) refl))
           ∙ all_given (m.commits + 1) (events_now σ (transaction_of t)) (set m.seats.items i (ended s))
 
   -- who else is open still fits
@@ -86,7 +90,7 @@ module _ (m : Machine) (n i : ℕ) (s : code.Seat) (k : IsKept m) (there : Stand
   others_fit q u differ h =
       let mine_u : transaction_at σ q ≡ Some (transaction_of u) = ap plain.transaction_in (at_of m.seats.items q) ∙ by_seat (at m.seats.items q) h in
       fits_stays u.store m.world t.age t.store.moves k.sound.ordered
-      (subst (λ (o : Option plain.Transaction). Apart (locks_of (plain.moves_in o)) (locks_of u.store.moves)) (keep.mine m n i s k there at_i t open_t)
+      (subst (λ (o : Option plain.Transaction). Apart (locks_of (plain.moves_in o)) (locks_of u.store.moves)) (keep.mine m n i k there t open_t)
       (subst (λ (o : Option plain.Transaction). Apart (locks_of (moves_at σ n)) (locks_of (plain.moves_in o))) mine_u (k.sound.apart n q (λ e. differ (sym e)))))
       (k.agree.fits q u h)
     where
@@ -97,12 +101,12 @@ module _ (m : Machine) (n i : ℕ) (s : code.Seat) (k : IsKept m) (there : Stand
   pub commit_agrees : (m' : Machine) → m'.world ≡ change_all m.world t.store.levels.now.updates → m'.seats.items ≡ set m.seats.items i (ended s) → m'.limits ≡ m.limits → m'.begun ≡ m.begun → m'.commits ≡ m.commits + 1
       → m'.ages.held ≡ without t.age m.ages.held → m'.ages.queue ≡ queued_in (map queued_of m'.queue.items) → Agree m'
   commit_agrees m' world seats limits begun committed held queue = record {
-    held = subst (λ ss. SameMembers (held_in (map seat_of ss)) m'.ages.held) (sym seats) (subst (SameMembers (held_in (map seat_of (set m.seats.items i (ended s))))) (sym held) (keep.no_locks m n i s k there at_i (ended s) refl t open_t refl));
+    held = subst (λ ss. SameMembers (held_in (map seat_of ss)) m'.ages.held) (sym seats) (subst (SameMembers (held_in (map seat_of (set m.seats.items i (ended s))))) (sym held) (keep.no_locks m n i k there (ended s) refl t open_t refl));
     queue = queue;
-    fits = λ q u h. subst (Fits u.store) (sym (world ∙ tables_after)) (keep.fits' m n i s k there at_i (ended s) refl (mid_of σ (transaction_of t)).now others_fit (λ v g. none_open v g) q u (ap (λ ss. transaction_in (at ss q)) (sym seats) ∙ h));
+    fits = λ q u h. subst (Fits u.store) (sym (world ∙ tables_after)) (keep.fits' m n i k there (ended s) refl (mid_of σ (transaction_of t)).now others_fit (λ v g. none_open v g) q u (ap (λ ss. transaction_in (at ss q)) (sym seats) ∙ h));
     ages = subst (λ (l : Rattle.tab_model.specs.declared.data.Limits.Limits). m'.begun ≤ l.ages) (sym limits) (let a = k.agree.ages in omega (arith, a, begun));
     counted = subst (λ ss. m'.commits + count_open ss ≤ m'.begun) (sym seats)
-        (let c = keep.counts' m n i s k there at_i (ended s) refl in let d = k.agree.counted in let e : opens s.transaction ≡ 1 = ap opens open_t in omega (arith, c, d, e, begun, committed));
+        (let c = keep.counts' m n i k there (ended s) refl in let d = k.agree.counted in let e : opens s.transaction ≡ 1 = ap opens open_t in omega (arith, c, d, e, begun, committed));
     word = subst (λ (l : Rattle.tab_model.specs.declared.data.Limits.Limits). l.ages < 18446744073709551616) (sym limits) k.agree.word;
     sessions = subst (λ (l : Rattle.tab_model.specs.declared.data.Limits.Limits). l.sessions ≤ 64) (sym limits) k.agree.sessions;
   }

@@ -168,6 +168,10 @@ the_seat m n i = get_or m.seats.items i (no_seat n)
 pub read : (m : Machine) (n i : ℕ) → StandsAt m.seats.items n i → (ws : List code.Seat) (d : code.Seat) → ws ≡ m.seats.items → get_or ws i d ≡ the_seat m n i
 read m n i there ws d h = ap (λ ss. get_or ss i d) h ∙ same_some (sym (there.seat d) ∙ there.seat (no_seat n))
 
+-- its transaction, however it is read
+pub found : (m : Machine) (n i : ℕ) → StandsAt m.seats.items n i → (ws : List code.Seat) (d : code.Seat) → ws ≡ m.seats.items → {o : Option kept.Transaction} → (get_or ws i d).transaction ≡ o → (the_seat m n i).transaction ≡ o
+found m n i there ws d h e = ap (λ (x : code.Seat). x.transaction) (sym (read m n i there ws d h)) ∙ e
+
 pub at_place : (m : Machine) (n i : ℕ) → StandsAt m.seats.items n i → the_seat m n i ≡ get_or m.seats.items i (the_seat m n i)
 at_place m n i there = same_some (sym (there.seat (no_seat n)) ∙ there.seat (the_seat m n i))
 
@@ -183,29 +187,25 @@ pub always : {T E : Type 0} {P : Type 0} (r : Result T E) → P → OnErr r P
 always (Ok x) p = tt
 always (Err e) p = p
 
-module _ (m : Machine) (n i : ℕ) (s : code.Seat) (k : IsKept m) (there : StandsAt m.seats.items n i) (at_i : s ≡ get_or m.seats.items i s) where
+module _ (m : Machine) (n i : ℕ) (k : IsKept m) (there : StandsAt m.seats.items n i) where
+  abbrev s : code.Seat
+  s = the_seat m n i
+
   abbrev σ : State
   σ = state_of m
 
   pub is : s.number ≡ n
-  is = ap (λ (x : code.Seat). x.number) at_i ∙ there.number s
+  is = ap (λ (x : code.Seat). x.number) (at_place m n i there) ∙ there.number s
 
   at_n : at m.seats.items n ≡ Some s
-  at_n = there.seat s ∙ ap Some (sym at_i)
+  at_n = there.seat s ∙ ap Some (sym (at_place m n i there))
 
   pub here : seat_at (map seat_of m.seats.items) n ≡ Some (seat_of s)
   here = at_of m.seats.items n ∙ ap (option_map seat_of) at_n
 
-  -- the seat is one, read where it stands
-  pub one_seat : (s2 : code.Seat) → s2 ≡ get_or m.seats.items i s2 → s2 ≡ s
-  one_seat s2 at_2 = let a = there.seat s2 in let b = there.seat s in let e : get_or m.seats.items i s2 ≡ get_or m.seats.items i s = same_some (sym a ∙ b) in at_2 ∙ e ∙ sym at_i
-    where
-      same_some : {x y : code.Seat} → Some x ≡ Some y → x ≡ y
-      same_some h = cc
-
   -- the seat in its own place
   pub unchanged : set m.seats.items i s ≡ m.seats.items
-  unchanged = set_itself m.seats.items i s at_i
+  unchanged = set_itself m.seats.items i s (at_place m n i there)
 
   pub asks : (c : Command) → is_waiting σ n ≡ false → outcome σ [] n (DoCommand c) ≡ do_command σ [] (seat_of s) c
   asks c idle = idles σ n (seat_of s) c here is idle
@@ -254,7 +254,7 @@ module _ (m : Machine) (n i : ℕ) (s : code.Seat) (k : IsKept m) (there : Stand
         by false e g = others q t (other_number q n e) g
 
     pub counts' : count_open (set m.seats.items i s') + opens s.transaction ≡ count_open m.seats.items + opens s'.transaction
-    counts' = ap (λ x. count_open (set m.seats.items i s') + opens x) (ap (λ (x : code.Seat). x.transaction) at_i) ∙ counts m.seats.items i s' s there.within
+    counts' = ap (λ x. count_open (set m.seats.items i s') + opens x) (ap (λ (x : code.Seat). x.transaction) (at_place m n i there)) ∙ counts m.seats.items i s' s there.within
 
     pub same_locks : held_by (seat_of s').transaction ≡ held_by (seat_of s).transaction → SameMembers (held_in (map seat_of (set m.seats.items i s'))) m.ages.held
     same_locks h p = k.agree.held p ∙ sym (ap (λ xs. list_any p (held_in xs)) seats' ∙ held_same (map seat_of m.seats.items) n (seat_of s) (seat_of s') k.sound.distinct here is number' h p)

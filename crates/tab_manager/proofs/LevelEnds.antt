@@ -31,7 +31,7 @@ use Rattle.tab_manager.specs.Kept.{opens, count_open, Agree, IsKept}
 use Rattle.tab_manager.proofs.HeldLocks.{split, held_gone, same_without}
 use Rattle.tab_manager.proofs.Places.{without_filtered, removed, at_filtered, counts_fewer}
 use Rattle.tab_manager.proofs.Keeping as keep
-use Rattle.tab_manager.proofs.Keeping.{none_waits, state_with, IsNext, Leaves, leaves, kept_same, kept_step, state_next}
+use Rattle.tab_manager.proofs.Keeping.{the_seat, none_waits, state_with, IsNext, Leaves, leaves, kept_same, kept_step, state_next}
 use Rattle.tab_manager.proofs.Numbers.{le_true}
 use Rattle.tab_model.specs.declared.data.Limit.TheVariants as limit
 use Rattle.tab_manager.proofs.Moving.{empty_counts, moved, moved_if, moves, without_twice}
@@ -68,55 +68,58 @@ and_false false = refl
 pub undoes_at : (t : kept.Transaction) (s s2 : code.Seat) (g : Ages) (s' : code.Seat) (g' : Ages) → s2 ≡ s → s.transaction ≡ Some t → IfSome s2.transaction (λ u. Undoes u s2 g s' g') → Undoes t s g s' g'
 undoes_at t s s2 g s' g' same open_t h = subst (λ o. IfSome o (λ u. Undoes u s g s' g')) open_t (subst (λ (x : code.Seat). IfSome x.transaction (λ u. Undoes u x g s' g')) same h)
 
-pub nothing_to_abort : (m : Machine) (n i : ℕ) (s : code.Seat) → IsKept m → StandsAt m.seats.items n i → s ≡ get_or m.seats.items i s → (r : Term) → s.transaction ≡ None → outcome (state_of m) [] n (DoCommand (command.Abort r)) ≡ nothing (state_of m) reply.NoTransaction
-nothing_to_abort m n i s k there at_i r none =
-    keep.sits (state_of m) n (seat_of s) (DoCommand (command.Abort r)) (keep.here m n i s k there at_i)
-    ∙ ap (command_if (state_of m) [] (seat_of s) (command.Abort r)) (and_false (is_waiting (state_of m) s.number))
-    ∙ ap (abort (state_of m) (seat_of s) r) (ap (option_map transaction_of) none)
+pub nothing_to_abort : (m : Machine) (n i : ℕ) → IsKept m → StandsAt m.seats.items n i → (r : Term) → (the_seat m n i).transaction ≡ None → outcome (state_of m) [] n (DoCommand (command.Abort r)) ≡ nothing (state_of m) reply.NoTransaction
+nothing_to_abort m n i k there r none =
+    keep.sits (state_of m) n (seat_of (the_seat m n i)) (DoCommand (command.Abort r)) (keep.here m n i k there)
+    ∙ ap (command_if (state_of m) [] (seat_of (the_seat m n i)) (command.Abort r)) (and_false (is_waiting (state_of m) (the_seat m n i).number))
+    ∙ ap (abort (state_of m) (seat_of (the_seat m n i)) r) (ap (option_map transaction_of) none)
 
-module _ (m : Machine) (n i : ℕ) (s : code.Seat) (k : IsKept m) (there : StandsAt m.seats.items n i) (at_i : s ≡ get_or m.seats.items i s) (t : kept.Transaction) (open_t : s.transaction ≡ Some t) where
+module _ (m : Machine) (n i : ℕ) (k : IsKept m) (there : StandsAt m.seats.items n i) (t : kept.Transaction) (open_t : (the_seat m n i).transaction ≡ Some t) where
+  abbrev s : code.Seat
+  s = the_seat m n i
+
   abbrev σ : State
   σ = state_of m
 
   -- whether level 1 ends
   pub outermost : is_empty (mid_of σ (transaction_of t)).saved ≡ (length t.store.levels.saved == 0)
-  outermost = empty_counts (mid_of σ (transaction_of t)).saved ∙ ap (λ d. d == 0) (keep.depth m n i s k there at_i t open_t)
+  outermost = empty_counts (mid_of σ (transaction_of t)).saved ∙ ap (λ d. d == 0) (keep.depth m n i k there t open_t)
 
   -- a move without a lock: the seat after it agrees with all else
   pub level_agrees : (x : Move) (lent : Option Table) (r : Option Reply) → lent ≡ lent_for m.world x → lock_of_move x ≡ [] → (m' : Machine) → m'.world ≡ m.world → m'.seats.items ≡ set m.seats.items i (moved s t (store_next lent t.store x r)) → m'.limits ≡ m.limits → m'.begun ≡ m.begun → m'.commits ≡ m.commits
       → m'.ages.held ≡ m.ages.held → m'.ages.queue ≡ queued_in (map queued_of m'.queue.items) → Agree m'
   level_agrees x lent r is_lent lockless m' world seats limits begun commits held queue =
-      keep.seat_agrees m n i s k there at_i (moved s t (store_next lent t.store x r)) refl m' world seats limits
-      (subst (SameMembers (held_in (map seat_of (set m.seats.items i (moved s t (store_next lent t.store x r)))))) (sym held) (keep.same_locks m n i s k there at_i (moved s t (store_next lent t.store x r)) refl locks)) queue own
+      keep.seat_agrees m n i k there (moved s t (store_next lent t.store x r)) refl m' world seats limits
+      (subst (SameMembers (held_in (map seat_of (set m.seats.items i (moved s t (store_next lent t.store x r)))))) (sym held) (keep.same_locks m n i k there (moved s t (store_next lent t.store x r)) refl locks)) queue own
       (let a = k.agree.ages in omega (arith, a, begun))
-      (let c = keep.counts' m n i s k there at_i (moved s t (store_next lent t.store x r)) refl in let d = k.agree.counted in let e : opens s.transaction ≡ 1 = ap opens open_t in omega (arith, c, d, e, begun, commits))
+      (let c = keep.counts' m n i k there (moved s t (store_next lent t.store x r)) refl in let d = k.agree.counted in let e : opens s.transaction ≡ 1 = ap opens open_t in omega (arith, c, d, e, begun, commits))
     where
       locks : held_by (Some (transaction_of (with_store t (store_next lent t.store x r)))) ≡ held_by (seat_of s).transaction
       locks = ap (plain.with_age t.age) (locks-more t.store.moves x ∙ ap (λ ls. locks_of t.store.moves ++ ls) lockless ∙ Rattle.std.proofs.Common.append-nil (locks_of t.store.moves)) ∙ ap held_by (ap (option_map transaction_of) (sym open_t))
 
       own : (u : kept.Transaction) → Some (with_store t (store_next lent t.store x r)) ≡ Some u → Fits u.store m.world
       own u h = let same : with_store t (store_next lent t.store x r) ≡ u = cc in
-          subst (λ (v : kept.Transaction). Fits v.store m.world) same (subst (λ l. Fits (store_next l t.store x r) m.world) (sym is_lent) (fits_next t.store m.world x r (keep.fit m n i s k there at_i t open_t)))
+          subst (λ (v : kept.Transaction). Fits v.store m.world) same (subst (λ l. Fits (store_next l t.store x r) m.world) (sym is_lent) (fits_next t.store m.world x r (keep.fit m n i k there t open_t)))
 
   -- the transaction is over, or empty again: it holds no locks
   pub over_agrees : (s' : code.Seat) → s'.number ≡ s.number → held_by (seat_of s').transaction ≡ [] → ((u : kept.Transaction) → s'.transaction ≡ Some u → Fits u.store m.world) → opens s'.transaction ≤ 1
       → (m' : Machine) → m'.world ≡ m.world → m'.seats.items ≡ set m.seats.items i s' → m'.limits ≡ m.limits → m'.begun ≡ m.begun → m'.commits ≡ m.commits
       → m'.ages.held ≡ without t.age m.ages.held → m'.ages.queue ≡ queued_in (map queued_of m'.queue.items) → Agree m'
   over_agrees s' number none own few m' world seats limits begun commits held queue =
-      keep.seat_agrees m n i s k there at_i s' number m' world seats limits
-      (subst (SameMembers (held_in (map seat_of (set m.seats.items i s')))) (sym held) (keep.no_locks m n i s k there at_i s' number t open_t none)) queue own
+      keep.seat_agrees m n i k there s' number m' world seats limits
+      (subst (SameMembers (held_in (map seat_of (set m.seats.items i s')))) (sym held) (keep.no_locks m n i k there s' number t open_t none)) queue own
       (let a = k.agree.ages in omega (arith, a, begun))
-      (let c = keep.counts' m n i s k there at_i s' number in let d = k.agree.counted in let e : opens s.transaction ≡ 1 = ap opens open_t in omega (arith, c, d, e, few, begun, commits))
+      (let c = keep.counts' m n i k there s' number in let d = k.agree.counted in let e : opens s.transaction ≡ 1 = ap opens open_t in omega (arith, c, d, e, few, begun, commits))
 
   -- ---- an abort
   pub aborts : (r : Term) (s' : code.Seat) (g' : Ages) (qs : List request.Request) → Undoes t s m.ages s' g' → qs ≡ filter (λ q. not (q.session == n)) m.queue.items
       → outcome σ [] n (DoCommand (command.Abort r)) ≡ nothing (state_with m (set m.seats.items i s') qs) (reply.UserAbort r)
   aborts r s' g' qs u is =
-      keep.sits σ n (seat_of s) (DoCommand (command.Abort r)) (keep.here m n i s k there at_i)
+      keep.sits σ n (seat_of s) (DoCommand (command.Abort r)) (keep.here m n i k there)
       ∙ ap (command_if σ [] (seat_of s) (command.Abort r)) (and_false (is_waiting σ s.number))
       ∙ ap (abort σ (seat_of s) r) (ap (option_map transaction_of) open_t)
-      ∙ ap (λ qq. made (with_queue σ qq) (seat_of s) (transaction_of t) Undo (reply.UserAbort r)) (ap (without_request (map queued_of m.queue.items)) (keep.is m n i s k there at_i) ∙ sym (ap (map queued_of) is ∙ keep.queued_filtered n m.queue.items))
-      ∙ moves m n i s k there at_i t open_t qs None Undo None (reply.UserAbort r) (length t.store.levels.saved == 0) refl outermost
+      ∙ ap (λ qq. made (with_queue σ qq) (seat_of s) (transaction_of t) Undo (reply.UserAbort r)) (ap (without_request (map queued_of m.queue.items)) (keep.is m n i k there) ∙ sym (ap (map queued_of) is ∙ keep.queued_filtered n m.queue.items))
+      ∙ moves m n i k there t open_t qs None Undo None (reply.UserAbort r) (length t.store.levels.saved == 0) refl outermost
       ∙ by (length t.store.levels.saved == 0) u
     where
       by : (b : Bool) → UndoesIf b t s m.ages s' g' → nothing (state_with m (set m.seats.items i (moved_if b s t (store_next None t.store Undo None))) qs) (reply.UserAbort r) ≡ nothing (state_with m (set m.seats.items i s') qs) (reply.UserAbort r)
@@ -128,7 +131,7 @@ module _ (m : Machine) (n i : ℕ) (s : code.Seat) (k : IsKept m) (there : Stand
   abort_agrees s' g' u m' world seats limits begun commits ages is = by (length t.store.levels.saved == 0) u
     where
       dropped : without t.age m.ages.queue ≡ queued_in (map queued_of m'.queue.items)
-      dropped = keep.dropped m n i s k there at_i t open_t ∙ ap (λ qs. queued_in (map queued_of qs)) (sym is)
+      dropped = keep.dropped m n i k there t open_t ∙ ap (λ qs. queued_in (map queued_of qs)) (sym is)
 
       by : (b : Bool) → UndoesIf b t s m.ages s' g' → Agree m'
       by true v = over_agrees (ended s) refl refl (λ x h. cc) (omega arith) m' world (seats ∙ ap (set m.seats.items i) v.0) limits begun commits (ap (λ (g : Ages). g.held) ages ∙ v.1)
@@ -143,25 +146,25 @@ module _ (m : Machine) (n i : ℕ) (s : code.Seat) (k : IsKept m) (there : Stand
   -- ---- a child's commit
   pub joins : is_waiting σ n ≡ false → (length t.store.levels.saved == 0) ≡ false → outcome σ [] n (DoCommand command.Commit) ≡ nothing (state_with m (set m.seats.items i (moved s t (store_next None t.store Close (Some reply.AtomicOk)))) m.queue.items) reply.AtomicOk
   joins idle deep =
-      keep.asks m n i s k there at_i command.Commit idle
+      keep.asks m n i k there command.Commit idle
       ∙ ap (commit σ [] (seat_of s)) (ap (option_map transaction_of) open_t)
       ∙ ap (commit_at σ [] (seat_of s) (transaction_of t)) (outermost ∙ deep)
-      ∙ moves m n i s k there at_i t open_t m.queue.items None Close (Some reply.AtomicOk) reply.Done false refl refl
+      ∙ moves m n i k there t open_t m.queue.items None Close (Some reply.AtomicOk) reply.Done false refl refl
 
   -- ---- a child's begin
   pub nests : is_waiting σ n ≡ false → (s' : code.Seat) (r : Reply) → s'.number ≡ s.number → NestsTo m.limits t s'.transaction r → outcome σ [] n (DoCommand command.Begin) ≡ nothing (state_with m (set m.seats.items i s') m.queue.items) r
   nests idle s' r number new =
-      keep.asks m n i s k there at_i command.Begin idle
+      keep.asks m n i k there command.Begin idle
       ∙ ap (begin σ (seat_of s)) (ap (option_map transaction_of) open_t)
-      ∙ ap (λ d. nested σ (seat_of s) (transaction_of t) (nat_lt (suc d) m.limits.nesting) (nat_lt (count_moves t.store.moves) m.limits.operations)) (keep.depth m n i s k there at_i t open_t)
+      ∙ ap (λ d. nested σ (seat_of s) (transaction_of t) (nat_lt (suc d) m.limits.nesting) (nat_lt (count_moves t.store.moves) m.limits.operations)) (keep.depth m n i k there t open_t)
       ∙ at_transaction s'.transaction refl new
     where
       same_seats : s'.transaction ≡ Some t → set m.seats.items i s' ≡ m.seats.items
-      same_seats h = ap (set m.seats.items i) (let e : s' ≡ s = seat_is s' s number (h ∙ sym open_t) in e) ∙ keep.unchanged m n i s k there at_i
+      same_seats h = ap (set m.seats.items i) (let e : s' ≡ s = seat_is s' s number (h ∙ sym open_t) in e) ∙ keep.unchanged m n i k there
 
       by : (a b : Bool) (new : kept.Transaction) → s'.transaction ≡ Some new → NestsIf t a b new r → nested σ (seat_of s) (transaction_of t) a b ≡ nothing (state_with m (set m.seats.items i s') m.queue.items) r
       by true true new e v =
-          moves m n i s k there at_i t open_t m.queue.items None Open (Some (reply.Tid t.age)) reply.Done false (tid_told m.world t.age t.store.moves) refl
+          moves m n i k there t open_t m.queue.items None Open (Some (reply.Tid t.age)) reply.Done false (tid_told m.world t.age t.store.moves) refl
           ∙ (λ j. nothing (state_with m (set m.seats.items i (sym (seat_is s' (moved s t (store_next None t.store Open (Some (reply.Tid t.age)))) number (e ∙ ap Some v.0)) j)) m.queue.items) (sym v.1 j))
       by true false new e v = λ j. nothing (state_with m (sym (same_seats (e ∙ ap Some v.0)) j) m.queue.items) (sym v.1 j)
       by false b new e v = λ j. nothing (state_with m (sym (same_seats (e ∙ ap Some v.0)) j) m.queue.items) (sym v.1 j)
@@ -173,12 +176,12 @@ module _ (m : Machine) (n i : ℕ) (s : code.Seat) (k : IsKept m) (there : Stand
 
   pub seat_stays : (m' : Machine) → m'.seats.items ≡ set m.seats.items i s → m'.world ≡ m.world → m'.limits ≡ m.limits → m'.begun ≡ m.begun → m'.commits ≡ m.commits → m'.ages ≡ m.ages → m'.queue ≡ m.queue → Agree m'
   seat_stays m' seats world limits begun commits ages queue =
-      keep.seat_agrees m n i s k there at_i s refl m' world seats limits
-      (subst (SameMembers (held_in (map seat_of (set m.seats.items i s)))) (sym (ap (λ (g : Ages). g.held) ages)) (keep.same_locks m n i s k there at_i s refl refl))
+      keep.seat_agrees m n i k there s refl m' world seats limits
+      (subst (SameMembers (held_in (map seat_of (set m.seats.items i s)))) (sym (ap (λ (g : Ages). g.held) ages)) (keep.same_locks m n i k there s refl refl))
       (ap (λ (g : Ages). g.queue) ages ∙ k.agree.queue ∙ ap (λ (qs : Rattle.std.specs.Global.Vec request.Request). queued_in (map queued_of qs.items)) (sym queue))
-      (λ u h. let same : t ≡ u = one_some (sym open_t ∙ h) in subst (λ (v : kept.Transaction). Fits v.store m.world) same (keep.fit m n i s k there at_i t open_t))
+      (λ u h. let same : t ≡ u = one_some (sym open_t ∙ h) in subst (λ (v : kept.Transaction). Fits v.store m.world) same (keep.fit m n i k there t open_t))
       (let a = k.agree.ages in omega (arith, a, begun))
-      (let c = keep.counts' m n i s k there at_i s refl in let d = k.agree.counted in omega (arith, c, d, begun, commits))
+      (let c = keep.counts' m n i k there s refl in let d = k.agree.counted in omega (arith, c, d, begun, commits))
     where
       one_some : {u : kept.Transaction} → Some t ≡ Some u → t ≡ u
       one_some h = cc
@@ -222,24 +225,27 @@ module _ (m : Machine) (n i : ℕ) (s : code.Seat) (k : IsKept m) (there : Stand
   pub nest_refused : (s' : code.Seat) (m' : Machine) → s'.number ≡ s.number → s'.transaction ≡ s.transaction → IsNext m m' (set m.seats.items i s') m.queue.items → m'.ages ≡ m.ages → m'.queue ≡ m.queue → (state_of m' ≡ state_of m) × IsKept m'
   nest_refused s' m' number transaction nx ages queue =
       let is_s : s' ≡ s = seat_is s' s number transaction in
-      let before : state_of m' ≡ state_of m = sym (state_next m m' (set m.seats.items i s') m.queue.items nx) ∙ ap (λ ss. state_with m ss m.queue.items) (ap (set m.seats.items i) is_s ∙ keep.unchanged m n i s k there at_i) in
+      let before : state_of m' ≡ state_of m = sym (state_next m m' (set m.seats.items i s') m.queue.items nx) ∙ ap (λ ss. state_with m ss m.queue.items) (ap (set m.seats.items i) is_s ∙ keep.unchanged m n i k there) in
       (before, kept_same m m' k (seat_stays m' (nx.seats ∙ ap (set m.seats.items i) is_s) nx.world nx.limits nx.begun nx.commits ages queue) before)
 
 -- ---- level 1 begins
 
-module _ (m : Machine) (n i : ℕ) (s : code.Seat) (k : IsKept m) (there : StandsAt m.seats.items n i) (at_i : s ≡ get_or m.seats.items i s) (closed : s.transaction ≡ None) (idle : is_waiting (state_of m) n ≡ false) where
-  begins_if : (b : Bool) → nat_le (m.begun + 1) m.limits.ages ≡ b → outcome (state_of m) [] n (DoCommand command.Begin) ≡ opened (state_of m) (seat_of s) b
-  begins_if b h = keep.asks m n i s k there at_i command.Begin idle ∙ ap (begin (state_of m) (seat_of s)) (ap (option_map transaction_of) closed) ∙ ap (opened (state_of m) (seat_of s)) h
+module _ (m : Machine) (n i : ℕ) (k : IsKept m) (there : StandsAt m.seats.items n i) (closed : (the_seat m n i).transaction ≡ None) (idle : is_waiting (state_of m) n ≡ false) where
+  abbrev sitting : code.Seat
+  sitting = the_seat m n i
+
+  begins_if : (b : Bool) → nat_le (m.begun + 1) m.limits.ages ≡ b → outcome (state_of m) [] n (DoCommand command.Begin) ≡ opened (state_of m) (seat_of sitting) b
+  begins_if b h = keep.asks m n i k there command.Begin idle ∙ ap (begin (state_of m) (seat_of sitting)) (ap (option_map transaction_of) closed) ∙ ap (opened (state_of m) (seat_of sitting)) h
 
   pub no_more_ages : nat_le (m.begun + 1) m.limits.ages ≡ false → outcome (state_of m) [] n (DoCommand command.Begin) ≡ nothing (state_of m) (reply.SystemLimit limit.Ages)
   no_more_ages h = begins_if false h
 
   pub commits_nothing : outcome (state_of m) [] n (DoCommand command.Commit) ≡ nothing (state_of m) reply.NoTransaction
-  commits_nothing = keep.asks m n i s k there at_i command.Commit idle ∙ ap (commit (state_of m) [] (seat_of s)) (ap (option_map transaction_of) closed)
+  commits_nothing = keep.asks m n i k there command.Commit idle ∙ ap (commit (state_of m) [] (seat_of sitting)) (ap (option_map transaction_of) closed)
 
   -- the machine with the new transaction in the seat
   abbrev pub begun_at : code.Seat
-  begun_at = record { number = s.number; transaction = Some (record { age = m.begun + 1; store = no_store }) }
+  begun_at = record { number = sitting.number; transaction = Some (record { age = m.begun + 1; store = no_store }) }
 
   pub begin_exit : (m' : Machine) → nat_le (m.begun + 1) m.limits.ages ≡ true → m'.world ≡ m.world → m'.seats.items ≡ set m.seats.items i begun_at → m'.queue ≡ m.queue → m'.limits ≡ m.limits → m'.begun ≡ m.begun + 1 → m'.commits ≡ m.commits → m'.greatest ≡ m.greatest → m'.ages ≡ m.ages
       → Leaves m m' n (DoCommand command.Begin) (reply.Tid (m.begun + 1))
@@ -251,9 +257,9 @@ module _ (m : Machine) (n i : ℕ) (s : code.Seat) (k : IsKept m) (there : Stand
       queue_items = ap (λ (qs : Rattle.std.specs.Global.Vec request.Request). qs.items) (sym queue)
 
       changed : change (map seat_of m.seats.items) (seat_of begun_at) ≡ map seat_of m'.seats.items
-      changed = sym (keep.seats' m n i s k there at_i begun_at refl) ∙ ap (map seat_of) (sym seats)
+      changed = sym (keep.seats' m n i k there begun_at refl) ∙ ap (map seat_of) (sym seats)
 
-      none_held : held_by (seat_of begun_at).transaction ≡ held_by (seat_of s).transaction
+      none_held : held_by (seat_of begun_at).transaction ≡ held_by (seat_of sitting).transaction
       none_held = ap (λ o. held_by (option_map transaction_of o)) (sym closed)
 
       new_fits : (u : kept.Transaction) → begun_at.transaction ≡ Some u → Fits u.store m.world
@@ -263,12 +269,12 @@ module _ (m : Machine) (n i : ℕ) (s : code.Seat) (k : IsKept m) (there : Stand
       within = le_true (m.begun + 1) m.limits.ages room
 
       agrees : Agree m'
-      agrees = keep.seat_agrees m n i s k there at_i begun_at refl m' world seats limits
-          (subst (SameMembers (held_in (map seat_of (set m.seats.items i begun_at)))) (sym (ap (λ (g : Ages). g.held) ages)) (keep.same_locks m n i s k there at_i begun_at refl none_held))
+      agrees = keep.seat_agrees m n i k there begun_at refl m' world seats limits
+          (subst (SameMembers (held_in (map seat_of (set m.seats.items i begun_at)))) (sym (ap (λ (g : Ages). g.held) ages)) (keep.same_locks m n i k there begun_at refl none_held))
           (ap (λ (g : Ages). g.queue) ages ∙ k.agree.queue ∙ ap (λ (qs : Rattle.std.specs.Global.Vec request.Request). queued_in (map queued_of qs.items)) (sym queue))
           new_fits
           (omega (arith, within, begun))
-          (let c = keep.counts' m n i s k there at_i begun_at refl in let d = k.agree.counted in let f : opens s.transaction ≡ 0 = ap opens closed in omega (arith, c, d, f, begun, commits))
+          (let c = keep.counts' m n i k there begun_at refl in let d = k.agree.counted in let f : opens sitting.transaction ≡ 0 = ap opens closed in omega (arith, c, d, f, begun, commits))
 
 -- ---- a session leaves, with its transaction, if there is one
 
@@ -276,51 +282,51 @@ open_left : (t : Option kept.Transaction) → (t ≡ None) ⊎ ((x : kept.Transa
 open_left None = inl refl
 open_left (Some x) = inr (x, refl)
 
-pub leave_exit : (m : Machine) (n i : ℕ) (s : code.Seat) → IsKept m → StandsAt m.seats.items n i → s ≡ get_or m.seats.items i s → (m' : Machine) → m'.world ≡ m.world → m'.limits ≡ m.limits → m'.begun ≡ m.begun → m'.commits ≡ m.commits → m'.greatest ≡ m.greatest
-    → m'.seats.items ≡ remove (set m.seats.items i (ended s)) i → m'.queue.items ≡ filter (λ q. not (q.session == n)) m.queue.items → m'.ages ≡ forgotten_if m.ages s.transaction
+pub leave_exit : (m : Machine) (n i : ℕ) → IsKept m → StandsAt m.seats.items n i → (m' : Machine) → m'.world ≡ m.world → m'.limits ≡ m.limits → m'.begun ≡ m.begun → m'.commits ≡ m.commits → m'.greatest ≡ m.greatest
+    → m'.seats.items ≡ remove (set m.seats.items i (ended (the_seat m n i))) i → m'.queue.items ≡ filter (λ q. not (q.session == n)) m.queue.items → m'.ages ≡ forgotten_if m.ages (the_seat m n i).transaction
     → Leaves m m' n Leave reply.Done
-leave_exit m n i s k there at_i m' world limits begun commits greatest seats queue ages =
-    let e = keep.sits (state_of m) n (seat_of s) Leave (keep.here m n i s k there at_i)
+leave_exit m n i k there m' world limits begun commits greatest seats queue ages =
+    let e = keep.sits (state_of m) n (seat_of (the_seat m n i)) Leave (keep.here m n i k there)
     ∙ (λ j. let τ : State = record { tables = sym world j; seats = seats_are j; queue = queue_is j; next_age = sym begun j + 1; commits = sym commits j; greatest = sym greatest j; limits = sym limits j } in nothing τ reply.Done) in
     (e, kept_step m m' n Leave reply.Done None k agrees e)
   where
-    is : s.number ≡ n
-    is = keep.is m n i s k there at_i
+    is : (the_seat m n i).number ≡ n
+    is = keep.is m n i k there
 
-    gone : remove (set m.seats.items i (ended s)) i ≡ filter (λ x. not (x.number == n)) m.seats.items
-    gone = removed n m.seats.items i s (ended s) k.sound.distinct there.within at_i is
+    gone : remove (set m.seats.items i (ended (the_seat m n i))) i ≡ filter (λ x. not (x.number == n)) m.seats.items
+    gone = removed n m.seats.items i (the_seat m n i) (ended (the_seat m n i)) k.sound.distinct there.within (keep.at_place m n i there) is
 
     seats_here : m'.seats.items ≡ filter (λ x. not (x.number == n)) m.seats.items
     seats_here = seats ∙ gone
 
-    seats_are : without_seat (map seat_of m.seats.items) s.number ≡ map seat_of m'.seats.items
+    seats_are : without_seat (map seat_of m.seats.items) (the_seat m n i).number ≡ map seat_of m'.seats.items
     seats_are = ap (without_seat (map seat_of m.seats.items)) is ∙ sym (without_filtered n m.seats.items) ∙ ap (map seat_of) (sym seats_here)
 
-    queue_is : without_request (map queued_of m.queue.items) s.number ≡ map queued_of m'.queue.items
+    queue_is : without_request (map queued_of m.queue.items) (the_seat m n i).number ≡ map queued_of m'.queue.items
     queue_is = ap (without_request (map queued_of m.queue.items)) is ∙ sym (keep.queued_filtered n m.queue.items) ∙ ap (map queued_of) (sym queue)
 
     -- no transaction: no locks, and no request
-    closed_held : s.transaction ≡ None → SameMembers (held_in (map seat_of m'.seats.items)) m'.ages.held
+    closed_held : (the_seat m n i).transaction ≡ None → SameMembers (held_in (map seat_of m'.seats.items)) m'.ages.held
     closed_held none p =
         ap (λ (g : Ages). list_any p g.held) (ages ∙ ap (forgotten_if m.ages) none) ∙ k.agree.held p
-        ∙ split p (map seat_of m.seats.items) n (seat_of s) k.sound.distinct (keep.here m n i s k there at_i) is
+        ∙ split p (map seat_of m.seats.items) n (seat_of (the_seat m n i)) k.sound.distinct (keep.here m n i k there) is
         ∙ ap (λ o. list_any p (held_by (option_map transaction_of o)) || list_any p (held_in (without_seat (map seat_of m.seats.items) n))) none
         ∙ ap (λ ss. list_any p (held_in ss)) (sym (without_filtered n m.seats.items) ∙ ap (map seat_of) (sym seats_here))
 
-    closed_queue : s.transaction ≡ None → m'.ages.queue ≡ queued_in (map queued_of m'.queue.items)
+    closed_queue : (the_seat m n i).transaction ≡ None → m'.ages.queue ≡ queued_in (map queued_of m'.queue.items)
     closed_queue none =
         ap (λ (g : Ages). g.queue) (ages ∙ ap (forgotten_if m.ages) none) ∙ k.agree.queue
-        ∙ ap queued_in (sym (none_waits (plain.transaction_at (state_of m)) n (map queued_of m.queue.items) (ap plain.transaction_in (keep.here m n i s k there at_i) ∙ ap (option_map transaction_of) none) k.owners) ∙ sym (keep.queued_filtered n m.queue.items) ∙ ap (map queued_of) (sym queue))
+        ∙ ap queued_in (sym (none_waits (plain.transaction_at (state_of m)) n (map queued_of m.queue.items) (ap plain.transaction_in (keep.here m n i k there) ∙ ap (option_map transaction_of) none) k.owners) ∙ sym (keep.queued_filtered n m.queue.items) ∙ ap (map queued_of) (sym queue))
 
-    open_held : (t : kept.Transaction) → s.transaction ≡ Some t → SameMembers (held_in (map seat_of m'.seats.items)) m'.ages.held
+    open_held : (t : kept.Transaction) → (the_seat m n i).transaction ≡ Some t → SameMembers (held_in (map seat_of m'.seats.items)) m'.ages.held
     open_held t open_t p =
         ap (λ (g : Ages). list_any p g.held) (ages ∙ ap (forgotten_if m.ages) open_t)
         ∙ same_without t.age (held_in (map seat_of m.seats.items)) m.ages.held k.agree.held p
-        ∙ sym (held_gone (state_of m) n (seat_of s) (transaction_of t) k.sound (keep.here m n i s k there at_i) is (ap (option_map transaction_of) open_t) p)
+        ∙ sym (held_gone (state_of m) n (seat_of (the_seat m n i)) (transaction_of t) k.sound (keep.here m n i k there) is (ap (option_map transaction_of) open_t) p)
         ∙ ap (λ ss. list_any p (held_in ss)) (sym (without_filtered n m.seats.items) ∙ ap (map seat_of) (sym seats_here))
 
-    open_queue : (t : kept.Transaction) → s.transaction ≡ Some t → m'.ages.queue ≡ queued_in (map queued_of m'.queue.items)
-    open_queue t open_t = ap (λ (g : Ages). g.queue) (ages ∙ ap (forgotten_if m.ages) open_t) ∙ keep.dropped m n i s k there at_i t open_t ∙ ap (λ qs. queued_in (map queued_of qs)) (sym queue)
+    open_queue : (t : kept.Transaction) → (the_seat m n i).transaction ≡ Some t → m'.ages.queue ≡ queued_in (map queued_of m'.queue.items)
+    open_queue t open_t = ap (λ (g : Ages). g.queue) (ages ∙ ap (forgotten_if m.ages) open_t) ∙ keep.dropped m n i k there t open_t ∙ ap (λ qs. queued_in (map queued_of qs)) (sym queue)
 
     with : SameMembers (held_in (map seat_of m'.seats.items)) m'.ages.held → m'.ages.queue ≡ queued_in (map queued_of m'.queue.items) → Agree m'
     with held requests = record {
@@ -341,8 +347,8 @@ leave_exit m n i s k there at_i m' world limits begun commits greatest seats que
             by false g = g
 
     agrees : Agree m'
-    agrees = by (open_left s.transaction)
+    agrees = by (open_left (the_seat m n i).transaction)
       where
-        by : ((s.transaction ≡ None) ⊎ ((x : kept.Transaction) × (s.transaction ≡ Some x))) → Agree m'
+        by : (((the_seat m n i).transaction ≡ None) ⊎ ((x : kept.Transaction) × ((the_seat m n i).transaction ≡ Some x))) → Agree m'
         by (inl none) = with (closed_held none) (closed_queue none)
         by (inr x) = with (open_held x.0 x.1) (open_queue x.0 x.1)

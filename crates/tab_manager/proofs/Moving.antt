@@ -36,7 +36,7 @@ use Rattle.tab_manager.specs.Works.{with_store, ended, Works, forgotten_if}
 use Rattle.tab_manager.specs.Kept.{opens, count_open, Agree, IsKept}
 use Rattle.tab_manager.proofs.HeldLocks.{any_without}
 use Rattle.tab_manager.proofs.Keeping as keep
-use Rattle.tab_manager.proofs.Keeping.{state_with}
+use Rattle.tab_manager.proofs.Keeping.{the_seat, state_with}
 
 pub empty_counts : {A : Type 0} (xs : List A) → is_empty xs ≡ (length xs == 0)
 empty_counts [] = refl
@@ -76,7 +76,10 @@ without_twice a (x ∷ xs) = by (x.0 == a) refl (without_twice a xs)
     by true e ih = ih
     by false e ih = ap (λ b. if b then without a (without a xs) else x ∷ without a (without a xs)) e ∙ ap (λ ys. x ∷ ys) ih
 
-module _ (m : Machine) (n i : ℕ) (s : code.Seat) (k : IsKept m) (there : StandsAt m.seats.items n i) (at_i : s ≡ get_or m.seats.items i s) (t : kept.Transaction) (open_t : s.transaction ≡ Some t) where
+module _ (m : Machine) (n i : ℕ) (k : IsKept m) (there : StandsAt m.seats.items n i) (t : kept.Transaction) (open_t : (the_seat m n i).transaction ≡ Some t) where
+  abbrev s : code.Seat
+  s = the_seat m n i
+
   abbrev σ : State
   σ = state_of m
 
@@ -91,17 +94,17 @@ module _ (m : Machine) (n i : ℕ) (s : code.Seat) (k : IsKept m) (there : Stand
     where
       by : (b : Bool) → nothing (with_seat (state_with m m.seats.items qs) (with_transaction (seat_of s) (after_move tr x r b))) (said r d)
           ≡ nothing (state_with m (set m.seats.items i (moved_if b s t (store_next lent t.store x r))) qs) (said r d)
-      by true = ap (λ ss. let τ : State = record { tables = m.world; seats = ss; queue = map queued_of qs; next_age = m.begun + 1; commits = m.commits; greatest = m.greatest; limits = m.limits } in nothing τ (said r d)) (sym (keep.seats' m n i s k there at_i (ended s) refl))
-      by false = ap (λ ss. let τ : State = record { tables = m.world; seats = ss; queue = map queued_of qs; next_age = m.begun + 1; commits = m.commits; greatest = m.greatest; limits = m.limits } in nothing τ (said r d)) (sym (keep.seats' m n i s k there at_i (moved s t (store_next lent t.store x r)) refl))
+      by true = ap (λ ss. let τ : State = record { tables = m.world; seats = ss; queue = map queued_of qs; next_age = m.begun + 1; commits = m.commits; greatest = m.greatest; limits = m.limits } in nothing τ (said r d)) (sym (keep.seats' m n i k there (ended s) refl))
+      by false = ap (λ ss. let τ : State = record { tables = m.world; seats = ss; queue = map queued_of qs; next_age = m.begun + 1; commits = m.commits; greatest = m.greatest; limits = m.limits } in nothing τ (said r d)) (sym (keep.seats' m n i k there (moved s t (store_next lent t.store x r)) refl))
 
   -- an operation that was made over the tables as they are
   module _ (o : Operation) (x : Worked) (new : kept.Transaction) (w : Works m.world t o x new) where
     pub answered : told (mid_of σ tr) (Do o) ≡ Some x.reply
-    answered = ap Some (sym (w.answer t.age k.sound.ordered (keep.fit m n i s k there at_i t open_t) (keep.right m n i s k there at_i t open_t)))
+    answered = ap Some (sym (w.answer t.age k.sound.ordered (keep.fit m n i k there t open_t) (keep.right m n i k there t open_t)))
 
     pub over_is : ends (mid_of σ tr) (Do o) ≡ x.over
     over_is =
-        (λ j. sym (reply_tells (find (mid_of σ tr).now (table_of o)) o) j && (empty_counts (mid_of σ tr).saved ∙ ap (λ d. d == 0) (keep.depth m n i s k there at_i t open_t)) j)
+        (λ j. sym (reply_tells (find (mid_of σ tr).now (table_of o)) o) j && (empty_counts (mid_of σ tr).saved ∙ ap (λ d. d == 0) (keep.depth m n i k there t open_t)) j)
         ∙ ap (λ r. is_failure r && (length t.store.levels.saved == 0)) answered
         ∙ and_swap (is_failure (Some x.reply)) (length t.store.levels.saved == 0) ∙ sym w.over
 
@@ -111,14 +114,14 @@ module _ (m : Machine) (n i : ℕ) (s : code.Seat) (k : IsKept m) (there : Stand
 
     -- the locks, and who fits
     locks_after : (b : Bool) → SameMembers (held_in (map seat_of (set m.seats.items i (moved_if b s t (store_next (find m.world (table_of o)) t.store (Do o) (Some x.reply)))))) (if b then without t.age (placed (t.age, needs o) m.ages.held) else placed (t.age, needs o) m.ages.held)
-    locks_after true p = placed_gone t.age (needs o) m.ages.held p ∙ keep.no_locks m n i s k there at_i (ended s) refl t open_t refl p
-    locks_after false p = keep.one_more_lock m n i s k there at_i (moved s t (store_next (find m.world (table_of o)) t.store (Do o) (Some x.reply))) refl (t.age, needs o)
+    locks_after true p = placed_gone t.age (needs o) m.ages.held p ∙ keep.no_locks m n i k there (ended s) refl t open_t refl p
+    locks_after false p = keep.one_more_lock m n i k there (moved s t (store_next (find m.world (table_of o)) t.store (Do o) (Some x.reply))) refl (t.age, needs o)
         (locks_next t (find m.world (table_of o)) (Do o) (Some x.reply) ∙ ap (λ u. held_by u ++ (t.age, needs o) ∷ []) (ap (option_map transaction_of) (sym open_t))) p
 
     fits_after : (b : Bool) (u : kept.Transaction) → (moved_if b s t (store_next (find m.world (table_of o)) t.store (Do o) (Some x.reply))).transaction ≡ Some u → Fits u.store m.world
     fits_after true u h = cc
     fits_after false u h = let same : with_store t (store_next (find m.world (table_of o)) t.store (Do o) (Some x.reply)) ≡ u = cc in
-        subst (λ (v : kept.Transaction). Fits v.store m.world) same (fits_next t.store m.world (Do o) (Some x.reply) (keep.fit m n i s k there at_i t open_t))
+        subst (λ (v : kept.Transaction). Fits v.store m.world) same (fits_next t.store m.world (Do o) (Some x.reply) (keep.fit m n i k there t open_t))
 
     number_after : (b : Bool) → (moved_if b s t (store_next (find m.world (table_of o)) t.store (Do o) (Some x.reply))).number ≡ s.number
     number_after true = refl
@@ -136,7 +139,7 @@ module _ (m : Machine) (n i : ℕ) (s : code.Seat) (k : IsKept m) (there : Stand
         → m'.ages.held ≡ (if x.over then without t.age (placed (t.age, needs o) m.ages.held) else placed (t.age, needs o) m.ages.held)
         → m'.ages.queue ≡ queued_in (map queued_of m'.queue.items) → Agree m'
     work_agrees m' world seats limits begun commits held queue =
-        keep.seat_agrees m n i s k there at_i after_work (number_after x.over) m' world seats limits
+        keep.seat_agrees m n i k there after_work (number_after x.over) m' world seats limits
         (subst (SameMembers (held_in (map seat_of (set m.seats.items i after_work)))) (sym held) (locks_after x.over)) queue (fits_after x.over)
         (let a = k.agree.ages in omega (arith, a, begun))
-        (let c = keep.counts' m n i s k there at_i after_work (number_after x.over) in let d = k.agree.counted in let e = opens_after x.over in omega (arith, c, d, e, begun, commits))
+        (let c = keep.counts' m n i k there after_work (number_after x.over) in let d = k.agree.counted in let e = opens_after x.over in omega (arith, c, d, e, begun, commits))

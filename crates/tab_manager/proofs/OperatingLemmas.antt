@@ -33,7 +33,7 @@ use Rattle.tab_manager.specs.Works as works
 use Rattle.tab_manager.specs.Kept.{opens, Agree, IsKept}
 use Rattle.tab_manager.proofs.HeldLocks.{decides, retries}
 use Rattle.tab_manager.proofs.Keeping as keep
-use Rattle.tab_manager.proofs.Keeping.{state_with, IsNext, Leaves, leaves, kept_same, state_next}
+use Rattle.tab_manager.proofs.Keeping.{the_seat, state_with, IsNext, Leaves, leaves, kept_same, state_next}
 use Rattle.tab_manager.proofs.Moving as moving
 use Rattle.tab_manager.proofs.Moving.{moved, moved_if, without_twice}
 use Rattle.tab_manager.proofs.LevelEnds.{over_agrees, seat_is}
@@ -57,12 +57,15 @@ pub undone : (t : kept.Transaction) (s2 v : code.Seat) (g g' : Ages) → s2.tran
     → IfSome s2.transaction (λ u. (v.transaction ≡ s2.transaction) × (g' ≡ record { held = without_last u.age g.held; queue = g.queue })) → (v.transaction ≡ s2.transaction) × (g' ≡ record { held = without_last t.age g.held; queue = g.queue })
 undone t s2 v g g' h x = subst (λ o. IfSome o (λ u. (v.transaction ≡ s2.transaction) × (let z : Ages = record { held = without_last u.age g.held; queue = g.queue } in g' ≡ z))) h x
 
-module _ (m : Machine) (n i : ℕ) (s : code.Seat) (k : IsKept m) (there : StandsAt m.seats.items n i) (at_i : s ≡ get_or m.seats.items i s) where
+module _ (m : Machine) (n i : ℕ) (k : IsKept m) (there : StandsAt m.seats.items n i) where
+  abbrev s : code.Seat
+  s = the_seat m n i
+
   abbrev σ : State
   σ = state_of m
 
   pub no_transaction : (o : Operation) → is_waiting σ n ≡ false → s.transaction ≡ None → outcome σ [] n (DoCommand (command.Do o)) ≡ nothing σ reply.NoTransaction
-  no_transaction o idle none = keep.asks m n i s k there at_i (command.Do o) idle ∙ ap (operate σ (seat_of s) o) (ap (option_map transaction_of) none)
+  no_transaction o idle none = keep.asks m n i k there (command.Do o) idle ∙ ap (operate σ (seat_of s) o) (ap (option_map transaction_of) none)
 
   module _ (t : kept.Transaction) (open_t : s.transaction ≡ Some t) where
     abbrev tr : plain.Transaction
@@ -70,7 +73,7 @@ module _ (m : Machine) (n i : ℕ) (s : code.Seat) (k : IsKept m) (there : Stand
 
     at_within : (o : Operation) (b : Bool) → is_waiting σ n ≡ false → nat_lt (count_moves t.store.moves) m.limits.operations ≡ b → outcome σ [] n (DoCommand (command.Do o)) ≡ within σ (seat_of s) tr o b
     at_within o b idle room =
-        keep.asks m n i s k there at_i (command.Do o) idle ∙ ap (operate σ (seat_of s) o) (ap (option_map transaction_of) open_t) ∙ ap (within σ (seat_of s) tr o) room
+        keep.asks m n i k there (command.Do o) idle ∙ ap (operate σ (seat_of s) o) (ap (option_map transaction_of) open_t) ∙ ap (within σ (seat_of s) tr o) room
 
     pub too_many : (o : Operation) → is_waiting σ n ≡ false → nat_lt (count_moves t.store.moves) m.limits.operations ≡ false → outcome σ [] n (DoCommand (command.Do o)) ≡ nothing σ (reply.SystemLimit limit.Operations)
     too_many o idle room = at_within o false idle room
@@ -83,10 +86,10 @@ module _ (m : Machine) (n i : ℕ) (s : code.Seat) (k : IsKept m) (there : Stand
 
     -- ---- granted
     pub granted : (o : Operation) (x : Worked) (new : kept.Transaction) (w : Works m.world t o x new) → is_waiting σ n ≡ false → nat_lt (count_moves t.store.moves) m.limits.operations ≡ true → decide m.ages (t.age, needs o) ≡ Granted
-        → outcome σ [] n (DoCommand (command.Do o)) ≡ nothing (state_with m (set m.seats.items i (moving.after_work m n i s k there at_i t open_t o x new w)) m.queue.items) x.reply
+        → outcome σ [] n (DoCommand (command.Do o)) ≡ nothing (state_with m (set m.seats.items i (moving.after_work m n i k there t open_t o x new w)) m.queue.items) x.reply
     granted o x new w idle room h =
         asks_lock o Granted idle room h
-        ∙ moving.moves m n i s k there at_i t open_t m.queue.items (find m.world (table_of o)) (Do o) (Some x.reply) reply.Done x.over (moving.answered m n i s k there at_i t open_t o x new w) (moving.over_is m n i s k there at_i t open_t o x new w)
+        ∙ moving.moves m n i k there t open_t m.queue.items (find m.world (table_of o)) (Do o) (Some x.reply) reply.Done x.over (moving.answered m n i k there t open_t o x new w) (moving.over_is m n i k there t open_t o x new w)
 
     -- ---- waits
     pub waits : (o : Operation) (q : request.Request) → q ≡ record { session = n; age = t.age; operation = o } → is_waiting σ n ≡ false → nat_lt (count_moves t.store.moves) m.limits.operations ≡ true → decide m.ages (t.age, needs o) ≡ Wait
@@ -94,19 +97,19 @@ module _ (m : Machine) (n i : ℕ) (s : code.Seat) (k : IsKept m) (there : Stand
     waits o q is idle room h =
         asks_lock o Wait idle room h
         ∙ ap (λ qs. nothing (with_queue σ qs) reply.Waiting)
-        (ap (λ c. let y : Queued = record { session = c; age = t.age; operation = o } in map queued_of m.queue.items ++ y ∷ []) (keep.is m n i s k there at_i)
+        (ap (λ c. let y : Queued = record { session = c; age = t.age; operation = o } in map queued_of m.queue.items ++ y ∷ []) (keep.is m n i k there)
         ∙ ap (λ c. map queued_of m.queue.items ++ queued_of c ∷ []) (sym is) ∙ sym (queued_push m.queue.items q))
 
     pub wait_agrees : (o : Operation) (q : request.Request) → q ≡ record { session = n; age = t.age; operation = o } → (m' : Machine) → m'.world ≡ m.world → m'.seats.items ≡ m.seats.items → m'.limits ≡ m.limits → m'.begun ≡ m.begun → m'.commits ≡ m.commits
         → m'.ages ≡ record { held = m.ages.held; queue = m.ages.queue ++ (t.age, needs o) ∷ [] } → m'.queue.items ≡ m.queue.items ++ q ∷ [] → Agree m'
     wait_agrees o q is m' world seats limits begun commits ages queue =
-        keep.seat_agrees m n i s k there at_i s refl m' world (seats ∙ sym (keep.unchanged m n i s k there at_i)) limits
-        (subst (SameMembers (held_in (map seat_of (set m.seats.items i s)))) (sym (ap (λ (g : Ages). g.held) ages)) (keep.same_locks m n i s k there at_i s refl refl))
+        keep.seat_agrees m n i k there s refl m' world (seats ∙ sym (keep.unchanged m n i k there)) limits
+        (subst (SameMembers (held_in (map seat_of (set m.seats.items i s)))) (sym (ap (λ (g : Ages). g.held) ages)) (keep.same_locks m n i k there s refl refl))
         (ap (λ (g : Ages). g.queue) ages ∙ ap (λ xs. xs ++ (t.age, needs o) ∷ []) k.agree.queue ∙ sym (queued_in-push (map queued_of m.queue.items) (queued_of q) ∙ ap (λ (c : request.Request). queued_in (map queued_of m.queue.items) ++ (c.age, needs c.operation) ∷ []) is)
         ∙ ap queued_in (sym (queued_push m.queue.items q)) ∙ ap (λ xs. queued_in (map queued_of xs)) (sym queue))
-        (λ u h. let same : t ≡ u = some_is (sym open_t ∙ h) in subst (λ (v : kept.Transaction). Fits v.store m.world) same (keep.fit m n i s k there at_i t open_t))
+        (λ u h. let same : t ≡ u = some_is (sym open_t ∙ h) in subst (λ (v : kept.Transaction). Fits v.store m.world) same (keep.fit m n i k there t open_t))
         (let a = k.agree.ages in omega (arith, a, begun))
-        (let c = keep.counts' m n i s k there at_i s refl in let d = k.agree.counted in omega (arith, c, d, begun, commits))
+        (let c = keep.counts' m n i k there s refl in let d = k.agree.counted in omega (arith, c, d, begun, commits))
       where
         some_is : {u : kept.Transaction} → Some t ≡ Some u → t ≡ u
         some_is h = cc
@@ -117,7 +120,7 @@ module _ (m : Machine) (n i : ℕ) (s : code.Seat) (k : IsKept m) (there : Stand
     dies o idle room h =
         asks_lock o Die idle room h
         ∙ ap (λ x. nothing (Rattle.tab_model.specs.Outcome.with_seat σ (Rattle.tab_model.specs.Outcome.with_transaction (seat_of s) x)) reply.Restart) (ap (option_map (λ v. transaction_of (works.with_store v no_store))) (sym open_t) ∙ mapped s.transaction)
-        ∙ ap (λ ss. let τ : State = record { tables = m.world; seats = ss; queue = map queued_of m.queue.items; next_age = m.begun + 1; commits = m.commits; greatest = m.greatest; limits = m.limits } in nothing τ reply.Restart) (sym (keep.seats' m n i s k there at_i (works.emptied s) refl))
+        ∙ ap (λ ss. let τ : State = record { tables = m.world; seats = ss; queue = map queued_of m.queue.items; next_age = m.begun + 1; commits = m.commits; greatest = m.greatest; limits = m.limits } in nothing τ reply.Restart) (sym (keep.seats' m n i k there (works.emptied s) refl))
       where
         mapped : (x : Option kept.Transaction) → option_map (λ v. transaction_of (works.with_store v no_store)) x ≡ option_map transaction_of (option_map (λ v. works.with_store v no_store) x)
         mapped None = refl
@@ -126,9 +129,9 @@ module _ (m : Machine) (n i : ℕ) (s : code.Seat) (k : IsKept m) (there : Stand
     pub die_agrees : is_waiting σ n ≡ false → (m' : Machine) → m'.world ≡ m.world → m'.seats.items ≡ set m.seats.items i (works.emptied s) → m'.limits ≡ m.limits → m'.begun ≡ m.begun → m'.commits ≡ m.commits
         → m'.ages ≡ forget m.ages t.age → m'.queue.items ≡ m.queue.items → Agree m'
     die_agrees idle m' world seats limits begun commits ages queue =
-        over_agrees m n i s k there at_i t open_t (works.emptied s) refl (ap (λ x. plain.held_by (option_map transaction_of (option_map (λ v. works.with_store v no_store) x))) open_t) (fits s.transaction) (few s.transaction) m' world seats limits begun commits
+        over_agrees m n i k there t open_t (works.emptied s) refl (ap (λ x. plain.held_by (option_map transaction_of (option_map (λ v. works.with_store v no_store) x))) open_t) (fits s.transaction) (few s.transaction) m' world seats limits begun commits
         (ap (λ (g : Ages). g.held) ages)
-        (ap (λ (g : Ages). g.queue) ages ∙ keep.not_queued m n i s k there at_i t open_t idle ∙ k.agree.queue ∙ ap (λ qs. queued_in (map queued_of qs)) (sym queue))
+        (ap (λ (g : Ages). g.queue) ages ∙ keep.not_queued m n i k there t open_t idle ∙ k.agree.queue ∙ ap (λ qs. queued_in (map queued_of qs)) (sym queue))
       where
         fits : (x : Option kept.Transaction) (u : kept.Transaction) → option_map (λ v. works.with_store v no_store) x ≡ Some u → Fits u.store m.world
         fits None u h = cc
@@ -189,23 +192,23 @@ module _ (m : Machine) (n i : ℕ) (s : code.Seat) (k : IsKept m) (there : Stand
         let last = ages ∙ ages_in_end o x v y g g' d in_end in
         leaves m m' (set m.seats.items i y) m.queue.items n (DoCommand (command.Do o)) x.reply k nx
         (granted o x d.new d.works idle room h ∙ ap (λ z. nothing (state_with m (set m.seats.items i z) m.queue.items) x.reply) (sym d.seat))
-        (moving.work_agrees m n i s k there at_i t open_t o x d.new d.works m' nx.world (nx.seats ∙ ap (set m.seats.items i) d.seat) nx.limits nx.begun nx.commits
+        (moving.work_agrees m n i k there t open_t o x d.new d.works m' nx.world (nx.seats ∙ ap (set m.seats.items i) d.seat) nx.limits nx.begun nx.commits
         (ap (λ (z : Ages). z.held) last ∙ held_if x.over g (t.age, needs o) (ap (λ (z : Ages). z.held) locks))
-        (ap (λ (z : Ages). z.queue) last ∙ queue_if x.over g (ap (λ (z : Ages). without t.age z.queue) locks ∙ keep.not_queued m n i s k there at_i t open_t idle ∙ sym (ap (λ (z : Ages). z.queue) locks)) ∙ ap (λ (z : Ages). z.queue) locks
+        (ap (λ (z : Ages). z.queue) last ∙ queue_if x.over g (ap (λ (z : Ages). without t.age z.queue) locks ∙ keep.not_queued m n i k there t open_t idle ∙ sym (ap (λ (z : Ages). z.queue) locks)) ∙ ap (λ (z : Ages). z.queue) locks
         ∙ k.agree.queue ∙ ap (λ qs. queued_in (map queued_of qs)) (sym nx.queue)))
 
     -- work that was refused memory: all is as before
     pub refused_exit : (s2 v : code.Seat) (m' : Machine) → s2 ≡ s → v.number ≡ s2.number → v.transaction ≡ s2.transaction → IsNext m m' (set m.seats.items i v) m.queue.items → m'.ages ≡ m.ages → (state_of m' ≡ state_of m) × IsKept m'
     refused_exit s2 v m' same number transaction nx ages =
         let is_s : v ≡ s = seat_is v s2 number transaction ∙ same in
-        let before : state_of m' ≡ state_of m = sym (state_next m m' (set m.seats.items i v) m.queue.items nx) ∙ ap (λ ss. state_with m ss m.queue.items) (ap (set m.seats.items i) is_s ∙ keep.unchanged m n i s k there at_i) in (
+        let before : state_of m' ≡ state_of m = sym (state_next m m' (set m.seats.items i v) m.queue.items nx) ∙ ap (λ ss. state_with m ss m.queue.items) (ap (set m.seats.items i) is_s ∙ keep.unchanged m n i k there) in (
           before,
-          kept_same m m' k (keep.seat_agrees m n i s k there at_i s refl m' nx.world (nx.seats ∙ ap (set m.seats.items i) is_s) nx.limits
-              (subst (SameMembers (held_in (map seat_of (set m.seats.items i s)))) (sym (ap (λ (g : Ages). g.held) ages)) (keep.same_locks m n i s k there at_i s refl refl))
+          kept_same m m' k (keep.seat_agrees m n i k there s refl m' nx.world (nx.seats ∙ ap (set m.seats.items i) is_s) nx.limits
+              (subst (SameMembers (held_in (map seat_of (set m.seats.items i s)))) (sym (ap (λ (g : Ages). g.held) ages)) (keep.same_locks m n i k there s refl refl))
               (ap (λ (g : Ages). g.queue) ages ∙ k.agree.queue ∙ ap (λ qs. queued_in (map queued_of qs)) (sym nx.queue))
-              (λ u h. let e : t ≡ u = some_is (sym open_t ∙ h) in subst (λ (z : kept.Transaction). Fits z.store m.world) e (keep.fit m n i s k there at_i t open_t))
+              (λ u h. let e : t ≡ u = some_is (sym open_t ∙ h) in subst (λ (z : kept.Transaction). Fits z.store m.world) e (keep.fit m n i k there t open_t))
               (let a = k.agree.ages in omega (arith, a, nx.begun))
-              (let c = keep.counts' m n i s k there at_i s refl in let d = k.agree.counted in omega (arith, c, d, nx.begun, nx.commits))) before,
+              (let c = keep.counts' m n i k there s refl in let d = k.agree.counted in omega (arith, c, d, nx.begun, nx.commits))) before,
         )
       where
         some_is : {u : kept.Transaction} → Some t ≡ Some u → t ≡ u
@@ -228,24 +231,31 @@ module _ (m : Machine) (n i : ℕ) (s : code.Seat) (k : IsKept m) (there : Stand
 
 -- ---- a retry
 
-module _ (m : Machine) (n i : ℕ) (s : code.Seat) (k : IsKept m) (there : StandsAt m.seats.items n i) (at_i : s ≡ get_or m.seats.items i s) where
+module _ (m : Machine) (n i : ℕ) (k : IsKept m) (there : StandsAt m.seats.items n i) where
+  abbrev sitting : code.Seat
+  sitting = the_seat m n i
+
   abbrev τ : State
   τ = state_of m
 
   pub nothing_queued : request_in (map queued_of m.queue.items) n ≡ None → outcome τ [] n Retry ≡ nothing τ reply.NotWaiting
-  nothing_queued none = keep.sits τ n (seat_of s) Retry (keep.here m n i s k there at_i) ∙ ap (retry τ (seat_of s)) (ap (request_in (map queued_of m.queue.items)) (keep.is m n i s k there at_i) ∙ none)
+  nothing_queued none = keep.sits τ n (seat_of sitting) Retry (keep.here m n i k there) ∙ ap (retry τ (seat_of sitting)) (ap (request_in (map queued_of m.queue.items)) (keep.is m n i k there) ∙ none)
+
+  -- its request, however the queue is read
+  pub queued_here : (qs : List request.Request) → qs ≡ m.queue.items → {o : Option Queued} → request_in (map queued_of qs) n ≡ o → request_in (map queued_of m.queue.items) n ≡ o
+  queued_here qs h e = ap (λ xs. request_in (map queued_of xs) n) (sym h) ∙ e
 
   -- who waits has an open transaction, of the request's age
   pub record IsRequest (q : request.Request) : Type 0 where
     pub transaction : kept.Transaction
-    pub open_t : s.transaction ≡ Some transaction
+    pub open_t : sitting.transaction ≡ Some transaction
     pub age : transaction.age ≡ q.age
     pub request : request_of q.age m.ages.queue ≡ Some (q.age, needs q.operation)
 
   pub requested : (q : request.Request) → request_in (map queued_of m.queue.items) n ≡ Some (queued_of q) → IsRequest q
-  requested q h = by s.transaction refl (subst (λ o. plain.HasAge o q.age) (ap plain.transaction_in (keep.here m n i s k there at_i)) (request_age (plain.transaction_at τ) n (map queued_of m.queue.items) (queued_of q) k.owners h))
+  requested q h = by sitting.transaction refl (subst (λ o. plain.HasAge o q.age) (ap plain.transaction_in (keep.here m n i k there)) (request_age (plain.transaction_at τ) n (map queued_of m.queue.items) (queued_of q) k.owners h))
     where
-      by : (o : Option kept.Transaction) → s.transaction ≡ o → plain.HasAge (option_map transaction_of s.transaction) q.age → IsRequest q
+      by : (o : Option kept.Transaction) → sitting.transaction ≡ o → plain.HasAge (option_map transaction_of sitting.transaction) q.age → IsRequest q
       by None e g = absurd (subst (λ o. plain.HasAge (option_map transaction_of o) q.age) e g)
       by (Some t) e g =
           let age : t.age ≡ q.age = subst (λ o. plain.HasAge (option_map transaction_of o) q.age) e g in
@@ -254,7 +264,7 @@ module _ (m : Machine) (n i : ℕ) (s : code.Seat) (k : IsKept m) (there : Stand
             open_t = e;
             age = age;
             request = ap (λ a. request_of a m.ages.queue) (sym age) ∙ ap (request_of t.age) k.agree.queue
-                ∙ request_match n t.age (map queued_of m.queue.items) (queued_of q) (match_of τ n (transaction_of t) (map queued_of m.queue.items) k.sound (keep.mine m n i s k there at_i t e) k.owners) h;
+                ∙ request_match n t.age (map queued_of m.queue.items) (queued_of q) (match_of τ n (transaction_of t) (map queued_of m.queue.items) k.sound (keep.mine m n i k there t e) k.owners) h;
           }
 
   module _ (q : request.Request) (rq : request_in (map queued_of m.queue.items) n ≡ Some (queued_of q)) where
@@ -266,29 +276,43 @@ module _ (m : Machine) (n i : ℕ) (s : code.Seat) (k : IsKept m) (there : Stand
         sym (ap (λ (x : List Owned). let g : Ages = record { held = m.ages.held; queue = x } in can_retry g (r.transaction.age, needs q.operation)) k.agree.queue ∙ retries (held_in (map seat_of m.seats.items)) m.ages.held (queued_in (map queued_of m.queue.items)) (r.transaction.age, needs q.operation) k.agree.held)
         ∙ ap (λ a. can_retry m.ages (a, needs q.operation)) r.age ∙ h
 
-    retried_as : (b : Bool) → can_retry m.ages (q.age, needs q.operation) ≡ b → outcome τ [] n Retry ≡ retried τ (seat_of s) (transaction_of r.transaction) q.operation b
+    retried_as : (b : Bool) → can_retry m.ages (q.age, needs q.operation) ≡ b → outcome τ [] n Retry ≡ retried τ (seat_of sitting) (transaction_of r.transaction) q.operation b
     retried_as b h =
-        keep.sits τ n (seat_of s) Retry (keep.here m n i s k there at_i) ∙ ap (retry τ (seat_of s)) (ap (request_in (map queued_of m.queue.items)) (keep.is m n i s k there at_i) ∙ rq)
-        ∙ ap (retry_in τ (seat_of s) q.operation) (ap (option_map transaction_of) r.open_t) ∙ ap (retried τ (seat_of s) (transaction_of r.transaction) q.operation) (may b h)
+        keep.sits τ n (seat_of sitting) Retry (keep.here m n i k there) ∙ ap (retry τ (seat_of sitting)) (ap (request_in (map queued_of m.queue.items)) (keep.is m n i k there) ∙ rq)
+        ∙ ap (retry_in τ (seat_of sitting) q.operation) (ap (option_map transaction_of) r.open_t) ∙ ap (retried τ (seat_of sitting) (transaction_of r.transaction) q.operation) (may b h)
 
     pub waits_on : can_retry m.ages (q.age, needs q.operation) ≡ false → outcome τ [] n Retry ≡ nothing τ reply.Waiting
     waits_on h = retried_as false h
 
-    pub retry_exit : (x : Worked) (s2 v y : code.Seat) (g g' : Ages) (m' : Machine) → IsWorked m n i s k there at_i r.transaction r.open_t q.operation x s2 v y → can_retry m.ages (q.age, needs q.operation) ≡ true
+    -- the locks after the grant
+    pub granted_as : (g : Ages) → IfSome (request_of q.age m.ages.queue) (λ z. g ≡ record { held = placed z m.ages.held; queue = m.ages.queue }) → g ≡ record { held = placed (q.age, needs q.operation) m.ages.held; queue = m.ages.queue }
+    granted_as g h = subst (λ x. IfSome x (λ z. (let y : Ages = record { held = placed z m.ages.held; queue = m.ages.queue } in g ≡ y))) r.request h
+
+    -- a granted retry whose work was refused memory: all is as before
+    pub retry_refused : (s2 v : code.Seat) (g g' : Ages) (m' : Machine) → s2 ≡ sitting → v.number ≡ s2.number
+        → IfSome s2.transaction (λ u. (v.transaction ≡ s2.transaction) × (g' ≡ record { held = without_last u.age g.held; queue = g.queue }))
+        → without_last q.age g.held ≡ m.ages.held → IfSome (request_of q.age m.ages.queue) (λ z. g ≡ record { held = placed z m.ages.held; queue = m.ages.queue })
+        → IsNext m m' (set m.seats.items i v) m.queue.items → m'.ages ≡ g' → (state_of m' ≡ state_of m) × IsKept m'
+    retry_refused s2 v g g' m' same number undone_here undo grant nx ages =
+        let u = undone r.transaction s2 v g g' (ap (λ (x : code.Seat). x.transaction) same ∙ r.open_t) undone_here in
+        refused_exit m n i k there r.transaction r.open_t s2 v m' same number u.0 nx
+        (ages ∙ u.1 ∙ given_back m.ages g r.transaction.age (q.age, needs q.operation) (ap (λ a. without_last a g.held) r.age ∙ undo) (granted_as g grant))
+
+    pub retry_exit : (x : Worked) (s2 v y : code.Seat) (g g' : Ages) (m' : Machine) → IsWorked m n i k there r.transaction r.open_t q.operation x s2 v y → can_retry m.ages (q.age, needs q.operation) ≡ true
         → g ≡ record { held = placed (q.age, needs q.operation) m.ages.held; queue = without q.age m.ages.queue } → g' ≡ (if x.over then works.forgotten_if g v.transaction else g)
         → IsNext m m' (set m.seats.items i y) (filter (λ z. not (z.session == n)) m.queue.items) → m'.ages ≡ g' → Leaves m m' n Retry x.reply
     retry_exit x s2 v y g g' m' w h locks in_end nx ages =
         let t = r.transaction in
         let o = q.operation in
-        let d = worked m n i s k there at_i t r.open_t o x s2 v y w in
-        let last = ages ∙ ages_in_end m n i s k there at_i t r.open_t o x v y g g' d in_end in
+        let d = worked m n i k there t r.open_t o x s2 v y w in
+        let last = ages ∙ ages_in_end m n i k there t r.open_t o x v y g g' d in_end in
         let queue_is : without t.age g.queue ≡ g.queue = ap (λ (z : Ages). without t.age z.queue) locks ∙ ap (λ a. without t.age (without a m.ages.queue)) (sym r.age) ∙ without_twice t.age m.ages.queue ∙ ap (λ a. without a m.ages.queue) r.age ∙ sym (ap (λ (z : Ages). z.queue) locks) in
         leaves m m' (set m.seats.items i y) (filter (λ z. not (z.session == n)) m.queue.items) n Retry x.reply k nx
         (retried_as true h
-        ∙ ap (λ qq. made (with_queue τ qq) (seat_of s) (transaction_of t) (Do o) reply.Done) (ap (without_request (map queued_of m.queue.items)) (keep.is m n i s k there at_i) ∙ sym (keep.queued_filtered n m.queue.items))
-        ∙ moving.moves m n i s k there at_i t r.open_t (filter (λ z. not (z.session == n)) m.queue.items) (find m.world (table_of o)) (Do o) (Some x.reply) reply.Done x.over (moving.answered m n i s k there at_i t r.open_t o x d.new d.works) (moving.over_is m n i s k there at_i t r.open_t o x d.new d.works)
+        ∙ ap (λ qq. made (with_queue τ qq) (seat_of sitting) (transaction_of t) (Do o) reply.Done) (ap (without_request (map queued_of m.queue.items)) (keep.is m n i k there) ∙ sym (keep.queued_filtered n m.queue.items))
+        ∙ moving.moves m n i k there t r.open_t (filter (λ z. not (z.session == n)) m.queue.items) (find m.world (table_of o)) (Do o) (Some x.reply) reply.Done x.over (moving.answered m n i k there t r.open_t o x d.new d.works) (moving.over_is m n i k there t r.open_t o x d.new d.works)
         ∙ ap (λ z. nothing (state_with m (set m.seats.items i z) (filter (λ z. not (z.session == n)) m.queue.items)) x.reply) (sym d.seat))
-        (moving.work_agrees m n i s k there at_i t r.open_t o x d.new d.works m' nx.world (nx.seats ∙ ap (set m.seats.items i) d.seat) nx.limits nx.begun nx.commits
-        (ap (λ (z : Ages). z.held) last ∙ held_if m n i s k there at_i t r.open_t x.over g (t.age, needs o) (ap (λ (z : Ages). z.held) locks ∙ ap (λ a. placed (a, needs o) m.ages.held) (sym r.age)))
-        (ap (λ (z : Ages). z.queue) last ∙ queue_if m n i s k there at_i t r.open_t x.over g queue_is ∙ ap (λ (z : Ages). z.queue) locks ∙ ap (λ a. without a m.ages.queue) (sym r.age)
-        ∙ keep.dropped m n i s k there at_i t r.open_t ∙ ap (λ qs. queued_in (map queued_of qs)) (sym nx.queue)))
+        (moving.work_agrees m n i k there t r.open_t o x d.new d.works m' nx.world (nx.seats ∙ ap (set m.seats.items i) d.seat) nx.limits nx.begun nx.commits
+        (ap (λ (z : Ages). z.held) last ∙ held_if m n i k there t r.open_t x.over g (t.age, needs o) (ap (λ (z : Ages). z.held) locks ∙ ap (λ a. placed (a, needs o) m.ages.held) (sym r.age)))
+        (ap (λ (z : Ages). z.queue) last ∙ queue_if m n i k there t r.open_t x.over g queue_is ∙ ap (λ (z : Ages). z.queue) locks ∙ ap (λ a. without a m.ages.queue) (sym r.age)
+        ∙ keep.dropped m n i k there t r.open_t ∙ ap (λ qs. queued_in (map queued_of qs)) (sym nx.queue)))

@@ -77,7 +77,7 @@ module _ (m : Machine) (n i : ℕ) (k : IsKept m) (there : StandsAt m.seats.item
   s = the_seat m n i
 
   transactions : transaction_at σ n ≡ option_map transaction_of s.transaction
-  transactions = ap plain.transaction_in (keep.here m n i s k there (keep.at_place m n i there))
+  transactions = ap plain.transaction_in (keep.here m n i k there)
 
   pub no_transaction_none : s.transaction ≡ None → outermost σ n ≡ None
   no_transaction_none h = closed_none σ n (transactions ∙ ap (option_map transaction_of) h)
@@ -87,18 +87,18 @@ module _ (m : Machine) (n i : ℕ) (k : IsKept m) (there : StandsAt m.seats.item
 
   module _ (t : kept.Transaction) (open_t : s.transaction ≡ Some t) where
     pub levels_open : levels_of σ n ≡ suc (length t.store.levels.saved)
-    levels_open = ap (levels_in σ) (keep.mine m n i s k there (keep.at_place m n i there) t open_t) ∙ ap suc (keep.depth m n i s k there (keep.at_place m n i there) t open_t)
+    levels_open = ap (levels_in σ) (keep.mine m n i k there t open_t) ∙ ap suc (keep.depth m n i k there t open_t)
 
     saved : (b : Bool) → (length t.store.levels.saved == 0) ≡ b → is_empty (mid_of σ (transaction_of t)).saved ≡ b
-    saved b h = ending.outermost m n i s k there (keep.at_place m n i there) t open_t ∙ h
+    saved b h = ending.outermost m n i k there t open_t ∙ h
 
     pub child_none : (length t.store.levels.saved == 0) ≡ false → outermost σ n ≡ None
-    child_none h = none_if σ (is_waiting σ n) (transaction_at σ n) (ap (outermost_of σ) (keep.mine m n i s k there (keep.at_place m n i there) t open_t) ∙ ap (λ b. if b then Some (transaction_of t) else None) (saved false h))
+    child_none h = none_if σ (is_waiting σ n) (transaction_at σ n) (ap (outermost_of σ) (keep.mine m n i k there t open_t) ∙ ap (λ b. if b then Some (transaction_of t) else None) (saved false h))
 
     pub ends : (updates : List Change) → updates ≡ t.store.levels.now.updates → is_waiting σ n ≡ false → (length t.store.levels.saved == 0) ≡ true → Some (t.age, updates) ≡ option_map ending_of (outermost σ n)
     ends updates is idle h =
-        ap (λ us. Some (t.age, us)) (is ∙ updates_survive t.store m.world (keep.fit m n i s k there (keep.at_place m n i there) t open_t))
-        ∙ sym (ap (option_map ending_of) ((λ j. if idle j then None else outermost_of σ (keep.mine m n i s k there (keep.at_place m n i there) t open_t j)) ∙ ap (λ b. if b then Some (transaction_of t) else None) (saved true h)))
+        ap (λ us. Some (t.age, us)) (is ∙ updates_survive t.store m.world (keep.fit m n i k there t open_t))
+        ∙ sym (ap (option_map ending_of) ((λ j. if idle j then None else outermost_of σ (keep.mine m n i k there t open_t j)) ∙ ap (λ b. if b then Some (transaction_of t) else None) (saved true h)))
 
   pub is_ending : (t : Transaction) → outermost σ n ≡ Some t → IsEnding m n i t
   is_ending t h = by s.transaction refl
@@ -116,7 +116,7 @@ module _ (m : Machine) (n i : ℕ) (k : IsKept m) (there : StandsAt m.seats.item
         opened = e;
         is = same;
         idle = at_n.0;
-        deep = sym (ending.outermost m n i s k there (keep.at_place m n i there) u e) ∙ ap (λ (x : Transaction). is_empty (mid_of σ x).saved) same ∙ at_n.2;
+        deep = sym (ending.outermost m n i k there u e) ∙ ap (λ (x : Transaction). is_empty (mid_of σ x).saved) same ∙ at_n.2;
       }
         where
           one : Some (transaction_of u) ≡ Some t → transaction_of u ≡ t
@@ -129,7 +129,7 @@ module _ (m : Machine) (n i : ℕ) (k : IsKept m) (there : StandsAt m.seats.item
   pub updates_are : (t : Transaction) (e : IsEnding m n i t) → change_all m.world (surviving t.moves t.told) ≡ change_all m.world e.held.store.levels.now.updates
   updates_are t e =
       ap (λ (x : Transaction). change_all m.world (surviving x.moves x.told)) (sym e.is)
-      ∙ ap (change_all m.world) (sym (updates_survive e.held.store m.world (keep.fit m n i s k there (keep.at_place m n i there) e.held e.opened)))
+      ∙ ap (change_all m.world) (sym (updates_survive e.held.store m.world (keep.fit m n i k there e.held e.opened)))
 
 -- who has a place has joined
 pub joined_is : (m : Machine) (n : ℕ) (o : Option ℕ) → MatchOption o (at m.seats.items n ≡ None) (StandsAt m.seats.items n) → is_some o ≡ is_some (plain.seat_at (state_of m).seats n)

@@ -4,8 +4,6 @@
 mod ending;
 mod running;
 mod serving;
-#[cfg(test)]
-mod tests;
 mod words;
 
 use running::run;

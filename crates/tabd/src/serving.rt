@@ -18,7 +18,7 @@ use tab_post::Line;
 use tab_server::{Open, serve};
 
 /// What a server is given: how many connections it accepts, how many items wait for a session, how many entries stand.
-#[derive(Clone, Copy, Debug, PartialEq, Eq)]
+#[derive(Clone, Copy)]
 pub struct Sizes {
     pub connections: u32,
     pub outbox: u32,

@@ -12,7 +12,7 @@ use std::io;
 use std::rt::Env;
 
 /// What the words ask for.
-#[derive(Clone, Copy, Debug, PartialEq, Eq)]
+#[derive(Clone, Copy)]
 pub enum Run {
     /// Each session's post holds so many items.
     Replay { outbox: u32 },

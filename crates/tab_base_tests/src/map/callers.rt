@@ -3,7 +3,7 @@ ghost use Rattle.std.specs.Prelude.{◌≡◌, ◌↔◌, ◌<◌, IfOk, IsTrue,
 ghost use Rattle.std.specs.Option.{option_copied};
 ghost use Rattle.std.specs.String.{string_cmp};
 ghost use Rattle.tab_map.specs.Entries.{Ascends, lookup, insert_entry, remove_entry};
-ghost use Rattle.tab_map_tests.specs.contracts.callers.TermOrd.TheImpl as term_order;
+ghost use Rattle.tab_base_tests.specs.contracts.map.callers.TermOrd.TheImpl as term_order;
 
 use std::alloc::{AllocError, Global};
 use std::test::Fail;

@@ -2,7 +2,7 @@
 
 ghost use Rattle.std.specs.Prelude.{◌≡◌};
 
-use super::items::{batch, is_received};
+use crate::items::{batch, is_received};
 use std::alloc::{AllocError, Global};
 use std::marker::{Brand, PhantomData};
 use std::process::Abort;

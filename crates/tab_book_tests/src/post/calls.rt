@@ -2,7 +2,7 @@
 
 ghost use Rattle.tab_post.specs.Ends.{AreEnds};
 
-use super::items::{batch, is_batch, is_gone, is_received};
+use crate::items::{batch, is_batch, is_gone, is_received};
 use std::alloc::Global;
 use std::sync::Wait;
 use tab_outbox::{Met, Post, Refused};

@@ -2,7 +2,7 @@
 
 ghost use Rattle.tab_post.specs.Ends.{IsSamePost, IsSameInbox};
 
-use super::items::{batch, is_received};
+use crate::items::{batch, is_received};
 use std::alloc::Global;
 use std::process::Abort;
 use std::sync::Wait;

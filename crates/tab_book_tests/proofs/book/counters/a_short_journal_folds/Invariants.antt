@@ -1,4 +1,4 @@
-use Rattle.tab_book_tests.proofs.book.book.counters.a_short_journal_folds.Given as goal
+use Rattle.tab_book_tests.proofs.book.counters.a_short_journal_folds.Given as goal
 
 -- the register that was just opened
 abbrev pub ghosts-count_named : goal.ghosts-count_named

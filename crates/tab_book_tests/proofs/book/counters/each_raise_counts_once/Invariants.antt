@@ -1,4 +1,4 @@
-use Rattle.tab_book_tests.proofs.book.book.counters.each_raise_counts_once.Given as goal
+use Rattle.tab_book_tests.proofs.book.counters.each_raise_counts_once.Given as goal
 
 -- the register that was just opened
 abbrev pub ghosts-count_named : goal.ghosts-count_named

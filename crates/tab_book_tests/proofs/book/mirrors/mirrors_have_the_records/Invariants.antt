@@ -1,4 +1,4 @@
-use Rattle.tab_book_tests.proofs.book.book.mirrors.mirrors_have_the_records.Given as goal
+use Rattle.tab_book_tests.proofs.book.mirrors.mirrors_have_the_records.Given as goal
 
 -- the register that was just opened
 abbrev pub ghosts-run_named : goal.ghosts-run_named

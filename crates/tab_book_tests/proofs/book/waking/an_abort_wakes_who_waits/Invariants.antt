@@ -1,4 +1,4 @@
-use Rattle.tab_book_tests.proofs.book.book.waking.an_abort_wakes_who_waits.Given as goal
+use Rattle.tab_book_tests.proofs.book.waking.an_abort_wakes_who_waits.Given as goal
 
 -- the register that was just opened
 abbrev pub ghosts-run_named : goal.ghosts-run_named

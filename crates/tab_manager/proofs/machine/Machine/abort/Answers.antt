@@ -15,26 +15,19 @@ returns-then-is_none-clause-ok c =
     let m = c.args.self.now in
     let n = c.args.session in
     let i = c.args.place in
-    let there = c.requires.there in
-    let s = the_seat m n i in
-    let at_i = keep.at_place m n i there in
-    let first = keep.read m n i there c.deref.result.now c.index-deref-place.result c.deref.ensures.0 in
-    ending.nothing_to_abort m n i s c.requires.kept there at_i c.args.reason (ap (λ (x : code.Seat). x.transaction) (sym first) ∙ keep.none_of _ (c.if-is_none.ensures))
+    ending.nothing_to_abort m n i c.requires.kept c.requires.there c.args.reason (keep.found m n i c.requires.there c.deref.result.now c.index-deref-place.result c.deref.ensures.0 (keep.none_of _ (c.if-is_none.ensures)))
 
 pub returns : goal.returns
 returns c =
     let m = c.args.self.now in
     let n = c.args.session in
     let i = c.args.place in
-    let there = c.requires.there in
-    let s = the_seat m n i in
-    let at_i = keep.at_place m n i there in
-    let first = keep.read m n i there c.deref.result.now c.index-deref-place.result c.deref.ensures.0 in
-    let o = keep.some_of s.transaction (ap is_some (ap (λ (x : code.Seat). x.transaction) (sym first)) ∙ c.if-is_none.ensures) in
+    let o = keep.some_of _ (c.if-is_none.ensures) in
+    let open_t = keep.found m n i c.requires.there c.deref.result.now c.index-deref-place.result c.deref.ensures.0 o.1 in
     let s2 = get_or c.deref_mut.result.now i c.index-deref_mut-place.result in
-    let same = keep.read m n i there c.deref_mut.result.now c.index-deref_mut-place.result c.deref_mut.ensures.value in
-    let u = ending.undoes_at o.0 s s2 m.ages c.undo.new.seat c.undo.new.ages same o.1 c.undo.ensures in
+    let same = keep.read m n i c.requires.there c.deref_mut.result.now c.index-deref_mut-place.result c.deref_mut.ensures.value in
+    let u = ending.undoes_at o.0 (the_seat m n i) s2 m.ages c.undo.new.seat c.undo.new.ages same open_t c.undo.ensures in
     let m' = parts m (with_items m.seats (set c.deref_mut.result.now i c.undo.new.seat)) c.undo.new.ages c.retain.new.self in
-    let all = ending.abort_exit m n i s c.requires.kept there at_i o.0 o.1 c.args.reason c.undo.new.seat c.undo.new.ages m' u
+    let all = ending.abort_exit m n i c.requires.kept c.requires.there o.0 open_t c.args.reason c.undo.new.seat c.undo.new.ages m' u
     (record { world = refl; seats = refilled m.seats.items _ i c.undo.new.seat c.deref_mut.ensures.value; queue = filter_same _ (λ (x : request.Request). not (x.session == n)) _ (λ x b f t. search rules) _ _ c.retain.ensures.filtered; limits = refl; begun = refl; commits = refl; greatest = refl }) refl in
     record { ok = all.0; kept = all.1 }

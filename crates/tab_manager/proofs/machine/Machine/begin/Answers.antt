@@ -16,27 +16,21 @@ returns-in_err-nest-clause-kept c =
     let m = c.args.self.now in
     let n = c.args.session in
     let i = c.args.place in
-    let there = c.requires.there in
-    let s = the_seat m n i in
-    let at_i = keep.at_place m n i there in
-    let first = keep.read m n i there c.deref.result.now c.index-deref-place.result c.deref.ensures.0 in
-    let o = keep.some_of s.transaction (ap is_some (ap (λ (x : code.Seat). x.transaction) (sym first)) ∙ sym c.if-is_some.ensures) in
-    let same = keep.read m n i there c.deref_mut.result.now c.index-deref_mut-place.result c.deref_mut.ensures.value in
-    (ending.nest_refused m n i s c.requires.kept there at_i o.0 o.1 c.nest.new.seat (parts m (with_items m.seats (set c.deref_mut.result.now i c.nest.new.seat)) m.ages m.queue) (c.nest.ensures.number ∙ ap (λ (x : code.Seat). x.number) same) (c.in_err-nest.ensures.err ∙ ap (λ (x : code.Seat). x.transaction) same) (record { world = refl; seats = refilled m.seats.items _ i c.nest.new.seat c.deref_mut.ensures.value; queue = refl; limits = refl; begun = refl; commits = refl; greatest = refl }) refl refl).1
+    let o = keep.some_of _ (sym c.if-is_some.ensures) in
+    let open_t = keep.found m n i c.requires.there c.deref.result.now c.index-deref-place.result c.deref.ensures.0 o.1 in
+    let same = keep.read m n i c.requires.there c.deref_mut.result.now c.index-deref_mut-place.result c.deref_mut.ensures.value in
+    (ending.nest_refused m n i c.requires.kept c.requires.there o.0 open_t c.nest.new.seat (parts m (with_items m.seats (set c.deref_mut.result.now i c.nest.new.seat)) m.ages m.queue) (c.nest.ensures.number ∙ ap (λ (x : code.Seat). x.number) same) (c.in_err-nest.ensures.err ∙ ap (λ (x : code.Seat). x.transaction) same) (record { world = refl; seats = refilled m.seats.items _ i c.nest.new.seat c.deref_mut.ensures.value; queue = refl; limits = refl; begun = refl; commits = refl; greatest = refl }) refl refl).1
 
 pub returns-then-is_some : goal.returns-then-is_some
 returns-then-is_some c =
     let m = c.args.self.now in
     let n = c.args.session in
     let i = c.args.place in
-    let there = c.requires.there in
-    let s = the_seat m n i in
-    let at_i = keep.at_place m n i there in
-    let first = keep.read m n i there c.deref.result.now c.index-deref-place.result c.deref.ensures.0 in
-    let o = keep.some_of s.transaction (ap is_some (ap (λ (x : code.Seat). x.transaction) (sym first)) ∙ sym c.if-is_some.ensures) in
-    let same = keep.read m n i there c.deref_mut.result.now c.index-deref_mut-place.result c.deref_mut.ensures.value in
-    let all = ending.nest_exit m n i s c.requires.kept there at_i o.0 o.1 c.nest.new.seat _ (parts m (with_items m.seats (set c.deref_mut.result.now i c.nest.new.seat)) m.ages m.queue) c.requires.idle (c.nest.ensures.number ∙ ap (λ (x : code.Seat). x.number) same)
-    (answering.nests_at m.limits o.0 _ s c.nest.new.seat.transaction _ same o.1 c.in_ok-nest.ensures.ok) (record { world = refl; seats = refilled m.seats.items _ i c.nest.new.seat c.deref_mut.ensures.value; queue = refl; limits = refl; begun = refl; commits = refl; greatest = refl }) refl refl in
+    let o = keep.some_of _ (sym c.if-is_some.ensures) in
+    let open_t = keep.found m n i c.requires.there c.deref.result.now c.index-deref-place.result c.deref.ensures.0 o.1 in
+    let same = keep.read m n i c.requires.there c.deref_mut.result.now c.index-deref_mut-place.result c.deref_mut.ensures.value in
+    let all = ending.nest_exit m n i c.requires.kept c.requires.there o.0 open_t c.nest.new.seat _ (parts m (with_items m.seats (set c.deref_mut.result.now i c.nest.new.seat)) m.ages m.queue) c.requires.idle (c.nest.ensures.number ∙ ap (λ (x : code.Seat). x.number) same)
+    (answering.nests_at m.limits o.0 _ (the_seat m n i) c.nest.new.seat.transaction _ same open_t c.in_ok-nest.ensures.ok) (record { world = refl; seats = refilled m.seats.items _ i c.nest.new.seat c.deref_mut.ensures.value; queue = refl; limits = refl; begun = refl; commits = refl; greatest = refl }) refl refl in
     record { ok = all.0; err = tt; kept = all.1 }
 
 pub returns-then-self-clause-ok : goal.returns-then-self-clause-ok
@@ -44,23 +38,15 @@ returns-then-self-clause-ok c =
     let m = c.args.self.now in
     let n = c.args.session in
     let i = c.args.place in
-    let there = c.requires.there in
-    let s = the_seat m n i in
-    let at_i = keep.at_place m n i there in
-    let first = keep.read m n i there c.deref.result.now c.index-deref-place.result c.deref.ensures.0 in
-    ending.no_more_ages m n i s c.requires.kept there at_i (ap (λ (x : code.Seat). x.transaction) (sym first) ∙ keep.none_of _ (sym c.if-is_some.ensures)) c.requires.idle (not_at_most _ _ (omega (arith, c.if-self.true)))
+    ending.no_more_ages m n i c.requires.kept c.requires.there (keep.found m n i c.requires.there c.deref.result.now c.index-deref-place.result c.deref.ensures.0 (keep.none_of _ (sym c.if-is_some.ensures))) c.requires.idle (not_at_most _ _ (omega (arith, c.if-self.true)))
 
 pub returns : goal.returns
 returns c =
     let m = c.args.self.now in
     let n = c.args.session in
     let i = c.args.place in
-    let there = c.requires.there in
-    let s = the_seat m n i in
-    let at_i = keep.at_place m n i there in
-    let first = keep.read m n i there c.deref.result.now c.index-deref-place.result c.deref.ensures.0 in
-    let same = keep.read m n i there c.deref_mut-2.result.now c.index-deref_mut-place-2.result c.deref_mut-2.ensures.value in
-    let closed = ap (λ (x : code.Seat). x.transaction) (sym first) ∙ keep.none_of _ (sym c.if-is_some.ensures) in
-    let seat_is = ending.seat_is _ (ending.begun_at m n i s c.requires.kept there at_i closed c.requires.idle) (ap (λ (x : code.Seat). x.number) same) (ap (λ st. Some (let z : kept.Transaction = record { age = m.begun + 1; store = st } in z)) c.new.ensures) in
-    let all = ending.begin_exit m n i s c.requires.kept there at_i closed c.requires.idle _ (at_most _ _ (omega (arith, c.if-self.false))) refl (refilled m.seats.items _ i _ c.deref_mut-2.ensures.value ∙ ap (set m.seats.items i) seat_is) refl refl refl refl refl refl in
+    let same = keep.read m n i c.requires.there c.deref_mut-2.result.now c.index-deref_mut-place-2.result c.deref_mut-2.ensures.value in
+    let closed = keep.found m n i c.requires.there c.deref.result.now c.index-deref-place.result c.deref.ensures.0 (keep.none_of _ (sym c.if-is_some.ensures)) in
+    let seat_is = ending.seat_is _ (ending.begun_at m n i c.requires.kept c.requires.there closed c.requires.idle) (ap (λ (x : code.Seat). x.number) same) (ap (λ st. Some (let z : kept.Transaction = record { age = m.begun + 1; store = st } in z)) c.new.ensures) in
+    let all = ending.begin_exit m n i c.requires.kept c.requires.there closed c.requires.idle _ (at_most _ _ (omega (arith, c.if-self.false))) refl (refilled m.seats.items _ i _ c.deref_mut-2.ensures.value ∙ ap (set m.seats.items i) seat_is) refl refl refl refl refl refl in
     record { ok = all.0; err = tt; kept = all.1 }

@@ -16,11 +16,7 @@ returns-in_default-clause-ok c =
     let m = c.args.self.now in
     let n = c.args.session in
     let i = c.args.place in
-    let there = c.requires.there in
-    let s = the_seat m n i in
-    let at_i = keep.at_place m n i there in
-    let first = keep.read m n i there c.deref.result.now c.index-deref-place.result c.deref.ensures.0 in
-    ending.commits_nothing m n i s c.requires.kept there at_i (ap (λ (x : code.Seat). x.transaction) (sym first) ∙ c.in_default.is) c.requires.idle
+    ending.commits_nothing m n i c.requires.kept c.requires.there (keep.found m n i c.requires.there c.deref.result.now c.index-deref-place.result c.deref.ensures.0 c.in_default.is) c.requires.idle
     ∙ answering.without_entry (state_of m) reply.NoTransaction c.without_entry.result c.without_entry.ensures
 
 pub returns-then-depth-gt0 : goal.returns-then-depth-gt0
@@ -28,14 +24,10 @@ returns-then-depth-gt0 c =
     let m = c.args.self.now in
     let n = c.args.session in
     let i = c.args.place in
-    let there = c.requires.there in
-    let s = the_seat m n i in
-    let at_i = keep.at_place m n i there in
-    let first = keep.read m n i there c.deref.result.now c.index-deref-place.result c.deref.ensures.0 in
     let t = c.in-Some.transaction in
-    let open_t = ap (λ (x : code.Seat). x.transaction) (sym first) ∙ c.in-Some.is in
-    let same = keep.read m n i there c.deref_mut.result.now c.index-deref_mut-place.result c.deref_mut.ensures.value in
-    let all = ending.join_exit m n i s c.requires.kept there at_i t open_t c.join_level.new.seat (parts m (with_items m.seats (set c.deref_mut.result.now i c.join_level.new.seat)) m.ages m.queue) c.requires.idle
+    let open_t = keep.found m n i c.requires.there c.deref.result.now c.index-deref-place.result c.deref.ensures.0 c.in-Some.is in
+    let same = keep.read m n i c.requires.there c.deref_mut.result.now c.index-deref_mut-place.result c.deref_mut.ensures.value in
+    let all = ending.join_exit m n i c.requires.kept c.requires.there t open_t c.join_level.new.seat (parts m (with_items m.seats (set c.deref_mut.result.now i c.join_level.new.seat)) m.ages m.queue) c.requires.idle
     (answering.above_zero _ (omega (arith, c.if-depth-gt0.true, c.depth.ensures))) (c.join_level.ensures ∙ ap works.joined same)
     (record { world = refl; seats = refilled m.seats.items _ i c.join_level.new.seat c.deref_mut.ensures.value; queue = refl; limits = refl; begun = refl; commits = refl; greatest = refl }) refl in
     record { ok = all.0 ∙ answering.without_entry (state_of (parts m (with_items m.seats (set c.deref_mut.result.now i c.join_level.new.seat)) m.ages m.queue)) reply.AtomicOk c.without_entry-then-depth-gt0.result c.without_entry-then-depth-gt0.ensures; free = λ h. refl; err = tt; kept = all.1 }
@@ -45,26 +37,18 @@ returns-in_err-commit_to-clause-free c =
     let m = c.args.self.now in
     let n = c.args.session in
     let i = c.args.place in
-    let there = c.requires.there in
-    let s = the_seat m n i in
-    let at_i = keep.at_place m n i there in
-    let first = keep.read m n i there c.deref.result.now c.index-deref-place.result c.deref.ensures.0 in
     let t = c.in-Some.transaction in
-    let open_t = ap (λ (x : code.Seat). x.transaction) (sym first) ∙ c.in-Some.is in
-    λ empty. absurd (answering.not_refused _ _ c.in_err-commit_to.was (c.commit_to.ensures.free (c.updates.ensures ∙ answering.no_updates m n i s c.requires.kept there at_i t open_t empty)))
+    let open_t = keep.found m n i c.requires.there c.deref.result.now c.index-deref-place.result c.deref.ensures.0 c.in-Some.is in
+    λ empty. absurd (answering.not_refused _ _ c.in_err-commit_to.was (c.commit_to.ensures.free (c.updates.ensures ∙ answering.no_updates m n i c.requires.kept c.requires.there t open_t empty)))
 
 pub overflow_add-self : goal.overflow_add-self
 overflow_add-self c =
     let m = c.args.self.now in
     let n = c.args.session in
     let i = c.args.place in
-    let there = c.requires.there in
-    let s = the_seat m n i in
-    let at_i = keep.at_place m n i there in
-    let first = keep.read m n i there c.deref.result.now c.index-deref-place.result c.deref.ensures.0 in
     let t = c.in-Some.transaction in
-    let open_t = ap (λ (x : code.Seat). x.transaction) (sym first) ∙ c.in-Some.is in
-    let small = answering.commits_fit m n i s c.requires.kept there at_i t open_t in
+    let open_t = keep.found m n i c.requires.there c.deref.result.now c.index-deref-place.result c.deref.ensures.0 c.in-Some.is in
+    let small = answering.commits_fit m n i c.requires.kept c.requires.there t open_t in
     omega (arith, small)
 
 pub returns : goal.returns
@@ -72,14 +56,10 @@ returns c =
     let m = c.args.self.now in
     let n = c.args.session in
     let i = c.args.place in
-    let there = c.requires.there in
-    let s = the_seat m n i in
-    let at_i = keep.at_place m n i there in
-    let first = keep.read m n i there c.deref.result.now c.index-deref-place.result c.deref.ensures.0 in
     let t = c.in-Some.transaction in
-    let open_t = ap (λ (x : code.Seat). x.transaction) (sym first) ∙ c.in-Some.is in
-    let same = keep.read m n i there c.deref_mut-2.result.now c.index-deref_mut-place-2.result c.deref_mut-2.ensures.value in
-    let all = answering.commit_exit m n i s c.requires.kept there at_i t open_t c.requires.idle (answering.zero_is _ (omega (arith, c.if-depth-gt0.false, c.depth.ensures)))
+    let open_t = keep.found m n i c.requires.there c.deref.result.now c.index-deref-place.result c.deref.ensures.0 c.in-Some.is in
+    let same = keep.read m n i c.requires.there c.deref_mut-2.result.now c.index-deref_mut-place-2.result c.deref_mut-2.ensures.value in
+    let all = answering.commit_exit m n i c.requires.kept c.requires.there t open_t c.requires.idle (answering.zero_is _ (omega (arith, c.if-depth-gt0.false, c.depth.ensures)))
     (get_or c.deref_mut-2.result.now i c.index-deref_mut-place-2.result) c.finish-finished.new.seat c.finish-finished.result
     (record { alloc = m.alloc; world = c.commit_to.new.world; seats = with_items m.seats (set c.deref_mut-2.result.now i c.finish-finished.new.seat); ages = c.finish-finished.new.ages; queue = m.queue; begun = m.begun; commits = m.commits + 1; greatest = m.greatest; limits = m.limits })
     same c.finish-finished.ensures.seat c.finish-finished.ensures.told (c.in_ok-commit_to.ensures.ok ∙ ap (Rattle.tab_model.specs.Events.change_all m.world) c.updates.ensures) (refilled m.seats.items _ i c.finish-finished.new.seat c.deref_mut-2.ensures.value) refl refl refl refl refl c.finish-finished.ensures.ages in

@@ -20,7 +20,7 @@ overflow_add-self c =
     let n = c.args.session in
     let i = c.in-Some.place in
     let e = lemmas.is_ending m n i c.requires.kept c.in-Some.ensures c.requires.there.0 c.requires.there.1 in
-    let small = answering.commits_fit m n i (the_seat m n i) c.requires.kept c.in-Some.ensures (keep.at_place m n i c.in-Some.ensures) e.held e.opened in
+    let small = answering.commits_fit m n i c.requires.kept c.in-Some.ensures e.held e.opened in
     omega (arith, small)
 
 pub finish-requires : goal.finish-requires
@@ -39,9 +39,8 @@ returns c =
     let i = c.in-Some.place in
     let there = c.in-Some.ensures in
     let e = lemmas.is_ending m n i c.requires.kept there c.requires.there.0 c.requires.there.1 in
-    let at_i = keep.at_place m n i there in
     let same = keep.read m n i there c.deref_mut.result.now c.index-deref_mut-place.result c.deref_mut.ensures.value in
-    let all = answering.commit_exit m n i (the_seat m n i) c.requires.kept there at_i e.held e.opened e.idle e.deep
+    let all = answering.commit_exit m n i c.requires.kept there e.held e.opened e.idle e.deep
     (get_or c.deref_mut.result.now i c.index-deref_mut-place.result) c.finish.new.seat c.finish.result
     (record { alloc = m.alloc; world = c.args.world; seats = with_items m.seats (set c.deref_mut.result.now i c.finish.new.seat); ages = c.finish.new.ages; queue = m.queue; begun = m.begun; commits = m.commits + 1; greatest = m.greatest; limits = m.limits })
     same c.finish.ensures.seat c.finish.ensures.told (c.requires.there.2 ∙ lemmas.updates_are m n i c.requires.kept there c.requires.there.0 e) (refilled m.seats.items _ i c.finish.new.seat c.deref_mut.ensures.value) refl refl refl refl refl c.finish.ensures.ages in

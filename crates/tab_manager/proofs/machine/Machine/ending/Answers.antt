@@ -12,26 +12,20 @@ returns-in_default c =
     let m = c.args.self.now in
     let n = c.args.session in
     let i = c.args.place in
-    let there = c.requires.there in
-    let first = keep.read m n i there c.deref.result.now c.index-deref-place.result c.deref.ensures.0 in
-    sym (lemmas.none_ends (state_of m) n (lemmas.no_transaction_none m n i c.requires.kept there (ap (λ (x : code.Seat). x.transaction) (sym first) ∙ c.in_default.is)))
+    sym (lemmas.none_ends (state_of m) n (lemmas.no_transaction_none m n i c.requires.kept c.requires.there (keep.found m n i c.requires.there c.deref.result.now c.index-deref-place.result c.deref.ensures.0 c.in_default.is)))
 
 pub returns-then-depth-gt0 : goal.returns-then-depth-gt0
 returns-then-depth-gt0 c =
     let m = c.args.self.now in
     let n = c.args.session in
     let i = c.args.place in
-    let there = c.requires.there in
-    let first = keep.read m n i there c.deref.result.now c.index-deref-place.result c.deref.ensures.0 in
-    let open_t = ap (λ (x : code.Seat). x.transaction) (sym first) ∙ c.in-Some.is in
-    sym (lemmas.none_ends (state_of m) n (lemmas.child_none m n i c.requires.kept there c.in-Some.transaction open_t (answering.above_zero _ (omega (arith, c.if-depth-gt0.true, c.depth.ensures)))))
+    let open_t = keep.found m n i c.requires.there c.deref.result.now c.index-deref-place.result c.deref.ensures.0 c.in-Some.is in
+    sym (lemmas.none_ends (state_of m) n (lemmas.child_none m n i c.requires.kept c.requires.there c.in-Some.transaction open_t (answering.above_zero _ (omega (arith, c.if-depth-gt0.true, c.depth.ensures)))))
 
 pub returns : goal.returns
 returns c =
     let m = c.args.self.now in
     let n = c.args.session in
     let i = c.args.place in
-    let there = c.requires.there in
-    let first = keep.read m n i there c.deref.result.now c.index-deref-place.result c.deref.ensures.0 in
-    let open_t = ap (λ (x : code.Seat). x.transaction) (sym first) ∙ c.in-Some.is in
-    lemmas.ends m n i c.requires.kept there c.in-Some.transaction open_t _ c.updates.ensures c.requires.idle (answering.zero_is _ (omega (arith, c.if-depth-gt0.false, c.depth.ensures)))
+    let open_t = keep.found m n i c.requires.there c.deref.result.now c.index-deref-place.result c.deref.ensures.0 c.in-Some.is in
+    lemmas.ends m n i c.requires.kept c.requires.there c.in-Some.transaction open_t _ c.updates.ensures c.requires.idle (answering.zero_is _ (omega (arith, c.if-depth-gt0.false, c.depth.ensures)))

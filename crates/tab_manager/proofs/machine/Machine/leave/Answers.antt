@@ -15,11 +15,8 @@ returns c =
     let m = c.args.self.now in
     let n = c.args.session in
     let i = c.args.place in
-    let there = c.requires.there in
-    let s = the_seat m n i in
-    let at_i = keep.at_place m n i there in
-    let same = keep.read m n i there c.deref_mut.result.now c.index-deref_mut-place.result c.deref_mut.ensures.value in
-    let all = ending.leave_exit m n i s c.requires.kept there at_i (parts m c.remove.new.self c.end_if.new.ages c.retain.new.self) refl refl refl refl refl
+    let same = keep.read m n i c.requires.there c.deref_mut.result.now c.index-deref_mut-place.result c.deref_mut.ensures.value in
+    let all = ending.leave_exit m n i c.requires.kept c.requires.there (parts m c.remove.new.self c.end_if.new.ages c.retain.new.self) refl refl refl refl refl
     (c.remove.ensures.items ∙ ap (λ ss. remove ss i) (refilled m.seats.items _ i c.end_if.new.seat c.deref_mut.ensures.value ∙ ap (set m.seats.items i) (c.end_if.ensures.seat ∙ ap works.ended same)))
     (filter_same _ (λ (x : request.Request). not (x.session == n)) _ (λ x b f t. search rules) _ _ c.retain.ensures.filtered)
     (c.end_if.ensures.ages ∙ ap (λ (x : code.Seat). works.forgotten_if m.ages x.transaction) same) in

@@ -13,17 +13,13 @@ returns-in_default c =
     let m = c.args.self.now in
     let n = c.args.session in
     let i = c.args.place in
-    let there = c.requires.there in
-    let first = keep.read m n i there c.deref.result.now c.index-deref-place.result c.deref.ensures.0 in
-    ap (λ k. min k (2 ^ 64 - 1)) (sym (lemmas.no_levels m n i c.requires.kept there (ap (λ (x : code.Seat). x.transaction) (sym first) ∙ c.in_default.is)))
+    ap (λ k. min k (2 ^ 64 - 1)) (sym (lemmas.no_levels m n i c.requires.kept c.requires.there (keep.found m n i c.requires.there c.deref.result.now c.index-deref-place.result c.deref.ensures.0 c.in_default.is)))
 
 pub returns : goal.returns
 returns c =
     let m = c.args.self.now in
     let n = c.args.session in
     let i = c.args.place in
-    let there = c.requires.there in
-    let first = keep.read m n i there c.deref.result.now c.index-deref-place.result c.deref.ensures.0 in
-    let open_t = ap (λ (x : code.Seat). x.transaction) (sym first) ∙ c.in-Some.is in
+    let open_t = keep.found m n i c.requires.there c.deref.result.now c.index-deref-place.result c.deref.ensures.0 c.in-Some.is in
     c.saturating_add.ensures
-    ∙ ap (λ k. min k (2 ^ 64 - 1)) (ap (λ k. k + 1) c.depth.ensures ∙ one_more _ ∙ sym (lemmas.levels_open m n i c.requires.kept there c.in-Some.transaction open_t))
+    ∙ ap (λ k. min k (2 ^ 64 - 1)) (ap (λ k. k + 1) c.depth.ensures ∙ one_more _ ∙ sym (lemmas.levels_open m n i c.requires.kept c.requires.there c.in-Some.transaction open_t))

@@ -12,17 +12,13 @@ returns-then-is_some-clause-ok c =
     let m = c.args.self.now in
     let n = c.args.session in
     let i = c.args.place in
-    let there = c.requires.there in
-    let s = the_seat m n i in
-    let first = keep.read m n i there c.deref.result.now c.index-deref-place.result c.deref.ensures.0 in
-    let o = keep.some_of s.transaction (ap is_some (ap (λ (x : code.Seat). x.transaction) (sym first)) ∙ sym c.if-is_some.ensures) in
-    inside m n i there c.requires.idle o.0 o.1
+    let o = keep.some_of _ (sym c.if-is_some.ensures) in
+    let open_t = keep.found m n i c.requires.there c.deref.result.now c.index-deref-place.result c.deref.ensures.0 o.1 in
+    inside m n i c.requires.there c.requires.idle o.0 open_t
 
 pub returns-clause-ok : goal.returns-clause-ok
 returns-clause-ok c =
     let m = c.args.self.now in
     let n = c.args.session in
     let i = c.args.place in
-    let there = c.requires.there in
-    let first = keep.read m n i there c.deref.result.now c.index-deref-place.result c.deref.ensures.0 in
-    outside m n i there c.requires.idle (ap (λ (x : code.Seat). x.transaction) (sym first) ∙ keep.none_of _ (sym c.if-is_some.ensures)) (state_of c.begin.new.self) _ c.in_ok-begin.ensures.ok
+    outside m n i c.requires.there c.requires.idle (keep.found m n i c.requires.there c.deref.result.now c.index-deref-place.result c.deref.ensures.0 (keep.none_of _ (sym c.if-is_some.ensures))) (state_of c.begin.new.self) _ c.in_ok-begin.ensures.ok

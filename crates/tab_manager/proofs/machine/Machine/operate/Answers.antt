@@ -14,24 +14,27 @@ use Rattle.tab_manager.proofs.machine.Machine.operate.Goals as goal
 
 pub returns-in_default-clause-ok : goal.returns-in_default-clause-ok
 returns-in_default-clause-ok c =
-    let s = c.index-deref-place.result in
-    let at_i = c.index-deref-place.is ∙ ap (λ ss. get_or ss c.args.place s) c.deref.ensures.0 in
-    operating.no_transaction c.args.self.now c.args.session c.args.place s c.requires.kept c.requires.there at_i c.args.pending.operation c.requires.idle (ap (λ (x : code.Seat). x.transaction) c.index-deref-place.is ∙ c.in_default.is)
-    ∙ ap (nothing (state_of c.args.self.now)) (sym c.new.ensures)
+    let m = c.args.self.now in
+    let n = c.args.session in
+    let i = c.args.place in
+    operating.no_transaction m n i c.requires.kept c.requires.there c.args.pending.operation c.requires.idle (keep.found m n i c.requires.there c.deref.result.now c.index-deref-place.result c.deref.ensures.0 c.in_default.is)
+    ∙ ap (nothing (state_of m)) (sym c.new.ensures)
 
 pub returns-then-count-self-clause-ok : goal.returns-then-count-self-clause-ok
 returns-then-count-self-clause-ok c =
-    let s = c.index-deref-place.result in
-    let at_i = c.index-deref-place.is ∙ ap (λ ss. get_or ss c.args.place s) c.deref.ensures.0 in
-    operating.too_many c.args.self.now c.args.session c.args.place s c.requires.kept c.requires.there at_i c.in-Some.transaction (ap (λ (x : code.Seat). x.transaction) c.index-deref-place.is ∙ c.in-Some.is) c.args.pending.operation c.requires.idle
+    let m = c.args.self.now in
+    let n = c.args.session in
+    let i = c.args.place in
+    operating.too_many m n i c.requires.kept c.requires.there c.in-Some.transaction (keep.found m n i c.requires.there c.deref.result.now c.index-deref-place.result c.deref.ensures.0 c.in-Some.is) c.args.pending.operation c.requires.idle
     (not_less _ _ (omega (arith, c.if-count-self.true, c.count.ensures)))
-    ∙ ap (nothing (state_of c.args.self.now)) (sym c.new-then-count-self.ensures)
+    ∙ ap (nothing (state_of m)) (sym c.new-then-count-self.ensures)
 
 pub request-requires : goal.request-requires
 request-requires c =
-    let s = c.index-deref-place.result in
-    let at_i = c.index-deref-place.is ∙ ap (λ ss. get_or ss c.args.place s) c.deref.ensures.0 in
-    keep.not_requested c.args.self.now c.args.session c.args.place s c.requires.kept c.requires.there at_i c.in-Some.transaction (ap (λ (x : code.Seat). x.transaction) c.index-deref-place.is ∙ c.in-Some.is) c.requires.idle
+    let m = c.args.self.now in
+    let n = c.args.session in
+    let i = c.args.place in
+    keep.not_requested m n i c.requires.kept c.requires.there c.in-Some.transaction (keep.found m n i c.requires.there c.deref.result.now c.index-deref-place.result c.deref.ensures.0 c.in-Some.is) c.requires.idle
 
 pub returns-in_err-worked-in-Granted-clause-kept :
     goal.returns-in_err-worked-in-Granted-clause-kept
@@ -39,15 +42,12 @@ returns-in_err-worked-in-Granted-clause-kept c =
     let m = c.args.self.now in
     let n = c.args.session in
     let i = c.args.place in
-    let s = c.index-deref-place.result in
-    let at_i = c.index-deref-place.is ∙ ap (λ ss. get_or ss i s) c.deref.ensures.0 in
     let t = c.in-Some.transaction in
-    let open_t = ap (λ (x : code.Seat). x.transaction) c.index-deref-place.is ∙ c.in-Some.is in
+    let open_t = keep.found m n i c.requires.there c.deref.result.now c.index-deref-place.result c.deref.ensures.0 c.in-Some.is in
     let s2 = get_or c.deref_mut.result.now i c.index-deref_mut-place.result in
-    let at_2 = c.index-deref_mut-place.is ∙ ap (λ ss. get_or ss i c.index-deref_mut-place.result) c.deref_mut.ensures.value in
-    let same = sym c.index-deref_mut-place.is ∙ keep.one_seat m n i s c.requires.kept c.requires.there at_i c.index-deref_mut-place.result at_2 in
+    let same = keep.read m n i c.requires.there c.deref_mut.result.now c.index-deref_mut-place.result c.deref_mut.ensures.value in
     let u = operating.undone t s2 c.work.new.seat c.request.new.self c.work.new.ages (ap (λ (x : code.Seat). x.transaction) same ∙ open_t) c.in_err-worked-in-Granted.ensures.undone in
-    (operating.refused_exit m n i s c.requires.kept c.requires.there at_i t open_t s2 c.work.new.seat (parts m (with_items m.seats (set c.deref_mut.result.now i c.work.new.seat)) c.work.new.ages c.reserve.new.self) same c.in_err-worked-in-Granted.ensures.number u.0
+    (operating.refused_exit m n i c.requires.kept c.requires.there t open_t s2 c.work.new.seat (parts m (with_items m.seats (set c.deref_mut.result.now i c.work.new.seat)) c.work.new.ages c.reserve.new.self) same c.in_err-worked-in-Granted.ensures.number u.0
     (record { world = refl; seats = refilled m.seats.items _ i c.work.new.seat c.deref_mut.ensures.value; queue = c.in_ok-reserve.ensures.items; limits = refl; begun = refl; commits = refl; greatest = refl })
     (u.1 ∙ operating.given_back m.ages c.request.new.self t.age _ (c.in_ok-request.ensures.undo c.in-Granted.is) (operating.ages_after m.ages c.request.new.self t.age _ c.args.pending.operation c.in_ok-request.field-0 Granted c.in_ok-request.ensures.after c.in-Granted.is c.in_ok-lock.ensures))).1
 
@@ -56,17 +56,14 @@ returns-in_ok-worked-in-Granted c =
     let m = c.args.self.now in
     let n = c.args.session in
     let i = c.args.place in
-    let s = c.index-deref-place.result in
-    let at_i = c.index-deref-place.is ∙ ap (λ ss. get_or ss i s) c.deref.ensures.0 in
     let t = c.in-Some.transaction in
-    let open_t = ap (λ (x : code.Seat). x.transaction) c.index-deref-place.is ∙ c.in-Some.is in
+    let open_t = keep.found m n i c.requires.there c.deref.result.now c.index-deref-place.result c.deref.ensures.0 c.in-Some.is in
     let o = c.args.pending.operation in
     let lock = c.in_ok-lock.ensures in
     let room = less _ _ (omega (arith, c.if-count-self.false, c.count.ensures)) in
     let s2 = get_or c.deref_mut.result.now i c.index-deref_mut-place.result in
-    let at_2 = c.index-deref_mut-place.is ∙ ap (λ ss. get_or ss i c.index-deref_mut-place.result) c.deref_mut.ensures.value in
-    let same = sym c.index-deref_mut-place.is ∙ keep.one_seat m n i s c.requires.kept c.requires.there at_i c.index-deref_mut-place.result at_2 in
-    let all = operating.granted_exit m n i s c.requires.kept c.requires.there at_i t open_t o c.in_ok-worked-in-Granted.worked s2 c.work.new.seat c.end_if.new.seat c.work.new.ages c.end_if.new.ages (parts m (with_items m.seats (set c.deref_mut.result.now i c.end_if.new.seat)) c.end_if.new.ages c.reserve.new.self)
+    let same = keep.read m n i c.requires.there c.deref_mut.result.now c.index-deref_mut-place.result c.deref_mut.ensures.value in
+    let all = operating.granted_exit m n i c.requires.kept c.requires.there t open_t o c.in_ok-worked-in-Granted.worked s2 c.work.new.seat c.end_if.new.seat c.work.new.ages c.end_if.new.ages (parts m (with_items m.seats (set c.deref_mut.result.now i c.end_if.new.seat)) c.end_if.new.ages c.reserve.new.self)
     (record { same = same; number = c.in_ok-worked-in-Granted.ensures.number; works = c.in_ok-worked-in-Granted.ensures.ok; end = c.end_if.ensures.seat })
     c.requires.idle room (operating.decides_as m.ages t.age _ o c.in_ok-request.field-0 Granted c.in_ok-request.ensures.answer c.in-Granted.is lock)
     (c.in_ok-worked-in-Granted.ensures.held ∙ operating.ages_after m.ages c.request.new.self t.age _ o c.in_ok-request.field-0 Granted c.in_ok-request.ensures.after c.in-Granted.is lock) c.end_if.ensures.ages
@@ -78,15 +75,13 @@ returns-in-Wait c =
     let m = c.args.self.now in
     let n = c.args.session in
     let i = c.args.place in
-    let s = c.index-deref-place.result in
-    let at_i = c.index-deref-place.is ∙ ap (λ ss. get_or ss i s) c.deref.ensures.0 in
     let t = c.in-Some.transaction in
-    let open_t = ap (λ (x : code.Seat). x.transaction) c.index-deref-place.is ∙ c.in-Some.is in
+    let open_t = keep.found m n i c.requires.there c.deref.result.now c.index-deref-place.result c.deref.ensures.0 c.in-Some.is in
     let o = c.args.pending.operation in
     let lock = c.in_ok-lock.ensures in
     let room = less _ _ (omega (arith, c.if-count-self.false, c.count.ensures)) in
     let q : request.Request = record { session = n; age = t.age; operation = c.into_operation.result } in
-    let all = operating.wait_exit m n i s c.requires.kept c.requires.there at_i t open_t o q (parts m m.seats c.request.new.self c.push_reserved.new.self)
+    let all = operating.wait_exit m n i c.requires.kept c.requires.there t open_t o q (parts m m.seats c.request.new.self c.push_reserved.new.self)
     (ap (λ x. let y : request.Request = record { session = n; age = t.age; operation = x } in y) c.into_operation.ensures) c.requires.idle room
     (operating.decides_as m.ages t.age _ o c.in_ok-request.field-0 Wait c.in_ok-request.ensures.answer c.in-Wait.is lock)
     (operating.ages_after m.ages c.request.new.self t.age _ o c.in_ok-request.field-0 Wait c.in_ok-request.ensures.after c.in-Wait.is lock)
@@ -98,17 +93,14 @@ returns-in-Die c =
     let m = c.args.self.now in
     let n = c.args.session in
     let i = c.args.place in
-    let s = c.index-deref-place.result in
-    let at_i = c.index-deref-place.is ∙ ap (λ ss. get_or ss i s) c.deref.ensures.0 in
     let t = c.in-Some.transaction in
-    let open_t = ap (λ (x : code.Seat). x.transaction) c.index-deref-place.is ∙ c.in-Some.is in
+    let open_t = keep.found m n i c.requires.there c.deref.result.now c.index-deref-place.result c.deref.ensures.0 c.in-Some.is in
     let o = c.args.pending.operation in
     let lock = c.in_ok-lock.ensures in
     let room = less _ _ (omega (arith, c.if-count-self.false, c.count.ensures)) in
     let s2 = get_or c.deref_mut-in-Die.result.now i c.index-deref_mut-place-in-Die.result in
-    let at_2 = c.index-deref_mut-place-in-Die.is ∙ ap (λ ss. get_or ss i c.index-deref_mut-place-in-Die.result) c.deref_mut-in-Die.ensures.value in
-    let same = sym c.index-deref_mut-place-in-Die.is ∙ keep.one_seat m n i s c.requires.kept c.requires.there at_i c.index-deref_mut-place-in-Die.result at_2 in
-    let all = operating.die_exit m n i s c.requires.kept c.requires.there at_i t open_t o s2 c.restart.new.seat (parts m (with_items m.seats (set c.deref_mut-in-Die.result.now i c.restart.new.seat)) c.restart.new.ages c.reserve.new.self) same c.restart.ensures.seat c.requires.idle room
+    let same = keep.read m n i c.requires.there c.deref_mut-in-Die.result.now c.index-deref_mut-place-in-Die.result c.deref_mut-in-Die.ensures.value in
+    let all = operating.die_exit m n i c.requires.kept c.requires.there t open_t o s2 c.restart.new.seat (parts m (with_items m.seats (set c.deref_mut-in-Die.result.now i c.restart.new.seat)) c.restart.new.ages c.reserve.new.self) same c.restart.ensures.seat c.requires.idle room
     (operating.decides_as m.ages t.age _ o c.in_ok-request.field-0 Die c.in_ok-request.ensures.answer c.in-Die.is lock)
     (operating.ages_after m.ages c.request.new.self t.age _ o c.in_ok-request.field-0 Die c.in_ok-request.ensures.after c.in-Die.is lock) c.restart.ensures.ages
     (record { world = refl; seats = refilled m.seats.items _ i c.restart.new.seat c.deref_mut-in-Die.ensures.value; queue = c.in_ok-reserve.ensures.items; limits = refl; begun = refl; commits = refl; greatest = refl }) in

@@ -21,7 +21,7 @@ returns-in_default-clause-ok c =
     let m = c.args.self.now in
     let n = c.args.session in
     let i = c.args.place in
-    operating.nothing_queued m n i (the_seat m n i) c.requires.kept c.requires.there (keep.at_place m n i c.requires.there) (ap (λ qs. request_in (map queued_of qs) n) (sym c.deref.ensures.value) ∙ c.in_default.ensures)
+    operating.nothing_queued m n i c.requires.kept c.requires.there (operating.queued_here m n i c.requires.kept c.requires.there _ c.deref.ensures.value c.in_default.ensures)
     ∙ ap (nothing (state_of m)) (sym c.new.ensures)
 
 pub may_go-requires : goal.may_go-requires
@@ -29,12 +29,8 @@ may_go-requires c =
     let m = c.args.self.now in
     let n = c.args.session in
     let i = c.args.place in
-    let there = c.requires.there in
-    let s = the_seat m n i in
-    let at_i = keep.at_place m n i there in
-    let q = c.in-Some.request.now in
-    let rq = ap (λ qs. request_in (map queued_of qs) n) (sym c.deref.ensures.value) ∙ c.in-Some.ensures in
-    let r = operating.requested m n i s c.requires.kept there at_i q rq in
+    let rq = operating.queued_here m n i c.requires.kept c.requires.there _ c.deref.ensures.value c.in-Some.ensures in
+    let r = operating.requested m n i c.requires.kept c.requires.there c.in-Some.request.now rq in
     subst IsSome (sym r.request) refl
 
 pub returns-then-not-may_go-clause-ok : goal.returns-then-not-may_go-clause-ok
@@ -42,13 +38,9 @@ returns-then-not-may_go-clause-ok c =
     let m = c.args.self.now in
     let n = c.args.session in
     let i = c.args.place in
-    let there = c.requires.there in
-    let s = the_seat m n i in
-    let at_i = keep.at_place m n i there in
-    let q = c.in-Some.request.now in
-    let rq = ap (λ qs. request_in (map queued_of qs) n) (sym c.deref.ensures.value) ∙ c.in-Some.ensures in
-    let r = operating.requested m n i s c.requires.kept there at_i q rq in
-    operating.waits_on m n i s c.requires.kept there at_i q rq (sym (subst (λ x. IfSome x (λ z. false ≡ plain.can_retry m.ages z)) r.request c.if-not-may_go.ensures))
+    let rq = operating.queued_here m n i c.requires.kept c.requires.there _ c.deref.ensures.value c.in-Some.ensures in
+    let r = operating.requested m n i c.requires.kept c.requires.there c.in-Some.request.now rq in
+    operating.waits_on m n i c.requires.kept c.requires.there c.in-Some.request.now rq (sym (subst (λ x. IfSome x (λ z. false ≡ plain.can_retry m.ages z)) r.request c.if-not-may_go.ensures))
     ∙ ap (nothing (state_of m)) (sym c.new-then-not-may_go.ensures)
 
 pub grant-requires-clause-queued : goal.grant-requires-clause-queued
@@ -56,12 +48,8 @@ grant-requires-clause-queued c =
     let m = c.args.self.now in
     let n = c.args.session in
     let i = c.args.place in
-    let there = c.requires.there in
-    let s = the_seat m n i in
-    let at_i = keep.at_place m n i there in
-    let q = c.in-Some.request.now in
-    let rq = ap (λ qs. request_in (map queued_of qs) n) (sym c.deref.ensures.value) ∙ c.in-Some.ensures in
-    let r = operating.requested m n i s c.requires.kept there at_i q rq in
+    let rq = operating.queued_here m n i c.requires.kept c.requires.there _ c.deref.ensures.value c.in-Some.ensures in
+    let r = operating.requested m n i c.requires.kept c.requires.there c.in-Some.request.now rq in
     subst IsSome (sym r.request) refl
 
 pub work-requires : goal.work-requires
@@ -69,14 +57,9 @@ work-requires c =
     let m = c.args.self.now in
     let n = c.args.session in
     let i = c.args.place in
-    let there = c.requires.there in
-    let s = the_seat m n i in
-    let at_i = keep.at_place m n i there in
-    let q = c.in-Some.request.now in
-    let rq = ap (λ qs. request_in (map queued_of qs) n) (sym c.deref.ensures.value) ∙ c.in-Some.ensures in
-    let r = operating.requested m n i s c.requires.kept there at_i q rq in
-    let s2 = get_or c.deref_mut.result.now i c.index-deref_mut-place.result in
-    let same = keep.read m n i there c.deref_mut.result.now c.index-deref_mut-place.result c.deref_mut.ensures.value in
+    let rq = operating.queued_here m n i c.requires.kept c.requires.there _ c.deref.ensures.value c.in-Some.ensures in
+    let r = operating.requested m n i c.requires.kept c.requires.there c.in-Some.request.now rq in
+    let same = keep.read m n i c.requires.there c.deref_mut.result.now c.index-deref_mut-place.result c.deref_mut.ensures.value in
     subst IsSome (sym (ap (λ (x : code.Seat). x.transaction) same ∙ r.open_t)) refl
 
 pub returns-in_err-worked-clause-err : goal.returns-in_err-worked-clause-err
@@ -84,60 +67,37 @@ returns-in_err-worked-clause-err c =
     let m = c.args.self.now in
     let n = c.args.session in
     let i = c.args.place in
-    let there = c.requires.there in
-    let s = the_seat m n i in
-    let at_i = keep.at_place m n i there in
-    let q = c.in-Some.request.now in
-    let rq = ap (λ qs. request_in (map queued_of qs) n) (sym c.deref.ensures.value) ∙ c.in-Some.ensures in
-    let r = operating.requested m n i s c.requires.kept there at_i q rq in
-    let s2 = get_or c.deref_mut.result.now i c.index-deref_mut-place.result in
-    let same = keep.read m n i there c.deref_mut.result.now c.index-deref_mut-place.result c.deref_mut.ensures.value in
-    let granted = subst (λ x. IfSome x (λ z. (let g : plain.Ages = record { held = placed z m.ages.held; queue = m.ages.queue } in c.grant.new.self ≡ g))) r.request c.in_ok-grant.ensures.ok in
-    let u = operating.undone r.transaction s2 c.work.new.seat c.grant.new.self c.work.new.ages (ap (λ (x : code.Seat). x.transaction) same ∙ r.open_t) c.in_err-worked.ensures.undone in
-    let all = operating.refused_exit m n i s c.requires.kept there at_i r.transaction r.open_t s2 c.work.new.seat (parts m (with_items m.seats (set c.deref_mut.result.now i c.work.new.seat)) c.work.new.ages m.queue) same c.in_err-worked.ensures.number u.0
-    (record { world = refl; seats = refilled m.seats.items _ i c.work.new.seat c.deref_mut.ensures.value; queue = refl; limits = refl; begun = refl; commits = refl; greatest = refl })
-    (u.1 ∙ operating.given_back m.ages c.grant.new.self r.transaction.age _ (ap (λ a. Rattle.tab_locks.specs.Placed.without_last a c.grant.new.self.held) r.age ∙ c.in_ok-grant.ensures.undo) granted) in
-    keep.always c.from_residual-in_err-worked.result all.0
+    let rq = operating.queued_here m n i c.requires.kept c.requires.there _ c.deref.ensures.value c.in-Some.ensures in
+    let same = keep.read m n i c.requires.there c.deref_mut.result.now c.index-deref_mut-place.result c.deref_mut.ensures.value in
+    keep.always c.from_residual-in_err-worked.result (operating.retry_refused m n i c.requires.kept c.requires.there c.in-Some.request.now rq (get_or c.deref_mut.result.now i c.index-deref_mut-place.result) c.work.new.seat c.grant.new.self c.work.new.ages
+    (parts m (with_items m.seats (set c.deref_mut.result.now i c.work.new.seat)) c.work.new.ages m.queue) same c.in_err-worked.ensures.number c.in_err-worked.ensures.undone c.in_ok-grant.ensures.undo c.in_ok-grant.ensures.ok
+    (record { world = refl; seats = refilled m.seats.items _ i c.work.new.seat c.deref_mut.ensures.value; queue = refl; limits = refl; begun = refl; commits = refl; greatest = refl }) refl).0
 
 pub returns-in_err-worked-clause-kept : goal.returns-in_err-worked-clause-kept
 returns-in_err-worked-clause-kept c =
     let m = c.args.self.now in
     let n = c.args.session in
     let i = c.args.place in
-    let there = c.requires.there in
-    let s = the_seat m n i in
-    let at_i = keep.at_place m n i there in
-    let q = c.in-Some.request.now in
-    let rq = ap (λ qs. request_in (map queued_of qs) n) (sym c.deref.ensures.value) ∙ c.in-Some.ensures in
-    let r = operating.requested m n i s c.requires.kept there at_i q rq in
-    let s2 = get_or c.deref_mut.result.now i c.index-deref_mut-place.result in
-    let same = keep.read m n i there c.deref_mut.result.now c.index-deref_mut-place.result c.deref_mut.ensures.value in
-    let granted = subst (λ x. IfSome x (λ z. (let g : plain.Ages = record { held = placed z m.ages.held; queue = m.ages.queue } in c.grant.new.self ≡ g))) r.request c.in_ok-grant.ensures.ok in
-    let u = operating.undone r.transaction s2 c.work.new.seat c.grant.new.self c.work.new.ages (ap (λ (x : code.Seat). x.transaction) same ∙ r.open_t) c.in_err-worked.ensures.undone in
-    let all = operating.refused_exit m n i s c.requires.kept there at_i r.transaction r.open_t s2 c.work.new.seat (parts m (with_items m.seats (set c.deref_mut.result.now i c.work.new.seat)) c.work.new.ages m.queue) same c.in_err-worked.ensures.number u.0
-    (record { world = refl; seats = refilled m.seats.items _ i c.work.new.seat c.deref_mut.ensures.value; queue = refl; limits = refl; begun = refl; commits = refl; greatest = refl })
-    (u.1 ∙ operating.given_back m.ages c.grant.new.self r.transaction.age _ (ap (λ a. Rattle.tab_locks.specs.Placed.without_last a c.grant.new.self.held) r.age ∙ c.in_ok-grant.ensures.undo) granted) in
-    all.1
+    let rq = operating.queued_here m n i c.requires.kept c.requires.there _ c.deref.ensures.value c.in-Some.ensures in
+    let same = keep.read m n i c.requires.there c.deref_mut.result.now c.index-deref_mut-place.result c.deref_mut.ensures.value in
+    (operating.retry_refused m n i c.requires.kept c.requires.there c.in-Some.request.now rq (get_or c.deref_mut.result.now i c.index-deref_mut-place.result) c.work.new.seat c.grant.new.self c.work.new.ages
+    (parts m (with_items m.seats (set c.deref_mut.result.now i c.work.new.seat)) c.work.new.ages m.queue) same c.in_err-worked.ensures.number c.in_err-worked.ensures.undone c.in_ok-grant.ensures.undo c.in_ok-grant.ensures.ok
+    (record { world = refl; seats = refilled m.seats.items _ i c.work.new.seat c.deref_mut.ensures.value; queue = refl; limits = refl; begun = refl; commits = refl; greatest = refl }) refl).1
 
 pub returns : goal.returns
 returns c =
     let m = c.args.self.now in
     let n = c.args.session in
     let i = c.args.place in
-    let there = c.requires.there in
-    let s = the_seat m n i in
-    let at_i = keep.at_place m n i there in
-    let q = c.in-Some.request.now in
-    let rq = ap (λ qs. request_in (map queued_of qs) n) (sym c.deref.ensures.value) ∙ c.in-Some.ensures in
-    let r = operating.requested m n i s c.requires.kept there at_i q rq in
+    let rq = operating.queued_here m n i c.requires.kept c.requires.there _ c.deref.ensures.value c.in-Some.ensures in
+    let r = operating.requested m n i c.requires.kept c.requires.there c.in-Some.request.now rq in
     let s2 = get_or c.deref_mut.result.now i c.index-deref_mut-place.result in
-    let same = keep.read m n i there c.deref_mut.result.now c.index-deref_mut-place.result c.deref_mut.ensures.value in
-    let granted = subst (λ x. IfSome x (λ z. (let g : plain.Ages = record { held = placed z m.ages.held; queue = m.ages.queue } in c.grant.new.self ≡ g))) r.request c.in_ok-grant.ensures.ok in
-    let before = c.in_ok-worked.ensures.held ∙ granted in
-    let all = operating.retry_exit m n i s c.requires.kept there at_i q rq c.in_ok-worked.worked s2 c.work.new.seat c.end_if.new.seat c.drop_wait.new.self c.end_if.new.ages
+    let same = keep.read m n i c.requires.there c.deref_mut.result.now c.index-deref_mut-place.result c.deref_mut.ensures.value in
+    let before = c.in_ok-worked.ensures.held ∙ operating.granted_as m n i c.requires.kept c.requires.there c.in-Some.request.now rq c.grant.new.self c.in_ok-grant.ensures.ok in
+    let all = operating.retry_exit m n i c.requires.kept c.requires.there c.in-Some.request.now rq c.in_ok-worked.worked s2 c.work.new.seat c.end_if.new.seat c.drop_wait.new.self c.end_if.new.ages
     (parts m (with_items m.seats (set c.deref_mut.result.now i c.end_if.new.seat)) c.end_if.new.ages c.retain.new.self)
     (record { same = same; number = c.in_ok-worked.ensures.number; works = subst (λ o. IfSome s2.transaction (λ u. works.WorksTo m.world u o c.in_ok-worked.worked c.work.new.seat.transaction)) c.in_ok-try_clone.ensures c.in_ok-worked.ensures.ok; end = c.end_if.ensures.seat })
     (sym (subst (λ x. IfSome x (λ z. true ≡ plain.can_retry m.ages z)) r.request c.if-not-may_go.ensures))
-    (c.drop_wait.ensures ∙ (λ j. let g : plain.Ages = record { held = plain.Ages.held (before j); queue = plain.without q.age (plain.Ages.queue (before j)) } in g)) c.end_if.ensures.ages
+    (c.drop_wait.ensures ∙ (λ j. let g : plain.Ages = record { held = plain.Ages.held (before j); queue = plain.without c.in-Some.request.now.age (plain.Ages.queue (before j)) } in g)) c.end_if.ensures.ages
     (record { world = refl; seats = refilled m.seats.items _ i c.end_if.new.seat c.deref_mut.ensures.value; queue = filter_same _ (λ (x : request.Request). not (x.session == n)) _ (λ x b f t. search rules) _ _ c.retain.ensures.filtered; limits = refl; begun = refl; commits = refl; greatest = refl }) refl in
     record { ok = all.0 ∙ ap (nothing (state_of (parts m (with_items m.seats (set c.deref_mut.result.now i c.end_if.new.seat)) c.end_if.new.ages c.retain.new.self))) (sym c.into_reply.ensures); free = λ h. refl; err = tt; kept = all.1 }

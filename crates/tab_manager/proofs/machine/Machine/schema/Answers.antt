@@ -13,21 +13,14 @@ returns-then-is_some-clause-ok c =
     let m = c.args.self.now in
     let n = c.args.session in
     let i = c.args.place in
-    let there = c.requires.there in
-    let s = the_seat m n i in
-    let at_i = keep.at_place m n i there in
-    let first = keep.read m n i there c.deref.result.now c.index-deref-place.result c.deref.ensures.0 in
-    let o = keep.some_of s.transaction (ap is_some (ap (λ (x : code.Seat). x.transaction) (sym first)) ∙ sym c.if-is_some.ensures) in
-    answering.schema_inside m n i s there at_i o.0 o.1 c.requires.idle c.args.asked.schema ∙ answering.without_entry (state_of m) reply.InTransaction c.without_entry.result c.without_entry.ensures
+    let o = keep.some_of _ (sym c.if-is_some.ensures) in
+    let open_t = keep.found m n i c.requires.there c.deref.result.now c.index-deref-place.result c.deref.ensures.0 o.1 in
+    answering.schema_inside m n i c.requires.there o.0 open_t c.requires.idle c.args.asked.schema ∙ answering.without_entry (state_of m) reply.InTransaction c.without_entry.result c.without_entry.ensures
 
 pub returns-in-Refused-clause-ok : goal.returns-in-Refused-clause-ok
 returns-in-Refused-clause-ok c =
     let m = c.args.self.now in
     let n = c.args.session in
     let i = c.args.place in
-    let there = c.requires.there in
-    let s = the_seat m n i in
-    let at_i = keep.at_place m n i there in
-    let first = keep.read m n i there c.deref.result.now c.index-deref-place.result c.deref.ensures.0 in
-    answering.schema_refused m n i s there at_i (ap (λ (x : code.Seat). x.transaction) (sym first) ∙ keep.none_of _ (sym c.if-is_some.ensures)) c.requires.idle c.args.asked.schema c.in-Refused.reply (subst (Rattle.tab_world.specs.Redefines.Redefines m.world c.args.asked.schema) c.in-Refused.is c.in_ok-reply.ensures)
+    answering.schema_refused m n i c.requires.there (keep.found m n i c.requires.there c.deref.result.now c.index-deref-place.result c.deref.ensures.0 (keep.none_of _ (sym c.if-is_some.ensures))) c.requires.idle c.args.asked.schema c.in-Refused.reply (subst (Rattle.tab_world.specs.Redefines.Redefines m.world c.args.asked.schema) c.in-Refused.is c.in_ok-reply.ensures)
     ∙ answering.without_entry (state_of m) c.in-Refused.reply c.without_entry-in-Refused.result c.without_entry-in-Refused.ensures

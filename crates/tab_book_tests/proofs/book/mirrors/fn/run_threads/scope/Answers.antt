@@ -13,7 +13,7 @@ use Rattle.tab_book.specs.contracts.shared.Shared as shared
 use Rattle.tab_book.specs.contracts.shared.Seat as seat
 use Rattle.tab_named.proofs.Crossing.{SeatInbox-send}
 use Rattle.tab_named.specs.contracts.inbox.SeatInbox as inbox
-use Rattle.tab_book_tests.proofs.book.book.mirrors.fn.run_threads.scope.Goals as goal
+use Rattle.tab_book_tests.proofs.book.mirrors.fn.run_threads.scope.Goals as goal
 
 word-sync : IsSync word.the_row
 word-sync = search crosses

@@ -11,7 +11,7 @@ use Rattle.tab_book.proofs.Closures.{closure_send}
 use Rattle.tab_book.proofs.Crossing.{Shared-sync}
 use Rattle.tab_book.specs.contracts.shared.Shared as shared
 use Rattle.tab_book.specs.contracts.shared.Seat as seat
-use Rattle.tab_book_tests.proofs.book.book.waking.fn.wake.scope.Goals as goal
+use Rattle.tab_book_tests.proofs.book.waking.fn.wake.scope.Goals as goal
 
 word-sync : IsSync word.the_row
 word-sync = search crosses
