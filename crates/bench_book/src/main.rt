@@ -1,16 +1,21 @@
-//! Measures the running book: what threads share, how long its lock is held, and what its journal keeps.
+//! Measures the running book: what threads share, how long its lock is held, and what its journal keeps; and requests over
+//! loopback.
 //!
 //! `bench_book threads THREADS COMMITS` has so many threads make so many commits each, of one record of their own keys.
 //! `bench_book hold RECORDS JOURNAL` says how long the lock is held for the three steps of such a commit, at a table of so many
 //! records and a journal of so many entries, which folds where it is full. `bench_book journal one|thousand|all RECORDS COMMITS`
 //! makes so many commits, each of which read so much of a table of so many records, and ends: the memory of the run is to be
-//! looked at from outside. `bench_book check` does each of them once, small, and prints no time.
+//! looked at from outside. `bench_book load PORT CONNECTIONS ROUNDS` asks a server on that port, which is `tabd serve` with twice
+//! as many connections, and prints what a round takes: of one-shots that write a record, and of begin, write and commit.
+//! `bench_book echo PORT CONNECTIONS` is a server of the same shape that gives back what it reads, to compare with. `bench_book
+//! check` does each of them once, small, and prints no time.
 
 #![tactic(auto)]
 
 mod commands;
 mod holds;
 mod journals;
+mod loopback;
 mod measure;
 mod threads;
 
@@ -47,10 +52,16 @@ fn main(rt: HostRuntime) -> Result<()> {
             named(rt, measure)?;
         }
         println!(rt; "ok")?;
-        return Ok(());
+        return loopback::check(&rt);
     }
-    println!(rt; "{}", named(rt, asked(&words)?)?)?;
-    Ok(())
+    match words.get(1).map(|word| word.as_str()) {
+        Some("load") => loopback::load(&rt, port(&words)?, number(&words, 3)?, number(&words, 4)?),
+        Some("echo") => loopback::serve_echo(&rt, port(&words)?, number(&words, 3)?),
+        _ => {
+            println!(rt; "{}", named(rt, asked(&words)?)?)?;
+            Ok(())
+        }
+    }
 }
 
 /// On a book of its own.
@@ -76,7 +87,7 @@ fn asked(words: &[String]) -> Result<Measure> {
             records: number(words, 3)?,
             commits: number(words, 4)?,
         }),
-        _ => bail!("bench_book threads|hold|journal .., or bench_book check"),
+        _ => bail!("bench_book threads|hold|journal|load|echo .., or bench_book check"),
     }
 }
 
@@ -86,6 +97,14 @@ fn number(words: &[String], place: usize) -> Result<u32> {
         .context("a number is missing")?
         .parse::<u32>()
         .context("a number")
+}
+
+fn port(words: &[String]) -> Result<u16> {
+    words
+        .get(2)
+        .context("a port is missing")?
+        .parse::<u16>()
+        .context("a port")
 }
 
 fn reads(words: &[String]) -> Result<Reads> {

@@ -1,6 +1,6 @@
 //! Clients that wait for each reply before they ask again.
 
-use crate::requests::{Work, create, round};
+use super::requests::{Work, create, round};
 use anyhow::{Result, anyhow, bail};
 use std::alloc::Global;
 use std::io::{Read, Write};
