@@ -1,13 +1,13 @@
 //! Replies that are kept, and written at once.
 
 use crate::gate::Gate;
-use crate::sink::FrameSink;
 use std::alloc::Global;
 use std::io::Write;
 use std::sync::Wait;
 use tab_etf::{Broken, EncodeFault};
 use tab_model::Reply;
 use tab_proto::append_reply;
+use tab_sink::FrameSink;
 
 /// So many bytes of replies are kept before they are written.
 const KEPT: usize = 65_536;

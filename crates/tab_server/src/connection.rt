@@ -1,12 +1,12 @@
 //! What the threads of a connection share.
 
-use crate::sink::FrameSink;
 use crate::watch::Watch;
 use std::io;
 use std::net::{Shutdown, TcpStream};
 use std::sync::Wait;
 use tab_book::{Seat, Shared};
 use tab_names::House;
+use tab_sink::FrameSink;
 
 /// A connection's stream, and what is written to it.
 #[derive(Drop)]

@@ -1,13 +1,13 @@
 //! The events of one connection.
 
 use crate::answers::Unwritten;
-use crate::sink::FrameSink;
 use std::alloc::Global;
 use std::io::Write;
 use tab_book::{Drained, Seat, Shared};
 use tab_named::SeatInbox;
 use tab_names::House;
 use tab_proto::{append_item, append_overflow};
+use tab_sink::FrameSink;
 
 /// So many bytes of events are kept before they are written.
 const KEPT: usize = 65_536;

@@ -12,12 +12,11 @@ mod events;
 mod gate;
 mod requests;
 mod seated;
-mod sink;
 mod watch;
 
 pub use accepting::serve;
 pub use events::event_loop;
 pub use gate::{Gate, Open};
 pub use requests::serve_session;
-pub use sink::{FrameSink, Sink};
+pub use tab_sink::{FrameSink, Sink};
 pub use watch::Watch;

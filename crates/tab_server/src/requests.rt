@@ -3,7 +3,6 @@
 use crate::answers::{Answers, Unwritten};
 use crate::gate::Gate;
 use crate::seated::Seated;
-use crate::sink::FrameSink;
 use crate::watch::Watch;
 use std::alloc::Global;
 use std::io::Write;
@@ -13,6 +12,7 @@ use tab_model::{Command, Reply, Told};
 use tab_names::House;
 use tab_oneshot::{Steps, one_shot};
 use tab_proto::{ProtoFault, read_command};
+use tab_sink::FrameSink;
 
 /// The largest piece that is read at once.
 const PIECE: usize = 65_536;

@@ -1,5 +1,7 @@
 //! Where a connection's frames are written.
 
+#![tactic(auto)]
+
 ghost use Rattle.std.specs.Prelude.{◌≡◌, ◌+◌, ℕ, Bool, true, false, min, take, OnOk, OnErr, IsErr};
 ghost use Rattle.std.specs.Io.KnownBytes.{Appends};
 
