@@ -1,4 +1,4 @@
-//! Tests of tab_book. Tests prove their crate once more, so they stand in a crate of their own.
+//! Tests of tab_book: commits of several threads, who is woken, mirrors, and an overflow.
 
 mod commands;
 mod counters;
