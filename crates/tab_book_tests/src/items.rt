@@ -9,7 +9,10 @@ pub fn batch(alloc: Global, commit: u64) -> Item {
 }
 
 pub fn is_batch(item: &Item, commit: u64) -> bool {
-    matches!(item, Item::Batch(number, _) if *number == commit)
+    match item {
+        Item::Batch(number, _) => *number == commit,
+        _ => false,
+    }
 }
 
 /// It was received, and is the batch of this commit.

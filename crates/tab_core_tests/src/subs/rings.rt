@@ -30,7 +30,10 @@ fn batch(alloc: Global, commit: u64) -> Item {
 }
 
 fn is_batch(item: &Item, commit: u64) -> bool {
-    matches!(item, Item::Batch(number, _) if *number == commit)
+    match item {
+        Item::Batch(number, _) => *number == commit,
+        _ => false,
+    }
 }
 
 fn is_right(alloc: Global, post: &mut RingPost, call: &Call) -> bool {
