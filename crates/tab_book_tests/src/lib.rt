@@ -1,4 +1,4 @@
-//! Tests of the public calls of what several threads share: mailboxes, the book, the server.
+//! Tests of the public calls of what several threads share: mailboxes and the book.
 
 #![tactic(auto)]
 
@@ -10,5 +10,3 @@ mod items;
 mod named;
 #[cfg(test)]
 mod post;
-#[cfg(test)]
-mod server;

@@ -1,4 +1,4 @@
-use Rattle.tab_book_tests.proofs.server.threads.others_go_on_while_a_transaction_is_open.Given as goal
+use Rattle.tab_server_tests.proofs.gates.connections_are_served_side_by_side.Given as goal
 
 -- the register that was just opened
 abbrev pub ghosts-run_named : goal.ghosts-run_named

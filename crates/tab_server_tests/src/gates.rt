@@ -2,7 +2,7 @@
 
 ghost use Rattle.std.specs.Prelude.{◌≡◌};
 
-use super::threads::{Does, run_with};
+use crate::threads::{Does, run_with};
 use std::alloc::Global;
 use std::marker::{Brand, PhantomData};
 use std::net::{Net, TcpListener, TcpStream};

@@ -12,7 +12,7 @@ use Rattle.std.specs.contracts.net.tcp.TcpListener as listener
 use Rattle.tab_book.proofs.Closures.{closure_send}
 use Rattle.tab_book.proofs.Crossing.{Shared-sync}
 use Rattle.tab_book.specs.contracts.shared.Shared as shared
-use Rattle.tab_book_tests.proofs.server.threads.fn.beside.scope.Goals as goal
+use Rattle.tab_server_tests.proofs.threads.fn.beside.scope.Goals as goal
 
 word-sync : IsSync word.the_row
 word-sync = search crosses

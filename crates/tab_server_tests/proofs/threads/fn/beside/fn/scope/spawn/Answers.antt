@@ -1,6 +1,6 @@
 -- The handle may go to another thread, and it and the gate be shared, as the server asks.
 use denote.Param.Send.{copied_send, copied_sync, param_sync}
-use Rattle.tab_book_tests.proofs.server.threads.fn.beside.fn.scope.spawn.Goals as goal
+use Rattle.tab_server_tests.proofs.threads.fn.beside.fn.scope.spawn.Goals as goal
 
 pub serve_all-requires-send-H : goal.serve_all-requires-send-H
 serve_all-requires-send-H g c κs within =

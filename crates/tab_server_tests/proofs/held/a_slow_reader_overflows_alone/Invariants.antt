@@ -1,4 +1,4 @@
-use Rattle.tab_book_tests.proofs.server.gates.connections_are_served_side_by_side.Given as goal
+use Rattle.tab_server_tests.proofs.held.a_slow_reader_overflows_alone.Given as goal
 
 -- the register that was just opened
 abbrev pub ghosts-run_named : goal.ghosts-run_named

@@ -12,8 +12,8 @@ use Rattle.tab_book.specs.contracts.shared.Shared as shared
 use Rattle.tab_book.specs.contracts.shared.Seat as seat
 use Rattle.tab_named.proofs.Crossing.{SeatInbox-send}
 use Rattle.tab_named.specs.contracts.inbox.SeatInbox as inbox
-use Rattle.tab_book_tests.specs.contracts.server.held.Pipe as pipe
-use Rattle.tab_book_tests.proofs.server.held.fn.side_by_side.scope.Goals as goal
+use Rattle.tab_server_tests.specs.contracts.held.Pipe as pipe
+use Rattle.tab_server_tests.proofs.held.fn.side_by_side.scope.Goals as goal
 
 seat-send : IsSend seat.the_row
 seat-send = search (sendable, declared_send, as_row_send) depth 20

@@ -2,7 +2,7 @@
 
 ghost use Rattle.std.specs.Prelude.{◌≡◌};
 
-use super::threads::LIMITS;
+use crate::threads::LIMITS;
 use std::alloc::Global;
 use std::io::Write;
 use std::marker::{Brand, PhantomData};

@@ -2,7 +2,7 @@
 
 ghost use Rattle.std.specs.Prelude.{◌≡◌};
 
-use super::client::Client;
+use crate::client::Client;
 use std::alloc::Global;
 use std::marker::{Brand, PhantomData};
 use std::net::{Net, Shutdown, SocketAddr, TcpListener, TcpStream};
