@@ -4,12 +4,11 @@
     lines.py PROGRAM
 
 What stands between the proved function `run` and the operating system has no contract: the words of the process, its
-streams, its status. Expected values are written here by hand, or stand in the tests of tab_session, which another program
-made. One line tells each case that differs; the last line is `N passed, M failed`, and the status 1 where one failed.
+streams, its status. Expected values are written here by hand; streams.py has the streams that another program made. One line
+tells each case that differs; the last line is `N passed, M failed`, and the status 1 where one failed.
 """
 
 import os
-import re
 import resource
 import subprocess
 import sys
@@ -18,7 +17,6 @@ HERE = os.path.dirname(os.path.abspath(__file__))
 sys.path.insert(0, os.path.join(HERE, "..", "examples"))
 from frames import frame  # noqa: E402
 
-ROWS = os.path.join(HERE, "..", "crates", "tab_core_tests", "src", "session")
 DAMAGED = b"tabd: damaged input\n"
 DEVICE = b"tabd: device\n"
 LONGEST = 1_048_576
@@ -61,27 +59,6 @@ WORDS = [
 
 def frames(*terms):
     return b"".join(frame(term) for term in terms)
-
-
-def bytes_of(text):
-    """The bytes of a text such as `83 3*6801`, as the tests write them."""
-    out = b""
-    for word in text.split():
-        count, _, digits = word.rpartition("*")
-        out += bytes.fromhex(digits) * int(count or 1)
-    return out
-
-
-def rows():
-    """The streams of tab_session's tests: name, words, input, output, and how the run ends."""
-    names = sorted(name for name in os.listdir(ROWS) if name.endswith(".rt"))
-    text = "".join(open(os.path.join(ROWS, name), encoding="utf-8").read() for name in names)
-    row = re.compile(r'name: "(.*?)",\s*outbox: (.*?),\s*ended: (.*?),\s*input: "(.*?)",\s*output: "(.*?)",', re.S)
-    ends = {"Ok(())": (0, b""), "Err(Ended::Damaged)": (3, DAMAGED)}
-    return [
-        (name, ["--outbox", outbox], bytes_of(given), bytes_of(told), *ends[ended])
-        for name, outbox, ended, given, told in row.findall(text)
-    ]
 
 
 def longest(size):
@@ -136,7 +113,7 @@ def watched(count):
 def streams():
     """Name, further words, input, output, status and standard error of a replay."""
     begun = frames((1, "ok"), (1, ("atomic", "ok")), (1, ("tid", 1)))
-    return rows() + [
+    return [
         ("the greatest session", [], frames((GREATEST, "join")), frames((GREATEST, "ok")), 0, b""),
         ("the longest payload", [], longest(LONGEST), begun + frames((1, "ok")), 0, b""),
         ("a payload that is too long", [], longest(LONGEST + 1), begun, 3, DAMAGED),

@@ -1,6 +1,169 @@
-//! Tests of tab_map's public calls, for what no contract says: that calls succeed, that each step is short, that maps
-//! agree with std's, and that callers at the key types of tables are proved from the contracts alone.
+//! Tests of tab_map's public calls, for what no contract says: that calls succeed, that each step of a large map is short, and
+//! that maps do as std's.
 
-mod agreement;
-mod callers;
-mod steps;
+use std::alloc::{AllocError, Global};
+use std::collections::BTreeMap;
+use std::test::Fail;
+use tab_map::{Map, Set};
+
+/// A number that no other n below 2^32 gives, in no order.
+fn scattered(n: u32) -> u32 {
+    n.wrapping_mul(0x9e37_79b1)
+}
+
+/// One of 3,000 inserts and removals at 200 keys: made in place, and beside the map that stands for it.
+fn changed(
+    alloc: Global,
+    map: &mut Map<u32, u32>,
+    copy: &Map<u32, u32>,
+    n: u32,
+) -> Result<Map<u32, u32>, AllocError> {
+    let key = scattered(n) % 200;
+    if n % 3 == 2 {
+        map.remove(alloc, &key)?;
+        copy.removed(alloc, &key)
+    } else {
+        map.insert(alloc, key, n)?;
+        copy.inserted(alloc, key, n)
+    }
+}
+
+/// The standard map after the same changes.
+fn std_changed(alloc: Global) -> Result<BTreeMap<u32, u32>, AllocError> {
+    let mut map = BTreeMap::new(alloc);
+    for n in 0..3000u32 {
+        let key = scattered(n) % 200;
+        if n % 3 == 2 {
+            map.remove(&key);
+        } else {
+            map.insert(key, n)?;
+        }
+    }
+    Ok(map)
+}
+
+fn is_same(map: &Map<u32, u32>, std_map: &BTreeMap<u32, u32>) -> bool {
+    let mut entries = map.iter();
+    for (key, value) in std_map {
+        let entry = (*key, *value);
+        if entries.next() != Some(&entry)
+            || map.iter_from(key).next() != Some(&entry)
+            || map.get(key) != Some(value)
+        {
+            return false;
+        }
+    }
+    entries.next().is_none()
+}
+
+#[test]
+fn does_as_std(rt: HostRuntime) -> Result<(), Fail> {
+    let mut map = Map::new();
+    let mut copy = Map::new();
+    for n in 0..3000u32 {
+        copy = changed(rt.alloc(), &mut map, &copy, n)?;
+    }
+    let std_map = std_changed(rt.alloc())?;
+    assert!(rt; is_same(&map, &std_map) && is_same(&copy, &std_map));
+    Ok(())
+}
+
+/// A key, and what stands from and above it in a map of 10 to 1,000 in tens, each with its number.
+static AROUND: [(u32, Option<u32>, Option<u32>); 6] = [
+    (5, Some(1), Some(1)),
+    (10, Some(1), Some(2)),
+    (255, Some(26), Some(26)),
+    (500, Some(50), Some(51)),
+    (1000, Some(100), None),
+    (1005, None, None),
+];
+
+#[test]
+fn finds_around(rt: HostRuntime) -> Result<(), Fail> {
+    let alloc = rt.alloc();
+    let entries = [(10u32, 1u32), (20, 2), (30, 3), (40, 4)].to_vec(alloc)?;
+    let mut map = Map::from_sorted(alloc, entries)?;
+    for n in 5..101u32 {
+        map.insert(alloc, n * 10, n)?;
+    }
+    for (key, from, above) in &AROUND {
+        assert_eq!(rt;
+            map.first_from(key).map(|entry| entry.1),
+            *from,
+            "from {key}"
+        );
+        assert_eq!(rt;
+            map.first_above(key).map(|entry| entry.1),
+            *above,
+            "above {key}"
+        );
+    }
+    Ok(())
+}
+
+#[test]
+fn sets(rt: HostRuntime) -> Result<(), Fail> {
+    let alloc = rt.alloc();
+    let two = Set::new().inserted(alloc, 2u32)?.inserted(alloc, 1)?;
+    let left = two.removed(alloc, &1)?;
+    let mut changed = two.share()?;
+    changed.insert(alloc, 3)?;
+    changed.remove(alloc, &1)?;
+    for (key, before, after, wanted) in [
+        (1, true, false, false),
+        (2, true, true, true),
+        (3, false, false, true),
+    ] {
+        assert!(rt; two.contains(&key) == before && left.contains(&key) == after);
+        assert!(rt; changed.contains(&key) == wanted);
+    }
+    let mut keys = two.iter();
+    assert!(rt; keys.next() == Some(&1) && keys.next() == Some(&2) && keys.next().is_none());
+    Ok(())
+}
+
+/// Rising, falling, from both ends, and mixed.
+fn ordered(order: u32, n: u32) -> u32 {
+    match order {
+        0 => n,
+        1 => u32::MAX - n,
+        2 if n % 2 == 0 => n,
+        2 => u32::MAX - n,
+        _ => scattered(n),
+    }
+}
+
+// Of a thousand entries: rows of 8 entries each, a quarter of the nodes above them for every four, and the root.
+const NODES_OF_A_THOUSAND: usize = 125 * 4 / 3 + 2;
+
+/// Were a way to an entry or a copied node long, this would outlast its time limit many times over. Every second step makes a new map
+/// beside the old one, so it copies what it changes.
+#[test]
+fn steps_of_large_maps_are_short(rt: HostRuntime) -> Result<(), Fail> {
+    let alloc = rt.alloc();
+    for order in 0..4u32 {
+        let mut map = Map::new();
+        for n in 0..100_000u32 {
+            map.insert(alloc, ordered(order, n), ())?;
+            map = map.inserted(alloc, ordered(order, n), ())?;
+        }
+        let kept = map.share()?;
+        for n in 0..99_000u32 {
+            map = map.removed(alloc, &ordered(order, n))?;
+            map.remove(alloc, &ordered(order, n ^ 1))?;
+        }
+        assert!(rt; map.nodes() < NODES_OF_A_THOUSAND && !map.is_empty());
+        assert!(rt; kept.contains_key(&ordered(order, 0)));
+    }
+    Ok(())
+}
+
+#[test]
+fn drops_a_million(rt: HostRuntime) -> Result<(), Fail> {
+    let mut map = Map::new();
+    for n in 0..1_000_000u32 {
+        map.insert(rt.alloc(), n, ())?;
+    }
+    assert!(rt; map.contains_key(&999_999) && !map.contains_key(&1_000_000));
+    Ok(())
+}

@@ -1,4 +1,202 @@
-//! Tests of the public calls of `tab_locks` and `tab_waitdie`.
+//! Tests of the public calls of `tab_locks` and `tab_waitdie`: steps and calls in turn, with answers from outside.
 
-mod ages;
-mod locks;
+use std::alloc::{AllocError, Global};
+use std::test::Fail;
+use tab_locks::{Conflict, LockTable};
+use tab_model::{Lock, Mode, What};
+use tab_term::{Atom, Term};
+use tab_waitdie::{Ages, Answer, Retried};
+
+/// A table's name, a key or all, a mode.
+type Asked = (&'static str, Option<i128>, Mode);
+
+#[derive(Clone, Copy)]
+enum Step {
+    Ask,
+    Hold,
+    Release,
+    Unhold,
+}
+
+/// An age asks for a lock: whether it has it, and how it stands to the others' locks. Then a step of that age.
+static STEPS: [(u64, Asked, bool, Conflict, Step); 13] = [
+    (
+        3,
+        ("t", Some(5), Mode::Read),
+        false,
+        Conflict::Free,
+        Step::Hold,
+    ),
+    (
+        3,
+        ("t", Some(5), Mode::Read),
+        true,
+        Conflict::Free,
+        Step::Hold,
+    ),
+    (
+        3,
+        ("t", Some(5), Mode::Write),
+        false,
+        Conflict::Free,
+        Step::Ask,
+    ),
+    (
+        2,
+        ("t", Some(5), Mode::Read),
+        false,
+        Conflict::Free,
+        Step::Ask,
+    ),
+    (
+        2,
+        ("t", Some(5), Mode::Write),
+        false,
+        Conflict::WithYounger,
+        Step::Ask,
+    ),
+    (
+        4,
+        ("t", None, Mode::Write),
+        false,
+        Conflict::WithOlder,
+        Step::Ask,
+    ),
+    (
+        4,
+        ("t", Some(6), Mode::Write),
+        false,
+        Conflict::Free,
+        Step::Ask,
+    ),
+    (
+        2,
+        ("u", None, Mode::Write),
+        false,
+        Conflict::Free,
+        Step::Hold,
+    ),
+    (
+        2,
+        ("u", Some(7), Mode::Read),
+        true,
+        Conflict::Free,
+        Step::Ask,
+    ),
+    (
+        3,
+        ("u", Some(7), Mode::Read),
+        false,
+        Conflict::WithOlder,
+        Step::Unhold,
+    ),
+    (
+        3,
+        ("t", Some(5), Mode::Read),
+        true,
+        Conflict::Free,
+        Step::Release,
+    ),
+    (
+        2,
+        ("t", None, Mode::Write),
+        false,
+        Conflict::Free,
+        Step::Release,
+    ),
+    (
+        3,
+        ("u", None, Mode::Write),
+        false,
+        Conflict::Free,
+        Step::Ask,
+    ),
+];
+
+fn lock_of(alloc: Global, asked: &Asked) -> Result<Lock, AllocError> {
+    let (table, key, mode) = asked;
+    let short = if table.len() <= 255 { *table } else { "" };
+    let table = Atom::from_short_text(alloc, short)?;
+    let what = match key {
+        Some(key) => What::Key(Term::Int(*key)),
+        None => What::All,
+    };
+    Ok(Lock {
+        table,
+        what,
+        mode: *mode,
+    })
+}
+
+#[test]
+fn locks_are_held_and_gone(rt: HostRuntime) -> Result<(), Fail> {
+    let alloc = rt.alloc();
+    let mut locks = LockTable::new(alloc);
+    for (number, (age, asked, covered, conflict, step)) in STEPS.iter().enumerate() {
+        let lock = lock_of(alloc, asked)?;
+        assert_eq!(rt; locks.covered(*age, &lock), *covered, "step {number}");
+        assert_eq!(rt; locks.conflicts(*age, &lock), *conflict, "step {number}");
+        match step {
+            Step::Ask => {}
+            Step::Hold => locks.hold(*age, lock)?,
+            Step::Release => locks.release_all(*age),
+            Step::Unhold => locks.unhold(*age),
+        }
+    }
+    assert!(rt; !locks.is_locked(&Atom::from_short_text(alloc, "u")?));
+    Ok(())
+}
+
+enum Call {
+    Request(u64, Asked, Answer),
+    Retry(u64, Retried),
+    Forget(u64),
+}
+
+static CALLS: [Call; 12] = [
+    Call::Request(2, ("t", Some(5), Mode::Read), Answer::Granted),
+    Call::Request(1, ("t", Some(5), Mode::Write), Answer::Wait),
+    Call::Request(3, ("t", Some(6), Mode::Read), Answer::Granted),
+    Call::Request(3, ("t", Some(5), Mode::Read), Answer::Die),
+    Call::Request(2, ("t", Some(5), Mode::Read), Answer::Granted),
+    Call::Retry(1, Retried::Wait),
+    Call::Forget(2),
+    Call::Retry(1, Retried::Granted),
+    Call::Request(3, ("t", None, Mode::Write), Answer::Die),
+    Call::Request(1, ("t", None, Mode::Write), Answer::Wait),
+    Call::Forget(3),
+    Call::Retry(1, Retried::Granted),
+];
+
+/// No answer where the caller's condition doesn't hold.
+fn goes(alloc: Global, ages: &mut Ages, call: &Call) -> Result<bool, AllocError> {
+    match call {
+        Call::Request(age, asked, answer) => {
+            if ages.waits(*age) {
+                return Ok(false);
+            }
+            Ok(ages.request(*age, lock_of(alloc, asked)?)? == *answer)
+        }
+        Call::Retry(age, answer) => {
+            if !ages.waits(*age) {
+                return Ok(false);
+            }
+            Ok(ages.retry(*age)? == *answer)
+        }
+        Call::Forget(age) => {
+            ages.forget(*age);
+            Ok(true)
+        }
+    }
+}
+
+#[test]
+fn calls_are_answered(rt: HostRuntime) -> Result<(), Fail> {
+    let alloc = rt.alloc();
+    let mut ages = Ages::new(alloc);
+    for (number, call) in CALLS.iter().enumerate() {
+        assert!(rt; goes(alloc, &mut ages, call)?, "call {number}");
+    }
+    assert!(rt; ages.busy(&Atom::from_short_text(alloc, "t")?));
+    Ok(())
+}

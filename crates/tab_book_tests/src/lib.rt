@@ -3,10 +3,10 @@
 #![tactic(auto)]
 
 #[cfg(test)]
-mod book;
+mod commands;
 #[cfg(test)]
-mod items;
+mod counters;
 #[cfg(test)]
-mod named;
+mod mailboxes;
 #[cfg(test)]
-mod post;
+mod overflow;

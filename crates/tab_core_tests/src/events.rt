@@ -1,4 +1,158 @@
-//! Tests of tab_events' public calls: events against their bytes, and what a mirror is told.
+//! Events read back and shaped again, and what a mirror makes of what it is told.
+use std::alloc::{AllocError, Global};
+use tab_etf::decode;
+use tab_events::{Event, Level, Mirror, Mirrored, change_of, shape};
+use tab_fixtures::atom;
+use tab_rows::Kind;
+use tab_term::{Term, Terms};
 
-mod mirrors;
-mod shapes;
+/// Events at their levels: an update of the record `{t,1,a}`, or of the key 1, where `{t,1,b}` stood before; the
+/// transaction's age is 1.
+static EVENTS: [(&[u8], Level); 6] = [
+    (
+        b"\x83h\x02w\x12mnesia_table_eventh\x03w\x05writeh\x03w\x01ta\x01w\x01ah\x02w\x03tida\x01",
+        Level::Simple,
+    ),
+    (
+        b"\x83h\x02w\x12mnesia_table_eventh\x05w\x05writew\x01th\x03w\x01ta\x01w\x01al\x00\x00\x00\x01h\x03w\x01ta\x01w\x01bjh\x02w\x03tida\x01",
+        Level::Detailed,
+    ),
+    (
+        b"\x83h\x02w\x12mnesia_table_eventh\x03w\x06deleteh\x02w\x01ta\x01h\x02w\x03tida\x01",
+        Level::Simple,
+    ),
+    (
+        b"\x83h\x02w\x12mnesia_table_eventh\x05w\x06deletew\x01th\x02w\x01ta\x01l\x00\x00\x00\x01h\x03w\x01ta\x01w\x01bjh\x02w\x03tida\x01",
+        Level::Detailed,
+    ),
+    (
+        b"\x83h\x02w\x12mnesia_table_eventh\x03w\x0ddelete_objecth\x03w\x01ta\x01w\x01ah\x02w\x03tida\x01",
+        Level::Simple,
+    ),
+    (
+        b"\x83h\x02w\x12mnesia_table_eventh\x05w\x06deletew\x01th\x03w\x01ta\x01w\x01al\x00\x00\x00\x01h\x03w\x01ta\x01w\x01bjh\x02w\x03tida\x01",
+        Level::Detailed,
+    ),
+];
+
+static OLD: &[u8] = b"\x83h\x03w\x01ta\x01w\x01b";
+
+/// Whether the term's change is shaped as that term again; None where it has no change.
+fn is_shaped(
+    alloc: Global,
+    told: &Term,
+    old: Terms,
+    level: Level,
+) -> Result<Option<bool>, AllocError> {
+    let tab = atom(alloc, "t")?;
+    match change_of(alloc, told)? {
+        Some(change) => {
+            let event = Event {
+                tab,
+                change,
+                old,
+                age: 1,
+            };
+            Ok(Some(shape(alloc, &event, level)? == *told))
+        }
+        None => Ok(None),
+    }
+}
+
+#[test]
+fn events_are_read_back(rt: HostRuntime) {
+    let alloc = rt.alloc();
+    for (number, (bytes, level)) in EVENTS.iter().enumerate() {
+        let told = decode(alloc, bytes).expect(&rt, "a term");
+        let old = decode(alloc, OLD).expect(&rt, "a term");
+        let mut records = Vec::new(alloc);
+        records.push(old).expect(&rt, "memory");
+        let found = is_shaped(alloc, &told, Terms::from_vec(records), *level);
+        assert!(rt; found == Ok(Some(true)), "event {number}");
+    }
+}
+
+/// A mirror of the table t is told these, one after another; then it has the records of these keys, written one behind the
+/// other, where it has rows.
+static TOLD: [(&[u8], Mirrored, Option<u32>); 18] = [
+    (WRITE_3, Mirrored::Other, None),
+    (UNSUBSCRIBED, Mirrored::Ended, None),
+    (MARK, Mirrored::Begun, Some(12)),
+    (DELETE_1, Mirrored::Applied, Some(2)),
+    (WRITE_3, Mirrored::Applied, Some(23)),
+    (OTHER_TABLE, Mirrored::Other, Some(23)),
+    (WITHOUT_DUMP, Mirrored::Other, Some(23)),
+    (BATCH, Mirrored::Other, Some(23)),
+    (OTHER_ENDED, Mirrored::Other, Some(23)),
+    (OVERFLOW_0, Mirrored::Other, Some(23)),
+    (AGE_0, Mirrored::Other, Some(23)),
+    (OTHER_WORD, Mirrored::Other, Some(23)),
+    (MARK, Mirrored::Begun, Some(12)),
+    (OBJECT_2, Mirrored::Applied, Some(1)),
+    (OVERFLOW, Mirrored::Ended, None),
+    (WRITE_3, Mirrored::Other, None),
+    (MARK, Mirrored::Begun, Some(12)),
+    (DELETED, Mirrored::Ended, None),
+];
+
+const MARK: &[u8] =
+    b"\x83h\x04w\x12mnesia_table_beginw\x01tw\x06simplel\x00\x00\x00\x02h\x03w\x01ta\x01w\x01ah\x03w\x01ta\x02w\x01bj";
+
+const DELETE_1: &[u8] =
+    b"\x83h\x02w\x12mnesia_table_eventh\x03w\x06deleteh\x02w\x01ta\x01h\x02w\x03tida\x02";
+
+const OBJECT_2: &[u8] =
+    b"\x83h\x02w\x12mnesia_table_eventh\x03w\x0ddelete_objecth\x03w\x01ta\x02w\x01bh\x02w\x03tida\x02";
+
+const WRITE_3: &[u8] =
+    b"\x83h\x02w\x12mnesia_table_eventh\x03w\x05writeh\x03w\x01ta\x03w\x01ch\x02w\x03tida\x02";
+
+const OTHER_TABLE: &[u8] =
+    b"\x83h\x02w\x12mnesia_table_eventh\x03w\x05writeh\x03w\x01ua\x03w\x01ch\x02w\x03tida\x02";
+
+const AGE_0: &[u8] =
+    b"\x83h\x02w\x12mnesia_table_eventh\x03w\x06deleteh\x02w\x01ta\x02h\x02w\x03tida\x00";
+
+/// The simple word at the detailed level.
+const OTHER_WORD: &[u8] =
+    b"\x83h\x02w\x12mnesia_table_eventh\x05w\x0ddelete_objectw\x01th\x03w\x01ta\x02w\x01bjh\x02w\x03tida\x01";
+
+const WITHOUT_DUMP: &[u8] = b"\x83h\x03w\x12mnesia_table_beginw\x01tw\x06simple";
+
+const BATCH: &[u8] = b"\x83h\x03w\x05batcha\x02j";
+
+const DELETED: &[u8] = b"\x83h\x03w\x10mnesia_table_endw\x01tw\x07deleted";
+
+const UNSUBSCRIBED: &[u8] = b"\x83h\x03w\x10mnesia_table_endw\x01tw\x0cunsubscribed";
+
+const OTHER_ENDED: &[u8] = b"\x83h\x03w\x10mnesia_table_endw\x01uw\x07deleted";
+
+const OVERFLOW: &[u8] = b"\x83h\x02w\x0fmnesia_overflowa\x03";
+
+const OVERFLOW_0: &[u8] = b"\x83h\x02w\x0fmnesia_overflowa\x00";
+
+/// The keys from 1 to 3 that have a record.
+fn keys(mirror: &Mirror) -> Option<u32> {
+    let rows = mirror.rows()?;
+    let mut all = 0u32;
+    for key in 1..4u32 {
+        if !rows.at(&Term::Int(i128::from(key))).is_empty() {
+            all = all.saturating_mul(10).saturating_add(key);
+        }
+    }
+    Some(all)
+}
+
+#[test]
+fn mirrors_follow(rt: HostRuntime) {
+    let alloc = rt.alloc();
+    let table = atom(alloc, "t").expect(&rt, "memory");
+    let mut mirror = Mirror::new(table, Kind::Bag);
+    for (line, (payload, wanted, rows)) in TOLD.iter().enumerate() {
+        let told = decode(alloc, payload).expect(&rt, "a term");
+        let right = mirror
+            .feed(alloc, &told)
+            .is_ok_and(|mirrored| mirrored == *wanted);
+        assert!(rt; right && keys(&mirror) == *rows, "line {line}");
+    }
+}

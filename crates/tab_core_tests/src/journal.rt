@@ -1,6 +1,213 @@
-//! Tests of tab_journal: what folding leaves, entry by entry, and what an audit finds.
+//! Entries that are audited, and folded into the base.
+use std::alloc::{AllocError, Global};
+use tab_fixtures::atom;
+use tab_journal::Journal;
+use tab_model::{Entry, Level, Move, Moves, Numbers, Operation, Replies, Reply, Schema, Told};
+use tab_term::{Term, Terms};
 
-mod auditing;
-mod entries;
-mod folding;
-mod subscribing;
+/// A move of session 1 in table t, whose records are `{t, 1, V}`.
+enum Made {
+    Write(i128),
+    /// Of key 1, which is told this value.
+    Read(i128),
+    /// Of a table that isn't there.
+    Fail,
+    Open,
+    Close,
+    Undo,
+}
+
+/// The moves of commit 1, what an audit says of them, and the value that they leave at key 1.
+static COMMITS: [(&[Made], bool, Option<i128>); 9] = [
+    (&[], true, None),
+    (&[Made::Write(1), Made::Read(1)], true, Some(1)),
+    (&[Made::Write(1), Made::Read(2)], false, Some(1)),
+    (&[Made::Write(1), Made::Write(2)], true, Some(2)),
+    (
+        &[
+            Made::Write(1),
+            Made::Open,
+            Made::Write(2),
+            Made::Fail,
+            Made::Read(1),
+        ],
+        true,
+        Some(1),
+    ),
+    (
+        &[
+            Made::Write(1),
+            Made::Open,
+            Made::Write(2),
+            Made::Close,
+            Made::Read(1),
+        ],
+        false,
+        Some(2),
+    ),
+    (
+        &[Made::Open, Made::Write(2), Made::Undo, Made::Read(2)],
+        false,
+        None,
+    ),
+    (
+        &[Made::Write(1), Made::Open, Made::Write(2), Made::Close],
+        true,
+        Some(2),
+    ),
+    (
+        &[
+            Made::Open,
+            Made::Write(1),
+            Made::Open,
+            Made::Write(2),
+            Made::Close,
+            Made::Undo,
+        ],
+        true,
+        None,
+    ),
+];
+
+fn record(alloc: Global, value: i128) -> Result<Term, AllocError> {
+    let mut row = Vec::with_capacity(alloc, 3)?;
+    row.push_reserved(Term::Atom(atom(alloc, "t")?));
+    row.push_reserved(Term::Int(1));
+    row.push_reserved(Term::Int(value));
+    Ok(Term::Tuple(Terms::from_vec(row)))
+}
+
+fn move_of(alloc: Global, made: &Made) -> Result<Move, AllocError> {
+    Ok(match made {
+        Made::Write(value) => Move::Do(Operation::Write(record(alloc, *value)?)),
+        Made::Read(_) => Move::Do(Operation::Read(atom(alloc, "t")?, Term::Int(1))),
+        Made::Fail => Move::Do(Operation::Read(atom(alloc, "nosuch")?, Term::Int(1))),
+        Made::Open => Move::Open,
+        Made::Close => Move::Close,
+        Made::Undo => Move::Undo,
+    })
+}
+
+fn found(alloc: Global, value: i128) -> Result<Terms, AllocError> {
+    let mut records = Vec::with_capacity(alloc, 1)?;
+    records.push_reserved(record(alloc, value)?);
+    Ok(Terms::from_vec(records))
+}
+
+fn told_of(alloc: Global, made: &Made) -> Result<Option<Told>, AllocError> {
+    Ok(match made {
+        Made::Write(_) => Some(Told::new(Reply::Done)),
+        Made::Read(value) => Some(Told::new(Reply::Found(found(alloc, *value)?))),
+        Made::Fail => Some(Told::new(Reply::NoTable(atom(alloc, "nosuch")?))),
+        Made::Open => Some(Told::new(Reply::Tid(1))),
+        Made::Close => Some(Told::new(Reply::AtomicOk)),
+        Made::Undo => None,
+    })
+}
+
+fn none(alloc: Global) -> Numbers {
+    Numbers {
+        items: Vec::new(alloc),
+    }
+}
+
+fn commit(alloc: Global, all: &[Made]) -> Result<Entry, AllocError> {
+    let mut moves = Vec::new(alloc);
+    let mut told = Vec::new(alloc);
+    for made in all {
+        moves.push(move_of(alloc, made)?)?;
+        told.push(told_of(alloc, made)?)?;
+    }
+    Ok(Entry::Committed {
+        number: 1,
+        session: 1,
+        age: 1,
+        moves: Moves { items: moves },
+        told: Replies { items: told },
+        overflowed: none(alloc),
+    })
+}
+
+/// Table t is made, session 7 watches it, and there is a commit.
+fn filled(alloc: Global, moves: &[Made]) -> Result<Journal, AllocError> {
+    let mut journal = Journal::with_limit(alloc, 3)?;
+    let options = Terms::from_vec(Vec::new(alloc));
+    let create = Schema::Create(atom(alloc, "t")?, options);
+    journal
+        .try_push(Entry::Changed(create, none(alloc)))
+        .or(Err(AllocError))?;
+    let watch = Entry::Subscribed {
+        session: 7,
+        table: atom(alloc, "t")?,
+        level: Level::Simple,
+        dump: false,
+    };
+    journal.try_push(watch).or(Err(AllocError))?;
+    journal.try_push(commit(alloc, moves)?).or(Err(AllocError))?;
+    Ok(journal)
+}
+
+/// Folds all entries, of which session 7 is joined.
+fn fold(alloc: Global, journal: &mut Journal) -> Result<(), AllocError> {
+    for _entry in 0..3u32 {
+        if !journal.is_empty() {
+            journal.fold_oldest(alloc, true)?;
+        }
+    }
+    Ok(())
+}
+
+fn value_in(records: &[Term]) -> Option<i128> {
+    match records {
+        [Term::Tuple(row)] => match row.as_slice() {
+            [_, _, Term::Int(value)] => Some(*value),
+            _ => None,
+        },
+        _ => None,
+    }
+}
+
+/// What stands in the base: the last commit's number, how many subscriptions, the value at key 1 of table t.
+fn base_of(alloc: Global, journal: &Journal) -> Result<(u64, usize, Option<i128>), AllocError> {
+    let name = atom(alloc, "t")?;
+    let value = match journal.base().tables().table(&name) {
+        Some(table) => value_in(table.at(&Term::Int(1))),
+        None => None,
+    };
+    let base = journal.base();
+    Ok((base.commits(), base.subscriptions().len(), value))
+}
+
+/// The entries are audited against the tables that they leave and against none.
+fn is_right(
+    alloc: Global,
+    moves: &[Made],
+    audit: bool,
+    value: Option<i128>,
+) -> Result<bool, AllocError> {
+    let journal = filled(alloc, moves)?;
+    let mut folded = filled(alloc, moves)?;
+    let is_full = folded.full() && folded.len() == 3 && folded.entry(2).is_some();
+    fold(alloc, &mut folded)?;
+    let wanted = base_of(alloc, &folded)? == (1, 1, value);
+    folded.forget(7);
+    let is_forgotten = base_of(alloc, &folded)? == (1, 0, value);
+    let found = journal.audit(alloc, journal.base(), folded.base().tables())?;
+    let without = journal.audit(alloc, journal.base(), journal.base().tables())?;
+    Ok(is_full && wanted && is_forgotten && found == audit && !without)
+}
+
+#[test]
+fn entries_are_audited_and_folded(rt: HostRuntime) {
+    for (line, (moves, audit, value)) in COMMITS.iter().enumerate() {
+        let right = is_right(rt.alloc(), moves, *audit, *value);
+        assert!(rt; right == Ok(true), "line {line}");
+    }
+}
+
+#[test]
+fn a_full_journal_hands_back(rt: HostRuntime) {
+    let mut journal = filled(rt.alloc(), &[]).expect(&rt, "memory");
+    let entry = commit(rt.alloc(), &[]).expect(&rt, "memory");
+    assert!(rt; journal.try_push(entry).is_err() && journal.len() == 3);
+}

@@ -1,16 +1,17 @@
-//! Tests of the public calls of the machine of steps and of what it stands on: events, subscriptions, the journal, one-shots, streams.
+//! Tests of the public calls of the machine of steps and of what it stands on, where a stream of the built program can't show
+//! them: a run of steps, devices that fail, mirrors, audits, and one-shots on a seat that is played.
 
 #![tactic(auto)]
 
+#[cfg(test)]
+mod devices;
 #[cfg(test)]
 mod events;
 #[cfg(test)]
 mod journal;
 #[cfg(test)]
-mod oneshot;
+mod one_shots;
 #[cfg(test)]
-mod session;
+mod played;
 #[cfg(test)]
 mod steps;
-#[cfg(test)]
-mod subs;

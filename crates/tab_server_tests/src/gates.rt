@@ -2,20 +2,30 @@
 
 ghost use Rattle.std.specs.Prelude.{◌≡◌};
 
-use crate::threads::{Does, run_with};
 use std::alloc::Global;
+use std::io::{Read, Write};
 use std::marker::{Brand, PhantomData};
-use std::net::{Net, TcpListener, TcpStream};
+use std::net::{Net, SocketAddr, TcpListener, TcpStream};
 use std::sync::Wait;
-use std::sync::atomic::{AtomicBool, Ordering};
+use std::sync::atomic::{AtomicBool, AtomicU64, Ordering};
 use std::test::*;
-use std::thread;
 use std::thread::Threads;
 use std::time::{Clock, Duration};
-use tab_fixtures::Shape::{Atom, List, Tuple};
-use tab_names::{Naming, Opened};
+use std::{io, thread};
+use tab_book::{Book, Shared};
+use tab_model::Limits;
+use tab_names::{House, Naming, Opened};
 use tab_post::Line;
-use tab_server::Gate;
+use tab_server::{Gate, serve};
+
+pub const LIMITS: Limits = Limits {
+    sessions: 64,
+    nesting: 16,
+    operations: 1000,
+    tables: 256,
+    ages: 9_223_372_036_854_775_807,
+    journal: 1024,
+};
 
 const TURNS: u32 = 10_000;
 
@@ -46,27 +56,101 @@ impl<R: Threads + Clock> Gate for Held<R> {
     }
 }
 
-/// The first reads its reply last.
-static SCRIPT: [(usize, Does); 4] = [
-    (
-        0,
-        Does::Sends(Tuple(&[Atom("create_table"), Atom("u"), List(&[])])),
-    ),
-    (
-        1,
-        Does::Sends(Tuple(&[Atom("create_table"), Atom("t"), List(&[])])),
-    ),
-    (
-        1,
-        Does::Reads(Tuple(&[Atom("reply"), Tuple(&[Atom("atomic"), Atom("ok")])])),
-    ),
-    (
-        0,
-        Does::Reads(Tuple(&[Atom("reply"), Tuple(&[Atom("atomic"), Atom("ok")])])),
-    ),
+/// `{create_table, u, []}`, and the same of t.
+static REQUESTS: [&[u8]; 2] = [
+    b"\x00\x00\x00\x15\x83h\x03w\x0ccreate_tablew\x01uj",
+    b"\x00\x00\x00\x15\x83h\x03w\x0ccreate_tablew\x01tj",
 ];
 
-fn run_named<J, R>(rt: &R, alloc: Global, opened: Opened<Line>) -> Result<Option<usize>, Fail>
+/// `{reply, {atomic, ok}}`.
+static REPLY: &[u8] = b"\x00\x00\x00\x18\x83h\x02w\x05replyh\x02w\x06atomicw\x02ok";
+
+fn is_answered(stream: &mut TcpStream) -> io::Result<bool> {
+    let mut reply = [0u8; 28];
+    stream.read_exact(&mut reply)?;
+    Ok(reply.as_slice() == REPLY)
+}
+
+/// Two clients connect and ask; the first reads its reply last.
+fn ask<R: Net<Stream = TcpStream>>(rt: &R, address: SocketAddr) -> io::Result<bool> {
+    let mut first = TcpStream::connect(rt, address)?;
+    let mut second = TcpStream::connect(rt, address)?;
+    first.write_all(REQUESTS[0])?;
+    second.write_all(REQUESTS[1])?;
+    Ok(is_answered(&mut second)? && is_answered(&mut first)?)
+}
+
+/// Counts a server that ended well.
+fn serve_all<H: House + Threads + Send + Sync, G: Gate + Sync>(
+    house: &H,
+    alloc: Global,
+    listener: &TcpListener,
+    shared: &Shared<H>,
+    count: u32,
+    gate: &G,
+    served: &AtomicU64,
+) {
+    if serve(house, alloc, listener, shared, count, gate).is_ok() {
+        served.fetch_add(1, Ordering::SeqCst);
+    }
+}
+
+/// Serves so many connections, beside clients that ask.
+fn beside<H, R, G>(
+    house: &H,
+    rt: &R,
+    alloc: Global,
+    shared: &Shared<H>,
+    gate: &G,
+    count: u32,
+    listener: &TcpListener,
+    address: SocketAddr,
+    served: &AtomicU64,
+) -> bool
+where
+    H: House + Threads + Send + Sync,
+    R: Net<Listener = TcpListener, Stream = TcpStream>,
+    G: Gate + Sync,
+{
+    thread::scope(thread::scope_env(), house, |scope| {
+        let serving = scope.spawn(move || serve_all(
+            house, alloc, listener, shared, count, gate, served,
+        ));
+        if serving.is_err() {
+            return false;
+        }
+        match ask(rt, address) {
+            Ok(right) => right,
+            Err(_) => false,
+        }
+    })
+}
+
+/// On a book of its own: whether both are answered, and the server ends.
+fn run<H, R, G>(
+    house: H,
+    rt: &R,
+    alloc: Global,
+    opened: Opened<Line>,
+    gate: &G,
+) -> Result<bool, Fail>
+where
+    H: House + Threads + Send + Sync,
+    R: Net<Listener = TcpListener, Stream = TcpStream>,
+    G: Gate + Sync,
+    requires { opened ≡ H.book }
+{
+    let listener = TcpListener::bind(rt, ("127.0.0.1", 0)).map_err(|_| "bind")?;
+    let address = listener.local_addr().map_err(|_| "address")?;
+    let shared = Shared::new(Book::new(house, alloc, opened, LIMITS, 64)?);
+    let served = AtomicU64::new(0);
+    let right = beside(
+        &house, rt, alloc, &shared, gate, 2, &listener, address, &served,
+    );
+    Ok(right && served.load(Ordering::SeqCst) == 1)
+}
+
+fn run_named<J, R>(rt: &R, alloc: Global, opened: Opened<Line>) -> Result<bool, Fail>
 where
     J: Naming + Send + Sync,
     R: Net<Listener = TcpListener, Stream = TcpStream>
@@ -82,24 +166,13 @@ where
         rt: *rt,
         answered: AtomicBool::new(false),
     };
-    let differs = run_with(
-        (*rt, PhantomData::<J>),
-        rt,
-        alloc,
-        opened,
-        &gate,
-        2,
-        &SCRIPT,
-    )?;
-    if !gate.answered.load(Ordering::SeqCst) {
-        return Err("held for good".into());
-    }
-    Ok(differs)
+    let right = run((*rt, PhantomData::<J>), rt, alloc, opened, &gate)?;
+    Ok(right && gate.answered.load(Ordering::SeqCst))
 }
 
 #[test]
 fn connections_are_served_side_by_side(rt: HostRuntime) -> Result<(), Fail> {
-    let differs = run_named::<Brand, _>(&rt, rt.alloc(), Opened::new())?;
-    assert_eq!(rt; differs, None);
+    let right = run_named::<Brand, _>(&rt, rt.alloc(), Opened::new())?;
+    assert!(rt; right);
     Ok(())
 }

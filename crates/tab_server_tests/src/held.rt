@@ -2,8 +2,8 @@
 
 ghost use Rattle.std.specs.Prelude.{◌≡◌};
 
-use crate::threads::LIMITS;
-use std::alloc::Global;
+use crate::gates::LIMITS;
+use std::alloc::{AllocError, Global};
 use std::io::Write;
 use std::marker::{Brand, PhantomData};
 use std::sync::atomic::{AtomicBool, Ordering};
@@ -12,15 +12,14 @@ use std::test::*;
 use std::thread::Threads;
 use std::{io, thread};
 use tab_book::{Book, Drained, Seat, Shared};
-use tab_etf::append_frame;
 use tab_fixtures::Shape::{Atom, Int, Tuple};
-use tab_fixtures::{Shape, atom, build, build_all};
+use tab_fixtures::{Shape, atom, build};
 use tab_model::{Command, Level, Operation, Reply, Schema};
 use tab_named::SeatInbox;
 use tab_names::{House, Naming, Opened};
 use tab_post::Line;
 use tab_server::{FrameSink, event_loop};
-use tab_term::{Term, Terms};
+use tab_term::Terms;
 
 /// What is written, and whether writes are held.
 #[derive(Drop)]
@@ -56,54 +55,36 @@ impl<'a, H: House> Write for Held<'a, H> {
 }
 
 /// The begin mark, the events of two commits, and the overflow of the third.
-static FRAMES: [Shape; 4] = [
-    Tuple(&[Atom("mnesia_table_begin"), Atom("t"), Atom("simple")]),
-    Tuple(&[
-        Atom("mnesia_table_event"),
-        Tuple(&[
-            Atom("write"),
-            Tuple(&[Atom("t"), Int(1), Atom("a")]),
-            Tuple(&[Atom("tid"), Int(1)]),
-        ]),
-    ]),
-    Tuple(&[
-        Atom("mnesia_table_event"),
-        Tuple(&[
-            Atom("write"),
-            Tuple(&[Atom("t"), Int(2), Atom("a")]),
-            Tuple(&[Atom("tid"), Int(2)]),
-        ]),
-    ]),
-    Tuple(&[Atom("mnesia_overflow"), Int(3)]),
+static FRAMES: &[u8] =
+    b"\x00\x00\x00\x22\x83h\x03w\x12mnesia_table_beginw\x01tw\x06simple\x00\x00\x003\x83h\x02w\x12mnesia_table_eventh\x03w\x05writeh\x03w\x01ta\x01w\x01ah\x02w\x03tida\x01\x00\x00\x003\x83h\x02w\x12mnesia_table_eventh\x03w\x05writeh\x03w\x01ta\x02w\x01ah\x02w\x03tida\x02\x00\x00\x00\x16\x83h\x02w\x0fmnesia_overflowa\x03";
+
+/// What commits 1 to 3 write.
+static RECORDS: [Shape; 3] = [
+    Tuple(&[Atom("t"), Int(1), Atom("a")]),
+    Tuple(&[Atom("t"), Int(2), Atom("a")]),
+    Tuple(&[Atom("t"), Int(3), Atom("a")]),
 ];
 
-fn frames(alloc: Global) -> Result<Vec<u8>, Fail> {
-    let mut all = Vec::new(alloc);
-    for shape in &FRAMES {
-        append_frame(&build(alloc, shape)?, &mut all).map_err(|_| "frame")?;
+fn is_committed(reply: &Reply) -> bool {
+    match reply {
+        Reply::Atomic(_) => true,
+        _ => false,
     }
-    Ok(all)
 }
 
-/// The number of the commit of a record with this key.
+/// Whether a record is written and committed.
 fn commit<H: House>(
     house: &H,
     alloc: Global,
     shared: &Shared<H>,
     seat: &Seat,
-    key: i128,
-) -> Result<Option<u64>, Fail> {
-    let mut record = Vec::new(alloc);
-    record.push(Term::Atom(atom(alloc, "t")?))?;
-    record.push(Term::Int(key))?;
-    record.push(Term::Atom(atom(alloc, "a")?))?;
-    let write = Command::Do(Operation::Write(Term::Tuple(Terms::from_vec(record))));
+    record: &Shape,
+) -> Result<bool, AllocError> {
+    let write = Command::Do(Operation::Write(build(alloc, record)?));
     shared.call(house, seat, Command::Begin)?;
     shared.call(house, seat, write)?;
-    match shared.call(house, seat, Command::Commit)?.reply() {
-        Reply::Atomic(number) => Ok(Some(*number)),
-        _ => Ok(None),
-    }
+    let told = shared.call(house, seat, Command::Commit)?;
+    Ok(is_committed(told.reply()))
 }
 
 /// How many items were there for a session; None where it overflowed or left.
@@ -124,6 +105,24 @@ fn taken<H: House>(
     unreachable!()
 }
 
+/// Waits until the event thread has reached its first write.
+fn wait_for_write<H: House>(house: &H, pipe: &Pipe) {
+    for _ in house.forever() {
+        if pipe.reached.load(Ordering::SeqCst) {
+            break;
+        }
+    }
+}
+
+/// Waits until so many bytes are written.
+fn wait_for<H: House>(house: &H, pipe: &Pipe, size: usize) {
+    for _ in house.forever() {
+        if pipe.written.lock(house).len() >= size {
+            break;
+        }
+    }
+}
+
 /// Three commits while the event thread is held, of which the writer itself gets each event; then what that thread writes,
 /// and the reader leaves.
 fn commit_all<H: House>(
@@ -134,27 +133,17 @@ fn commit_all<H: House>(
     mut inbox: SeatInbox<H>,
     reader: &Seat,
     pipe: &Pipe,
-) -> Result<bool, Fail> {
-    for _ in house.forever() {
-        if pipe.reached.load(Ordering::SeqCst) {
-            break;
-        }
-    }
+) -> Result<bool, AllocError> {
+    wait_for_write(house, pipe);
     let mut right = taken(house, shared, writer, &mut inbox) == Some(1);
-    for number in 1..4u64 {
-        right = right
-            && commit(house, alloc, shared, writer, number as i128)? == Some(number)
-            && taken(house, shared, writer, &mut inbox) == Some(1);
+    for record in &RECORDS {
+        right &= commit(house, alloc, shared, writer, record)?;
+        right &= taken(house, shared, writer, &mut inbox) == Some(1);
     }
     pipe.open.store(true, Ordering::SeqCst);
-    let wanted = frames(alloc)?;
-    for _ in house.forever() {
-        if pipe.written.lock(house).len() >= wanted.len() {
-            break;
-        }
-    }
+    wait_for(house, pipe, FRAMES.len());
     shared.leave(house, reader);
-    Ok(right && *pipe.written.lock(house) == wanted)
+    Ok(right && pipe.written.lock(house).as_slice() == FRAMES)
 }
 
 fn run<H: House + Threads + Send + Sync>(
@@ -167,7 +156,7 @@ fn run<H: House + Threads + Send + Sync>(
     let shared = Shared::new(Book::new(house, alloc, opened, LIMITS, 2)?);
     let (writer, others) = shared.join(&house).map_err(|_| "join")?;
     let (reader, inbox) = shared.join(&house).map_err(|_| "join")?;
-    let create = Schema::Create(atom(alloc, "t")?, build_all(alloc, &[])?);
+    let create = Schema::Create(atom(alloc, "t")?, Terms::from_vec(Vec::new(alloc)));
     shared.call(&house, &writer, Command::Schema(create))?;
     for seat in [&writer, &reader] {
         let watch = Command::Subscribe(atom(alloc, "t")?, Level::Simple, false);
@@ -178,9 +167,9 @@ fn run<H: House + Threads + Send + Sync>(
         reached: AtomicBool::new(false),
         open: AtomicBool::new(false),
     };
-    side_by_side(
+    Ok(side_by_side(
         &house, alloc, &shared, &writer, others, reader, inbox, &pipe,
-    )
+    )?)
 }
 
 /// The reader's events, over the pipe.
@@ -205,7 +194,7 @@ fn side_by_side<H: House + Threads + Send + Sync>(
     reader: Seat,
     inbox: SeatInbox<H>,
     pipe: &Pipe,
-) -> Result<bool, Fail> {
+) -> Result<bool, AllocError> {
     thread::scope(thread::scope_env(), house, |scope| {
         let sending = scope.spawn(move || send_events(house, alloc, shared, reader, inbox, pipe));
         if sending.is_err() {

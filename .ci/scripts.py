@@ -1,0 +1,241 @@
+"""Scripts of sessions for `streams.py`: each request with its session and the reply that docs/PROTOCOL.md says, by hand.
+
+A script is a name, the capacity of the outboxes, and steps: the session, the request, and the reply.
+"""
+
+OK, ATOMIC, HERE = "ok", ("atomic", "ok"), ("ok", "nonode@nohost")
+
+
+def create(table):
+    return ("create_table", table, [])
+
+
+def write(table, key, value):
+    return ("write", (table, key, value))
+
+
+def watch(table, level, *dump):
+    return ("subscribe", ("table", table, level), *dump)
+
+
+def unwatch(table, level):
+    return ("unsubscribe", ("table", table, level))
+
+
+def batch(commit, age, *records):
+    """The events of writes, at level simple."""
+    return ("batch", commit, [("mnesia_table_event", ("write", record, ("tid", age))) for record in records])
+
+
+def began(table, level, *dump):
+    return ("mnesia_table_begin", table, level, *dump)
+
+
+def error(what):
+    return ("error", what)
+
+
+def aborted(what):
+    return ("aborted", what)
+
+
+ONE_SESSION = [
+    (9, "begin", error("badsession")),
+    (1, "join", OK),
+    (1, ("read", "t", 1), error("no_transaction")),
+    (1, "commit", error("no_transaction")),
+    (1, ("abort", "why"), error("no_transaction")),
+    (1, "retry", error("not_waiting")),
+    (1, "take", "empty"),
+    (1, "join", error("badsession")),
+    (1, create("t"), ATOMIC),
+    (1, create("t"), aborted(("already_exists", "t"))),
+    (1, "begin", ("tid", 1)),
+    (1, create("u"), error("in_transaction")),
+    (1, ("transaction", [], 0), error("in_transaction")),
+    (1, "commit", ("atomic", 1)),
+    (1, ("transaction", [], 0), ("atomic", [])),
+    (1, "begin", ("tid", 3)),
+    (1, write("t", 1, "a"), OK),
+    (1, ("read", "t", 1), [("t", 1, "a")]),
+    (1, ("abort", "why"), aborted("why")),
+    (1, "begin", ("tid", 4)),
+    (1, ("read", "t", 1), []),
+    (1, ("write", ("t", 1)), aborted(("bad_type", "t", ("t", 1)))),
+    (1, "commit", error("no_transaction")),
+    (1, "begin", ("tid", 5)),
+    (1, ("read", "nosuch", 1), aborted(("no_exists", "nosuch"))),
+    (1, "commit", error("no_transaction")),
+    (1, "begin", ("tid", 6)),
+    (1, write("t", 1, "b"), OK),
+    (1, "commit", ("atomic", 3)),
+    (1, "begin", ("tid", 7)),
+    (1, write("t", 1, "c"), OK),
+    (1, ("read", "t", 1), [("t", 1, "c")]),
+    (1, "leave", OK),
+    (1, "begin", error("badsession")),
+    (2, "join", OK),
+    (2, "begin", ("tid", 8)),
+    (2, ("read", "t", 1), [("t", 1, "b")]),
+]
+
+# One waits for the other, which is restarted; a child is aborted; a session leaves with its locks.
+TWO_SESSIONS = [
+    (1, "join", OK),
+    (2, "join", OK),
+    (1, create("t"), ATOMIC),
+    (1, "begin", ("tid", 1)),
+    (2, "begin", ("tid", 2)),
+    (1, write("t", 1, "a"), OK),
+    (2, write("t", 2, "b"), OK),
+    (1, ("read", "t", 2), "waiting"),
+    (1, ("read", "t", 1), error("waiting")),
+    (1, "retry", "waiting"),
+    (2, ("read", "t", 1), "restart"),
+    (1, "retry", []),
+    (2, write("t", 2, "b"), "restart"),
+    (1, "commit", ("atomic", 1)),
+    (2, write("t", 2, "b"), OK),
+    (1, create("t"), aborted(("already_exists", "t"))),
+    (1, "begin", ("tid", 3)),
+    (1, ("read", "t", 2), "restart"),
+    (2, "begin", ("tid", 2)),
+    (2, write("t", 2, "c"), OK),
+    (2, ("read", "t", 2), [("t", 2, "c")]),
+    (2, ("abort", "why"), aborted("why")),
+    (2, ("read", "t", 2), [("t", 2, "b")]),
+    (2, "begin", ("tid", 2)),
+    (2, "commit", ATOMIC),
+    (2, "commit", ("atomic", 2)),
+    (1, ("read", "t", 2), [("t", 2, "b")]),
+    (1, write("t", 3, "d"), OK),
+    (2, ("delete_table", "t"), aborted(("locked", "t"))),
+    (1, "leave", OK),
+    (2, "begin", ("tid", 4)),
+    (2, ("read", "t", 3), []),
+    (2, ("read", "t", 1), [("t", 1, "a")]),
+]
+
+# Session 2 watches what session 1 commits, with an outbox of two items.
+WATCHED = [
+    (1, "join", OK),
+    (2, "join", OK),
+    (1, create("t"), ATOMIC),
+    (2, watch("u", "simple"), error(("no_exists", "u"))),
+    (2, unwatch("t", "simple"), error(("not_subscribed", "t"))),
+    (2, watch("t", "simple", "dump"), HERE),
+    (2, watch("t", "detailed"), error(("already_subscribed", "t"))),
+    (2, unwatch("t", "detailed"), error(("not_subscribed", "t"))),
+    (2, "take", began("t", "simple", [])),
+    (2, "take", "empty"),
+    (1, "begin", ("tid", 1)),
+    (1, write("t", 1, "a"), OK),
+    (2, "take", "empty"),
+    (1, "commit", ("atomic", 1)),
+    (1, "begin", ("tid", 2)),
+    (1, write("t", 1, "b"), OK),
+    (1, write("t", 2, "c"), OK),
+    (1, "commit", ("atomic", 2)),
+    (2, unwatch("t", "simple"), error("outbox_full")),
+    (2, "take", batch(1, 1, ("t", 1, "a"))),
+    (1, "begin", ("tid", 3)),
+    (1, "commit", ("atomic", 3)),
+    (1, "begin", ("tid", 4)),
+    (1, write("t", 3, "d"), OK),
+    (1, "commit", ("atomic", 4)),
+    (1, "begin", ("tid", 5)),
+    (1, write("t", 3, "e"), OK),
+    (1, "commit", ("atomic", 5)),
+    (2, "take", batch(2, 2, ("t", 1, "b"), ("t", 2, "c"))),
+    (2, watch("t", "simple"), error("overflow")),
+    (2, "take", batch(4, 4, ("t", 3, "d"))),
+    (2, "take", ("mnesia_overflow", 5)),
+    (2, "take", "empty"),
+    (2, watch("t", "detailed", "dump"), HERE),
+    (2, "take", began("t", "detailed", [("t", 1, "b"), ("t", 2, "c"), ("t", 3, "e")])),
+    (2, unwatch("t", "detailed"), HERE),
+    (2, watch("t", "detailed"), HERE),
+    (2, "take", ("mnesia_table_end", "t", "unsubscribed")),
+    (1, ("delete_table", "t"), ATOMIC),
+    (2, "take", began("t", "detailed")),
+    (2, "take", ("mnesia_table_end", "t", "deleted")),
+]
+
+# Two watch, at both levels and with outboxes of two items; one of them overflows, and the other has room.
+TWO_WATCH = [
+    (1, "join", OK),
+    (2, "join", OK),
+    (3, "join", OK),
+    (3, create("t"), ATOMIC),
+    (3, create("u"), ATOMIC),
+    (3, create("v"), ATOMIC),
+    (1, watch("t", "simple"), HERE),
+    (2, watch("t", "detailed"), HERE),
+    (1, watch("u", "simple"), HERE),
+    (1, watch("v", "simple"), error("outbox_full")),
+    (1, "take", began("t", "simple")),
+    (1, "take", began("u", "simple")),
+    (1, "take", "empty"),
+    # Both tables of session 1 in one item; session 2 sees one of them.
+    (3, ("transaction", [write("t", 1, 2), write("u", 1, 2), write("t", 1, 3)], 0), ("atomic", [OK, OK, OK])),
+    (1, "take", batch(1, 1, ("t", 1, 2), ("u", 1, 2), ("t", 1, 3))),
+    (2, "take", began("t", "detailed")),
+    (
+        2,
+        "take",
+        (
+            "batch",
+            1,
+            [
+                ("mnesia_table_event", ("write", "t", ("t", 1, 2), [], ("tid", 1))),
+                ("mnesia_table_event", ("write", "t", ("t", 1, 3), [("t", 1, 2)], ("tid", 1))),
+            ],
+        ),
+    ),
+    # Of a table that nobody watches.
+    (3, ("transaction", [write("v", 1, 2)], 0), ("atomic", [OK])),
+    (1, "take", "empty"),
+    (3, ("transaction", [write("u", 1, 3)], 0), ("atomic", [OK])),
+    (3, ("transaction", [write("u", 1, 4)], 0), ("atomic", [OK])),
+    (3, ("transaction", [("delete", ("t", 1))], 0), ("atomic", [OK])),
+    (1, watch("v", "simple"), error("overflow")),
+    (1, "take", batch(3, 3, ("u", 1, 3))),
+    (1, "take", batch(4, 4, ("u", 1, 4))),
+    (1, "take", ("mnesia_overflow", 5)),
+    (1, "take", "empty"),
+    # Session 2 has one item, then two, which stay.
+    (3, ("transaction", [write("t", 2, 7)], 0), ("atomic", [OK])),
+    (2, unwatch("t", "detailed"), error("outbox_full")),
+    (3, ("delete_table", "t"), ATOMIC),
+    (
+        2,
+        "take",
+        ("batch", 5, [("mnesia_table_event", ("delete", "t", ("t", 1), [("t", 1, 3)], ("tid", 5)))]),
+    ),
+    (2, "take", ("batch", 6, [("mnesia_table_event", ("write", "t", ("t", 2, 7), [], ("tid", 6)))])),
+    (2, "take", ("mnesia_overflow", 7)),
+    (2, "leave", OK),
+    (2, "take", error("badsession")),
+    (1, watch("u", "simple"), HERE),
+    (3, ("delete_table", "u"), ATOMIC),
+    (1, "take", began("u", "simple")),
+    (1, "take", ("mnesia_table_end", "u", "deleted")),
+]
+
+# As many sessions and tables as there may be, and one more.
+LIMITS = [
+    *[(session, "join", OK) for session in range(1, 65)],
+    (65, "join", error(("system_limit", "sessions"))),
+    *[(1, create(f"t{number}"), ATOMIC) for number in range(256)],
+    (1, create("more"), error(("system_limit", "tables"))),
+    (64, "leave", OK),
+    (65, "join", OK),
+]
+
+SCRIPTS = [
+    ("one session", 64, ONE_SESSION),
+    ("two sessions", 64, TWO_SESSIONS),
+    ("a session watches", 2, WATCHED),
+    ("two sessions watch", 2, TWO_WATCH),
+    ("sessions and tables", 64, LIMITS),
+]

@@ -1,0 +1,308 @@
+#!/usr/bin/env python3
+"""Runs `tabd serve` of the built program, with several connections on it, and compares what each is told.
+
+    server.py PROGRAM
+
+What a server's threads answer comes from behind a lock, of which no contract speaks: that sessions go on beside an open
+transaction, that who waits is woken, that each raise of a hot record counts once, that mirrors end with the table's records,
+that who reads too slowly overflows alone. Each case has a server of its own, which has to end by itself when the connections
+are closed. One line tells each case that differs; the last line is `N passed, M failed`, and the status 1 where one failed.
+"""
+
+import os
+import random
+import socket
+import subprocess
+import sys
+import threading
+
+HERE = os.path.dirname(os.path.abspath(__file__))
+sys.path.insert(0, os.path.join(HERE, "..", "examples"))
+from connection import Connection  # noqa: E402
+
+OK, ATOMIC, HERE_OK = "ok", ("atomic", "ok"), ("ok", "nonode@nohost")
+CREATE = ("create_table", "t", [])
+# Nothing has come after so many seconds: it waits.
+QUIET = 0.2
+
+
+def write(key, value):
+    return ("write", ("t", key, value))
+
+
+def event(key, value, age):
+    return ("mnesia_table_event", ("write", ("t", key, value), ("tid", age)))
+
+
+def watch(*dump):
+    return ("subscribe", ("table", "t", "simple"), *dump)
+
+
+class Differs(Exception):
+    pass
+
+
+def same(what, found, wanted):
+    if found != wanted:
+        raise Differs(f"{what}: {found!r}, wanted {wanted!r}")
+
+
+def script(*steps):
+    """Each step is asked on a connection, and its reply is as it stands."""
+    for line, (connection, request, reply) in enumerate(steps):
+        same(f"step {line}, {request}", connection.ask(request), reply)
+
+
+def waits(connection):
+    """Nothing comes on it."""
+    connection.socket.settimeout(QUIET)
+    try:
+        found = connection.socket.recv(1, socket.MSG_PEEK)
+    except TimeoutError:
+        found = None
+    connection.socket.settimeout(10)
+    same("while it waits", found, None)
+
+
+def side_by_side(jobs):
+    """Each in a thread; the first that differs."""
+    failed = []
+
+    def run(job, given):
+        try:
+            job(*given)
+        except Exception as error:
+            failed.append(error)
+
+    threads = [threading.Thread(target=run, args=one) for one in jobs]
+    for thread in threads:
+        thread.start()
+    for thread in threads:
+        thread.join()
+    if failed:
+        raise failed[0]
+
+
+def others_go_on(first, second, third):
+    """Sessions go on while another's transaction is open, and who watches is told of what they commit."""
+    script(
+        (first, CREATE, ATOMIC),
+        (third, watch(), HERE_OK),
+        (first, "begin", ("tid", 1)),
+        (first, write(1, "a"), OK),
+        (second, "begin", ("tid", 2)),
+        (second, write(2, "b"), OK),
+        (second, "commit", ("atomic", 1)),
+    )
+    same("begin mark", third.event(), ("mnesia_table_begin", "t", "simple"))
+    same("event", third.event(), event(2, "b", 2))
+    script(
+        (second, "begin", ("tid", 3)),
+        (second, ("read", "t", 2), [("t", 2, "b")]),
+        # The younger waits for no one: the key is the older's.
+        (second, ("read", "t", 1), "restart"),
+        (first, "commit", ("atomic", 2)),
+        (second, ("read", "t", 1), [("t", 1, "a")]),
+    )
+    same("event", third.event(), event(1, "a", 1))
+    script((third, ("unsubscribe", ("table", "t", "simple")), HERE_OK))
+    same("end mark", third.event(), ("mnesia_table_end", "t", "unsubscribed"))
+
+
+def woken(end, reply, found):
+    """Who waits is told the record as soon as the other's transaction ends, in each way."""
+
+    def case(older, younger):
+        script(
+            (older, CREATE, ATOMIC),
+            (older, ("transaction", [write(1, 1)], 0), ("atomic", [OK])),
+            (older, "begin", ("tid", 2)),
+            (younger, "begin", ("tid", 3)),
+            (younger, write(1, 2), OK),
+        )
+        older.send(("read", "t", 1))
+        waits(older)
+        if end == "leave":
+            younger.close()
+        elif end == "break":
+            younger.break_off()
+        else:
+            script((younger, end, reply))
+        same("who waits", older.receive(), ("reply", [("t", 1, found)]))
+        script((older, "commit", ("atomic", 3 if end == "commit" else 2)))
+
+    return case
+
+
+def queue_is_left(first, second, third):
+    """A queued request is dropped with its session: who stands behind it alone is woken."""
+    script(
+        (first, CREATE, ATOMIC),
+        (first, "begin", ("tid", 1)),
+        (second, "begin", ("tid", 2)),
+        (third, "begin", ("tid", 3)),
+        (third, ("read", "t", 1), []),
+    )
+    second.send(write(1, "b"))
+    waits(second)
+    first.send(("read", "t", 1))
+    waits(first)
+    second.break_off()
+    same("behind it", first.receive(), ("reply", []))
+    script((third, "commit", ("atomic", 1)), (first, "commit", ("atomic", 2)))
+
+
+def raised(*connections):
+    """A hot record is raised on each connection; each raise counts once, and has a number of its own."""
+    each, numbers = 100 // len(connections), []
+
+    def attempt(connection):
+        found = connection.ask(("wread", ("t", 1)))
+        return found != "restart" and connection.ask(write(1, found[0][2] + 1)) == OK
+
+    def raise_all(connection):
+        for turn in range(each):
+            connection.ask("begin")
+            while not attempt(connection):
+                pass
+            word, number = connection.ask("commit")
+            same("commit", word, "atomic")
+            numbers.append(number)
+
+    first = connections[0]
+    script((first, CREATE, ATOMIC), (first, ("transaction", [write(1, 0)], 0), ("atomic", [OK])))
+    side_by_side([(raise_all, (one,)) for one in connections])
+    count = each * len(connections)
+    same("numbers", sorted(numbers), list(range(2, count + 2)))
+    same("value", first.ask(("transaction", [("read", "t", 1)], 0)), ("atomic", [[("t", 1, count)]]))
+
+
+def mirrored(one, other, *mirrors):
+    """Two write and delete; each mirror gets the same events, and ends with the table's records."""
+    each, logs = 60, []
+
+    def commit_all(connection, seed):
+        chance = random.Random(seed)
+        for turn in range(each):
+            key = chance.randrange(5)
+            what = ("delete", ("t", key)) if turn % 5 == 0 else write(key, chance.randrange(1000))
+            same("commit", connection.ask(("transaction", [what], 1000))[0], "atomic")
+
+    def follow(mirror, log):
+        while not log or log[-1][1][:2] != ("write", ("t", "last", 0)):
+            log.append(mirror.event())
+
+    script((one, CREATE, ATOMIC), (one, ("transaction", [write(2, 2)], 0), ("atomic", [OK])))
+    for mirror in mirrors:
+        script((mirror, watch("dump"), HERE_OK))
+        same("begin mark", mirror.event(), ("mnesia_table_begin", "t", "simple", [("t", 2, 2)]))
+        logs.append([])
+    following = [threading.Thread(target=follow, args=given, daemon=True) for given in zip(mirrors, logs)]
+    for thread in following:
+        thread.start()
+    side_by_side([(commit_all, (one, 1)), (commit_all, (other, 2))])
+    script((one, ("transaction", [write("last", 0)], 0), ("atomic", [OK])))
+    for thread in following:
+        thread.join(10)
+    copies = []
+    for log in logs:
+        copy = {2: 2}
+        for _, (word, record, _) in log:
+            if word == "write":
+                copy[record[1]] = record[2]
+            else:
+                copy.pop(record[1], None)
+        copies.append(copy)
+    same("events", [len(log) for log in logs], [2 * each + 1] * len(logs))
+    same("logs", all(log == logs[0] for log in logs), True)
+    one.ask("begin")
+    table = {key: one.ask(("read", "t", key)) for key in [*range(5), "last"]}
+    same("copies", copies, [{key: rows[0][2] for key, rows in table.items() if rows}] * len(copies))
+
+
+def slow(idle, writer, reader):
+    """Who reads nothing overflows, and is told so behind what it was sent; the other gets each event, and no one waits."""
+    value, count = b"v" * 4000, 200
+    script((writer, CREATE, ATOMIC), (idle, watch(), HERE_OK), (reader, watch(), HERE_OK))
+    same("begin mark", reader.event(), ("mnesia_table_begin", "t", "simple"))
+    for number in range(1, count + 1):
+        script((writer, ("transaction", [write(number, value)], 0), ("atomic", [OK])))
+        same("who reads", reader.event(), event(number, value, number))
+    # It reads with more room, for else each frame takes its time.
+    idle.socket.setsockopt(socket.SOL_SOCKET, socket.SO_RCVBUF, 1_048_576)
+    same("begin mark", idle.event(), ("mnesia_table_begin", "t", "simple"))
+    number = 1
+    while (told := idle.event())[0] == "mnesia_table_event":
+        same("who reads slowly", told, event(number, value, number))
+        number += 1
+    same("overflow", told, ("mnesia_overflow", number))
+    same("so many at most", number < count, True)
+    # It may watch anew.
+    script((idle, watch(), HERE_OK), (writer, ("transaction", [write(0, 0)], 0), ("atomic", [OK])))
+    same("begin mark", idle.event(), ("mnesia_table_begin", "t", "simple"))
+    same("event", idle.event(), event(0, 0, count + 1))
+
+
+def refused(connection):
+    """What is no term or no command is told so, and the session goes on; a payload that is too long ends it."""
+    script((connection, "join", ("error", "badcommand")), (connection, (1, "begin"), ("error", "badcommand")))
+    connection.socket.sendall(b"\0\0\0\1\x82")
+    same("no term", connection.receive(), ("reply", ("error", "badterm")))
+    script((connection, "begin", ("tid", 1)))
+    connection.socket.sendall((1_048_577).to_bytes(4, "big"))
+    same("too long", connection.receive(), ("reply", ("error", "badterm")))
+    same("its end", connection.stream.read(), b"")
+
+
+# A name, how many connections, further words of the server, and what is done on them.
+CASES = [
+    ("others go on", 3, [], others_go_on),
+    ("woken by an abort", 2, [], woken(("abort", "why"), ("aborted", "why"), 1)),
+    ("woken by a commit", 2, [], woken("commit", ("atomic", 2), 2)),
+    ("woken by an end", 2, [], woken("leave", None, 1)),
+    ("woken by a broken connection", 2, [], woken("break", None, 1)),
+    ("a queue is left", 3, [], queue_is_left),
+    ("four raise", 4, [], raised),
+    ("sixteen raise, journal of 16", 16, ["--journal", "16"], raised),
+    ("two mirrors", 4, [], mirrored),
+    ("refused", 1, [], refused),
+    ("a slow reader", 3, ["--outbox", "16"], slow),
+]
+
+
+def serve(program, count, words):
+    words = [program, "serve", "--port", "0", "--connections", str(count), *words]
+    server = subprocess.Popen(words, stdout=subprocess.PIPE, stderr=subprocess.PIPE, text=True)
+    return server, int(server.stdout.readline().rsplit(":", 1)[1])
+
+
+def fault(program, name, count, words, case):
+    server, port = serve(program, count, words)
+    try:
+        # The first has little room where it is not to read.
+        connections = [Connection(port, small=case is slow and number == 0) for number in range(count)]
+        case(*connections)
+        for connection in connections:
+            connection.close()
+        _, err = server.communicate(timeout=10)
+        same("its end", (server.returncode, err), (0, ""))
+        return None
+    except (Differs, OSError, ValueError, subprocess.TimeoutExpired) as error:
+        return f"{name}: {type(error).__name__} {error}"
+    finally:
+        server.kill()
+        server.wait()
+
+
+def main():
+    if len(sys.argv) != 2:
+        sys.exit(__doc__)
+    program = os.path.abspath(sys.argv[1])
+    faults = [found for case in CASES if (found := fault(program, *case))]
+    for line in faults:
+        print(line)
+    print(f"{len(CASES) - len(faults)} passed, {len(faults)} failed")
+    sys.exit(1 if faults else 0)
+
+
+main()

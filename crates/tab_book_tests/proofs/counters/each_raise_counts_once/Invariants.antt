@@ -1,0 +1,5 @@
+use Rattle.tab_book_tests.proofs.counters.each_raise_counts_once.Given as goal
+
+-- the register that was just opened
+abbrev pub ghosts-count_named : goal.ghosts-count_named
+ghosts-count_named g a = record { book = a.opened }

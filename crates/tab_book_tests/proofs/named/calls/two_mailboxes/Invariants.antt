@@ -1,5 +1,0 @@
-use Rattle.tab_book_tests.proofs.named.calls.two_mailboxes.Given as goal
-
--- the register that was just opened
-abbrev pub ghosts-make_named_calls : goal.ghosts-make_named_calls
-ghosts-make_named_calls g a = record { book = a.opened }

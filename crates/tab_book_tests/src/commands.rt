@@ -1,0 +1,54 @@
+//! Commands, in few words. The one record is `{t, 1, Value}`.
+use std::alloc::{AllocError, Global};
+use tab_model::{Command, Level, Limits, Operation, Reply, Schema};
+use tab_term::{Atom, Term, Terms};
+
+pub const LIMITS: Limits = Limits {
+    sessions: 8,
+    nesting: 4,
+    operations: 100,
+    tables: 4,
+    ages: 9223372036854775807,
+    journal: 1024,
+};
+
+/// The name of the table.
+fn name(alloc: Global) -> Result<Atom, AllocError> {
+    Atom::from_short_text(alloc, "t")
+}
+
+pub fn create(alloc: Global) -> Result<Command, AllocError> {
+    let options = Terms::from_vec(Vec::new(alloc));
+    Ok(Command::Schema(Schema::Create(name(alloc)?, options)))
+}
+
+pub fn write(alloc: Global, value: i128) -> Result<Command, AllocError> {
+    let mut elements = Vec::with_capacity(alloc, 3)?;
+    elements.push_reserved(Term::Atom(name(alloc)?));
+    elements.push_reserved(Term::Int(1));
+    elements.push_reserved(Term::Int(value));
+    let record = Term::Tuple(Terms::from_vec(elements));
+    Ok(Command::Do(Operation::Write(record)))
+}
+
+pub fn read_for_write(alloc: Global) -> Result<Command, AllocError> {
+    Ok(Command::Do(Operation::ReadForWrite(name(alloc)?, Term::Int(1))))
+}
+
+pub fn subscribe(alloc: Global) -> Result<Command, AllocError> {
+    Ok(Command::Subscribe(name(alloc)?, Level::Simple, false))
+}
+
+/// The value of the one record that a read found.
+pub fn value_in(reply: &Reply) -> Option<i128> {
+    match reply {
+        Reply::Found(records) => match records.as_slice() {
+            [Term::Tuple(elements)] => match elements.as_slice() {
+                [_, _, Term::Int(value)] => Some(*value),
+                _ => None,
+            },
+            _ => None,
+        },
+        _ => None,
+    }
+}

@@ -1,0 +1,249 @@
+//! Four threads, each with a session, that raise one record.
+
+ghost use Rattle.std.specs.Prelude.{◌≡◌, ◌≤◌};
+
+use crate::commands::{LIMITS, create, read_for_write, value_in, write};
+use std::alloc::{AllocError, Global};
+use std::marker::{Brand, PhantomData};
+use std::sync::Wait;
+use std::sync::atomic::{AtomicU64, Ordering};
+use std::test::*;
+use std::thread;
+use std::thread::Threads;
+use tab_book::{Book, Seat, Shared};
+use tab_model::{Command, Entry, Limits, Reply};
+use tab_names::{House, Naming, Opened};
+use tab_post::Line;
+
+const THREADS: usize = 4;
+
+const EACH: usize = 50;
+
+/// The value that is read for a write; None where the transaction is restarted.
+fn value_read<H: House>(
+    house: &H,
+    alloc: Global,
+    shared: &Shared<H>,
+    seat: &Seat,
+) -> Result<Option<i128>, AllocError> {
+    let found = shared.call(house, seat, read_for_write(alloc)?)?;
+    Ok(value_in(found.reply()))
+}
+
+fn is_done(reply: &Reply) -> bool {
+    match reply {
+        Reply::Done => true,
+        _ => false,
+    }
+}
+
+/// One attempt to raise the record: the value that was read; None where it is to be made again.
+fn attempt<H: House>(
+    house: &H,
+    alloc: Global,
+    shared: &Shared<H>,
+    seat: &Seat,
+) -> Result<Option<i128>, AllocError> {
+    let Some(value) = value_read(house, alloc, shared, seat)? else {
+        return Ok(None);
+    };
+    let told = shared.call(house, seat, write(alloc, value.saturating_add(1))?)?;
+    Ok(if is_done(told.reply()) {
+        Some(value)
+    } else {
+        None
+    })
+}
+
+/// The number of the commit, 0 where there is none.
+fn number_of(reply: &Reply) -> u64 {
+    match reply {
+        Reply::Atomic(number) => *number,
+        _ => 0,
+    }
+}
+
+/// A transaction is begun once, and made again until it commits: the number of its commit and the value that it read.
+fn raise<H: House>(
+    house: &H,
+    alloc: Global,
+    shared: &Shared<H>,
+    seat: &Seat,
+) -> Result<(u64, i128), AllocError> {
+    shared.call(house, seat, Command::Begin)?;
+    for _ in house.forever() {
+        if let Some(value) = attempt(house, alloc, shared, seat)? {
+            let told = shared.call(house, seat, Command::Commit)?;
+            return Ok((number_of(told.reply()), value));
+        }
+    }
+    unreachable!()
+}
+
+/// Whether it is this commit of this session, which read this value in it.
+fn is_commit(entry: &Entry, commit: u64, session: u64, value: i128) -> bool {
+    match entry {
+        Entry::Committed {
+            number,
+            session: by,
+            told,
+            ..
+        } => match told.items.as_slice() {
+            [Some(first), ..] => {
+                *number == commit && *by == session && value_in(first.reply()) == Some(value)
+            }
+            _ => false,
+        },
+        _ => false,
+    }
+}
+
+/// Whether the journal has such an entry.
+fn is_entered<H: House>(
+    house: &H,
+    shared: &Shared<H>,
+    seat: &Seat,
+    commit: u64,
+    value: i128,
+) -> bool {
+    let book = shared.book.lock(house);
+    let journal = book.journal();
+    let mut is_found = false;
+    for place in 0..journal.len() {
+        if let Some(entry) = journal.entry(place) {
+            is_found |= is_commit(entry, commit, seat.session() as u64, value);
+        }
+    }
+    is_found
+}
+
+fn raise_all<H: House>(
+    house: &H,
+    alloc: Global,
+    shared: &Shared<H>,
+    seat: Seat,
+    entered: &AtomicU64,
+) {
+    for _ in 0..EACH {
+        if let Ok((commit, value)) = raise(house, alloc, shared, &seat) {
+            if is_entered(house, shared, &seat, commit, value) {
+                entered.fetch_add(1, Ordering::SeqCst);
+            }
+        }
+    }
+}
+
+/// A thread for each seat. Counts the commits that their threads found in the journal.
+fn run_threads<H: House + Threads + Send + Sync>(
+    house: &H,
+    alloc: Global,
+    shared: &Shared<H>,
+    seats: &[Seat],
+    entered: &AtomicU64,
+) {
+    thread::scope(thread::scope_env(), house, |scope| {
+        for seat in seats {
+            let seat = *seat;
+            let started = scope.spawn(move || raise_all(house, alloc, shared, seat, entered));
+            if started.is_err() {
+                shared.leave(house, &seat);
+            }
+        }
+    });
+}
+
+/// What stands in the end.
+#[derive(Clone, Copy, PartialEq, Eq)]
+struct Counts {
+    entries: usize,
+    /// The last commit in the journal's base.
+    base: u64,
+    /// Of the record.
+    value: Option<i128>,
+    audit: bool,
+    /// How many of the threads' answers were found in the journal.
+    entered: u64,
+}
+
+fn count<H: House + Threads + Send + Sync>(
+    house: H,
+    alloc: Global,
+    opened: Opened<Line>,
+    limits: Limits,
+) -> Result<Counts, Fail>
+    requires opened { opened ≡ H.book }
+    requires sessions { limits.sessions ≤ 64 }
+    requires journal { 1 ≤ limits.journal }
+{
+    let shared = Shared::new(Book::new(house, alloc, opened, limits, 64)?);
+    let mut seats = Vec::new(alloc);
+    let mut inboxes = Vec::new(alloc);
+    for _ in 0..THREADS {
+        let (seat, inbox) = shared.join(&house).map_err(|_| "join")?;
+        seats.push(seat)?;
+        inboxes.push(inbox)?;
+    }
+    let first = *seats.first().ok_or("no seat")?;
+    shared.call(&house, &first, create(alloc)?)?;
+    shared.call(&house, &first, Command::Begin)?;
+    shared.call(&house, &first, write(alloc, 0)?)?;
+    shared.call(&house, &first, Command::Commit)?;
+    let entered = AtomicU64::new(0);
+    run_threads(&house, alloc, &shared, &seats, &entered);
+    shared.call(&house, &first, Command::Begin)?;
+    let value = value_in(shared.call(&house, &first, read_for_write(alloc)?)?.reply());
+    let audit = shared.audit(&house)?;
+    let book = shared.book.lock(&house);
+    Ok(Counts {
+        entries: book.journal().len(),
+        base: book.journal().base().commits(),
+        value,
+        audit,
+        entered: entered.load(Ordering::SeqCst),
+    })
+}
+
+fn count_named<J: Naming + Send + Sync, R: Threads + Wait + Copy + Send + Sync>(
+    rt: R,
+    alloc: Global,
+    opened: Opened<Line>,
+    limits: Limits,
+) -> Result<Counts, Fail>
+    requires opened { opened ≡ J.book }
+    requires sessions { limits.sessions ≤ 64 }
+    requires journal { 1 ≤ limits.journal }
+{
+    count((rt, PhantomData::<J>), alloc, opened, limits)
+}
+
+#[test]
+fn each_raise_counts_once(rt: HostRuntime) -> Result<(), Fail> {
+    let counts = count_named::<Brand, _>(rt, rt.alloc(), Opened::new(), LIMITS)?;
+    let wanted = Counts {
+        entries: 202,
+        base: 0,
+        value: Some(200),
+        audit: true,
+        entered: 200,
+    };
+    assert!(rt; counts == wanted);
+    Ok(())
+}
+
+#[test]
+fn a_short_journal_folds(rt: HostRuntime) -> Result<(), Fail> {
+    let limits = Limits {
+        journal: 16,
+        ..LIMITS
+    };
+    let counts = count_named::<Brand, _>(rt, rt.alloc(), Opened::new(), limits)?;
+    let wanted = Counts {
+        entries: 16,
+        base: 185,
+        value: Some(200),
+        audit: true,
+        entered: counts.entered,
+    };
+    assert!(rt; counts == wanted);
+    Ok(())
+}

@@ -1,0 +1,230 @@
+//! Two mailboxes of two items, call by call, and a thousand items from one thread to another through a mailbox of four.
+
+ghost use Rattle.std.specs.Prelude.{◌≡◌};
+
+use std::alloc::{AllocError, Global};
+use std::marker::{Brand, PhantomData};
+use std::process::Abort;
+use std::sync::Wait;
+use std::test::*;
+use std::thread::{Threads, join};
+use tab_named::{SeatInbox, SeatPost, enter};
+use tab_names::{House, Naming, Opened};
+use tab_outbox::{Item, Mailbox, Met, Post, Refused};
+use tab_post::Line;
+use tab_term::Terms;
+
+/// Items are batches without events, known by their commits.
+enum Call {
+    Put(u64),
+    /// It is handed back, since the mailbox is full.
+    Full(u64),
+    /// Nothing is taken at this end.
+    Pull,
+    Refusals(u64),
+    Apart,
+    Going(u64),
+    All,
+    Receive(u64),
+}
+
+/// Each call with the mailboxes that its post and its inbox are of.
+static CALLS: [(usize, usize, Call); 21] = [
+    (0, 1, Call::Apart),
+    (1, 0, Call::Apart),
+    (0, 0, Call::All),
+    (0, 0, Call::Put(1)),
+    (0, 0, Call::Put(2)),
+    (0, 0, Call::Full(3)),
+    (0, 0, Call::Refusals(1)),
+    (1, 1, Call::Refusals(0)),
+    (1, 1, Call::Put(4)),
+    (0, 0, Call::Pull),
+    // What waits in the one mailbox or the other makes no difference.
+    (0, 1, Call::Apart),
+    (1, 0, Call::Apart),
+    (0, 0, Call::Going(1)),
+    (0, 0, Call::Receive(2)),
+    (0, 0, Call::All),
+    (0, 1, Call::Apart),
+    (1, 1, Call::Going(4)),
+    (1, 1, Call::All),
+    (1, 1, Call::Put(5)),
+    (1, 0, Call::Apart),
+    (1, 1, Call::Receive(5)),
+];
+
+/// No item has this number.
+const NONE: u64 = 1_000_000;
+
+fn batch(alloc: Global, commit: u64) -> Item {
+    Item::Batch(commit, Terms::from_vec(Vec::new(alloc)))
+}
+
+fn number_of(item: &Item) -> u64 {
+    match item {
+        Item::Batch(number, _) => *number,
+        _ => NONE,
+    }
+}
+
+fn received<H: House>(inbox: &mut SeatInbox<H>) -> u64 {
+    match inbox.receive() {
+        Some(item) => number_of(&item),
+        None => NONE,
+    }
+}
+
+/// The item that is handed back since the mailbox is full, or since nobody takes any more; None where it is put.
+fn put<H: House>(post: &mut SeatPost<H>, item: Item) -> Option<(bool, Item)> {
+    match post.put(item) {
+        Ok(()) => None,
+        Err(Refused::Full(back)) => Some((true, back)),
+        Err(Refused::Gone(back)) => Some((false, back)),
+    }
+}
+
+fn is_handed_back<H: House>(
+    post: &mut SeatPost<H>,
+    alloc: Global,
+    commit: u64,
+    full: bool,
+) -> bool {
+    match put(post, batch(alloc, commit)) {
+        Some((is_full, item)) => is_full == full && number_of(&item) == commit,
+        None => false,
+    }
+}
+
+/// What the two ends find: the item that was taken, or as many more than NONE as there are.
+fn met<H: House>(post: &mut SeatPost<H>, inbox: &mut SeatInbox<H>) -> u64 {
+    match post.meet(inbox) {
+        Met::Going(item) => number_of(&item),
+        Met::Apart => NONE + 1,
+        Met::All => NONE + 2,
+    }
+}
+
+fn is_right<H: House>(
+    alloc: Global,
+    post: &mut SeatPost<H>,
+    inbox: &mut SeatInbox<H>,
+    call: &Call,
+) -> bool {
+    match call {
+        Call::Put(commit) => put(post, batch(alloc, *commit)).is_none(),
+        Call::Full(commit) => is_handed_back(post, alloc, *commit, true),
+        Call::Pull => post.pull().is_none(),
+        Call::Refusals(count) => post.refusals() == *count,
+        Call::Apart => met(post, inbox) == NONE + 1,
+        Call::Going(commit) => met(post, inbox) == *commit,
+        Call::All => met(post, inbox) == NONE + 2,
+        Call::Receive(commit) => received(inbox) == *commit,
+    }
+}
+
+/// The first call that differs. In the end nothing more comes from a post that is gone, and nobody takes for an inbox that is.
+fn make_calls<H: House>(
+    rt: H,
+    alloc: Global,
+    opened: Opened<Line>,
+) -> Result<Option<usize>, AllocError>
+    requires { opened ≡ H.book }
+{
+    let (register, mut front) = opened.named::<H>();
+    let (mut post, mut inbox) = enter(&register, &mut front, rt, alloc, 2)?;
+    let (mut other, mut others) = enter(&register, &mut front, rt, alloc, 2)?;
+    for (line, (of_post, of_inbox, call)) in CALLS.iter().enumerate() {
+        let post = if *of_post == 0 { &mut post } else { &mut other };
+        let inbox = if *of_inbox == 0 {
+            &mut inbox
+        } else {
+            &mut others
+        };
+        if !is_right(alloc, post, inbox, call) {
+            return Ok(Some(line));
+        }
+    }
+    drop(inbox);
+    drop(other);
+    let is_gone = is_handed_back(&mut post, alloc, 6, false);
+    Ok(if is_gone && received(&mut others) == NONE {
+        None
+    } else {
+        Some(CALLS.len())
+    })
+}
+
+fn make_named_calls<J: Naming, R: Wait + Copy>(
+    rt: R,
+    alloc: Global,
+    opened: Opened<Line>,
+) -> Result<Option<usize>, AllocError>
+    requires { opened ≡ J.book }
+{
+    make_calls((rt, PhantomData::<J>), alloc, opened)
+}
+
+#[test]
+fn two_mailboxes(rt: HostRuntime) {
+    let differs = make_named_calls::<Brand, _>(rt, rt.alloc(), Opened::new());
+    assert!(rt; differs == Ok(None), "a call");
+}
+
+const COUNT: u64 = 1000;
+
+/// Puts all of them in order, and again what came back since the mailbox was full.
+fn put_all<H: House>(rt: H, alloc: Global, mut post: SeatPost<H>) -> SeatPost<H> {
+    let mut next = 0;
+    for _ in rt.forever() {
+        if next >= COUNT {
+            break;
+        }
+        if put(&mut post, batch(alloc, next)).is_none() {
+            next += 1;
+        }
+    }
+    post
+}
+
+/// Waits for each of them in turn.
+fn receive_all<H: House + Abort>(rt: H, mut inbox: SeatInbox<H>) -> SeatInbox<H> {
+    for commit in 0..COUNT {
+        assert!(rt; received(&mut inbox) == commit, "item {commit}");
+    }
+    inbox
+}
+
+fn exchange<H: House + Threads + Abort + Send + Sync>(
+    rt: H,
+    alloc: Global,
+    opened: Opened<Line>,
+) -> Result<(), AllocError>
+    requires { opened ≡ H.book }
+{
+    let (register, mut front) = opened.named::<H>();
+    let (post, inbox) = enter(&register, &mut front, rt, alloc, 4)?;
+    let (mut post, mut inbox) = join(
+        &rt,
+        move || put_all(rt, alloc, post),
+        move || receive_all(rt, inbox),
+    );
+    assert!(rt; met(&mut post, &mut inbox) == NONE + 2);
+    Ok(())
+}
+
+fn exchange_named<J: Naming + Send + Sync, R: Wait + Threads + Abort + Copy + Send + Sync>(
+    rt: R,
+    alloc: Global,
+    opened: Opened<Line>,
+) -> Result<(), AllocError>
+    requires { opened ≡ J.book }
+{
+    exchange((rt, PhantomData::<J>), alloc, opened)
+}
+
+#[test]
+fn a_thousand_in_order(rt: HostRuntime) {
+    let done = exchange_named::<Brand, _>(rt, rt.alloc(), Opened::new());
+    assert!(rt; done.is_ok(), "memory");
+}

@@ -1,0 +1,36 @@
+//! Devices that fail under a replay.
+use std::test::Fail;
+use tab_etf::Counted;
+use tab_fixtures::Device;
+use tab_session::{Ended, replay};
+
+/// A session's first steps, and their replies.
+static INPUT: &[u8] =
+    b"\x00\x00\x00\x0b\x83h\x02a\x01w\x04join\x00\x00\x00\x19\x83h\x02a\x01h\x03w\x0ccreate_tablew\x01tj\x00\x00\x00\x0c\x83h\x02a\x01w\x05begin\x00\x00\x00\x18\x83h\x02a\x01h\x02w\x05writeh\x03w\x01ta\x01w\x01a\x00\x00\x00\x12\x83h\x02a\x01h\x03w\x04readw\x01ta\x01\x00\x00\x00\x0d\x83h\x02a\x01w\x06commit";
+
+static OUTPUT: &[u8] =
+    b"\x00\x00\x00\x09\x83h\x02a\x01w\x02ok\x00\x00\x00\x13\x83h\x02a\x01h\x02w\x06atomicw\x02ok\x00\x00\x00\x0e\x83h\x02a\x01h\x02w\x03tida\x01\x00\x00\x00\x09\x83h\x02a\x01w\x02ok\x00\x00\x00\x15\x83h\x02a\x01l\x00\x00\x00\x01h\x03w\x01ta\x01w\x01aj\x00\x00\x00\x11\x83h\x02a\x01h\x02w\x06atomica\x01";
+
+/// Eight bytes a call; the call after so many fails, of the reader in the one run and of the writer in the other.
+#[test]
+fn a_device_fails_at_each_call(rt: HostRuntime) -> Result<(), Fail> {
+    for left in 0..16u32 {
+        for (reads, writes) in [(left, u32::MAX), (u32::MAX, left)] {
+            let mut reader = Counted::new(Device {
+                inner: INPUT,
+                size: 8,
+                left: reads,
+            });
+            let mut writer = Counted::new(Device {
+                inner: Vec::new(rt.alloc()),
+                size: 8,
+                left: writes,
+            });
+            let ended = replay(rt.alloc(), &mut reader, &mut writer, 64);
+            let written = writer.into_inner().inner;
+            let right = ended == Err(Ended::Device) && OUTPUT.starts_with(written.as_slice());
+            assert!(rt; right, "call {left}");
+        }
+    }
+    Ok(())
+}
