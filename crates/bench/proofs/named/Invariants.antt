@@ -1,4 +1,4 @@
-use Rattle.bench_book.proofs.named.Given as goal
+use Rattle.bench.proofs.named.Given as goal
 
 -- the register that was just opened
 abbrev pub ghosts-measured : goal.ghosts-measured

@@ -13,7 +13,7 @@ use Rattle.tab_book.specs.contracts.shared.Shared as shared
 use Rattle.tab_book.specs.contracts.shared.Seat as seat
 use denote.Plain.{UInt}
 use mir.Syntax.{w32}
-use Rattle.bench_book.proofs.threads.fn.run.scope.Goals as goal
+use Rattle.bench.proofs.threads.fn.run.scope.Goals as goal
 
 word-sync : IsSync word.the_row
 word-sync = search crosses

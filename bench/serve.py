@@ -1,0 +1,120 @@
+#!/usr/bin/env python3
+"""What a round costs `tabd serve`, over loopback, with Python's standard library alone.
+
+    serve.py PROGRAM             as serve.py crates/tabd/out/tabd
+    serve.py PROGRAM ROUNDS      so many rounds in all, 20,000 where it is not given; of reads at most 1,024
+
+Each row is a server with a table of so many records, `{t, Key, Key}`, and so many connections that make rounds side by side: each
+sends a request and waits for its reply before it sends the next. A line has the processor time of the server for a round in
+microseconds, of its threads and of the system for it, and the memory that it holds before and after the rounds. Its journal
+holds 1,024 entries. The wall time of a round would be mostly that of the clients here.
+"""
+
+import os
+import socket
+import subprocess
+import sys
+import threading
+
+HERE = os.path.dirname(os.path.abspath(__file__))
+sys.path.insert(0, os.path.join(HERE, "..", "examples"))
+
+from frames import frame
+
+TICKS = os.sysconf("SC_CLK_TCK")
+RECORDS = 100_000
+
+# What a round is, how many make it side by side, and the records.
+ROWS = [
+    ("one-shot of a write", 1, 0),
+    ("one-shot of a write", 4, 0),
+    ("one-shot of a write", 16, 0),
+    ("begin, write, commit", 1, 0),
+    ("begin, write, commit", 4, 0),
+    ("begin, write, commit", 16, 0),
+    ("one read", 1, RECORDS),
+    ("a thousand reads", 1, RECORDS),
+    ("all keys", 1, RECORDS),
+]
+
+
+def requests(what, client):
+    """The frames of a round. Each client writes a record of its own."""
+    write = ("write", ("t", client, client))
+    reads = [("read", "t", key) for key in range(1_000)]
+    rounds = {
+        "one-shot of a write": [("transaction", [write], 1_000)],
+        "begin, write, commit": ["begin", write, "commit"],
+        "one read": ["begin", reads[0], "commit"],
+        "a thousand reads": ["begin", *reads, "commit"],
+        "all keys": ["begin", ("all_keys", "t"), "commit"],
+    }
+    return [frame(request) for request in rounds[what]]
+
+
+class Client:
+    def __init__(self, port):
+        self.socket = socket.create_connection(("127.0.0.1", port))
+        self.socket.setsockopt(socket.IPPROTO_TCP, socket.TCP_NODELAY, 1)
+        self.stream = self.socket.makefile("rb")
+
+    def make(self, frames, rounds):
+        """So many rounds. Of a reply it is looked at only that it is no refusal."""
+        for _ in range(rounds):
+            for asked in frames:
+                self.socket.sendall(asked)
+                reply = self.stream.read(int.from_bytes(self.stream.read(4), "big"))
+                if b"error" in reply or b"aborted" in reply or not reply:
+                    raise ValueError(f"a request is refused: {reply!r}")
+
+    def close(self):
+        self.stream.close()
+        self.socket.close()
+
+
+def used(process):
+    """The processor seconds of the server, and the megabytes that it holds."""
+    with open(f"/proc/{process.pid}/stat") as stat:
+        fields = stat.read().rsplit(")", 1)[1].split()
+    with open(f"/proc/{process.pid}/status") as status:
+        held = next(int(line.split()[1]) for line in status if line.startswith("VmRSS"))
+    return (int(fields[11]) + int(fields[12])) / TICKS, held / 1000
+
+
+def measured(process, port, what, connections, records, rounds):
+    """The microseconds of a round, and the memory before and after."""
+    clients = [Client(port) for _ in range(connections)]
+    clients[0].make([frame(("create_table", "t", []))], 1)
+    for start in range(0, records, 1_000):
+        writes = [("write", ("t", key, key)) for key in range(start, start + 1_000)]
+        clients[0].make([frame(("transaction", writes, 0))], 1)
+    shares = [(requests(what, at), rounds // connections) for at in range(connections)]
+    threads = [threading.Thread(target=client.make, args=share) for client, share in zip(clients, shares)]
+    before, held = used(process)
+    for thread in threads:
+        thread.start()
+    for thread in threads:
+        thread.join()
+    after, holds = used(process)
+    for client in clients:
+        client.close()
+    return (after - before) / (rounds // connections * connections) * 1e6, held, holds
+
+
+def main():
+    if len(sys.argv) < 2:
+        sys.exit(__doc__)
+    asked = int(sys.argv[2]) if len(sys.argv) > 2 else 20_000
+    for what, connections, records in ROWS:
+        words = [sys.argv[1], "serve", "--port", "0", "--connections", str(connections)]
+        process = subprocess.Popen(words, stdout=subprocess.PIPE, text=True)
+        port = int(process.stdout.readline().rsplit(":", 1)[1])
+        rounds = min(asked, 1_024) if records else asked
+        micros, held, holds = measured(process, port, what, connections, records, rounds)
+        process.wait()
+        behind = f", {records} records" if records else ""
+        print(f"{what}{behind}, {connections} connections: {micros:.1f} us a round, {held:.1f} MB before, {holds:.1f} MB after", flush=True)
+
+
+if __name__ == "__main__":
+    main()
