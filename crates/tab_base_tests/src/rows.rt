@@ -13,6 +13,15 @@ fn row(alloc: Global, key: i128, value: i128) -> Result<Term, AllocError> {
     Ok(Term::Tuple(Terms::from_vec(elements)))
 }
 
+/// How many keys a walk comes by.
+fn walked(rows: &Rows) -> u32 {
+    let mut keys = 0u32;
+    for _ in rows.walk() {
+        keys = keys.saturating_add(1);
+    }
+    keys
+}
+
 #[test]
 fn changes_leave_what_is_found(rt: HostRuntime) -> Result<(), Fail> {
     let alloc = rt.alloc();
@@ -29,7 +38,7 @@ fn changes_leave_what_is_found(rt: HostRuntime) -> Result<(), Fail> {
     assert!(rt; rows.at(&Term::Int(1)) == wanted.as_slice());
     assert!(rt; rows.read(alloc, &Term::Int(1))?.as_slice() == wanted.as_slice());
     assert!(rt; rows.keys(alloc)?.as_slice() == [Term::Int(1), Term::Int(3)].as_slice());
-    assert!(rt; rows.size() == 3 && rows.walk().count() == 2);
+    assert!(rt; rows.size() == 3 && walked(&rows) == 2);
     assert!(rt; before.at(&Term::Int(1)).is_empty() && before.size() == 0);
     Ok(())
 }

@@ -92,6 +92,15 @@ fn an_index_answers_what_the_records_have(rt: HostRuntime) -> Result<(), Fail> {
     Ok(())
 }
 
+/// How many keys a walk comes by.
+fn walked(table: &IndexedTable) -> u32 {
+    let mut keys = 0u32;
+    for _ in table.walk() {
+        keys = keys.saturating_add(1);
+    }
+    keys
+}
+
 #[test]
 fn a_table_has_what_was_put(rt: HostRuntime) -> Result<(), Fail> {
     let alloc = rt.alloc();
@@ -112,7 +121,7 @@ fn a_table_has_what_was_put(rt: HostRuntime) -> Result<(), Fail> {
         less.index_read(alloc, 3, &Term::Int(8))?.is_none()
             && less.def().indexes.items.as_slice() == [4u64].as_slice()
     );
-    assert!(rt; old.size() == 3 && old.walk().count() == 2);
+    assert!(rt; old.size() == 3 && walked(&old) == 2);
     assert_eq!(rt;
         numbers(alloc, old.keys(alloc)?.as_slice())?.as_slice(),
         [1i128, 2].as_slice()

@@ -155,6 +155,33 @@ fn take(
     Ok(())
 }
 
+fn is_like(alloc: Global, seen: &[Term], wanted: &[i128]) -> Result<bool, AllocError> {
+    Ok(numbers(alloc, seen)?.as_slice() == wanted)
+}
+
+/// Whether the store shows what the row has.
+fn is_shown(
+    store: &TxStore,
+    alloc: Global,
+    lent: &IndexedTable,
+    row: &Row,
+) -> Result<bool, AllocError> {
+    let (_, depth, records, at_1, with_10, keys, updates) = row;
+    let all = build(alloc, &ALL)?;
+    let key = Term::Int(1);
+    let matched = store.view_match(alloc, lent, &all)?;
+    let read = store.view_read(alloc, lent, &key)?;
+    let indexed = store.view_index(alloc, lent, 3, &Term::Int(10))?;
+    let seen_keys = store.view_keys(alloc, lent)?;
+    Ok(is_like(alloc, matched.as_slice(), records)?
+        && is_like(alloc, read.as_slice(), at_1)?
+        && is_like(alloc, store.seen(lent, &key), at_1)?
+        && is_like(alloc, indexed.as_slice(), with_10)?
+        && is_like(alloc, seen_keys.as_slice(), keys)?
+        && store.depth() == *depth
+        && store.updates().len() == *updates)
+}
+
 #[test]
 fn steps_leave_what_is_seen(rt: HostRuntime) -> Result<(), Fail> {
     let alloc = rt.alloc();
@@ -162,28 +189,10 @@ fn steps_leave_what_is_seen(rt: HostRuntime) -> Result<(), Fail> {
     for numbers in [[1, 10, 0], [3, 30, 0]] {
         lent.change(alloc, &Change::Write(row(alloc, numbers)?))?;
     }
-    let all = build(alloc, &ALL)?;
-    let key = Term::Int(1);
     let mut store = TxStore::new(alloc);
-    for (line, (step, depth, records, at_1, with_10, keys, updates)) in STEPS.iter().enumerate() {
-        take(&mut store, alloc, &lent, step)?;
-        let matched = store.view_match(alloc, &lent, &all)?;
-        let read = store.view_read(alloc, &lent, &key)?;
-        let indexed = store.view_index(alloc, &lent, 3, &Term::Int(10))?;
-        let seen_keys = store.view_keys(alloc, &lent)?;
-        for (seen, wanted) in [
-            (matched.as_slice(), records),
-            (read.as_slice(), at_1),
-            (store.seen(&lent, &key), at_1),
-            (indexed.as_slice(), with_10),
-            (seen_keys.as_slice(), keys),
-        ] {
-            assert!(rt; numbers(alloc, seen)?.as_slice() == *wanted, "line {line}");
-        }
-        assert!(rt;
-            store.depth() == *depth && store.updates().len() == *updates,
-            "line {line}"
-        );
+    for (line, row) in STEPS.iter().enumerate() {
+        take(&mut store, alloc, &lent, &row.0)?;
+        assert!(rt; is_shown(&store, alloc, &lent, row)?, "line {line}");
     }
     assert_eq!(rt; store.count(), STEPS.len() - 2);
     store.clear();
