@@ -173,13 +173,15 @@ fn is_shown(
     let read = store.view_read(alloc, lent, &key)?;
     let indexed = store.view_index(alloc, lent, 3, &Term::Int(10))?;
     let seen_keys = store.view_keys(alloc, lent)?;
-    Ok(is_like(alloc, matched.as_slice(), records)?
-        && is_like(alloc, read.as_slice(), at_1)?
-        && is_like(alloc, store.seen(lent, &key), at_1)?
-        && is_like(alloc, indexed.as_slice(), with_10)?
-        && is_like(alloc, seen_keys.as_slice(), keys)?
-        && store.depth() == *depth
-        && store.updates().len() == *updates)
+    Ok(
+        is_like(alloc, matched.as_slice(), records)?
+            && is_like(alloc, read.as_slice(), at_1)?
+            && is_like(alloc, store.seen(lent, &key), at_1)?
+            && is_like(alloc, indexed.as_slice(), with_10)?
+            && is_like(alloc, seen_keys.as_slice(), keys)?
+            && store.depth() == *depth
+            && store.updates().len() == *updates,
+    )
 }
 
 #[test]
