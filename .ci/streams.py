@@ -28,6 +28,8 @@ CUT = 200
 ENDS = 12
 # After each of so many first frames of a stream a device fails.
 FAILING = 6
+# One program is started at a time: till it runs it has what this one has open, and a pipe that is closed here has a reader yet.
+STARTING = threading.Lock()
 
 
 class Stream:
@@ -82,17 +84,22 @@ def streams():
         yield Stream(name, outbox, asked, b"".join(frame((session, reply)) for session, _, reply in steps))
 
 
+def started(program, stream, stdin=subprocess.PIPE, stdout=subprocess.PIPE):
+    with STARTING:
+        return subprocess.Popen([program, *stream.words], stdin=stdin, stdout=stdout, stderr=subprocess.PIPE)
+
+
 def run(program, stream, given):
     """On an input that has these bytes at once."""
-    words = [program, *stream.words]
-    done = subprocess.run(words, input=given, stdout=subprocess.PIPE, stderr=subprocess.PIPE, timeout=SECONDS, check=False)
-    return done.returncode, done.stdout, done.stderr
+    child = started(program, stream)
+    told, err = child.communicate(given, timeout=SECONDS)
+    return child.returncode, told, err
 
 
 def pieces(program, stream, size):
     """Each read gets one piece: the pipe keeps what is written to it apart (O_DIRECT), and nothing flows together."""
     end, start = os.pipe2(os.O_DIRECT | os.O_CLOEXEC)
-    child = subprocess.Popen([program, *stream.words], stdin=end, stdout=subprocess.PIPE, stderr=subprocess.PIPE)
+    child = started(program, stream, stdin=end)
     os.close(end)
 
     def write():
@@ -121,7 +128,7 @@ def half(program, stream, count):
     """A program that was asked the first so many frames, over a socket, and what it answered; then both are open yet."""
     ours, its = socket.socketpair()
     end, start = os.pipe()
-    child = subprocess.Popen([program, *stream.words], stdin=its, stdout=start, stderr=subprocess.PIPE)
+    child = started(program, stream, stdin=its, stdout=start)
     os.close(start)
     ours.sendall(b"".join(stream.given[:count]))
     return child, ours, its, end, exactly(end, sum(map(len, stream.told[:count])))
@@ -130,7 +137,8 @@ def half(program, stream, count):
 def no_reader(program, stream, count):
     """The output is closed after so many replies: the next can't be written."""
     child, ours, its, end, told = half(program, stream, count)
-    os.close(end)
+    with STARTING:
+        os.close(end)
     try:
         ours.sendall(stream.given[count])
     except OSError:
