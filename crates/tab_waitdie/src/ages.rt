@@ -36,8 +36,11 @@ pub enum Retried {
 #[derive(Drop)]
 pub struct Ages {
     alloc: Global,
-    locks: LockTable,
-    queue: Vec<Waiting>,
+    pub(crate) locks: LockTable,
+    pub(crate) queue: Vec<Waiting>,
+    /// Who died, each with the lock that it died for, until it asks again. No answer depends on them, so contracts don't
+    /// show them.
+    pub(crate) resting: Vec<Waiting>,
 }
 
 impl Model for Ages {
@@ -63,6 +66,7 @@ impl Ages {
             alloc,
             locks: LockTable::new(alloc),
             queue: Vec::new(alloc),
+            resting: Vec::new(alloc),
         }
     }
 
@@ -82,11 +86,13 @@ impl Ages {
         ensures undo { IfOk result (λ a. a ≡ Granted → without_last age self.new.held ≡ self.old.held) }
         ensures err { OnErr result (self.new ≡ self.old) }
     {
+        self.end_rest(age);
         let answer = self.decide(age, &lock);
         match answer {
             Answer::Granted => self.locks.hold(age, lock)?,
             Answer::Wait => self.queue.push(Waiting { age, lock })?,
-            Answer::Die => drop(lock),
+            // Where memory is refused it does not rest.
+            Answer::Die => drop(self.resting.push(Waiting { age, lock })),
         }
         Ok(answer)
     }
@@ -152,8 +158,16 @@ impl Ages {
         drop_requests(&mut self.queue, age);
     }
 
-    /// Takes an owner's locks and its queued request away.
+    /// Takes an owner's locks and its queued request away, and ends its rest.
     pub fn forget(&mut self, owner: u64)
+        ensures { self.new ≡ forgotten self.old owner }
+    {
+        self.end_rest(owner);
+        self.give_up(owner);
+    }
+
+    /// Takes an owner's locks and its queued request away. It rests on.
+    pub fn give_up(&mut self, owner: u64)
         ensures { self.new ≡ forgotten self.old owner }
     {
         self.locks.release_all(owner);

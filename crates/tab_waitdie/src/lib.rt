@@ -6,6 +6,8 @@
 #![tactic(auto)]
 
 mod ages;
+mod resting;
 mod waiting;
 
 pub use ages::{Ages, Answer, Retried, no_chain_of_waits_leads_back};
+pub use resting::Rest;

@@ -3,7 +3,7 @@ use Rattle.tab_model.specs.Ages.{Ages, Rises}
 use Rattle.tab_model.proofs.WaitsHaveNoCycle.{forget_rises}
 use Rattle.tab_waitdie.specs.Queue.{ages_of}
 use Rattle.tab_waitdie.specs.Decisions.{ages}
-use Rattle.tab_waitdie.proofs.ages.Ages.forget.Goals as goal
+use Rattle.tab_waitdie.proofs.ages.Ages.give_up.Goals as goal
 
 pub invariant_of-self : goal.invariant_of-self
 invariant_of-self c =
