@@ -5,7 +5,7 @@
 
 #![tactic(auto)]
 
-ghost use Rattle.std.specs.Prelude.{◌≡◌, ◌≤◌, ◌^◌, ◌-◌, ◌&&◌, IfOk, IsOk, OnErr, Some, true, is_some, length, min, nat_lt, option_map};
+ghost use Rattle.std.specs.Prelude.{◌≡◌, ◌≤◌, ◌^◌, ◌-◌, ◌&&◌, [], IfOk, IsOk, OnErr, Some, true, false, is_some, length, min, nat_lt, option_map};
 ghost use Rattle.tab_model.specs.declared.data.Command.TheVariants as command;
 ghost use Rattle.tab_model.specs.Events.{change_all, surviving};
 ghost use Rattle.tab_model.specs.Outcome.{DoCommand};
@@ -21,16 +21,20 @@ mod machine;
 mod operating;
 mod queue;
 mod redefining;
+mod resting;
 mod seat;
 mod sessions;
 mod step;
 
 use crate::machine::Machine;
+pub use crate::machine::SESSIONS;
+use arrayvec::ArrayVec;
 pub use ending::Ending;
 use std::alloc::{AllocError, Global};
 use std::marker::Model;
 pub use step::{Step, Stepped};
 use tab_model::Limits;
+pub use tab_waitdie::Rest;
 use tab_world::World;
 
 /// The sessions' transactions and locks, and the tables.
@@ -123,6 +127,23 @@ impl Manager {
         ensures { result ≡ is_waiting self.now session }
     {
         self.machine.waits(session)
+    }
+
+    /// How the session's rest stands: whether it was restarted for a lock that is not free yet.
+    pub fn rest(&self, session: u32) -> Rest {
+        self.machine.rest(session)
+    }
+
+    /// The sessions that wait and would be granted their lock now, or rest and may go on.
+    pub fn ready(&self) -> ArrayVec<u32, SESSIONS> {
+        self.machine.ready()
+    }
+
+    /// Whether some session waits or rests.
+    pub fn has_waiters(&self) -> bool
+        ensures { result ≡ false → self.now.queue ≡ [] }
+    {
+        self.machine.has_waiters()
     }
 
     /// The greatest number that has joined.

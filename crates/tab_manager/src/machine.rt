@@ -20,7 +20,7 @@ use tab_waitdie::Ages;
 use tab_world::World;
 
 /// How many sessions are joined at most. Their seats are searched one after another.
-pub(crate) const SESSIONS: usize = 64;
+pub const SESSIONS: usize = 64;
 
 /// The tables, the sessions with their transactions in the order of joining, who holds locks and who waits.
 pub(crate) struct Machine {

@@ -176,13 +176,13 @@ pub(crate) fn end_if(over: bool, seat: &mut Seat, ages: &mut Ages)
     }
 }
 
-/// A younger transaction gives way: its operations and locks are gone, its age stays.
+/// A younger transaction gives way: its operations and locks are gone; its age stays, and it rests for the lock.
 fn restart(seat: &mut Seat, ages: &mut Ages)
     ensures seat { seat.new ≡ emptied seat.old }
     ensures ages { ages.new ≡ forgotten_if ages.old seat.old.transaction }
 {
     if let Some(transaction) = &mut seat.transaction {
         transaction.store.clear();
-        ages.forget(transaction.age);
+        ages.give_up(transaction.age);
     }
 }
