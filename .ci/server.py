@@ -294,15 +294,16 @@ def fault(program, name, count, words, case):
         server.wait()
 
 
-def main():
+def main(cases, usage):
     if len(sys.argv) != 2:
-        sys.exit(__doc__)
+        sys.exit(usage)
     program = os.path.abspath(sys.argv[1])
-    faults = [found for case in CASES if (found := fault(program, *case))]
+    faults = [found for case in cases if (found := fault(program, *case))]
     for line in faults:
         print(line)
-    print(f"{len(CASES) - len(faults)} passed, {len(faults)} failed")
+    print(f"{len(cases) - len(faults)} passed, {len(faults)} failed")
     sys.exit(1 if faults else 0)
 
 
-main()
+if __name__ == "__main__":
+    main(CASES, __doc__)

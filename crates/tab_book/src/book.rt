@@ -8,12 +8,13 @@ ghost use Rattle.tab_book.specs.Running.{IsRunning};
 ghost use Rattle.tab_book.specs.Steps.{Joins, Refuses, has_room as has_room_of, with_seat, KeepsPosts};
 
 use crate::step::JoinFault;
+use arrayvec::ArrayVec;
 use std::alloc::{AllocError, Global};
 use std::marker::Model;
-use tab_core::{Core, Step};
+use tab_core::{Core, Rest, SESSIONS, Step};
 use tab_journal::Journal;
 use tab_model::Limits;
-use tab_named::{SeatInbox, SeatPost, enter};
+use tab_named::{NewMailbox, SeatInbox, SeatPost};
 use tab_names::{Front, House, Opened, Register};
 use tab_post::Line;
 use tab_world::World;
@@ -97,8 +98,8 @@ impl<H: House> Book<H> {
             .audit(self.alloc, self.journal.base(), self.core.tables())
     }
 
-    /// A session joins, with a mailbox of its own, whose receiving end is given out.
-    pub fn join(&mut self) -> Result<(u32, SeatInbox<H>), JoinFault>
+    /// A session joins with this mailbox, whose receiving end is given out.
+    pub fn join(&mut self, mailbox: NewMailbox<H>) -> Result<(u32, SeatInbox<H>), JoinFault>
         ensures ok { IfOk result (λ r. Joins self.old r.0 (mailbox_of r.1) (received r.1) self.new) }
         ensures err { IfErr result (λ e. Refuses self.old e self.new) }
         ensures posts { KeepsPosts self.old.state self.new.state }
@@ -107,15 +108,7 @@ impl<H: House> Book<H> {
             return Err(JoinFault::Limit);
         }
         let session = self.core.greatest() + 1;
-        let Ok((post, inbox)) = enter(
-            &self.register,
-            &mut self.front,
-            self.house,
-            self.alloc,
-            self.outbox,
-        ) else {
-            return Err(JoinFault::NoMemory);
-        };
+        let (post, inbox) = mailbox.enter(&self.register, &mut self.front, self.house);
         match self.seat(session, post) {
             Ok(()) => Ok((session, inbox)),
             Err(_) => Err(JoinFault::NoMemory),
@@ -135,14 +128,23 @@ impl<H: House> Book<H> {
         Ok(())
     }
 
-    /// Whether the session has a transaction open.
-    pub(crate) fn is_open(&self, session: u32) -> bool {
-        self.core.levels(session) > 0
+    /// How many items a mailbox has room for.
+    pub(crate) fn outbox(&self) -> usize
+        ensures { 1 ≤ result }
+    {
+        // Known of the book from here on is what its parts have to do with each other.
+        let _ = &self.core;
+        self.outbox
     }
 
-    /// Whether the session waits for a lock.
-    pub(crate) fn waits(&self, session: u32) -> bool {
-        self.core.waits(session)
+    /// How the session's rest stands.
+    pub(crate) fn rest(&self, session: u32) -> Rest {
+        self.core.rest(session)
+    }
+
+    /// The sessions that wait and would be granted their lock now, or rest and may go on.
+    pub(crate) fn ready(&self) -> ArrayVec<u32, SESSIONS> {
+        self.core.ready()
     }
 
     fn has_room(&self) -> bool

@@ -5,12 +5,16 @@
 
 #![tactic(auto)]
 
+mod bells;
 mod book;
+mod held;
 mod inboxes;
 mod shared;
 mod step;
 mod steps;
 
 pub use book::Book;
+pub use held::Held;
 pub use shared::{Seat, Shared};
-pub use step::{Drained, JoinFault, Step};
+pub use step::{Answered, Drained, JoinFault, Step};
+pub use tab_core::Rest;

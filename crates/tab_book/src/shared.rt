@@ -1,18 +1,22 @@
 //! A book that threads share.
 
-ghost use Rattle.std.specs.Prelude.{◌≡◌, ◌≢◌, true, IfOk, IsOk};
+ghost use Rattle.std.specs.Prelude.{◌≡◌, ◌≢◌, ◌≤◌, true, IfOk, IfSome, IsOk};
 ghost use Rattle.tab_model.specs.declared.data.Reply.TheVariants as reply;
 ghost use Rattle.tab_model.specs.Outcome.{is_abort};
 ghost use Rattle.tab_named.specs.Ends.{received};
 ghost use Rattle.tab_book.specs.Inboxes.{TakesIt};
 ghost use Rattle.tab_book.specs.Steps.{is_never_refused};
 
+use crate::bells::Bells;
 use crate::book::Book;
 use crate::step::{Drained, JoinFault, Step};
-use std::alloc::AllocError;
-use std::sync::{Condvar, Mutex};
+use std::alloc::{AllocError, Global};
+use std::sync::{Mutex, MutexGuard};
+use std::thread;
+use std::time::Duration;
+use tab_core::Rest;
 use tab_model::{Command, Reply, Told};
-use tab_named::SeatInbox;
+use tab_named::{NewMailbox, SeatInbox};
 use tab_names::House;
 
 /// Names a session of a book that is shared.
@@ -27,97 +31,178 @@ impl Seat {
     }
 }
 
-/// A book under a lock. Who locks it and makes a step that releases locks or drops a queued request has to wake all that
-/// wait on `changed`; the calls here do.
+/// So often the lock is tried before it is waited for. Who waits for it has to be woken, and each release is a switch of
+/// threads then.
+const TRIES: u32 = 128;
+
+/// So long who rests, or begins to wait, sleeps at a time if it is not woken; and so long who waits on.
+const NAP: Duration = Duration::from_millis(20);
+const SLEEP: Duration = Duration::from_secs(1);
+
+/// A book under a lock, and where its sessions sleep. Who locks it and makes steps gives it back by `let_go`, so that those are
+/// woken that may go on; the calls here do.
 #[derive(Drop)]
 pub struct Shared<H: House> {
     pub book: Mutex<Book<H>>,
-    pub changed: Condvar,
+    bells: Bells,
+    alloc: Global,
+    outbox: usize,
+    ghost room: { 1 ≤ outbox },
 }
 
 impl<H: House> Shared<H> {
     pub fn new(book: Book<H>) -> Shared<H> {
+        let alloc = book.alloc;
+        let outbox = book.outbox();
         Shared {
             book: Mutex::new(book),
-            changed: Condvar::new(),
+            bells: Bells::new(),
+            alloc,
+            outbox,
         }
     }
 
-    /// A session joins, with a mailbox of its own, whose receiving end is given out.
+    /// The book, alone. It looks for a while before it sleeps.
+    pub fn hold(&self, house: &H) -> MutexGuard<'_, Book<H>> {
+        for _ in 0..TRIES {
+            if let Some(book) = self.book.try_lock() {
+                return book;
+            }
+            thread::yield_now();
+        }
+        self.book.lock(house)
+    }
+
+    /// The book is held no more. Where a step released something, those are woken that may go on since.
+    pub fn let_go(&self, book: MutexGuard<'_, Book<H>>, releases: bool) {
+        if !releases {
+            return;
+        }
+        let ready = book.ready();
+        drop(book);
+        self.bells.ring(&ready);
+    }
+
+    /// A session joins, with a mailbox of its own, whose receiving end is given out. The mailbox is made before the book is
+    /// held, since it has room for all that it may hold.
     pub fn join(&self, house: &H) -> Result<(Seat, SeatInbox<H>), JoinFault> {
-        let (session, inbox) = self.book.lock(house).join()?;
+        let Ok(mailbox) = NewMailbox::new(*house, self.alloc, self.outbox) else {
+            return Err(JoinFault::NoMemory);
+        };
+        let (session, inbox) = self.hold(house).join(mailbox)?;
         Ok((Seat { session }, inbox))
     }
 
     /// A command of the session. Where it has to wait for a lock it waits, and asks again after each release, until it is
     /// told otherwise. Where memory is refused while it asks again, the request stays queued, and an abort ends it.
     pub fn call(&self, house: &H, seat: &Seat, command: Command) -> Result<Told, AllocError> {
-        let mut book = self.book.lock(house);
-        let mut told = self.make(&mut book, seat, Step::Do(command))?;
-        for _ in house.forever() {
-            if !matches!(told.reply(), Reply::Waiting) {
-                return Ok(told);
-            }
-            book = self.changed.wait(house, book);
-            told = self.make(&mut book, seat, Step::Retry)?;
+        let told = self.step(house, seat, command)?;
+        if matches!(told.reply(), Reply::Waiting) {
+            return self.retry(house, seat);
         }
-        unreachable!()
+        Ok(told)
     }
 
     /// A command of the session, once: it is told `Waiting` where it has to wait for a lock.
     pub fn step(&self, house: &H, seat: &Seat, command: Command) -> Result<Told, AllocError>
         ensures { is_abort command ≡ true → IsOk result }
     {
-        self.make(&mut self.book.lock(house), seat, Step::Do(command))
+        self.make(house, seat, Step::Do(command))
     }
 
-    /// Waits for a release, and asks again for the lock that the session waits for, until it is told otherwise.
+    /// Asks for the lock that the session waits for, after each release once more, until it is told otherwise.
     pub fn retry(&self, house: &H, seat: &Seat) -> Result<Told, AllocError>
         ensures { IfOk result (λ r. r ≢ reply.Waiting) }
     {
-        let mut book = self.book.lock(house);
         for _ in house.forever() {
-            let told = self.make(&mut book, seat, Step::Retry)?;
-            if !matches!(told.reply(), Reply::Waiting) {
+            if let Some(told) = self.retry_once(house, seat, SLEEP)? {
                 return Ok(told);
             }
-            book = self.changed.wait(house, book);
         }
         unreachable!()
+    }
+
+    /// Asks for the lock that the session waits for, and once more where it is woken or has slept for a nap, so many naps
+    /// long. None where it still has to wait.
+    pub fn retry_for(&self, house: &H, seat: &Seat, naps: u32) -> Result<Option<Told>, AllocError>
+        ensures { IfOk result (λ told. IfSome told (λ r. r ≢ reply.Waiting)) }
+    {
+        for _ in 0..naps {
+            if let Some(told) = self.retry_once(house, seat, NAP)? {
+                return Ok(Some(told));
+            }
+        }
+        Ok(None)
+    }
+
+    /// Asks for the lock that the session waits for. Where it still has to wait, it sleeps until it is woken, at most so
+    /// long.
+    fn retry_once(
+        &self,
+        house: &H,
+        seat: &Seat,
+        at_most: Duration,
+    ) -> Result<Option<Told>, AllocError>
+        ensures { IfOk result (λ told. IfSome told (λ r. r ≢ reply.Waiting)) }
+    {
+        let bell = self.bells.of(seat.session);
+        let seen = bell.notifications();
+        let told = self.make(house, seat, Step::Retry)?;
+        if !matches!(told.reply(), Reply::Waiting) {
+            return Ok(Some(told));
+        }
+        bell.sleep(house, seen, at_most);
+        Ok(None)
+    }
+
+    /// Who was restarted rests until its lock is free and it is the oldest that rests for it, so many naps long. It makes
+    /// way for an older one for one nap in which the lock was free, and no longer: that one may have gone to sleep.
+    /// False where it had better rest on.
+    pub fn rest(&self, house: &H, seat: &Seat, naps: u32) -> bool {
+        let bell = self.bells.of(seat.session);
+        let mut behind = false;
+        for _ in 0..naps {
+            let seen = bell.notifications();
+            match self.rest_of(house, seat) {
+                Rest::Over | Rest::Free => return true,
+                Rest::Behind if behind => return true,
+                Rest::Behind => behind = true,
+                Rest::Held => behind = false,
+            }
+            bell.sleep(house, seen, NAP);
+            behind = behind && bell.notifications() == seen;
+        }
+        matches!(self.rest_of(house, seat), Rest::Over | Rest::Free)
+    }
+
+    fn rest_of(&self, house: &H, seat: &Seat) -> Rest {
+        self.hold(house).rest(seat.session)
     }
 
     /// Takes one item more at the session's inbox, or shows that all is taken, under one hold of the lock.
     pub fn drained(&self, house: &H, seat: &Seat, inbox: &mut SeatInbox<H>) -> Drained
         ensures { TakesIt (received inbox.old) result (received inbox.new) }
     {
-        self.book.lock(house).drained(seat.session, inbox)
+        self.hold(house).drained(seat.session, inbox)
     }
 
     /// The session's transaction ends, and its post is dropped.
     pub fn leave(&self, house: &H, seat: &Seat) {
-        let left = self.make(&mut self.book.lock(house), seat, Step::Leave);
-        drop(left);
+        drop(self.make(house, seat, Step::Leave));
     }
 
     /// Whether the journal replays from its base to the tables. The lock is held while it is run.
     pub fn audit(&self, house: &H) -> Result<bool, AllocError> {
-        self.book.lock(house).audit()
+        self.hold(house).audit()
     }
 
-    /// A step, after which all that wait are woken where it released locks or dropped a queued request.
-    fn make(&self, book: &mut Book<H>, seat: &Seat, step: Step) -> Result<Told, AllocError>
+    /// A step, after which those are woken that may go on since.
+    fn make(&self, house: &H, seat: &Seat, step: Step) -> Result<Told, AllocError>
         ensures { is_never_refused step ≡ true → IsOk result }
     {
-        let retries = matches!(step, Step::Retry);
-        let was_open = book.is_open(seat.session);
-        let waited = book.waits(seat.session);
-        let told = book.step(seat.session, step)?;
-        let ended = was_open && !book.is_open(seat.session);
-        // A retry that is answered holds the lock from then on, so it makes way for no one.
-        let dropped = waited && !retries && !book.waits(seat.session);
-        if ended || dropped || matches!(told.reply(), Reply::Restart) {
-            self.changed.notify_all();
-        }
-        Ok(told)
+        let mut book = self.hold(house);
+        let answered = book.step(seat.session, step)?;
+        self.let_go(book, answered.releases);
+        Ok(answered.told)
     }
 }

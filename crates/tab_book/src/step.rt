@@ -1,6 +1,6 @@
 //! What a session asks of a book, and what it is given.
 
-use tab_model::Command;
+use tab_model::{Command, Told};
 use tab_outbox::Item;
 
 /// What a session asks.
@@ -12,6 +12,14 @@ pub enum Step {
     Do(Command),
     /// Asks again for the lock that the session waits for.
     Retry,
+}
+
+/// What a step was told, and whether it let go of locks or of a queued request while someone waits or rests, so that others
+/// may go on.
+#[derive(Drop)]
+pub struct Answered {
+    pub told: Told,
+    pub releases: bool,
 }
 
 /// Why a session can't join: as many are joined as may be, or the numbers are used up; or memory was refused.

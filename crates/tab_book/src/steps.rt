@@ -8,18 +8,38 @@ ghost use Rattle.tab_core.specs.Runs.{takes_no_memory, ask_of as core_ask_of};
 ghost use Rattle.tab_book.specs.Steps.{ask_of, is_full, leaves as leaves_of, folded, oldest_joined as oldest_joined_of, with_entries, StepsFrom, StepsTo, MayFold, KeepsPosts};
 
 use crate::book::Book;
-use crate::step::Step;
+use crate::step::{Answered, Step};
 use std::alloc::AllocError;
 use tab_core::{Step as CoreStep, Stepped};
 use tab_journal::Journal;
-use tab_model::{Command, Entry, Told};
+use tab_model::{Command, Entry, Reply, Told};
 use tab_names::House;
+
+/// What a session holds others up by: a transaction that is open, and a request that is queued.
+#[derive(Clone, Copy)]
+struct Standing {
+    open: bool,
+    waits: bool,
+}
 
 impl<H: House> Book<H> {
     /// One step of a session, with its entry put into the journal. Where the journal is full and the step may give an entry
     /// the oldest is folded into the base first, which takes memory; where that is refused, or the step's, nothing else
     /// changed.
-    pub fn step(&mut self, session: u32, step: Step) -> Result<Told, AllocError>
+    pub fn step(&mut self, session: u32, step: Step) -> Result<Answered, AllocError>
+        ensures done { IfOk result (λ r. StepsTo self.old session (ask_of step) r.told self.new) }
+        ensures free { takes_no_memory self.old.state session (ask_of step) ≡ true → (is_full self.old.journal && may_enter_of self.old.state session (ask_of step)) ≡ false → IsOk result }
+        ensures err { OnErr result (MayFold self.old session (ask_of step) self.new) }
+        ensures posts { KeepsPosts self.old.state self.new.state }
+    {
+        let before = self.standing(session);
+        let retries = matches!(step, Step::Retry);
+        let told = self.told(session, step)?;
+        let releases = self.lets_go(session, before, retries, told.reply());
+        Ok(Answered { told, releases })
+    }
+
+    fn told(&mut self, session: u32, step: Step) -> Result<Told, AllocError>
         ensures done { IfOk result (λ r. StepsTo self.old session (ask_of step) r self.new) }
         ensures free { takes_no_memory self.old.state session (ask_of step) ≡ true → (is_full self.old.journal && may_enter_of self.old.state session (ask_of step)) ≡ false → IsOk result }
         ensures err { OnErr result (MayFold self.old session (ask_of step) self.new) }
@@ -29,6 +49,34 @@ impl<H: House> Book<H> {
             self.fold()?;
         }
         self.make(session, step)
+    }
+
+    /// None where no one waits or rests, so that nothing that is let go of matters to others.
+    fn standing(&self, session: u32) -> Option<Standing> {
+        if !self.core.has_waiters() {
+            return None;
+        }
+        Some(Standing {
+            open: self.core.levels(session) > 0,
+            waits: self.core.waits(session),
+        })
+    }
+
+    /// Whether a step after which the session was told so may let others go on: its transaction ended or was restarted, or
+    /// its queued request was dropped. A retry that is answered holds the lock from then on, so it makes way for no one.
+    fn lets_go(
+        &self,
+        session: u32,
+        before: Option<Standing>,
+        retries: bool,
+        reply: &Reply,
+    ) -> bool {
+        let Some(before) = before else {
+            return false;
+        };
+        let ended = before.open && self.core.levels(session) == 0;
+        let dropped = before.waits && !retries && !self.core.waits(session);
+        ended || dropped || matches!(reply, Reply::Restart)
     }
 
     fn make(&mut self, session: u32, step: Step) -> Result<Told, AllocError>

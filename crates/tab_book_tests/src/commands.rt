@@ -31,6 +31,10 @@ pub fn write(alloc: Global, value: i128) -> Result<Command, AllocError> {
     Ok(Command::Do(Operation::Write(record)))
 }
 
+pub fn read(alloc: Global) -> Result<Command, AllocError> {
+    Ok(Command::Do(Operation::Read(name(alloc)?, Term::Int(1))))
+}
+
 pub fn read_for_write(alloc: Global) -> Result<Command, AllocError> {
     Ok(Command::Do(Operation::ReadForWrite(name(alloc)?, Term::Int(1))))
 }

@@ -10,3 +10,5 @@ mod counters;
 mod mailboxes;
 #[cfg(test)]
 mod overflow;
+#[cfg(test)]
+mod waking;

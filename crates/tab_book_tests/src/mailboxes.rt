@@ -8,7 +8,7 @@ use std::process::Abort;
 use std::sync::Wait;
 use std::test::*;
 use std::thread::{Threads, join};
-use tab_named::{SeatInbox, SeatPost, enter};
+use tab_named::{NewMailbox, SeatInbox, SeatPost};
 use tab_names::{House, Naming, Opened};
 use tab_outbox::{Item, Mailbox, Met, Post, Refused};
 use tab_post::Line;
@@ -132,8 +132,8 @@ fn make_calls<H: House>(
     requires { opened ≡ H.book }
 {
     let (register, mut front) = opened.named::<H>();
-    let (mut post, mut inbox) = enter(&register, &mut front, rt, alloc, 2)?;
-    let (mut other, mut others) = enter(&register, &mut front, rt, alloc, 2)?;
+    let (mut post, mut inbox) = NewMailbox::new(rt, alloc, 2)?.enter(&register, &mut front, rt);
+    let (mut other, mut others) = NewMailbox::new(rt, alloc, 2)?.enter(&register, &mut front, rt);
     for (line, (of_post, of_inbox, call)) in CALLS.iter().enumerate() {
         let post = if *of_post == 0 { &mut post } else { &mut other };
         let inbox = if *of_inbox == 0 {
@@ -203,7 +203,7 @@ fn exchange<H: House + Threads + Abort + Send + Sync>(
     requires { opened ≡ H.book }
 {
     let (register, mut front) = opened.named::<H>();
-    let (post, inbox) = enter(&register, &mut front, rt, alloc, 4)?;
+    let (post, inbox) = NewMailbox::new(rt, alloc, 4)?.enter(&register, &mut front, rt);
     let (mut post, mut inbox) = join(
         &rt,
         move || put_all(rt, alloc, post),

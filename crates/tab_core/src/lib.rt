@@ -23,7 +23,7 @@ mod subscribing;
 use std::alloc::{AllocError, Global};
 use std::marker::Model;
 pub use step::Step;
-pub use tab_manager::Stepped;
+pub use tab_manager::{Rest, SESSIONS, Stepped};
 use tab_manager::{Manager, Step as Quiet};
 use tab_model::{Command, Limits, Reply, Told};
 use tab_outbox::Post;

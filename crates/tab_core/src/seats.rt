@@ -1,11 +1,13 @@
 //! What a core's sessions are, as its caller sees them.
 
-ghost use Rattle.std.specs.Prelude.{◌≡◌, ◌^◌, ◌-◌, ◌&&◌, length, min, nat_lt, option_map};
+ghost use Rattle.std.specs.Prelude.{◌≡◌, ◌^◌, ◌-◌, ◌&&◌, [], false, length, min, nat_lt, option_map};
 ghost use Rattle.tab_model.specs.Standing.{is_joined, levels_of};
 ghost use Rattle.tab_model.specs.State.{is_waiting, seat_at};
 ghost use Rattle.tab_outbox.specs.Mailboxes.{Meets};
 
 use crate::Core;
+use arrayvec::ArrayVec;
+use tab_manager::{Rest, SESSIONS};
 use tab_outbox::{Mailbox, Met, Post};
 
 impl<P: Post + Drop> Core<P> {
@@ -21,6 +23,23 @@ impl<P: Post + Drop> Core<P> {
         ensures { result ≡ is_waiting self.now session }
     {
         self.manager.waits(session)
+    }
+
+    /// How the session's rest stands: whether it was restarted for a lock that is not free yet.
+    pub fn rest(&self, session: u32) -> Rest {
+        self.manager.rest(session)
+    }
+
+    /// The sessions that wait and would be granted their lock now, or rest and may go on.
+    pub fn ready(&self) -> ArrayVec<u32, SESSIONS> {
+        self.manager.ready()
+    }
+
+    /// Whether some session waits or rests.
+    pub fn has_waiters(&self) -> bool
+        ensures { result ≡ false → self.now.queue ≡ [] }
+    {
+        self.manager.has_waiters()
     }
 
     /// Whether the session's number and the limit of sessions let it join.

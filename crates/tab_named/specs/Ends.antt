@@ -5,6 +5,7 @@ use Rattle.tab_model.specs.State.{Outbox}
 use Rattle.tab_names.specs.declared.naming.Naming.{Ghosts}
 use Rattle.tab_post.specs.Ends.{sent_by, taken_by}
 use Rattle.tab_post.specs.Ends as ends
+use Rattle.tab_named.specs.declared.ends.NewMailbox.{NewMailbox}
 use Rattle.tab_named.specs.declared.post.SeatPost.{SeatPost}
 use Rattle.tab_named.specs.declared.inbox.SeatInbox.{SeatInbox}
 
@@ -27,6 +28,10 @@ module _ {H : Type 0} {N : Ghosts H} where
 
   abbrev pub capacity_of : SeatPost H N → ℕ
   capacity_of p = ends.capacity_of p.post
+
+  -- how many items a new mailbox holds at most
+  abbrev pub room_of : NewMailbox H N → ℕ
+  room_of m = ends.capacity_of m.post
 
   -- it shows what its channel's post does, all that was ever sent among it, and which mailbox it is of
   abbrev pub as_outbox : SeatPost H N → Outbox

@@ -9,6 +9,6 @@ mod ends;
 mod inbox;
 mod post;
 
-pub use ends::enter;
+pub use ends::NewMailbox;
 pub use inbox::SeatInbox;
 pub use post::SeatPost;

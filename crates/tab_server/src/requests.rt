@@ -6,7 +6,7 @@ use crate::seated::Seated;
 use crate::watch::Watch;
 use std::alloc::Global;
 use std::io::Write;
-use tab_book::{Seat, Shared};
+use tab_book::{Held, Seat, Shared};
 use tab_etf::{EtfFault, Frame, FrameFault, Source, Splitter, decode};
 use tab_model::{Command, Reply, Told};
 use tab_names::House;
@@ -110,33 +110,40 @@ impl<'a, H: House, W: Write, G: Gate> Served<'a, H, W, G> {
         }
     }
 
-    /// A one-shot is run by its driver; any other command is one step, whose answer it waits for.
     fn command(&mut self, command: Command) -> Told {
-        let alloc = self.alloc;
-        let mut seated = self.seated();
-        if matches!(command, Command::OneShot(..)) {
-            return one_shot(&mut seated, alloc, command);
-        }
-        let told = seated.step(command);
-        let waits = match &told {
-            Ok(told) => matches!(told.reply(), Reply::Waiting),
-            Err(_) => false,
-        };
-        let told = if waits {
-            seated.wait().unwrap_or(told)
-        } else {
-            told
-        };
-        told.unwrap_or_else(|_| Told::new(Reply::NoMemory))
-    }
-
-    fn seated(&mut self) -> Seated<'a, '_, H, W, G> {
-        Seated {
+        let mut seated = Seated {
+            alloc: self.alloc,
             house: self.house,
             shared: self.shared,
             seat: self.seat,
             watch: self.watch,
             answers: &mut self.answers,
-        }
+            held: Held::new(self.house, self.shared),
+        };
+        let told = answer(&mut seated, self.alloc, command);
+        seated.held.give_back();
+        told
     }
+}
+
+/// A one-shot is run by its driver; any other command is one step, whose answer it waits for. Who is told to restart
+/// rests first.
+fn answer<S: Steps>(steps: &mut S, alloc: Global, command: Command) -> Told {
+    if matches!(command, Command::OneShot(..)) {
+        return one_shot(steps, alloc, command);
+    }
+    let Ok(told) = steps.step(command) else {
+        return Told::new(Reply::NoMemory);
+    };
+    let told = match told.reply() {
+        Reply::Waiting => steps.wait().unwrap_or(Ok(told)),
+        _ => Ok(told),
+    };
+    let Ok(told) = told else {
+        return Told::new(Reply::NoMemory);
+    };
+    if matches!(told.reply(), Reply::Restart) {
+        steps.again();
+    }
+    told
 }

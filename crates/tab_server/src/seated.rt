@@ -3,21 +3,44 @@
 use crate::answers::Answers;
 use crate::gate::Gate;
 use crate::watch::Watch;
-use std::alloc::AllocError;
+use std::alloc::{AllocError, Global};
 use std::io::Write;
-use tab_book::{Seat, Shared};
-use tab_model::{Command, Told};
+use tab_book::{Held, Rest, Seat, Shared, Step};
+use tab_model::{Command, Parts, Told};
 use tab_names::House;
 use tab_oneshot::Steps;
 
-/// The seat of one connection. Before it waits for a lock, what was answered is written, and the stream is watched.
+/// So many naps of 20 milliseconds a restarted transaction rests at most. A client that drives two connections from one thread
+/// has to be told `restart` while the other's transaction is open.
+const NAPS: u32 = 5;
+
+/// The seat of one connection. It holds the book from a step on until it waits, rests or gives the book back. Before it waits
+/// or rests, what was answered is written, and where that takes longer than a nap the stream is watched.
 #[derive(Drop)]
 pub struct Seated<'a, 'b, H: House, W: Write, G: Gate> {
+    pub alloc: Global,
     pub house: &'a H,
     pub shared: &'a Shared<H>,
     pub seat: Seat,
     pub watch: &'a Watch,
     pub answers: &'b mut Answers<'a, W, G>,
+    pub held: Held<'a, H>,
+}
+
+impl<'a, 'b, H: House, W: Write, G: Gate> Seated<'a, 'b, H, W, G> {
+    /// Who was restarted rests until its lock is free. The stream is watched after the first nap.
+    fn rest(&mut self) {
+        if matches!(self.held.rest(&self.seat), Rest::Over | Rest::Free) {
+            return;
+        }
+        self.held.give_back();
+        if self.answers.write(self.house).is_err() || self.shared.rest(self.house, &self.seat, 1) {
+            return;
+        }
+        self.watch.begin(self.house);
+        let _over = self.shared.rest(self.house, &self.seat, NAPS - 1);
+        self.watch.end(self.house);
+    }
 }
 
 impl<'a, 'b, H: House, W: Write, G: Gate> Steps for Seated<'a, 'b, H, W, G> {
@@ -28,13 +51,20 @@ impl<'a, 'b, H: House, W: Write, G: Gate> Steps for Seated<'a, 'b, H, W, G> {
     ghost shows_on = { λ x y z first more a b. tt };
 
     fn step(&mut self, command: Command) -> Result<Told, AllocError> {
-        self.shared.step(self.house, &self.seat, command)
+        self.held
+            .step(&self.seat, Step::Do(level_of(self.alloc, command)))
     }
 
     /// None where no one is left to be answered.
     fn wait(&mut self) -> Option<Result<Told, AllocError>> {
+        self.held.give_back();
         if self.answers.write(self.house).is_err() {
             return None;
+        }
+        match self.shared.retry_for(self.house, &self.seat, 1) {
+            Ok(Some(told)) => return Some(Ok(told)),
+            Ok(None) => {}
+            Err(refused) => return Some(Err(refused)),
         }
         self.watch.begin(self.house);
         let told = self.shared.retry(self.house, &self.seat);
@@ -42,5 +72,19 @@ impl<'a, 'b, H: House, W: Write, G: Gate> Steps for Seated<'a, 'b, H, W, G> {
         Some(told)
     }
 
-    fn again(&mut self) {}
+    fn again(&mut self) {
+        self.rest();
+    }
+}
+
+/// Of a one-shot a book opens level 1 alone, so its copy of the parts is dropped before the book is held.
+fn level_of(alloc: Global, command: Command) -> Command {
+    match command {
+        Command::OneShot(parts, retries) => {
+            drop(parts);
+            let items = Vec::new(alloc);
+            Command::OneShot(Parts { items }, retries)
+        }
+        command => command,
+    }
 }

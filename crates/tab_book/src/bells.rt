@@ -1,0 +1,31 @@
+//! Where sessions sleep until they are woken.
+
+use std::array;
+use std::sync::Condvar;
+use tab_core::SESSIONS;
+
+/// A condition for each session, by its number. Two sessions may share one: who is woken looks again.
+#[derive(Drop)]
+pub(crate) struct Bells {
+    bells: [Condvar; SESSIONS],
+}
+
+impl Bells {
+    pub fn new() -> Bells {
+        Bells {
+            bells: array::from_fn(|_| Condvar::new()),
+        }
+    }
+
+    /// Where this session sleeps.
+    pub fn of(&self, session: u32) -> &Condvar {
+        &self.bells[session as usize % SESSIONS]
+    }
+
+    /// Wakes these sessions.
+    pub fn ring(&self, ready: &[u32]) {
+        for session in ready {
+            self.of(*session).notify_all();
+        }
+    }
+}

@@ -1,0 +1,90 @@
+//! Several steps of one session under one hold of the lock.
+
+ghost use Rattle.std.specs.Prelude.{◌≡◌, true, IsOk};
+ghost use Rattle.tab_book.specs.Steps.{is_never_refused};
+
+use crate::book::Book;
+use crate::shared::{Seat, Shared};
+use crate::step::Step;
+use std::alloc::AllocError;
+use std::sync::MutexGuard;
+use tab_core::Rest;
+use tab_model::{Reply, Told};
+use tab_names::House;
+
+/// So many steps, and so many records that they were told, are made under one hold.
+const STEPS: usize = 1_000;
+const RECORDS: usize = 1_000;
+
+/// A session's hold of a shared book, from a step on until it is given back. Steps under one hold stand together: no other
+/// session's step is between them. It gives itself back after a thousand steps or records, so that others are not kept long.
+#[derive(Drop)]
+pub struct Held<'a, H: House> {
+    house: &'a H,
+    shared: &'a Shared<H>,
+    book: Option<MutexGuard<'a, Book<H>>>,
+    steps: usize,
+    records: usize,
+    /// Whether one of the steps may let another session go on.
+    releases: bool,
+}
+
+impl<'a, H: House> Held<'a, H> {
+    /// Nothing is held yet.
+    pub fn new(house: &'a H, shared: &'a Shared<H>) -> Held<'a, H> {
+        Held {
+            house,
+            shared,
+            book: None,
+            steps: 0,
+            records: 0,
+            releases: false,
+        }
+    }
+
+    /// A step of the session; the book stays held.
+    pub fn step(&mut self, seat: &Seat, step: Step) -> Result<Told, AllocError>
+        ensures { is_never_refused step ≡ true → IsOk result }
+    {
+        if self.steps >= STEPS || self.records >= RECORDS {
+            self.give_back();
+        }
+        let mut book = match self.book.take() {
+            Some(book) => book,
+            None => self.shared.hold(self.house),
+        };
+        let answered = book.step(seat.session(), step);
+        self.book = Some(book);
+        let answered = answered?;
+        self.steps = self.steps.saturating_add(1);
+        self.records = self.records.saturating_add(records_of(answered.told.reply()));
+        self.releases |= answered.releases;
+        Ok(answered.told)
+    }
+
+    /// How the session's rest stands.
+    pub fn rest(&self, seat: &Seat) -> Rest {
+        match &self.book {
+            Some(book) => book.rest(seat.session()),
+            None => self.shared.hold(self.house).rest(seat.session()),
+        }
+    }
+
+    /// The book is held no more, and those are woken that may go on since.
+    pub fn give_back(&mut self) {
+        self.steps = 0;
+        self.records = 0;
+        let releases = self.releases;
+        self.releases = false;
+        if let Some(book) = self.book.take() {
+            self.shared.let_go(book, releases);
+        }
+    }
+}
+
+fn records_of(reply: &Reply) -> usize {
+    match reply {
+        Reply::Found(records) => records.as_slice().len(),
+        _ => 0,
+    }
+}

@@ -1,0 +1,111 @@
+//! Who waits behind a request that goes with its level: the step that drops it says so, and so wakes who waits.
+
+ghost use Rattle.std.specs.Prelude.{◌≡◌};
+
+use crate::commands::{LIMITS, create, read, write};
+use std::alloc::{AllocError, Global};
+use std::marker::{Brand, PhantomData};
+use std::sync::Wait;
+use std::test::*;
+use tab_book::{Book, Seat, Shared, Step};
+use tab_model::{Command, Reply};
+use tab_names::{House, Naming, Opened};
+use tab_post::Line;
+use tab_term::Term;
+
+/// What a session asks.
+#[derive(Clone, Copy)]
+enum Ask {
+    Begin,
+    Read,
+    Write,
+    Abort,
+    Retry,
+}
+
+/// Each step with its session, by age, whether it has to wait, and whether others may go on since. The second writes in a child
+/// what the third has read; the first waits behind the second alone.
+static STEPS: [(usize, Ask, bool, bool); 10] = [
+    (0, Ask::Begin, false, false),
+    (1, Ask::Begin, false, false),
+    (2, Ask::Begin, false, false),
+    (2, Ask::Read, false, false),
+    (1, Ask::Begin, false, false),
+    (1, Ask::Write, true, false),
+    (0, Ask::Read, true, false),
+    (0, Ask::Retry, true, false),
+    (1, Ask::Abort, false, true),
+    (0, Ask::Retry, false, false),
+];
+
+fn step_of(alloc: Global, ask: Ask) -> Result<Step, AllocError> {
+    Ok(match ask {
+        Ask::Begin => Step::Do(Command::Begin),
+        Ask::Read => Step::Do(read(alloc)?),
+        Ask::Write => Step::Do(write(alloc, 1)?),
+        Ask::Abort => Step::Do(Command::Abort(Term::Int(0))),
+        Ask::Retry => Step::Retry,
+    })
+}
+
+fn is_waiting(reply: &Reply) -> bool {
+    match reply {
+        Reply::Waiting => true,
+        _ => false,
+    }
+}
+
+/// Whether the step has to wait, and whether others may go on since.
+fn stepped<H: House>(
+    house: &H,
+    alloc: Global,
+    shared: &Shared<H>,
+    seat: &Seat,
+    ask: Ask,
+) -> Result<(bool, bool), AllocError> {
+    let step = step_of(alloc, ask)?;
+    let mut book = shared.hold(house);
+    let answered = book.step(seat.session(), step)?;
+    shared.let_go(book, answered.releases);
+    Ok((is_waiting(answered.told.reply()), answered.releases))
+}
+
+/// The first step that differs.
+fn make_steps<H: House>(
+    house: H,
+    alloc: Global,
+    opened: Opened<Line>,
+) -> Result<Option<usize>, Fail>
+    requires { opened ≡ H.book }
+{
+    let shared = Shared::new(Book::new(house, alloc, opened, LIMITS, 64)?);
+    let (first, _inbox) = shared.join(&house).map_err(|_| "join")?;
+    let (second, _inbox) = shared.join(&house).map_err(|_| "join")?;
+    let (third, _inbox) = shared.join(&house).map_err(|_| "join")?;
+    let seats = [first, second, third];
+    shared.call(&house, &first, create(alloc)?)?;
+    for (line, (of, ask, waits, releases)) in STEPS.iter().enumerate() {
+        let seat = *seats.get(*of).ok_or("no seat")?;
+        if stepped(&house, alloc, &shared, &seat, *ask)? != (*waits, *releases) {
+            return Ok(Some(line));
+        }
+    }
+    Ok(None)
+}
+
+fn make_named_steps<J: Naming, R: Wait + Copy>(
+    rt: R,
+    alloc: Global,
+    opened: Opened<Line>,
+) -> Result<Option<usize>, Fail>
+    requires { opened ≡ J.book }
+{
+    make_steps((rt, PhantomData::<J>), alloc, opened)
+}
+
+#[test]
+fn a_dropped_request_lets_others_go_on(rt: HostRuntime) -> Result<(), Fail> {
+    let differs = make_named_steps::<Brand, _>(rt, rt.alloc(), Opened::new())?;
+    assert!(rt; differs == None, "a step");
+    Ok(())
+}
