@@ -50,7 +50,7 @@ def resting(holder, *others):
     script((holder, WREAD, [("t", 1, 0)]))
     for number, other in enumerate(others, 2):
         script((other, write(number, 0), OK))
-        other.send(READ)
+        other.send(WREAD)
     time.sleep(0.02)
 
 
@@ -97,7 +97,7 @@ def no_overtaking(first, second, third):
     first.send(("write_lock_table", "t"))
     waits(first)
     script((third, ("read", "t", 2), "restart"), (second, "commit", ("atomic", 1)))
-    same("the first", first.receive(), ("reply", "nonode@nohost"))
+    same("the first", first.receive(), ("reply", OK))
     script((first, ("abort", "no"), ("aborted", "no")), (third, ("read", "t", 2), []))
 
 

@@ -269,5 +269,5 @@ module _ (H : RattleType) (names : naming.Ghosts H.Denot) (rooms : house.Ghosts 
   pub Book-send : IsSend H → IsSend (book.the_row H names rooms waits clones)
   Book-send h = search (parts, core-send, SeatPost-send, journal-send, register_marks.the_send, front_marks.the_send) depth 30
 
-  pub Shared-sync : IsSend H → IsSync (shared.the_row H rooms names waits clones)
+  pub Shared-sync : IsSend H → IsSync (shared.the_row H names rooms waits clones)
   Shared-sync h = search (parts, crosses, Book-send) depth 30

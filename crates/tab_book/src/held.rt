@@ -14,6 +14,7 @@ use tab_names::House;
 
 /// So many steps, and so many records that they were told, are made under one hold.
 const STEPS: usize = 1_000;
+
 const RECORDS: usize = 1_000;
 
 /// A session's hold of a shared book, from a step on until it is given back. Steps under one hold stand together: no other
@@ -57,7 +58,9 @@ impl<'a, H: House> Held<'a, H> {
         self.book = Some(book);
         let answered = answered?;
         self.steps = self.steps.saturating_add(1);
-        self.records = self.records.saturating_add(records_of(answered.told.reply()));
+        self.records = self
+            .records
+            .saturating_add(records_of(answered.told.reply()));
         self.releases |= answered.releases;
         Ok(answered.told)
     }

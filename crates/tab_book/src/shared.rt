@@ -35,9 +35,10 @@ impl Seat {
 /// threads then.
 const TRIES: u32 = 128;
 
-/// So long who rests, or begins to wait, sleeps at a time if it is not woken; and so long who waits on.
-const NAP: Duration = Duration::from_millis(20);
-const SLEEP: Duration = Duration::from_secs(1);
+/// So many milliseconds who rests, or begins to wait, sleeps at a time if it is not woken; and so many who waits on.
+const NAP: u64 = 20;
+
+const SLEEP: u64 = 1_000;
 
 /// A book under a lock, and where its sessions sleep. Who locks it and makes steps gives it back by `let_go`, so that those are
 /// woken that may go on; the calls here do.
@@ -136,13 +137,8 @@ impl<H: House> Shared<H> {
     }
 
     /// Asks for the lock that the session waits for. Where it still has to wait, it sleeps until it is woken, at most so
-    /// long.
-    fn retry_once(
-        &self,
-        house: &H,
-        seat: &Seat,
-        at_most: Duration,
-    ) -> Result<Option<Told>, AllocError>
+    /// many milliseconds.
+    fn retry_once(&self, house: &H, seat: &Seat, at_most: u64) -> Result<Option<Told>, AllocError>
         ensures { IfOk result (λ told. IfSome told (λ r. r ≢ reply.Waiting)) }
     {
         let bell = self.bells.of(seat.session);
@@ -151,7 +147,7 @@ impl<H: House> Shared<H> {
         if !matches!(told.reply(), Reply::Waiting) {
             return Ok(Some(told));
         }
-        bell.sleep(house, seen, at_most);
+        bell.sleep(house, seen, Duration::from_millis(at_most));
         Ok(None)
     }
 
@@ -169,7 +165,7 @@ impl<H: House> Shared<H> {
                 Rest::Behind => behind = true,
                 Rest::Held => behind = false,
             }
-            bell.sleep(house, seen, NAP);
+            bell.sleep(house, seen, Duration::from_millis(NAP));
             behind = behind && bell.notifications() == seen;
         }
         matches!(self.rest_of(house, seat), Rest::Over | Rest::Free)
