@@ -111,7 +111,15 @@ impl<'a, H: House, W: Write, G: Gate> Served<'a, H, W, G> {
     }
 
     fn command(&mut self, command: Command) -> Told {
-        let mut seated = Seated {
+        let alloc = self.alloc;
+        let mut seated = self.seated();
+        let told = answer(&mut seated, alloc, command);
+        seated.give_back();
+        told
+    }
+
+    fn seated(&mut self) -> Seated<'a, '_, H, W, G> {
+        Seated {
             alloc: self.alloc,
             house: self.house,
             shared: self.shared,
@@ -119,10 +127,7 @@ impl<'a, H: House, W: Write, G: Gate> Served<'a, H, W, G> {
             watch: self.watch,
             answers: &mut self.answers,
             held: Held::new(self.house, self.shared),
-        };
-        let told = answer(&mut seated, self.alloc, command);
-        seated.held.give_back();
-        told
+        }
     }
 }
 

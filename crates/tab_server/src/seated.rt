@@ -1,5 +1,8 @@
 //! A session of a shared book, as the seat of a one-shot's driver.
 
+ghost use Rattle.std.specs.Prelude.{◌≡◌};
+ghost use Rattle.tab_model.specs.Outcome.{is_abort};
+
 use crate::answers::Answers;
 use crate::gate::Gate;
 use crate::watch::Watch;
@@ -28,6 +31,11 @@ pub struct Seated<'a, 'b, H: House, W: Write, G: Gate> {
 }
 
 impl<'a, 'b, H: House, W: Write, G: Gate> Seated<'a, 'b, H, W, G> {
+    /// The book is held no more.
+    pub fn give_back(&mut self) {
+        self.held.give_back();
+    }
+
     /// Who was restarted rests until its lock is free. The stream is watched after the first nap.
     fn rest(&mut self) {
         if matches!(self.held.rest(&self.seat), Rest::Over | Rest::Free) {
@@ -78,7 +86,9 @@ impl<'a, 'b, H: House, W: Write, G: Gate> Steps for Seated<'a, 'b, H, W, G> {
 }
 
 /// Of a one-shot a book opens level 1 alone, so its copy of the parts is dropped before the book is held.
-fn level_of(alloc: Global, command: Command) -> Command {
+fn level_of(alloc: Global, command: Command) -> Command
+    ensures { is_abort result ≡ is_abort command }
+{
     match command {
         Command::OneShot(parts, retries) => {
             drop(parts);
