@@ -7,7 +7,7 @@ use std::alloc::{AllocError, Global};
 use std::marker::{Brand, PhantomData};
 use std::sync::Wait;
 use std::test::*;
-use tab_book::{Book, Seat, Shared, Step};
+use tab_book::{Answered, Book, Seat, Shared, Step};
 use tab_model::{Command, Reply};
 use tab_names::{House, Naming, Opened};
 use tab_post::Line;
@@ -23,19 +23,28 @@ enum Ask {
     Retry,
 }
 
-/// Each step with its session, by age, whether it has to wait, and whether others may go on since. The second writes in a child
-/// what the third has read; the first waits behind the second alone.
-static STEPS: [(usize, Ask, bool, bool); 10] = [
-    (0, Ask::Begin, false, false),
-    (1, Ask::Begin, false, false),
-    (2, Ask::Begin, false, false),
-    (2, Ask::Read, false, false),
-    (1, Ask::Begin, false, false),
-    (1, Ask::Write, true, false),
-    (0, Ask::Read, true, false),
-    (0, Ask::Retry, true, false),
-    (1, Ask::Abort, false, true),
-    (0, Ask::Retry, false, false),
+/// What a step comes to.
+#[derive(Clone, Copy, PartialEq, Eq)]
+enum Then {
+    Answered,
+    Waits,
+    /// It is answered, and others may go on since.
+    Releases,
+}
+
+/// Each step with its session, by age, and what it comes to. The second writes in a child what the third has read; the first
+/// waits behind the second alone.
+static STEPS: [(usize, Ask, Then); 10] = [
+    (0, Ask::Begin, Then::Answered),
+    (1, Ask::Begin, Then::Answered),
+    (2, Ask::Begin, Then::Answered),
+    (2, Ask::Read, Then::Answered),
+    (1, Ask::Begin, Then::Answered),
+    (1, Ask::Write, Then::Waits),
+    (0, Ask::Read, Then::Waits),
+    (0, Ask::Retry, Then::Waits),
+    (1, Ask::Abort, Then::Releases),
+    (0, Ask::Retry, Then::Answered),
 ];
 
 fn step_of(alloc: Global, ask: Ask) -> Result<Step, AllocError> {
@@ -48,26 +57,27 @@ fn step_of(alloc: Global, ask: Ask) -> Result<Step, AllocError> {
     })
 }
 
-fn is_waiting(reply: &Reply) -> bool {
-    match reply {
-        Reply::Waiting => true,
-        _ => false,
+fn then_of(answered: &Answered) -> Then {
+    match answered.told.reply() {
+        Reply::Waiting => Then::Waits,
+        _ if answered.releases => Then::Releases,
+        _ => Then::Answered,
     }
 }
 
-/// Whether the step has to wait, and whether others may go on since.
 fn stepped<H: House>(
     house: &H,
     alloc: Global,
     shared: &Shared<H>,
     seat: &Seat,
     ask: Ask,
-) -> Result<(bool, bool), AllocError> {
+) -> Result<Then, AllocError> {
     let step = step_of(alloc, ask)?;
     let mut book = shared.hold(house);
     let answered = book.step(seat.session(), step)?;
+    let then = then_of(&answered);
     shared.let_go(book, answered.releases);
-    Ok((is_waiting(answered.told.reply()), answered.releases))
+    Ok(then)
 }
 
 /// The first step that differs.
@@ -84,9 +94,9 @@ fn make_steps<H: House>(
     let (third, _inbox) = shared.join(&house).map_err(|_| "join")?;
     let seats = [first, second, third];
     shared.call(&house, &first, create(alloc)?)?;
-    for (line, (of, ask, waits, releases)) in STEPS.iter().enumerate() {
+    for (line, (of, ask, then)) in STEPS.iter().enumerate() {
         let seat = *seats.get(*of).ok_or("no seat")?;
-        if stepped(&house, alloc, &shared, &seat, *ask)? != (*waits, *releases) {
+        if stepped(&house, alloc, &shared, &seat, *ask)? != *then {
             return Ok(Some(line));
         }
     }

@@ -29,11 +29,13 @@ pub const LIMITS: Limits = Limits {
 
 const TURNS: u32 = 10_000;
 
-/// Holds session 1's first call until session 2's first was answered, for so many milliseconds at most.
+/// Holds session 1's first call until session 2's first was answered, for so many milliseconds at most. Where calls are served
+/// one after another it gives up.
 #[derive(Drop)]
 struct Held<R> {
     rt: R,
     answered: AtomicBool,
+    gave_up: AtomicBool,
 }
 
 impl<R: Threads + Clock> Gate for Held<R> {
@@ -47,6 +49,7 @@ impl<R: Threads + Clock> Gate for Held<R> {
             }
             thread::sleep(&self.rt, Duration::from_millis(1));
         }
+        self.gave_up.store(true, Ordering::SeqCst);
     }
 
     fn after(&self, session: u32, call: u64) {
@@ -165,9 +168,11 @@ where
     let gate = Held {
         rt: *rt,
         answered: AtomicBool::new(false),
+        gave_up: AtomicBool::new(false),
     };
     let right = run((*rt, PhantomData::<J>), rt, alloc, opened, &gate)?;
-    Ok(right && gate.answered.load(Ordering::SeqCst))
+    let in_turn = gate.gave_up.load(Ordering::SeqCst);
+    Ok(right && gate.answered.load(Ordering::SeqCst) && !in_turn)
 }
 
 #[test]
