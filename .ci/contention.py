@@ -11,6 +11,7 @@ failed.
 
 import random
 import select
+import statistics
 import time
 
 from server import ATOMIC, CREATE, OK, Differs, main, same, script, side_by_side, waits, write
@@ -19,6 +20,9 @@ READ = ("read", "t", 1)
 WREAD = ("wread", ("t", 1))
 # A rest ends after a tenth of a second. Where the machine does much else, it may take so many seconds longer.
 LATE = 2.0
+# So long it takes at most, in the middle of so many rounds, where an end wakes who rests or waits: who isn't woken looks again
+# after twenty milliseconds.
+AT_ONCE, ROUNDS = 0.005, 15
 # So long the mixed load is run.
 SECONDS = 2.0
 
@@ -36,6 +40,10 @@ def timed(call, *given):
 def between(what, least, seconds, most):
     if not least <= seconds <= most:
         raise Differs(f"{what}: {seconds:.3f} s, wanted {least} to {most}")
+
+
+def middle(what, seconds, most):
+    between(f"{what}, in the middle", 0, statistics.median(seconds), most)
 
 
 def opened(*connections):
@@ -114,20 +122,38 @@ def an_end_wakes(end):
 
     def case(holder, other):
         table_of(holder)
-        resting(holder, other)
-        holder.ask(end)
-        between("the rest", 0, received_after(other, "restart"), 0.03 + LATE)
-        script((other, READ, [("t", 1, 0)]))
-        same("commit", other.ask("commit")[0], "atomic")
+        took = []
+        for _ in range(ROUNDS):
+            resting(holder, other)
+            holder.ask(end)
+            took.append(received_after(other, "restart"))
+            script((other, WREAD, [("t", 1, 0)]))
+            same("commit", other.ask("commit")[0], "atomic")
+        middle("the rest", took, AT_ONCE)
 
     return case
+
+
+def an_end_grants(older, holder):
+    """Who waits has its lock as soon as the holder's transaction ends."""
+    table_of(holder)
+    took = []
+    for _ in range(ROUNDS):
+        opened(older, holder)
+        script((holder, WREAD, [("t", 1, 0)]))
+        older.send(WREAD)
+        time.sleep(0.02)
+        holder.ask("commit")
+        took.append(received_after(older, [("t", 1, 0)]))
+        same("commit", older.ask("commit")[0], "atomic")
+    middle("the wait", took, AT_ONCE)
 
 
 def the_oldest_first(holder, older, younger):
     """Of two that rest for one record the older goes on first, and the younger not before its end, if it ends soon."""
     table_of(holder)
     early = 0
-    for _ in range(10):
+    for _ in range(ROUNDS):
         resting(holder, older, younger)
         holder.ask("commit")
         received_after(older, "restart")
@@ -137,18 +163,23 @@ def the_oldest_first(holder, older, younger):
         received_after(younger, "restart")
         same("the younger", younger.ask(WREAD), [("t", 1, 0)])
         younger.ask("commit")
-    if early > 5:
-        raise Differs(f"the younger went on first {early} times of 10")
+    if early > ROUNDS / 2:
+        raise Differs(f"the younger went on first {early} times of {ROUNDS}")
 
 
 def an_idle_one_is_passed(holder, older, younger):
-    """The older was told to go on and does nothing: the younger goes on all the same."""
+    """The older was told to go on and does nothing: the younger goes on all the same, after a nap or two."""
     table_of(holder)
-    resting(holder, older, younger)
-    holder.ask("commit")
-    received_after(older, "restart")
-    received_after(younger, "restart")
-    same("the younger", younger.ask(WREAD), [("t", 1, 0)])
+    took = []
+    for _ in range(ROUNDS):
+        resting(holder, older, younger)
+        holder.ask("commit")
+        received_after(older, "restart")
+        took.append(received_after(younger, "restart"))
+        same("the younger", younger.ask(WREAD), [("t", 1, 0)])
+        script((older, ("abort", "no"), ("aborted", "no")))
+        same("commit", younger.ask("commit")[0], "atomic")
+    middle("the rest", took, 0.05)
 
 
 def one_vanishes(holder, first, second):
@@ -246,7 +277,7 @@ def mixed(*connections):
     told = first.ask(one_shot(("read", "t", 0), ("read", "t", 1), ("read", "t", 2)))[1]
     same("sum", told[0][0][2], len(raised))
     same("both", told[1][0][2], told[2][0][2])
-    between("the longest", 0, longest[0], 1 + LATE)
+    between("the longest", 0, longest[0], 0.9)
 
 
 # A name, how many connections, further words of the server, and what is done on them.
@@ -257,6 +288,7 @@ CASES = [
     ("phantom", 2, [], phantom),
     ("an abort wakes", 2, [], an_end_wakes(("abort", "why"))),
     ("a commit wakes", 2, [], an_end_wakes("commit")),
+    ("a commit grants", 2, [], an_end_grants),
     ("the oldest first", 3, [], the_oldest_first),
     ("an idle one is passed", 3, [], an_idle_one_is_passed),
     ("one vanishes", 3, [], one_vanishes),
