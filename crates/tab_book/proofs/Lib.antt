@@ -2,3 +2,4 @@ pub mod Keeping
 pub mod Draining
 pub mod Crossing
 pub mod Closures
+pub mod Releasing

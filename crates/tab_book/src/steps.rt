@@ -1,10 +1,12 @@
 //! Steps of a book.
 
-ghost use Rattle.std.specs.Prelude.{◌≡◌, ◌≢◌, ◌<◌, ◌&&◌, [], true, false, IfOk, IsOk, OnOk, OnErr, length};
-ghost use Rattle.tab_model.specs.State.{Outbox};
+ghost use Rattle.std.specs.Prelude.{◌≡◌, ◌≢◌, ◌<◌, ◌&&◌, ◌×◌, [], true, false, IfOk, IfSome, IsOk, MatchOption, OnOk, OnErr, is_some, length};
+ghost use Rattle.tab_model.specs.declared.data.Reply.TheVariants.{Restart};
+ghost use Rattle.tab_model.specs.State.{Outbox, is_waiting, transaction_at};
 ghost use Rattle.tab_model.specs.Run.{entries};
 ghost use Rattle.tab_model.specs.Standing.{may_enter as may_enter_of};
 ghost use Rattle.tab_core.specs.Runs.{takes_no_memory, ask_of as core_ask_of};
+ghost use Rattle.tab_book.specs.Releases.{is_retry, SaysReleases};
 ghost use Rattle.tab_book.specs.Steps.{ask_of, is_full, leaves as leaves_of, folded, oldest_joined as oldest_joined_of, with_entries, StepsFrom, StepsTo, MayFold, KeepsPosts};
 
 use crate::book::Book;
@@ -31,9 +33,10 @@ impl<H: House> Book<H> {
         ensures free { takes_no_memory self.old.state session (ask_of step) ≡ true → (is_full self.old.journal && may_enter_of self.old.state session (ask_of step)) ≡ false → IsOk result }
         ensures err { OnErr result (MayFold self.old session (ask_of step) self.new) }
         ensures posts { KeepsPosts self.old.state self.new.state }
+        ensures releases { IfOk result (λ r. SaysReleases r.releases self.old.state self.new.state) }
     {
         let before = self.standing(session);
-        let retries = matches!(step, Step::Retry);
+        let retries = retries(&step);
         let told = self.told(session, step)?;
         let releases = self.lets_go(session, before, retries, told.reply());
         Ok(Answered { told, releases })
@@ -52,14 +55,22 @@ impl<H: House> Book<H> {
     }
 
     /// None where no one waits or rests, so that nothing that is let go of matters to others.
-    fn standing(&self, session: u32) -> Option<Standing> {
+    fn standing(&self, session: u32) -> Option<Standing>
+        ensures { MatchOption result (self.now.state.queue ≡ []) (λ s. (s.open ≡ is_some (transaction_at self.now.state session)) × (s.waits ≡ is_waiting self.now.state session)) }
+    {
         if !self.core.has_waiters() {
             return None;
         }
         Some(Standing {
-            open: self.core.levels(session) > 0,
+            open: self.is_open(session),
             waits: self.core.waits(session),
         })
+    }
+
+    fn is_open(&self, session: u32) -> bool
+        ensures { result ≡ is_some (transaction_at self.now.state session) }
+    {
+        self.core.levels(session) > 0
     }
 
     /// Whether a step after which the session was told so may let others go on: its transaction ended or was restarted, or
@@ -70,11 +81,15 @@ impl<H: House> Book<H> {
         before: Option<Standing>,
         retries: bool,
         reply: &Reply,
-    ) -> bool {
+    ) -> bool
+        ensures ended { IfSome before (λ b. b.open ≡ true → is_some (transaction_at self.now.state session) ≡ false → result ≡ true) }
+        ensures dropped { IfSome before (λ b. retries ≡ false → b.waits ≡ true → is_waiting self.now.state session ≡ false → result ≡ true) }
+        ensures restarted { IfSome before (λ b. reply.now ≡ Restart → result ≡ true) }
+    {
         let Some(before) = before else {
             return false;
         };
-        let ended = before.open && self.core.levels(session) == 0;
+        let ended = before.open && !self.is_open(session);
         let dropped = before.waits && !retries && !self.core.waits(session);
         ended || dropped || matches!(reply, Reply::Restart)
     }
@@ -137,6 +152,15 @@ impl<H: House> Book<H> {
             }
             _ => false,
         }
+    }
+}
+
+fn retries(step: &Step) -> bool
+    ensures { result ≡ is_retry (ask_of step.now) }
+{
+    match step {
+        Step::Leave | Step::Do(_) => false,
+        Step::Retry => true,
     }
 }
 

@@ -4,15 +4,19 @@ use crate::connection::Connection;
 use crate::events::event_loop;
 use crate::gate::Gate;
 use crate::requests::serve_session;
+use crate::troubles::Troubles;
 use std::alloc::Global;
+use std::io::Write;
 use std::net::{TcpListener, TcpStream};
 use std::sync::Wait;
 use std::thread::Threads;
 use std::{io, thread};
-use tab_book::{Seat, Shared};
-use tab_etf::Counted;
+use tab_book::{JoinFault, Seat, Shared};
+use tab_etf::{Counted, Target};
+use tab_model::{Limit, Reply};
 use tab_named::SeatInbox;
 use tab_names::House;
+use tab_proto::append_reply;
 
 /// Accepts so many connections, and serves each until its session has ended. Ends when all have; with an error where an
 /// accept failed, which ends the accepting.
@@ -39,6 +43,70 @@ pub fn serve<H: House + Threads + Send + Sync, G: Gate + Sync>(
         }
         Ok(())
     })
+}
+
+/// Serves connections for good, at once as many as the book has room for sessions. One that finds no seat is told so and closed.
+/// Where an accept, a join or a thread is refused, the errors have a line, and it goes on after a pause.
+pub fn serve_forever<H: House + Threads + Send + Sync, G: Gate + Sync, E: Target>(
+    house: &H,
+    alloc: Global,
+    listener: &TcpListener,
+    shared: &Shared<H>,
+    gate: &G,
+    errors: &mut E,
+) {
+    let mut troubles = Troubles::new(errors);
+    thread::scope(thread::scope_env(), house, |scope| {
+        for _ in house.forever() {
+            let Ok((connection, reader)) = accepted(listener) else {
+                troubles.tell(house, "no connection was accepted");
+                continue;
+            };
+            let (seat, inbox) = match shared.join(house) {
+                Ok(joined) => joined,
+                Err(JoinFault::Limit) => {
+                    turn_away(alloc, reader);
+                    continue;
+                }
+                Err(JoinFault::NoMemory) => {
+                    troubles.tell(house, "no memory for a session");
+                    continue;
+                }
+            };
+            let started = scope.spawn(move || {
+                serve_streams(
+                    house,
+                    alloc,
+                    shared,
+                    &seat,
+                    inbox,
+                    &connection,
+                    reader,
+                    gate,
+                );
+                shared.leave(house, &seat);
+            });
+            if started.is_err() {
+                shared.leave(house, &seat);
+                troubles.tell(house, "no thread for a session");
+                continue;
+            }
+            troubles.are_over();
+        }
+    });
+}
+
+fn accepted(listener: &TcpListener) -> io::Result<(Connection, TcpStream)> {
+    let (stream, _peer) = listener.accept()?;
+    Connection::new(stream)
+}
+
+/// Who finds no seat is told so, and closed.
+fn turn_away(alloc: Global, mut stream: TcpStream) {
+    let mut frame = Vec::new(alloc);
+    if append_reply(None, &Reply::SystemLimit(Limit::Sessions), &mut frame).is_ok() {
+        let _told = stream.write_all(&frame);
+    }
 }
 
 /// Serves one session's connection until it has ended.

@@ -12,9 +12,10 @@ mod events;
 mod gate;
 mod requests;
 mod seated;
+mod troubles;
 mod watch;
 
-pub use accepting::serve;
+pub use accepting::{serve, serve_forever};
 pub use events::event_loop;
 pub use gate::{Gate, Open};
 pub use requests::serve_session;

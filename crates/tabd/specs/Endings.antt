@@ -1,5 +1,5 @@
 -- The exit statuses and the lines on standard error. Source: this project's own rule.
-use Rattle.std.specs.Prelude.{◌≡◌, ℕ, ◌<◌, ◌-◌, ◌^◌, List, [], ◌∷◌, ◌++◌, take, Option, Some, None, codes, ◌⊎◌, Result, Ok, Err, IfSome, length}
+use Rattle.std.specs.Prelude.{◌≡◌, ℕ, true, false, ◌<◌, ◌-◌, ◌^◌, List, [], ◌∷◌, ◌++◌, take, Option, Some, None, codes, ◌⊎◌, Result, Ok, Err, IfSome, length}
 use Rattle.clap.specs.declared.error.kind.ErrorKind.{ErrorKind}
 use Rattle.clap.specs.declared.error.kind.ErrorKind.TheVariants as kind
 use Rattle.std.specs.Io.KnownBytes.{Appends, Keeps}
@@ -76,7 +76,13 @@ streams i o f g = record { input = i; output = o; input_faults = f; output_fault
 -- what holds of a replay, by how many items each session's post holds
 abbrev pub IfReplay : Run → (ℕ → Type 0) → Type 0
 IfReplay (Replay outbox) P = P outbox
-IfReplay (Serve port sizes) P = Unit {0}
+IfReplay (Serve port sizes forever) P = Unit {0}
+
+-- what holds of a run that ends by itself: a server that goes on forever tells on the errors what it can't accept
+abbrev pub IfEnds : Run → Type 0 → Type 0
+IfEnds (Replay outbox) P = P
+IfEnds (Serve port sizes false) P = P
+IfEnds (Serve port sizes true) P = Unit {0}
 
 -- the program replayed its input onto its output, and ends by a device fault exactly where one rose
 abbrev pub Plays : ℕ → Streams → Streams → End → Type 0

@@ -4,10 +4,10 @@ ghost use Rattle.std.specs.Prelude.{◌≡◌, ◌≤◌, IfOk, OnOk, OnErr, IfE
 ghost use Rattle.std.specs.Process.{exit_status};
 ghost use Rattle.clap.specs.Words.{kind_of};
 ghost use Rattle.tabd.specs.declared.ending.End.{End as EndOf};
-ghost use Rattle.tabd.specs.Endings.{IfReplay, IsShown, IsTextFault, OnStreams, Plays, TellsEnd, end_of_words, line_of, status_of, streams};
+ghost use Rattle.tabd.specs.Endings.{IfEnds, IfReplay, IsShown, IsTextFault, OnStreams, Plays, TellsEnd, end_of_words, line_of, status_of, streams};
 
 use crate::ending::{End, end_of_replay, end_of_words, line_of, status_of};
-use crate::serving::listen;
+use crate::serving::{listen, listen_forever};
 use crate::words::Run;
 use crate::{Ended, replay};
 use clap::Error;
@@ -45,7 +45,7 @@ where
     requires { opened ≡ J.book }
     ensures replayed { IfOk asked (λ words. (end : EndOf) × (exit_status result ≡ status_of end)
         × IfReplay words (λ outbox. Plays outbox (streams (R.remaining input.old) (W.contents output.old) (R.faults input.old) (W.faults output.old)) (streams (R.remaining input.new) (W.contents output.new) (R.faults input.new) (W.faults output.new)) end)
-        × TellsEnd (line_of end) (E.contents errors.old) (E.contents errors.new) (E.faults errors.old) (E.faults errors.new)) }
+        × IfEnds words (TellsEnd (line_of end) (E.contents errors.old) (E.contents errors.new) (E.faults errors.old) (E.faults errors.new))) }
     ensures shown { IfErr asked (λ error. (end : EndOf) × (exit_status result ≡ status_of end) × IsShown (end_of_words (kind_of error)) end
         × OnStreams (end_of_words (kind_of error)) (output.new ≡ output.old) (TellsEnd (line_of end) (E.contents errors.old) (E.contents errors.new) (E.faults errors.old) (E.faults errors.new))) }
     ensures input { OnErr asked (input.new ≡ input.old) }
@@ -76,16 +76,27 @@ where
     E: Target,
     requires { opened ≡ J.book }
     ensures replayed { IfOk asked (λ words. IfReplay words (λ outbox. Plays outbox (streams (R.remaining input.old) (W.contents output.old) (R.faults input.old) (W.faults output.old)) (streams (R.remaining input.new) (W.contents output.new) (R.faults input.new) (W.faults output.new)) result)) }
-    ensures quiet { OnOk asked (errors.new ≡ errors.old) }
+    ensures quiet { IfOk asked (λ words. IfEnds words (errors.new ≡ errors.old)) }
     ensures shown { IfErr asked (λ error. IsShown (end_of_words (kind_of error)) result) }
     ensures streams { IfErr asked (λ error. OnStreams (end_of_words (kind_of error)) (output.new ≡ output.old) (errors.new ≡ errors.old)) }
     ensures input { OnErr asked (input.new ≡ input.old) }
 {
     match asked {
         Ok(Run::Replay { outbox }) => play(rt.alloc(), input, output, outbox),
-        Ok(Run::Serve { port, sizes }) => {
-            listen::<J, H, W>(*rt, rt.alloc(), opened, port, sizes, output)
-        }
+        Ok(
+            Run::Serve {
+                port,
+                sizes,
+                forever: false,
+            },
+        ) => listen::<J, H, W>(*rt, rt.alloc(), opened, port, sizes, output),
+        Ok(
+            Run::Serve {
+                port,
+                sizes,
+                forever: true,
+            },
+        ) => { listen_forever::<J, H, W, E>(*rt, rt.alloc(), opened, port, sizes, output, errors) }
         Err(error) => show(rt.alloc(), &error, output, errors),
     }
 }

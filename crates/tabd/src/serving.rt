@@ -15,7 +15,7 @@ use tab_etf::{Target, give_all};
 use tab_model::Limits;
 use tab_names::{House, Naming, Opened};
 use tab_post::Line;
-use tab_server::{Open, serve};
+use tab_server::{Open, serve, serve_forever};
 
 /// What a server is given: how many connections it accepts, how many items wait for a session, how many entries stand.
 #[derive(Clone, Copy)]
@@ -23,16 +23,17 @@ pub struct Sizes {
     pub connections: u32,
     pub outbox: u32,
     pub journal: u32,
+    ghost seats: { connections ≤ 64 },
     ghost outbox_room: { 1 ≤ outbox },
     ghost journal_room: { 1 ≤ journal },
 }
 
-const fn limits(journal: u32) -> Limits
-    ensures sessions { result.sessions ≡ 64 }
+const fn limits(sessions: u32, journal: u32) -> Limits
+    ensures sessions { result.sessions ≡ sessions }
     ensures journal { result.journal ≡ journal }
 {
     Limits {
-        sessions: 64,
+        sessions: sessions as u64,
         nesting: 16,
         operations: 1000,
         tables: 256,
@@ -67,6 +68,40 @@ where
     }
 }
 
+/// Listens on the port, says so, and serves for good. It ends where it can't begin.
+pub fn listen_forever<J, R, W, E>(
+    rt: R,
+    alloc: Global,
+    opened: Opened<Line>,
+    port: u16,
+    sizes: Sizes,
+    output: &mut W,
+    errors: &mut E,
+) -> End
+where
+    J: Naming + Send + Sync,
+    R: Net<Listener = TcpListener, Stream = TcpStream> + Threads + Wait + Copy + Send + Sync,
+    W: Target,
+    E: Target,
+    requires { opened ≡ J.book }
+{
+    let listener = match listening(&rt, alloc, port, output) {
+        Ok(listener) => listener,
+        Err(ended) => return End::Stopped(ended),
+    };
+    match run_forever(
+        (rt, PhantomData::<J>),
+        alloc,
+        opened,
+        &listener,
+        sizes,
+        errors,
+    ) {
+        Ok(()) => End::Done,
+        Err(_) => End::Stopped(Ended::NoMemory),
+    }
+}
+
 /// Says which port it is, at once, so that clients can connect.
 fn listening<R: Net<Listener = TcpListener, Stream = TcpStream>, W: Target>(
     rt: &R,
@@ -92,8 +127,25 @@ fn run<H: House + Threads + Send + Sync>(
 ) -> Result<io::Result<()>, AllocError>
     requires { opened ≡ H.book }
 {
-    let limits = limits(sizes.journal);
+    let limits = limits(64, sizes.journal);
     let book = Book::new(house, alloc, opened, limits, sizes.outbox as usize)?;
     let shared = Shared::new(book);
     Ok(serve(&house, alloc, listener, &shared, sizes.connections, &Open))
+}
+
+fn run_forever<H: House + Threads + Send + Sync, E: Target>(
+    house: H,
+    alloc: Global,
+    opened: Opened<Line>,
+    listener: &TcpListener,
+    sizes: Sizes,
+    errors: &mut E,
+) -> Result<(), AllocError>
+    requires { opened ≡ H.book }
+{
+    let limits = limits(sizes.connections, sizes.journal);
+    let book = Book::new(house, alloc, opened, limits, sizes.outbox as usize)?;
+    let shared = Shared::new(book);
+    serve_forever(&house, alloc, listener, &shared, &Open, errors);
+    Ok(())
 }

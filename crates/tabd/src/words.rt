@@ -15,9 +15,15 @@ use std::rt::Env;
 #[derive(Clone, Copy)]
 pub enum Run {
     /// Each session's post holds so many items.
-    Replay { outbox: u32 },
-    /// So many connections are served on the port, where 0 lets the system choose one.
-    Serve { port: u16, sizes: Sizes },
+    Replay {
+        outbox: u32,
+    },
+    /// So many connections are served on the port, where 0 lets the system choose one; forever so many at once.
+    Serve {
+        port: u16,
+        sizes: Sizes,
+        forever: bool,
+    },
 }
 
 fn outbox<'a>(alloc: Global) -> Arg<'a> {
@@ -40,7 +46,7 @@ fn serve<'a>(alloc: Global) -> Result<Command<'a>, AllocError> {
     let connections = Arg::new(alloc, "connections")
         .long("connections")
         .value_name("COUNT")
-        .help("How many connections are accepted, 1 to 64")
+        .help("How many connections are accepted, 1 to 64; with --forever, how many at once")
         .required(true)
         .action(ArgAction::Set)
         .value_parser(value_parser!(u32).range(1..=64));
@@ -50,12 +56,17 @@ fn serve<'a>(alloc: Global) -> Result<Command<'a>, AllocError> {
         .help("How many entries the journal holds at most, 16 to 65536; 1024 where it is not given")
         .action(ArgAction::Set)
         .value_parser(value_parser!(u32).range(16..=65_536));
+    let forever = Arg::new(alloc, "forever")
+        .long("forever")
+        .help("A connection that ends makes room for another, and the server never ends by itself")
+        .action(ArgAction::SetTrue);
     Command::new(alloc, "serve")
         .about("Serves each connection to a port as a session")
         .arg(port)?
         .arg(connections)?
         .arg(outbox(alloc))?
-        .arg(journal)
+        .arg(journal)?
+        .arg(forever)
 }
 
 fn command<'a>(alloc: Global) -> Result<Command<'a>, AllocError> {
@@ -79,6 +90,7 @@ pub fn read_words<'a, S: AsStr>(alloc: Global, words: &'a [S]) -> Result<Run, Er
         return Ok(Run::Serve {
             port: serve.get_one("port").unwrap_or(0),
             sizes: sizes(serve),
+            forever: serve.get_flag("forever"),
         });
     }
     Ok(Run::Replay {

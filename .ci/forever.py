@@ -1,0 +1,167 @@
+#!/usr/bin/env python3
+"""Runs `tabd serve --forever` of the built program, which serves as many connections at once as it is told to and never ends.
+
+    forever.py PROGRAM
+
+Each case has a server of its own. One line tells each case that differs; the last line is `N passed, M failed`, and the status 1
+where one failed.
+"""
+
+import os
+import resource
+import subprocess
+import sys
+import time
+
+from server import ATOMIC, CREATE, OK, Connection, Differs, same, script, write
+
+LIMIT = ("reply", ("error", ("system_limit", "sessions")))
+NOT_ACCEPTED = "tabd: no connection was accepted\n"
+# A thread of the server may still be about to end so many seconds after its connection did.
+PATIENCE = 5.0
+
+
+class Server:
+    """With so many seats, and so many descriptors where that is said. Its journal is soon full, and grows no more."""
+
+    def __init__(self, program, seats, files=None):
+        words = [program, "serve", "--port", "0", "--connections", str(seats), "--forever", "--journal", "16"]
+        limit = (lambda: resource.setrlimit(resource.RLIMIT_NOFILE, (files, files))) if files else None
+        self.process = subprocess.Popen(words, stdout=subprocess.PIPE, stderr=subprocess.PIPE, text=True, preexec_fn=limit)
+        self.port = int(self.process.stdout.readline().rsplit(":", 1)[1])
+
+    def __enter__(self):
+        return self
+
+    def __exit__(self, *_):
+        self.process.kill()
+        self.process.communicate()
+
+    def connect(self):
+        return Connection(self.port)
+
+    def seated(self):
+        """A connection that has a seat, as soon as one is free, and its first reply."""
+        end = time.monotonic() + PATIENCE
+        while time.monotonic() < end:
+            connection = self.connect()
+            connection.send("begin")
+            try:
+                if (found := connection.receive()) != LIMIT:
+                    return connection, found[1]
+            except OSError:
+                # It was closed before the request was read.
+                pass
+            connection.close()
+            time.sleep(0.01)
+        raise Differs("no seat is free")
+
+    def held(self):
+        """What it holds: threads, descriptors, kilobytes."""
+        with open(f"/proc/{self.process.pid}/status", encoding="ascii") as file:
+            status = dict(line.split(":", 1) for line in file)
+        return int(status["Threads"]), len(os.listdir(f"/proc/{self.process.pid}/fd")), int(status["VmRSS"].split()[0])
+
+    def settled(self, wanted):
+        """What it holds, once its threads and descriptors are as many as wanted."""
+        end = time.monotonic() + PATIENCE
+        while (found := self.held())[:2] != wanted and time.monotonic() < end:
+            time.sleep(0.01)
+        return found
+
+    def ends(self, said=""):
+        """A signal ends it, and it has not ended before; on standard error stands what it said."""
+        same("it runs", self.process.poll(), None)
+        self.process.terminate()
+        same("what it said", self.process.communicate()[1], said)
+
+
+def the_ninth_is_told(server):
+    """Who finds no seat is told so and closed, and the others go on; who leaves makes room."""
+    connections = [server.connect() for _ in range(8)]
+    for age, connection in enumerate(connections, 1):
+        script((connection, "begin", ("tid", age)))
+    ninth = server.connect()
+    same("the ninth", (ninth.receive(), ninth.stream.read()), (LIMIT, b""))
+    script(*((connection, "commit", ("atomic", number)) for number, connection in enumerate(connections, 1)))
+    connections[3].close()
+    tenth, found = server.seated()
+    same("the tenth", found, ("tid", 9))
+    same("the others", connections[0].ask("begin"), ("tid", 10))
+    server.ends()
+
+
+def tables_outlive_connections(server):
+    """All have left, one in the midst of a transaction, and what was committed is there for who comes."""
+    first, second = server.connect(), server.connect()
+    script((first, CREATE, ATOMIC), (first, ("transaction", [write(1, "a")], 0), ("atomic", [OK])))
+    script((second, "begin", ("tid", 2)), (second, write(1, "b"), OK))
+    first.close()
+    second.break_off()
+    third, found = server.seated()
+    same("the third", found[0], "tid")
+    same("it left", third.ask(("wread", ("t", 1))), [("t", 1, "a")])
+    server.ends()
+
+
+def a_thousand_through_a_seat(server):
+    """A thousand connections, one after the other, leave no thread, no descriptor and no memory."""
+    for connection in (held := [server.connect() for _ in range(7)]):
+        same("begin", connection.ask("begin")[0], "tid")
+    script((held[0], "commit", ("atomic", 1)), (held[0], CREATE, ATOMIC))
+    before = server.settled(server.held()[:2])
+    for number in range(1000):
+        connection, _ = server.seated()
+        script((connection, write(number % 5, number), OK), (connection, "commit", ("atomic", number + 2)))
+        connection.close()
+        if number == 100:
+            before = (*before[:2], server.settled(before[:2])[2])
+    after = server.settled(before[:2])
+    same("threads and descriptors", after[:2], before[:2])
+    if after[2] - before[2] > 1000:
+        raise Differs(f"{after[2] - before[2]} kilobytes more")
+    server.ends()
+
+
+def no_descriptor_is_left(server):
+    """Where no connection can be accepted it says so once, and goes on as soon as one can."""
+    connections = [server.connect() for _ in range(12)]
+    time.sleep(0.5)
+    for connection in connections:
+        connection.break_off()
+    last, found = server.seated()
+    same("the last", found[0], "tid")
+    server.ends(NOT_ACCEPTED)
+
+
+# A name, how many seats, how many descriptors, and what is done.
+CASES = [
+    ("the ninth is told", 8, None, the_ninth_is_told),
+    ("tables outlive connections", 2, None, tables_outlive_connections),
+    ("a thousand through a seat", 8, None, a_thousand_through_a_seat),
+    ("no descriptor is left", 64, 20, no_descriptor_is_left),
+]
+
+
+def fault(program, name, seats, files, case):
+    try:
+        with Server(program, seats, files) as server:
+            case(server)
+        return None
+    except (Differs, OSError, ValueError) as error:
+        return f"{name}: {type(error).__name__} {error}"
+
+
+def main():
+    if len(sys.argv) != 2:
+        sys.exit(__doc__)
+    program = os.path.abspath(sys.argv[1])
+    faults = [found for case in CASES if (found := fault(program, *case))]
+    for line in faults:
+        print(line)
+    print(f"{len(CASES) - len(faults)} passed, {len(faults)} failed")
+    sys.exit(1 if faults else 0)
+
+
+if __name__ == "__main__":
+    main()
