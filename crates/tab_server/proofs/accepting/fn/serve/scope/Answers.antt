@@ -3,9 +3,8 @@ use mathlib.Core.List.{[], ◌∷◌}
 use mir.Syntax.{named}
 use denote.Ref.{ShrRef}
 use denote.Param.{copied, param}
-use denote.Param.Send.{IsSend, sendable, shr_send, copied_send, copied_sync, param_sync}
-use denote.Param.SendFields.{declared_send, as_row_send}
-use Rattle.std.proofs.Crossing.{crosses, send as heap_send}
+use denote.Param.Send.{shr_send, copied_send, copied_sync, param_sync}
+use Rattle.std.proofs.Crossing.{send as heap_send}
 use Rattle.std.specs.contracts.net.tcp.TcpStream as stream
 use Rattle.tab_book.proofs.Closures.{closure_send}
 use Rattle.tab_book.proofs.Crossing.{Shared-sync}
@@ -13,13 +12,8 @@ use Rattle.tab_book.specs.contracts.shared.Shared as shared
 use Rattle.tab_book.specs.contracts.shared.Seat as seat
 use Rattle.tab_named.proofs.Crossing.{SeatInbox-send}
 use Rattle.tab_named.specs.contracts.inbox.SeatInbox as inbox
+use Rattle.tab_server.proofs.Crossing.{seat-send, stream-send}
 use Rattle.tab_server.proofs.accepting.fn.serve.scope.Goals as goal
-
-seat-send : IsSend seat.the_row
-seat-send = search (sendable, declared_send, as_row_send) depth 20
-
-stream-send : IsSend stream.the_row
-stream-send = search (sendable, crosses, declared_send, as_row_send) depth 20
 
 pub spawn-started-requires-send-F : goal.spawn-started-requires-send-F
 spawn-started-requires-send-F g c κs within =

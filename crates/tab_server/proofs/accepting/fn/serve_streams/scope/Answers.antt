@@ -3,9 +3,8 @@ use mathlib.Core.List.{[], ◌∷◌}
 use mir.Syntax.{named}
 use denote.Ref.{ShrRef}
 use denote.Param.{copied}
-use denote.Param.Send.{IsSync, sendable, shr_send, copied_send, copied_sync}
-use denote.Param.SendFields.{declared_sync, as_row_sync}
-use Rattle.std.proofs.Crossing.{crosses, send as heap_send}
+use denote.Param.Send.{shr_send, copied_send, copied_sync}
+use Rattle.std.proofs.Crossing.{send as heap_send}
 use Rattle.tab_book.proofs.Closures.{closure_send}
 use Rattle.tab_book.proofs.Crossing.{Shared-sync}
 use Rattle.tab_book.specs.contracts.shared.Shared as shared
@@ -13,13 +12,8 @@ use Rattle.tab_book.specs.contracts.shared.Seat as seat
 use Rattle.tab_named.proofs.Crossing.{SeatInbox-send}
 use Rattle.tab_named.specs.contracts.inbox.SeatInbox as inbox
 use Rattle.tab_server.specs.contracts.connection.Connection as connection
+use Rattle.tab_server.proofs.Crossing.{seat-sync, connection-sync}
 use Rattle.tab_server.proofs.accepting.fn.serve_streams.scope.Goals as goal
-
-connection-sync : IsSync connection.the_row
-connection-sync = search (sendable, crosses, declared_sync, as_row_sync) depth 20
-
-seat-sync : IsSync seat.the_row
-seat-sync = search (sendable, declared_sync, as_row_sync) depth 20
 
 pub spawn-watching-requires-send-F : goal.spawn-watching-requires-send-F
 spawn-watching-requires-send-F g c κs within =

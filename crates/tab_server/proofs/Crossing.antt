@@ -1,0 +1,22 @@
+-- What a thread of a connection takes with it may go to another thread, or be shared with one.
+use denote.Param.Send.{IsSend, IsSync, sendable}
+use denote.Param.SendFields.{declared_send, as_row_send, declared_sync, as_row_sync}
+use Rattle.std.proofs.Crossing.{crosses}
+use Rattle.std.specs.contracts.net.tcp.TcpStream as stream
+use Rattle.tab_book.specs.contracts.shared.Seat as seat
+use Rattle.tab_server.specs.contracts.connection.Connection as connection
+
+pub seat-send : IsSend seat.the_row
+seat-send = search (sendable, declared_send, as_row_send) depth 20
+
+pub seat-sync : IsSync seat.the_row
+seat-sync = search (sendable, declared_sync, as_row_sync) depth 20
+
+pub stream-send : IsSend stream.the_row
+stream-send = search (sendable, crosses, declared_send, as_row_send) depth 20
+
+pub connection-send : IsSend connection.the_row
+connection-send = search (sendable, crosses, declared_send, as_row_send) depth 20
+
+pub connection-sync : IsSync connection.the_row
+connection-sync = search (sendable, crosses, declared_sync, as_row_sync) depth 20
