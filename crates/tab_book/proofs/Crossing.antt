@@ -1,7 +1,6 @@
 -- A book may go to another thread where its handle may. What it holds may: terms, and what is built of them.
 use mathlib.Core.List.{[], ◌∷◌}
 use denote.RattleType.{RattleType}
-use denote.Hole.{as_row}
 use denote.Struct.Tuple.{Tuple, tuple_type}
 use denote.Struct.Field.{row_field, u64-field, i128-field}
 use denote.Param.Send.{IsSend, IsSync, plain_send, plain_sync, sendable}

@@ -1,9 +1,7 @@
 -- What an inbox shows of the post that it meets, and what a Take then tells.
-use Rattle.std.proofs.Common.{◌≡◌, ◌≢◌, ℕ, List, [], ◌∷◌, ◌++◌, refl, sym, ap, ◌∙◌, subst, Option, Some, None}
+use Rattle.std.proofs.Common.{◌≡◌, ℕ, List, [], refl, sym, ap, ◌∙◌, subst, Option, Some, None}
 use Rattle.std.specs.Prelude.{option_map}
-use Rattle.tab_model.specs.declared.data.Entry.{Entry}
 use Rattle.tab_model.specs.declared.data.Item.{Item}
-use Rattle.tab_model.specs.declared.data.Reply.{Reply}
 use Rattle.tab_model.specs.declared.data.Reply.TheVariants as reply
 use Rattle.tab_model.specs.State.{Outbox, Seat, State, seat_at}
 use Rattle.tab_model.specs.Standing.{AreChannels}
@@ -11,12 +9,12 @@ use Rattle.tab_model.specs.Outcome.{Take, Outcome, outcome, by_seat, give, takab
 use Rattle.tab_model.proofs.PostsStay.{IsChannel, found_has}
 use Rattle.tab_outbox.specs.declared.mailbox.Met.{Met}
 use Rattle.tab_outbox.specs.declared.mailbox.Met.TheVariants as met
-use Rattle.tab_outbox.specs.Mailboxes.{StartsWith, Meets}
+use Rattle.tab_outbox.specs.Mailboxes.{Meets}
 use Rattle.tab_journal.specs.Journals.{Kept}
 use Rattle.tab_book.specs.declared.step.Drained.{Drained}
 use Rattle.tab_book.specs.declared.step.Drained.TheVariants.{Going, AllTaken, Overflow, Left}
 use Rattle.tab_book.specs.Running.{Running}
-use Rattle.tab_book.specs.Inboxes.{IsOwn, Drains, TellsOverflow}
+use Rattle.tab_book.specs.Inboxes.{Drains, TellsOverflow}
 
 abbrev boxes : Running → ℕ → Option Outbox
 boxes b n = option_map (λ (s : Seat). s.outbox) (seat_at b.state.seats n)

@@ -1,16 +1,14 @@
 -- What holds of a book's parts is kept by its steps, its folds, its joins and its leaves.
 use Rattle.std.proofs.Common.{◌≡◌, ◌≢◌, ◌≤◌, ◌<◌, ◌⊎◌, inl, inr, ℕ, ◌+◌, List, [], ◌∷◌, ◌++◌, Bool, true, false, ◌&&◌, refl, sym, ap, ◌∙◌, subst, arith, append-nil, length, Option, Some, None}
 use Rattle.std.specs.Bool.{Decides}
-use Rattle.std.specs.Prelude.{Result, Ok, Err, IfOk, OnOk, OnErr, ◌==◌, ◌-◌, ◌^◌, if◌then◌else◌, nat_lt, is_some}
+use Rattle.std.specs.Prelude.{Result, Ok, Err, IfOk, OnOk, OnErr, ◌==◌, ◌-◌, ◌^◌, if◌then◌else◌, nat_lt}
 use Rattle.std.proofs.lemmas.Bool.{and_parts}
 use Rattle.std.proofs.lemmas.Bool.Decides.{nat_tests}
-use Rattle.tab_model.specs.declared.data.Command.{Command}
 use Rattle.tab_model.specs.declared.data.Command.TheVariants as command
 use Rattle.tab_model.specs.declared.data.Entry.{Entry}
 use Rattle.tab_model.specs.declared.data.Limits.{Limits}
-use Rattle.tab_model.specs.declared.data.Reply.{Reply}
 use Rattle.tab_model.specs.declared.data.Reply.TheVariants as reply
-use Rattle.tab_model.specs.History.{Base, empty, slice_since_after}
+use Rattle.tab_model.specs.History.{empty, slice_since_after}
 use Rattle.tab_model.specs.Standing.{JoinsChannel, MayStand, Stands, is_joined, still_joined, may_enter}
 use Rattle.tab_model.specs.State.{Outbox, Seat, State, new, seat_at, IsSound}
 use Rattle.tab_model.specs.Outcome.{Ask, Join, Leave, Retry, Take, DoCommand, Outcome, outcome, nothing, join, by_seat}
@@ -24,8 +22,8 @@ use Rattle.tab_core.specs.Runs.{takes_no_memory}
 use Rattle.tab_named.specs.Ends.{empty_outbox}
 use Rattle.tab_book.specs.declared.step.Step.{Step}
 use Rattle.tab_book.specs.declared.step.Step.TheVariants as step
-use Rattle.tab_book.specs.Running.{Running, IsRunning, Holds}
-use Rattle.tab_book.specs.Steps.{is_full, oldest_joined, folded, with_room, with_entries, leaves, forgetting, has_room, with_seat, StepsFrom, KeepsPosts, ask_of, is_never_refused}
+use Rattle.tab_book.specs.Running.{IsRunning, Holds}
+use Rattle.tab_book.specs.Steps.{is_full, oldest_joined, folded, with_room, with_entries, leaves, has_room, with_seat, StepsFrom, KeepsPosts, ask_of, is_never_refused}
 
 pub new_holds : (outbox : ℕ) (limits : Limits) (n : ℕ) → 1 ≤ outbox → 1 ≤ n → Holds outbox (new limits) (record { base = empty; entries = []; limit = n })
 new_holds outbox limits n room limit = record {

@@ -1,6 +1,6 @@
 -- A step lets go of nothing, unless the session's transaction ends or begins anew, or its queued request is dropped.
 use Rattle.std.proofs.Common.{◌≡◌, ◌⊎◌, inl, inr, ℕ, ◌+◌, List, [], ◌∷◌, ◌++◌, Bool, true, false, refl, sym, ap, ◌∙◌, subst, arith, append-nil, Option, Some, None}
-use Rattle.std.specs.Prelude.{◌==◌, ◌-◌, ◌^◌, suc, min, nat_lt, length, if◌then◌else◌, is_some}
+use Rattle.std.specs.Prelude.{◌==◌, ◌-◌, ◌^◌, suc, min, nat_lt, length, if◌then◌else◌, is_some, IfSome, MatchOption}
 use Rattle.std.proofs.lemmas.Bool.Decides.{nat_tests}
 use Rattle.tab_term.specs.declared.term.Term.{Term}
 use Rattle.tab_model.specs.declared.data.Operation.{Operation}
@@ -27,7 +27,7 @@ use Rattle.tab_model.proofs.SoundSteps.{given_same, unwatched_same}
 use Rattle.tab_model.proofs.RefusalLaws.{none_queued}
 use Rattle.tab_model.proofs.CallersLemmas.{same_if, transaction_if, changed_transactions, mapped_transaction}
 use Rattle.tab_model.proofs.ReachedWaits.{aged_append}
-use Rattle.tab_book.specs.Releases.{is_retry, held_at, LetsGoOfNothing}
+use Rattle.tab_book.specs.Releases.{is_retry, held_at, LetsGoOfNothing, SaysReleases}
 
 -- the session's transaction is over
 abbrev Ends : State → ℕ → State → Type 0
@@ -286,3 +286,15 @@ is_open_by_levels σ n = cases (transaction_at σ n)
       where
         above : (k : ℕ) → nat_lt 0 (min (suc k) (2 ^ 64 - 1)) ≡ true
         above k = grind (arith, nat_tests)
+
+-- what a step says of its releases, by what stood before it
+pub says_releases : {B : Type 0} (opens waits : B → Bool) (before : Option B) (σ τ : State) (over : List ℕ) (n : ℕ) (a : Ask) (r replied : Reply) (e : Option Entry) (releases retries : Bool)
+    → MatchOption before (σ.queue ≡ []) (λ b. (opens b ≡ is_some (transaction_at σ n)) × (waits b ≡ is_waiting σ n)) → retries ≡ is_retry a → outcome σ over n a ≡ record { state = τ; reply = r; entry = e }
+    → IfSome before (λ b. opens b ≡ true → is_some (transaction_at τ n) ≡ false → releases ≡ true) → IfSome before (λ b. retries ≡ false → waits b ≡ true → is_waiting τ n ≡ false → releases ≡ true)
+    → IfSome before (λ b. replied ≡ reply.Restart → releases ≡ true) → replied ≡ r → SaysReleases releases σ τ
+says_releases opens waits None σ τ over n a r replied e releases retries none asks is ended lost restarted same quiet = inl none
+says_releases opens waits (Some b) σ τ over n a r replied e releases retries stood asks is ended lost restarted same quiet =
+    inr (nothing_let_go σ τ over n a r e is (λ o g. never (ended (stood.0 ∙ o) g)) (λ p w g. never (lost (asks ∙ p) (stood.1 ∙ w) g)) (λ g. never (restarted (same ∙ g))))
+  where
+    never : releases ≡ true → ⊥
+    never h = let both : false ≡ true = sym quiet ∙ h in cc

@@ -1,6 +1,6 @@
 //! Steps of a book.
 
-ghost use Rattle.std.specs.Prelude.{◌≡◌, ◌≢◌, ◌<◌, ◌&&◌, ◌×◌, [], true, false, IfOk, IfSome, IsOk, MatchOption, OnOk, OnErr, is_some, length};
+ghost use Rattle.std.specs.Prelude.{◌≡◌, ◌≢◌, ◌<◌, ◌&&◌, [], true, false, IfOk, IfSome, IsOk, MatchOption, OnOk, OnErr, is_some, length};
 ghost use Rattle.tab_model.specs.declared.data.Reply.TheVariants.{Restart};
 ghost use Rattle.tab_model.specs.State.{Outbox, is_waiting, transaction_at};
 ghost use Rattle.tab_model.specs.Run.{entries};
@@ -75,13 +75,7 @@ impl<H: House> Book<H> {
 
     /// Whether a step after which the session was told so may let others go on: its transaction ended or was restarted, or
     /// its queued request was dropped. A retry that is answered holds the lock from then on, so it makes way for no one.
-    fn lets_go(
-        &self,
-        session: u32,
-        before: Option<Standing>,
-        retries: bool,
-        reply: &Reply,
-    ) -> bool
+    fn lets_go(&self, session: u32, before: Option<Standing>, retries: bool, reply: &Reply) -> bool
         ensures ended { IfSome before (λ b. b.open ≡ true → is_some (transaction_at self.now.state session) ≡ false → result ≡ true) }
         ensures dropped { IfSome before (λ b. retries ≡ false → b.waits ≡ true → is_waiting self.now.state session ≡ false → result ≡ true) }
         ensures restarted { IfSome before (λ b. reply.now ≡ Restart → result ≡ true) }

@@ -1,4 +1,4 @@
-use Rattle.std.proofs.Common.{◌≡◌, Some, subst, sym, ap, ◌∙◌}
+use Rattle.std.proofs.Common.{◌≡◌, Some, subst, sym}
 use Rattle.tab_model.specs.State.{Seat, State, seat_at}
 use Rattle.tab_named.specs.Ends.{mailbox_of, received}
 use Rattle.tab_book.specs.declared.step.Drained.TheVariants.{AllTaken}

@@ -1,5 +1,4 @@
-use Rattle.std.proofs.Common.{◌≡◌, Some, subst, sym, ap, ◌∙◌}
-use Rattle.tab_model.specs.declared.data.Reply.{Reply}
+use Rattle.std.proofs.Common.{◌≡◌, Some, subst, sym, ◌∙◌}
 use Rattle.tab_model.specs.State.{Seat, seat_at}
 use Rattle.tab_model.specs.Outcome.{Take}
 use Rattle.tab_book.specs.declared.step.Drained.TheVariants.{AllTaken, Overflow}
