@@ -1,11 +1,12 @@
 -- What is read at a node: the place of a key among its branches, and the entry that comes first.
-use Rattle.std.proofs.Common.{Option, None, Some, slice_get, get_or, add-one, ◌≡◌, ℕ, suc, ◌+◌, List, [], ◌∷◌, ◌++◌, sym, ap, ◌∙◌, subst, arith}
+use Rattle.std.proofs.Common.{None, Some, slice_get, get_or, add-one, ◌≡◌, ℕ, suc, ◌+◌, List, [], ◌∷◌, ◌++◌, sym, ap, ◌∙◌, subst, arith}
 use Rattle.std.proofs.Math.Seq.{get_or-append_seam}
 use Rattle.std.specs.declared.cmp.Ordering.{Ordering}
 use Rattle.std.specs.declared.cmp.Ordering.TheVariants.{Equal}
 use Rattle.std.specs.Cmp.{IsTotalOrder}
 use Rattle.tab_map.specs.declared.Branch.{Branch}
-use Rattle.tab_map.specs.Ahead.{Begins}
+use Rattle.tab_map.specs.declared.ahead.Ahead.{Ahead}
+use Rattle.tab_map.specs.Ahead.{AreAhead}
 use Rattle.tab_map.specs.Entries.{lookup, entries_from, entries_above}
 use Rattle.tab_map.specs.InOrder.{spread, separators}
 use Rattle.tab_map.specs.Places.{HasAt, IsGap}
@@ -18,9 +19,9 @@ pub record Leads {A : Type 0} (xs l : List A) (e : A) : Type 0 where
   pub after : List A
   pub is : xs ≡ l ++ e ∷ after
 
-module _ {A : Type 0} where
-  pub leads_begins : (next : Option A) (row xs l : List A) (e : A) → Leads xs l e → ((after : List A) → Begins next row (l ++ e ∷ after)) → Begins next row xs
-  leads_begins next row xs l e f g = subst (Begins next row) (sym f.is) (g f.after)
+module _ {K V : Type 0} where
+  pub leads_ahead : (a : Ahead K V) (d l : List (K × V)) (e : K × V) → Leads d l e → ((after : List (K × V)) → AreAhead a (l ++ e ∷ after)) → AreAhead a d
+  leads_ahead a d l e f g = subst (AreAhead a) (sym f.is) (g f.after)
 
 module _ {K V : Type 0} (cmp : K → K → Ordering) where
   pub leads_first : (d : List (K × V)) (bs : List (Branch K V)) (m : List (K × V)) (b : Branch K V) → IsRoot cmp d bs m → b ≡ get_or bs 0 b → Leads d b.below b.entry

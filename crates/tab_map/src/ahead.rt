@@ -1,7 +1,6 @@
 //! Where a walk over a map stands.
 ghost use Rattle.std.specs.Prelude.{List, ◌∷◌, ◌++◌};
-ghost use Rattle.std.specs.Option.{option_copied};
-ghost use Rattle.tab_map.specs.Ahead.{Begins};
+ghost use Rattle.tab_map.specs.Ahead.{AreAhead};
 
 use crate::entry::Entry;
 use tab_key::Abbreviate;
@@ -17,7 +16,7 @@ pub struct Ahead<'a, K: Abbreviate, V> {
 impl<'a, K: Abbreviate + Drop, V: Drop> Ahead<'a, K, V> {
     /// What the entries of a row, or those from one of them on, begin with.
     pub fn in_row(items: &'a [Entry<K, V>]) -> Ahead<'a, K, V>
-        ensures { Begins (option_copied result.next) result.row.now items.now }
+        ensures { AreAhead result items.now }
     {
         match items {
             [] => Ahead {
@@ -33,7 +32,7 @@ impl<'a, K: Abbreviate + Drop, V: Drop> Ahead<'a, K, V> {
 
     /// The entry of a branch.
     pub fn entry(entry: &'a Entry<K, V>) -> Ahead<'a, K, V>
-        ensures { (after : List (K × V)) → Begins (option_copied result.next) result.row.now (entry.now ∷ after) }
+        ensures { (after : List (K × V)) → AreAhead result (entry.now ∷ after) }
     {
         Ahead {
             next: Some(entry.pair()),
@@ -43,7 +42,7 @@ impl<'a, K: Abbreviate + Drop, V: Drop> Ahead<'a, K, V> {
 
     /// What is ahead below a branch, or the branch's entry, where nothing is.
     pub fn or_entry(self, entry: &'a Entry<K, V>) -> Ahead<'a, K, V>
-        ensures { (below after : List (K × V)) → Begins (option_copied self.entry.next) self.entry.row.now below → Begins (option_copied result.next) result.row.now (below ++ entry.now ∷ after) }
+        ensures { (below after : List (K × V)) → AreAhead self.entry below → AreAhead result (below ++ entry.now ∷ after) }
     {
         match self.next {
             None => Ahead::entry(entry),

@@ -32,9 +32,9 @@ impl<'a, K: Abbreviate, V> Model for Iter<'a, K, V> {
     ghost view = { λ it. entries_left K.cmp it.map.now (option_copied it.ahead.next) };
 
     ghost use Rattle.tab_map.specs.Entries.{Ascends};
-    ghost use Rattle.tab_map.specs.Ahead.{Begins};
+    ghost use Rattle.tab_map.specs.Ahead.{AreAhead};
 
-    ghost invariant = { λ it. Ascends K.cmp it.map.now × Begins (option_copied it.ahead.next) it.ahead.row.now (entries_left K.cmp it.map.now (option_copied it.ahead.next)) };
+    ghost invariant = { λ it. Ascends K.cmp it.map.now × AreAhead it.ahead (entries_left K.cmp it.map.now (option_copied it.ahead.next)) };
 }
 
 impl<K: Abbreviate + Drop, V: Drop> Map<K, V> {

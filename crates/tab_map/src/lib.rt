@@ -12,7 +12,7 @@
 ghost use Rattle.std.specs.Prelude.{◌≡◌, ◌↔◌, ◌≤◌, [], ◌∷◌, ◌++◌, IfOk, MatchOption, IsTrue, length, slice_get, is_some};
 ghost use Rattle.std.specs.Option.{option_copied};
 ghost use Rattle.tab_map.specs.Entries.{Ascends, lookup, insert_entry, remove_entry, entries_from, entries_above};
-ghost use Rattle.tab_map.specs.Ahead.{Begins};
+ghost use Rattle.tab_map.specs.Ahead.{AreAhead};
 
 mod ahead;
 mod branches;
@@ -234,7 +234,7 @@ impl<K: Abbreviate + Drop, V: Drop> Map<K, V> {
 
     // The whole map is ahead.
     fn start(&self) -> Ahead<'_, K, V>
-        ensures ahead { Begins (option_copied result.next) result.row.now self.now }
+        ensures ahead { AreAhead result self.now }
         ensures ascends { Ascends K.cmp self.now }
     {
         match &self.root {
@@ -256,7 +256,7 @@ impl<K: Abbreviate + Drop, V: Drop> Map<K, V> {
     }
 
     fn next_from(&self, sought: &Sought<K>) -> Ahead<'_, K, V>
-        ensures ahead { Begins (option_copied result.next) result.row.now (entries_from K.cmp sought.now self.now) }
+        ensures ahead { AreAhead result (entries_from K.cmp sought.now self.now) }
         ensures ascends { Ascends K.cmp self.now }
     {
         match &self.root {
@@ -281,7 +281,7 @@ impl<K: Abbreviate + Drop, V: Drop> Map<K, V> {
     }
 
     fn next_above(&self, sought: &Sought<K>) -> Ahead<'_, K, V>
-        ensures ahead { Begins (option_copied result.next) result.row.now (entries_above K.cmp sought.now self.now) }
+        ensures ahead { AreAhead result (entries_above K.cmp sought.now self.now) }
         ensures ascends { Ascends K.cmp self.now }
     {
         match &self.root {

@@ -3,7 +3,7 @@ ghost use Rattle.std.specs.Prelude.{◌≡◌, ◌≤◌, ◌<◌, IfOk, IfErr, 
 ghost use Rattle.std.specs.Option.{option_copied, option_map};
 ghost use Rattle.std.specs.Ordering.{ordering_reverse};
 ghost use Rattle.tab_map.specs.Entries.{Ascends, lookup, insert_entry, remove_entry, entries_from, entries_above};
-ghost use Rattle.tab_map.specs.Ahead.{Begins};
+ghost use Rattle.tab_map.specs.Ahead.{AreAhead};
 ghost use Rattle.tab_map.specs.Places.{HasAt, IsGap};
 ghost use Rattle.tab_map.specs.Revised.{revised_at};
 
@@ -54,7 +54,7 @@ pub fn next_from<'a, K: Abbreviate + Drop, V: Drop>(
     sought: &Sought<K>,
 ) -> Ahead<'a, K, V>
     requires { Ascends K.cmp items.now }
-    ensures { Begins (option_copied result.next) result.row.now (entries_from K.cmp sought.now items.now) }
+    ensures { AreAhead result (entries_from K.cmp sought.now items.now) }
 {
     match place(items, sought) {
         Ok(n) => Ahead::in_row(&items[n..]),
@@ -67,7 +67,7 @@ pub fn next_above<'a, K: Abbreviate + Drop, V: Drop>(
     sought: &Sought<K>,
 ) -> Ahead<'a, K, V>
     requires { Ascends K.cmp items.now }
-    ensures { Begins (option_copied result.next) result.row.now (entries_above K.cmp sought.now items.now) }
+    ensures { AreAhead result (entries_above K.cmp sought.now items.now) }
 {
     match place(items, sought) {
         Ok(n) => Ahead::in_row(&items[n + 1..]),

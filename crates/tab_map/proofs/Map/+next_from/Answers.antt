@@ -1,10 +1,9 @@
 use Rattle.std.proofs.Common.{sym, refl, subst}
 use Rattle.std.proofs.lemmas.Bool.{ltb-false}
 use Rattle.std.proofs.lemmas.Option.{slice_get_read, slice_get_past}
-use Rattle.std.specs.Option.{option_copied}
-use Rattle.tab_map.specs.Ahead.{Begins}
+use Rattle.tab_map.specs.Ahead.{AreAhead}
 use Rattle.tab_map.proofs.SpreadLemmas.{is_root, separators_ascend}
-use Rattle.tab_map.proofs.NodeReads.{found_from, child_from, last_from, leads_begins}
+use Rattle.tab_map.proofs.NodeReads.{found_from, child_from, last_from, leads_ahead}
 use Rattle.tab_map.proofs.Map.+next_from.Goals as goal
 
 pub returns-in-Ok-clause-ahead : goal.returns-in-Ok-clause-ahead
@@ -13,7 +12,7 @@ returns-in-Ok-clause-ahead g t c =
     let found = rw (c.deref-in-Node-2.ensures.value, c.deref-in-Node.ensures) at c.in-Ok.ensures.found in
     let at = rw c.deref-in-Ok.ensures at c.index.ensures in
     let f = found_from g.met.K.Ord.total c.args.sought.now root c.in-Ok.n c.index.result.now found at in
-    leads_begins (option_copied c.entry.result.next) c.entry.result.row.now _ _ _ f c.entry.ensures
+    leads_ahead c.entry.result _ _ _ f c.entry.ensures
 
 pub returns-in-Some-clause-ahead : goal.returns-in-Some-clause-ahead
 returns-in-Some-clause-ahead g t c =
@@ -21,7 +20,7 @@ returns-in-Some-clause-ahead g t c =
     let child = (rw (c.deref-in-Node-2.ensures.value, c.deref-in-Node.ensures) at c.in-Err.ensures.child) (separators_ascend g.K.Ord.cmp _ _ root.sorted) in
     let got = rw (c.deref-in-Err-2.ensures.value, c.deref-in-Err.ensures) at c.in-Some.ensures.lookup in
     let f = child_from g.met.K.Ord.total c.args.sought.now root c.in-Err.n c.in-Some.branch.now child (slice_get_read _ _ _ _ refl got.3.0 got.1) in
-    leads_begins (option_copied c.or_entry.result.next) c.or_entry.result.row.now _ _ _ f (λ after. c.or_entry.ensures _ after c.next_from-in-Some.ensures.ahead)
+    leads_ahead c.or_entry.result _ _ _ f (λ after. c.or_entry.ensures _ after c.next_from-in-Some.ensures.ahead)
 
 pub returns-in-None-clause-ahead : goal.returns-in-None-clause-ahead
 returns-in-None-clause-ahead g t c =
@@ -29,4 +28,4 @@ returns-in-None-clause-ahead g t c =
     let child = (rw (c.deref-in-Node-2.ensures.value, c.deref-in-Node.ensures) at c.in-Err.ensures.child) (separators_ascend g.K.Ord.cmp _ _ root.sorted) in
     let none = rw (c.deref-in-Err-2.ensures.value, c.deref-in-Err.ensures) at c.in-None.ensures.lookup.0 in
     let ahead = rw c.deref-in-None.ensures at c.next_from-in-None.ensures.ahead in
-    subst (Begins (option_copied c.next_from-in-None.result.next) c.next_from-in-None.result.row.now) (sym (last_from g.met.K.Ord.total c.args.sought.now root c.in-Err.n child (slice_get_past _ _ (ltb-false _ _ (sym none))))) ahead
+    subst (AreAhead c.next_from-in-None.result) (sym (last_from g.met.K.Ord.total c.args.sought.now root c.in-Err.n child (slice_get_past _ _ (ltb-false _ _ (sym none))))) ahead
