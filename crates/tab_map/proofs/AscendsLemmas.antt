@@ -1,11 +1,9 @@
 -- Facts on entries that ascend, around an entry e.
-use Rattle.std.proofs.Common.{◌≡◌, List, [], ◌∷◌, ◌++◌, append_assoc, refl, ap, ◌∙◌, Option, None, Some, slice_get}
+use Rattle.std.proofs.Common.{◌≡◌, List, [], ◌∷◌, ◌++◌, append_assoc, refl, ap, ◌∙◌, None, Some}
 use Rattle.std.specs.declared.cmp.Ordering.{Ordering}
 use Rattle.std.specs.declared.cmp.Ordering.TheVariants.{Less, Equal, Greater}
 use Rattle.std.specs.Ordering.{match_ordering, ordering_reverse}
 use Rattle.std.specs.Cmp.{IsTotalOrder}
-use Rattle.std.specs.Option.{option_copied}
-use denote.Ref.{Bor}
 use Rattle.tab_map.specs.Entries.{lookup, insert_entry, remove_entry, entries_from, entries_above, AllAbove, Ascends}
 
 module _ {K V : Type 0} (cmp : K → K → Ordering) where
@@ -160,17 +158,7 @@ module _ {K V : Type 0} (cmp : K → K → Ordering) where
   pub first_two : (x : List (K × V)) (j : K × V) (y : List (K × V)) (k : K × V) (z : List (K × V)) → Ascends cmp (x ++ j ∷ (y ++ k ∷ z)) → Ascends cmp (x ++ j ∷ y)
   first_two x j y k z s = ascends_front cmp (x ++ j ∷ y) (k ∷ z) (rw append_assoc s)
 
--- the first item of two lists
 module _ {A : Type 0} where
   pub not_empty : (l : List A) (e : A) (r : List A) → l ++ e ∷ r ≡ [] → ⊥
   not_empty [] e r p = cc
   not_empty (x ∷ l) e r p = cc
-
-  pub first_of_right : (o : Option (Bor A)) (l : List A) (e : A) (r : List A) → o ≡ None → option_copied o ≡ slice_get l 0 → slice_get (l ++ e ∷ r) 0 ≡ Some e
-  first_of_right o [] e r n p = refl
-  first_of_right o (x ∷ l) e r n p = let q : option_copied o ≡ None = rw n in cc
-
-  pub first_of_left : (o : Option (Bor A)) (l m : List A) → (o ≡ None → ⊥) → option_copied o ≡ slice_get l 0 → option_copied o ≡ slice_get (l ++ m) 0
-  first_of_left None l m n p = absurd (n refl)
-  first_of_left (Some x) [] m n p = cc
-  first_of_left (Some x) (y ∷ l) m n p = p

@@ -1,5 +1,5 @@
 -- What an iterator has left, from each place of a map's entries on.
-use Rattle.std.proofs.Common.{◌≡◌, List, [], ◌∷◌, ◌++◌, refl, sym, ap, ◌∙◌, subst, Option, Some, slice_get, length, ◌<◌, arith}
+use Rattle.std.proofs.Common.{◌≡◌, List, [], ◌∷◌, ◌++◌, refl, sym, ap, ◌∙◌, subst, Option, Some, slice_get, length, ◌<◌, ◌≤◌, arith}
 use Rattle.std.specs.declared.cmp.Ordering.{Ordering}
 use Rattle.std.specs.declared.cmp.Ordering.TheVariants.{Less, Equal, Greater}
 use Rattle.std.specs.Ordering.{match_ordering}
@@ -8,7 +8,10 @@ use Rattle.std.specs.Option.{option_copied}
 use denote.Ref.{Bor}
 use Rattle.std.proofs.lemmas.Cmp.{tied_itself}
 use Rattle.tab_map.specs.Entries.{entries_from, entries_above, Ascends}
+use Rattle.tab_map.specs.declared.ahead.Ahead.{Ahead}
+use Rattle.tab_map.specs.Ahead.{Begins, AreAhead}
 use Rattle.tab_map.specs.InOrder.{entries_left}
+use Rattle.tab_map.proofs.AheadLemmas.{begins_first, begins_more}
 use Rattle.tab_map.proofs.AscendsLemmas.{above_later}
 
 module _ {K V : Type 0} (cmp : K → K → Ordering) where
@@ -49,10 +52,24 @@ module _ {K V : Type 0} {cmp : K → K → Ordering} (o : IsTotalOrder cmp) wher
       let h = from_last cmp k es in
       subst (λ z. Ascends cmp z → entries_left cmp z (slice_get (entries_from cmp k es) 0) ≡ entries_from cmp k es) h.1 (left_at h.0 (entries_from cmp k es)) s
 
-  -- a step of the iterator, from one next entry to another
-  pub left_step : (es now : List (K × V)) (next : Option (Bor (K × V))) (e : Bor (K × V)) (after : Option (Bor (K × V))) → Ascends cmp es → entries_left cmp es (option_copied next) ≡ now → next ≡ Some e → option_copied after ≡ slice_get (entries_above cmp e.now.0 es) 0 → now ≡ e.now ∷ entries_left cmp es (option_copied after)
-  left_step es now next e after s view_is is found =
-      sym view_is ∙ rw (is, found, left_above e.now.0 es s) refl
+  -- what is left is what is ahead
+  pub left_is : (es xs : List (K × V)) (a : Ahead K V) → entries_left cmp es (slice_get xs 0) ≡ xs → AreAhead a xs → entries_left cmp es (option_copied a.next) ≡ xs
+  left_is es xs a p f = ap (entries_left cmp es) (begins_first (option_copied a.next) a.row.now xs f) ∙ p
+
+  pub left_ahead : (es xs : List (K × V)) (a : Ahead K V) → entries_left cmp es (slice_get xs 0) ≡ xs → AreAhead a xs → AreAhead a (entries_left cmp es (option_copied a.next))
+  left_ahead es xs a p f = subst (AreAhead a) (sym (left_is es xs a p f)) f
+
+  -- a step of the iterator over e, which came next, to what is ahead then
+  pub left_step : (es now : List (K × V)) (next : Option (Bor (K × V))) (e : Bor (K × V)) (a : Ahead K V) → Ascends cmp es → entries_left cmp es (option_copied next) ≡ now → next ≡ Some e → AreAhead a (entries_above cmp e.now.0 es) → now ≡ e.now ∷ entries_left cmp es (option_copied a.next)
+  left_step es now next e a s view_is is f =
+      sym view_is ∙ ap (λ z. entries_left cmp es (option_copied z)) is ∙ ap (λ z. e.now ∷ z) (sym (left_is es (entries_above cmp e.now.0 es) a (left_above e.now.0 es s) f))
+
+  -- the row behind e is above e
+  pub row_above : (es : List (K × V)) (a b : Ahead K V) (e : Bor (K × V)) → a.next ≡ Some e → AreAhead a (entries_left cmp es (option_copied a.next)) → AreAhead b a.row.now → 1 ≤ length a.row.now → AreAhead b (entries_above cmp e.now.0 es)
+  row_above es a b e p f g some =
+      let h = subst (λ z. Begins (option_copied z) a.row.now (entries_left cmp es (option_copied z))) p f in
+      let q : entries_above cmp e.now.0 es ≡ a.row.now ++ h.0 = cc (h.1) in
+      subst (AreAhead b) (sym q) (begins_more (option_copied b.next) b.row.now a.row.now h.0 g some)
 
 pub fewer : {A : Type 0} (xs ys : List A) (x : A) → xs ≡ x ∷ ys → length ys < length xs
 fewer xs ys x p = rw p (omega arith)

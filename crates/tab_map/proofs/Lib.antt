@@ -8,6 +8,7 @@ pub mod MergeLemmas
 pub mod RemovalLemmas
 pub mod NodeReads
 pub mod FromLastLemmas
+pub mod AheadLemmas
 pub mod EntriesLeftLemmas
 pub mod KeyListLemmas
 pub mod Crossing

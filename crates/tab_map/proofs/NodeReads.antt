@@ -1,17 +1,16 @@
 -- What is read at a node: the place of a key among its branches, and the entry that comes first.
-use Rattle.std.proofs.Common.{Option, None, Some, slice_get, get_or, add-one, ◌≡◌, ℕ, suc, ◌+◌, List, [], ◌∷◌, ◌++◌, sym, ap, ◌∙◌, subst, arith}
+use Rattle.std.proofs.Common.{None, Some, slice_get, get_or, add-one, ◌≡◌, ℕ, suc, ◌+◌, List, [], ◌∷◌, ◌++◌, sym, ap, ◌∙◌, subst, arith}
 use Rattle.std.proofs.Math.Seq.{get_or-append_seam}
 use Rattle.std.specs.declared.cmp.Ordering.{Ordering}
 use Rattle.std.specs.declared.cmp.Ordering.TheVariants.{Equal}
 use Rattle.std.specs.Cmp.{IsTotalOrder}
-use Rattle.std.specs.Option.{option_copied}
-use denote.Ref.{Bor}
 use Rattle.tab_map.specs.declared.Branch.{Branch}
+use Rattle.tab_map.specs.declared.ahead.Ahead.{Ahead}
+use Rattle.tab_map.specs.Ahead.{AreAhead}
 use Rattle.tab_map.specs.Entries.{lookup, entries_from, entries_above}
 use Rattle.tab_map.specs.InOrder.{spread, separators}
 use Rattle.tab_map.specs.Places.{HasAt, IsGap}
 use Rattle.tab_map.proofs.EntriesLemmas.{lookup_equal, from_less, from_equal, above_less, above_equal}
-use Rattle.tab_map.proofs.AscendsLemmas.{first_of_left, first_of_right}
 use Rattle.tab_map.proofs.PlacesLemmas.{get_next, head_is}
 use Rattle.tab_map.proofs.SpreadLemmas.{IsRoot, AtBranch, Found, past_lookup, past_from, past_above, found_branch, child_branch, last_child, none_left}
 
@@ -20,12 +19,9 @@ pub record Leads {A : Type 0} (xs l : List A) (e : A) : Type 0 where
   pub after : List A
   pub is : xs ≡ l ++ e ∷ after
 
-module _ {A : Type 0} where
-  pub next_item : (o : Option (Bor A)) (xs l : List A) (e : A) → Leads xs l e → o ≡ None → option_copied o ≡ slice_get l 0 → Some e ≡ slice_get xs 0
-  next_item o xs l e f n p = sym (ap (λ z. slice_get z 0) f.is ∙ first_of_right o l e f.after n p)
-
-  pub first_item : (o : Option (Bor A)) (xs l : List A) (e : A) → Leads xs l e → (o ≡ None → ⊥) → option_copied o ≡ slice_get l 0 → option_copied o ≡ slice_get xs 0
-  first_item o xs l e f n p = first_of_left o l (e ∷ f.after) n p ∙ sym (ap (λ z. slice_get z 0) f.is)
+module _ {K V : Type 0} where
+  pub leads_ahead : (a : Ahead K V) (d l : List (K × V)) (e : K × V) → Leads d l e → ((after : List (K × V)) → AreAhead a (l ++ e ∷ after)) → AreAhead a d
+  leads_ahead a d l e f g = subst (AreAhead a) (sym f.is) (g f.after)
 
 module _ {K V : Type 0} (cmp : K → K → Ordering) where
   pub leads_first : (d : List (K × V)) (bs : List (Branch K V)) (m : List (K × V)) (b : Branch K V) → IsRoot cmp d bs m → b ≡ get_or bs 0 b → Leads d b.below b.entry
@@ -45,11 +41,14 @@ module _ {K V : Type 0} {cmp : K → K → Ordering} (o : IsTotalOrder cmp) (k :
       ap (λ z. Some z.entry.1) (found_is n b h p)
       ∙ sym (ap (lookup cmp k) (root.is ∙ h.place.whole) ∙ past_lookup o k h.place.before (spread (h.branch ∷ h.place.after) m) h.place.passes h.place.sorted ∙ lookup_equal o k h.place.node h.equal)
 
-  pub found_from : (n : ℕ) (b : Branch K V) → HasAt cmp k (separators bs) n → b ≡ get_or bs n b → Some b.entry ≡ slice_get (entries_from cmp k d) 0
+  pub found_from : (n : ℕ) (b : Branch K V) → HasAt cmp k (separators bs) n → b ≡ get_or bs n b → Leads (entries_from cmp k d) [] b.entry
   found_from n b f p =
       let h = found_branch o k bs n m f root.sorted in
-      ap (λ z. Some z.entry) (found_is n b h p)
-      ∙ sym (ap (λ z. slice_get z 0) (ap (entries_from cmp k) (root.is ∙ h.place.whole) ∙ past_from o k h.place.before (spread (h.branch ∷ h.place.after) m) h.place.passes h.place.sorted ∙ from_equal o k h.place.node h.equal))
+      record {
+        after = spread h.place.after m;
+        is = ap (entries_from cmp k) (root.is ∙ h.place.whole) ∙ past_from o k h.place.before (spread (h.branch ∷ h.place.after) m) h.place.passes h.place.sorted ∙ from_equal o k h.place.node h.equal
+            ∙ ap (λ z. z.entry ∷ spread h.place.after m) (sym (found_is n b h p));
+      }
 
   found_above : (n : ℕ) (b : Branch K V) (h : AtBranch cmp k bs n m b) → cmp k b.entry.0 ≡ Equal → entries_above cmp k d ≡ spread h.after m
   found_above n b h q = ap (entries_above cmp k) (root.is ∙ h.whole) ∙ past_above o k h.before (spread (b ∷ h.after) m) h.passes h.sorted ∙ above_equal o k h.node q

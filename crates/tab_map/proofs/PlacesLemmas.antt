@@ -79,14 +79,14 @@ module _ {K V : Type 0} (cmp : K → K → Ordering) where
   pub gap_lookup : (k : K) (es : List (K × V)) (n : ℕ) → IsGap cmp k es n → lookup cmp k es ≡ None
   gap_lookup k es n f = ap (lookup cmp k) f.is ∙ past_lookup cmp k f.before f.after f.past ∙ below_lookup cmp k f.after f.below
 
-  gap_get : (k : K) (es : List (K × V)) (n : ℕ) (f : IsGap cmp k es n) → slice_get es n ≡ slice_get f.after 0
-  gap_get k es n f = ap (λ z. slice_get z n) f.is ∙ ap (λ i. slice_get (f.before ++ f.after) i) (sym f.count) ∙ get_seam f.before f.after
+  gap_drop : (k : K) (es : List (K × V)) (n : ℕ) (f : IsGap cmp k es n) → drop n es ≡ f.after
+  gap_drop k es n f = ap (drop n) f.is ∙ ap (λ i. drop i (f.before ++ f.after)) (sym f.count) ∙ drop-append_seam f.before f.after
 
-  pub gap_from : (k : K) (es : List (K × V)) (n : ℕ) → IsGap cmp k es n → slice_get (entries_from cmp k es) 0 ≡ slice_get es n
-  gap_from k es n f = ap (λ z. slice_get z 0) (ap (entries_from cmp k) f.is ∙ past_from cmp k f.before f.after f.past ∙ below_from cmp k f.after f.below) ∙ sym (gap_get k es n f)
+  pub gap_from : (k : K) (es : List (K × V)) (n : ℕ) → IsGap cmp k es n → entries_from cmp k es ≡ drop n es
+  gap_from k es n f = ap (entries_from cmp k) f.is ∙ past_from cmp k f.before f.after f.past ∙ below_from cmp k f.after f.below ∙ sym (gap_drop k es n f)
 
-  pub gap_above : (k : K) (es : List (K × V)) (n : ℕ) → IsGap cmp k es n → slice_get (entries_above cmp k es) 0 ≡ slice_get es n
-  gap_above k es n f = ap (λ z. slice_get z 0) (ap (entries_above cmp k) f.is ∙ past_above cmp k f.before f.after f.past ∙ below_above cmp k f.after f.below) ∙ sym (gap_get k es n f)
+  pub gap_above : (k : K) (es : List (K × V)) (n : ℕ) → IsGap cmp k es n → entries_above cmp k es ≡ drop n es
+  gap_above k es n f = ap (entries_above cmp k) f.is ∙ past_above cmp k f.before f.after f.past ∙ below_above cmp k f.after f.below ∙ sym (gap_drop k es n f)
 
   pub gap_insert : (x : K × V) (es : List (K × V)) (n : ℕ) → IsGap cmp x.0 es n → insert es n x ≡ insert_entry cmp x es
   gap_insert x es n f =
@@ -105,15 +105,15 @@ module _ {K V : Type 0} {cmp : K → K → Ordering} (o : IsTotalOrder cmp) wher
       let q : e ≡ f.entry = p ∙ ap (λ z. get_or z n e) f.is ∙ ap (λ i. get_or (f.before ++ f.entry ∷ f.after) i e) (sym f.count) ∙ get_or-append_seam f.before f.entry f.after e in
       ap (λ z. Some z.1) q ∙ sym (lookup_equal o k (has_node k es n f s) f.equal)
 
-  pub has_from : (k : K) (es : List (K × V)) (n : ℕ) → HasAt cmp k es n → Ascends cmp es → slice_get (entries_from cmp k es) 0 ≡ slice_get es n
+  pub has_from : (k : K) (es : List (K × V)) (n : ℕ) → HasAt cmp k es n → Ascends cmp es → entries_from cmp k es ≡ drop n es
   has_from k es n f s =
-      ap (λ z. slice_get z 0) (from_equal o k (has_node k es n f s) f.equal)
-      ∙ sym (ap (λ z. slice_get z n) f.is ∙ ap (λ i. slice_get (f.before ++ f.entry ∷ f.after) i) (sym f.count) ∙ get_seam f.before (f.entry ∷ f.after))
+      from_equal o k (has_node k es n f s) f.equal
+      ∙ sym (ap (drop n) f.is ∙ ap (λ i. drop i (f.before ++ f.entry ∷ f.after)) (sym f.count) ∙ drop-append_seam f.before (f.entry ∷ f.after))
 
-  pub has_above : (k : K) (es : List (K × V)) (n : ℕ) → HasAt cmp k es n → Ascends cmp es → slice_get (entries_above cmp k es) 0 ≡ slice_get es (n + 1)
+  pub has_above : (k : K) (es : List (K × V)) (n : ℕ) → HasAt cmp k es n → Ascends cmp es → entries_above cmp k es ≡ drop (n + 1) es
   has_above k es n f s =
-      ap (λ z. slice_get z 0) (above_equal o k (has_node k es n f s) f.equal)
-      ∙ sym (ap (slice_get es) (add-one n) ∙ ap (λ z. slice_get z (suc n)) f.is ∙ ap (λ i. slice_get (f.before ++ f.entry ∷ f.after) (suc i)) (sym f.count) ∙ get_next f.before f.entry f.after)
+      above_equal o k (has_node k es n f s) f.equal
+      ∙ sym (ap (λ i. drop i es) (add-one n) ∙ ap (drop (suc n)) f.is ∙ ap (λ i. drop (suc i) (f.before ++ f.entry ∷ f.after)) (sym f.count) ∙ drop_next f.before f.entry f.after)
 
   pub has_set : (x : K × V) (es : List (K × V)) (n : ℕ) → HasAt cmp x.0 es n → Ascends cmp es → slice_set es n x ≡ insert_entry cmp x es
   has_set x es n f s =

@@ -4,3 +4,4 @@ pub mod KeyList
 pub mod Places
 pub mod TreeFalls
 pub mod Revised
+pub mod Ahead

@@ -5,17 +5,20 @@ ghost use Rattle.std.specs.Option.{option_copied};
 ghost use Rattle.tab_map.specs.Entries.{Ascends, entries_from};
 
 use crate::Map;
+use crate::ahead::Ahead;
+use crate::entry::Sought;
 use std::iter::FusedIterator;
 use std::marker::Model;
 use tab_key::Abbreviate;
 
 /// The entries of a map in the order of their keys, seen as the list of those that are left.
 ///
-/// It walks by key: each step finds the first entry above the last one, in O(log n).
+/// Within a row a step takes the entry behind the last one. At the end of a row, and from the entry of a branch, it
+/// searches the map for the first entry above the last one, in O(log n).
 #[derive(Drop)]
 pub struct Iter<'a, K: Abbreviate, V> {
     map: &'a Map<K, V>,
-    next: Option<&'a (K, V)>,
+    ahead: Ahead<'a, K, V>,
 }
 
 impl<'a, K: Abbreviate, V> Model for Iter<'a, K, V> {
@@ -26,7 +29,12 @@ impl<'a, K: Abbreviate, V> Model for Iter<'a, K, V> {
     ghost use Rattle.std.specs.Option.{option_copied};
     ghost use Rattle.tab_map.specs.InOrder.{entries_left};
 
-    ghost view = { λ it. entries_left K.cmp it.map.now (option_copied it.next) };
+    ghost view = { λ it. entries_left K.cmp it.map.now (option_copied it.ahead.next) };
+
+    ghost use Rattle.tab_map.specs.Entries.{Ascends};
+    ghost use Rattle.tab_map.specs.Ahead.{AreAhead};
+
+    ghost invariant = { λ it. Ascends K.cmp it.map.now × AreAhead it.ahead (entries_left K.cmp it.map.now (option_copied it.ahead.next)) };
 }
 
 impl<K: Abbreviate + Drop, V: Drop> Map<K, V> {
@@ -37,7 +45,7 @@ impl<K: Abbreviate + Drop, V: Drop> Map<K, V> {
     {
         Iter {
             map: self,
-            next: self.first(),
+            ahead: self.start(),
         }
     }
 
@@ -48,7 +56,7 @@ impl<K: Abbreviate + Drop, V: Drop> Map<K, V> {
     {
         Iter {
             map: self,
-            next: self.first_from(key),
+            ahead: self.next_from(&Sought::new(key)),
         }
     }
 }
@@ -58,7 +66,7 @@ impl<'a, K: Abbreviate + Drop, V: Drop> Iter<'a, K, V> {
     pub fn peek(&self) -> Option<&'a (K, V)>
         ensures { option_copied result ≡ slice_get self.now 0 }
     {
-        self.next
+        self.ahead.next
     }
 
     /// An iterator over the same map that is at its end.
@@ -67,7 +75,7 @@ impl<'a, K: Abbreviate + Drop, V: Drop> Iter<'a, K, V> {
     {
         Iter {
             map: self.map,
-            next: None,
+            ahead: Ahead::in_row(&[]),
         }
     }
 }
@@ -80,8 +88,11 @@ impl<'a, K: Abbreviate + Drop, V: Drop> Iterator for Iter<'a, K, V> {
     ghost remaining = { item_count (λ left. left) };
 
     fn next(&mut self) -> Option<&'a (K, V)> {
-        let entry = self.next?;
-        self.next = self.map.first_above(&entry.0);
+        let entry = self.ahead.next?;
+        self.ahead = match self.ahead.row {
+            [] => self.map.next_above(&Sought::new(&entry.0)),
+            row => Ahead::in_row(row),
+        };
         Some(entry)
     }
 }

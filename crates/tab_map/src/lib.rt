@@ -12,7 +12,9 @@
 ghost use Rattle.std.specs.Prelude.{◌≡◌, ◌↔◌, ◌≤◌, [], ◌∷◌, ◌++◌, IfOk, MatchOption, IsTrue, length, slice_get, is_some};
 ghost use Rattle.std.specs.Option.{option_copied};
 ghost use Rattle.tab_map.specs.Entries.{Ascends, lookup, insert_entry, remove_entry, entries_from, entries_above};
+ghost use Rattle.tab_map.specs.Ahead.{AreAhead};
 
+mod ahead;
 mod branches;
 mod entry;
 mod in_place;
@@ -25,6 +27,7 @@ mod row;
 mod set;
 mod split;
 
+use ahead::Ahead;
 pub use entry::Entry;
 use entry::Sought;
 pub use iter::Iter;
@@ -226,15 +229,20 @@ impl<K: Abbreviate + Drop, V: Drop> Map<K, V> {
         ensures entry { option_copied result ≡ slice_get self.now 0 }
         ensures ascends { Ascends K.cmp self.now }
     {
+        self.start().next
+    }
+
+    // The whole map is ahead.
+    fn start(&self) -> Ahead<'_, K, V>
+        ensures ahead { AreAhead result self.now }
+        ensures ascends { Ascends K.cmp self.now }
+    {
         match &self.root {
-            Tree::Empty => None,
-            Tree::Leaf(items) => row::pair_at(items.as_slice(), 0),
+            Tree::Empty => Ahead::in_row(&[]),
+            Tree::Leaf(items) => Ahead::in_row(items.as_slice()),
             Tree::Node(node) => match node.branches.as_slice() {
-                [] => None,
-                [branch, ..] => match branch.below.first() {
-                    None => Some(branch.entry.pair()),
-                    found => found,
-                },
+                [] => Ahead::in_row(&[]),
+                [branch, ..] => branch.below.start().or_entry(&branch.entry),
             },
         }
     }
@@ -244,23 +252,20 @@ impl<K: Abbreviate + Drop, V: Drop> Map<K, V> {
         ensures entry { option_copied result ≡ slice_get (entries_from K.cmp key.now self.now) 0 }
         ensures ascends { Ascends K.cmp self.now }
     {
-        self.next_from(&Sought::new(key))
+        self.next_from(&Sought::new(key)).next
     }
 
-    fn next_from(&self, sought: &Sought<K>) -> Option<&(K, V)>
-        ensures entry { option_copied result ≡ slice_get (entries_from K.cmp sought.now self.now) 0 }
+    fn next_from(&self, sought: &Sought<K>) -> Ahead<'_, K, V>
+        ensures ahead { AreAhead result (entries_from K.cmp sought.now self.now) }
         ensures ascends { Ascends K.cmp self.now }
     {
         match &self.root {
-            Tree::Empty => None,
-            Tree::Leaf(items) => row::first_from(items.as_slice(), sought),
+            Tree::Empty => Ahead::in_row(&[]),
+            Tree::Leaf(items) => row::next_from(items.as_slice(), sought),
             Tree::Node(node) => match branches::place(&node.branches, sought) {
-                Ok(n) => Some(node.branches[n].entry.pair()),
+                Ok(n) => Ahead::entry(&node.branches[n].entry),
                 Err(n) => match node.branches.get(n) {
-                    Some(branch) => match branch.below.next_from(sought) {
-                        None => Some(branch.entry.pair()),
-                        found => found,
-                    },
+                    Some(branch) => branch.below.next_from(sought).or_entry(&branch.entry),
                     None => node.last.next_from(sought),
                 },
             },
@@ -272,29 +277,23 @@ impl<K: Abbreviate + Drop, V: Drop> Map<K, V> {
         ensures entry { option_copied result ≡ slice_get (entries_above K.cmp key.now self.now) 0 }
         ensures ascends { Ascends K.cmp self.now }
     {
-        self.next_above(&Sought::new(key))
+        self.next_above(&Sought::new(key)).next
     }
 
-    fn next_above(&self, sought: &Sought<K>) -> Option<&(K, V)>
-        ensures entry { option_copied result ≡ slice_get (entries_above K.cmp sought.now self.now) 0 }
+    fn next_above(&self, sought: &Sought<K>) -> Ahead<'_, K, V>
+        ensures ahead { AreAhead result (entries_above K.cmp sought.now self.now) }
         ensures ascends { Ascends K.cmp self.now }
     {
         match &self.root {
-            Tree::Empty => None,
-            Tree::Leaf(items) => row::first_above(items.as_slice(), sought),
+            Tree::Empty => Ahead::in_row(&[]),
+            Tree::Leaf(items) => row::next_above(items.as_slice(), sought),
             Tree::Node(node) => match branches::place(&node.branches, sought) {
                 Ok(n) => match node.branches.get(n + 1) {
-                    Some(branch) => match branch.below.first() {
-                        None => Some(branch.entry.pair()),
-                        found => found,
-                    },
-                    None => node.last.first(),
+                    Some(branch) => branch.below.start().or_entry(&branch.entry),
+                    None => node.last.start(),
                 },
                 Err(n) => match node.branches.get(n) {
-                    Some(branch) => match branch.below.next_above(sought) {
-                        None => Some(branch.entry.pair()),
-                        found => found,
-                    },
+                    Some(branch) => branch.below.next_above(sought).or_entry(&branch.entry),
                     None => node.last.next_above(sought),
                 },
             },

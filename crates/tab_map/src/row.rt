@@ -1,11 +1,13 @@
 //! Up to a few dozen entries in a row, which the leaves of a tree hold.
-ghost use Rattle.std.specs.Prelude.{◌≡◌, ◌≤◌, ◌<◌, IfOk, IfErr, OnOk, OnErr, length, slice_get};
+ghost use Rattle.std.specs.Prelude.{◌≡◌, ◌≤◌, ◌<◌, IfOk, IfErr, OnOk, OnErr, length};
 ghost use Rattle.std.specs.Option.{option_copied, option_map};
 ghost use Rattle.std.specs.Ordering.{ordering_reverse};
 ghost use Rattle.tab_map.specs.Entries.{Ascends, lookup, insert_entry, remove_entry, entries_from, entries_above};
+ghost use Rattle.tab_map.specs.Ahead.{AreAhead};
 ghost use Rattle.tab_map.specs.Places.{HasAt, IsGap};
 ghost use Rattle.tab_map.specs.Revised.{revised_at};
 
+use crate::ahead::Ahead;
 use crate::entry::{Entry, Sought};
 use crate::revision::Revise;
 use std::alloc::{AllocError, Global};
@@ -47,38 +49,29 @@ pub fn get<'a, K: Abbreviate + Drop, V: Drop>(
     }
 }
 
-pub fn pair_at<'a, K: Abbreviate + Drop, V: Drop>(
-    items: &'a [Entry<K, V>],
-    n: usize,
-) -> Option<&'a (K, V)>
-    ensures { option_copied result ≡ slice_get items.now n }
-{
-    Some(items.get(n)?.pair())
-}
-
-pub fn first_from<'a, K: Abbreviate + Drop, V: Drop>(
+pub fn next_from<'a, K: Abbreviate + Drop, V: Drop>(
     items: &'a [Entry<K, V>],
     sought: &Sought<K>,
-) -> Option<&'a (K, V)>
+) -> Ahead<'a, K, V>
     requires { Ascends K.cmp items.now }
-    ensures { option_copied result ≡ slice_get (entries_from K.cmp sought.now items.now) 0 }
+    ensures { AreAhead result (entries_from K.cmp sought.now items.now) }
 {
     match place(items, sought) {
-        Ok(n) => pair_at(items, n),
-        Err(n) => pair_at(items, n),
+        Ok(n) => Ahead::in_row(&items[n..]),
+        Err(n) => Ahead::in_row(&items[n..]),
     }
 }
 
-pub fn first_above<'a, K: Abbreviate + Drop, V: Drop>(
+pub fn next_above<'a, K: Abbreviate + Drop, V: Drop>(
     items: &'a [Entry<K, V>],
     sought: &Sought<K>,
-) -> Option<&'a (K, V)>
+) -> Ahead<'a, K, V>
     requires { Ascends K.cmp items.now }
-    ensures { option_copied result ≡ slice_get (entries_above K.cmp sought.now items.now) 0 }
+    ensures { AreAhead result (entries_above K.cmp sought.now items.now) }
 {
     match place(items, sought) {
-        Ok(n) => pair_at(items, n + 1),
-        Err(n) => pair_at(items, n),
+        Ok(n) => Ahead::in_row(&items[n + 1..]),
+        Err(n) => Ahead::in_row(&items[n..]),
     }
 }
 
