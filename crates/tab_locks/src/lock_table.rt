@@ -136,9 +136,11 @@ impl LockTable {
         let Some(last) = locks.pop() else {
             return;
         };
-        if !has_equal(locks, &last) {
-            self.index.remove(age, &last);
+        if has_equal(locks, &last) {
+            drop(last);
+            return;
         }
+        self.index.remove(self.alloc, age, last);
     }
 
     /// Gives all locks of an owner back. It takes no memory.
@@ -146,7 +148,7 @@ impl LockTable {
         ensures { self.new ≡ without age self.old }
     {
         if let Some(locks) = self.owners.remove(&age) {
-            release(&mut self.index, age, &locks);
+            release(&mut self.index, self.alloc, age, locks);
         }
     }
 }
@@ -205,10 +207,10 @@ fn is_same(what: &What, other: &What) -> bool
     }
 }
 
-fn release(index: &mut Index, age: u64, locks: &[Lock])
-    ensures { Drops (is_of age locks.now) index.old index.new }
+fn release(index: &mut Index, alloc: Global, age: u64, locks: Vec<Lock>)
+    ensures { Drops (is_of age locks.items) index.old index.new }
 {
     for lock in locks {
-        index.remove(age, lock);
+        index.remove(alloc, age, lock);
     }
 }
