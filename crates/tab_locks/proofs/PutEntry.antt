@@ -1,6 +1,6 @@
 -- A key of a map: what is put at it, and what is left without it.
 use Rattle.std.proofs.Common.{◌≡◌, List, [], ◌∷◌, Bool, true, false, cond, refl, sym, ap, ◌∙◌, Some, None, Ordering, Less, Equal, Greater}
-use Rattle.std.specs.Cmp.{IsTotalOrder}
+use Rattle.std.specs.Cmp.{IsTotalOrder, eq_by_cmp_equiv}
 use Rattle.std.specs.List.Sorted.{IsStrictlySortedBy}
 use Rattle.std.specs.Ordering.{match_ordering, is_eq}
 use Rattle.std.specs.BTreeMap.{is_at, insert_entry}
@@ -8,6 +8,9 @@ use Rattle.std.specs.Map.{keys_of, lookup, set_value, remove_entry}
 use Rattle.std.proofs.lemmas.Map.{lookup-none}
 use Rattle.std.proofs.lemmas.Map.Entries.{none_below_head}
 use Rattle.std.proofs.lemmas.Map.Keys.{sorted_tail}
+
+itself : {K : Type 0} (cmp : K → K → Ordering) → IsTotalOrder cmp → (k : K) → is_at (cmp k) k ≡ true
+itself cmp o k = (eq_by_cmp_equiv o).refl k
 
 module _ {K V : Type 0} where
   -- it takes the place of what the key had
@@ -45,3 +48,24 @@ module _ {K V : Type 0} where
       by : (b : Bool) → cond b (Some e.1) (lookup test es) ≡ None → (lookup test es ≡ None → remove_entry test es ≡ es) → cond b es (e ∷ remove_entry test es) ≡ e ∷ es
       by true n ih = absurd cc
       by false n ih = ap (λ fs. e ∷ fs) (ih n)
+
+  -- what was put is there, and what is put again takes its place
+  module _ (cmp : K → K → Ordering) (o : IsTotalOrder cmp) (k : K) where
+    pub put_there : (v : V) (es : List (K × V)) → lookup (is_at (cmp k)) (insert_entry cmp es k v) ≡ Some v
+    put_there v [] = ap (λ b. cond b (Some v) None) (itself cmp o k)
+    put_there v (e ∷ es) = by (cmp k e.0) refl (put_there v es)
+      where
+        by : (r : Ordering) → cmp k e.0 ≡ r → lookup (is_at (cmp k)) (insert_entry cmp es k v) ≡ Some v → lookup (is_at (cmp k)) (match_ordering r ((k, v) ∷ e ∷ es) ((e.0, v) ∷ es) (e ∷ insert_entry cmp es k v)) ≡ Some v
+        by Less p ih = ap (λ b. cond b (Some v) (lookup (is_at (cmp k)) (e ∷ es))) (itself cmp o k)
+        by Equal p ih = ap (λ r. cond (is_eq r) (Some v) (lookup (is_at (cmp k)) es)) p
+        by Greater p ih = ap (λ r. cond (is_eq r) (Some e.1) (lookup (is_at (cmp k)) (insert_entry cmp es k v))) p ∙ ih
+
+    pub put_again : (v w : V) (es : List (K × V)) → insert_entry cmp es k w ≡ set_value (is_at (cmp k)) (insert_entry cmp es k v) w
+    put_again v w [] = sym (ap (λ b. cond b ((k, w) ∷ []) ((k, v) ∷ [])) (itself cmp o k))
+    put_again v w (e ∷ es) = by (cmp k e.0) refl (put_again v w es)
+      where
+        by : (r : Ordering) → cmp k e.0 ≡ r → insert_entry cmp es k w ≡ set_value (is_at (cmp k)) (insert_entry cmp es k v) w
+            → match_ordering r ((k, w) ∷ e ∷ es) ((e.0, w) ∷ es) (e ∷ insert_entry cmp es k w) ≡ set_value (is_at (cmp k)) (match_ordering r ((k, v) ∷ e ∷ es) ((e.0, v) ∷ es) (e ∷ insert_entry cmp es k v)) w
+        by Less p ih = sym (ap (λ b. cond b ((k, w) ∷ e ∷ es) ((k, v) ∷ set_value (is_at (cmp k)) (e ∷ es) w)) (itself cmp o k))
+        by Equal p ih = sym (ap (λ r. cond (is_eq r) ((e.0, w) ∷ es) ((e.0, v) ∷ set_value (is_at (cmp k)) es w)) p)
+        by Greater p ih = ap (λ fs. e ∷ fs) ih ∙ sym (ap (λ r. cond (is_eq r) ((e.0, w) ∷ insert_entry cmp es k v) (e ∷ set_value (is_at (cmp k)) (insert_entry cmp es k v) w)) p)

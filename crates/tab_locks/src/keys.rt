@@ -72,6 +72,7 @@ impl Keys {
         }
     }
 
+    /// One search; what is made for a key that is not there goes where it is.
     pub fn add(
         &mut self,
         alloc: Global,
@@ -82,14 +83,18 @@ impl Keys {
         ensures ok { OnOk result (HasMore (term key.now, (age, write)) self.old self.new) }
         ensures err { OnErr result (SameMembers self.old self.new) }
     {
-        match self.holders.get_mut(key) {
-            Some(holders) => holders.add(age, write),
-            None => {
-                let only = Holders::only(alloc, age, write)?;
-                self.holders.insert(key.try_clone(alloc)?, only)?;
-                Ok(())
+        let only = Holders::only(alloc, age, write)?;
+        let entry = self.holders.entry(key.try_clone(alloc)?)?;
+        match entry {
+            Entry::Occupied(entry) => {
+                drop(only);
+                return entry.into_mut().add(age, write);
+            }
+            Entry::Vacant(entry) => {
+                entry.insert(only);
             }
         }
+        Ok(())
     }
 
     /// A key that no one holds a lock on goes away, so that a question about all of the table doesn't look at it.
