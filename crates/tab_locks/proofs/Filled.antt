@@ -1,7 +1,7 @@
 -- Maps without empty lists, over a value written in its place, and without the entry of one key.
-use Rattle.std.proofs.Common.{◌≡◌, List, [], ◌∷◌, Bool, true, false, not, cond, refl, sym, subst, ◌∙◌, Some, Result, Ok, Err, OnOk, OnErr}
+use Rattle.std.proofs.Common.{◌≡◌, List, [], ◌∷◌, Bool, true, false, not, cond, refl, sym, ap, subst, ◌∙◌, ◌||◌, ◌↔◌, IsTrue, length, arith, Some, Result, Ok, Err, OnOk, OnErr}
 use Rattle.std.specs.Map.{values_of, lookup, set_value, remove_entry}
-use Rattle.std.specs.List.{All, list_any}
+use Rattle.std.specs.List.{list_any}
 use Rattle.std.specs.BTreeMap.{insert_entry}
 use Rattle.std.specs.declared.cmp.Ordering.{Ordering}
 use Rattle.std.proofs.lemmas.List.Elements.{All-cons, All-head, All-tail}
@@ -20,6 +20,12 @@ filled_grown (Ok t) x v w filled more same = more (λ y. true)
 filled_grown (Err e) x v w filled more same = same (λ y. true) ∙ filled
 
 module _ {K X : Type 0} where
+  -- a map with no entries has no value with a member
+  pub any_value : (b : Bool) (es : List (K × List X)) → (IsTrue b ↔ (length es ≡ 0)) → HasNoneEmpty es → not b ≡ list_any (λ v. list_any (λ x. true) v) (values_of es)
+  any_value b [] h filled = ap not (h.1 refl)
+  any_value true (e ∷ es) h filled = absurd (omega (arith, h.0 refl))
+  any_value false (e ∷ es) h filled = λ i. sym (All-head IsFilled _ _ filled) i || list_any (λ v. list_any (λ x. true) v) (values_of es)
+
   pub filled_written : (test : K → Bool) (w : List X) (es new : List (K × List X)) → new ≡ set_value test es w → HasNoneEmpty es → IsFilled w → HasNoneEmpty new
   filled_written test w es new is filled one = subst HasNoneEmpty (sym is) (All-values-set_value test IsFilled es w filled one)
 

@@ -1,19 +1,18 @@
 -- What a table of locks keeps over a lock more and over the release of an owner.
-use Rattle.std.proofs.Common.{◌≡◌, ℕ, ◌+◌, ◌<◌, List, [], ◌∷◌, ◌++◌, Bool, true, false, ◌||◌, ◌&&◌, not, refl, sym, ap, ◌∙◌, Some, Result, Ok, Err, is_ok, OnOk, OnErr, take, length, get_or, nat_cmp}
+use Rattle.std.proofs.Common.{◌≡◌, ℕ, List, [], ◌∷◌, ◌++◌, Bool, true, false, ◌||◌, ◌&&◌, not, refl, sym, ap, ◌∙◌, Some, Result, Ok, Err, is_ok, OnOk, OnErr, nat_cmp}
 use Rattle.std.specs.Prelude.{if◌then◌else◌}
 use Rattle.std.specs.Global.{Vec}
 use Rattle.std.specs.List.{list_any}
 use Rattle.std.specs.List.Sorted.{IsStrictlySortedBy}
 use Rattle.std.specs.BTreeMap.{is_at}
 use Rattle.std.specs.Map.{keys_of, lookup, set_value, remove_entry}
-use Rattle.std.proofs.lemmas.List.Folds.{list_any_more}
 use Rattle.tab_model.specs.declared.data.Lock as code
 use Rattle.tab_model.specs.Ages.{Owned}
 use Rattle.tab_locks.specs.Members.{HasMore, SameMembers, Drops}
 use Rattle.tab_locks.specs.Plain.{lock_of}
 use Rattle.tab_locks.specs.Spots.{stands_at}
 use Rattle.tab_locks.specs.Placed.{placed, without_last, listed, is_of}
-use Rattle.tab_locks.proofs.Passing.{any_same}
+use Rattle.tab_locks.proofs.Passing.{any_same, any_more}
 use Rattle.tab_locks.proofs.WithoutLast.{placed_undone}
 use Rattle.tab_locks.proofs.Listing.{any_placed, listed_more, listed_same, released}
 
@@ -41,20 +40,16 @@ module _ {T E : Type 0} (age : ℕ) (l : code.Lock) (v w : Vec code.Lock) (es ne
   still_indexed (Err e) index after items same more none = λ p.
       none p ∙ same p ∙ ap (list_any p) (sym (ap listed set ∙ listed_same age v w es found items))
 
-neither : (a b c : Bool) → ((a && not b) && not c) ≡ (a && not (c || b))
-neither true true true = refl
-neither true true false = refl
-neither true false true = refl
-neither true false false = refl
+neither : (a b c : Bool) → ((a && not b) && not c) ≡ (a && not (b || c))
+neither true true c = refl
+neither true false c = refl
 neither false b c = refl
 
-pub one_more_gone : (age i : ℕ) (l : code.Lock) (locks : List code.Lock) (old now new : List Owned) → i < length locks → l ≡ get_or locks i l
-    → Drops (is_of age (take i locks)) old now → Drops (stands_at age (lock_of l)) now new → Drops (is_of age (take (i + 1) locks)) old new
-one_more_gone age i l locks old now new lt is before here = λ p.
+pub one_more_gone : (age : ℕ) (l : code.Lock) (locks : List code.Lock) (old now new : List Owned) → Drops (is_of age locks) old now → Drops (stands_at age (lock_of l)) now new → Drops (is_of age (locks ++ l ∷ [])) old new
+one_more_gone age l locks old now new before here = λ p.
     here p ∙ before (λ x. p x && not (stands_at age (lock_of l) x))
-    ∙ any_same (λ x. (p x && not (stands_at age (lock_of l) x)) && not (is_of age (take i locks) x)) (λ x. p x && not (is_of age (take (i + 1) locks) x)) old
-    (λ x. neither (p x) (stands_at age (lock_of l) x) (is_of age (take i locks) x)
-    ∙ ap (λ b. p x && not b) (ap (λ (k : code.Lock). is_of age (take i locks) x || stands_at age (lock_of k) x) is ∙ sym (list_any_more (λ k. stands_at age (lock_of k) x) locks i l lt)))
+    ∙ any_same (λ x. (p x && not (stands_at age (lock_of l) x)) && not (is_of age locks x)) (λ x. p x && not (is_of age (locks ++ l ∷ []) x)) old
+    (λ x. neither (p x) (stands_at age (lock_of l) x) (is_of age locks x) ∙ ap (λ b. p x && not b) (sym (any_more (λ k. stands_at age (lock_of k) x) locks l)))
 
 pub indexed_released : (age : ℕ) (v : Vec code.Lock) (es new : Entries) (index after : List Owned) → IsStrictlySortedBy nat_cmp (keys_of es) → lookup (is_at (nat_cmp age)) es ≡ Some v
     → new ≡ remove_entry (is_at (nat_cmp age)) es → SameMembers (listed es) index → Drops (is_of age v.items) index after → SameMembers (listed new) after

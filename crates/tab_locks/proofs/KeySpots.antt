@@ -13,6 +13,7 @@ use Rattle.tab_locks.specs.Members.{HasMore, SameMembers, Drops}
 use Rattle.tab_locks.specs.Spots.{Holding, KeySpot, key_spots, stands_on_key, is_holding}
 use Rattle.tab_locks.proofs.Passing.{any_same, any_map, any_and, any_flat_map}
 use Rattle.tab_locks.proofs.Lookups.{found_any}
+use Rattle.tab_locks.proofs.PutEntry.{put_found, found_set, without_set, without_missing}
 use Rattle.tab_locks.proofs.MapMembers.{more_mapped, dropped_mapped, kept_mapped, spelled_found, spelled_more, spelled_same, spelled_new, spelled_dropped, spelled_kept, spelled_pruned}
 use Rattle.tab_term.proofs.Total.{term_total}
 use Rattle.tab_term.specs.Order.{term_cmp}
@@ -62,3 +63,17 @@ none_at k r es l = spelled_kept term_cmp term_total spell k (stands_on_key (term
 
 pub pruned_at : (k : Term) (es new : Entries) → lookup (is_at (term_cmp k)) es ≡ Some [] → new ≡ remove_entry (is_at (term_cmp k)) es → SameMembers (key_spots es) (key_spots new)
 pruned_at k es new l is = spelled_pruned term_cmp term_total spell k [] es new l is (λ j. refl)
+
+-- what is put at a key that is there, and what is left where its last owner goes
+pub dropped_put : (k : Term) (r : Holding) (v w : List Holding) (es new : Entries) → IsStrictlySortedBy term_cmp (keys_of es) → lookup (is_at (term_cmp k)) es ≡ Some v → new ≡ insert_entry term_cmp es k w
+    → Drops (is_holding r) v w → Drops (stands_on_key (term k) r) (key_spots es) (key_spots new)
+dropped_put k r v w es new s l is h = dropped_at k r v w es new s l (is ∙ put_found term_cmp term_total k v w es s l) h
+
+pub dropped_last : (k : Term) (r : Holding) (v w : List Holding) (es new : Entries) → IsStrictlySortedBy term_cmp (keys_of es) → lookup (is_at (term_cmp k)) es ≡ Some v → w ≡ [] → new ≡ remove_entry (is_at (term_cmp k)) es
+    → Drops (is_holding r) v w → Drops (stands_on_key (term k) r) (key_spots es) (key_spots new)
+dropped_last k r v w es new s l bare is h =
+    let at = is_at (term_cmp k) in
+    λ p. pruned_at k (set_value at es w) new (found_set at v w es l ∙ ap Some bare) (is ∙ sym (without_set at w es)) p ∙ dropped_at k r v w es (set_value at es w) s l refl h p
+
+pub dropped_none : (k : Term) (r : Holding) (es new : Entries) → lookup (is_at (term_cmp k)) es ≡ None → new ≡ remove_entry (is_at (term_cmp k)) es → Drops (stands_on_key (term k) r) (key_spots es) (key_spots new)
+dropped_none k r es new l is = subst (λ (fs : Entries). Drops (stands_on_key (term k) r) (key_spots es) (key_spots fs)) {x = es} {y = new} (sym (is ∙ without_missing (is_at (term_cmp k)) es l)) (none_at k r es l)

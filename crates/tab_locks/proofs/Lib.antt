@@ -1,5 +1,6 @@
 pub mod Passing
 pub mod Lookups
+pub mod PutEntry
 pub mod Holdings
 pub mod MapMembers
 pub mod KeySpots

@@ -1,6 +1,6 @@
 -- The owners' lists as one: what a lock more, and an owner less, make of it.
 use Rattle.std.proofs.Common.{◌≡◌, ℕ, List, [], ◌∷◌, ◌++◌, Bool, true, false, ◌||◌, ◌&&◌, not, cond, refl, sym, ap, ◌∙◌, subst, Option, Some, None, Ordering, Less, Equal, Greater, arith, nat_cmp, append_assoc}
-use Rattle.std.specs.Prelude.{◌==◌, is_some, nat_lt, if◌then◌else◌}
+use Rattle.std.specs.Prelude.{◌==◌, nat_lt, if◌then◌else◌}
 use Rattle.std.specs.Global.{Vec}
 use Rattle.std.specs.List.{list_any, AllByRecursion}
 use Rattle.std.specs.List.Sorted.{IsStrictlySortedBy}
@@ -18,6 +18,10 @@ use Rattle.tab_model.specs.Ages.{Owned, without}
 use Rattle.tab_locks.specs.Plain.{lock_of}
 use Rattle.tab_locks.specs.Spots.{same_part, same_mode, stands_at}
 use Rattle.tab_locks.specs.Placed.{placed, owned_by, listed, is_of}
+use Rattle.std.specs.Cmp.{nat_cmp_total}
+use Rattle.std.specs.Option.{unwrap_or}
+use Rattle.std.proofs.lemmas.Map.Steps.{set_value_same}
+use Rattle.tab_locks.proofs.PutEntry.{put_found}
 use Rattle.tab_locks.proofs.Passing.{or_swap, any_never}
 use Rattle.tab_model.proofs.Seats.{itself}
 
@@ -48,10 +52,6 @@ pub not_itself : (a : ℕ) → nat_lt a a ≡ false
 not_itself a = grind (arith, nat_tests)
 
 -- ---- one lock more
-
-pub absent : {X : Type 0} (o : Option X) → is_some o ≡ false → o ≡ None
-absent None h = refl
-absent (Some x) h = absurd cc
 
 pub any_placed : (p : Owned → Bool) (x : Owned) (ys : List Owned) → list_any p (placed x ys) ≡ (p x || list_any p ys)
 any_placed p x [] = refl
@@ -118,6 +118,14 @@ listed_opened age v (e ∷ es) n is = by (nat_cmp age e.0) n (λ m. listed_opene
     by Less m ih = ap (λ ls. owned_by age ls ++ listed (e ∷ es)) is
     by Equal m ih = absurd cc
     by Greater m ih = ap (λ zs. owned_by e.0 (e.1).items ++ zs) (ih m)
+
+-- an owner's own list, or an empty one, put at its age
+pub listed_open : (age : ℕ) (empty v : Vec code.Lock) (es : Entries) → IsStrictlySortedBy nat_cmp (keys_of es) → empty.items ≡ [] → v ≡ unwrap_or (lookup (is_at (nat_cmp age)) es) empty → listed (insert_entry nat_cmp es age v) ≡ listed es
+listed_open age empty v es s bare is = by (lookup (is_at (nat_cmp age)) es) refl is
+  where
+    by : (o : Option (Vec code.Lock)) → lookup (is_at (nat_cmp age)) es ≡ o → v ≡ unwrap_or o empty → listed (insert_entry nat_cmp es age v) ≡ listed es
+    by None l t = listed_opened age v es l (ap (λ (u : Vec code.Lock). u.items) t ∙ bare)
+    by (Some u) l t = ap listed (put_found nat_cmp nat_cmp_total age u v es s l ∙ set_value_same (is_at (nat_cmp age)) es v (l ∙ ap Some (sym t)))
 
 -- ---- an owner less
 

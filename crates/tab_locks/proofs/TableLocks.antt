@@ -20,6 +20,7 @@ use Rattle.tab_locks.specs.Members.{HasMore, SameMembers, Drops}
 use Rattle.tab_locks.specs.Spots.{Spot, locks_on, locks_in, stands_on, stands_at}
 use Rattle.tab_locks.proofs.Passing.{any_same, any_map, any_and}
 use Rattle.tab_locks.proofs.Lookups.{found_any}
+use Rattle.tab_locks.proofs.PutEntry.{put_found, found_set, without_set, without_missing}
 use Rattle.tab_locks.proofs.MapMembers.{more_mapped, same_mapped, dropped_mapped, kept_mapped, spelled_found, spelled_more, spelled_same, spelled_new, spelled_dropped, spelled_kept, spelled_pruned}
 use Rattle.tab_term.specs.Order.{bytes_cmp}
 use Rattle.tab_model.specs.State.{is_in}
@@ -103,3 +104,17 @@ none_in age t part write es l = spelled_kept bytes_cmp nat_list_cmp_total locks_
 
 pub pruned_in : (t : List ℕ) (es new : Entries) → lookup (is_at (bytes_cmp t)) es ≡ Some [] → new ≡ remove_entry (is_at (bytes_cmp t)) es → SameMembers (locks_in es) (locks_in new)
 pruned_in t es new l is = spelled_pruned bytes_cmp nat_list_cmp_total locks_on t [] es new l is (λ u. refl)
+
+-- what is put at a table that is there, and what is left where its last lock goes
+pub dropped_put : (age : ℕ) (t : List ℕ) (part : Part) (write : Bool) (v w : List Spot) (es new : Entries) → IsStrictlySortedBy bytes_cmp (keys_of es) → lookup (is_at (bytes_cmp t)) es ≡ Some v → new ≡ insert_entry bytes_cmp es t w
+    → Drops (stands_on part (age, write)) v w → Drops (stands_at age (lock t part write)) (locks_in es) (locks_in new)
+dropped_put age t part write v w es new s l is h = dropped_in age t part write v w es new s l (is ∙ put_found bytes_cmp nat_list_cmp_total t v w es s l) h
+
+pub dropped_last : (age : ℕ) (t : List ℕ) (part : Part) (write : Bool) (v w : List Spot) (es new : Entries) → IsStrictlySortedBy bytes_cmp (keys_of es) → lookup (is_at (bytes_cmp t)) es ≡ Some v → w ≡ [] → new ≡ remove_entry (is_at (bytes_cmp t)) es
+    → Drops (stands_on part (age, write)) v w → Drops (stands_at age (lock t part write)) (locks_in es) (locks_in new)
+dropped_last age t part write v w es new s l bare is h =
+    let at = is_at (bytes_cmp t) in
+    λ p. pruned_in t (set_value at es w) new (found_set at v w es l ∙ ap Some bare) (is ∙ sym (without_set at w es)) p ∙ dropped_in age t part write v w es (set_value at es w) s l refl h p
+
+pub dropped_none : (age : ℕ) (t : List ℕ) (part : Part) (write : Bool) (es new : Entries) → lookup (is_at (bytes_cmp t)) es ≡ None → new ≡ remove_entry (is_at (bytes_cmp t)) es → Drops (stands_at age (lock t part write)) (locks_in es) (locks_in new)
+dropped_none age t part write es new l is = subst (λ (fs : Entries). Drops (stands_at age (lock t part write)) (locks_in es) (locks_in fs)) {x = es} {y = new} (sym (is ∙ without_missing (is_at (bytes_cmp t)) es l)) (none_in age t part write es l)

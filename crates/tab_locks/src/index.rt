@@ -1,7 +1,6 @@
-ghost use Rattle.std.specs.Prelude.{◌≡◌, [], OnOk, OnErr, IsTrue, IsFalse, Some};
-ghost use Rattle.std.specs.BTreeMap.{get_by, is_at, IsOrdered};
+ghost use Rattle.std.specs.Prelude.{◌≡◌, [], OnOk, OnErr};
+ghost use Rattle.std.specs.BTreeMap.{IsOrdered};
 ghost use Rattle.std.specs.List.{list_any};
-ghost use Rattle.std.specs.Map.{remove_entry};
 ghost use Rattle.std.specs.Str.{bytes_eq};
 ghost use Rattle.tab_model.specs.State.{is_in};
 ghost use Rattle.tab_locks.specs.Plain.{is_write as is_write_of, lock_of};
@@ -15,6 +14,7 @@ use crate::on_table::OnTable;
 use crate::question::{Question, Relation};
 use std::alloc::{AllocError, Global};
 use std::collections::BTreeMap;
+use std::collections::btree_map::Entry;
 use std::marker::Model;
 use tab_model::{Lock, Mode};
 use tab_term::Atom;
@@ -91,38 +91,38 @@ impl Index {
     }
 
     /// Takes an owner away from the table and part of a lock, in its mode. A table that no one holds a lock on goes away.
-    pub fn remove(&mut self, age: u64, lock: &Lock)
-        ensures { Drops (stands_at age (lock_of lock.now)) self.old self.new }
+    pub fn remove(&mut self, alloc: Global, age: u64, lock: Lock)
+        ensures { Drops (stands_at age (lock_of lock)) self.old self.new }
     {
-        if take(&mut self.tables, age, lock) {
-            forget(&mut self.tables, &lock.table);
-        }
+        take(&mut self.tables, alloc, age, lock);
     }
 }
 
-/// Takes an owner away from the table and part of a lock, and says whether that was the last one on the table.
-fn take(tables: &mut BTreeMap<Atom, OnTable>, age: u64, lock: &Lock) -> bool
+/// Takes an owner away from the table and part of a lock, in one search of each, and the table where that was the last one.
+fn take(tables: &mut BTreeMap<Atom, OnTable>, alloc: Global, age: u64, lock: Lock)
     requires { HasNoneEmpty tables.old.entries }
-    ensures dropped { Drops (stands_at age (lock_of lock.now)) (locks_in tables.old.entries) (locks_in tables.new.entries) }
-    ensures bare { IsTrue result → get_by (bytes_cmp lock.now.table) tables.new ≡ Some [] }
-    ensures filled { IsFalse result → HasNoneEmpty tables.new.entries }
-    ensures others { HasNoneEmpty (remove_entry (is_at (bytes_cmp lock.now.table)) tables.new.entries) }
+    ensures dropped { Drops (stands_at age (lock_of lock)) (locks_in tables.old.entries) (locks_in tables.new.entries) }
+    ensures filled { HasNoneEmpty tables.new.entries }
     ensures ordered { IsOrdered bytes_cmp tables.new }
 {
-    match tables.get_mut(&lock.table) {
-        Some(spots) => {
-            spots.remove(&lock.what, age, is_write(lock.mode));
-            !spots.is_occupied()
-        }
-        None => false,
+    let Lock { table, what, mode } = lock;
+    match tables.entry(table) {
+        Ok(entry) => match entry {
+            Entry::Occupied(mut entry) => {
+                let spots = entry.get_mut();
+                spots.remove(alloc, what, age, is_write(mode));
+                if spots.is_occupied() {
+                    return;
+                }
+                entry.remove();
+            }
+            // What a dropped entry leaves is not known, so it is filled and emptied.
+            Entry::Vacant(entry) => {
+                entry.insert_entry(OnTable::new(alloc)).remove();
+            }
+        },
+        Err(_refused) => {}
     }
-}
-
-fn forget(tables: &mut BTreeMap<Atom, OnTable>, table: &Atom)
-    ensures entries { tables.new.entries ≡ remove_entry (is_at (bytes_cmp table.now)) tables.old.entries }
-    ensures ordered { IsOrdered bytes_cmp tables.new }
-{
-    tables.remove(table);
 }
 
 fn is_write(mode: Mode) -> bool

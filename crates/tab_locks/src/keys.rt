@@ -1,7 +1,6 @@
-ghost use Rattle.std.specs.Prelude.{◌≡◌, ◌&&◌, [], OnOk, OnErr, IsTrue, IsFalse, Some, true};
-ghost use Rattle.std.specs.BTreeMap.{get_by, is_at, values, IsOrdered};
+ghost use Rattle.std.specs.Prelude.{◌≡◌, ◌&&◌, [], OnOk, OnErr, true};
+ghost use Rattle.std.specs.BTreeMap.{values, IsOrdered};
 ghost use Rattle.std.specs.List.{list_any};
-ghost use Rattle.std.specs.Map.{remove_entry};
 ghost use Rattle.tab_term.specs.Same.{same};
 ghost use Rattle.tab_term.specs.View.{term};
 ghost use Rattle.tab_locks.specs.Questions.{fits};
@@ -14,6 +13,7 @@ use crate::holders::Holders;
 use crate::question::Question;
 use std::alloc::{AllocError, Global};
 use std::collections::BTreeMap;
+use std::collections::btree_map::Entry;
 use std::marker::Model;
 use tab_term::Term;
 
@@ -52,7 +52,7 @@ impl Keys {
     pub fn is_occupied(&self) -> bool
         ensures { result ≡ list_any (λ _. true) self.now }
     {
-        is_any_occupied(&self.holders)
+        !self.holders.is_empty()
     }
 
     /// Looks at every key that is locked.
@@ -72,6 +72,7 @@ impl Keys {
         }
     }
 
+    /// One search; what is made for a key that is not there goes where it is.
     pub fn add(
         &mut self,
         alloc: Global,
@@ -82,23 +83,25 @@ impl Keys {
         ensures ok { OnOk result (HasMore (term key.now, (age, write)) self.old self.new) }
         ensures err { OnErr result (SameMembers self.old self.new) }
     {
-        match self.holders.get_mut(key) {
-            Some(holders) => holders.add(age, write),
-            None => {
-                let only = Holders::only(alloc, age, write)?;
-                self.holders.insert(key.try_clone(alloc)?, only)?;
-                Ok(())
+        let only = Holders::only(alloc, age, write)?;
+        let entry = self.holders.entry(key.try_clone(alloc)?)?;
+        match entry {
+            Entry::Occupied(entry) => {
+                drop(only);
+                return entry.into_mut().add(age, write);
+            }
+            Entry::Vacant(entry) => {
+                entry.insert(only);
             }
         }
+        Ok(())
     }
 
     /// A key that no one holds a lock on goes away, so that a question about all of the table doesn't look at it.
-    pub fn remove(&mut self, key: &Term, age: u64, write: bool)
-        ensures { Drops (stands_on_key (term key.now) (age, write)) self.old self.new }
+    pub fn remove(&mut self, alloc: Global, key: Term, age: u64, write: bool)
+        ensures { Drops (stands_on_key (term key) (age, write)) self.old self.new }
     {
-        if take(&mut self.holders, key, age, write) {
-            forget(&mut self.holders, key);
-        }
+        take(&mut self.holders, alloc, key, age, write);
     }
 }
 
@@ -108,33 +111,28 @@ fn any_of(holders: &BTreeMap<Term, Holders>, question: Question) -> bool
     holders.values().any(|at_key| at_key.any(question))
 }
 
-fn is_any_occupied(holders: &BTreeMap<Term, Holders>) -> bool
-    ensures { result ≡ list_any (λ v. list_any (λ _. true) v) (values holders.now) }
-{
-    holders.values().any(|at_key| at_key.is_occupied())
-}
-
-/// Takes an owner away from a key, and says whether that was the last one.
-fn take(holders: &mut BTreeMap<Term, Holders>, key: &Term, age: u64, write: bool) -> bool
+/// Takes an owner away from a key, in one search, and the key itself where that was the last one.
+fn take(holders: &mut BTreeMap<Term, Holders>, alloc: Global, key: Term, age: u64, write: bool)
     requires { HasNoneEmpty holders.old.entries }
-    ensures dropped { Drops (stands_on_key (term key.now) (age, write)) (key_spots holders.old.entries) (key_spots holders.new.entries) }
-    ensures bare { IsTrue result → get_by (term_cmp key.now) holders.new ≡ Some [] }
-    ensures filled { IsFalse result → HasNoneEmpty holders.new.entries }
-    ensures others { HasNoneEmpty (remove_entry (is_at (term_cmp key.now)) holders.new.entries) }
+    ensures dropped { Drops (stands_on_key (term key) (age, write)) (key_spots holders.old.entries) (key_spots holders.new.entries) }
+    ensures filled { HasNoneEmpty holders.new.entries }
     ensures ordered { IsOrdered term_cmp holders.new }
 {
-    match holders.get_mut(key) {
-        Some(at_key) => {
-            at_key.remove(age, write);
-            !at_key.is_occupied()
-        }
-        None => false,
+    match holders.entry(key) {
+        Ok(entry) => match entry {
+            Entry::Occupied(mut entry) => {
+                let at_key = entry.get_mut();
+                at_key.remove(age, write);
+                if at_key.is_occupied() {
+                    return;
+                }
+                entry.remove();
+            }
+            // What a dropped entry leaves is not known, so it is filled and emptied.
+            Entry::Vacant(entry) => {
+                entry.insert_entry(Holders::new(alloc)).remove();
+            }
+        },
+        Err(_refused) => {}
     }
-}
-
-fn forget(holders: &mut BTreeMap<Term, Holders>, key: &Term)
-    ensures entries { holders.new.entries ≡ remove_entry (is_at (term_cmp key.now)) holders.old.entries }
-    ensures ordered { IsOrdered term_cmp holders.new }
-{
-    holders.remove(key);
 }

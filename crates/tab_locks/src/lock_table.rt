@@ -1,7 +1,5 @@
-ghost use Rattle.std.specs.Prelude.{◌≡◌, [], ◌∷◌, ◌++◌, is_ok, if◌then◌else◌, OnOk, OnErr, IsSome};
+ghost use Rattle.std.specs.Prelude.{◌≡◌, [], ◌∷◌, ◌++◌, is_ok, if◌then◌else◌, OnOk, OnErr};
 ghost use Rattle.std.specs.List.{list_any};
-ghost use Rattle.std.specs.BTreeMap.{get, IsOrdered};
-ghost use Rattle.std.specs.Ordering.{nat_cmp};
 ghost use Rattle.std.specs.Str.{bytes_eq};
 ghost use Rattle.tab_model.specs.Ages.{covers_own, without};
 ghost use Rattle.tab_model.specs.State.{is_in};
@@ -119,11 +117,9 @@ impl LockTable {
         ensures undo { OnOk result (without_last age self.new ≡ self.old) }
         ensures err { OnErr result (self.new ≡ self.old) }
     {
-        open(&mut self.owners, self.alloc, age)?;
-        match self.owners.get_mut(&age) {
-            Some(locks) => keep(locks, &mut self.index, self.alloc, age, lock),
-            None => unreachable!(),
-        }
+        let entry = self.owners.entry(age)?;
+        let locks = entry.or_insert(Vec::new(self.alloc));
+        keep(locks, &mut self.index, self.alloc, age, lock)
     }
 
     /// Gives the lock back that this owner was granted last. It takes no memory.
@@ -136,9 +132,11 @@ impl LockTable {
         let Some(last) = locks.pop() else {
             return;
         };
-        if !has_equal(locks, &last) {
-            self.index.remove(age, &last);
+        if has_equal(locks, &last) {
+            drop(last);
+            return;
         }
+        self.index.remove(self.alloc, age, last);
     }
 
     /// Gives all locks of an owner back. It takes no memory.
@@ -146,22 +144,9 @@ impl LockTable {
         ensures { self.new ≡ without age self.old }
     {
         if let Some(locks) = self.owners.remove(&age) {
-            release(&mut self.index, age, &locks);
+            release(&mut self.index, self.alloc, age, locks);
         }
     }
-}
-
-/// Sees to it that this owner has a list, if only an empty one.
-fn open(owners: &mut BTreeMap<u64, Vec<Lock>>, alloc: Global, age: u64) -> Result<(), AllocError>
-    requires { IsOrdered nat_cmp owners.old }
-    ensures listed { listed owners.new.entries ≡ listed owners.old.entries }
-    ensures ordered { IsOrdered nat_cmp owners.new }
-    ensures there { OnOk result (IsSome (get nat_cmp owners.new age)) }
-{
-    if !owners.contains_key(&age) {
-        owners.insert(age, Vec::new(alloc))?;
-    }
-    Ok(())
 }
 
 /// Room comes first, so that nothing is to be undone where memory is refused.
@@ -205,10 +190,10 @@ fn is_same(what: &What, other: &What) -> bool
     }
 }
 
-fn release(index: &mut Index, age: u64, locks: &[Lock])
-    ensures { Drops (is_of age locks.now) index.old index.new }
+fn release(index: &mut Index, alloc: Global, age: u64, locks: Vec<Lock>)
+    ensures { Drops (is_of age locks.items) index.old index.new }
 {
     for lock in locks {
-        index.remove(age, lock);
+        index.remove(alloc, age, lock);
     }
 }

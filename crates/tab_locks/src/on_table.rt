@@ -33,13 +33,19 @@ impl Model for OnTable {
 }
 
 impl OnTable {
+    pub fn new(alloc: Global) -> OnTable
+        ensures { result ≡ [] }
+    {
+        OnTable {
+            all: Holders::new(alloc),
+            keys: Keys::new(alloc),
+        }
+    }
+
     pub fn only(alloc: Global, what: &What, age: u64, write: bool) -> Result<OnTable, AllocError>
         ensures { IfOk result (λ spots. HasMore (part_of what.now, (age, write)) [] spots) }
     {
-        let mut spots = OnTable {
-            all: Holders::new(alloc),
-            keys: Keys::new(alloc),
-        };
+        let mut spots = OnTable::new(alloc);
         spots.add(alloc, what, age, write)?;
         Ok(spots)
     }
@@ -79,12 +85,12 @@ impl OnTable {
         }
     }
 
-    pub fn remove(&mut self, what: &What, age: u64, write: bool)
-        ensures { Drops (stands_on (part_of what.now) (age, write)) self.old self.new }
+    pub fn remove(&mut self, alloc: Global, what: What, age: u64, write: bool)
+        ensures { Drops (stands_on (part_of what) (age, write)) self.old self.new }
     {
         match what {
             What::All => self.all.remove(age, write),
-            What::Key(key) => self.keys.remove(key, age, write),
+            What::Key(key) => self.keys.remove(alloc, key, age, write),
         }
     }
 }

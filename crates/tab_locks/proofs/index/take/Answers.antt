@@ -1,56 +1,76 @@
-use Rattle.std.proofs.Common.{refl, sym, ap, ◌∙◌, subst, ℕ, List, Bool, Some}
-use Rattle.std.specs.Option.{option_copied_mut}
-use Rattle.std.specs.Prelude.{IsSome}
-use Rattle.tab_locks.proofs.Passing.{none_there}
-use Rattle.std.specs.BTreeMap.{BTreeMap}
+use Rattle.std.proofs.Common.{◌≡◌, ℕ, sym, ap, ◌∙◌, subst, List, Bool, Some, None, OnErr, arith, not}
+use Rattle.std.specs.BTreeMap.{is_at, get_key, ContainsKey}
+use Rattle.std.specs.List.Sorted.{IsStrictlySortedBy}
+use Rattle.std.specs.Map.{keys_of, lookup}
+use Rattle.std.specs.BTreeMap.Entry.{map_with_value, map_without_entry, entry_key, entry_value, MatchEntry}
+use Rattle.tab_term.specs.Order.{bytes_cmp}
 use Rattle.tab_locks.specs.Members.{Drops}
+use Rattle.tab_locks.specs.Filled.{HasNoneEmpty}
 use Rattle.tab_locks.specs.Plain.{is_write, lock_of, part_of}
 use Rattle.tab_locks.specs.Spots.{Spot, locks_in, stands_on, stands_at}
-use Rattle.tab_locks.proofs.TableLocks.{dropped_in, none_in}
+use Rattle.tab_locks.proofs.Passing.{none_there}
+use Rattle.tab_locks.proofs.TableLocks.{dropped_put, dropped_last, dropped_none, none_in}
+use Rattle.tab_locks.proofs.Filled.{filled_inserted, filled_without}
 use Rattle.tab_locks.proofs.index.take.Goals as goal
-use Rattle.tab_locks.proofs.Filled.{filled_seen, filled_written, filled_but_there, filled_without}
-use Rattle.tab_locks.specs.Filled.{HasNoneEmpty}
-use Rattle.std.specs.BTreeMap.{is_at}
-use Rattle.std.specs.Map.{remove_entry}
-use Rattle.tab_term.specs.Order.{bytes_cmp}
 
-pub returns-in-Some-clause-dropped : goal.returns-in-Some-clause-dropped
-returns-in-Some-clause-dropped c =
-    let l = c.args.lock.now in
+abbrev Entries : Type 0
+Entries = List (List ℕ × List Spot)
+
+pub returns-then-is_occupied-clause-ordered : goal.returns-then-is_occupied-clause-ordered
+returns-then-is_occupied-clause-ordered c =
     let w = c.remove.new.self in
-    let found = sym (ap option_copied_mut (sym c.in-Some.is) ∙ c.get_mut.ensures.value) in
-    let gone = λ (b : Bool). Drops (stands_on (part_of l.what) (c.args.age, b)) c.in-Some.spots.now w in
-    dropped_in c.args.age l.table (part_of l.what) (is_write l.mode) c.in-Some.spots.now w c.args.tables.now.entries (c.get_mut.follows.lender w).entries c.get_mut.ensures.ordered found (c.get_mut.follows.holds w).0
-    (subst gone c.is_write.ensures c.remove.ensures)
+    let wrote = c.get_mut-spots.ensures.written w in
+    subst (λ (es : Entries). IsStrictlySortedBy bytes_cmp (keys_of es)) (grind (arith, wrote.0, wrote.1, c.in-Occupied.is)) (c.in-Ok.ensures.update.2 w)
 
-pub returns-in-None-clause-dropped : goal.returns-in-None-clause-dropped
-returns-in-None-clause-dropped c =
-    let l = c.args.lock.now in
-    let missing = sym (ap option_copied_mut (sym c.in-None.is) ∙ c.get_mut.ensures.value) in
-    let at_none = λ (m : BTreeMap (List ℕ) (List Spot)). Drops (stands_at c.args.age (lock_of l)) (locks_in c.args.tables.now.entries) (locks_in m.entries) in
-    subst at_none (sym c.get_mut.follows.holds-at-none) (none_in c.args.age l.table (part_of l.what) (is_write l.mode) c.args.tables.now.entries missing)
-
-pub returns-in-Some-clause-bare : goal.returns-in-Some-clause-bare
-returns-in-Some-clause-bare c = λ bare.
+pub returns-then-is_occupied-clause-filled : goal.returns-then-is_occupied-clause-filled
+returns-then-is_occupied-clause-filled c =
     let w = c.remove.new.self in
-    let found = sym (ap option_copied_mut (sym c.in-Some.is) ∙ c.get_mut.ensures.value) in
-    ((c.get_mut.follows.holds w).3 (subst IsSome (sym found) refl)).1 ∙ ap Some (sym (none_there w c.is_occupied.result bare c.is_occupied.ensures))
+    let wrote = c.get_mut-spots.ensures.written w in
+    let one = sym c.is_occupied.ensures ∙ c.if-is_occupied.true in
+    let filled = filled_inserted bytes_cmp c.args.lock.table w c.args.tables.now.entries (map_with_value c.in-Ok.entry w).entries (c.in-Ok.ensures.update.1 w) c.requires one in
+    subst HasNoneEmpty (grind (arith, wrote.0, wrote.1, c.in-Occupied.is)) filled
 
-pub returns-in-Some-clause-filled : goal.returns-in-Some-clause-filled
-returns-in-Some-clause-filled c = λ more.
+pub returns-then-is_occupied-clause-dropped : goal.returns-then-is_occupied-clause-dropped
+returns-then-is_occupied-clause-dropped c =
     let w = c.remove.new.self in
-    let one = filled_seen w c.is_occupied.result more c.is_occupied.ensures in
-    filled_written (is_at (bytes_cmp c.args.lock.now.table)) w c.args.tables.now.entries (c.get_mut.follows.lender w).entries (c.get_mut.follows.holds w).0 c.requires one
+    let es = c.args.tables.now.entries in
+    let wrote = c.get_mut-spots.ensures.written w in
+    let found : lookup (is_at (bytes_cmp c.args.lock.table)) es ≡ Some c.get_mut-spots.result.now = sym c.in-Ok.ensures.value ∙ ap entry_value c.in-Occupied.is ∙ c.get_mut-spots.ensures.value in
+    let gone_spots = subst (λ (b : Bool). Drops (stands_on (part_of c.args.lock.what) (c.args.age, b)) c.get_mut-spots.result.now w) c.is_write.ensures c.remove.ensures in
+    let gone = dropped_put c.args.age c.args.lock.table (part_of c.args.lock.what) (is_write c.args.lock.mode) c.get_mut-spots.result.now w es (map_with_value c.in-Ok.entry w).entries c.in-Ok.ensures.ordered found (c.in-Ok.ensures.update.1 w) gone_spots in
+    λ p. grind (arith, wrote.0, wrote.1, c.in-Occupied.is, gone p)
 
-pub returns-in-None-clause-filled : goal.returns-in-None-clause-filled
-returns-in-None-clause-filled c = λ no. subst (λ (m : BTreeMap (List ℕ) (List Spot)). HasNoneEmpty m.entries) (sym c.get_mut.follows.holds-at-none) c.requires
+pub returns-in-Err-clause-dropped : goal.returns-in-Err-clause-dropped
+returns-in-Err-clause-dropped c =
+    let es = c.args.tables.now.entries in
+    let same : c.entry.follows.lender-at-none.entries ≡ es = subst (λ r. OnErr r (c.entry.follows.lender-at-none.entries ≡ es)) c.in-Err.is c.entry.follows.holds-at-none in
+    subst (λ (new : Entries). Drops (stands_at c.args.age (lock_of c.args.lock)) (locks_in es) (locks_in new)) (sym same) (none_in c.args.age c.args.lock.table (part_of c.args.lock.what) (is_write c.args.lock.mode) es c.in-Err.ensures.absent)
 
-pub returns-in-Some-clause-others : goal.returns-in-Some-clause-others
-returns-in-Some-clause-others c =
+pub returns-else-is_occupied-clause-filled : goal.returns-else-is_occupied-clause-filled
+returns-else-is_occupied-clause-filled c =
+    let at = is_at (bytes_cmp c.args.lock.table) in
+    let wrote = c.get_mut-spots.ensures.written c.remove.new.self in
+    subst HasNoneEmpty (grind (arith, c.remove-in-Occupied.ensures.removed, wrote.5, c.in-Ok.ensures.removal.1, c.in-Occupied.is)) (filled_without at c.args.tables.now.entries c.requires)
+
+pub returns-else-is_occupied-clause-dropped : goal.returns-else-is_occupied-clause-dropped
+returns-else-is_occupied-clause-dropped c =
     let w = c.remove.new.self in
-    filled_but_there (is_at (bytes_cmp c.args.lock.now.table)) w c.args.tables.now.entries (c.get_mut.follows.lender w).entries (c.get_mut.follows.holds w).0 c.requires
+    let es = c.args.tables.now.entries in
+    let wrote = c.get_mut-spots.ensures.written w in
+    let found : lookup (is_at (bytes_cmp c.args.lock.table)) es ≡ Some c.get_mut-spots.result.now = sym c.in-Ok.ensures.value ∙ ap entry_value c.in-Occupied.is ∙ c.get_mut-spots.ensures.value in
+    let bare = sym (none_there w c.is_occupied.result (ap not c.if-is_occupied.false) c.is_occupied.ensures) in
+    let gone_spots = subst (λ (b : Bool). Drops (stands_on (part_of c.args.lock.what) (c.args.age, b)) c.get_mut-spots.result.now w) c.is_write.ensures c.remove.ensures in
+    let gone = dropped_last c.args.age c.args.lock.table (part_of c.args.lock.what) (is_write c.args.lock.mode) c.get_mut-spots.result.now w es (map_without_entry c.in-Ok.entry).entries c.in-Ok.ensures.ordered found bare c.in-Ok.ensures.removal.1 gone_spots in
+    λ p. grind (arith, c.remove-in-Occupied.ensures.removed, wrote.5, c.in-Occupied.is, gone p)
 
-pub returns-in-None-clause-others : goal.returns-in-None-clause-others
-returns-in-None-clause-others c =
-    let at = is_at (bytes_cmp c.args.lock.now.table) in
-    subst (λ (m : BTreeMap (List ℕ) (List Spot)). HasNoneEmpty (remove_entry at m.entries)) (sym c.get_mut.follows.holds-at-none) (filled_without at c.args.tables.now.entries c.requires)
+pub returns-in-Vacant-clause-filled : goal.returns-in-Vacant-clause-filled
+returns-in-Vacant-clause-filled c =
+    let at = is_at (bytes_cmp c.args.lock.table) in
+    subst HasNoneEmpty (grind (arith, c.remove-in-Vacant.ensures.removed, c.insert_entry.ensures.5, c.in-Ok.ensures.removal.1, c.in-Vacant.is)) (filled_without at c.args.tables.now.entries c.requires)
+
+pub returns-in-Vacant-clause-dropped : goal.returns-in-Vacant-clause-dropped
+returns-in-Vacant-clause-dropped c =
+    let es = c.args.tables.now.entries in
+    let missing : lookup (is_at (bytes_cmp c.args.lock.table)) es ≡ None = subst (λ e. MatchEntry e (ContainsKey bytes_cmp c.args.tables.now c.args.lock.table × (get_key bytes_cmp c.args.tables.now c.args.lock.table ≡ Some (entry_key e))) (lookup (is_at (bytes_cmp c.args.lock.table)) es ≡ None)) c.in-Vacant.is c.in-Ok.ensures.found in
+    let gone = dropped_none c.args.age c.args.lock.table (part_of c.args.lock.what) (is_write c.args.lock.mode) es (map_without_entry c.in-Ok.entry).entries missing c.in-Ok.ensures.removal.1 in
+    λ p. grind (arith, c.remove-in-Vacant.ensures.removed, c.insert_entry.ensures.5, c.in-Vacant.is, gone p)

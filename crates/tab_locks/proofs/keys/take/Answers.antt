@@ -1,54 +1,75 @@
-use Rattle.std.proofs.Common.{refl, sym, ap, ◌∙◌, subst, List, Some}
-use Rattle.std.specs.Option.{option_copied_mut}
-use Rattle.std.specs.Prelude.{IsSome}
-use Rattle.std.specs.BTreeMap.{BTreeMap}
+use Rattle.std.proofs.Common.{◌≡◌, sym, ap, ◌∙◌, subst, List, Some, None, OnErr, arith, not}
+use Rattle.std.specs.BTreeMap.{is_at, get_key, ContainsKey}
+use Rattle.std.specs.List.Sorted.{IsStrictlySortedBy}
+use Rattle.std.specs.Map.{keys_of, lookup}
+use Rattle.std.specs.BTreeMap.Entry.{map_with_value, map_without_entry, entry_key, entry_value, MatchEntry}
 use Rattle.tab_term.specs.declared.term.Term.{Term}
 use Rattle.tab_term.specs.View.{term}
+use Rattle.tab_term.specs.Order.{term_cmp}
 use Rattle.tab_locks.specs.Members.{Drops}
+use Rattle.tab_locks.specs.Filled.{HasNoneEmpty}
 use Rattle.tab_locks.specs.Spots.{Holding, key_spots, stands_on_key}
 use Rattle.tab_locks.proofs.Passing.{none_there}
-use Rattle.tab_locks.proofs.KeySpots.{dropped_at, none_at}
+use Rattle.tab_locks.proofs.KeySpots.{dropped_put, dropped_last, dropped_none, none_at}
+use Rattle.tab_locks.proofs.Filled.{filled_inserted, filled_without}
 use Rattle.tab_locks.proofs.keys.take.Goals as goal
-use Rattle.tab_locks.proofs.Filled.{filled_seen, filled_written, filled_but_there, filled_without}
-use Rattle.tab_locks.specs.Filled.{HasNoneEmpty}
-use Rattle.std.specs.BTreeMap.{is_at}
-use Rattle.std.specs.Map.{remove_entry}
-use Rattle.tab_term.specs.Order.{term_cmp}
 
-pub returns-in-Some-clause-dropped : goal.returns-in-Some-clause-dropped
-returns-in-Some-clause-dropped c =
+abbrev Entries : Type 0
+Entries = List (Term × List Holding)
+
+pub returns-then-is_occupied-clause-ordered : goal.returns-then-is_occupied-clause-ordered
+returns-then-is_occupied-clause-ordered c =
     let w = c.remove.new.self in
-    let found = sym (ap option_copied_mut (sym c.in-Some.is) ∙ c.get_mut.ensures.value) in
-    dropped_at c.args.key.now (c.args.age, c.args.write) c.in-Some.at_key.now w c.args.holders.now.entries (c.get_mut.follows.lender w).entries c.get_mut.ensures.ordered found (c.get_mut.follows.holds w).0 c.remove.ensures
+    let wrote = c.get_mut-at_key.ensures.written w in
+    subst (λ (es : Entries). IsStrictlySortedBy term_cmp (keys_of es)) (grind (arith, wrote.0, wrote.1, c.in-Occupied.is)) (c.in-Ok.ensures.update.2 w)
 
-pub returns-in-None-clause-dropped : goal.returns-in-None-clause-dropped
-returns-in-None-clause-dropped c =
-    let missing = sym (ap option_copied_mut (sym c.in-None.is) ∙ c.get_mut.ensures.value) in
-    let gone = stands_on_key (term c.args.key.now) (c.args.age, c.args.write) in
-    let at_none = λ (m : BTreeMap Term (List Holding)). Drops gone (key_spots c.args.holders.now.entries) (key_spots m.entries) in
-    subst at_none (sym c.get_mut.follows.holds-at-none) (none_at c.args.key.now (c.args.age, c.args.write) c.args.holders.now.entries missing)
-
-pub returns-in-Some-clause-bare : goal.returns-in-Some-clause-bare
-returns-in-Some-clause-bare c = λ bare.
+pub returns-then-is_occupied-clause-filled : goal.returns-then-is_occupied-clause-filled
+returns-then-is_occupied-clause-filled c =
     let w = c.remove.new.self in
-    let found = sym (ap option_copied_mut (sym c.in-Some.is) ∙ c.get_mut.ensures.value) in
-    ((c.get_mut.follows.holds w).3 (subst IsSome (sym found) refl)).1 ∙ ap Some (sym (none_there w c.is_occupied.result bare c.is_occupied.ensures))
+    let wrote = c.get_mut-at_key.ensures.written w in
+    let one = sym c.is_occupied.ensures ∙ c.if-is_occupied.true in
+    let filled = filled_inserted term_cmp c.args.key w c.args.holders.now.entries (map_with_value c.in-Ok.entry w).entries (c.in-Ok.ensures.update.1 w) c.requires one in
+    subst HasNoneEmpty (grind (arith, wrote.0, wrote.1, c.in-Occupied.is)) filled
 
-pub returns-in-Some-clause-filled : goal.returns-in-Some-clause-filled
-returns-in-Some-clause-filled c = λ more.
+pub returns-then-is_occupied-clause-dropped : goal.returns-then-is_occupied-clause-dropped
+returns-then-is_occupied-clause-dropped c =
     let w = c.remove.new.self in
-    let one = filled_seen w c.is_occupied.result more c.is_occupied.ensures in
-    filled_written (is_at (term_cmp c.args.key.now)) w c.args.holders.now.entries (c.get_mut.follows.lender w).entries (c.get_mut.follows.holds w).0 c.requires one
+    let es = c.args.holders.now.entries in
+    let wrote = c.get_mut-at_key.ensures.written w in
+    let found : lookup (is_at (term_cmp c.args.key)) es ≡ Some c.get_mut-at_key.result.now = sym c.in-Ok.ensures.value ∙ ap entry_value c.in-Occupied.is ∙ c.get_mut-at_key.ensures.value in
+    let gone = dropped_put c.args.key (c.args.age, c.args.write) c.get_mut-at_key.result.now w es (map_with_value c.in-Ok.entry w).entries c.in-Ok.ensures.ordered found (c.in-Ok.ensures.update.1 w) c.remove.ensures in
+    λ p. grind (arith, wrote.0, wrote.1, c.in-Occupied.is, gone p)
 
-pub returns-in-None-clause-filled : goal.returns-in-None-clause-filled
-returns-in-None-clause-filled c = λ no. subst (λ (m : BTreeMap Term (List Holding)). HasNoneEmpty m.entries) (sym c.get_mut.follows.holds-at-none) c.requires
+pub returns-in-Err-clause-dropped : goal.returns-in-Err-clause-dropped
+returns-in-Err-clause-dropped c =
+    let es = c.args.holders.now.entries in
+    let same : c.entry.follows.lender-at-none.entries ≡ es = subst (λ r. OnErr r (c.entry.follows.lender-at-none.entries ≡ es)) c.in-Err.is c.entry.follows.holds-at-none in
+    subst (λ (new : Entries). Drops (stands_on_key (term c.args.key) (c.args.age, c.args.write)) (key_spots es) (key_spots new)) (sym same) (none_at c.args.key (c.args.age, c.args.write) es c.in-Err.ensures.absent)
 
-pub returns-in-Some-clause-others : goal.returns-in-Some-clause-others
-returns-in-Some-clause-others c =
+pub returns-else-is_occupied-clause-filled : goal.returns-else-is_occupied-clause-filled
+returns-else-is_occupied-clause-filled c =
+    let at = is_at (term_cmp c.args.key) in
+    let wrote = c.get_mut-at_key.ensures.written c.remove.new.self in
+    subst HasNoneEmpty (grind (arith, c.remove-in-Occupied.ensures.removed, wrote.5, c.in-Ok.ensures.removal.1, c.in-Occupied.is)) (filled_without at c.args.holders.now.entries c.requires)
+
+pub returns-else-is_occupied-clause-dropped : goal.returns-else-is_occupied-clause-dropped
+returns-else-is_occupied-clause-dropped c =
     let w = c.remove.new.self in
-    filled_but_there (is_at (term_cmp c.args.key.now)) w c.args.holders.now.entries (c.get_mut.follows.lender w).entries (c.get_mut.follows.holds w).0 c.requires
+    let es = c.args.holders.now.entries in
+    let wrote = c.get_mut-at_key.ensures.written w in
+    let found : lookup (is_at (term_cmp c.args.key)) es ≡ Some c.get_mut-at_key.result.now = sym c.in-Ok.ensures.value ∙ ap entry_value c.in-Occupied.is ∙ c.get_mut-at_key.ensures.value in
+    let bare = sym (none_there w c.is_occupied.result (ap not c.if-is_occupied.false) c.is_occupied.ensures) in
+    let gone = dropped_last c.args.key (c.args.age, c.args.write) c.get_mut-at_key.result.now w es (map_without_entry c.in-Ok.entry).entries c.in-Ok.ensures.ordered found bare c.in-Ok.ensures.removal.1 c.remove.ensures in
+    λ p. grind (arith, c.remove-in-Occupied.ensures.removed, wrote.5, c.in-Occupied.is, gone p)
 
-pub returns-in-None-clause-others : goal.returns-in-None-clause-others
-returns-in-None-clause-others c =
-    let at = is_at (term_cmp c.args.key.now) in
-    subst (λ (m : BTreeMap Term (List Holding)). HasNoneEmpty (remove_entry at m.entries)) (sym c.get_mut.follows.holds-at-none) (filled_without at c.args.holders.now.entries c.requires)
+pub returns-in-Vacant-clause-filled : goal.returns-in-Vacant-clause-filled
+returns-in-Vacant-clause-filled c =
+    let at = is_at (term_cmp c.args.key) in
+    subst HasNoneEmpty (grind (arith, c.remove-in-Vacant.ensures.removed, c.insert_entry.ensures.5, c.in-Ok.ensures.removal.1, c.in-Vacant.is)) (filled_without at c.args.holders.now.entries c.requires)
+
+pub returns-in-Vacant-clause-dropped : goal.returns-in-Vacant-clause-dropped
+returns-in-Vacant-clause-dropped c =
+    let es = c.args.holders.now.entries in
+    let missing : lookup (is_at (term_cmp c.args.key)) es ≡ None = subst (λ e. MatchEntry e (ContainsKey term_cmp c.args.holders.now c.args.key × (get_key term_cmp c.args.holders.now c.args.key ≡ Some (entry_key e))) (lookup (is_at (term_cmp c.args.key)) es ≡ None)) c.in-Vacant.is c.in-Ok.ensures.found in
+    let gone = dropped_none c.args.key (c.args.age, c.args.write) es (map_without_entry c.in-Ok.entry).entries missing c.in-Ok.ensures.removal.1 in
+    λ p. grind (arith, c.remove-in-Vacant.ensures.removed, c.insert_entry.ensures.5, c.in-Vacant.is, gone p)

@@ -13,7 +13,6 @@ use Rattle.tab_term.specs.Order.{bytes_cmp}
 use Rattle.tab_locks.specs.Filled.{HasNoneEmpty}
 use Rattle.tab_locks.proofs.Filled.{filled_found, filled_grown, filled_written, filled_after}
 use Rattle.std.specs.BTreeMap.{is_at}
-use Rattle.std.specs.Map.{lookup}
 
 pub returns-in-Some-clause-ok : goal.returns-in-Some-clause-ok
 returns-in-Some-clause-ok c =

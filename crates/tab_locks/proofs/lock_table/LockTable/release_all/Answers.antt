@@ -1,20 +1,16 @@
-use Rattle.std.proofs.Common.{sym, ap, ◌∙◌, subst, List}
-use Rattle.tab_model.specs.declared.data.Lock as code
+use Rattle.std.proofs.Common.{sym, ap, ◌∙◌}
 use Rattle.tab_model.specs.Ages.{without}
-use Rattle.tab_locks.specs.Members.{Drops}
-use Rattle.tab_locks.specs.Placed.{listed, is_of}
+use Rattle.tab_locks.specs.Placed.{listed}
 use Rattle.tab_locks.proofs.Listing.{listed_without}
 use Rattle.tab_locks.proofs.HoldAndRelease.{indexed_released}
 use Rattle.tab_locks.proofs.lock_table.LockTable.release_all.Goals as goal
 
 pub invariant_of-self : goal.invariant_of-self
 invariant_of-self c =
-    let P = λ (ls : List code.Lock). Drops (is_of c.args.age ls) c.self.inside.index c.release.new.index in
-    let gone = subst P c.deref.ensures.value c.release.ensures in
     record {
       ordered = c.remove.ensures.ordered;
       indexed = indexed_released c.args.age c.in-Some.locks c.self.inside.owners.entries c.remove.new.self.entries c.self.inside.index c.release.new.index c.self.invariant.ordered
-          (sym c.remove.ensures.value ∙ c.in-Some.is) c.remove.ensures.entries c.self.invariant.indexed gone;
+          (sym c.remove.ensures.value ∙ c.in-Some.is) c.remove.ensures.entries c.self.invariant.indexed c.release.ensures;
     }
 
 pub returns-in-Some : goal.returns-in-Some

@@ -35,35 +35,35 @@ returns-in_default-pop c =
     let same = ap listed wrote.0 ∙ listed_same c.args.age c.in-Some.locks.now w es found (sym (c.in_default-pop.ensures.items ∙ append-nil w.items)) in
     same ∙ sym (empty_last c.args.age c.in-Some.locks.now es c.self.invariant.ordered found (omega (arith, c.in-Some.locks.now.ok, c.in_default-pop.ensures.cases))) ∙ ap (without_last c.args.age) c.self.view_is
 
-pub invariant_of-self-then-not-has_equal : goal.invariant_of-self-then-not-has_equal
-invariant_of-self-then-not-has_equal c =
+pub invariant_of-self-2 : goal.invariant_of-self-2
+invariant_of-self-2 c =
     let es = c.self.inside.owners.entries in
     let w = c.pop.new.self in
     let wrote = c.get_mut.follows.holds w in
     let found = sym (ap option_copied_mut (sym c.in-Some.is) ∙ c.get_mut.ensures.value) in
-    let alone = ap (list_any (λ (k : code.Lock). same_lock (lock_of c.in-Some-pop.last) (lock_of k))) (sym c.deref.ensures.value) ∙ sym c.has_equal.ensures ∙ c.if-not-has_equal.true in
+    let alone = ap (list_any (λ (k : code.Lock). same_lock (lock_of c.in-Some-pop.last) (lock_of k))) (sym c.deref.ensures.value) ∙ sym c.has_equal.ensures ∙ c.if-has_equal.false in
     let marked = still_marked c.args.age c.in-Some-pop.last c.in-Some.locks.now w es c.self.inside.index c.remove.new.self c.self.invariant.ordered found c.in-Some-pop.ensures.items c.self.invariant.indexed alone c.remove.ensures in
     record { ordered = wrote.4; indexed = subst (λ fs. SameMembers (listed fs) c.remove.new.self) (sym wrote.0) marked }
 
-pub returns-then-not-has_equal : goal.returns-then-not-has_equal
-returns-then-not-has_equal c =
+pub returns : goal.returns
+returns c =
     let w = c.pop.new.self in
     let wrote = c.get_mut.follows.holds w in
     let found = sym (ap option_copied_mut (sym c.in-Some.is) ∙ c.get_mut.ensures.value) in
     ap listed wrote.0 ∙ listed_less c.args.age c.in-Some-pop.last c.in-Some.locks.now w c.self.inside.owners.entries c.self.invariant.ordered found c.in-Some-pop.ensures.items ∙ ap (without_last c.args.age) c.self.view_is
 
-pub invariant_of-self-else-not-has_equal : goal.invariant_of-self-else-not-has_equal
-invariant_of-self-else-not-has_equal c =
+pub invariant_of-self-then-has_equal : goal.invariant_of-self-then-has_equal
+invariant_of-self-then-has_equal c =
     let es = c.self.inside.owners.entries in
     let w = c.pop.new.self in
     let wrote = c.get_mut.follows.holds w in
     let found = sym (ap option_copied_mut (sym c.in-Some.is) ∙ c.get_mut.ensures.value) in
-    let more = ap (list_any (λ (k : code.Lock). same_lock (lock_of c.in-Some-pop.last) (lock_of k))) (sym c.deref.ensures.value) ∙ sym c.has_equal.ensures ∙ c.if-not-has_equal.false in
+    let more = ap (list_any (λ (k : code.Lock). same_lock (lock_of c.in-Some-pop.last) (lock_of k))) (sym c.deref.ensures.value) ∙ sym c.has_equal.ensures ∙ c.if-has_equal.true in
     let marked = marked_again c.args.age c.in-Some-pop.last c.in-Some.locks.now w es c.self.inside.index found c.in-Some-pop.ensures.items c.self.invariant.indexed more in
     record { ordered = wrote.4; indexed = subst (λ fs. SameMembers (listed fs) c.self.inside.index) (sym wrote.0) marked }
 
-pub returns : goal.returns
-returns c =
+pub returns-then-has_equal : goal.returns-then-has_equal
+returns-then-has_equal c =
     let w = c.pop.new.self in
     let wrote = c.get_mut.follows.holds w in
     let found = sym (ap option_copied_mut (sym c.in-Some.is) ∙ c.get_mut.ensures.value) in
