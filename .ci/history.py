@@ -400,7 +400,7 @@ def round_faults(program, seed, seconds, between=lambda port: port, ends=True):
     try:
         game = Game(between(port), seed, seconds)
         faults = game.faults()
-        print(f"seed {seed}: {game.told()}", file=sys.stderr)
+        print(f"seed {seed}: {game.told()}")
         return faults or (fill(port, server) if ends else [])
     except (Differs, OSError, ValueError) as error:
         return [f"{type(error).__name__} {error}"]
@@ -420,7 +420,7 @@ def rounds(program, seconds, seed):
             undecided = 0
         except Undecided:
             undecided += 1
-            print(f"seed {seed}: undecided", file=sys.stderr)
+            print(f"seed {seed}: undecided")
             if undecided == 3:
                 yield f"seed {seed}", ["no recorder got all events, three times"]
 
@@ -435,7 +435,7 @@ def wrong_ones(program, names):
                 faults = faults or round_faults(program, seed, seconds, between, False)
             except Undecided:
                 continue
-        print(f"{wrong.__name__}: {shown(faults[0])[:200] if faults else 'nothing'}", file=sys.stderr)
+        print(f"{wrong.__name__}: {shown(faults[0])[:200] if faults else 'nothing'}")
         yield wrong.__name__, [] if bool(faults) == (wrong is not Wrong) else ["it is not found", *faults]
 
 
