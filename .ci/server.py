@@ -15,10 +15,12 @@ import socket
 import subprocess
 import sys
 import threading
+import time
 
 HERE = os.path.dirname(os.path.abspath(__file__))
 sys.path.insert(0, os.path.join(HERE, "..", "examples"))
 from connection import Connection  # noqa: E402
+from frames import frame  # noqa: E402
 
 OK, ATOMIC, HERE_OK = "ok", ("atomic", "ok"), ("ok", "nonode@nohost")
 CREATE = ("create_table", "t", [])
@@ -254,6 +256,59 @@ def refused(connection):
     same("its end", connection.stream.read(), b"")
 
 
+def frees(end):
+    """A session whose stream ends so leaves, and what it held is free."""
+
+    def case(first, second):
+        script((first, CREATE, ATOMIC))
+        first.socket.sendall(b"\0\0\0\0")
+        same("an empty frame", first.receive(), ("reply", ("error", "badterm")))
+        first.socket.sendall(b"\0\0\0\x0a\x83\x46" + bytes(8))
+        same("a float", first.receive(), ("reply", ("error", "badterm")))
+        script((first, "begin", ("tid", 1)), (first, write(1, "a"), OK), (first, ("write_lock_table", "t"), OK))
+        end(first)
+        script((second, "begin", ("tid", 2)))
+        # An end that no reply tells takes its time.
+        found = next((found for _ in range(50) if (found := second.ask(("read", "t", 1))) != "restart"), "restart")
+        same("its lock", found, [])
+        script(
+            (second, write(1, "b"), OK),
+            (second, "commit", ("atomic", 1)),
+            (second, ("delete_table", "t"), ATOMIC),
+        )
+
+    return case
+
+
+def too_long(connection):
+    connection.socket.sendall((1_048_577).to_bytes(4, "big"))
+    same("too long", connection.receive(), ("reply", ("error", "badterm")))
+    same("its end", connection.stream.read(), b"")
+
+
+def too_long_behind_others(connection):
+    """What stands before it in one piece is answered, what stands behind it is not."""
+    connection.socket.sendall(frame(("read", "t", 2)) + (1_048_577).to_bytes(4, "big") + frame("commit"))
+    same("before it", connection.receive(), ("reply", []))
+    same("too long", connection.receive(), ("reply", ("error", "badterm")))
+    same("its end", connection.stream.read(), b"")
+
+
+def cut(connection):
+    """Its stream ends inside a frame: nothing is told, and the stream the other way ends too."""
+    connection.socket.sendall(frame("commit")[:-1])
+    connection.socket.shutdown(socket.SHUT_WR)
+    same("its end", connection.stream.read(), b"")
+
+
+def unread(connection):
+    """It reads nothing until a reply can't be written, and is gone then."""
+    script((connection, write(2, bytes(500_000)), OK))
+    connection.socket.sendall(frame(("read", "t", 2)) * 40)
+    time.sleep(QUIET)
+    connection.break_off()
+
+
 # A name, how many connections, further words of the server, and what is done on them.
 CASES = [
     ("others go on", 3, [], others_go_on),
@@ -266,6 +321,10 @@ CASES = [
     ("sixteen raise, journal of 16", 16, ["--journal", "16"], raised),
     ("two mirrors", 4, [], mirrored),
     ("refused", 1, [], refused),
+    ("a length too long", 2, [], frees(too_long)),
+    ("a length too long behind others", 2, [], frees(too_long_behind_others)),
+    ("a frame that is cut", 2, [], frees(cut)),
+    ("replies that are not read", 2, [], frees(unread)),
     ("a slow reader", 3, ["--outbox", "16"], slow),
 ]
 
