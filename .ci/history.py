@@ -1,7 +1,7 @@
 #!/usr/bin/env python3
 """Runs `tabd serve` of the built program under clients that meet, and judges the whole run by what they were told.
 
-    history.py PROGRAM [SECONDS [SEED]]     rounds of random transactions for so many seconds, 16 where it is not said
+    history.py PROGRAM [SECONDS [SEED]]     rounds of random transactions for so many seconds, 20 where it is not said
     history.py PROGRAM wrong [NAME ..]      shorter ones, with each wrong server of standin.py between, which has to be found
 
 Six clients make random transactions on few keys of a set and a bag: reads, writes, looks at whole tables, nested levels,
@@ -30,7 +30,7 @@ from standin import WRONG, Wrong  # noqa: E402
 
 import io  # noqa: E402
 
-SECONDS, ROUND, SHORT = 16.0, 4.0, 1.2
+SECONDS, ROUND, SHORT = 20.0, 4.0, 1.2
 TRIES = 3
 WRITERS, VANISHING, CONNECTIONS, OUTBOX = 6, 24, 44, 40
 KEYS, CLASSES, COMMON = [1, 2, "a", (1, 2)], [0, 1], 3
@@ -412,9 +412,9 @@ def round_faults(program, seed, seconds, between=lambda port: port, ends=True):
 def rounds(program, seconds, seed):
     """Faults of each round, until the time is used up. One whose recorders both missed something shows nothing, and is made
     again; three in a row are a fault."""
-    end, undecided = now() + seconds, 0
-    while now() + ROUND * 1.2 < end or not seed:
-        seed += 1
+    end, undecided, took = now() + seconds, 0, 0
+    while now() + took < end:
+        seed, began = seed + 1, now()
         try:
             yield f"seed {seed}", round_faults(program, seed, ROUND)
             undecided = 0
@@ -423,6 +423,7 @@ def rounds(program, seconds, seed):
             print(f"seed {seed}: undecided")
             if undecided == 3:
                 yield f"seed {seed}", ["no recorder got all events, three times"]
+        took = now() - began
 
 
 def wrong_ones(program, names):

@@ -27,6 +27,8 @@ class Link:
         # The requests that are not answered yet, the open levels, the keys that the transaction may have changed, what is held
         # back, and whatever else a wrong server notes of it.
         self.pending, self.depth, self.touched, self.held, self.notes = deque(), 0, set(), [], {}
+        # Whether it watches all at level detailed, so that the order of the commits is read off it.
+        self.records = False
 
     def run(self):
         ends = {self.client: bytearray(), self.server: bytearray()}
@@ -54,6 +56,7 @@ class Link:
                 self.told(term)
 
     def asked(self, term):
+        self.records |= term == ("subscribe", ("table", "t", "detailed"))
         request = self.wrong.asked(self, term)
         if request is not None:
             self.pending.append(term)
@@ -98,9 +101,9 @@ class Link:
 
 class Wrong:
     """A stand-in that changes nothing: the others are it but for one rule. One that is small has little room for what a client
-    does not read."""
+    does not read; one that spares recorders tells other subscribers alone what is wrong."""
 
-    small = False
+    small, spares = False, False
 
     def __init__(self, port):
         self.port, self.count, self.notes, self.lock = port, 0, {}, threading.Lock()
@@ -137,6 +140,9 @@ class Wrong:
     def gone(self, link):
         """The client is gone."""
 
+    def hits(self, link, term):
+        return is_event(term) and not (self.spares and link.records) and self.now_and_then()
+
     def by_itself(self, link, request):
         """Reads outside of the client's transaction, where that is told the same. Whether it did."""
         if link.pending or not link.depth:
@@ -161,19 +167,19 @@ def what_of(event):
 
 class DropsAnEvent(Wrong):
     def told(self, link, term):
-        return [] if is_event(term) and self.now_and_then() else [term]
+        return [] if self.hits(link, term) else [term]
 
 
 class DoublesAnEvent(Wrong):
     def told(self, link, term):
-        return [term, term] if is_event(term) and self.now_and_then() else [term]
+        return [term, term] if self.hits(link, term) else [term]
 
 
 class HoldsBack(Wrong):
     """Some frames stand behind the next."""
 
     def is_held(self, link, term):
-        return is_event(term) and self.now_and_then()
+        return self.hits(link, term)
 
     def told(self, link, term):
         held, link.held = link.held, []
@@ -187,17 +193,31 @@ class SwapsEvents(HoldsBack):
     pass
 
 
+class DropsASubscribersEvent(DropsAnEvent):
+    spares = True
+
+
+class DoublesASubscribersEvent(DoublesAnEvent):
+    spares = True
+
+
+class SwapsASubscribersEvents(SwapsEvents):
+    spares = True
+
+
 class TellsABatchBeforeItsMark(HoldsBack):
     def is_held(self, link, term):
         return term[0] == "mnesia_table_begin"
 
 
 class TellsAnEventAfterTheEnd(Wrong):
+    spares = True
+
     def told(self, link, term):
         if term[0] == "mnesia_table_end":
             held, link.held = link.held, []
             return [term, *held]
-        if is_event(term) and not link.held and self.now_and_then():
+        if not link.held and self.hits(link, term):
             link.held = [term]
             return []
         return [term]
@@ -306,6 +326,18 @@ class TellsAnOldRead(Wrong):
         return last if self.now_and_then() else term
 
 
+class TellsAReaderAnOldRead(Wrong):
+    """A one-shot that writes nothing is told what was there long ago."""
+
+    def replied(self, link, request, term):
+        if request[0] == "read" and isinstance(term[1], list):
+            self.notes.setdefault((request[1], spell(request[2])), term[1])
+        if request[0] != "transaction" or term[1][0] != "atomic" or any(part[0] != "read" for part in request[1]):
+            return term
+        old = [self.notes.get((part[1], spell(part[2])), told) for part, told in zip(request[1], term[1][1])]
+        return ("reply", ("atomic", old))
+
+
 class CommitsWhatIsGone(Wrong):
     def gone(self, link):
         try:
@@ -346,8 +378,9 @@ class TellsAnotherOverflow(Wrong):
         return request
 
     def told(self, link, term):
-        if link.notes.get("late") and is_event(term) and self.now_and_then():
-            time.sleep(0.7)
+        if link.notes.get("late") and is_event(term) and link.notes.get("naps", 0) < 2 and self.now_and_then():
+            link.notes["naps"] = link.notes.get("naps", 0) + 1
+            time.sleep(1)
         return [(term[0], term[1] + 40)] if term[0] == "mnesia_overflow" else [term]
 
 
@@ -377,7 +410,7 @@ class OverflowsWithRoomLeft(Wrong):
         if not is_event(term) or link.notes.get("ends"):
             return [] if is_event(term) else [term]
         age, link.notes["last"] = link.notes.get("last"), what_of(term)[1]
-        if not link.notes.get("watched") or age == link.notes["last"] or link.notes["last"] not in self.notes:
+        if not link.notes.get("watched") or link.pending or age == link.notes["last"] or link.notes["last"] not in self.notes:
             return [term]
         watched, link.notes["watched"] = link.notes["watched"], []
         link.notes["ends"] = len(watched)
@@ -435,9 +468,10 @@ class OneAfterAnother(Wrong):
 
 
 WRONG = [
-    DropsAnEvent, DoublesAnEvent, SwapsEvents, TellsABatchBeforeItsMark, TellsAnEventAfterTheEnd, DropsWhatIsQueuedAtAnEnd,
-    MergesWrites, TellsOldRecordsOfBeforeTheCommit, GivesANewAgeAfterARestart, LosesAReadLock, LooksAtATableWithoutALock,
-    ReadsForAWriteByAReadLock, LosesATableLock, KeepsNoLockOfWhatFailed, LosesAWrite, TellsAnOldRead, CommitsWhatIsGone,
-    CommitsWhatIsAborted, KeepsAChildThatIsAborted, RestartsForNothing, TellsAnotherOverflow, OverflowsWithRoomLeft, SplitsAOneShot,
+    DropsAnEvent, DoublesAnEvent, SwapsEvents, DropsASubscribersEvent, DoublesASubscribersEvent, SwapsASubscribersEvents,
+    TellsABatchBeforeItsMark, TellsAnEventAfterTheEnd, DropsWhatIsQueuedAtAnEnd, MergesWrites, TellsOldRecordsOfBeforeTheCommit,
+    GivesANewAgeAfterARestart, LosesAReadLock, LooksAtATableWithoutALock, ReadsForAWriteByAReadLock, LosesATableLock,
+    KeepsNoLockOfWhatFailed, LosesAWrite, TellsAnOldRead, TellsAReaderAnOldRead, CommitsWhatIsGone, CommitsWhatIsAborted,
+    KeepsAChildThatIsAborted, RestartsForNothing, TellsAnotherOverflow, OverflowsWithRoomLeft, SplitsAOneShot,
     ForgetsARecordOfADump, GivesANumberTwice, OneAfterAnother,
 ]  # fmt: skip
