@@ -37,7 +37,11 @@ PROBED = [
     (2, ("write_lock_table", "b"), OK),
 ]
 # No lock is held or awaited in the tables.
-FREE = [(2, ("add_table_index", "t", "val"), ATOMIC), (2, ("del_table_index", "b", "val"), ATOMIC), (2, ("add_table_index", "b", 3), ATOMIC)]
+FREE = [
+    (2, ("add_table_index", "t", "val"), ATOMIC),
+    (2, ("del_table_index", "b", "val"), ATOMIC),
+    (2, ("add_table_index", "b", 3), ATOMIC),
+]
 UNTOLD = [(2, "take", "empty"), (3, "take", "empty")]
 
 
@@ -51,6 +55,13 @@ def deep(levels):
     for _ in range(levels):
         parts = [("transaction", parts)]
     return parts
+
+
+def deep_told(levels):
+    told = [OK]
+    for _ in range(levels):
+        told = [("atomic", told)]
+    return told
 
 
 WRITE, READ = ("write", ("t", 1, "a")), ("read", "t", 1)
@@ -72,8 +83,21 @@ ONE_SHOTS = [
     ),
     ("a one-shot that fails", TABLES, shot(WRITE, ("read", "nosuch", 1), READ), ("aborted", ("no_exists", "nosuch")), FREE),
     ("a one-shot that aborts", TABLES, shot(WRITE, ("abort", [1, ("x", b"y")])), ("aborted", [1, ("x", b"y")]), FREE),
+    ("a one-shot that is as deep as may be", TABLES, shot(*deep(15)), ("atomic", deep_told(15)), FREE),
     ("a one-shot that is too deep", TABLES, shot(*deep(16)), ("error", ("system_limit", "nesting")), FREE),
     ("a one-shot on a bag", TABLES, shot(*BAG), ("atomic", BAG_TOLD), FREE),
-    ("a one-shot that is watched", [*TABLES, *WATCHED], shot(WRITE, *BAG, READ), ("atomic", [OK, *BAG_TOLD, [("t", 1, "a")]]), [*UNTOLD, *FREE]),
-    ("a one-shot that is restarted", [*TABLES, *HELD], shot(WRITE, ("transaction", BAG), ("read", "u", 1)), ("aborted", "nomore"), FREE),
+    (
+        "a one-shot that is watched",
+        [*TABLES, *WATCHED],
+        shot(WRITE, *BAG, READ),
+        ("atomic", [OK, *BAG_TOLD, [("t", 1, "a")]]),
+        [*UNTOLD, *FREE],
+    ),
+    (
+        "a one-shot that is restarted",
+        [*TABLES, *HELD],
+        shot(WRITE, ("transaction", BAG), ("read", "u", 1)),
+        ("aborted", "nomore"),
+        FREE,
+    ),
 ]

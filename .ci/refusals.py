@@ -8,9 +8,9 @@ for each allocation that it makes: with the nth refused. What is answered `{erro
 all replies are the stream's. A run may end with status 1 and its line instead where memory was refused at the start or for the
 frame itself, behind the replies to all earlier frames; how many did is told, and how many ended for a reply's frame, which are
 not judged. A one-shot uses up an age, so each of one_shots.py has runs of its own, with a probe behind it: it left no level, no
-lock, no request and no change. No contract ties an answer to memory that was
-refused, so this is where it is seen. Wants a C compiler, for a `malloc` that refuses. The last line is `N passed, M failed`,
-and the status 1 where one failed.
+lock, no request and no change. No contract ties an answer to memory that was refused, so this is where it is seen. Wants a C
+compiler, for a `malloc` that refuses. One line tells each run that differs; the last line is `N passed, M failed`, and the
+status 1 where one failed.
 """
 
 import collections
@@ -99,6 +99,13 @@ LEFT_OUT = {"limit operations", "child count", "one shot operations", "sessions 
 OF_A_FRAME = 3
 # A vector that is not there yet may be tried twice: so many runs with no refusal, and no allocation is left.
 NONE_LEFT = 2
+# How a run ends, and how it is told.
+ENDS = {
+    "asked again": "asked a step again",
+    "frame": "ended for a frame",
+    "reply": "ended for a reply's frame",
+    "start": "ended at the start",
+}
 NO_MEMORY, LINE = ("error", "no_memory"), b"tabd: no memory\n"
 SHIM = os.environ.get("TABD_SHIM", "")
 
@@ -310,8 +317,7 @@ def main():
         failed += len(faults)
         for fault in faults[:5]:
             print(f"{name}: {fault}")
-    words = {"asked again": "asked a step again", "frame": "ended for a frame", "reply": "ended for a reply's frame", "start": "ended at the start"}
-    print(", ".join(f"{total[end]} {text}" for end, text in words.items()))
+    print(", ".join(f"{total[end]} {text}" for end, text in ENDS.items()))
     print(f"{sum(total.values()) - total['none'] - total['reply']} passed, {failed} failed")
     sys.exit(1 if failed else 0)
 

@@ -11,6 +11,7 @@ are closed. One line tells each case that differs; the last line is `N passed, M
 
 import os
 import random
+import resource
 import socket
 import subprocess
 import sys
@@ -353,16 +354,39 @@ def fault(program, name, count, words, case):
         server.wait()
 
 
-def main(cases, usage):
+def accept_fault(program):
+    """With no more handles to be had, the connection that comes next is closed with no frame, and no more are accepted. Who is there
+    is served to its end, and the server ends with status 1."""
+    server, port = serve(program, 4, [])
+    try:
+        first = Connection(port)
+        script((first, CREATE, ATOMIC), (first, "begin", ("tid", 1)))
+        # The accept that waits has its handle already.
+        resource.prlimit(server.pid, resource.RLIMIT_NOFILE, (3, 3))
+        same("the next", Connection(port).stream.read(), b"")
+        script((first, write(1, "a"), OK), (first, "commit", ("atomic", 1)))
+        first.close()
+        _, err = server.communicate(timeout=10)
+        same("its end", (server.returncode, err), (1, "tabd: device\n"))
+        return None
+    except (Differs, OSError, ValueError, subprocess.TimeoutExpired) as error:
+        return f"an accept that fails: {type(error).__name__} {error}"
+    finally:
+        server.kill()
+        server.wait()
+
+
+def main(cases, usage, others=()):
     if len(sys.argv) != 2:
         sys.exit(usage)
     program = os.path.abspath(sys.argv[1])
-    faults = [found for case in cases if (found := fault(program, *case))]
+    tried = [fault(program, *case) for case in cases] + [other(program) for other in others]
+    faults = [found for found in tried if found]
     for line in faults:
         print(line)
-    print(f"{len(cases) - len(faults)} passed, {len(faults)} failed")
+    print(f"{len(tried) - len(faults)} passed, {len(faults)} failed")
     sys.exit(1 if faults else 0)
 
 
 if __name__ == "__main__":
-    main(CASES, __doc__)
+    main(CASES, __doc__, [accept_fault])

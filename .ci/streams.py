@@ -214,7 +214,8 @@ def tries(program, stream):
     told = b"".join(stream.told)
     for room in rooms(stream):
         for parts in (stream.given, [b"".join(stream.given)]):
-            yield f"room for {room} in {len(parts)}", lambda room=room, parts=parts: full(program, stream, parts, room), (1, told[:room], DEVICE)
+            does = lambda room=room, parts=parts: full(program, stream, parts, room)
+            yield f"room for {room}, in {len(parts)}", does, (1, told[:room], DEVICE)
 
 
 def rooms(stream):
