@@ -220,8 +220,9 @@ class Judge:
         perhaps = [it for it in self.shots if it.reply is None] + [it for it in self.attempts if it.end == "maybe"]
         if not len(untold) <= len(free) <= len(untold) + len(perhaps):
             raise Differs(f"{len(free)} numbers are no attempt's, and {len(untold)} to {len(untold) + len(perhaps)} others committed")
-        self.places = [0] + [commit.who.number for commit in self.commits if commit.who.number]
-        if self.places != sorted(self.places):
+        # The numbers that are told of those who changed something, with their places in the order.
+        self.told = [(commit.who.number, place) for place, commit in enumerate(self.commits) if commit.who.number]
+        if self.told != sorted(self.told):
             raise Differs("the commits' numbers are in another order than their events")
         self.share(free)
 
@@ -256,17 +257,16 @@ class Judge:
         if who.number is None:
             return self.times.between(*who.steps[-1][2:])
         first, last = self.times.between(who.sent, who.got)
-        under = sum(commit.most < who.number for commit in self.commits_near(who.number))
-        over = sum(commit.least <= who.number for commit in self.commits_near(who.number))
-        return max(first, self.base + under), min(last, self.base + over)
+        before, near = self.near(who.number)
+        under, over = sum(it.most < who.number for it in near), sum(it.least < who.number for it in near)
+        return max(first, before + under), min(last, before + over)
 
-    def commits_near(self, number):
-        """Those between the last commit before a number and the first after it that have one; `base` says how many are before."""
-        if not hasattr(self, "known"):
-            self.known = [(it.who.number, place) for place, it in enumerate(self.commits) if it.who.number]
-        at = bisect.bisect(self.known, (number, math.inf))
-        self.base = self.known[at - 1][1] + 1 if at else 0
-        return self.commits[self.base : self.known[at][1] if at < len(self.known) else len(self.commits)]
+    def near(self, number):
+        """The commits that are told no number, between the last that is told one below this and the first above; and how many are
+        before them."""
+        at = bisect.bisect(self.told, (number, 0))
+        before = self.told[at - 1][1] + 1 if at else 0
+        return before, self.commits[before : self.told[at][1] if at < len(self.told) else len(self.commits)]
 
     def readers(self):
         """Those who changed nothing: what they were told stood in the tables at their time."""
