@@ -15,6 +15,7 @@ failed.
 import os
 import random
 import select
+import socket
 import subprocess
 import sys
 import threading
@@ -32,14 +33,14 @@ import io  # noqa: E402
 
 SECONDS, ROUND, SHORT = 20.0, 4.0, 1.2
 TRIES = 3
-WRITERS, VANISHING, CONNECTIONS, OUTBOX = 6, 24, 44, 40
+WRITERS, VANISHING, CONNECTIONS, OUTBOX = 6, 24, 44, 96
 KEYS, CLASSES, COMMON = [1, 2, "a", (1, 2)], [0, 1], 3
 # What a client asks in a transaction, and how often.
 OPERATIONS = {
     "read": 30, "wread": 14, "write": 36, "delete": 6, "delete_object": 6, "index_read": 3, "match_object": 4, "all_keys": 2,
     "read_lock_table": 1, "write_lock_table": 1, "fail": 2,
 }  # fmt: skip
-# Some values are so long that sockets fill up.
+# Some values are so long that sockets fill up; none of the bag, whose keys have many records.
 LONG = bytes(4000)
 now = time.monotonic
 
@@ -51,12 +52,12 @@ class Chance(random.Random):
         super().__init__(f"{seed}/{number}")
         self.last = number * 1_000_000
 
-    def fresh(self):
+    def fresh(self, tab):
         self.last += 1
-        return (self.last, LONG) if self.random() < 0.2 else self.last
+        return (self.last, LONG) if tab == "t" and self.random() < 0.4 else self.last
 
     def record(self, tab, key):
-        return (tab, key, self.choice(CLASSES), self.randrange(COMMON) if self.random() < 0.3 else self.fresh())
+        return (tab, key, self.choice(CLASSES), self.randrange(COMMON) if self.random() < 0.3 else self.fresh(tab))
 
     def failing(self, tab="t", key=1):
         return self.choice([("read", "nosuch", 1), ("write", (tab, key)), ("index_read", tab, 0, "value"), ("delete", ("nosuch", 1))])
@@ -88,8 +89,9 @@ class Chance(random.Random):
             parts.insert(self.randrange(len(parts) + 1), ("transaction", inner))
         if self.random() < 0.08:
             return parts + [("abort", "why")], None
-        tag = self.fresh()
-        return parts + [("write", (self.choice(list(KINDS)), self.choice(KEYS), 0, tag))], tag
+        tab = self.choice(list(KINDS))
+        tag = self.fresh(tab)
+        return parts + [("write", (tab, self.choice(KEYS), 0, tag))], tag
 
 
 class Writer:
@@ -263,11 +265,11 @@ class Watcher:
     def run(self):
         while now() < self.game.end:
             self.pump(0.02)
+            for tab in self.tabs:
+                if tab not in self.watched and (self.records or self.chance.random() < 0.5):
+                    self.subscribe(tab)
             if self.records:
                 continue
-            for tab in self.tabs:
-                if tab not in self.watched and self.chance.random() < 0.5:
-                    self.subscribe(tab)
             self.idle()
             if self.vanishes and self.frames and self.chance.random() < 0.02 and self.game.may_vanish():
                 self.vanished = True
@@ -279,14 +281,15 @@ class Watcher:
     def idle(self):
         chance = self.chance.random()
         if self.small and chance < 0.15:
-            time.sleep(self.chance.random())
+            time.sleep(self.chance.random() * 1.5)
         elif chance < 0.2:
             time.sleep(self.chance.random() * 0.02)
         elif chance < 0.25 and self.watched:
             self.unsubscribe(self.chance.choice(sorted(self.watched)))
 
     def finish(self):
-        """Unsubscribes, and reads up to its last mark."""
+        """Unsubscribes, and reads up to its last mark; with more room, for else each frame takes its time."""
+        self.connection.socket.setsockopt(socket.SOL_SOCKET, socket.SO_RCVBUF, 1_048_576)
         end = now() + PATIENCE
         while self.watched and now() < end:
             self.unsubscribe(min(self.watched))
@@ -315,7 +318,7 @@ class Game:
                 recorder.subscribe(tab)
         Watcher(self, "a mirror", both, "detailed", True)
         Watcher(self, "a late reader", both, "simple", True, small=True)
-        Watcher(self, "another late reader", ["b"], "detailed", False, small=True)
+        Watcher(self, "another late reader", ["t"], "detailed", False, small=True)
         Watcher(self, "one that vanishes", ["t"], "simple", True, vanishes=True)
         self.writers = [Writer(self, number) for number in range(1, WRITERS + 1)]
         self.end = now() + seconds
@@ -339,26 +342,27 @@ class Game:
         return threads
 
     def play(self):
-        """Plays the round; the number of its last commit, which reads all."""
+        """Plays the round; the number and the age of its last commit, which reads all and writes to all tables."""
         watching = self.side_by_side(list(self.watchers))
         for thread in self.side_by_side(self.writers):
             thread.join()
-        number = self.close()
+        closing = self.close()
         self.over.set()
         for thread in watching:
             thread.join()
         self.first.close()
-        return number
+        return closing
 
     def close(self):
-        """Both tables are read, and the last commit made."""
+        """Both tables are read and written, and the last commit made."""
         last = Writer(self, 0, self.first)
         last.begun(*last.ask("begin"))
-        while len(last.attempt.steps) < len(KINDS):
-            move = ("match_object", (list(KINDS)[len(last.attempt.steps)], "_", "_", "_"))
+        moves = [move for tab in KINDS for move in (("match_object", (tab, "_", "_", "_")), ("write", (tab, "last", 0, 0)))]
+        while len(last.attempt.steps) < len(moves):
+            move = moves[len(last.attempt.steps)]
             last.note(move, *last.ask(move))
         last.note("commit", *last.ask("commit"))
-        return self.attempts[-1].number
+        return self.attempts[-1].number, self.attempts[-1].age
 
     def faults(self):
         closing = self.play()
@@ -375,8 +379,9 @@ def shown(fault):
     return fault.replace(repr(LONG), "LONG")
 
 
-def serve(program):
-    words = ["serve", "--port", "0", "--connections", str(CONNECTIONS), "--outbox", str(OUTBOX)]
+def serve(program, seed):
+    """Every other one has a journal that is always full."""
+    words = ["serve", "--port", "0", "--connections", str(CONNECTIONS), "--outbox", str(OUTBOX), "--journal", str([16, 1024][seed % 2])]
     server = subprocess.Popen([program, *words], stdout=subprocess.PIPE, stderr=subprocess.PIPE, text=True)
     return server, int(server.stdout.readline().rsplit(":", 1)[1])
 
@@ -396,7 +401,7 @@ def fill(port, server):
 
 
 def round_faults(program, seed, seconds, between=lambda port: port, ends=True):
-    server, port = serve(program)
+    server, port = serve(program, seed)
     try:
         game = Game(between(port), seed, seconds)
         faults = game.faults()

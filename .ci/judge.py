@@ -129,10 +129,29 @@ class Times:
         return first, self.least[bisect.bisect_left(self.asked, -got)] - 1
 
 
+def stretches(frames):
+    """Of each commit that a recorder was told without a gap before it, the age of the one before, and its age and events. The first
+    is behind None; it watches both tables again from their second mark on."""
+    age, marks = None, 0
+    for kind, group in itertools.groupby((term for term, _ in frames), lambda term: term[0] == "mnesia_table_event" and term[1][-1][1]):
+        group = list(group)
+        if kind:
+            if marks >= len(EMPTY) and age != "gap":
+                yield age, (kind, group)
+            age = kind if marks >= len(EMPTY) else "gap"
+            continue
+        for term in group:
+            if term[0] == "mnesia_overflow":
+                age, marks = "gap", 0
+            marks += term[0] == "mnesia_table_begin"
+
+
 class Judge:
+    """Of a round that ended with a commit of this number and age, the last that changed something."""
+
     def __init__(self, attempts, shots, watchers, closing, outbox):
         self.attempts, self.shots, self.watchers = attempts, shots, watchers
-        self.closing, self.outbox = closing, outbox
+        (self.closing, self.last), self.outbox = closing, outbox
 
     def faults(self):
         """All that are found; the order first, on which the rest stands."""
@@ -152,12 +171,20 @@ class Judge:
         return [fault for fault in found if fault]
 
     def recorded(self):
-        """The events of a recorder who missed none, each commit's together: an age, and their terms."""
-        whole_ones = [it for it in self.watchers if it.records and not any(term[0] == "mnesia_overflow" for term, _ in it.frames)]
-        if not whole_ones:
+        """The events of all commits in their order, each commit's together: an age, and their terms. Where one recorder missed some,
+        another goes on."""
+        after = {}
+        for watcher in self.watchers:
+            for age, group in stretches(watcher.frames) if watcher.records else []:
+                if after.setdefault(age, group) != group:
+                    raise Differs(f"behind age {age} one recorder is told {group}, another {after[age]}")
+        groups, age = [], None
+        while age in after:
+            groups.append(after.pop(age))
+            age = groups[-1][0]
+        if age != self.last:
             raise Undecided
-        told = [term for term, _ in whole_ones[0].frames if term[0] == "mnesia_table_event"]
-        return [(age, list(group)) for age, group in itertools.groupby(told, lambda term: term[1][-1][1])]
+        return groups
 
     def order(self, groups):
         """The commits in the order of their events."""
@@ -297,19 +324,16 @@ class Judge:
     def restarts(self):
         """Who was restarted met an older one, who held a lock or waited for it."""
         asked = sorted((sent, until, Owner(it), lock) for it in [*self.attempts, *self.shots] for lock, sent, until in it.asked())
-        starts = [sent for sent, *_ in asked]
+        # Who vanished may have asked for it until the end.
+        gone, asked = [it for it in asked if it[1] == math.inf], [it for it in asked if it[1] < math.inf]
+        starts, ends = [it[0] for it in asked], list(itertools.accumulate((it[1] for it in asked), max))
         ages = {id(commit.who): commit.age for commit in self.commits}
-        ends = list(itertools.accumulate((until for _, until, *_ in asked), max))
         for who in (it for it in self.attempts if it.end == "restart"):
             move, _, sent, got = who.last
-            lock, at = lock_of(move), bisect.bisect(starts, got) - 1
-            while at >= 0 and ends[at] >= sent:
-                _, until, owner, other = asked[at]
-                age = owner.age or ages.get(id(owner.it), 0)
-                if until >= sent and owner.it is not who and age < who.age and conflict(lock, other):
-                    break
-                at -= 1
-            else:
+            lock, last = lock_of(move), bisect.bisect(starts, got)
+            met = asked[bisect.bisect_left(ends, sent) : last] + [it for it in gone if it[0] <= got]
+            is_met = lambda until, owner, other: until >= sent and owner.it is not who and conflict(lock, other)
+            if not any(is_met(*it[1:]) and (it[2].age or ages.get(id(it[2].it), 0)) < who.age for it in reversed(met)):
                 yield f"age {who.age} was restarted at {move}, and met no older one"
 
 
