@@ -8,10 +8,11 @@ Six clients make random transactions on few keys of a set and a bag: reads, writ
 failing operations, requests that are sent ahead, one-shots; some vanish, with or without their commit. Others watch, at both
 levels, with dumps and without: two recorders who read at once, and some who read late, leave off, begin anew or vanish. Then
 judge.py looks for a run of these transactions alone that explains all that was told. What the clients ask is made up by the
-seed; when they ask it is not. One line tells each fault; the last line is `N passed, M failed`, and the status 1 where one
-failed.
+seed; when they ask it is not. One line tells what each round had, and one each fault; the last line is `N passed, M failed`, and
+the status 1 where one failed.
 """
 
+import io
 import os
 import random
 import select
@@ -28,8 +29,6 @@ from frames import frame, read  # noqa: E402
 from judge import Attempt, Differs, Judge, OneShot, Undecided  # noqa: E402
 from model import KINDS, OPTIONS  # noqa: E402
 from standin import WRONG, Wrong  # noqa: E402
-
-import io  # noqa: E402
 
 SECONDS, ROUND, SHORT = 20.0, 4.0, 1.2
 TRIES = 3
