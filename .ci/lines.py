@@ -10,6 +10,7 @@ tells each case that differs; the last line is `N passed, M failed`, and the sta
 
 import os
 import resource
+import socket
 import subprocess
 import sys
 
@@ -110,6 +111,28 @@ def watched(count):
     return frames(*asked), frames(*told)
 
 
+def payloads(*each):
+    return b"".join(len(payload).to_bytes(4, "big") + payload for payload in each)
+
+
+def nested(levels):
+    """A tuple in a tuple, with so many levels in all."""
+    term = ()
+    for _ in range(levels - 1):
+        term = (term,)
+    return term
+
+
+def odd_payloads():
+    """What is no request is told so: as no command where it is a term, however long, and as no term where it is none, however
+    deep. What follows is served."""
+    binary = b"\x83m" + (LONGEST - 6).to_bytes(4, "big") + bytes(LONGEST - 6)
+    lists, tuples = b"\x83" + b"\x6c" * (LONGEST - 1), b"\x83" + b"h\x01" * ((LONGEST - 1) // 2)
+    no_term, no_command = (0, ("error", "badterm")), (0, ("error", "badcommand"))
+    asked = payloads(lists, tuples, binary) + frames((1, nested(63)), (1, nested(64)), (1, "join"))
+    return asked, frames(no_term, no_term, no_command, (1, no_command[1]), no_term, (1, "ok"))
+
+
 def streams():
     """Name, further words, input, output, status and standard error of a replay."""
     begun = frames((1, "ok"), (1, ("atomic", "ok")), (1, ("tid", 1)))
@@ -117,6 +140,7 @@ def streams():
         ("the greatest session", [], frames((GREATEST, "join")), frames((GREATEST, "ok")), 0, b""),
         ("the longest payload", [], longest(LONGEST), begun + frames((1, "ok")), 0, b""),
         ("a payload that is too long", [], longest(LONGEST + 1), begun, 3, DAMAGED),
+        ("the longest and the deepest", [], *odd_payloads(), 0, b""),
         ("10,000 commits", [], *commits(10_000), 0, b""),
         ("64 subscribers", [], *watched(70), 0, b""),
     ]
@@ -129,9 +153,8 @@ def run(program, words, **streams):
 
 def announced():
     """Payloads whose counts announce far more than comes: 64 lists, tuples or maps of 65,535 members, each in the one before."""
-    payloads = [b"\x83" + head * 64 for head in (b"\x6c\0\0\xff\xff", b"\x69\0\0\xff\xff", b"\x74\0\0\xff\xff")]
-    asked = b"".join(len(payload).to_bytes(4, "big") + payload for payload in payloads)
-    return asked, frames(*[(0, ("error", "badterm"))] * len(payloads))
+    announcing = [b"\x83" + head * 64 for head in (b"\x6c\0\0\xff\xff", b"\x69\0\0\xff\xff", b"\x74\0\0\xff\xff")]
+    return payloads(*announcing), frames(*[(0, ("error", "badterm"))] * len(announcing))
 
 
 def longest_map():
@@ -139,8 +162,7 @@ def longest_map():
     head = b"\x83h\x02a\x01t"
     count = (LONGEST - len(head) - 4) // 6
     pairs = b"".join(b"b" + key.to_bytes(4, "big") + b"j" for key in range(count, 0, -1))
-    payload = head + count.to_bytes(4, "big") + pairs
-    return len(payload).to_bytes(4, "big") + payload, frames((1, ("error", "badcommand")))
+    return payloads(head + count.to_bytes(4, "big") + pairs), frames((1, ("error", "badcommand")))
 
 
 def memory_faults(program):
@@ -184,13 +206,35 @@ def device_faults(program):
     found = run(program, ["replay"], stdin=folder, stdout=subprocess.PIPE)
     os.close(folder)
     yield None if found == (1, b"", DEVICE) else f"a folder as input: {found}"
+    yield from closed_faults(program, asked)
+
+
+def closed_faults(program, asked):
+    """A standard stream that is closed; errors that can't be written, which change no status."""
+    for file, wanted in [(0, (1, b"", DEVICE)), (1, (1, b"", DEVICE)), (2, (3, frames((1, "ok")), b""))]:
+        closed = lambda file=file: os.close(file)
+        found = run(program, ["replay"], input=asked + b"\0" * (file == 2), stdout=subprocess.PIPE, preexec_fn=closed)
+        yield None if found == wanted else f"stream {file} is closed: {found}"
+    if os.path.exists("/dev/full"):
+        with open("/dev/full", "wb") as errors:
+            done = subprocess.run([program, "replay"], input=asked + b"\0", stdout=subprocess.PIPE, stderr=errors, timeout=100, check=False)
+        found = done.returncode, done.stdout
+        yield None if found == (3, frames((1, "ok"))) else f"errors that are full: {found}"
+
+
+def port_faults(program):
+    """A port that another has."""
+    with socket.create_server(("127.0.0.1", 0)) as taken:
+        port = taken.getsockname()[1]
+        found = run(program, ["serve", "--port", str(port), "--connections", "1"], stdin=subprocess.DEVNULL, stdout=subprocess.PIPE)
+    yield None if found == (1, b"", DEVICE) else f"a port that is taken: {found}"
 
 
 def main():
     if len(sys.argv) != 2:
         sys.exit(__doc__)
     program = os.path.abspath(sys.argv[1])
-    tried = [fault for faults in (word_faults, stream_faults, memory_faults, device_faults) for fault in faults(program)]
+    tried = [fault for faults in (word_faults, stream_faults, memory_faults, device_faults, port_faults) for fault in faults(program)]
     failed = [fault for fault in tried if fault]
     for fault in failed:
         print(fault)

@@ -1,15 +1,22 @@
 #!/usr/bin/env python3
-"""Refuses the built program one allocation, each of a session in turn, and looks at what it answers.
+"""Refuses the built program's replay one allocation, each in turn, and asks a step again that was told `no_memory`.
 
     refusals.py PROGRAM
 
-Two sessions and a third that watches make some fifty steps: waits, restarts, levels, schema commands, events. With the nth
-allocation refused, for each n that such a run has, either one request is answered `{error, no_memory}` and everything else as
-if it had never been asked, or the run ends with status 1, behind whole frames of the first replies. No contract ties an
-answer to memory that was refused, so this is where it is seen. Wants a C compiler, for a `malloc` that refuses. The last line
-is `N passed, M failed`, and the status 1 where one failed.
+Each stream of streams.py, but those that take a thousand operations and those that are damaged, is asked frame by frame, once
+for each allocation that it makes: with the nth refused. What is answered `{error, no_memory}` is asked again at once, and then
+all replies are the stream's. A run may end with status 1 and its line instead where memory was refused at the start or for the
+frame itself, behind the replies to all earlier frames; how many did is told, and how many ended for a reply's frame, which are
+not judged. A one-shot uses up an age, so each of one_shots.py has runs of its own, with a probe behind it: it left no level, no
+lock, no request and no change. No contract ties an answer to memory that was refused, so this is where it is seen. Wants a C
+compiler, for a `malloc` that refuses. One line tells each run that differs; the last line is `N passed, M failed`, and the
+status 1 where one failed.
 """
 
+import collections
+import concurrent.futures
+import io
+import itertools
 import os
 import subprocess
 import sys
@@ -17,157 +24,302 @@ import tempfile
 
 HERE = os.path.dirname(os.path.abspath(__file__))
 sys.path.insert(0, os.path.join(HERE, "..", "examples"))
-from frames import frame  # noqa: E402
+from frames import frame, read  # noqa: E402
+from one_shots import ONE_SHOTS, PROBED  # noqa: E402
+from streams import streams  # noqa: E402
 
-# Counts the allocations that a process makes, and refuses the one whose number REFUSED has.
+# Refuses the allocation number NTH of those that are made once FROM pieces were read. What was refused is told on REPORT: how
+# many pieces had been read, and how many allocations made since the last. Where NTH is 0 this is told before each read instead.
 MALLOC = r"""
 #define _GNU_SOURCE
 #include <dlfcn.h>
+#include <stdio.h>
 #include <stdlib.h>
+#include <sys/syscall.h>
+#include <unistd.h>
 
-static long made, refused;
+static long made, since, reads, from, nth, report;
 static void *(*allocate)(size_t), *(*move)(void *, size_t);
+static ssize_t (*get)(int, void *, size_t);
+
+static long number(const char *name) {
+    const char *text = getenv(name);
+    return text ? atol(text) : 0;
+}
 
 __attribute__((constructor)) static void start(void) {
-    const char *number = getenv("REFUSED");
     allocate = (void *(*)(size_t))dlsym(RTLD_NEXT, "malloc");
     move = (void *(*)(void *, size_t))dlsym(RTLD_NEXT, "realloc");
-    made = 0;
-    refused = number ? atol(number) : 0;
+    get = (ssize_t (*)(int, void *, size_t))dlsym(RTLD_NEXT, "read");
+    made = since = reads = 0;
+    from = number("FROM");
+    nth = number("NTH");
+    report = number("REPORT");
+}
+
+static int tell(void) {
+    char line[64];
+    int size = snprintf(line, sizeof line, "%ld %ld\n", reads, since);
+    return syscall(SYS_write, report, line, size) > 0;
+}
+
+static int refuses(void) {
+    ++since;
+    return reads >= from && ++made == nth && tell();
 }
 
 void *malloc(size_t size) {
     if (!allocate)
         allocate = (void *(*)(size_t))dlsym(RTLD_NEXT, "malloc");
-    return ++made == refused ? 0 : allocate(size);
+    return refuses() ? 0 : allocate(size);
 }
 
 void *realloc(void *room, size_t size) {
     if (!move)
         move = (void *(*)(void *, size_t))dlsym(RTLD_NEXT, "realloc");
-    return ++made == refused ? 0 : move(room, size);
+    return refuses() ? 0 : move(room, size);
+}
+
+ssize_t read(int file, void *room, size_t size) {
+    if (file == 0 && nth == 0)
+        tell();
+    ssize_t count = get(file, room, size);
+    if (file == 0) {
+        ++reads;
+        since = 0;
+    }
+    return count;
 }
 """
 
-# No run has more allocations; one that has is told.
-MOST = 20_000
+# Streams of which every frame is asked with a thousand before it, and those that are no whole frames.
+LEFT_OUT = {"limit operations", "child count", "one shot operations", "sessions and tables", "damage cut", "damage too long"}
+# A frame that is read takes so many allocations at most: the bytes, the payload, and the list of the frames. That of its reply
+# takes one, which is the last before the next read.
+OF_A_FRAME = 3
+# A vector that is not there yet may be tried twice: so many runs with no refusal, and no allocation is left.
+NONE_LEFT = 2
+# How a run ends, and how it is told.
+ENDS = {
+    "asked again": "asked a step again",
+    "frame": "ended for a frame",
+    "reply": "ended for a reply's frame",
+    "start": "ended at the start",
+}
+NO_MEMORY, LINE = ("error", "no_memory"), b"tabd: no memory\n"
+SHIM = os.environ.get("TABD_SHIM", "")
 
 
-def write(table, key, value):
-    return ("write", (table, key, value))
+class Differs(Exception):
+    pass
 
 
-STEPS = [
-    (1, "join"),
-    (2, "join"),
-    (3, "join"),
-    (1, ("create_table", "person", [("type", "bag"), ("attributes", ["key", "name"])])),
-    (1, ("create_table", "place", [])),
-    (1, ("add_table_index", "person", 3)),
-    (3, ("subscribe", ("table", "person", "detailed"))),
-    (3, "take"),
-    (1, "begin"),
-    (1, write("person", 1, "ann")),
-    (1, write("person", 1, "bob")),
-    (1, "begin"),
-    (1, write("person", 2, [1, (2, b"three")])),
-    (1, ("index_read", "person", "bob", 3)),
-    (1, ("abort", 1)),
-    (1, ("delete_object", ("person", 1, "ann"))),
-    (1, ("match_object", ("person", "_", "_"))),
-    (1, "commit"),
-    (3, "take"),
-    (2, "begin"),
-    (1, "begin"),
-    (1, ("read", "person", 1)),
-    (2, write("person", 1, "cy")),
-    (2, "retry"),
-    (1, write("place", 7, "here")),
-    (1, "commit"),
-    (2, "retry"),
-    (2, ("all_keys", "person")),
-    (2, ("create_table", "other", [])),
-    (1, "begin"),
-    (1, ("wread", ("person", 1))),
-    (1, ("read", "place", 7)),
-    (2, "begin"),
-    (2, write("person", 3, "dee")),
-    (2, "commit"),
-    (2, "commit"),
-    (3, "take"),
-    (1, ("wread", ("person", 1))),
-    (1, ("delete", ("person", 1))),
-    (1, "commit"),
-    (3, "take"),
-    (3, ("unsubscribe", ("table", "person", "detailed"))),
-    (3, "take"),
-    (1, ("transaction", [write("person", 4, "eve"), ("read", "person", 4)], 2)),
-    (1, ("del_table_index", "person", 3)),
-    (1, ("table_info", "person", "size")),
-    (2, ("delete_table", "place")),
-    (2, "leave"),
-    (1, "leave"),
-    (3, "leave"),
-]
+class Run:
+    """A replay whose nth allocation is refused, of those that it makes once so many pieces were read."""
+
+    def __init__(self, program, words, nth, start=1):
+        self.report, told = os.pipe()
+        env = {"LD_PRELOAD": SHIM, "NTH": str(nth), "FROM": str(start), "REPORT": str(told)}
+        pipe = subprocess.PIPE
+        self.process = subprocess.Popen([program, *words], stdin=pipe, stdout=pipe, stderr=pipe, env=env, pass_fds=[told], bufsize=0)
+        os.close(told)
+        # How many frames were answered, and how many of them with no_memory.
+        self.answered, self.refused = 0, 0
+
+    def ask(self, given):
+        """The reply's frame, or None where the run has ended."""
+        try:
+            self.process.stdin.write(given)
+        except BrokenPipeError:
+            return None
+        told = b""
+        while len(told) < 4 or len(told) < 4 + int.from_bytes(told[:4], "big"):
+            more = self.process.stdout.read(65_536)
+            if not more:
+                if told:
+                    raise Differs(f"a reply is cut: {told}")
+                return None
+            told += more
+        self.answered += 1
+        return told
+
+    def asked(self, given, wanted):
+        """The reply, which is the wanted one, if need be when it is asked again. None where the run has ended."""
+        told = self.ask(given)
+        if told is not None and is_no_memory(told, wanted) and told != wanted:
+            self.refused += 1
+            told = self.ask(given)
+        if told is not None and told != wanted:
+            raise Differs(f"frame {self.answered}: told {told}, wanted {wanted}")
+        return told
+
+    def ended(self):
+        """Where memory was refused, and how the run ended."""
+        _, err = self.process.communicate()
+        with open(self.report, encoding="utf-8") as file:
+            where = tuple(map(int, file.read().split()))
+        return where, self.process.returncode, err
+
+    def kill(self):
+        self.process.kill()
+        self.process.communicate()
 
 
-def replies(program, steps, shim, refused=0):
-    """The exit status, the frames of the replies, whether all are whole."""
-    given = b"".join(frame(step) for step in steps)
-    env = {**os.environ, "LD_PRELOAD": shim, "REFUSED": str(refused)}
-    ran = subprocess.run([program, "replay"], input=given, stdout=subprocess.PIPE, stderr=subprocess.PIPE, env=env, timeout=60, check=False)
-    told, frames = ran.stdout, []
-    while len(told) >= 4:
-        end = 4 + int.from_bytes(told[:4], "big")
-        frames.append(told[:end])
-        told = told[end:]
-    return ran.returncode, frames, not told
+def is_no_memory(told, wanted):
+    """Told under the session that the wanted reply has, or under 0."""
+    session, reply = read(io.BytesIO(told[5:]))
+    return reply == NO_MEMORY and session in (0, read(io.BytesIO(wanted[5:]))[0])
 
 
-def fault(program, shim, number, whole, without):
-    """What is wrong with the run whose nth allocation is refused, if anything; and whether that run made so many."""
-    status, told, is_whole = replies(program, STEPS, shim, number)
-    if (status, told) == (0, whole):
-        return None, False
-    if status == 1:
-        right = is_whole and told == whole[: len(told)]
-        return None if right else f"allocation {number}: status 1, and no beginning of the replies", True
-    place = next((at for at, (one, other) in enumerate(zip(told, whole)) if one != other), len(whole))
-    sessions = [session for session, _ in STEPS[place : place + 1]] + [0]
-    if status or told[place : place + 1] not in [[frame((session, ("error", "no_memory")))] for session in sessions]:
-        return f"allocation {number}: status {status}, reply {place}: {told[place:place + 1]}", True
-    if place not in without:
-        without[place] = replies(program, STEPS[:place] + STEPS[place + 1 :], shim)
-    right = told[:place] + told[place + 1 :] == without[place][1]
-    return None if right else f"allocation {number}: {STEPS[place]} is refused, and something has changed", True
+def end_of(run, counts):
+    """How a run ended: `whole`, or where its growth was refused: at the `start`, for a `frame`, for a `reply`; `none` where nothing
+    was refused. The counts are of the allocations of each frame."""
+    where, status, err = run.ended()
+    if not where:
+        if (status, err) != (0, b""):
+            raise Differs(f"nothing refused, status {status}, {err}")
+        return "none"
+    if (status, err) == (0, b""):
+        return "asked again" if run.refused else "whole"
+    reads, since = where
+    if (status, err) != (1, LINE):
+        raise Differs(f"status {status}, {err}")
+    if run.refused or run.answered != max(reads - 1, 0):
+        raise Differs(f"it ended at frame {run.answered + 1}, and memory was refused at frame {reads}")
+    if not reads or since <= OF_A_FRAME:
+        return "frame" if reads else "start"
+    if since != counts[reads]:
+        raise Differs(f"it ended at frame {reads} for allocation {since}, which is not the frame's")
+    return "reply"
+
+
+def counts_of(program, stream):
+    """How many allocations are made for each of its frames, and before, where none is refused."""
+    run = Run(program, stream.words, 0)
+    try:
+        for given, wanted in zip(stream.given, stream.told):
+            if run.ask(given) != wanted:
+                raise Differs(f"frame {run.answered}: not {wanted}, and nothing was refused")
+        where, status, err = run.ended()
+        if (status, err) != (0, b""):
+            raise Differs(f"nothing refused, status {status}, {err}")
+        return dict(zip(where[::2], where[1::2]))
+    finally:
+        run.kill()
+
+
+def row_end(program, stream, nth, start, counts):
+    """How the run of a stream ended."""
+    run = Run(program, stream.words, nth, start)
+    try:
+        for given, wanted in zip(stream.given, stream.told):
+            if run.asked(given, wanted) is None:
+                break
+        return end_of(run, counts)
+    finally:
+        run.kill()
+
+
+def one_shot_end(program, case, nth, start, counts):
+    """How the run of a one-shot ended, of which memory was refused to the one-shot alone."""
+    run = Run(program, case.words, nth, start)
+    try:
+        for given, wanted in zip(case.given[:-1], case.told):
+            if run.ask(given) != wanted:
+                raise Differs(f"before it frame {run.answered} is not {wanted}")
+        told = run.ask(case.given[-1])
+        if told is not None and is_no_memory(told, case.told[-1]):
+            run.refused += 1
+            probe(run, case)
+        elif told not in (None, case.told[-1]):
+            raise Differs(f"told {told}, wanted {case.told[-1]}")
+        return end_of(run, counts)
+    finally:
+        run.kill()
+
+
+class OneShot:
+    """A one-shot behind what is asked before it, as a stream; and what stands behind it."""
+
+    words = ["replay"]
+
+    def __init__(self, name, before, request, reply, after):
+        self.name, self.before, self.request, self.reply, self.after = name, before, request, reply, after
+        steps = [*before, (1, request, reply)]
+        self.given = [frame((session, asked)) for session, asked, _ in steps]
+        self.told = [frame((session, told)) for session, _, told in steps]
+
+
+def probe(run, case):
+    """No level, no lock, no request and no change is left of it; asked again it is told what it is told."""
+    # An age that it used up is not told.
+    ages = 1 + sum(asked == "begin" or asked[0] == "transaction" for _, asked, _ in case.before)
+    begun = run.ask(frame((1, "begin")))
+    age = next((age for age in (ages, ages + 1) if begun == frame((1, ("tid", age)))), None)
+    steps = [(1, "commit", ("atomic", 2)), (2, "begin", ("tid", age and age + 1)), *PROBED, (2, ("abort", "probe"), ("aborted", "probe"))]
+    for session, asked, wanted in [*steps, *case.after, (1, case.request, case.reply)] if age else []:
+        told = run.ask(frame((session, asked)))
+        if told != frame((session, wanted)):
+            raise Differs(f"behind it {asked} is told {told}, wanted {wanted}")
+    if not age:
+        raise Differs(f"a begin behind it is told {begun}")
+
+
+def all_ends(one):
+    """How often the runs of a stream ended in each way, and what differs, for each allocation until none is left."""
+    does, program, stream, start = one
+    ends, faults, nth = collections.Counter(), [], 0
+    try:
+        counts = counts_of(program, stream)
+    except Differs as differs:
+        return ends, [str(differs)]
+    while ends["none"] < NONE_LEFT and (start or nth < counts[0]):
+        nth += 1
+        try:
+            ends[does(program, stream, nth, start, counts)] += 1
+        except Differs as differs:
+            faults.append(f"allocation {nth}: {differs}")
+    return ends, faults
+
+
+def shim(folder):
+    source, built = f"{folder}/malloc.c", f"{folder}/malloc.so"
+    with open(source, "w", encoding="utf-8") as file:
+        file.write(MALLOC)
+    subprocess.run(["cc", "-shared", "-fPIC", "-O1", "-o", built, source, "-ldl"], check=True)
+    return built
+
+
+def all_tries(program):
+    rows = [stream for stream in streams() if stream.name not in LEFT_OUT and stream.given]
+    with_one_shots = [stream for stream in rows if b"\x77\x0btransaction" in stream.all]
+    rows = [stream for stream in rows if stream not in with_one_shots]
+    yield "the start", (row_end, program, rows[0], 0)
+    for stream in rows:
+        yield stream.name, (row_end, program, stream, 1)
+    for case in itertools.starmap(OneShot, ONE_SHOTS):
+        yield case.name, (one_shot_end, program, case, len(case.given))
 
 
 def main():
+    global SHIM
     if len(sys.argv) != 2:
         sys.exit(__doc__)
     program = os.path.abspath(sys.argv[1])
-    faults, tried = [], 0
     with tempfile.TemporaryDirectory() as folder:
-        source, shim = f"{folder}/malloc.c", f"{folder}/malloc.so"
-        with open(source, "w", encoding="utf-8") as file:
-            file.write(MALLOC)
-        subprocess.run(["cc", "-shared", "-fPIC", "-O1", "-o", shim, source, "-ldl"], check=True)
-        status, whole, is_whole = replies(program, STEPS, shim)
-        if status or not is_whole or len(whole) != len(STEPS):
-            sys.exit(f"the session ends with status {status} after {len(whole)} replies")
-        without, same = {}, 0
-        # A vector that is not there yet may be tried twice: so many runs that change nothing, and no allocation is left.
-        while same < 50 and tried < MOST:
-            tried += 1
-            found, was_made = fault(program, shim, tried, whole, without)
-            same = 0 if was_made else same + 1
-            faults += [found] if found else []
-    for it in faults:
-        print(it)
-    if same < 50:
-        sys.exit(f"over {MOST} allocations")
-    print(f"{tried - same - len(faults)} passed, {len(faults)} failed")
-    sys.exit(1 if faults else 0)
+        SHIM = shim(folder)
+        names, tries = zip(*all_tries(program))
+        with concurrent.futures.ProcessPoolExecutor(os.cpu_count()) as pool:
+            told = list(pool.map(all_ends, tries))
+    total, failed = collections.Counter(), 0
+    for name, (ends, faults) in zip(names, told):
+        total += ends
+        failed += len(faults)
+        for fault in faults[:5]:
+            print(f"{name}: {fault}")
+    print(", ".join(f"{total[end]} {text}" for end, text in ENDS.items()))
+    print(f"{sum(total.values()) - total['none'] - total['reply']} passed, {failed} failed")
+    sys.exit(1 if failed else 0)
 
 
 if __name__ == "__main__":

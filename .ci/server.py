@@ -11,14 +11,17 @@ are closed. One line tells each case that differs; the last line is `N passed, M
 
 import os
 import random
+import resource
 import socket
 import subprocess
 import sys
 import threading
+import time
 
 HERE = os.path.dirname(os.path.abspath(__file__))
 sys.path.insert(0, os.path.join(HERE, "..", "examples"))
 from connection import Connection  # noqa: E402
+from frames import frame  # noqa: E402
 
 OK, ATOMIC, HERE_OK = "ok", ("atomic", "ok"), ("ok", "nonode@nohost")
 CREATE = ("create_table", "t", [])
@@ -254,6 +257,59 @@ def refused(connection):
     same("its end", connection.stream.read(), b"")
 
 
+def frees(end):
+    """A session whose stream ends so leaves, and what it held is free."""
+
+    def case(first, second):
+        script((first, CREATE, ATOMIC))
+        first.socket.sendall(b"\0\0\0\0")
+        same("an empty frame", first.receive(), ("reply", ("error", "badterm")))
+        first.socket.sendall(b"\0\0\0\x0a\x83\x46" + bytes(8))
+        same("a float", first.receive(), ("reply", ("error", "badterm")))
+        script((first, "begin", ("tid", 1)), (first, write(1, "a"), OK), (first, ("write_lock_table", "t"), OK))
+        end(first)
+        script((second, "begin", ("tid", 2)))
+        # An end that no reply tells takes its time.
+        found = next((found for _ in range(50) if (found := second.ask(("read", "t", 1))) != "restart"), "restart")
+        same("its lock", found, [])
+        script(
+            (second, write(1, "b"), OK),
+            (second, "commit", ("atomic", 1)),
+            (second, ("delete_table", "t"), ATOMIC),
+        )
+
+    return case
+
+
+def too_long(connection):
+    connection.socket.sendall((1_048_577).to_bytes(4, "big"))
+    same("too long", connection.receive(), ("reply", ("error", "badterm")))
+    same("its end", connection.stream.read(), b"")
+
+
+def too_long_behind_others(connection):
+    """What stands before it in one piece is answered, what stands behind it is not."""
+    connection.socket.sendall(frame(("read", "t", 2)) + (1_048_577).to_bytes(4, "big") + frame("commit"))
+    same("before it", connection.receive(), ("reply", []))
+    same("too long", connection.receive(), ("reply", ("error", "badterm")))
+    same("its end", connection.stream.read(), b"")
+
+
+def cut(connection):
+    """Its stream ends inside a frame: nothing is told, and the stream the other way ends too."""
+    connection.socket.sendall(frame("commit")[:-1])
+    connection.socket.shutdown(socket.SHUT_WR)
+    same("its end", connection.stream.read(), b"")
+
+
+def unread(connection):
+    """It reads nothing until a reply can't be written, and is gone then."""
+    script((connection, write(2, bytes(500_000)), OK))
+    connection.socket.sendall(frame(("read", "t", 2)) * 40)
+    time.sleep(QUIET)
+    connection.break_off()
+
+
 # A name, how many connections, further words of the server, and what is done on them.
 CASES = [
     ("others go on", 3, [], others_go_on),
@@ -266,6 +322,10 @@ CASES = [
     ("sixteen raise, journal of 16", 16, ["--journal", "16"], raised),
     ("two mirrors", 4, [], mirrored),
     ("refused", 1, [], refused),
+    ("a length too long", 2, [], frees(too_long)),
+    ("a length too long behind others", 2, [], frees(too_long_behind_others)),
+    ("a frame that is cut", 2, [], frees(cut)),
+    ("replies that are not read", 2, [], frees(unread)),
     ("a slow reader", 3, ["--outbox", "16"], slow),
 ]
 
@@ -294,16 +354,39 @@ def fault(program, name, count, words, case):
         server.wait()
 
 
-def main(cases, usage):
+def accept_fault(program):
+    """With no more handles to be had, the connection that comes next is closed with no frame, and no more are accepted. Who is there
+    is served to its end, and the server ends with status 1."""
+    server, port = serve(program, 4, [])
+    try:
+        first = Connection(port)
+        script((first, CREATE, ATOMIC), (first, "begin", ("tid", 1)))
+        # The accept that waits has its handle already.
+        resource.prlimit(server.pid, resource.RLIMIT_NOFILE, (3, 3))
+        same("the next", Connection(port).stream.read(), b"")
+        script((first, write(1, "a"), OK), (first, "commit", ("atomic", 1)))
+        first.close()
+        _, err = server.communicate(timeout=10)
+        same("its end", (server.returncode, err), (1, "tabd: device\n"))
+        return None
+    except (Differs, OSError, ValueError, subprocess.TimeoutExpired) as error:
+        return f"an accept that fails: {type(error).__name__} {error}"
+    finally:
+        server.kill()
+        server.wait()
+
+
+def main(cases, usage, others=()):
     if len(sys.argv) != 2:
         sys.exit(usage)
     program = os.path.abspath(sys.argv[1])
-    faults = [found for case in cases if (found := fault(program, *case))]
+    tried = [fault(program, *case) for case in cases] + [other(program) for other in others]
+    faults = [found for found in tried if found]
     for line in faults:
         print(line)
-    print(f"{len(cases) - len(faults)} passed, {len(faults)} failed")
+    print(f"{len(tried) - len(faults)} passed, {len(faults)} failed")
     sys.exit(1 if faults else 0)
 
 
 if __name__ == "__main__":
-    main(CASES, __doc__)
+    main(CASES, __doc__, [accept_fault])

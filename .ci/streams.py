@@ -5,14 +5,19 @@
 
 The streams are those of streams.tsv, which another program made, and the scripts of scripts.py. Each has one reply frame for
 each request frame, in their order, so what a beginning of it is answered is known too. One line tells each run that differs;
-the last line is `N passed, M failed`, and the status 1 where one failed. It takes less than a minute.
+the last line is `N passed, M failed`, and the status 1 where one failed. It is some twenty thousand runs, and takes less than a
+minute.
 """
 
 import concurrent.futures
+import itertools
 import os
+import resource
+import signal
 import socket
 import subprocess
 import sys
+import tempfile
 import threading
 
 HERE = os.path.dirname(os.path.abspath(__file__))
@@ -23,13 +28,14 @@ from scripts import SCRIPTS  # noqa: E402
 DAMAGED = b"tabd: damaged input\n"
 DEVICE = b"tabd: device\n"
 SECONDS = 60
-# A stream of at most so many bytes is cut at each of them, a longer one around the ends of its first frames.
-CUT = 200
+# A stream of at most so many bytes is cut at each of them: all but those of a thousand operations, which are cut around the ends
+# of their first frames.
+CUT = 2_000
 ENDS = 12
+# The output of one with so many bytes is full after each of its bytes.
+SHORT = 130
 # After each of so many first frames of a stream a device fails.
 FAILING = 6
-# One program is started at a time: till it runs it has what this one has open, and a pipe that is closed here has a reader yet.
-STARTING = threading.Lock()
 
 
 class Stream:
@@ -84,9 +90,8 @@ def streams():
         yield Stream(name, outbox, asked, b"".join(frame((session, reply)) for session, _, reply in steps))
 
 
-def started(program, stream, stdin=subprocess.PIPE, stdout=subprocess.PIPE):
-    with STARTING:
-        return subprocess.Popen([program, *stream.words], stdin=stdin, stdout=stdout, stderr=subprocess.PIPE)
+def started(program, stream, stdin=subprocess.PIPE, stdout=subprocess.PIPE, **words):
+    return subprocess.Popen([program, *stream.words], stdin=stdin, stdout=stdout, stderr=subprocess.PIPE, **words)
 
 
 def run(program, stream, given):
@@ -96,16 +101,16 @@ def run(program, stream, given):
     return child.returncode, told, err
 
 
-def pieces(program, stream, size):
+def pieces(program, stream, parts, **streams):
     """Each read gets one piece: the pipe keeps what is written to it apart (O_DIRECT), and nothing flows together."""
     end, start = os.pipe2(os.O_DIRECT | os.O_CLOEXEC)
-    child = started(program, stream, stdin=end)
+    child = started(program, stream, stdin=end, **streams)
     os.close(end)
 
     def write():
         try:
-            for place in range(0, len(stream.all), size):
-                os.write(start, stream.all[place : place + size])
+            for part in parts:
+                os.write(start, part)
         except BrokenPipeError:
             pass
         os.close(start)
@@ -117,6 +122,19 @@ def pieces(program, stream, size):
     return child.returncode, told, err
 
 
+def full(program, stream, parts, room):
+    """The output is a file that has room for so many bytes, and then the next write fails."""
+
+    def limit():
+        signal.signal(signal.SIGXFSZ, signal.SIG_IGN)
+        resource.setrlimit(resource.RLIMIT_FSIZE, (room, room))
+
+    with tempfile.TemporaryFile() as file:
+        status, _, err = pieces(program, stream, parts, stdout=file, preexec_fn=limit)
+        file.seek(0)
+        return status, file.read(), err
+
+
 def exactly(file, size):
     out = b""
     while len(out) < size and (more := os.read(file, size - len(out))):
@@ -125,20 +143,21 @@ def exactly(file, size):
 
 
 def half(program, stream, count):
-    """A program that was asked the first so many frames, over a socket, and what it answered; then both are open yet."""
+    """A program that was asked the first so many frames, one by one over a socket, and what it answered; both are open yet."""
     ours, its = socket.socketpair()
     end, start = os.pipe()
-    child = started(program, stream, stdin=its, stdout=start)
+    child, told = started(program, stream, stdin=its, stdout=start), b""
     os.close(start)
-    ours.sendall(b"".join(stream.given[:count]))
-    return child, ours, its, end, exactly(end, sum(map(len, stream.told[:count])))
+    for given, wanted in zip(stream.given[:count], stream.told):
+        ours.sendall(given)
+        told += exactly(end, len(wanted))
+    return child, ours, its, end, told
 
 
 def no_reader(program, stream, count):
     """The output is closed after so many replies: the next can't be written."""
     child, ours, its, end, told = half(program, stream, count)
-    with STARTING:
-        os.close(end)
+    os.close(end)
     try:
         ours.sendall(stream.given[count])
     except OSError:
@@ -181,7 +200,8 @@ def tries(program, stream):
     whole = stream.answer(len(stream.all))
     yield "whole", lambda: run(program, stream, stream.all), whole
     for size in (1, 2, 3):
-        yield f"in pieces of {size}", lambda size=size: pieces(program, stream, size), whole
+        parts = [stream.all[place : place + size] for place in range(0, len(stream.all), size)]
+        yield f"in pieces of {size}", lambda parts=parts: pieces(program, stream, parts), whole
     for place in cuts(stream):
         yield f"cut at {place}", lambda place=place: run(program, stream, stream.all[:place]), stream.answer(place)
     for count in range(min(FAILING, len(stream.given))):
@@ -189,6 +209,21 @@ def tries(program, stream):
         yield f"no output after {count}", lambda count=count: no_reader(program, stream, count), fails
         for more in (0, 3):
             yield f"no input after {count} and {more}", lambda count=count, more=more: no_input(program, stream, count, more), fails
+
+
+    told = b"".join(stream.told)
+    for room in rooms(stream):
+        for parts in (stream.given, [b"".join(stream.given)]):
+            does = lambda room=room, parts=parts: full(program, stream, parts, room)
+            yield f"room for {room}, in {len(parts)}", does, (1, told[:room], DEVICE)
+
+
+def rooms(stream):
+    """Where the output is full: in a short one after each byte, else before the end of each of its first frames and at it."""
+    if len(stream.all) <= SHORT:
+        return range(sum(map(len, stream.told)))
+    ends = list(itertools.accumulate(map(len, stream.told[:FAILING])))
+    return sorted(place for end in ends[:-1] for place in (end - 1, end))
 
 
 def fault(stream, what, does, wanted):
@@ -202,13 +237,19 @@ def fault(stream, what, does, wanted):
     return f"{stream.name}, {what}: status {found[0]}, wanted {wanted[0]}; {found[2]}; {same}"
 
 
+def faults_of(program, stream):
+    return [fault(stream, *one) for one in tries(program, stream)]
+
+
 def main():
     if len(sys.argv) != 2:
         sys.exit(__doc__)
     program = os.path.abspath(sys.argv[1])
-    todo = [(stream, *one) for stream in streams() for one in tries(program, stream)]
-    with concurrent.futures.ThreadPoolExecutor(4) as pool:
-        faults = list(pool.map(lambda one: fault(*one), todo))
+    longest_first = sorted(streams(), key=lambda stream: -len(stream.all))
+    # In processes, and one run at a time in each: till a program runs it has what its starter has open, and a pipe that is closed
+    # there has a reader yet.
+    with concurrent.futures.ProcessPoolExecutor(os.cpu_count()) as pool:
+        faults = [found for all_of in pool.map(faults_of, itertools.repeat(program), longest_first) for found in all_of]
     for line in filter(None, faults):
         print(line)
     failed = sum(map(bool, faults))
@@ -216,4 +257,5 @@ def main():
     sys.exit(1 if failed else 0)
 
 
-main()
+if __name__ == "__main__":
+    main()

@@ -1,0 +1,465 @@
+#!/usr/bin/env python3
+"""Runs `tabd serve` of the built program under clients that meet, and judges the whole run by what they were told.
+
+    history.py PROGRAM [SECONDS [SEED]]     rounds of random transactions for so many seconds, 20 where it is not said
+    history.py PROGRAM wrong [NAME ..]      shorter ones, with each wrong server of standin.py between, which has to be found
+
+Six clients make random transactions on few keys of a set and a bag: reads, writes, looks at whole tables, nested levels,
+failing operations, requests that are sent ahead, one-shots; some vanish, with or without their commit. Others watch, at both
+levels, with dumps and without: two recorders who read at once, and some who read late, leave off, begin anew or vanish. Then
+judge.py looks for a run of these transactions alone that explains all that was told. What the clients ask is made up by the
+seed; when they ask it is not. One line tells what each round had, and one each fault; the last line is `N passed, M failed`, and
+the status 1 where one failed.
+"""
+
+import io
+import os
+import random
+import select
+import socket
+import subprocess
+import sys
+import threading
+import time
+
+HERE = os.path.dirname(os.path.abspath(__file__))
+sys.path.insert(0, os.path.join(HERE, "..", "examples"))
+from connection import PATIENCE, Connection  # noqa: E402
+from frames import frame, read  # noqa: E402
+from judge import Attempt, Differs, Judge, OneShot, Undecided  # noqa: E402
+from model import KINDS, OPTIONS  # noqa: E402
+from standin import WRONG, Wrong  # noqa: E402
+
+SECONDS, ROUND, SHORT = 20.0, 4.0, 1.2
+TRIES = 3
+WRITERS, VANISHING, CONNECTIONS, OUTBOX = 6, 24, 44, 96
+KEYS, CLASSES, COMMON = [1, 2, "a", (1, 2)], [0, 1], 3
+# What a client asks in a transaction, and how often.
+OPERATIONS = {
+    "read": 30, "wread": 14, "write": 36, "delete": 6, "delete_object": 6, "index_read": 3, "match_object": 4, "all_keys": 2,
+    "read_lock_table": 1, "write_lock_table": 1, "fail": 2,
+}  # fmt: skip
+# Some values are so long that sockets fill up; none of the bag, whose keys have many records.
+LONG = bytes(4000)
+now = time.monotonic
+
+
+class Chance(random.Random):
+    """Random requests. A fresh value is no other's."""
+
+    def __init__(self, seed, number):
+        super().__init__(f"{seed}/{number}")
+        self.last = number * 1_000_000
+
+    def fresh(self, tab):
+        self.last += 1
+        return (self.last, LONG) if tab == "t" and self.random() < 0.4 else self.last
+
+    def record(self, tab, key):
+        return (tab, key, self.choice(CLASSES), self.randrange(COMMON) if self.random() < 0.3 else self.fresh(tab))
+
+    def failing(self, tab="t", key=1):
+        return self.choice([("read", "nosuch", 1), ("write", (tab, key)), ("index_read", tab, 0, "value"), ("delete", ("nosuch", 1))])
+
+    def operation(self, fails=True):
+        tab, key = self.choice(list(KINDS)), self.choice(KEYS)
+        name = self.choices(list(OPERATIONS), list(OPERATIONS.values()))[0]
+        if name == "fail":
+            return self.failing(tab, key) if fails else ("read", tab, key)
+        if name == "read":
+            return (name, tab, key)
+        if name in ("wread", "delete"):
+            return (name, (tab, key))
+        if name in ("write", "delete_object"):
+            return (name, self.record(tab, key))
+        if name == "index_read":
+            return (name, tab, self.choice(CLASSES), self.choice([3, "class"]))
+        if name == "match_object":
+            return (name, (tab, self.choice([key, key, "_"]), self.choice(["_", 0]), "_"))
+        return (name, tab)
+
+    def parts(self):
+        """The members of a one-shot, and the value of its last write, which no other has."""
+        parts = [self.operation(self.random() < 0.3) for _ in range(self.randrange(1, 5))]
+        if self.random() < 0.1:
+            return [part for part in parts if part[0] in ("read", "all_keys", "match_object", "index_read")], None
+        if self.random() < 0.4:
+            inner = [self.operation() for _ in range(self.randrange(1, 4))] + [("abort", "inner")] * (self.random() < 0.3)
+            parts.insert(self.randrange(len(parts) + 1), ("transaction", inner))
+        if self.random() < 0.08:
+            return parts + [("abort", "why")], None
+        tab = self.choice(list(KINDS))
+        tag = self.fresh(tab)
+        return parts + [("write", (tab, self.choice(KEYS), 0, tag))], tag
+
+
+class Writer:
+    """A client that makes transactions until the time is over, and logs them. One that vanishes comes again."""
+
+    def __init__(self, game, number, connection=None):
+        self.game, self.chance, self.connection = game, Chance(game.seed, number), connection or Connection(game.port)
+        self.attempt, self.depth = None, 0
+
+    def ask(self, what):
+        sent = now()
+        reply = self.connection.ask(what)
+        return reply, sent, now()
+
+    def run(self):
+        kinds = [self.transaction] * 12 + [self.ahead] * 3 + [self.one_shot] * 5
+        while now() < self.game.end:
+            self.chance.choice(kinds)()
+            if self.chance.random() < 0.1:
+                time.sleep(self.chance.random() * 0.01)
+        self.connection.close()
+
+    def begun(self, reply, sent, got):
+        if not isinstance(reply, tuple) or reply[0] != "tid":
+            raise Differs(f"begin was told {reply}")
+        self.attempt, self.depth = Attempt(reply[1], sent, got), 1
+        self.game.attempts.append(self.attempt)
+
+    def note(self, move, reply, sent, got):
+        """Notes a reply. Whether the transaction goes on."""
+        if reply == "restart":
+            self.attempt.ended("restart", sent, got, last=(move, reply, sent, got))
+            self.attempt, self.depth = Attempt(self.attempt.age, sent, None), 1
+            self.game.attempts.append(self.attempt)
+        elif move == "commit" and self.depth == 1:
+            if not isinstance(reply, tuple) or reply[0] != "atomic" or not isinstance(reply[1], int):
+                raise Differs(f"commit was told {reply}")
+            self.attempt.ended("commit", sent, got, number=reply[1])
+            self.depth = 0
+        else:
+            if reply == "waiting" or reply[:1] == ("error",):
+                raise Differs(f"{move} was told {reply}")
+            self.attempt.steps.append((move, reply, sent, got))
+            self.depth += (move == "begin") - (move == "commit" or reply[:1] == ("aborted",))
+            if not self.depth:
+                self.attempt.ended("aborted", sent, got)
+        return self.depth > 0
+
+    def move(self, left):
+        """The next move, with so many operations left."""
+        if left > 0:
+            level = self.chance.random()
+            if self.depth < 4 and level < 0.08:
+                return "begin"
+            if self.depth > 1 and level > 0.75:
+                return self.chance.choice(["commit", ("abort", "level"), self.chance.failing()])
+            return self.chance.operation()
+        return "commit" if self.chance.random() < 0.85 else ("abort", "why")
+
+    def transaction(self):
+        self.begun(*self.ask("begin"))
+        left, going = self.chance.randrange(1, 7), True
+        while going:
+            if self.chance.random() < 0.004 and self.game.may_vanish():
+                return self.vanish()
+            move = self.move(left)
+            told = self.ask(move)
+            left = self.chance.randrange(1, 7) if told[0] == "restart" else left - 1
+            going = self.note(move, *told)
+
+    def vanish(self):
+        """It asks for something yet, or for its commits, and is gone."""
+        move, sent = self.chance.operation(), now()
+        if self.chance.random() < 0.5:
+            self.attempt.ended("maybe", sent, float("inf"))
+            self.connection.socket.sendall(frame("commit") * self.depth)
+        else:
+            self.attempt.ended("vanished", sent, float("inf"), last=(move, None, sent, float("inf")))
+            self.connection.send(move)
+        time.sleep(self.chance.choice([0, 0.001, 0.05]))
+        self.chance.choice([self.connection.close, self.connection.break_off])()
+        self.connection = Connection(self.game.port)
+
+    def ahead(self):
+        """A transaction in one piece: what follows a restart in it stands alone."""
+        moves = ["begin", *(self.chance.operation(fails=False) for _ in range(self.chance.randrange(1, 6))), "commit"]
+        sent = now()
+        self.connection.socket.sendall(b"".join(map(frame, moves)))
+        for at, move in enumerate(moves):
+            term = self.connection.receive()
+            if term[0] != "reply":
+                raise Differs(f"{move} was told {term}")
+            self.note(move, term[1], sent, now()) if at else self.begun(term[1], sent, now())
+
+    def one_shot(self):
+        parts, tag = self.chance.parts()
+        shot = OneShot(parts, tag, now())
+        self.game.shots.append(shot)
+        request = ("transaction", parts, self.chance.choice([0, 1, 1000]))
+        if self.chance.random() < 0.01 and self.game.may_vanish():
+            self.connection.send(request)
+            time.sleep(self.chance.choice([0, 0.01]))
+            self.connection.close()
+            self.connection = Connection(self.game.port)
+            return
+        shot.reply = self.connection.ask(request)
+        shot.got = now()
+
+
+class Watcher:
+    """A client that watches tables, and logs what it is told and when."""
+
+    def __init__(self, game, name, tabs, level, dump, records=False, small=False, vanishes=False):
+        self.game, self.name, self.tabs, self.level, self.dump = game, name, tabs, level, ("dump",) * dump
+        self.records, self.small, self.vanishes, self.vanished = records, small, vanishes, False
+        self.chance, self.connection = Chance(game.seed, name), Connection(game.port, small)
+        # The terms that came with their times, and the subscriptions' begins and ends with theirs, as they were granted.
+        self.frames, self.marks, self.replies, self.data = [], [], [], bytearray()
+        self.watched = set()
+        game.watchers.append(self)
+
+    def pump(self, patience):
+        """Reads what is there, and waits no longer for it. False at the stream's end."""
+        if not select.select([self.connection.socket], [], [], patience)[0]:
+            return True
+        more = self.connection.socket.recv(65_536)
+        self.data += more
+        place, got = 0, now()
+        while len(self.data) >= place + 4 and len(self.data) >= (end := place + 4 + int.from_bytes(self.data[place : place + 4], "big")):
+            term = read(io.BytesIO(self.data[place + 5 : end]))
+            place = end
+            if term[0] == "reply":
+                self.replies.append(term[1])
+                continue
+            self.frames.append((term, got))
+            if term[0] == "mnesia_overflow":
+                self.watched.clear()
+        del self.data[:place]
+        return bool(more)
+
+    def until(self, what, is_so):
+        end = now() + PATIENCE
+        while not is_so():
+            if now() > end or not self.pump(0.5) and not is_so():
+                raise Differs(f"{self.name} waits for {what}")
+
+    def ask(self, request):
+        sent = now()
+        self.connection.send(request)
+        self.until(request, lambda: self.replies)
+        reply, got = self.replies.pop(), now()
+        if reply == ("ok", "nonode@nohost"):
+            self.marks.append((request, sent, got))
+        elif reply[1] not in ("overflow", "outbox_full", ("not_subscribed", request[1][1])):
+            raise Differs(f"{self.name}: {request} was told {reply}")
+        return reply
+
+    def subscribe(self, tab):
+        if self.ask(("subscribe", ("table", tab, self.level), *self.dump))[0] == "ok":
+            self.watched.add(tab)
+
+    def unsubscribe(self, tab):
+        """Where it is not watched any more an overflow comes, or has come."""
+        reply = self.ask(("unsubscribe", ("table", tab, self.level)))
+        if reply[0] == "ok":
+            self.watched.discard(tab)
+        elif reply[1] != "outbox_full":
+            self.until("an overflow", lambda: tab not in self.watched)
+        return reply[0] == "ok"
+
+    def run(self):
+        while now() < self.game.end:
+            self.pump(0.02)
+            for tab in self.tabs:
+                if tab not in self.watched and (self.records or self.chance.random() < 0.5):
+                    self.subscribe(tab)
+            if self.records:
+                continue
+            self.idle()
+            if self.vanishes and self.frames and self.chance.random() < 0.02 and self.game.may_vanish():
+                self.vanished = True
+                self.connection.break_off()
+                return Watcher(self.game, self.name + "'", self.tabs, self.level, bool(self.dump), vanishes=True).run()
+        self.game.over.wait()
+        return self.finish()
+
+    def idle(self):
+        chance = self.chance.random()
+        if self.small and chance < 0.15:
+            time.sleep(self.chance.random() * 1.5)
+        elif chance < 0.2:
+            time.sleep(self.chance.random() * 0.02)
+        elif chance < 0.25 and self.watched:
+            self.unsubscribe(self.chance.choice(sorted(self.watched)))
+
+    def finish(self):
+        """Unsubscribes, and reads up to its last mark; with more room, for else each frame takes its time."""
+        self.connection.socket.setsockopt(socket.SOL_SOCKET, socket.SO_RCVBUF, 1_048_576)
+        end = now() + PATIENCE
+        while self.watched and now() < end:
+            self.unsubscribe(min(self.watched))
+            self.pump(0.01)
+        marked = lambda: sum(term[0] in ("mnesia_table_begin", "mnesia_table_end") for term, _ in self.frames) == len(self.marks)
+        self.until("its marks", marked)
+        self.pump(0.05)
+        self.connection.close()
+
+
+class Game:
+    """One round: a server, its clients, and their logs."""
+
+    def __init__(self, port, seed, seconds):
+        self.port, self.seed = port, seed
+        self.attempts, self.shots, self.watchers, self.failed = [], [], [], []
+        self.vanishing, self.lock, self.over = VANISHING, threading.Lock(), threading.Event()
+        self.first = Connection(port)
+        for tab, options in OPTIONS.items():
+            if self.first.ask(("create_table", tab, options)) != ("atomic", "ok"):
+                raise Differs(f"table {tab} is not made")
+        both = list(KINDS)
+        for name in ("a recorder", "another recorder"):
+            recorder = Watcher(self, name, both, "detailed", False, records=True)
+            for tab in both:
+                recorder.subscribe(tab)
+        Watcher(self, "a mirror", both, "detailed", True)
+        Watcher(self, "a late reader", both, "simple", True, small=True)
+        Watcher(self, "another late reader", ["t"], "detailed", False, small=True)
+        Watcher(self, "one that vanishes", ["t"], "simple", True, vanishes=True)
+        self.writers = [Writer(self, number) for number in range(1, WRITERS + 1)]
+        self.end = now() + seconds
+
+    def may_vanish(self):
+        with self.lock:
+            self.vanishing -= 1
+            return self.vanishing >= 0
+
+    def side_by_side(self, clients):
+        def run(client):
+            try:
+                client.run()
+            except (Differs, OSError, ValueError, TypeError, IndexError) as error:
+                self.failed.append(f"{type(client).__name__}: {type(error).__name__} {error}")
+                self.over.set()
+
+        threads = [threading.Thread(target=run, args=(client,), daemon=True) for client in clients]
+        for thread in threads:
+            thread.start()
+        return threads
+
+    def play(self):
+        """Plays the round; the number and the age of its last commit, which reads all and writes to all tables."""
+        watching = self.side_by_side(list(self.watchers))
+        for thread in self.side_by_side(self.writers):
+            thread.join()
+        closing = self.close()
+        self.over.set()
+        for thread in watching:
+            thread.join()
+        self.first.close()
+        return closing
+
+    def close(self):
+        """Both tables are read and written, and the last commit made."""
+        last = Writer(self, 0, self.first)
+        last.begun(*last.ask("begin"))
+        moves = [move for tab in KINDS for move in (("match_object", (tab, "_", "_", "_")), ("write", (tab, "last", 0, 0)))]
+        while len(last.attempt.steps) < len(moves):
+            move = moves[len(last.attempt.steps)]
+            last.note(move, *last.ask(move))
+        last.note("commit", *last.ask("commit"))
+        return self.attempts[-1].number, self.attempts[-1].age
+
+    def faults(self):
+        closing = self.play()
+        return self.failed or Judge(self.attempts, self.shots, self.watchers, closing, OUTBOX).faults()
+
+    def told(self):
+        events = sum(len(watcher.frames) for watcher in self.watchers)
+        ends = {end: sum(it.end == end for it in self.attempts) for end in ("commit", "restart", "aborted", "vanished", "maybe")}
+        overflows = sum(term[0] == "mnesia_overflow" for watcher in self.watchers for term, _ in watcher.frames)
+        return f"{ends}, {len(self.shots)} one-shots, {events} events, {overflows} overflows"
+
+
+def shown(fault):
+    return fault.replace(repr(LONG), "LONG")
+
+
+def serve(program, seed):
+    """Every other one has a journal that is always full."""
+    words = ["serve", "--port", "0", "--connections", str(CONNECTIONS), "--outbox", str(OUTBOX), "--journal", str([16, 1024][seed % 2])]
+    server = subprocess.Popen([program, *words], stdout=subprocess.PIPE, stderr=subprocess.PIPE, text=True)
+    return server, int(server.stdout.readline().rsplit(":", 1)[1])
+
+
+def fill(port, server):
+    """The connections that are left, so that the server ends by itself."""
+    for _ in range(CONNECTIONS):
+        try:
+            Connection(port).close()
+        except OSError:
+            break
+    try:
+        _, err = server.communicate(timeout=PATIENCE)
+    except subprocess.TimeoutExpired:
+        return ["the server does not end"]
+    return [] if (server.returncode, err) == (0, "") else [f"the server ended with {server.returncode}, {err}"]
+
+
+def round_faults(program, seed, seconds, between=lambda port: port, ends=True):
+    server, port = serve(program, seed)
+    try:
+        game = Game(between(port), seed, seconds)
+        faults = game.faults()
+        print(f"seed {seed}: {game.told()}")
+        return faults or (fill(port, server) if ends else [])
+    except (Differs, OSError, ValueError) as error:
+        return [f"{type(error).__name__} {error}"]
+    finally:
+        server.kill()
+        server.communicate()
+
+
+def rounds(program, seconds, seed):
+    """Faults of each round, until the time is used up. One whose recorders both missed something shows nothing, and is made
+    again; three in a row are a fault."""
+    end, undecided, took = now() + seconds, 0, 0
+    while now() + took < end:
+        seed, began = seed + 1, now()
+        try:
+            yield f"seed {seed}", round_faults(program, seed, ROUND)
+            undecided = 0
+        except Undecided:
+            undecided += 1
+            print(f"seed {seed}: undecided")
+            if undecided == 3:
+                yield f"seed {seed}", ["no recorder got all events, three times"]
+        took = now() - began
+
+
+def wrong_ones(program, names):
+    """Each wrong server has to be found, in one of some short rounds; and who only stands between is not."""
+    for wrong in [it for it in [Wrong, *WRONG] if not names or it.__name__ in names]:
+        faults, seconds = [], ROUND if wrong.small else SHORT
+        between = lambda port, wrong=wrong: wrong(port).listener.getsockname()[1]
+        for seed in range(1, 1 + TRIES if wrong is not Wrong else 2):
+            try:
+                faults = faults or round_faults(program, seed, seconds, between, False)
+            except Undecided:
+                continue
+        print(f"{wrong.__name__}: {shown(faults[0])[:200] if faults else 'nothing'}")
+        yield wrong.__name__, [] if bool(faults) == (wrong is not Wrong) else ["it is not found", *faults]
+
+
+def main():
+    if len(sys.argv) < 2:
+        sys.exit(__doc__)
+    program, words = os.path.abspath(sys.argv[1]), sys.argv[2:]
+    passed, failed = 0, 0
+    if words[:1] == ["wrong"]:
+        tried = wrong_ones(program, words[1:])
+    else:
+        tried = rounds(program, float(words[0]) if words else SECONDS, int(words[1]) if len(words) > 1 else 0)
+    for name, faults in tried:
+        passed, failed = passed + (not faults), failed + bool(faults)
+        for fault in faults[:5]:
+            print(f"{name}: {shown(fault)[:2000]}")
+    print(f"{passed} passed, {failed} failed")
+    sys.exit(1 if failed or not passed else 0)
+
+
+if __name__ == "__main__":
+    main()

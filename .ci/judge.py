@@ -1,0 +1,462 @@
+"""Judges a served run by its clients' logs: whether it is one of transactions run alone, one after another.
+
+The order of the commits that change something is that of a recorder, who watches all tables at level detailed; their numbers
+are those of the replies. Run alone in that order (model.py), each has to give the replies that its client had and the events
+that the recorder had, in the time between its request and its reply. What ended otherwise has to be told what stood in the
+tables at its time. No two transactions hold conflicting locks at once, who is restarted met an older one, and each subscriber
+has exactly the events since its begin mark.
+"""
+
+import bisect
+import itertools
+import math
+
+from model import EMPTY, Alone, conflict, events, lock_of, whole
+from frames import spell
+
+
+class Undecided(Exception):
+    """No recorder has the whole order."""
+
+
+class Differs(Exception):
+    pass
+
+
+class Attempt:
+    """A transaction's steps since its begin or its last restart: each a move, its reply, when it was sent and when answered."""
+
+    def __init__(self, age, sent, got):
+        self.age, self.began, self.steps = age, (sent, got), []
+        # How it ended, when that was asked for and when it was told; the operation that died or was never answered.
+        self.end, self.sent, self.got, self.last = None, math.inf, math.inf, None
+        self.number = None
+
+    def ended(self, end, sent, got, number=None, last=None):
+        self.end, self.sent, self.got, self.number, self.last = end, sent, got, number, last
+
+    def may_commit(self):
+        return self.end in ("commit", "maybe")
+
+    def alone(self, tables):
+        """Its updates where it is told what it was told; else the first move that is told something else."""
+        alone = Alone(tables)
+        for move, reply, *_ in self.steps:
+            told = alone.tell(move)
+            wanted = ("tid", self.age) if move == "begin" else told
+            if reply != wanted:
+                return None, f"{move} was told {reply}, alone {wanted}"
+        return alone.updates, None
+
+    def locks(self):
+        """What it surely held, from when to when."""
+        for move, _, _, got in self.steps:
+            if is_operation(move) and got < self.sent:
+                yield lock_of(move), got, self.sent
+
+    def asked(self):
+        """What it asked for, and in which time it may have held it or waited for it."""
+        until = self.got
+        for move, _, sent, _ in self.steps + ([self.last] if self.last else []):
+            if is_operation(move):
+                yield lock_of(move), sent, until
+
+
+class OneShot:
+    """A transaction in one request. Its last write has a value that no other has, where it writes."""
+
+    def __init__(self, parts, tag, sent):
+        self.parts, self.tag, self.sent, self.got, self.reply, self.age, self.number = parts, tag, sent, math.inf, None, None, None
+
+    def may_commit(self):
+        return self.reply is None or self.reply[0] == "atomic"
+
+    def alone(self, tables):
+        alone = Alone(tables)
+        told = alone.one_shot(self.parts)
+        if self.reply is not None and self.reply != told:
+            return None, f"the one-shot {self.parts} was told {self.reply}, alone {told}"
+        return alone.updates, None
+
+    def asked(self):
+        for part in flat(self.parts):
+            if is_operation(part):
+                yield lock_of(part), self.sent, self.got
+
+
+def flat(parts):
+    for part in parts:
+        yield from flat(part[1]) if part[0] == "transaction" else [part]
+
+
+def is_operation(move):
+    return move not in ("begin", "commit") and move[0] != "abort"
+
+
+def against_time(spans):
+    """The first of these that was answered before an earlier one was asked for. Each is a name, and both times."""
+    latest, whose = -math.inf, None
+    for name, sent, got in spans:
+        if got < latest:
+            return f"{name} was over before {whose} was asked for"
+        if sent > latest:
+            latest, whose = sent, name
+    return None
+
+
+class Commit:
+    """One that changed something: whose it is, its number or the least and the greatest that it can have, its events."""
+
+    def __init__(self, who, age, told):
+        self.who, self.age, self.told = who, age, told
+        self.least = self.most = who.number
+
+
+class Times:
+    """Which commits were surely made before a moment, and which may have been: their places in the order."""
+
+    def __init__(self, commits):
+        places = list(enumerate(commits, 1))
+        over = sorted((one.who.got, place) for place, one in places)
+        asked = sorted(((one.who.sent, place) for place, one in places), reverse=True)
+        self.over, self.asked = [got for got, _ in over], [-sent for sent, _ in asked]
+        self.greatest = list(itertools.accumulate((place for _, place in over), max, initial=0))
+        self.least = list(itertools.accumulate((place for _, place in asked), min, initial=len(commits) + 1))
+
+    def between(self, sent, got):
+        """The places whose tables something may have seen that was asked for and answered then."""
+        first = self.greatest[bisect.bisect_left(self.over, sent)]
+        return first, self.least[bisect.bisect_left(self.asked, -got)] - 1
+
+
+def stretches(frames):
+    """Of each commit that a recorder was told without a gap before it, the age of the one before, and its age and events. The first
+    is behind None; it watches both tables again from their second mark on."""
+    age, marks = None, 0
+    for kind, group in itertools.groupby((term for term, _ in frames), lambda term: term[0] == "mnesia_table_event" and term[1][-1][1]):
+        group = list(group)
+        if kind:
+            if marks >= len(EMPTY) and age != "gap":
+                yield age, (kind, group)
+            age = kind if marks >= len(EMPTY) else "gap"
+            continue
+        for term in group:
+            if term[0] == "mnesia_overflow":
+                age, marks = "gap", 0
+            marks += term[0] == "mnesia_table_begin"
+
+
+class Judge:
+    """Of a round that ended with a commit of this number and age, the last that changed something."""
+
+    def __init__(self, attempts, shots, watchers, closing, outbox):
+        self.attempts, self.shots, self.watchers = attempts, shots, watchers
+        (self.closing, self.last), self.outbox = closing, outbox
+
+    def faults(self):
+        """All that are found; the order first, on which the rest stands."""
+        try:
+            self.commits = self.order(self.recorded())
+            self.run()
+            self.number()
+        except Differs as differs:
+            return [str(differs)]
+        self.times = Times(self.commits)
+        found = [self.in_time(), self.locks(), *self.readers(), *self.restarts()]
+        for watcher in self.watchers:
+            try:
+                Follower(self, watcher).follow()
+            except Differs as differs:
+                found.append(f"{watcher.name}: {differs}")
+        return [fault for fault in found if fault]
+
+    def recorded(self):
+        """The events of all commits in their order, each commit's together: an age, and their terms. Where one recorder missed some,
+        another goes on."""
+        after = {}
+        for watcher in self.watchers:
+            for age, group in stretches(watcher.frames) if watcher.records else []:
+                if after.setdefault(age, group) != group:
+                    raise Differs(f"behind age {age} one recorder is told {group}, another {after[age]}")
+        groups, age = [], None
+        while age in after:
+            groups.append(after.pop(age))
+            age = groups[-1][0]
+        if age != self.last:
+            raise Undecided
+        return groups
+
+    def order(self, groups):
+        """The commits in the order of their events."""
+        by_age = {it.age: it for it in self.attempts if it.may_commit()}
+        by_tag = {it.tag: it for it in self.shots if it.tag is not None and it.may_commit()}
+        commits, seen = [], set()
+        for age, told in groups:
+            tags = [term[1][-3][3] for term in told if len(term[1][-3]) == 4]
+            who = by_age.get(age) or next((by_tag[tag] for tag in tags if tag in by_tag), None)
+            if who is None or id(who) in seen:
+                raise Differs(f"events of age {age} are of no commit, or are told twice: {told}")
+            seen.add(id(who))
+            commits.append(Commit(who, age, told))
+        for who in [*by_age.values(), *by_tag.values()]:
+            is_sure = who.end == "commit" if isinstance(who, Attempt) else who.reply is not None
+            if is_sure and id(who) not in seen and self.writes(who):
+                raise Differs(f"no events came of commit {who.number or who.parts}")
+        return commits
+
+    @staticmethod
+    def writes(who):
+        """Whether something of it survives, which is the same on all tables for those replies."""
+        if isinstance(who, OneShot):
+            return True
+        depths = [[]]
+        for move, reply, *_ in who.steps:
+            if move == "begin":
+                depths.append([])
+            elif move == "commit":
+                done = depths.pop()
+                depths[-1] += done
+            elif reply[:1] == ("aborted",):
+                depths.pop()
+            elif move[0] in ("write", "delete", "delete_object"):
+                depths[-1].append(move)
+        return bool(depths[0])
+
+    def run(self):
+        """Each alone, on the tables of those before it."""
+        self.worlds, self.batches = [EMPTY], [None]
+        for commit in self.commits:
+            updates, fault = commit.who.alone(self.worlds[-1])
+            if fault:
+                raise Differs(f"commit {commit.who.number}, of age {commit.age}: {fault}")
+            told, tables = events(self.worlds[-1], updates, commit.age)
+            wanted = [terms["detailed"] for _, terms in told]
+            if wanted != commit.told:
+                raise Differs(f"commit {commit.who.number}, of age {commit.age}: its events are {commit.told}, wanted {wanted}")
+            self.worlds.append(tables)
+            self.batches.append(told)
+        self.touched = {tab: [at for at, told in enumerate(self.batches) if told and any(it[0] == tab for it in told)] for tab in EMPTY}
+
+    def number(self):
+        """The commits' numbers: each once, and enough of them left for those who are told none."""
+        known = [it.number for it in self.attempts if it.end == "commit"]
+        if len(set(known)) != len(known) or max(known) != self.closing:
+            raise Differs("numbers of commits come twice, or are over the last one's")
+        free = sorted(set(range(1, self.closing + 1)) - set(known))
+        untold = [it for it in self.shots if it.reply and it.reply[0] == "atomic"]
+        perhaps = [it for it in self.shots if it.reply is None] + [it for it in self.attempts if it.end == "maybe"]
+        if not len(untold) <= len(free) <= len(untold) + len(perhaps):
+            raise Differs(f"{len(free)} numbers are no attempt's, and {len(untold)} to {len(untold) + len(perhaps)} others committed")
+        # The numbers that are told of those who changed something, with their places in the order.
+        self.told = [(commit.who.number, place) for place, commit in enumerate(self.commits) if commit.who.number]
+        if self.told != sorted(self.told):
+            raise Differs("the commits' numbers are in another order than their events")
+        self.share(free)
+
+    def share(self, free):
+        """The numbers that are left between two commits, for those between them that are told none."""
+        before, pending = 0, []
+        for commit in [*self.commits, None]:
+            number = commit.who.number if commit else self.closing + 1
+            if number is None:
+                pending.append(commit)
+                continue
+            left = free[bisect.bisect(free, before) : bisect.bisect(free, number)]
+            if len(left) < len(pending):
+                raise Differs(f"{len(pending)} commits have their events between those of commits {before} and {number}")
+            for at, one in enumerate(pending):
+                one.least, one.most = left[at], left[len(left) - len(pending) + at]
+            before, pending = number, []
+
+    def in_time(self):
+        """Commits, numbers and ages go with the time."""
+        ages = sorted((it.age, *it.began) for it in self.attempts if it.began[1] is not None)
+        firsts = [next(group) for _, group in itertools.groupby(ages, lambda it: it[0])]
+        numbers = sorted((it.number, it.sent, it.got) for it in self.attempts if it.end == "commit")
+        commits = [(f"the commit of age {it.age}", it.who.sent, it.who.got) for it in self.commits]
+        named = lambda what, spans: [(f"{what} {number}", sent, got) for number, sent, got in spans]
+        return against_time(commits) or against_time(named("commit", numbers)) or against_time(named("the begin of age", firsts))
+
+    def seen_at(self, who):
+        """Where in the order all that was told to somebody who changed nothing may have stood."""
+        if isinstance(who, OneShot):
+            return self.times.between(who.sent, who.got)
+        if who.number is None:
+            return self.times.between(*who.steps[-1][2:])
+        first, last = self.times.between(who.sent, who.got)
+        before, near = self.near(who.number)
+        under, over = sum(it.most < who.number for it in near), sum(it.least < who.number for it in near)
+        return max(first, before + under), min(last, before + over)
+
+    def near(self, number):
+        """The commits that are told no number, between the last that is told one below this and the first above; and how many are
+        before them."""
+        at = bisect.bisect(self.told, (number, 0))
+        before = self.told[at - 1][1] + 1 if at else 0
+        return before, self.commits[before : self.told[at][1] if at < len(self.told) else len(self.commits)]
+
+    def readers(self):
+        """Those who changed nothing: what they were told stood in the tables at their time."""
+        wrote = {id(commit.who) for commit in self.commits}
+        told = [it for it in self.attempts if it.steps] + [it for it in self.shots if it.reply and it.reply != ("aborted", "nomore")]
+        for who in told:
+            if id(who) in wrote:
+                continue
+            first, last = self.seen_at(who)
+            faults = [who.alone(tables)[1] for tables in self.worlds[first : last + 1]]
+            if all(faults):
+                what = f"age {who.age}, {who.end}" if isinstance(who, Attempt) else "a one-shot"
+                yield f"{what}, at {first} to {last} of the order: {faults[-1] if faults else 'no such place'}"
+
+    def locks(self):
+        """Two who surely held conflicting locks at once."""
+        spans = sorted((start, end, Owner(it), lock) for it in self.attempts for lock, start, end in it.locks())
+        held, most = [], 0
+        for start, end, owner, lock in spans:
+            held = [one for one in held if one[1] > start]
+            most = max(most, len({whose.age for _, _, whose, _ in held}))
+            for _, _, whose, other in held:
+                if whose.age != owner.age and conflict(lock, other):
+                    return f"ages {owner.age} and {whose.age} both hold {lock} and {other}"
+            held.append((start, end, owner, lock))
+        return None if most > 2 else "transactions are open one after another"
+
+    def restarts(self):
+        """Who was restarted met an older one, who held a lock or waited for it."""
+        asked = sorted((sent, until, Owner(it), lock) for it in [*self.attempts, *self.shots] for lock, sent, until in it.asked())
+        # Who vanished may have asked for it until the end.
+        gone, asked = [it for it in asked if it[1] == math.inf], [it for it in asked if it[1] < math.inf]
+        starts, ends = [it[0] for it in asked], list(itertools.accumulate((it[1] for it in asked), max))
+        ages = {id(commit.who): commit.age for commit in self.commits}
+        for who in (it for it in self.attempts if it.end == "restart"):
+            move, _, sent, got = who.last
+            lock, last = lock_of(move), bisect.bisect(starts, got)
+            met = asked[bisect.bisect_left(ends, sent) : last] + [it for it in gone if it[0] <= got]
+            is_met = lambda until, owner, other: until >= sent and owner.it is not who and conflict(lock, other)
+            if not any(is_met(*it[1:]) and (it[2].age or ages.get(id(it[2].it), 0)) < who.age for it in reversed(met)):
+                yield f"age {who.age} was restarted at {move}, and met no older one"
+
+
+class Owner:
+    """Stands behind equal times in a list that is sorted."""
+
+    def __init__(self, it):
+        self.it, self.age = it, it.age
+
+    def __lt__(self, other):
+        return id(self) < id(other)
+
+
+class Follower:
+    """Follows what a subscriber was told, and where in the order of the commits it may have come so."""
+
+    def __init__(self, judge, watcher):
+        self.judge, self.watcher = judge, watcher
+        self.level, self.copies, self.at = {}, {}, [0]
+        # Of each item when its first frame came.
+        self.items = []
+
+    def next(self, place):
+        """The next commit with an event for it."""
+        nexts = [len(self.judge.batches)]
+        for tab in self.level:
+            touched = self.judge.touched[tab]
+            nexts += touched[bisect.bisect(touched, place) :][:1]
+        return min(nexts)
+
+    def owed(self, place):
+        if place >= len(self.judge.batches):
+            return []
+        return [terms[self.level[tab]] for tab, terms in self.judge.batches[place] if tab in self.level]
+
+    def follow(self):
+        frames, marks = self.watcher.frames, iter(self.watcher.marks)
+        place = 0
+        while place < len(frames):
+            term, got = frames[place]
+            if term[0] == "mnesia_table_event":
+                place += self.batch([it for it, _ in frames[place : place + 64]], got)
+                continue
+            if term[0] == "mnesia_overflow":
+                self.overflow(term[1])
+            else:
+                self.mark(term, got, next(marks, None))
+            place += 1
+        if not self.watcher.vanished and (self.level or next(marks, None)):
+            raise Differs(f"it was never told the end of {list(self.level)}")
+
+    def batch(self, frames, got):
+        """The events of one commit, which stand together."""
+        for place in {self.next(place) for place in self.at}:
+            owed = self.owed(place)
+            # Who vanished may have got some of them.
+            count = min(len(owed), len(frames)) if self.watcher.vanished else len(owed)
+            if owed and frames[:count] == owed[:count]:
+                self.at = [place]
+                self.items.append(got)
+                for term in owed:
+                    self.mirror(term[1])
+                return count
+        raise Differs(f"told {frames[0]}, and the next is of {[self.owed(self.next(place))[:1] for place in self.at[:2]]}")
+
+    def mirror(self, event):
+        """A copy goes by the event alone."""
+        what = event[1] if len(event) == 3 else event[2]
+        if (rows := self.copies.get(what[0])) is None:
+            return
+        old = rows.get(spell(what[1]), ())
+        if len(what) == 2:
+            new = ()
+        elif event[0] != "write":
+            new = tuple(record for record in old if record != what)
+        else:
+            new = (what,) if what[0] == "t" else old if what in old else (*old, what)
+        rows[spell(what[1])] = new
+        if not new:
+            del rows[spell(what[1])]
+
+    def mark(self, term, got, asked):
+        request, sent, answered = asked or (None, 0, 0)
+        first, last = self.judge.times.between(sent, answered)
+        limits = [(place, self.next(place)) for place in self.at]
+        at = sorted({at for place, limit in limits for at in range(max(place, first), min(limit, last + 1))})
+        self.items.append(got)
+        if term[0] == "mnesia_table_begin" and request and request[0] == "subscribe":
+            at = self.begin(term, request, at)
+        elif term[0] == "mnesia_table_end" and request and request[0] == "unsubscribe":
+            at = self.end(term, request, at)
+        else:
+            at = []
+        if not at:
+            raise Differs(f"told {term}, asked {request}, at none of {first} to {last} of the order")
+        self.at = at
+
+    def begin(self, term, request, at):
+        _, (_, tab, level), *dump = request
+        if term[1:3] != (tab, level) or len(term) != 3 + len(dump):
+            return []
+        if dump:
+            at = [place for place in at if whole(self.judge.worlds[place][tab]) == term[3]]
+            self.copies[tab] = dict(self.judge.worlds[at[0]][tab]) if at else None
+        self.level[tab] = level
+        return at
+
+    def end(self, term, request, at):
+        tab, level = request[1][1:]
+        if term != ("mnesia_table_end", tab, "unsubscribed") or self.level.pop(tab, None) != level:
+            return []
+        copy = self.copies.pop(tab, None)
+        if copy is not None and all(copy != self.judge.worlds[place][tab] for place in at):
+            raise Differs(f"its copy of {tab} is not the table")
+        return at
+
+    def overflow(self, number):
+        """Its outbox held as much as it can when the commit came."""
+        for place in {self.next(place) for place in self.at} - {len(self.judge.batches)}:
+            commit, held = self.judge.commits[place - 1], self.items[-self.judge.outbox :]
+            if commit.least <= number <= commit.most:
+                if len(held) < self.judge.outbox or held[0] < commit.who.sent:
+                    raise Differs(f"overflow {number}, and its outbox had room")
+                self.level, self.copies, self.at = {}, {}, [place]
+                return
+        raise Differs(f"overflow {number}, and the next commit for it is another")

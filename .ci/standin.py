@@ -1,0 +1,477 @@
+"""Wrong servers for history.py: each stands between the clients and a server that is right, and breaks one rule.
+
+A wrong server sees each request before the server does, and each frame before its client does, and says what goes on. So it
+can lose a lock, by asking for a record outside of the client's transaction, and drop, double or swap what is told.
+"""
+
+import io
+import select
+import socket
+import threading
+import time
+from collections import deque
+
+from connection import Connection
+from frames import frame, read, spell
+
+# Every so many of a kind are done wrong.
+OFTEN = 23
+
+
+class Link:
+    """One client's connection, and the one that stands for it at the server."""
+
+    def __init__(self, wrong, client, port):
+        self.wrong, self.client, self.server = wrong, client, Connection(port, small=wrong.small).socket
+        self.client.setsockopt(socket.IPPROTO_TCP, socket.TCP_NODELAY, 1)
+        # The requests that are not answered yet, the open levels, the keys that the transaction may have changed, what is held
+        # back, and whatever else a wrong server notes of it.
+        self.pending, self.depth, self.touched, self.held, self.notes = deque(), 0, set(), [], {}
+        # Whether it watches all at level detailed, so that the order of the commits is read off it.
+        self.records = False
+
+    def run(self):
+        ends = {self.client: bytearray(), self.server: bytearray()}
+        while True:
+            for end in select.select(list(ends), [], [])[0]:
+                try:
+                    more = end.recv(65_536)
+                except OSError:
+                    more = b""
+                if not more:
+                    return self.over(end)
+                ends[end] += more
+                try:
+                    self.pass_on(end, ends[end])
+                except OSError:
+                    return self.over(self.client)
+
+    def pass_on(self, end, data):
+        while len(data) >= 4 and len(data) >= (size := 4 + int.from_bytes(data[:4], "big")):
+            term = read(io.BytesIO(data[5:size]))
+            del data[:size]
+            if end is self.client:
+                self.asked(term)
+            else:
+                self.told(term)
+
+    def asked(self, term):
+        self.records |= term == ("subscribe", ("table", "t", "detailed"))
+        request = self.wrong.asked(self, term)
+        if request is not None:
+            self.pending.append(term)
+            self.server.sendall(frame(request))
+
+    def told(self, term):
+        if term[0] == "reply":
+            request = self.pending.popleft()
+            self.follow(request, term[1])
+            term = self.wrong.replied(self, request, term)
+            if term is None:
+                return
+        for one in self.wrong.told(self, term):
+            self.client.sendall(frame(one))
+
+    def tell(self, reply):
+        """Answers a request that the server is not asked."""
+        self.client.sendall(frame(("reply", reply)))
+
+    def follow(self, request, reply):
+        if reply == "restart":
+            self.depth, self.touched = 1, set()
+        elif request[0] == "transaction":
+            return
+        elif reply[:1] == ("aborted",) or (request == "commit" and reply[0] == "atomic"):
+            self.depth -= 1
+        elif reply[:1] == ("tid",):
+            self.depth += 1
+        if not self.depth:
+            self.touched = set()
+
+    def over(self, end):
+        if end is self.client:
+            self.wrong.gone(self)
+        for one in (self.client, self.server):
+            try:
+                one.shutdown(socket.SHUT_RDWR)
+            except OSError:
+                pass
+            one.close()
+
+
+class Wrong:
+    """A stand-in that changes nothing: the others are it but for one rule. One that is small has little room for what a client
+    does not read; one that spares recorders tells other subscribers alone what is wrong."""
+
+    small, spares = False, False
+
+    def __init__(self, port):
+        self.port, self.count, self.notes, self.lock = port, 0, {}, threading.Lock()
+        self.listener = socket.create_server(("127.0.0.1", 0))
+        self.aside, self.aside_lock = Connection(port), threading.Lock()
+        threading.Thread(target=self.accept, daemon=True).start()
+
+    def accept(self):
+        while True:
+            try:
+                client, _ = self.listener.accept()
+                link = Link(self, client, self.port)
+            except OSError:
+                return
+            threading.Thread(target=link.run, daemon=True).start()
+
+    def now_and_then(self):
+        with self.lock:
+            self.count += 1
+            return self.count % OFTEN == 0
+
+    def asked(self, link, request):
+        """What the server is asked, or None."""
+        return request
+
+    def replied(self, link, request, term):
+        """The reply, or None."""
+        return term
+
+    def told(self, link, term):
+        """What the client is told."""
+        return [term]
+
+    def gone(self, link):
+        """The client is gone."""
+
+    def hits(self, link, term):
+        return is_event(term) and not (self.spares and link.records) and self.now_and_then()
+
+    def by_itself(self, link, request):
+        """Reads outside of the client's transaction, where that is told the same. Whether it did."""
+        if link.pending or not link.depth:
+            return False
+        with self.aside_lock:
+            reply = self.aside.ask(("transaction", [request], 0))
+        if reply[0] != "atomic":
+            return False
+        link.tell(reply[1][0])
+        return True
+
+
+def is_event(term):
+    return term[0] == "mnesia_table_event"
+
+
+def what_of(event):
+    """The record, or table and key, of an event, and the age of its transaction."""
+    body = event[1]
+    return (body[1] if len(body) == 3 else body[2]), body[-1][1]
+
+
+class DropsAnEvent(Wrong):
+    def told(self, link, term):
+        return [] if self.hits(link, term) else [term]
+
+
+class DoublesAnEvent(Wrong):
+    def told(self, link, term):
+        return [term, term] if self.hits(link, term) else [term]
+
+
+class HoldsBack(Wrong):
+    """Some frames stand behind the next."""
+
+    def is_held(self, link, term):
+        return self.hits(link, term)
+
+    def told(self, link, term):
+        held, link.held = link.held, []
+        if not held and self.is_held(link, term):
+            link.held = [term]
+            return []
+        return [term, *held]
+
+
+class SwapsEvents(HoldsBack):
+    pass
+
+
+class DropsASubscribersEvent(DropsAnEvent):
+    spares = True
+
+
+class DoublesASubscribersEvent(DoublesAnEvent):
+    spares = True
+
+
+class SwapsASubscribersEvents(SwapsEvents):
+    spares = True
+
+
+class TellsABatchBeforeItsMark(HoldsBack):
+    def is_held(self, link, term):
+        return term[0] == "mnesia_table_begin" and not link.records
+
+
+class TellsAnEventAfterTheEnd(Wrong):
+    spares = True
+
+    def told(self, link, term):
+        if term[0] == "mnesia_table_end":
+            held, link.held = link.held, []
+            return [term, *held]
+        if not link.held and self.hits(link, term):
+            link.held = [term]
+            return []
+        return [term]
+
+
+class DropsWhatIsQueuedAtAnEnd(Wrong):
+    def asked(self, link, request):
+        link.notes["ends"] = request[0] == "unsubscribe" or link.notes.get("ends")
+        return request
+
+    def told(self, link, term):
+        if term[0] != "reply" and not is_event(term):
+            link.notes["ends"] = False
+        return [] if is_event(term) and link.notes.get("ends") else [term]
+
+
+class MergesWrites(Wrong):
+    def told(self, link, term):
+        held, link.held = link.held, []
+        if held and is_event(term):
+            (one, age), (other, its) = what_of(held[0]), what_of(term)
+            if (one[:2], age) == (other[:2], its):
+                held = []
+        if is_event(term):
+            link.held = [term]
+            return held
+        return [*held, term]
+
+
+class TellsOldRecordsOfBeforeTheCommit(Wrong):
+    def told(self, link, term):
+        if not is_event(term) or len(term[1]) == 3:
+            return [term]
+        what, age = what_of(term)
+        body = list(term[1])
+        body[3] = link.notes.setdefault((age, what[0], spell(what[1])), body[3])
+        return [(term[0], tuple(body))]
+
+
+class GivesANewAgeAfterARestart(Wrong):
+    def replied(self, link, request, term):
+        if term[1] == "restart":
+            self.notes[link.notes["age"]] = True
+        if term[1][:1] == ("tid",):
+            link.notes["age"] = term[1][1]
+        return term
+
+    def told(self, link, term):
+        if is_event(term) and what_of(term)[1] in self.notes:
+            return [(term[0], (*term[1][:-1], ("tid", what_of(term)[1] + 10_000)))]
+        return [term]
+
+
+class LosesAReadLock(Wrong):
+    def asked(self, link, request):
+        if request[0] in ("write", "delete_object"):
+            link.touched.add((request[1][0], spell(request[1][1])))
+        if request[0] == "delete":
+            link.touched.add((request[1][0], spell(request[1][1])))
+        is_free = request[0] == "read" and request[1] != "nosuch" and (request[1], spell(request[2])) not in link.touched
+        return None if is_free and self.by_itself(link, request) else request
+
+
+class LooksAtATableWithoutALock(Wrong):
+    def asked(self, link, request):
+        if request[0] in ("write", "delete", "delete_object"):
+            link.touched.add(request[1][0])
+        looks = request[0] in ("all_keys", "index_read") and request[-1] != "value" and not link.touched
+        return None if looks and self.by_itself(link, request) else request
+
+
+class ReadsForAWriteByAReadLock(Wrong):
+    def asked(self, link, request):
+        return ("read", *request[1]) if request[0] == "wread" else request
+
+
+class LosesATableLock(Wrong):
+    def asked(self, link, request):
+        if request[0] in ("read_lock_table", "write_lock_table") and link.depth and not link.pending:
+            return link.tell("ok")
+        return request
+
+
+class KeepsNoLockOfWhatFailed(Wrong):
+    def asked(self, link, request):
+        if request == ("delete", ("nosuch", 1)):
+            return ("abort", ("no_exists", "nosuch"))
+        if request[0] == "write" and len(request[1]) == 2:
+            return ("abort", ("bad_type", request[1][0], request[1]))
+        return ("abort", ("no_index", request[1], "value")) if request[0] == "index_read" and request[3] == "value" else request
+
+
+class LosesAWrite(Wrong):
+    def asked(self, link, request):
+        if request[0] == "write" and len(request[1]) == 4 and link.depth and not link.pending and self.now_and_then():
+            return link.tell("ok")
+        return request
+
+
+class TellsAnOldRead(Wrong):
+    def replied(self, link, request, term):
+        if request[0] != "read" or not isinstance(term[1], list):
+            return term
+        key = request[1], spell(request[2])
+        last, self.notes[key] = self.notes.get(key, term), term
+        return last if self.now_and_then() else term
+
+
+class TellsAReaderAnOldRead(Wrong):
+    """A one-shot that writes nothing is told what was there long ago."""
+
+    def replied(self, link, request, term):
+        if request[0] == "read" and isinstance(term[1], list):
+            self.notes.setdefault((request[1], spell(request[2])), term[1])
+        if request[0] != "transaction" or term[1][0] != "atomic" or any(part[0] != "read" for part in request[1]):
+            return term
+        old = [self.notes.get((part[1], spell(part[2])), told) for part, told in zip(request[1], term[1][1])]
+        return ("reply", ("atomic", old))
+
+
+class CommitsWhatIsGone(Wrong):
+    def gone(self, link):
+        try:
+            link.server.sendall(frame("commit") * link.depth)
+        except OSError:
+            pass
+
+
+class CommitsWhatIsAborted(Wrong):
+    def asked(self, link, request):
+        return "commit" if request[0] == "abort" and link.depth == 1 and not link.pending else request
+
+    def replied(self, link, request, term):
+        return ("reply", ("aborted", request[1])) if request[0] == "abort" and term[1][0] == "atomic" else term
+
+
+class KeepsAChildThatIsAborted(Wrong):
+    def asked(self, link, request):
+        return "commit" if request[0] == "abort" and link.depth > 1 and not link.pending else request
+
+    replied = CommitsWhatIsAborted.replied
+
+
+class RestartsForNothing(Wrong):
+    def asked(self, link, request):
+        if request[0] == "read" and link.depth == 1 and not link.pending and self.now_and_then():
+            return link.tell("restart")
+        return request
+
+
+class TellsAnotherOverflow(Wrong):
+    """It reads little, so that there are overflows."""
+
+    small = True
+
+    def asked(self, link, request):
+        link.notes["late"] = request[0] == "subscribe" and len(request) == 3 or link.notes.get("late")
+        return request
+
+    def told(self, link, term):
+        if link.notes.get("late") and is_event(term) and link.notes.get("naps", 0) < 2 and self.now_and_then():
+            link.notes["naps"] = link.notes.get("naps", 0) + 1
+            time.sleep(1)
+        return [(term[0], term[1] + 40)] if term[0] == "mnesia_overflow" else [term]
+
+
+class OverflowsWithRoomLeft(Wrong):
+    """It ends a subscriber's subscriptions itself, and says that the next commit found its outbox full."""
+
+    def asked(self, link, request):
+        if request[0] == "subscribe" and len(request) == 3:
+            link.notes.setdefault("watched", []).append(request[1])
+        if request[0] == "unsubscribe" and request[1] in link.notes.get("watched", []):
+            link.notes["watched"].remove(request[1])
+        return request
+
+    def replied(self, link, request, term):
+        if request == "own":
+            return None
+        if term[1][:1] == ("tid",):
+            link.notes["age"] = term[1][1]
+        if request == "commit" and isinstance(term[1][1], int):
+            self.notes[link.notes["age"]] = term[1][1]
+        return term
+
+    def told(self, link, term):
+        if term[0] == "mnesia_table_end" and link.notes.get("ends"):
+            link.notes["ends"] -= 1
+            return []
+        if not is_event(term) or link.notes.get("ends"):
+            return [] if is_event(term) else [term]
+        age, link.notes["last"] = link.notes.get("last"), what_of(term)[1]
+        if not link.notes.get("watched") or link.pending or age == link.notes["last"] or link.notes["last"] not in self.notes:
+            return [term]
+        watched, link.notes["watched"] = link.notes["watched"], []
+        link.notes["ends"] = len(watched)
+        for one in watched:
+            link.pending.append("own")
+            link.server.sendall(frame(("unsubscribe", one)))
+        return [("mnesia_overflow", self.notes[link.notes["last"]])]
+
+
+class SplitsAOneShot(Wrong):
+    def asked(self, link, request):
+        if request[0] != "transaction" or len(request[1]) < 2 or request[1][0][0] != "write" or not self.now_and_then():
+            return request
+        with self.aside_lock:
+            reply = self.aside.ask(("transaction", request[1][:1], 1000))
+        if reply[0] == "atomic":
+            link.notes["first"] = reply[1]
+            return (request[0], request[1][1:], request[2])
+        return request
+
+    def replied(self, link, request, term):
+        first = link.notes.pop("first", []) if request[0] == "transaction" else []
+        return ("reply", ("atomic", first + term[1][1])) if first and term[1][0] == "atomic" else term
+
+
+class ForgetsARecordOfADump(Wrong):
+    def told(self, link, term):
+        return [(*term[:3], term[3][:-1])] if term[0] == "mnesia_table_begin" and len(term) == 4 and term[3] else [term]
+
+
+class GivesANumberTwice(Wrong):
+    def replied(self, link, request, term):
+        if request == "commit" and isinstance(term[1][1], int) and self.now_and_then():
+            return ("reply", ("atomic", term[1][1] - 1))
+        return term
+
+
+class OneAfterAnother(Wrong):
+    """A transaction begins when the one before has ended."""
+
+    def asked(self, link, request):
+        if request == "begin" and not link.depth and not link.pending:
+            self.aside_lock.acquire()
+            link.notes["alone"] = True
+        return request
+
+    def replied(self, link, request, term):
+        if not link.depth:
+            self.gone(link)
+        return term
+
+    def gone(self, link):
+        if link.notes.pop("alone", False):
+            self.aside_lock.release()
+
+
+WRONG = [
+    DropsAnEvent, DoublesAnEvent, SwapsEvents, DropsASubscribersEvent, DoublesASubscribersEvent, SwapsASubscribersEvents,
+    TellsABatchBeforeItsMark, TellsAnEventAfterTheEnd, DropsWhatIsQueuedAtAnEnd, MergesWrites, TellsOldRecordsOfBeforeTheCommit,
+    GivesANewAgeAfterARestart, LosesAReadLock, LooksAtATableWithoutALock, ReadsForAWriteByAReadLock, LosesATableLock,
+    KeepsNoLockOfWhatFailed, LosesAWrite, TellsAnOldRead, TellsAReaderAnOldRead, CommitsWhatIsGone, CommitsWhatIsAborted,
+    KeepsAChildThatIsAborted, RestartsForNothing, TellsAnotherOverflow, OverflowsWithRoomLeft, SplitsAOneShot,
+    ForgetsARecordOfADump, GivesANumberTwice, OneAfterAnother,
+]  # fmt: skip
