@@ -124,6 +124,15 @@ class EventsOfTables(Served):
         with self.assertRaises(tabd.Closed):
             next(events)
 
+    def test_a_client_goes_on_with_the_next_server(self) -> None:
+        """Connections that ended while no one used them are left out."""
+        self.client.create_table("t")
+        self.server.kill()
+        self.server = Server(port=self.server.port)
+        self.addCleanup(self.server.kill)
+        self.client.create_table("t")
+        self.assertEqual(self.client.run(lambda t: t.all_keys("t")), [])
+
     def test_an_overflow(self) -> None:
         table = self.client.create_table(SET)
         with table.events(dump=True) as events:
