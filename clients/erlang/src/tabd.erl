@@ -296,8 +296,8 @@ delete_object(Tab, Record, Lock) -> is_of(Tab, Record), is_write(Tab, Lock), del
 -spec index_read(atom(), term(), atom() | pos_integer()) -> records().
 index_read(Tab, Value, Attr) -> operate({index_read, Tab, Value, Attr}).
 
-%% @doc The records that fit. A match variable, as `'$1'', takes any term, and the same one at each of its places: the server is asked with
-%% `'_'' there, and the records are matched here. In a map of the pattern neither may stand.
+%% @doc The records that fit. A match variable, as `'$1'', takes any term, and the same one at each of its places; a map takes each map that
+%% has its pairs. The server knows neither: it is asked with `'_'' there, and the records are matched here.
 -spec match_object(tuple()) -> records().
 match_object(Pattern) ->
     is_record(Pattern),
@@ -327,6 +327,7 @@ records(Tab) ->
 
 lock({table, Tab}, read) -> read_lock_table(Tab);
 lock({table, Tab}, Lock) -> is_write(Tab, Lock), write_lock_table(Tab);
+lock({record, Tab, Key}, Lock) -> _ = read(Tab, Key, Lock), ok;
 lock(Item, _) -> abort({bad_type, Item}).
 
 -spec read_lock_table(atom()) -> ok.
@@ -344,7 +345,7 @@ is_of(_, Record) -> abort({bad_type, Record}).
 is_write(_, Lock) when Lock =:= write; Lock =:= sticky_write -> ok;
 is_write(Tab, Lock) -> abort({bad_type, Tab, Lock}).
 
-%% The pattern with `_' at its match variables.
+%% The pattern with `_' at its match variables and maps.
 widened(Term) when is_atom(Term) ->
     case is_variable(Term) of
         true -> '_';
@@ -352,11 +353,7 @@ widened(Term) when is_atom(Term) ->
     end;
 widened(Term) when is_tuple(Term) -> list_to_tuple(widened(tuple_to_list(Term)));
 widened([Head | Tail]) -> [widened(Head) | widened(Tail)];
-widened(Term) when is_map(Term) ->
-    %% To the server they are atoms like others there.
-    Pairs = maps:to_list(Term),
-    widened(Pairs) =:= Pairs andalso not mentions('_', Pairs) orelse abort({bad_type, Term}),
-    Term;
+widened(Term) when is_map(Term) -> '_';
 widened(Term) -> Term.
 
 is_variable(Atom) ->
@@ -364,11 +361,6 @@ is_variable(Atom) ->
         [$$, Digit | Digits] -> lists:all(fun(D) -> D >= $0 andalso D =< $9 end, [Digit | Digits]);
         _ -> false
     end.
-
-mentions(Atom, Term) when is_tuple(Term) -> mentions(Atom, tuple_to_list(Term));
-mentions(Atom, [Head | Tail]) -> mentions(Atom, Head) orelse mentions(Atom, Tail);
-mentions(Atom, Term) when is_map(Term) -> mentions(Atom, maps:to_list(Term));
-mentions(Atom, Term) -> Atom =:= Term.
 
 matching(Pattern, Pattern, Records) -> Records;
 matching(Pattern, _, Records) -> ets:match_spec_run(Records, ets:match_spec_compile([{Pattern, [], ['$_']}])).

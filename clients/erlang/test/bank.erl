@@ -100,9 +100,13 @@ queries() ->
     show(owned, [lists:sort(do(fun() -> ?DB:index_read(account, O, #account.owner) end)) || O <- [0, nobody]]),
     show(match, [Match(#account{number = {1, '_'}, owner = 2, balance = '_'}), Match(#account{number = {'_', '$1'}, owner = '_', balance = '$1'})]),
     show(same, Match(#account{number = {'$1', '_'}, owner = '$1', balance = '_'})),
-    Big = [{#account{number = '$1', owner = '_', balance = '$2'}, [{'>', '$2', 6}, {is_tuple, '$1'}], [{{'$2', '$1'}}]}],
+    do(fun() -> [?DB:write(#account{number = {m, N}, balance = #{a => N rem 2, b => N}}) || N <- [1, 2, 3]] end),
+    Maps = [#{a => 1}, #{a => 1, b => 1}, #{a => '$1', b => '$1'}, #{a => '_', c => '_'}],
+    show(maps, [Match(#account{number = '_', owner = '_', balance = Map}) || Map <- Maps]),
+    Big = [{#account{number = '$1', owner = '_', balance = '$2'}, [{'>', '$2', 6}, {is_integer, '$2'}, {is_tuple, '$1'}], [{{'$2', '$1'}}]}],
     show(select, lists:sort(do(fun() -> ?DB:select(account, Big) end))),
     show(locks, do(fun() -> {?DB:read_lock_table(account), ?DB:write_lock_table(account)} end)),
+    do(fun() -> [?DB:lock(Item, Kind) || Item <- [{table, account}, {record, account, 1}], Kind <- [read, write]] end),
     do(fun() -> [?DB:delete({account, Key}) || Key <- ?DB:all_keys(account), is_tuple(Key)] end).
 
 detailed_events() ->

@@ -251,7 +251,8 @@ raises() ->
     kill(Pid).
 
 killed() ->
-    Pid = client(2),
+    {Port, Pid} = serve(2, []),
+    ok = tabd:start(#{port => Port, connections => 2}),
     {atomic, ok} = tabd:create_table(t, []),
     Self = self(),
     Inside = fun() -> tabd:write({t, 1, mad}), tabd:transaction(fun() -> Self ! {inside, self()}, timer:sleep(infinity) end) end,
@@ -298,9 +299,8 @@ variables() ->
     Match = fun(Pattern) -> tabd:transaction(fun() -> tabd:match_object(Pattern) end) end,
     same(Match({t, '$1', {'$1', '$1'}}), {atomic, [{t, 1, {1, 1}}]}),
     same(Match({t, '$1', {'_', '$1'}}), {atomic, [{t, N, {N rem 2, N}} || N <- [1, 2, 3]]}),
-    same(Match({t, '_', #{a => 1}}), {atomic, [{t, 4, #{a => 1}}]}),
-    same(Match({t, '_', #{a => '$1'}}), {aborted, {bad_type, #{a => '$1'}}}),
-    same(Match({t, '_', #{a => {'_'}}}), {aborted, {bad_type, #{a => {'_'}}}}),
+    same(Match({t, 4, #{a => '$1'}}), {atomic, [{t, 4, #{a => 1}}]}),
+    same(Match({t, #{}, '_'}), {atomic, []}),
     kill(Pid).
 
 dirty_inside() ->
