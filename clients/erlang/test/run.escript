@@ -69,27 +69,31 @@ same(Found, Wanted) -> exit({found, Found, wanted, Wanted}).
 
 %% The program, and a client of it
 
-serve(Connections, Words) -> serve(Connections, Words, 0, 50).
+serve(Connections) -> serve(Connections, 0, 20).
 
-serve(Connections, Words, At, Left) ->
-    Args = ["serve", "--port", integer_to_list(At), "--connections", integer_to_list(Connections) | Words],
-    Server = open_port({spawn_executable, get(program)}, [{args, Args}, {line, 200}, exit_status, binary]),
+%% A shell stands between, which kills the server when this end of its input is closed: by `kill', or with the case that has failed.
+serve(Connections, At, Left) ->
+    Shell = "\"$0\" \"$@\" </dev/null & read -r _; kill -9 $!; wait",
+    Words = ["serve", "--port", integer_to_list(At), "--connections", integer_to_list(Connections)],
+    Server = open_port({spawn_executable, "/bin/sh"}, [{args, ["-c", Shell, get(program) | Words]}, {line, 200}, binary]),
     receive
-        {Server, {data, {eol, Line}}} ->
-            {os_pid, Pid} = erlang:port_info(Server, os_pid),
-            {binary_to_integer(lists:last(binary:split(Line, <<":">>, [global]))), Pid};
-        {Server, {exit_status, _}} when Left > 0 ->
-            %% After a kill the port may not be free at once.
-            timer:sleep(100),
-            serve(Connections, Words, At, Left - 1)
+        {Server, {data, {eol, Line}}} -> {binary_to_integer(lists:last(binary:split(Line, <<":">>, [global]))), Server}
+    after 3000 ->
+        %% After a kill the port may not be free at once.
+        kill(Server),
+        Left > 0 orelse exit(no_server),
+        serve(Connections, At, Left - 1)
     end.
 
 client(Connections) ->
-    {Port, Pid} = serve(Connections, []),
+    {Port, Server} = serve(Connections),
     ok = tabd:start(Port),
-    Pid.
+    Server.
 
-kill(Pid) -> os:cmd("kill -9 " ++ integer_to_list(Pid)).
+kill(Server) ->
+    port_close(Server),
+    %% What it has written before.
+    receive {Server, _} -> ok after 0 -> ok end.
 
 do(Fun) ->
     {atomic, Value} = tabd:transaction(Fun),
@@ -150,11 +154,11 @@ writes(Keys) -> fun() -> put(calls, get(calls) + 1), [tabd:write({t, Key, Key}) 
 %% Scripts
 
 bank() ->
-    {Port, Pid} = serve(16, []),
+    {Port, Server} = serve(16),
     {ok, Wanted} = file:read_file(filename:join(here(), "bank.out")),
     Run = "erl -noshell -pa ~s -eval 'application:set_env(tabd, port, ~b), bank:main(), halt(0).' 2>&1",
     same(list_to_binary(os:cmd(lists:flatten(io_lib:format(Run, [get(ebin), Port])))), Wanted),
-    kill(Pid).
+    kill(Server).
 
 runs_again() ->
     put(calls, 0),
@@ -232,7 +236,7 @@ overflow() ->
 %% The program
 
 raises() ->
-    {Port, Pid} = serve(16, []),
+    {Port, Server} = serve(16),
     ok = tabd:start([{port, Port}, {connections, 4}]),
     {atomic, ok} = tabd:create_table(t, []),
     do(fun() -> tabd:write({t, 1, 0}) end),
@@ -248,10 +252,10 @@ raises() ->
     same(lists:sort(Told), lists:seq(1, 160)),
     {message_queue_len, Calls} = process_info(self(), message_queue_len),
     same(Calls > 160, true),
-    kill(Pid).
+    kill(Server).
 
 killed() ->
-    {Port, Pid} = serve(2, []),
+    {Port, Server} = serve(2),
     ok = tabd:start(#{port => Port, connections => 2}),
     {atomic, ok} = tabd:create_table(t, []),
     Self = self(),
@@ -262,10 +266,10 @@ killed() ->
     end,
     [Kill() || _ <- lists:seq(1, 20)],
     same(do(fun() -> tabd:wread({t, 1}) end), []),
-    kill(Pid).
+    kill(Server).
 
 killed_waiting() ->
-    Pid = client(3),
+    Server = client(3),
     {atomic, ok} = tabd:create_table(t, []),
     Self = self(),
     %% The older of the two waits for the younger's lock.
@@ -279,10 +283,10 @@ killed_waiting() ->
         tabd:wread({t, 2})
     end),
     same(do(fun() -> tabd:all_keys(t) end), [1]),
-    kill(Pid).
+    kill(Server).
 
 badterms() ->
-    Pid = client(1),
+    Server = client(1),
     {atomic, ok} = tabd:create_table(t, []),
     Write = fun(Value) -> tabd:transaction(fun() -> tabd:write({t, 1, Value}) end) end,
     Values = [1.5, self(), make_ref(), fun main/1, 1 bsl 127, [a | b], <<1:3>>, binary:copy(<<"x">>, 1048576)],
@@ -290,10 +294,10 @@ badterms() ->
     same([Write(Value) || Value <- [(1 bsl 127) - 1, #{a => [1]}, "text", <<"b">>, 'ä']], lists:duplicate(5, {atomic, ok})),
     same(catch tabd:dirty_write({t, 1, 0.5}), {'EXIT', {aborted, {badterm, {write, {t, 1, 0.5}}}}}),
     same(do(fun() -> tabd:read(t, 1) end), [{t, 1, 'ä'}]),
-    kill(Pid).
+    kill(Server).
 
 variables() ->
-    Pid = client(1),
+    Server = client(1),
     {atomic, ok} = tabd:create_table(t, []),
     do(fun() -> [tabd:write({t, N, {N rem 2, N}}) || N <- [1, 2, 3]], tabd:write({t, 4, #{a => 1}}) end),
     Match = fun(Pattern) -> tabd:transaction(fun() -> tabd:match_object(Pattern) end) end,
@@ -301,29 +305,29 @@ variables() ->
     same(Match({t, '$1', {'_', '$1'}}), {atomic, [{t, N, {N rem 2, N}} || N <- [1, 2, 3]]}),
     same(Match({t, 4, #{a => '$1'}}), {atomic, [{t, 4, #{a => 1}}]}),
     same(Match({t, #{}, '_'}), {atomic, []}),
-    kill(Pid).
+    kill(Server).
 
 dirty_inside() ->
-    Pid = client(1),
+    Server = client(1),
     {atomic, ok} = tabd:create_table(t, []),
     Exit = {'EXIT', {aborted, in_transaction}},
     same(do(fun() -> {catch tabd:dirty_read(t, 1), catch tabd:dirty_update_counter(t, 1, 1), tabd:table_info(t, size)} end), {Exit, Exit, 0}),
-    kill(Pid).
+    kill(Server).
 
 one_shots() ->
-    Pid = client(1),
+    Server = client(1),
     {atomic, ok} = tabd:create_table(t, []),
     Inner = {transaction, [{write, {t, 2, b}}, {abort, why}]},
     same(tabd:one_shot([{write, {t, 1, a}}, Inner, {all_keys, t}]), {atomic, [ok, {aborted, why}, [1]]}),
     same(tabd:one_shot([{delete, {t, 1}}, {read, none, 1}], 0), {aborted, {no_exists, none}}),
     same(tabd:dirty_read(t, 1), [{t, 1, a}]),
     same(catch tabd:dirty_read(none, 1), {'EXIT', {aborted, {no_exists, none}}}),
-    kill(Pid).
+    kill(Server).
 
 received(Count) -> [receive Message -> Message after 3000 -> none end || _ <- lists:seq(1, Count)].
 
 events() ->
-    Pid = client(2),
+    Server = client(2),
     {atomic, ok} = tabd:create_table(t, []),
     do(fun() -> tabd:write({t, 0, 0}) end),
     same(tabd:subscribe({table, t, simple}, dump), {ok, node()}),
@@ -337,32 +341,34 @@ events() ->
     same(received(1), [{mnesia_table_end, t, deleted}]),
     {atomic, ok} = tabd:create_table(t, []),
     same(tabd:subscribe({table, t, detailed}), {ok, node()}),
-    kill(Pid),
+    kill(Server),
     same(received(1), [{mnesia_table_end, t, closed}]).
 
 unsubscribed() ->
-    Pid = client(3),
+    Server = client(3),
     {atomic, ok} = tabd:create_table(t, []),
-    Self = self(),
-    spawn_link(fun() -> [do(fun() -> tabd:write({t, N, N}) end) || N <- lists:seq(1, 500)], Self ! written end),
+    Writer = spawn_link(fun() -> write_on(1) end),
     Turn = fun(_) ->
         {ok, _} = tabd:subscribe({table, t}),
-        timer:sleep(5),
+        [{mnesia_table_event, _}] = received(1),
         {ok, _} = tabd:unsubscribe({table, t, detailed}),
-        erlang:yield(),
-        {messages, Messages} = process_info(self(), messages),
-        timer:sleep(5),
-        {messages, Later} = process_info(self(), messages),
-        same([Message || Message <- Later -- Messages, element(1, Message) =/= written, is_tuple(Message)], [])
+        {message_queue_len, Told} = process_info(self(), message_queue_len),
+        timer:sleep(20),
+        same(process_info(self(), message_queue_len), {message_queue_len, Told}),
+        received(Told)
     end,
-    [Turn(N) || N <- lists:seq(1, 10)],
-    {messages, All} = process_info(self(), messages),
-    same(length(All) > 10, true),
-    receive written -> ok end,
-    kill(Pid).
+    [Turn(N) || N <- lists:seq(1, 20)],
+    Writer ! {stop, self()},
+    received(1),
+    kill(Server).
+
+%% Until it is told to stop.
+write_on(N) ->
+    do(fun() -> tabd:write({t, N, N}) end),
+    receive {stop, From} -> From ! stopped after 0 -> write_on(N + 1) end.
 
 subscriber_ends() ->
-    Pid = client(3),
+    Server = client(3),
     {atomic, ok} = tabd:create_table(t, []),
     {Subscriber, Monitor} = spawn_monitor(fun() -> {ok, _} = tabd:subscribe({table, t}) end),
     receive {'DOWN', Monitor, _, Subscriber, Why} -> same(Why, normal) end,
@@ -370,16 +376,16 @@ subscriber_ends() ->
     do(fun() -> tabd:write({t, 1, 1}) end),
     same(tabd:subscribe({table, t}, dump), {ok, node()}),
     same(received(1), [{mnesia_table_begin, t, simple, [{t, 1, 1}]}]),
-    kill(Pid).
+    kill(Server).
 
 restarted() ->
-    {Port, Pid} = serve(4, []),
+    {Port, Server} = serve(4),
     ok = tabd:start(Port),
     {atomic, ok} = tabd:create_table(t, []),
-    kill(Pid),
+    kill(Server),
     timer:sleep(200),
     {aborted, {no_connection, _}} = tabd:transaction(fun() -> tabd:read(t, 1) end),
-    {Port, Next} = serve(4, [], Port, 50),
+    {Port, Next} = serve(4, Port, 20),
     same(tabd:transaction(fun() -> tabd:read(t, 1) end), {aborted, {no_exists, t}}),
     {atomic, ok} = tabd:create_table(t, []),
     same(do(fun() -> tabd:read(t, 1) end), []),

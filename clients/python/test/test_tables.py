@@ -208,6 +208,8 @@ class Tables(unittest.TestCase):
         with self.assertRaises(tabd.TimedOut):
             older()
         self.assertLess(time.monotonic() - began, 5)
+        # Another connection is used next, since the reply may still come on that one.
+        self.assertEqual(patient.run(lambda t: t.read("t", 2)), [])
         leave.set()
         thread.join()
         patient.close()
