@@ -73,7 +73,7 @@ serve(Connections) -> serve(Connections, 0, 20).
 
 %% A shell stands between, which kills the server when this end of its input is closed: by `kill', or with the case that has failed.
 serve(Connections, At, Left) ->
-    Shell = "\"$0\" \"$@\" </dev/null & read -r _; kill -9 $!; wait",
+    Shell = "\"$0\" \"$@\" </dev/null & read -r _; kill -9 $! 2>/dev/null; wait",
     Words = ["serve", "--port", integer_to_list(At), "--connections", integer_to_list(Connections)],
     Server = open_port({spawn_executable, "/bin/sh"}, [{args, ["-c", Shell, get(program) | Words]}, {line, 200}, binary]),
     receive

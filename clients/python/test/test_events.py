@@ -59,14 +59,17 @@ def change(client: tabd.Client, chance: random.Random, keys: range) -> None:
 
 class Served(unittest.TestCase):
     def setUp(self) -> None:
-        self.server = Server("--outbox", "16", connections=24)
+        self.serve("--outbox", "16")
+
+    def serve(self, *words: str) -> None:
+        self.server = Server(*words, connections=24)
         self.addCleanup(self.server.kill)
         self.client = tabd.Client(self.server.port)
         self.addCleanup(self.client.close)
 
     def flood(self) -> None:
-        """More than an outbox and the system's buffers hold."""
-        for number in range(60):
+        """More than an outbox of 4 and the system's buffers hold."""
+        for number in range(30):
             self.client.run(lambda t: t.write((SET, number, b"v" * 900_000)))
 
 
@@ -134,17 +137,18 @@ class EventsOfTables(Served):
         self.assertEqual(self.client.run(lambda t: t.all_keys("t")), [])
 
     def test_an_overflow(self) -> None:
+        self.serve("--outbox", "4")
         table = self.client.create_table(SET)
         with table.events(dump=True) as events:
             self.flood()
-            self.client.run(lambda t: [t.delete(SET, number) for number in range(59)])
+            self.client.run(lambda t: [t.delete(SET, number) for number in range(29)])
             told = [next(events)]
             while not isinstance(told[-1], tabd.Overflow):
                 told.append(next(events))
             written = [event.record[1] for event in told if isinstance(event, tabd.Write)]
             self.assertEqual(written, list(range(len(written))))
-            self.assertEqual(next(events), tabd.Begin(SET, [(SET, 59, b"v" * 900_000)]))
-            self.client.run(lambda t: t.delete(SET, 59))
+            self.assertEqual(next(events), tabd.Begin(SET, [(SET, 29, b"v" * 900_000)]))
+            self.client.run(lambda t: t.delete(SET, 29))
             self.assertIsInstance(next(events), tabd.Delete)
 
 
@@ -189,6 +193,7 @@ class Mirrors(Served):
             self.assertEqual(mirror.connections, 1)
 
     def test_it_survives_an_overflow(self) -> None:
+        self.serve("--outbox", "4")
         self.make_tables()
         with tabd.Mirror(self.client, SET, BAG) as mirror:
             self.assertTrue(mirror.wait(lambda one: one.live, SECONDS))
@@ -196,7 +201,7 @@ class Mirrors(Served):
             flooding = threading.Thread(target=self.flood)
             flooding.start()
             mirror.wait(lambda one: flooding.join() or True, SECONDS)
-            self.client.run(lambda t: [t.delete(SET, number) for number in range(1, 60)])
+            self.client.run(lambda t: [t.delete(SET, number) for number in range(1, 30)])
             self.client.run(lambda t: t.write((BAG, 1, 1)))
             self.same(mirror)
             self.assertGreaterEqual(mirror.overflows, 1)
