@@ -181,11 +181,15 @@ again(Connection, Fun, Args, Retries) ->
 
 inner(Fun, Args) ->
     try operate('begin') of
-        {tid, _} -> level(Fun, Args)
+        {tid, _} -> known(level(Fun, Args))
     catch
         %% The limit of levels: the transaction around it goes on.
         exit:{aborted, {system_limit, _} = Reason} -> {aborted, Reason}
     end.
+
+%% The commit of a level that is not the first commits nothing yet.
+known({aborted, {outcome_unknown, closed}}) -> {aborted, {no_connection, closed}};
+known(Result) -> Result.
 
 level(Fun, Args) ->
     try apply(Fun, Args) of

@@ -214,7 +214,11 @@ limit() ->
 no_reply() ->
     script([?BEGIN, ?WRITE(1, ok), {commit, close}]),
     put(calls, 0),
-    same(tabd:transaction(writes([1])), {aborted, {outcome_unknown, closed}}).
+    same(tabd:transaction(writes([1])), {aborted, {outcome_unknown, closed}}),
+    played(),
+    script([?BEGIN, ?BEGIN, {commit, close}]),
+    Closed = {aborted, {no_connection, closed}},
+    same(tabd:transaction(fun() -> same(tabd:transaction(fun() -> ok end), Closed) end), Closed).
 
 overflow() ->
     Event = {mnesia_table_event, {write, {t, 1, 1}, {tid, 1}}},

@@ -5,10 +5,10 @@ from __future__ import annotations
 import contextlib
 import functools
 import threading
-from typing import Any, Callable, Iterator, List, Optional, Sequence, Set, TypeVar, Union
+from typing import Any, Callable, Iterator, Optional, Sequence, Set, TypeVar, Union
 
 from .connection import Connection, Pool, result
-from .errors import Closed, NoExists, NoMore
+from .errors import Closed, NoExists, NoMore, NotConnected, OutcomeUnknown
 from .events import End, Event, Overflow
 from .terms import Term
 from .transactions import OneShot, Session, Transaction, level
@@ -68,6 +68,15 @@ class Client:
             return session.connection.ask(request)
         with self._lease() as connection:
             return connection.ask(request)
+
+    def _ask_once(self, request: Term) -> Any:
+        """Asks for a change. Where no reply comes it may have been made."""
+        try:
+            return self._ask(request)
+        except NotConnected:
+            raise
+        except Closed as error:
+            raise OutcomeUnknown("the connection has ended while a change was under way") from error
 
     @contextlib.contextmanager
     def transaction(self) -> Iterator[Transaction]:
@@ -133,17 +142,17 @@ class Client:
         """Makes a table, of type "set" or "bag". The first attribute is the key; those of `index`, by name or position (the second is
         at 3), have an index."""
         options = [("type", type), ("attributes", list(attributes)), ("index", list(index))]
-        result(self._ask(("create_table", name, options)))
+        result(self._ask_once(("create_table", name, options)))
         return Table(self, name)
 
     def delete_table(self, name: str) -> None:
-        result(self._ask(("delete_table", name)))
+        result(self._ask_once(("delete_table", name)))
 
     def add_table_index(self, name: str, attribute: Union[str, int]) -> None:
-        result(self._ask(("add_table_index", name, attribute)))
+        result(self._ask_once(("add_table_index", name, attribute)))
 
     def del_table_index(self, name: str, attribute: Union[str, int]) -> None:
-        result(self._ask(("del_table_index", name, attribute)))
+        result(self._ask_once(("del_table_index", name, attribute)))
 
     def table_info(self, name: str, item: str) -> Any:
         """The table's "type", "attributes", "index" (the positions that have one) or "size" (as of the last commit)."""

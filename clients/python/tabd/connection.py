@@ -11,7 +11,7 @@ import threading
 import time
 from typing import Any, Callable, Deque, List, Optional
 
-from .errors import Closed, NotServed, TimedOut, refusal
+from .errors import Closed, NotConnected, NotServed, TimedOut, refusal
 from .events import Event, event_of
 from .terms import Term, decode, encode, no_term
 
@@ -27,6 +27,7 @@ def result(reply: Any) -> Any:
         raise refusal(reply[1])
     return reply
 
+
 class Connection:
     """A session of the server. One request is under way at a time: the next is sent behind the last one's reply, since what is
     sent ahead of a restart would be done in the restarted transaction, without what came before it."""
@@ -37,7 +38,7 @@ class Connection:
         try:
             self.socket = socket.create_connection((host, port), OPENING_SECONDS)
         except OSError as error:
-            raise Closed(f"no connection to {host}:{port}: {error}") from error
+            raise NotConnected(f"no connection to {host}:{port}: {error}") from error
         self.socket.setsockopt(socket.IPPROTO_TCP, socket.TCP_NODELAY, 1)
         self._greet()
 

@@ -18,10 +18,15 @@ class TimedOut(Closed):
 
 
 class OutcomeUnknown(Closed):
-    """The connection has ended while a commit or a one-shot was under way: it is done whole, or not at all."""
+    """The connection has ended while a commit, a one-shot or a change of a table's definition was under way: it is done whole, or not at
+    all."""
 
 
-class NotServed(Closed):
+class NotConnected(Closed):
+    """No connection could be opened, and nothing was asked."""
+
+
+class NotServed(NotConnected):
     """The server accepts no more connections: it has served as many as its `--connections` says."""
 
 

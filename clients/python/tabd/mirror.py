@@ -13,6 +13,7 @@ from .errors import AlreadySubscribed, Closed, NoExists, NotSubscribed, OutboxFu
 from .events import Begin, Delete, DeleteObject, End, Event, Overflow, Write
 from .terms import Record, Term, encode
 
+
 class Mirror:
     """A copy of tables, kept by their events in a thread of its own.
 

@@ -6,7 +6,7 @@ import contextlib
 from typing import TYPE_CHECKING, Any, Generic, Iterator, List, NoReturn, Optional, TypeVar, Union
 
 from .connection import Connection, result
-from .errors import Aborted, Closed, Ended, Error, NoMore, NotServed, OutcomeUnknown, Restart, refusal
+from .errors import Aborted, Closed, Ended, Error, NoMore, OutcomeUnknown, Restart, refusal
 from .terms import Record, Term
 
 if TYPE_CHECKING:
@@ -245,12 +245,7 @@ class OneShot(Operations["OneShot", "OneShot", "OneShot"]):
         if self._client is None:
             raise Error("a level of a one-shot is not run by itself")
         request = ("transaction", list(self._operations), retries)
-        try:
-            reply = self._client._ask(request)
-        except NotServed:
-            raise
-        except Closed as error:
-            raise OutcomeUnknown("the connection has ended while a one-shot was under way") from error
+        reply = self._client._ask_once(request)
         if reply[0] == "aborted":
             raise self._ended(reply[1])
         answers: List[Any] = result(reply)[1]

@@ -2,6 +2,7 @@
 
 from __future__ import annotations
 
+import socket
 import unittest
 from typing import Any, Callable, Tuple
 
@@ -160,6 +161,26 @@ class Scripts(unittest.TestCase):
         with self.assertRaises(tabd.OutcomeUnknown):
             tabd.Client(script.port).run(lambda t: t.write(("t", 1, 1)))
         self.assertEqual(script.end(), "as the script says")
+
+    def test_a_one_shot_and_a_table_without_a_reply(self) -> None:
+        options = [("type", "set"), ("attributes", ["key", "val"]), ("index", [])]
+        for request, ask in (
+            (("transaction", [write(1)], 100), lambda client: client.one_shot().write(("t", 1, 1)).run()),
+            (("create_table", "t", options), lambda client: client.create_table("t")),
+        ):
+            script = Script((request, None))
+            with self.assertRaises(tabd.OutcomeUnknown):
+                ask(tabd.Client(script.port))
+            self.assertEqual(script.end(), "as the script says")
+
+    def test_no_server(self) -> None:
+        with socket.socket() as held:
+            # Bound, and not listening.
+            held.bind(("127.0.0.1", 0))
+            client = tabd.Client(held.getsockname()[1])
+            for ask in (client.one_shot().read("t", 1).run, lambda: client.run(lambda t: None), lambda: client.create_table("t")):
+                with self.assertRaises(tabd.NotConnected):
+                    ask()
 
     def test_an_operation_without_a_reply(self) -> None:
         script = Script(BEGIN, (write(1), None))
