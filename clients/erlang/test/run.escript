@@ -50,6 +50,7 @@ cases() ->
         {"a limit leaves the transaction open", fun limit/0},
         {"a commit without a reply", fun no_reply/0},
         {"an overflow", fun overflow/0},
+        {"unsubscribed when all is sent", fun unsubscribed/0},
         {"each raise counts once", fun raises/0},
         {"killed processes leave their connections", fun killed/0},
         {"a process that is killed while it waits", fun killed_waiting/0},
@@ -58,7 +59,6 @@ cases() ->
         {"no dirty call in a transaction", fun dirty_inside/0},
         {"one-shots", fun one_shots/0},
         {"events", fun events/0},
-        {"unsubscribed when all is sent", fun unsubscribed/0},
         {"a subscriber that ends", fun subscriber_ends/0},
         {"the server is killed and started anew", fun restarted/0},
         {"no server", fun no_server/0}
@@ -100,15 +100,20 @@ do(Fun) ->
     Value.
 
 %% A server of one connection that plays a script: each request has to come, and nothing behind it before its reply; then its reply goes
-%% out, with events before it where it is `{Events, Reply}'. `close' ends the connection in its place.
+%% out, with events before and after it where it is `{Before, Reply, After}'. `close' ends the connection in its place.
 
-script(Steps) ->
+script(Steps) -> ok = tabd:start(#{port => scripted(Steps), connections => 1}).
+
+%% That connection is the one of a process that watches.
+watched_script(Steps) -> {ok, _} = tabd:start_link(#{port => scripted(Steps)}).
+
+scripted(Steps) ->
     {ok, Listener} = gen_tcp:listen(0, [binary, {packet, 4}, {active, false}, {ip, {127, 0, 0, 1}}]),
     {ok, Port} = inet:port(Listener),
     Self = self(),
     Greeting = [{commit, {error, no_transaction}}],
     spawn_link(fun() -> Self ! {script, play(Listener, Greeting ++ Steps)} end),
-    ok = tabd:start(#{port => Port, connections => 1}).
+    Port.
 
 play(Listener, Steps) ->
     {ok, Socket} = gen_tcp:accept(Listener),
@@ -135,7 +140,12 @@ step(Socket, {Wanted, Reply}) ->
     end.
 
 answer(Socket, close) -> gen_tcp:close(Socket);
-answer(Socket, {Events, Reply}) when is_list(Events) -> [send(Socket, Event) || Event <- Events], send(Socket, {reply, Reply});
+answer(Socket, {Before, Reply, After}) ->
+    [send(Socket, Event) || Event <- Before],
+    send(Socket, {reply, Reply}),
+    timer:sleep(50),
+    [send(Socket, Event) || Event <- After],
+    ok;
 answer(Socket, Reply) -> send(Socket, {reply, Reply}).
 
 send(Socket, Term) -> gen_tcp:send(Socket, term_to_binary(Term)).
@@ -220,22 +230,30 @@ no_reply() ->
     Closed = {aborted, {no_connection, closed}},
     same(tabd:transaction(fun() -> same(tabd:transaction(fun() -> ok end), Closed) end), Closed).
 
+-define(SUBSCRIBE, {subscribe, {table, t, simple}}).
+-define(MARK, {mnesia_table_begin, t, simple}).
+-define(EVENT(Key), {mnesia_table_event, {write, {t, Key, Key}, {tid, 1}}}).
+-define(OK, {ok, nonode@nohost}).
+
 overflow() ->
-    Event = {mnesia_table_event, {write, {t, 1, 1}, {tid, 1}}},
-    Subscribe = {subscribe, {table, t, simple}},
-    Begin = {mnesia_table_begin, t, simple},
-    {ok, Listener} = gen_tcp:listen(0, [binary, {packet, 4}, {active, false}]),
-    {ok, Port} = inet:port(Listener),
-    Steps = [
-        {commit, {error, no_transaction}},
-        {Subscribe, {[Begin, Event, {mnesia_overflow, 5}], {ok, nonode@nohost}}},
-        {Subscribe, {[Begin], {ok, nonode@nohost}}}
-    ],
-    {ok, _} = tabd:start_link(#{port => Port}),
-    spawn_link(fun() -> play(Listener, Steps) end),
-    {ok, _} = tabd:subscribe({table, t}),
-    same([receive Message -> Message after 2000 -> none end || _ <- [1, 2]], [Event, {mnesia_overflow, 5}]),
-    {ok, _} = tabd:subscribe({table, t}).
+    watched_script([{?SUBSCRIBE, {[?MARK, ?EVENT(1), {mnesia_overflow, 5}], ?OK, []}}, {?SUBSCRIBE, {[?MARK], ?OK, [?EVENT(2)]}}]),
+    same(tabd:subscribe({table, t}), {ok, node()}),
+    same(received(2), [?EVENT(1), {mnesia_overflow, 5}]),
+    same(tabd:subscribe({table, t}), {ok, node()}),
+    same(received(1), [?EVENT(2)]),
+    played().
+
+unsubscribed() ->
+    End = {mnesia_table_end, t, unsubscribed},
+    Unsubscribe = {unsubscribe, {table, t, simple}},
+    First = [{?SUBSCRIBE, {[?MARK], ?OK, []}}, {Unsubscribe, {[?EVENT(1)], ?OK, [?EVENT(2), End]}}],
+    watched_script(First ++ [{?SUBSCRIBE, {[], ?OK, [?MARK]}}, {Unsubscribe, {[End], ?OK, []}}]),
+    same(tabd:subscribe({table, t}), {ok, node()}),
+    same(tabd:unsubscribe({table, t, detailed}), {ok, node()}),
+    {message_queue_len, Told} = process_info(self(), message_queue_len),
+    same(received(Told), [?EVENT(1), ?EVENT(2)]),
+    same([tabd:subscribe({table, t}), tabd:unsubscribe({table, t}), tabd:unsubscribe({table, t})], [{ok, node()}, {ok, node()}, {ok, node()}]),
+    played().
 
 %% The program
 
@@ -347,29 +365,6 @@ events() ->
     same(tabd:subscribe({table, t, detailed}), {ok, node()}),
     kill(Server),
     same(received(1), [{mnesia_table_end, t, closed}]).
-
-unsubscribed() ->
-    Server = client(3),
-    {atomic, ok} = tabd:create_table(t, []),
-    Writer = spawn_link(fun() -> write_on(1) end),
-    Turn = fun(_) ->
-        {ok, _} = tabd:subscribe({table, t}),
-        [{mnesia_table_event, _}] = received(1),
-        {ok, _} = tabd:unsubscribe({table, t, detailed}),
-        {message_queue_len, Told} = process_info(self(), message_queue_len),
-        timer:sleep(20),
-        same(process_info(self(), message_queue_len), {message_queue_len, Told}),
-        received(Told)
-    end,
-    [Turn(N) || N <- lists:seq(1, 20)],
-    Writer ! {stop, self()},
-    received(1),
-    kill(Server).
-
-%% Until it is told to stop.
-write_on(N) ->
-    do(fun() -> tabd:write({t, N, N}) end),
-    receive {stop, From} -> From ! stopped after 0 -> write_on(N + 1) end.
 
 subscriber_ends() ->
     Server = client(3),
