@@ -258,7 +258,8 @@ unsubscribed() ->
 %% The program
 
 raises() ->
-    {Port, Server} = serve(16),
+    %% The pool has no more connections than the server serves.
+    {Port, Server} = serve(4),
     ok = tabd:start([{port, Port}, {connections, 4}]),
     {atomic, ok} = tabd:create_table(t, []),
     do(fun() -> tabd:write({t, 1, 0}) end),

@@ -3,10 +3,12 @@
 from __future__ import annotations
 
 import random
+import socket
 import threading
 import time
 import unittest
-from typing import Dict, List, Optional
+from typing import Dict, List, Optional, Tuple
+from unittest import mock
 
 from servers import Server
 
@@ -14,6 +16,22 @@ import tabd
 
 SET, BAG = "person", "call"
 SECONDS = 20.0
+COUNT, VALUE = 200, b"v" * 4000
+
+
+def narrow(address: Tuple[str, int], timeout: float) -> socket.socket:
+    """A connection on which little stands between the server and who does not read."""
+    opened = socket.socket()
+    opened.settimeout(timeout)
+    opened.setsockopt(socket.SOL_SOCKET, socket.SO_RCVBUF, 4096)
+    opened.setsockopt(socket.IPPROTO_TCP, socket.TCP_MAXSEG, 536)
+    opened.connect(address)
+    return opened
+
+
+def widen(opened: socket.socket) -> None:
+    """Else each frame takes its time."""
+    opened.setsockopt(socket.SOL_SOCKET, socket.SO_RCVBUF, 1 << 20)
 
 
 def contents(client: tabd.Client, *names: str) -> Dict[str, List[tabd.Record]]:
@@ -68,9 +86,9 @@ class Served(unittest.TestCase):
         self.addCleanup(self.client.close)
 
     def flood(self) -> None:
-        """More than an outbox of 4 and the system's buffers hold."""
-        for number in range(30):
-            self.client.run(lambda t: t.write((SET, number, b"v" * 900_000)))
+        """More than an outbox of 4 and the buffers of a narrow connection hold."""
+        for number in range(COUNT):
+            self.client.run(lambda t: t.write((SET, number, VALUE)))
 
 
 class EventsOfTables(Served):
@@ -139,16 +157,20 @@ class EventsOfTables(Served):
     def test_an_overflow(self) -> None:
         self.serve("--outbox", "4")
         table = self.client.create_table(SET)
-        with table.events(dump=True) as events:
+        with mock.patch("socket.create_connection", narrow):
+            events = table.events(dump=True)
+        with events:
             self.flood()
-            self.client.run(lambda t: [t.delete(SET, number) for number in range(29)])
+            self.client.run(lambda t: [t.delete(SET, number) for number in range(COUNT - 1)])
+            widen(events._connection.socket)
             told = [next(events)]
             while not isinstance(told[-1], tabd.Overflow):
                 told.append(next(events))
             written = [event.record[1] for event in told if isinstance(event, tabd.Write)]
             self.assertEqual(written, list(range(len(written))))
-            self.assertEqual(next(events), tabd.Begin(SET, [(SET, 29, b"v" * 900_000)]))
-            self.client.run(lambda t: t.delete(SET, 29))
+            self.assertLess(len(written), COUNT)
+            self.assertEqual(next(events), tabd.Begin(SET, [(SET, COUNT - 1, VALUE)]))
+            self.client.run(lambda t: t.delete(SET, COUNT - 1))
             self.assertIsInstance(next(events), tabd.Delete)
 
 
@@ -195,13 +217,17 @@ class Mirrors(Served):
     def test_it_survives_an_overflow(self) -> None:
         self.serve("--outbox", "4")
         self.make_tables()
-        with tabd.Mirror(self.client, SET, BAG) as mirror:
+        with mock.patch("socket.create_connection", narrow):
+            mirror = tabd.Mirror(self.client, SET, BAG)
             self.assertTrue(mirror.wait(lambda one: one.live, SECONDS))
+        with mirror:
             # Who waits holds the mirror still while its condition is asked.
             flooding = threading.Thread(target=self.flood)
             flooding.start()
             mirror.wait(lambda one: flooding.join() or True, SECONDS)
-            self.client.run(lambda t: [t.delete(SET, number) for number in range(1, 30)])
+            assert mirror._connection is not None
+            widen(mirror._connection.socket)
+            self.client.run(lambda t: [t.delete(SET, number) for number in range(1, COUNT)])
             self.client.run(lambda t: t.write((BAG, 1, 1)))
             self.same(mirror)
             self.assertGreaterEqual(mirror.overflows, 1)

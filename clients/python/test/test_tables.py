@@ -156,10 +156,12 @@ class Tables(unittest.TestCase):
             other.close()
 
     def test_a_hot_record(self) -> None:
-        """Each raise counts once, with more threads than connections."""
-        self.client.create_table("t")
-        self.client.run(lambda t: t.write(("t", 1, 0)))
-        client, calls = tabd.Client(self.server.port, connections=4), []
+        """Each raise counts once, with more threads than connections, which are as many as the server serves."""
+        server = Server(connections=4)
+        self.addCleanup(server.kill)
+        client, calls = tabd.Client(server.port, connections=4), []
+        client.create_table("t")
+        client.run(lambda t: t.write(("t", 1, 0)))
 
         @client.transactional
         def bump(t: tabd.Transaction, by: int) -> int:
