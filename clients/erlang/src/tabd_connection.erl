@@ -126,7 +126,8 @@ handle_info({tcp_closed, _}, State) ->
 handle_info({tcp_error, _, _}, State) ->
     {stop, normal, closed(State)};
 handle_info({'DOWN', _, process, _, _}, State) ->
-    {stop, normal, State}.
+    %% The pool has ended.
+    {stop, normal, closed(State)}.
 
 replied({error, no_transaction}, {{_, undo}, _}, State) ->
     tabd_pool:give(State#state.pool, self()),

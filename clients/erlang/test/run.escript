@@ -376,6 +376,8 @@ subscriber_ends() ->
     do(fun() -> tabd:write({t, 1, 1}) end),
     same(tabd:subscribe({table, t}, dump), {ok, node()}),
     same(received(1), [{mnesia_table_begin, t, simple, [{t, 1, 1}]}]),
+    same(tabd:stop(), stopped),
+    same(received(1), [{mnesia_table_end, t, closed}]),
     kill(Server).
 
 restarted() ->
