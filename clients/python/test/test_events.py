@@ -247,10 +247,16 @@ class Mirrors(Served):
         """Four write while the server is killed and started anew, three times. Its tables are lost each time: each writer makes them
         again, and the mirror comes to have those of the last server alone. Keys are of the time that they were written in, so that what
         is left of an earlier one shows."""
-        self.server.kill()
-        server = Server("--outbox", "4", connections=40)
+
+        def start(port: int = 0) -> Server:
+            server = Server("--outbox", "4", connections=40, port=port)
+            self.addCleanup(server.kill)
+            return server
+
+        server = start()
         client = tabd.Client(server.port)
         mirror = tabd.Mirror(client, SET, BAG, pause=0.05)
+        self.addCleanup(mirror.close)
         stop, time_of = threading.Event(), [0]
 
         def ensure() -> None:
@@ -270,6 +276,7 @@ class Mirrors(Served):
                 except tabd.Closed:
                     time.sleep(0.02)
 
+        self.addCleanup(stop.set)
         writers = [threading.Thread(target=write, args=(seed,), daemon=True) for seed in range(4)]
         for thread in writers:
             thread.start()
@@ -279,7 +286,7 @@ class Mirrors(Served):
             server.kill()
             self.assertTrue(mirror.wait(lambda one: not one.live, SECONDS))
             time_of[0] += 1
-            server = Server("--outbox", "4", connections=40, port=server.port)
+            server = start(server.port)
         self.assertTrue(mirror.wait(lambda one: one.live and one.records(SET) and one.records(BAG), SECONDS))
         time.sleep(0.3)
         stop.set()
@@ -289,9 +296,7 @@ class Mirrors(Served):
         self.same(mirror, client)
         self.assertEqual({record[1] // 100 for record in mirror.records(SET)} - {2, 3}, set())
         self.assertGreaterEqual(mirror.connections, 4)
-        mirror.close()
         client.close()
-        server.kill()
 
 
 if __name__ == "__main__":
