@@ -186,14 +186,15 @@ class Mirrors(Served):
 
     def test_it_follows(self) -> None:
         self.make_tables()
+        # So many keys that what is lost of one is not soon written over.
         chance = random.Random(1)
         for _ in range(20):
-            change(self.client, chance, range(8))
+            change(self.client, chance, range(60))
         with tabd.Mirror(self.client, SET, BAG) as mirror:
             self.assertTrue(mirror.wait(lambda one: one.live, SECONDS))
             self.same(mirror)
             for _ in range(300):
-                change(self.client, chance, range(8))
+                change(self.client, chance, range(60))
             self.same(mirror)
             self.assertEqual(mirror.all_keys(SET), self.client.run(lambda t: t.all_keys(SET)))
             self.assertEqual(mirror.read(BAG, 3), self.client.run(lambda t: t.read(BAG, 3)))
