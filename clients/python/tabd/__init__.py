@@ -1,0 +1,115 @@
+"""A client of `tabd serve`, with Python's standard library alone.
+
+    import tabd
+
+    client = tabd.Client(4000)
+    person = client.create_table("person", ["name", "age"], index=["age"])
+
+    with client.transaction() as t:
+        t.write(("person", "alice", 30))
+
+    @client.transactional
+    def birthday(t: tabd.Transaction, name: str) -> None:
+        [(_, _, age)] = t.wread("person", name)
+        t.write(("person", name, age + 1))
+
+    birthday("alice")
+
+    for event in person.events(dump=True):
+        print(event)
+
+Terms. A str is an atom, bytes are a binary; an int, a tuple, a list and a dict are what they are called, and `Pairs` is a
+map with a key that Python can't hash. There is no term for a float, a bool and None. A record is a tuple: the table's name,
+the key, and the other attributes. What was written is what is read.
+
+Connections. A transaction holds a connection until it has ended, and `events` and a `Mirror` each hold one of their own. The
+server serves as many connections in all as its `--connections` says, also those that have ended, and it ends when all of them have. So
+a client opens one where all that it has are in use, and keeps it.
+"""
+
+from __future__ import annotations
+
+from .client import Client, Events, Table
+from .errors import (
+    Aborted,
+    AlreadyExists,
+    AlreadySubscribed,
+    BadCommand,
+    BadDef,
+    BadTerm,
+    BadType,
+    Closed,
+    Ended,
+    Error,
+    InTransaction,
+    Locked,
+    NoExists,
+    NoIndex,
+    NoMemory,
+    NoMore,
+    NotConnected,
+    NotServed,
+    NotSubscribed,
+    NoTransaction,
+    OutboxFull,
+    OutcomeUnknown,
+    OverflowPending,
+    Refused,
+    Restart,
+    SystemLimit,
+    TimedOut,
+)
+from .events import Begin, Delete, DeleteObject, End, Event, Overflow, Write
+from .mirror import Mirror
+from .terms import Pairs, Record, Term, decode, encode
+from .transactions import OneShot, Transaction
+
+__version__ = "0.1.0"
+
+__all__ = [
+    "Aborted",
+    "AlreadyExists",
+    "AlreadySubscribed",
+    "BadCommand",
+    "BadDef",
+    "BadTerm",
+    "BadType",
+    "Begin",
+    "Client",
+    "Closed",
+    "Delete",
+    "DeleteObject",
+    "End",
+    "Ended",
+    "Error",
+    "Event",
+    "Events",
+    "InTransaction",
+    "Locked",
+    "Mirror",
+    "NoExists",
+    "NoIndex",
+    "NoMemory",
+    "NoMore",
+    "NoTransaction",
+    "NotConnected",
+    "NotServed",
+    "NotSubscribed",
+    "OneShot",
+    "OutboxFull",
+    "OutcomeUnknown",
+    "Overflow",
+    "OverflowPending",
+    "Pairs",
+    "Record",
+    "Refused",
+    "Restart",
+    "SystemLimit",
+    "Table",
+    "Term",
+    "TimedOut",
+    "Transaction",
+    "Write",
+    "decode",
+    "encode",
+]

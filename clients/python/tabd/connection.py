@@ -1,0 +1,174 @@
+"""Connections to the server, and the pool of those that a client has."""
+
+from __future__ import annotations
+
+import collections
+import contextlib
+import select
+import socket
+import struct
+import threading
+import time
+from typing import Any, Callable, Deque, List, Optional
+
+from .errors import Closed, NotConnected, NotServed, TimedOut, refusal
+from .events import Event, event_of
+from .terms import Term, decode, encode, no_term
+
+# Bytes of a request's payload, at most. The server ends a session that sends more.
+MOST_BYTES = 1_048_576
+# A server that accepts no more connections still lets the system open them, and says nothing on them.
+OPENING_SECONDS = 10.0
+
+
+def result(reply: Any) -> Any:
+    """A reply that is no refusal."""
+    if isinstance(reply, tuple) and reply[0] in ("aborted", "error"):
+        raise refusal(reply[1])
+    return reply
+
+
+class Connection:
+    """A session of the server. One request is under way at a time: the next is sent behind the last one's reply, since what is
+    sent ahead of a restart would be done in the restarted transaction, without what came before it."""
+
+    def __init__(self, host: str, port: int, timeout: Optional[float]) -> None:
+        self.timeout, self.buffer, self.closed = timeout, bytearray(), False
+        self.told: Deque[Event] = collections.deque()
+        try:
+            self.socket = socket.create_connection((host, port), OPENING_SECONDS)
+        except OSError as error:
+            raise NotConnected(f"no connection to {host}:{port}: {error}") from error
+        self.socket.setsockopt(socket.IPPROTO_TCP, socket.TCP_NODELAY, 1)
+        self._greet()
+
+    def _greet(self) -> None:
+        """Any request shows that the connection is served, and this one changes nothing."""
+        self.timeout, wanted = OPENING_SECONDS, self.timeout
+        try:
+            self.ask("commit")
+        except Closed as error:
+            self.close()
+            raise NotServed("the server serves no more connections") from error
+        self.timeout = wanted
+
+    def ask(self, request: Term) -> Any:
+        """The reply. Events that come before it are kept."""
+        payload = encode(request)
+        if len(payload) > MOST_BYTES:
+            raise no_term(request, f"a request has at most {MOST_BYTES} bytes")
+        try:
+            self._send(struct.pack(">I", len(payload)) + payload)
+            deadline = None if self.timeout is None else time.monotonic() + self.timeout
+            while True:
+                term = self._receive(deadline)
+                if term is None:
+                    raise TimedOut(f"no reply within {self.timeout} s")
+                if term[0] == "reply":
+                    return term[1]
+                self.told.append(event_of(term))
+        except BaseException:
+            # The reply may still come: no other request can be asked here.
+            self.close()
+            raise
+
+    def event(self, seconds: Optional[float] = None) -> Optional[Event]:
+        """The next event, or None where none came within so many seconds."""
+        if self.told:
+            return self.told.popleft()
+        term = self._receive(None if seconds is None else time.monotonic() + seconds)
+        return None if term is None else event_of(term)
+
+    def _send(self, data: bytes) -> None:
+        try:
+            self.socket.settimeout(self.timeout)
+            self.socket.sendall(data)
+        except OSError as error:
+            raise Closed("the connection has ended") from error
+
+    def _receive(self, deadline: Optional[float]) -> Any:
+        """The next frame's term, or None where it is not there by the deadline."""
+        while True:
+            length = int.from_bytes(self.buffer[:4], "big") + 4
+            if len(self.buffer) >= max(length, 5):
+                payload = bytes(self.buffer[4:length])
+                del self.buffer[:length]
+                return decode(payload)
+            if not self._read(max(length - len(self.buffer), 65536), deadline):
+                return None
+
+    def _read(self, count: int, deadline: Optional[float]) -> bool:
+        """Takes what has come, or waits for it until the deadline."""
+        try:
+            self.socket.settimeout(None if deadline is None else max(deadline - time.monotonic(), 0.0001))
+            data = self.socket.recv(min(count, 1 << 20))
+        except socket.timeout:
+            return False
+        except OSError as error:
+            raise Closed("the connection has ended") from error
+        if not data:
+            raise Closed("the connection has ended")
+        self.buffer += data
+        return True
+
+    def is_idle(self) -> bool:
+        """Whether it is open and nothing has come: on a connection in no use, something that comes is its end."""
+        return not self.closed and not select.select([self.socket], [], [], 0)[0]
+
+    def close(self) -> None:
+        """Also from another thread, which reads: its read ends."""
+        self.closed = True
+        with contextlib.suppress(OSError):
+            self.socket.shutdown(socket.SHUT_RDWR)
+        self.socket.close()
+
+
+class Pool:
+    """The connections of a client: those in no use, and how many there are."""
+
+    def __init__(self, connect: Callable[[], Connection], most: int) -> None:
+        self.connect, self.most, self.count = connect, most, 0
+        self.free: List[Connection] = []
+        self.closed = False
+        self.changed = threading.Condition()
+
+    def take(self) -> Connection:
+        """One that is in no use, a new one where there is none, or the next that is given back where there are as many as may be."""
+        with self.changed:
+            while not self.closed:
+                while self.free:
+                    connection = self.free.pop()
+                    if connection.is_idle():
+                        return connection
+                    self._drop(connection)
+                if self.count < self.most:
+                    self.count += 1
+                    break
+                self.changed.wait()
+            else:
+                raise Closed("the client was closed")
+        try:
+            return self.connect()
+        except BaseException:
+            with self.changed:
+                self.count -= 1
+                self.changed.notify()
+            raise
+
+    def _drop(self, connection: Connection) -> None:
+        connection.close()
+        self.count -= 1
+
+    def give(self, connection: Connection) -> None:
+        with self.changed:
+            if connection.closed or self.closed:
+                self._drop(connection)
+            else:
+                self.free.append(connection)
+            self.changed.notify()
+
+    def close(self) -> None:
+        with self.changed:
+            self.closed = True
+            while self.free:
+                self._drop(self.free.pop())
