@@ -5,6 +5,7 @@ use Rattle.std.proofs.Crossing.{crosses}
 use Rattle.std.specs.contracts.net.tcp.TcpStream as stream
 use Rattle.tab_book.specs.contracts.shared.Seat as seat
 use Rattle.tab_server.specs.contracts.connection.Connection as connection
+use Rattle.tab_server.specs.contracts.connection.Streams as streams
 
 pub seat-send : IsSend seat.the_row
 seat-send = search (sendable, declared_send, as_row_send) depth 20
@@ -15,8 +16,8 @@ seat-sync = search (sendable, declared_sync, as_row_sync) depth 20
 pub stream-send : IsSend stream.the_row
 stream-send = search (sendable, crosses, declared_send, as_row_send) depth 20
 
-pub connection-send : IsSend connection.the_row
-connection-send = search (sendable, crosses, declared_send, as_row_send) depth 20
+pub streams-send : IsSend streams.the_row
+streams-send = search (sendable, crosses, declared_send, as_row_send) depth 20
 
 pub connection-sync : IsSync connection.the_row
 connection-sync = search (sendable, crosses, declared_sync, as_row_sync) depth 20

@@ -1,6 +1,6 @@
 //! Connections are accepted, each with threads of its own.
 
-use crate::connection::Connection;
+use crate::connection::{Connection, Streams};
 use crate::events::event_loop;
 use crate::gate::Gate;
 use crate::requests::serve_session;
@@ -58,14 +58,14 @@ pub fn serve_forever<H: House + Threads + Send + Sync, G: Gate + Sync, E: Target
     let mut troubles = Troubles::new(errors);
     thread::scope(thread::scope_env(), house, |scope| {
         for _ in house.forever() {
-            let Ok((connection, reader)) = accepted(listener) else {
+            let Ok(streams) = accepted(listener) else {
                 troubles.tell(house, "no connection was accepted");
                 continue;
             };
             let (seat, inbox) = match shared.join(house) {
                 Ok(joined) => joined,
                 Err(JoinFault::Limit) => {
-                    turn_away(alloc, reader);
+                    turn_away(alloc, streams);
                     continue;
                 }
                 Err(JoinFault::NoMemory) => {
@@ -74,17 +74,7 @@ pub fn serve_forever<H: House + Threads + Send + Sync, G: Gate + Sync, E: Target
                 }
             };
             let started = scope.spawn(move || {
-                serve_streams(
-                    house,
-                    alloc,
-                    shared,
-                    &seat,
-                    inbox,
-                    &connection,
-                    reader,
-                    gate,
-                );
-                shared.leave(house, &seat);
+                serve_seated(house, alloc, shared, &seat, inbox, streams, gate);
             });
             if started.is_err() {
                 shared.leave(house, &seat);
@@ -96,13 +86,14 @@ pub fn serve_forever<H: House + Threads + Send + Sync, G: Gate + Sync, E: Target
     });
 }
 
-fn accepted(listener: &TcpListener) -> io::Result<(Connection, TcpStream)> {
+fn accepted(listener: &TcpListener) -> io::Result<Streams> {
     let (stream, _peer) = listener.accept()?;
-    Connection::new(stream)
+    Streams::of(stream)
 }
 
 /// Who finds no seat is told so, and closed.
-fn turn_away(alloc: Global, mut stream: TcpStream) {
+fn turn_away(alloc: Global, streams: Streams) {
+    let (_connection, mut stream) = Connection::new(streams);
     let mut frame = Vec::new(alloc);
     if append_reply(None, &Reply::SystemLimit(Limit::Sessions), &mut frame).is_ok() {
         let _told = stream.write_all(&frame);
@@ -119,9 +110,24 @@ fn serve_connection<H: House + Threads + Send + Sync, G: Gate>(
     stream: TcpStream,
     gate: &G,
 ) {
-    if let Ok((connection, reader)) = Connection::new(stream) {
-        serve_streams(house, alloc, shared, seat, inbox, &connection, reader, gate);
+    match Streams::of(stream) {
+        Ok(streams) => serve_seated(house, alloc, shared, seat, inbox, streams, gate),
+        Err(_) => shared.leave(house, seat),
     }
+}
+
+/// The same, once its streams are there.
+fn serve_seated<H: House + Threads + Send + Sync, G: Gate>(
+    house: &H,
+    alloc: Global,
+    shared: &Shared<H>,
+    seat: &Seat,
+    inbox: SeatInbox<H>,
+    streams: Streams,
+    gate: &G,
+) {
+    let (connection, reader) = Connection::new(streams);
+    serve_streams(house, alloc, shared, seat, inbox, &connection, reader, gate);
     shared.leave(house, seat);
 }
 

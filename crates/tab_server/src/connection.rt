@@ -16,17 +16,40 @@ pub struct Connection {
     stream: TcpStream,
 }
 
+/// A connection's stream, once to read from it, once to write to it and once to watch it.
+#[derive(Drop)]
+pub struct Streams {
+    reader: TcpStream,
+    writer: TcpStream,
+    stream: TcpStream,
+}
+
+impl Streams {
+    /// An error where no descriptor is left for one.
+    pub fn of(stream: TcpStream) -> io::Result<Streams> {
+        let _delayed = stream.set_nodelay(true);
+        Ok(Streams {
+            reader: stream.try_clone()?,
+            writer: stream.try_clone()?,
+            stream,
+        })
+    }
+}
+
 impl Connection {
     /// The connection, and the stream that requests are read from.
-    pub fn new(stream: TcpStream) -> io::Result<(Connection, TcpStream)> {
-        let _delayed = stream.set_nodelay(true);
-        let reader = stream.try_clone()?;
+    pub fn new(streams: Streams) -> (Connection, TcpStream) {
+        let Streams {
+            reader,
+            writer,
+            stream,
+        } = streams;
         let connection = Connection {
-            sink: FrameSink::new(stream.try_clone()?),
+            sink: FrameSink::new(writer),
             watch: Watch::new(),
             stream,
         };
-        Ok((connection, reader))
+        (connection, reader)
     }
 
     /// Waits, while a request waits for a lock, for the end of the stream, at which the session leaves. Where more requests
