@@ -10,7 +10,8 @@
 %%
 %% <ul>
 %% <li>A process in a transaction has one of the pool's connections until it ends; where all are in use others wait. A process that watches
-%% tables has one of its own, for good. The server serves as many in all as its `--connections' says.</li>
+%% tables has one of its own, for good. The server serves as many in all as its `--connections' says; with `--forever' as many at
+%% once.</li>
 %% <li>A fun is run again where it lost a lock, as in Mnesia, and whatever it returned or caught then is left out.</li>
 %% <li>An operation that is refused `no_exists' or `bad_type' has ended its transaction, or the inner one that it stands in: a fun that
 %% catches the exit can't go on. Its next operation exits with the same reason, and where it returns it is aborted for it.</li>

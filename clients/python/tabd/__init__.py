@@ -23,8 +23,8 @@ map with a key that Python can't hash. There is no term for a float, a bool and 
 the key, and the other attributes. What was written is what is read.
 
 Connections. A transaction holds a connection until it has ended, and `events` and a `Mirror` each hold one of their own. The
-server serves as many connections in all as its `--connections` says, also those that have ended, and it ends when all of them have. So
-a client opens one where all that it has are in use, and keeps it.
+server serves as many connections in all as its `--connections` says, also those that have ended, and it ends when all of them have; with
+`--forever` as many at once, and it never ends. So a client opens one where all that it has are in use, and keeps it.
 """
 
 from __future__ import annotations
