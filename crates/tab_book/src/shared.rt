@@ -63,6 +63,11 @@ impl<H: House> Shared<H> {
         }
     }
 
+    /// So many items a session's mailbox holds at most.
+    pub fn outbox(&self) -> usize {
+        self.outbox
+    }
+
     /// The book, alone. It looks for a while before it sleeps.
     pub fn hold(&self, house: &H) -> MutexGuard<'_, Book<H>> {
         for _ in 0..TRIES {

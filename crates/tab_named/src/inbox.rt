@@ -27,4 +27,12 @@ impl<H: House> SeatInbox<H> {
     {
         self.inbox.receive()
     }
+
+    /// The next item that was sent, where it is there already.
+    pub fn try_receive(&mut self) -> Option<Item>
+        ensures next { MatchOption result (received self.new ≡ received self.old) (λ x. received self.new ≡ received self.old ++ x ∷ []) }
+        ensures mailbox { mailbox_of self.new ≡ mailbox_of self.old }
+    {
+        self.inbox.try_receive()
+    }
 }

@@ -31,4 +31,14 @@ impl<R: Wait> Inbox<R> {
     {
         self.line.recv_as::<Taken, R>(&self.rt, &mut self.pass).ok()
     }
+
+    /// The next item that was sent, where it is there already.
+    pub fn try_receive(&mut self) -> Option<Item>
+        ensures next { MatchOption result (taken_by self.new ≡ taken_by self.old) (λ x. taken_by self.new ≡ taken_by self.old ++ x ∷ []) }
+        ensures stays { IsSameInbox self.old self.new }
+    {
+        self.line
+            .try_recv_as::<Taken, R>(&self.rt, &mut self.pass)
+            .ok()
+    }
 }

@@ -35,7 +35,8 @@ pub fn event_loop<H: House, W: Write>(
     }
 }
 
-/// Sends what is kept and all that is left.
+/// Sends what is kept and all that is there. A post refuses only where its mailbox is full, and what it held is received then before
+/// the inbox is found empty: where fewer items came than it may hold, nothing was refused, and the book need not be asked.
 fn send_all<H: House, W: Write>(
     house: &H,
     shared: &Shared<H>,
@@ -44,25 +45,59 @@ fn send_all<H: House, W: Write>(
     sink: &FrameSink<W>,
     frames: &mut Vec<u8>,
 ) -> Result<(), Unwritten> {
+    let mut count: usize = 1;
     for _ in house.forever() {
-        let going = match shared.drained(house, seat, inbox) {
-            Drained::Going(item) => {
-                append_item(&item, frames)?;
-                true
-            }
-            Drained::Overflow(number) => {
-                append_overflow(number, frames)?;
-                true
-            }
-            Drained::AllTaken | Drained::Left => false,
+        let Some(item) = inbox.try_receive() else {
+            break;
         };
-        if !going || frames.len() >= KEPT {
-            sink.send(house, frames)?;
-            frames.clear();
+        append_item(&item, frames)?;
+        count = count.saturating_add(1);
+        send_long(house, sink, frames)?;
+    }
+    if count >= shared.outbox() {
+        send_rest(house, shared, seat, inbox, sink, frames)?;
+    }
+    send(house, sink, frames)
+}
+
+/// Keeps what is left, and an overflow that was not told yet.
+fn send_rest<H: House, W: Write>(
+    house: &H,
+    shared: &Shared<H>,
+    seat: &Seat,
+    inbox: &mut SeatInbox<H>,
+    sink: &FrameSink<W>,
+    frames: &mut Vec<u8>,
+) -> Result<(), Unwritten> {
+    for _ in house.forever() {
+        match shared.drained(house, seat, inbox) {
+            Drained::Going(item) => append_item(&item, frames)?,
+            Drained::Overflow(number) => append_overflow(number, frames)?,
+            Drained::AllTaken | Drained::Left => return Ok(()),
         }
-        if !going {
-            return Ok(());
-        }
+        send_long(house, sink, frames)?;
     }
     unreachable!()
+}
+
+/// Sends what is kept, where it is long.
+fn send_long<H: House, W: Write>(
+    house: &H,
+    sink: &FrameSink<W>,
+    frames: &mut Vec<u8>,
+) -> Result<(), Unwritten> {
+    if frames.len() >= KEPT {
+        send(house, sink, frames)?;
+    }
+    Ok(())
+}
+
+fn send<H: House, W: Write>(
+    house: &H,
+    sink: &FrameSink<W>,
+    frames: &mut Vec<u8>,
+) -> Result<(), Unwritten> {
+    sink.send(house, frames)?;
+    frames.clear();
+    Ok(())
 }
