@@ -6,7 +6,7 @@ use std::io::Write;
 use tab_book::{Drained, Seat, Shared};
 use tab_named::SeatInbox;
 use tab_names::House;
-use tab_proto::{append_item, append_overflow};
+use tab_proto::{Delivery, append_item, append_overflow};
 use tab_sink::FrameSink;
 
 /// So many bytes of events are kept before they are written.
@@ -21,14 +21,15 @@ pub fn event_loop<H: House, W: Write>(
     seat: &Seat,
     inbox: &mut SeatInbox<H>,
     sink: &FrameSink<W>,
+    delivery: Delivery,
 ) {
     let mut frames = Vec::new(alloc);
     for _ in house.forever() {
         let Some(item) = inbox.receive() else {
             return;
         };
-        if append_item(&item, &mut frames).is_err()
-            || send_all(house, shared, seat, inbox, sink, &mut frames).is_err()
+        if append_item(&item, delivery, &mut frames).is_err()
+            || send_all(house, shared, seat, inbox, sink, delivery, &mut frames).is_err()
         {
             return;
         }
@@ -42,12 +43,13 @@ fn send_all<H: House, W: Write>(
     seat: &Seat,
     inbox: &mut SeatInbox<H>,
     sink: &FrameSink<W>,
+    delivery: Delivery,
     frames: &mut Vec<u8>,
 ) -> Result<(), Unwritten> {
     for _ in house.forever() {
         let going = match shared.drained(house, seat, inbox) {
             Drained::Going(item) => {
-                append_item(&item, frames)?;
+                append_item(&item, delivery, frames)?;
                 true
             }
             Drained::Overflow(number) => {

@@ -19,5 +19,6 @@ pub use accepting::{serve, serve_forever};
 pub use events::event_loop;
 pub use gate::{Gate, Open};
 pub use requests::serve_session;
+pub use tab_proto::Delivery;
 pub use tab_sink::{FrameSink, Sink};
 pub use watch::Watch;
