@@ -1,6 +1,7 @@
 //! The events of one connection.
 
 use crate::answers::Unwritten;
+use crate::kept::{KEPT, empty};
 use std::alloc::Global;
 use std::io::Write;
 use tab_book::{Drained, Seat, Shared};
@@ -8,9 +9,6 @@ use tab_named::SeatInbox;
 use tab_names::House;
 use tab_proto::{Delivery, append_item, append_overflow};
 use tab_sink::FrameSink;
-
-/// So many bytes of events are kept before they are written.
-const KEPT: usize = 65_536;
 
 /// Sends what comes into the inbox, in order, until the session has left and nothing is left, or a write fails, or no
 /// memory is found for an event. Items that are there at once are written at once.
@@ -60,7 +58,7 @@ fn send_all<H: House, W: Write>(
         };
         if !going || frames.len() >= KEPT {
             sink.send(house, frames)?;
-            frames.clear();
+            empty(frames);
         }
         if !going {
             return Ok(());

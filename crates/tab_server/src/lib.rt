@@ -10,6 +10,7 @@ mod answers;
 mod connection;
 mod events;
 mod gate;
+mod kept;
 mod requests;
 mod seated;
 mod troubles;
