@@ -223,27 +223,98 @@ def mirrored(one, other, *mirrors):
     same("copies", copies, [{key: rows[0][2] for key, rows in table.items() if rows}] * len(copies))
 
 
-def slow(idle, writer, reader):
-    """Who reads nothing overflows, and is told so behind what it was sent; the other gets each event, and no one waits."""
-    value, count = b"v" * 4000, 200
-    script((writer, CREATE, ATOMIC), (idle, watch(), HERE_OK), (reader, watch(), HERE_OK))
-    same("begin mark", reader.event(), ("mnesia_table_begin", "t", "simple"))
-    for number in range(1, count + 1):
-        script((writer, ("transaction", [write(number, value)], 0), ("atomic", [OK])))
-        same("who reads", reader.event(), event(number, value, number))
-    # It reads with more room, for else each frame takes its time.
-    idle.socket.setsockopt(socket.SOL_SOCKET, socket.SO_RCVBUF, 1_048_576)
-    same("begin mark", idle.event(), ("mnesia_table_begin", "t", "simple"))
-    number = 1
-    while (told := idle.event())[0] == "mnesia_table_event":
-        same("who reads slowly", told, event(number, value, number))
-        number += 1
-    same("overflow", told, ("mnesia_overflow", number))
-    same("so many at most", number < count, True)
-    # It may watch anew.
-    script((idle, watch(), HERE_OK), (writer, ("transaction", [write(0, 0)], 0), ("atomic", [OK])))
-    same("begin mark", idle.event(), ("mnesia_table_begin", "t", "simple"))
-    same("event", idle.event(), event(0, 0, count + 1))
+def slow(sent):
+    """Who reads nothing overflows, and is told so behind what it was sent; the other gets each commit, and no one waits."""
+
+    def case(idle, writer, reader):
+        value, count = b"v" * 4000, 200
+        script((writer, CREATE, ATOMIC), (idle, watch(), HERE_OK), (reader, watch(), HERE_OK))
+        same("begin mark", reader.event(), ("mnesia_table_begin", "t", "simple"))
+        for number in range(1, count + 1):
+            script((writer, ("transaction", [write(number, value)], 0), ("atomic", [OK])))
+            same("who reads", reader.event(), sent(number, value))
+        # It reads with more room, for else each frame takes its time.
+        idle.socket.setsockopt(socket.SOL_SOCKET, socket.SO_RCVBUF, 1_048_576)
+        same("begin mark", idle.event(), ("mnesia_table_begin", "t", "simple"))
+        number = 1
+        while (told := idle.event())[0] == sent(number, value)[0]:
+            same("who reads slowly", told, sent(number, value))
+            number += 1
+        same("overflow", told, ("mnesia_overflow", number))
+        same("so many at most", number < count, True)
+        # It may watch anew.
+        script((idle, watch(), HERE_OK), (writer, ("transaction", [write(count + 1, 0)], 0), ("atomic", [OK])))
+        same("begin mark", idle.event(), ("mnesia_table_begin", "t", "simple"))
+        same("event", idle.event(), sent(count + 1, 0))
+
+    return case
+
+
+# A commit that writes the key of its number, which is its age too, as it is sent.
+def alone(number, value):
+    return event(number, value, number)
+
+
+def in_batch(number, value):
+    return ("batch", number, [event(number, value, number)])
+
+
+def batches(one, other, mirror):
+    """A commit's events come in one frame, with its number, where what the session watches was changed; marks come as ever."""
+    script(
+        (one, CREATE, ATOMIC),
+        (one, ("create_table", "u", []), ATOMIC),
+        (mirror, watch("dump"), HERE_OK),
+        (other, watch(), HERE_OK),
+        (one, ("transaction", [write(1, "a"), ("delete", ("t", 1)), ("write", ("u", 1, 1)), write(2, "b")], 0), ("atomic", [OK] * 4)),
+        (one, ("transaction", [("write", ("u", 2, 2))], 0), ("atomic", [OK])),
+        (one, ("transaction", [write(3, "c")], 0), ("atomic", [OK])),
+        (mirror, ("unsubscribe", ("table", "t", "simple")), HERE_OK),
+        (one, ("delete_table", "t"), ATOMIC),
+    )
+    deletion = ("mnesia_table_event", ("delete", ("t", 1), ("tid", 1)))
+    commits = [("batch", 1, [event(1, "a", 1), deletion, event(2, "b", 1)]), in_batch(3, "c")]
+    for connection, mark, end in ((mirror, ([],), "unsubscribed"), (other, (), "deleted")):
+        same("begin mark", connection.event(), ("mnesia_table_begin", "t", "simple", *mark))
+        same("commits", [connection.event(), connection.event()], commits)
+        same("end mark", connection.event(), ("mnesia_table_end", "t", end))
+
+
+def moved(mirror, *writers):
+    """Each moves amounts between two accounts, a move in a transaction. Who applies whole commits never sees another sum, and the
+    commits' numbers rise by one."""
+    each, first = 50, {"a": 1000, "b": 1000}
+
+    def attempt(connection, changes):
+        for key, amount in changes:
+            found = connection.ask(("wread", ("t", key)))
+            if found == "restart" or connection.ask(write(key, found[0][2] + amount)) != OK:
+                return False
+        return True
+
+    def move_all(connection, seed):
+        chance = random.Random(seed)
+        for _ in range(each):
+            one, other = chance.sample(list(first), 2)
+            amount = chance.randrange(1, 100)
+            connection.ask("begin")
+            while not attempt(connection, [(one, -amount), (other, amount)]):
+                pass
+            same("commit", connection.ask("commit")[0], "atomic")
+
+    def follow():
+        accounts = dict(first)
+        for wanted in range(2, each * len(writers) + 2):
+            word, number, events = mirror.event()
+            same("a commit", (word, number), ("batch", wanted))
+            for _, (_, (_, key, value), _) in events:
+                accounts[key] = value
+            same(f"the sum behind commit {number}", sum(accounts.values()), sum(first.values()))
+
+    setup = [write(key, value) for key, value in first.items()]
+    script((writers[0], CREATE, ATOMIC), (writers[0], ("transaction", setup, 0), ("atomic", [OK, OK])), (mirror, watch(), HERE_OK))
+    same("begin mark", mirror.event(), ("mnesia_table_begin", "t", "simple"))
+    side_by_side([(follow, ()), *((move_all, (one, seed)) for seed, one in enumerate(writers))])
 
 
 def refused(connection):
@@ -327,7 +398,10 @@ CASES = [
     ("a length too long behind others", 2, [], frees(too_long_behind_others)),
     ("a frame that is cut", 2, [], frees(cut)),
     ("replies that are not read", 2, [], frees(unread)),
-    ("a slow reader", 3, ["--outbox", "16"], slow),
+    ("a slow reader", 3, ["--outbox", "16"], slow(alone)),
+    ("a slow reader of batches", 3, ["--outbox", "16", "--batches"], slow(in_batch)),
+    ("batches", 3, ["--batches"], batches),
+    ("four move amounts", 5, ["--batches", "--outbox", "1024"], moved),
 ]
 
 
@@ -341,7 +415,7 @@ def fault(program, name, count, words, case):
     server, port = serve(program, count, words)
     try:
         # The first has little room where it is not to read.
-        connections = [Connection(port, small=case is slow and number == 0) for number in range(count)]
+        connections = [Connection(port, small=name.startswith("a slow reader") and number == 0) for number in range(count)]
         case(*connections)
         for connection in connections:
             connection.close()

@@ -4,8 +4,8 @@
     serve.py PROGRAM             as serve.py crates/tabd/out/tabd
     serve.py PROGRAM ROUNDS      so many rounds in all, 20,000 where it is not given; of reads at most 1,024
 
-Each row is a server with a table of so many records, `{t, Key, Key}`, and so many connections that make rounds side by side: each
-sends a request and waits for its reply before it sends the next. A line has the processor time of the server for a round in
+Each row is a server with a table of so many records, `{t, Key, Key}`, or of 40 that have half a megabyte each, and so many connections
+that make rounds side by side: each sends a request and waits for its reply before it sends the next. A line has the processor time of the server for a round in
 microseconds, of its threads and of the system for it, and the memory that it holds before and after the rounds. Its journal
 holds 1,024 entries. The wall time of a round would be mostly that of the clients here.
 """
@@ -23,6 +23,8 @@ from frames import frame
 
 TICKS = os.sysconf("SC_CLK_TCK")
 RECORDS = 100_000
+# Records of so many bytes, which one reply tells: 20 MB.
+LONG, BYTES = 40, 500_000
 
 # What a round is, how many make it side by side, and the records.
 ROWS = [
@@ -35,6 +37,7 @@ ROWS = [
     ("one read", 1, RECORDS),
     ("a thousand reads", 1, RECORDS),
     ("all keys", 1, RECORDS),
+    ("a reply of 20 MB", 12, LONG),
 ]
 
 
@@ -48,6 +51,8 @@ def requests(what, client):
         "one read": ["begin", reads[0], "commit"],
         "a thousand reads": ["begin", *reads, "commit"],
         "all keys": ["begin", ("all_keys", "t"), "commit"],
+        # An abort, since the journal holds what a commit was told.
+        "a reply of 20 MB": ["begin", ("match_object", ("t", "_", "_")), ("abort", "read")],
     }
     return [frame(request) for request in rounds[what]]
 
@@ -64,7 +69,7 @@ class Client:
             for asked in frames:
                 self.socket.sendall(asked)
                 reply = self.stream.read(int.from_bytes(self.stream.read(4), "big"))
-                if b"error" in reply or b"aborted" in reply or not reply:
+                if not reply or b"abort" not in asked and (b"error" in reply[:40] or b"aborted" in reply[:40]):
                     raise ValueError(f"a request is refused: {reply!r}")
 
     def close(self):
@@ -85,8 +90,10 @@ def measured(process, port, what, connections, records, rounds):
     """The microseconds of a round, and the memory before and after."""
     clients = [Client(port) for _ in range(connections)]
     clients[0].make([frame(("create_table", "t", []))], 1)
-    for start in range(0, records, 1_000):
-        writes = [("write", ("t", key, key)) for key in range(start, start + 1_000)]
+    each = 1 if records == LONG else 1_000
+    for start in range(0, records, each):
+        value = bytes(BYTES) if records == LONG else None
+        writes = [("write", ("t", key, value or key)) for key in range(start, start + each)]
         clients[0].make([frame(("transaction", writes, 0))], 1)
     shares = [(requests(what, at), rounds // connections) for at in range(connections)]
     threads = [threading.Thread(target=client.make, args=share) for client, share in zip(clients, shares)]
@@ -109,7 +116,7 @@ def main():
         words = [sys.argv[1], "serve", "--port", "0", "--connections", str(connections)]
         process = subprocess.Popen(words, stdout=subprocess.PIPE, text=True)
         port = int(process.stdout.readline().rsplit(":", 1)[1])
-        rounds = min(asked, 1_024) if records else asked
+        rounds = min(asked, connections if records == LONG else 1_024) if records else asked
         micros, held, holds = measured(process, port, what, connections, records, rounds)
         process.wait()
         behind = f", {records} records" if records else ""

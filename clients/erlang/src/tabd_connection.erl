@@ -159,6 +159,9 @@ told({mnesia_table_end, Tab, deleted} = Event, State) ->
 told({mnesia_overflow, _} = Event, State) ->
     State#state.watcher ! Event,
     lists:foldl(fun ended/2, State, maps:keys(State#state.watched));
+%% Of a server with `--batches'.
+told({batch, _, Events}, State) ->
+    lists:foldl(fun told/2, State, Events);
 told(Event, State) ->
     State#state.watcher ! Event,
     State.

@@ -50,6 +50,7 @@ cases() ->
         {"a limit leaves the transaction open", fun limit/0},
         {"a commit without a reply", fun no_reply/0},
         {"an overflow", fun overflow/0},
+        {"the events of a batch", fun batched/0},
         {"unsubscribed when all is sent", fun unsubscribed/0},
         {"each raise counts once", fun raises/0},
         {"killed processes leave their connections", fun killed/0},
@@ -59,6 +60,7 @@ cases() ->
         {"no dirty call in a transaction", fun dirty_inside/0},
         {"one-shots", fun one_shots/0},
         {"events", fun events/0},
+        {"events of a server that sends batches", fun batches_served/0},
         {"a subscriber that ends", fun subscriber_ends/0},
         {"the server is killed and started anew", fun restarted/0},
         {"no server", fun no_server/0}
@@ -69,12 +71,16 @@ same(Found, Wanted) -> exit({found, Found, wanted, Wanted}).
 
 %% The program, and a client of it
 
-serve(Connections) -> serve(Connections, 0, 20).
+serve(Connections) -> serve(Connections, []).
+
+serve(Connections, Words) -> serve(Connections, 0, 20, Words).
+
+serve(Connections, At, Left) -> serve(Connections, At, Left, []).
 
 %% A shell stands between, which kills the server when this end of its input is closed: by `kill', or with the case that has failed.
-serve(Connections, At, Left) ->
+serve(Connections, At, Left, More) ->
     Shell = "\"$0\" \"$@\" </dev/null & read -r _; kill -9 $! 2>/dev/null; wait",
-    Words = ["serve", "--port", integer_to_list(At), "--connections", integer_to_list(Connections)],
+    Words = ["serve", "--port", integer_to_list(At), "--connections", integer_to_list(Connections) | More],
     Server = open_port({spawn_executable, "/bin/sh"}, [{args, ["-c", Shell, get(program) | Words]}, {line, 200}, binary]),
     receive
         {Server, {data, {eol, Line}}} -> {binary_to_integer(lists:last(binary:split(Line, <<":">>, [global]))), Server}
@@ -82,7 +88,7 @@ serve(Connections, At, Left) ->
         %% After a kill the port may not be free at once.
         kill(Server),
         Left > 0 orelse exit(no_server),
-        serve(Connections, At, Left - 1)
+        serve(Connections, At, Left - 1, More)
     end.
 
 client(Connections) ->
@@ -243,6 +249,13 @@ overflow() ->
     same(received(1), [?EVENT(2)]),
     played().
 
+batched() ->
+    Batches = {[?MARK, {batch, 1, [?EVENT(1), ?EVENT(2)]}], ?OK, [{batch, 2, [?EVENT(3)]}]},
+    watched_script([{?SUBSCRIBE, Batches}]),
+    same(tabd:subscribe({table, t}), {ok, node()}),
+    same(received(3), [?EVENT(Key) || Key <- [1, 2, 3]]),
+    played().
+
 unsubscribed() ->
     End = {mnesia_table_end, t, unsubscribed},
     Unsubscribe = {unsubscribe, {table, t, simple}},
@@ -366,6 +379,17 @@ events() ->
     same(tabd:subscribe({table, t, detailed}), {ok, node()}),
     kill(Server),
     same(received(1), [{mnesia_table_end, t, closed}]).
+
+batches_served() ->
+    {Port, Server} = serve(2, ["--batches"]),
+    ok = tabd:start(Port),
+    {atomic, ok} = tabd:create_table(t, []),
+    same(tabd:subscribe({table, t}), {ok, node()}),
+    do(fun() -> [tabd:write({t, Key, Key}) || Key <- [1, 2, 3]] end),
+    {atomic, ok} = tabd:delete_table(t),
+    [{_, {write, {t, 1, 1}, Tid}}, {_, {write, {t, 2, 2}, Tid}}, {_, {write, {t, 3, 3}, Tid}}, End] = received(4),
+    same(End, {mnesia_table_end, t, deleted}),
+    kill(Server).
 
 subscriber_ends() ->
     Server = client(3),

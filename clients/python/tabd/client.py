@@ -2,14 +2,15 @@
 
 from __future__ import annotations
 
+import collections
 import contextlib
 import functools
 import threading
-from typing import Any, Callable, Iterator, Optional, Sequence, Set, TypeVar, Union
+from typing import Any, Callable, Deque, Iterator, Optional, Sequence, Set, TypeVar, Union
 
 from .connection import Connection, Pool, result
 from .errors import Closed, NoExists, NoMore, NotConnected, OutcomeUnknown
-from .events import End, Event, Overflow
+from .events import Batch, Change, End, Event, Overflow
 from .terms import Term
 from .transactions import OneShot, Session, Transaction, level
 
@@ -202,6 +203,8 @@ class Events(Iterator[Event]):
     def __init__(self, connection: Connection, names: Sequence[str], dump: bool, detailed: bool) -> None:
         self._connection, self._dump, self._detailed = connection, dump, detailed
         self._watched: Set[str] = set()
+        # The changes of a batch that are still to be told.
+        self._changes: Deque[Change] = collections.deque()
         # Where it was told of an overflow it is to subscribe anew.
         self._names, self._lost = names, False
         try:
@@ -227,9 +230,14 @@ class Events(Iterator[Event]):
 
     def next(self, seconds: Optional[float] = None) -> Optional[Event]:
         """The next event, or None where none came within so many seconds."""
+        if self._changes:
+            return self._changes.popleft()
         if self._lost:
             self._subscribe_anew()
-        event = self._connection.event(seconds)
+        event = self._connection.item(seconds)
+        if isinstance(event, Batch):
+            self._changes.extend(event.changes)
+            return self._changes.popleft()
         if isinstance(event, End):
             self._watched.discard(event.table)
         if isinstance(event, Overflow):
@@ -238,7 +246,7 @@ class Events(Iterator[Event]):
         return event
 
     def __next__(self) -> Event:
-        if self._connection.closed or not (self._watched or self._lost or self._connection.told):
+        if self._connection.closed or not (self._changes or self._watched or self._lost or self._connection.told):
             self.close()
             raise StopIteration
         try:

@@ -12,7 +12,7 @@ import time
 from typing import Any, Callable, Deque, List, Optional
 
 from .errors import Closed, NotConnected, NotServed, TimedOut, refusal
-from .events import Event, event_of
+from .events import Item, item_of
 from .terms import Term, decode, encode, no_term
 
 # Bytes of a request's payload, at most. The server ends a session that sends more.
@@ -34,7 +34,7 @@ class Connection:
 
     def __init__(self, host: str, port: int, timeout: Optional[float]) -> None:
         self.timeout, self.buffer, self.closed = timeout, bytearray(), False
-        self.told: Deque[Event] = collections.deque()
+        self.told: Deque[Item] = collections.deque()
         try:
             self.socket = socket.create_connection((host, port), OPENING_SECONDS)
         except OSError as error:
@@ -66,18 +66,18 @@ class Connection:
                     raise TimedOut(f"no reply within {self.timeout} s")
                 if term[0] == "reply":
                     return term[1]
-                self.told.append(event_of(term))
+                self.told.append(item_of(term))
         except BaseException:
             # The reply may still come: no other request can be asked here.
             self.close()
             raise
 
-    def event(self, seconds: Optional[float] = None) -> Optional[Event]:
-        """The next event, or None where none came within so many seconds."""
+    def item(self, seconds: Optional[float] = None) -> Optional[Item]:
+        """The next event or batch, or None where none came within so many seconds."""
         if self.told:
             return self.told.popleft()
         term = self._receive(None if seconds is None else time.monotonic() + seconds)
-        return None if term is None else event_of(term)
+        return None if term is None else item_of(term)
 
     def _send(self, data: bytes) -> None:
         try:

@@ -2,8 +2,8 @@
 
 from __future__ import annotations
 
-from dataclasses import dataclass
-from typing import List, Optional, Union
+from dataclasses import dataclass, field
+from typing import List, Optional, Tuple, Union
 
 from .terms import Record, Term
 
@@ -18,11 +18,13 @@ class Begin:
 
 @dataclass(frozen=True)
 class Write:
-    """A record was written. `age` is its transaction's; `old` has the key's records just before, where `detailed` was asked for."""
+    """A record was written. `age` is its transaction's; `old` has the key's records just before, where `detailed` was asked for; `commit`
+    is the number that its commit was answered, where the server tells it (`--batches`)."""
 
     record: Record
     age: int
     old: Optional[List[Record]] = None
+    commit: Optional[int] = field(default=None, compare=False, repr=False)
 
 
 @dataclass(frozen=True)
@@ -33,6 +35,7 @@ class Delete:
     key: Term
     age: int
     old: Optional[List[Record]] = None
+    commit: Optional[int] = field(default=None, compare=False, repr=False)
 
 
 @dataclass(frozen=True)
@@ -42,6 +45,7 @@ class DeleteObject:
     record: Record
     age: int
     old: Optional[List[Record]] = None
+    commit: Optional[int] = field(default=None, compare=False, repr=False)
 
 
 @dataclass(frozen=True)
@@ -59,27 +63,41 @@ class Overflow:
     commit: int
 
 
-Event = Union[Begin, Write, Delete, DeleteObject, End, Overflow]
+Change = Union[Write, Delete, DeleteObject]
+Event = Union[Begin, Change, End, Overflow]
 
 
-def _change(event: Record) -> Event:
+@dataclass(frozen=True)
+class Batch:
+    """All changes of a commit, in the order of the operations: a frame of a server with `--batches`."""
+
+    commit: int
+    changes: Tuple[Change, ...]
+
+
+Item = Union[Event, Batch]
+
+
+def _change(event: Record, commit: Optional[int] = None) -> Change:
     """A table event's change, of either level. Only a deletion of a key has a pair of a table and a key, since no record is a pair."""
     kind, age, old = event[0], event[-1][1], None
     what = event[1]
     if len(event) == 5:
         what, old = event[2], event[3]
     if kind == "write":
-        return Write(what, age, old)
+        return Write(what, age, old, commit)
     if len(what) == 2:
-        return Delete(what[0], what[1], age, old)
-    return DeleteObject(what, age, old)
+        return Delete(what[0], what[1], age, old, commit)
+    return DeleteObject(what, age, old, commit)
 
 
-def event_of(term: Record) -> Event:
+def item_of(term: Record) -> Item:
     """What a frame that is no reply tells."""
     kind = term[0]
     if kind == "mnesia_table_event":
         return _change(term[1])
+    if kind == "batch":
+        return Batch(term[1], tuple(_change(event, term[1]) for _, event in term[2]))
     if kind == "mnesia_table_begin":
         return Begin(term[1], term[3] if len(term) > 3 else None)
     if kind == "mnesia_table_end":

@@ -10,7 +10,7 @@ from typing import Any, Callable, Dict, List, Optional, Set, Union
 from .client import Client, subscribe
 from .connection import Connection, result
 from .errors import AlreadySubscribed, Closed, NoExists, NotSubscribed, OutboxFull, OverflowPending
-from .events import Begin, Delete, DeleteObject, End, Event, Overflow, Write
+from .events import Batch, Begin, Delete, DeleteObject, End, Event, Item, Overflow, Write
 from .terms import Record, Term, encode
 
 
@@ -21,11 +21,13 @@ class Mirror:
     table that isn't there is asked for every `pause` seconds. In each case the copy starts again with the table's records. `live` says whether
     each table has started so and the connection stands; where it does not, the copy is as old as that.
 
-    What may be seen. The copy of a table is the table's records after some commit, with the first few changes of the next commit: events come one
-    by one, and nothing tells the last one of a commit. So a commit of one change is seen whole, and one of several changes may be seen
-    with some of them and without the later ones. Nothing is seen that was aborted, and no commit before an earlier one. Once all
-    tables have started this holds of all of them together, since one connection tells of all. A commit is seen some time after it was
-    answered; who has to wait for one waits for its last change (`wait`)."""
+    What may be seen. Of a server with `--batches` the copy of a table is the table's records after some commit: each commit is applied whole, and
+    `commit` is the number of the last, or None where none was since the copy started again. Without, some changes of the next commit
+    may be seen too: events come one by one, and nothing tells the last one of a commit. So a commit of one change is seen whole, and one of
+    several changes may be seen with some of them and without the later ones. In either way nothing is seen that was aborted, and no commit
+    before an earlier one. Once all tables have started this holds of all of them together, since one connection tells of all; who reads
+    several times reads inside the condition of `wait`, where nothing is applied meanwhile. A commit is seen some time after it was
+    answered; who has to wait for one waits for its number or its last change (`wait`)."""
 
     def __init__(self, client: Client, *names: str, pause: float = 0.2) -> None:
         self._connect, self.names, self.pause = client._connect, names, pause
@@ -36,6 +38,7 @@ class Mirror:
         self._connection: Optional[Connection] = None
         self._closing = threading.Event()
         self.overflows = self.connections = 0
+        self.commit: Optional[int] = None
         self.fault: Optional[Exception] = None
         self._thread = threading.Thread(target=self._run, daemon=True)
         self._thread.start()
@@ -100,6 +103,7 @@ class Mirror:
     def _drop(self) -> None:
         with self._changed:
             self._started.clear()
+            self.commit = None
             self._changed.notify_all()
         if self._connection is not None:
             self._connection.close()
@@ -114,14 +118,14 @@ class Mirror:
                 self._watch(connection, watched)
                 due = time.monotonic() + self.pause
                 missing = len(watched) < len(self.names)
-            event = connection.event(self.pause if missing else None)
-            if isinstance(event, Overflow):
+            item = connection.item(self.pause if missing else None)
+            if isinstance(item, Overflow):
                 watched.clear()
                 due = 0.0
-            elif isinstance(event, End):
-                watched.discard(event.table)
-            if event is not None:
-                self._apply(event)
+            elif isinstance(item, End):
+                watched.discard(item.table)
+            if item is not None:
+                self._apply(item)
 
     def _watch(self, connection: Connection, watched: Set[str]) -> None:
         for name in self.names:
@@ -153,21 +157,31 @@ class Mirror:
             self._types[name] = second
         return False
 
-    def _apply(self, event: Event) -> None:
+    def _apply(self, item: Item) -> None:
+        """A batch at once, so that no one sees a part of it."""
         with self._changed:
-            if isinstance(event, Begin):
-                self._begin(event)
-            elif isinstance(event, End):
-                self._copies[event.table] = {}
-                self._started.discard(event.table)
-            elif isinstance(event, Overflow):
-                self.overflows += 1
-                self._started.clear()
-            elif isinstance(event, Delete):
-                self._copies[event.table].pop(encode(event.key), None)
+            if isinstance(item, Batch):
+                for change in item.changes:
+                    self._take(change)
+                self.commit = item.commit
             else:
-                self._change(event)
+                self._take(item)
             self._changed.notify_all()
+
+    def _take(self, event: Event) -> None:
+        if isinstance(event, Begin):
+            self._begin(event)
+        elif isinstance(event, End):
+            self._copies[event.table] = {}
+            self._started.discard(event.table)
+        elif isinstance(event, Overflow):
+            self.overflows += 1
+            self._started.clear()
+            self.commit = None
+        elif isinstance(event, Delete):
+            self._copies[event.table].pop(encode(event.key), None)
+        else:
+            self._change(event)
 
     def _begin(self, event: Begin) -> None:
         copy: Dict[bytes, List[Record]] = {}

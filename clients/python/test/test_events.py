@@ -4,6 +4,7 @@ from __future__ import annotations
 
 import random
 import socket
+import sys
 import threading
 import time
 import unittest
@@ -172,6 +173,66 @@ class EventsOfTables(Served):
             self.assertEqual(next(events), tabd.Begin(SET, [(SET, COUNT - 1, VALUE)]))
             self.client.run(lambda t: t.delete(SET, COUNT - 1))
             self.assertIsInstance(next(events), tabd.Delete)
+
+
+class Batches(Served):
+    """Of a server that tells whole commits, with their numbers."""
+
+    def setUp(self) -> None:
+        self.serve("--batches", "--outbox", "1024")
+
+    def test_events_have_their_commit(self) -> None:
+        table = self.client.create_table("t")
+        with table.events() as events:
+            self.client.run(lambda t: [t.write(("t", key, key)) for key in (1, 2)])
+            self.client.run(lambda t: t.delete("t", 1))
+            table.delete()
+            found = list(events)
+        ages = [event.age for event in found if isinstance(event, (tabd.Write, tabd.Delete))]
+        wanted = [tabd.Write(("t", 1, 1), ages[0]), tabd.Write(("t", 2, 2), ages[0]), tabd.Delete("t", 1, ages[2])]
+        self.assertEqual(found, [tabd.Begin("t", None), *wanted, tabd.End("t", "deleted")])
+        self.assertEqual([event.commit for event in found if isinstance(event, (tabd.Write, tabd.Delete))], [1, 1, 2])
+
+    def test_a_mirror_shows_whole_commits(self) -> None:
+        """Four move amounts between accounts of two tables; the sum never differs, and the numbers rise. Threads are switched often,
+        so that who reads comes between the changes of a commit where a mirror lets it."""
+        self.addCleanup(sys.setswitchinterval, sys.getswitchinterval())
+        sys.setswitchinterval(1e-6)
+        accounts = [(name, key) for name in ("a", "b") for key in range(20)]
+        for name in ("a", "b"):
+            self.client.create_table(name)
+        self.client.run(lambda t: [t.write((name, key, 100)) for name, key in accounts])
+
+        def move(chance: random.Random) -> None:
+            chosen = chance.sample(accounts, 10)
+
+            def change(t: tabd.Transaction) -> None:
+                for amount, (name, key) in zip((-9, -7, -5, -3, -1, 1, 3, 5, 7, 9), chosen):
+                    t.write((name, key, t.wread(name, key)[0][2] + amount))
+
+            self.client.run(change)
+
+        seen: List[Tuple[Optional[int], int]] = []
+
+        def ended(mirror: tabd.Mirror) -> bool:
+            seen.append((mirror.commit, sum(record[2] for records in copies(mirror).values() for record in records)))
+            return mirror.commit == 101
+
+        with tabd.Mirror(self.client, "a", "b") as mirror:
+            self.assertTrue(mirror.wait(lambda one: one.live, SECONDS))
+            self.assertIsNone(mirror.commit)
+            chances = [random.Random(seed) for seed in range(4)]
+            writers = [threading.Thread(target=lambda one: [move(one) for _ in range(25)], args=(chance,)) for chance in chances]
+            for thread in writers:
+                thread.start()
+            self.assertTrue(mirror.wait(ended, SECONDS))
+            for thread in writers:
+                thread.join()
+            numbers = [number for number, _ in seen if number is not None]
+            self.assertEqual({total for _, total in seen}, {100 * len(accounts)})
+            self.assertEqual(sorted(numbers), numbers)
+            self.assertGreater(len(set(numbers)), 10)
+            self.assertIsNone(mirror.fault)
 
 
 class Mirrors(Served):

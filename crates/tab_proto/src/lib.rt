@@ -21,7 +21,7 @@ mod telling;
 
 pub use command_terms::term_of;
 pub use commands::{command, read_command};
-pub use events::{append_item, append_overflow};
+pub use events::{Delivery, append_item, append_overflow};
 pub use fault::ProtoFault;
 pub use laws::requests_are_apart;
 pub use replying::{append_reply, write_reply};

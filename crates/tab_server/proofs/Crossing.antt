@@ -2,7 +2,6 @@
 use denote.Param.Send.{IsSend, IsSync, sendable}
 use denote.Param.SendFields.{declared_send, as_row_send, declared_sync, as_row_sync}
 use Rattle.std.proofs.Crossing.{crosses}
-use Rattle.std.specs.contracts.net.tcp.TcpStream as stream
 use Rattle.tab_book.specs.contracts.shared.Seat as seat
 use Rattle.tab_server.specs.contracts.connection.Connection as connection
 use Rattle.tab_server.specs.contracts.connection.Streams as streams
@@ -12,9 +11,6 @@ seat-send = search (sendable, declared_send, as_row_send) depth 20
 
 pub seat-sync : IsSync seat.the_row
 seat-sync = search (sendable, declared_sync, as_row_sync) depth 20
-
-pub stream-send : IsSend stream.the_row
-stream-send = search (sendable, crosses, declared_send, as_row_send) depth 20
 
 pub streams-send : IsSend streams.the_row
 streams-send = search (sendable, crosses, declared_send, as_row_send) depth 20

@@ -16,7 +16,7 @@ use tab_etf::{Counted, Target};
 use tab_model::{Limit, Reply};
 use tab_named::SeatInbox;
 use tab_names::House;
-use tab_proto::append_reply;
+use tab_proto::{Delivery, append_reply};
 
 /// Accepts so many connections, and serves each until its session has ended. Ends when all have; with an error where an
 /// accept failed, which ends the accepting.
@@ -26,16 +26,20 @@ pub fn serve<H: House + Threads + Send + Sync, G: Gate + Sync>(
     listener: &TcpListener,
     shared: &Shared<H>,
     connections: u32,
+    delivery: Delivery,
     gate: &G,
 ) -> io::Result<()> {
     thread::scope(thread::scope_env(), house, |scope| {
         for _ in 0..connections {
             let (stream, _peer) = listener.accept()?;
+            let Ok(streams) = Streams::of(stream, delivery) else {
+                continue;
+            };
             let Ok((seat, inbox)) = shared.join(house) else {
                 continue;
             };
             let started = scope.spawn(move || {
-                serve_connection(house, alloc, shared, &seat, inbox, stream, gate);
+                serve_connection(house, alloc, shared, &seat, inbox, streams, gate);
             });
             if started.is_err() {
                 shared.leave(house, &seat);
@@ -52,13 +56,14 @@ pub fn serve_forever<H: House + Threads + Send + Sync, G: Gate + Sync, E: Target
     alloc: Global,
     listener: &TcpListener,
     shared: &Shared<H>,
+    delivery: Delivery,
     gate: &G,
     errors: &mut E,
 ) {
     let mut troubles = Troubles::new(errors);
     thread::scope(thread::scope_env(), house, |scope| {
         for _ in house.forever() {
-            let Ok(streams) = accepted(listener) else {
+            let Ok(streams) = accepted(listener, delivery) else {
                 troubles.tell(house, "no connection was accepted");
                 continue;
             };
@@ -74,7 +79,7 @@ pub fn serve_forever<H: House + Threads + Send + Sync, G: Gate + Sync, E: Target
                 }
             };
             let started = scope.spawn(move || {
-                serve_seated(house, alloc, shared, &seat, inbox, streams, gate);
+                serve_connection(house, alloc, shared, &seat, inbox, streams, gate);
             });
             if started.is_err() {
                 shared.leave(house, &seat);
@@ -86,9 +91,9 @@ pub fn serve_forever<H: House + Threads + Send + Sync, G: Gate + Sync, E: Target
     });
 }
 
-fn accepted(listener: &TcpListener) -> io::Result<Streams> {
+fn accepted(listener: &TcpListener, delivery: Delivery) -> io::Result<Streams> {
     let (stream, _peer) = listener.accept()?;
-    Streams::of(stream)
+    Streams::of(stream, delivery)
 }
 
 /// Who finds no seat is told so, and closed.
@@ -102,22 +107,6 @@ fn turn_away(alloc: Global, streams: Streams) {
 
 /// Serves one session's connection until it has ended.
 fn serve_connection<H: House + Threads + Send + Sync, G: Gate>(
-    house: &H,
-    alloc: Global,
-    shared: &Shared<H>,
-    seat: &Seat,
-    inbox: SeatInbox<H>,
-    stream: TcpStream,
-    gate: &G,
-) {
-    match Streams::of(stream) {
-        Ok(streams) => serve_seated(house, alloc, shared, seat, inbox, streams, gate),
-        Err(_) => shared.leave(house, seat),
-    }
-}
-
-/// The same, once its streams are there.
-fn serve_seated<H: House + Threads + Send + Sync, G: Gate>(
     house: &H,
     alloc: Global,
     shared: &Shared<H>,
@@ -149,7 +138,15 @@ fn serve_streams<H: House + Threads + Send + Sync, G: Gate>(
             return;
         }
         let sending = scope.spawn(move || {
-            event_loop(house, alloc, shared, seat, &mut inbox, &connection.sink);
+            event_loop(
+                house,
+                alloc,
+                shared,
+                seat,
+                &mut inbox,
+                &connection.sink,
+                connection.delivery,
+            );
             connection.close();
         });
         if sending.is_err() {

@@ -1,6 +1,7 @@
 //! Replies that are kept, and written at once.
 
 use crate::gate::Gate;
+use crate::kept::{KEPT, empty};
 use std::alloc::Global;
 use std::io::Write;
 use std::sync::Wait;
@@ -8,9 +9,6 @@ use tab_etf::{Broken, EncodeFault};
 use tab_model::Reply;
 use tab_proto::append_reply;
 use tab_sink::FrameSink;
-
-/// So many bytes of replies are kept before they are written.
-const KEPT: usize = 65_536;
 
 /// Replies of a session, in order: requests that came in one piece are answered in one write.
 #[derive(Drop)]
@@ -80,7 +78,7 @@ impl<'a, W: Write, G: Gate> Answers<'a, W, G> {
             return Ok(());
         }
         self.sink.send(rt, &self.frames)?;
-        self.frames.clear();
+        empty(&mut self.frames);
         for call in self.written..self.answered {
             self.gate.after(self.session, call.saturating_add(1));
         }

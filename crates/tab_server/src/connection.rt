@@ -6,6 +6,7 @@ use std::net::{Shutdown, TcpStream};
 use std::sync::Wait;
 use tab_book::{Seat, Shared};
 use tab_names::House;
+use tab_proto::Delivery;
 use tab_sink::FrameSink;
 
 /// A connection's stream, and what is written to it.
@@ -13,25 +14,28 @@ use tab_sink::FrameSink;
 pub struct Connection {
     pub sink: FrameSink<TcpStream>,
     pub watch: Watch,
+    pub delivery: Delivery,
     stream: TcpStream,
 }
 
-/// A connection's stream, once to read from it, once to write to it and once to watch it.
+/// A connection's stream, once to read from it, once to write to it and once to watch it, and how events are sent on it.
 #[derive(Drop)]
 pub struct Streams {
     reader: TcpStream,
     writer: TcpStream,
     stream: TcpStream,
+    delivery: Delivery,
 }
 
 impl Streams {
     /// An error where no descriptor is left for one.
-    pub fn of(stream: TcpStream) -> io::Result<Streams> {
+    pub fn of(stream: TcpStream, delivery: Delivery) -> io::Result<Streams> {
         let _delayed = stream.set_nodelay(true);
         Ok(Streams {
             reader: stream.try_clone()?,
             writer: stream.try_clone()?,
             stream,
+            delivery,
         })
     }
 }
@@ -43,10 +47,12 @@ impl Connection {
             reader,
             writer,
             stream,
+            delivery,
         } = streams;
         let connection = Connection {
             sink: FrameSink::new(writer),
             watch: Watch::new(),
+            delivery,
             stream,
         };
         (connection, reader)

@@ -1,16 +1,14 @@
 //! The events of one connection.
 
 use crate::answers::Unwritten;
+use crate::kept::{KEPT, empty};
 use std::alloc::Global;
 use std::io::Write;
 use tab_book::{Drained, Seat, Shared};
 use tab_named::SeatInbox;
 use tab_names::House;
-use tab_proto::{append_item, append_overflow};
+use tab_proto::{Delivery, append_item, append_overflow};
 use tab_sink::FrameSink;
-
-/// So many bytes of events are kept before they are written.
-const KEPT: usize = 65_536;
 
 /// Sends what comes into the inbox, in order, until the session has left and nothing is left, or a write fails, or no
 /// memory is found for an event. Items that are there at once are written at once.
@@ -21,14 +19,15 @@ pub fn event_loop<H: House, W: Write>(
     seat: &Seat,
     inbox: &mut SeatInbox<H>,
     sink: &FrameSink<W>,
+    delivery: Delivery,
 ) {
     let mut frames = Vec::new(alloc);
     for _ in house.forever() {
         let Some(item) = inbox.receive() else {
             return;
         };
-        if append_item(&item, &mut frames).is_err()
-            || send_all(house, shared, seat, inbox, sink, &mut frames).is_err()
+        if append_item(&item, delivery, &mut frames).is_err()
+            || send_all(house, shared, seat, inbox, sink, delivery, &mut frames).is_err()
         {
             return;
         }
@@ -43,6 +42,7 @@ fn send_all<H: House, W: Write>(
     seat: &Seat,
     inbox: &mut SeatInbox<H>,
     sink: &FrameSink<W>,
+    delivery: Delivery,
     frames: &mut Vec<u8>,
 ) -> Result<(), Unwritten> {
     let mut count: usize = 1;
@@ -50,28 +50,29 @@ fn send_all<H: House, W: Write>(
         let Some(item) = inbox.try_receive() else {
             break;
         };
-        append_item(&item, frames)?;
+        append_item(&item, delivery, frames)?;
         count = count.saturating_add(1);
         send_long(house, sink, frames)?;
     }
     if count >= shared.outbox() {
-        send_rest(house, shared, seat, inbox, sink, frames)?;
+        keep_rest(house, shared, seat, inbox, sink, delivery, frames)?;
     }
     send(house, sink, frames)
 }
 
 /// Keeps what is left, and an overflow that was not told yet.
-fn send_rest<H: House, W: Write>(
+fn keep_rest<H: House, W: Write>(
     house: &H,
     shared: &Shared<H>,
     seat: &Seat,
     inbox: &mut SeatInbox<H>,
     sink: &FrameSink<W>,
+    delivery: Delivery,
     frames: &mut Vec<u8>,
 ) -> Result<(), Unwritten> {
     for _ in house.forever() {
         match shared.drained(house, seat, inbox) {
-            Drained::Going(item) => append_item(&item, frames)?,
+            Drained::Going(item) => append_item(&item, delivery, frames)?,
             Drained::Overflow(number) => append_overflow(number, frames)?,
             Drained::AllTaken | Drained::Left => return Ok(()),
         }
@@ -98,6 +99,6 @@ fn send<H: House, W: Write>(
     frames: &mut Vec<u8>,
 ) -> Result<(), Unwritten> {
     sink.send(house, frames)?;
-    frames.clear();
+    empty(frames);
     Ok(())
 }

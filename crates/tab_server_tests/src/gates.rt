@@ -16,7 +16,7 @@ use tab_book::{Book, Shared};
 use tab_model::Limits;
 use tab_names::{House, Naming, Opened};
 use tab_post::Line;
-use tab_server::{Gate, serve};
+use tab_server::{Delivery, Gate, serve};
 
 pub const LIMITS: Limits = Limits {
     sessions: 64,
@@ -93,7 +93,8 @@ fn serve_all<H: House + Threads + Send + Sync, G: Gate + Sync>(
     gate: &G,
     served: &AtomicU64,
 ) {
-    if serve(house, alloc, listener, shared, count, gate).is_ok() {
+    let delivery = Delivery::Events;
+    if serve(house, alloc, listener, shared, count, delivery, gate).is_ok() {
         served.fetch_add(1, Ordering::SeqCst);
     }
 }

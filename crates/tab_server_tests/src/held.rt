@@ -18,7 +18,7 @@ use tab_model::{Command, Level, Operation, Reply, Schema};
 use tab_named::SeatInbox;
 use tab_names::{House, Naming, Opened};
 use tab_post::Line;
-use tab_server::{FrameSink, event_loop};
+use tab_server::{Delivery, FrameSink, event_loop};
 use tab_term::Terms;
 
 /// What is written, and whether writes are held.
@@ -182,7 +182,15 @@ fn send_events<H: House>(
     pipe: &Pipe,
 ) {
     let sink = FrameSink::new(Held { house, pipe });
-    event_loop(house, alloc, shared, &reader, &mut inbox, &sink);
+    event_loop(
+        house,
+        alloc,
+        shared,
+        &reader,
+        &mut inbox,
+        &sink,
+        Delivery::Events,
+    );
 }
 
 fn side_by_side<H: House + Threads + Send + Sync>(

@@ -9,4 +9,4 @@ AreSizes s = (1 ≤ s.connections) × (s.connections ≤ 64) × (1 ≤ s.outbox)
 
 abbrev pub AreInRange : Run → Type 0
 AreInRange (Replay outbox) = (1 ≤ outbox) × (outbox ≤ 65536)
-AreInRange (Serve port sizes forever) = AreSizes sizes
+AreInRange (Serve port sizes forever delivery) = AreSizes sizes

@@ -88,15 +88,28 @@ where
                 port,
                 sizes,
                 forever: false,
+                delivery,
             },
-        ) => listen::<J, H, W>(*rt, rt.alloc(), opened, port, sizes, output),
+        ) => listen::<J, H, W>(*rt, rt.alloc(), opened, port, sizes, delivery, output),
         Ok(
             Run::Serve {
                 port,
                 sizes,
                 forever: true,
+                delivery,
             },
-        ) => { listen_forever::<J, H, W, E>(*rt, rt.alloc(), opened, port, sizes, output, errors) }
+        ) => {
+            listen_forever::<J, H, W, E>(
+                *rt,
+                rt.alloc(),
+                opened,
+                port,
+                sizes,
+                delivery,
+                output,
+                errors,
+            )
+        }
         Err(error) => show(rt.alloc(), &error, output, errors),
     }
 }

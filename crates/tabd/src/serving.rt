@@ -15,7 +15,7 @@ use tab_etf::{Target, give_all};
 use tab_model::Limits;
 use tab_names::{House, Naming, Opened};
 use tab_post::Line;
-use tab_server::{Open, serve, serve_forever};
+use tab_server::{Delivery, Open, serve, serve_forever};
 
 /// What a server is given: how many connections it accepts, how many items wait for a session, how many entries stand.
 #[derive(Clone, Copy)]
@@ -49,6 +49,7 @@ pub fn listen<J, R, W>(
     opened: Opened<Line>,
     port: u16,
     sizes: Sizes,
+    delivery: Delivery,
     output: &mut W,
 ) -> End
 where
@@ -61,7 +62,14 @@ where
         Ok(listener) => listener,
         Err(ended) => return End::Stopped(ended),
     };
-    match run((rt, PhantomData::<J>), alloc, opened, &listener, sizes) {
+    match run(
+        (rt, PhantomData::<J>),
+        alloc,
+        opened,
+        &listener,
+        sizes,
+        delivery,
+    ) {
         Ok(Ok(())) => End::Done,
         Ok(Err(_)) => End::Stopped(Ended::Device),
         Err(_) => End::Stopped(Ended::NoMemory),
@@ -75,6 +83,7 @@ pub fn listen_forever<J, R, W, E>(
     opened: Opened<Line>,
     port: u16,
     sizes: Sizes,
+    delivery: Delivery,
     output: &mut W,
     errors: &mut E,
 ) -> End
@@ -95,6 +104,7 @@ where
         opened,
         &listener,
         sizes,
+        delivery,
         errors,
     ) {
         Ok(()) => End::Done,
@@ -124,13 +134,22 @@ fn run<H: House + Threads + Send + Sync>(
     opened: Opened<Line>,
     listener: &TcpListener,
     sizes: Sizes,
+    delivery: Delivery,
 ) -> Result<io::Result<()>, AllocError>
     requires { opened ≡ H.book }
 {
     let limits = limits(64, sizes.journal);
     let book = Book::new(house, alloc, opened, limits, sizes.outbox as usize)?;
     let shared = Shared::new(book);
-    Ok(serve(&house, alloc, listener, &shared, sizes.connections, &Open))
+    Ok(serve(
+        &house,
+        alloc,
+        listener,
+        &shared,
+        sizes.connections,
+        delivery,
+        &Open,
+    ))
 }
 
 fn run_forever<H: House + Threads + Send + Sync, E: Target>(
@@ -139,6 +158,7 @@ fn run_forever<H: House + Threads + Send + Sync, E: Target>(
     opened: Opened<Line>,
     listener: &TcpListener,
     sizes: Sizes,
+    delivery: Delivery,
     errors: &mut E,
 ) -> Result<(), AllocError>
     requires { opened ≡ H.book }
@@ -146,6 +166,6 @@ fn run_forever<H: House + Threads + Send + Sync, E: Target>(
     let limits = limits(sizes.connections, sizes.journal);
     let book = Book::new(house, alloc, opened, limits, sizes.outbox as usize)?;
     let shared = Shared::new(book);
-    serve_forever(&house, alloc, listener, &shared, &Open, errors);
+    serve_forever(&house, alloc, listener, &shared, delivery, &Open, errors);
     Ok(())
 }

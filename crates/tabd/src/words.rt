@@ -10,6 +10,7 @@ use std::alloc::{AllocError, Global};
 use std::convert::AsStr;
 use std::io;
 use std::rt::Env;
+use tab_server::Delivery;
 
 /// What the words ask for.
 #[derive(Clone, Copy)]
@@ -23,6 +24,7 @@ pub enum Run {
         port: u16,
         sizes: Sizes,
         forever: bool,
+        delivery: Delivery,
     },
 }
 
@@ -60,13 +62,18 @@ fn serve<'a>(alloc: Global) -> Result<Command<'a>, AllocError> {
         .long("forever")
         .help("A connection that ends makes room for another, and the server never ends by itself")
         .action(ArgAction::SetTrue);
+    let batches = Arg::new(alloc, "batches")
+        .long("batches")
+        .help("A commit's events come in one frame, with the commit's number")
+        .action(ArgAction::SetTrue);
     Command::new(alloc, "serve")
         .about("Serves each connection to a port as a session")
         .arg(port)?
         .arg(connections)?
         .arg(outbox(alloc))?
         .arg(journal)?
-        .arg(forever)
+        .arg(forever)?
+        .arg(batches)
 }
 
 fn command<'a>(alloc: Global) -> Result<Command<'a>, AllocError> {
@@ -91,6 +98,7 @@ pub fn read_words<'a, S: AsStr>(alloc: Global, words: &'a [S]) -> Result<Run, Er
             port: serve.get_one("port").unwrap_or(0),
             sizes: sizes(serve),
             forever: serve.get_flag("forever"),
+            delivery: delivery(serve),
         });
     }
     Ok(Run::Replay {
@@ -99,6 +107,14 @@ pub fn read_words<'a, S: AsStr>(alloc: Global, words: &'a [S]) -> Result<Run, Er
             None => 64,
         },
     })
+}
+
+fn delivery(matches: &ArgMatches<'_>) -> Delivery {
+    if matches.get_flag("batches") {
+        Delivery::Batches
+    } else {
+        Delivery::Events
+    }
 }
 
 fn sizes(matches: &ArgMatches<'_>) -> Sizes

@@ -1,18 +1,18 @@
--- What a connection's thread takes with it may go to another thread: the inbox, the stream, and loans of what all share.
+-- What a connection's thread takes with it may go to another thread: the inbox, the streams, and loans of what all share.
 use mathlib.Core.List.{[], ◌∷◌}
 use mir.Syntax.{named}
 use denote.Ref.{ShrRef}
 use denote.Param.{copied, param}
 use denote.Param.Send.{shr_send, copied_send, copied_sync, param_sync}
 use Rattle.std.proofs.Crossing.{send as heap_send}
-use Rattle.std.specs.contracts.net.tcp.TcpStream as stream
 use Rattle.tab_book.proofs.Closures.{closure_send}
 use Rattle.tab_book.proofs.Crossing.{Shared-sync}
 use Rattle.tab_book.specs.contracts.shared.Shared as shared
 use Rattle.tab_book.specs.contracts.shared.Seat as seat
 use Rattle.tab_named.proofs.Crossing.{SeatInbox-send}
 use Rattle.tab_named.specs.contracts.inbox.SeatInbox as inbox
-use Rattle.tab_server.proofs.Crossing.{seat-send, stream-send}
+use Rattle.tab_server.specs.contracts.connection.Streams as streams
+use Rattle.tab_server.proofs.Crossing.{seat-send, streams-send}
 use Rattle.tab_server.proofs.accepting.fn.serve.scope.Goals as goal
 
 pub spawn-started-requires-send-F : goal.spawn-started-requires-send-F
@@ -20,6 +20,6 @@ spawn-started-requires-send-F g c κs within =
     let H = copied 0 g.row.H in
     let send = copied_send 0 g.row.H c.requires.1.1.0 in
     let sync = copied_sync 0 g.row.H c.requires.1.1.1 in
-    let sent = closure_send (ShrRef (named 5) κs.1.1.1.1.1.0 H ∷ _ ∷ ShrRef (named 6) κs.1.1.1.1.1.1.0 (shared.the_row H g.H.Naming g.H.House g.H.Wait g.H.Clone) ∷ seat.the_row ∷ inbox.the_row H g.H.Naming ∷ stream.the_row ∷ ShrRef (named 7) κs.1.1.1.1.1.1.1.0 (param 1 g.row.G) ∷ [])
-    (shr_send _ _ _ sync, (heap_send, (shr_send _ _ _ (Shared-sync H g.H.Naming g.H.House g.H.Wait g.H.Clone send), (seat-send, (SeatInbox-send H g.H.Naming send, (stream-send, (shr_send _ _ _ (param_sync 1 g.row.G c.requires.1.1.2), tt))))))) in
+    let sent = closure_send (ShrRef (named 5) κs.1.1.1.1.1.0 H ∷ _ ∷ ShrRef (named 6) κs.1.1.1.1.1.1.0 (shared.the_row H g.H.Naming g.H.House g.H.Wait g.H.Clone) ∷ seat.the_row ∷ inbox.the_row H g.H.Naming ∷ streams.the_row ∷ ShrRef (named 7) κs.1.1.1.1.1.1.1.0 (param 1 g.row.G) ∷ [])
+    (shr_send _ _ _ sync, (heap_send, (shr_send _ _ _ (Shared-sync H g.H.Naming g.H.House g.H.Wait g.H.Clone send), (seat-send, (SeatInbox-send H g.H.Naming send, (streams-send, (shr_send _ _ _ (param_sync 1 g.row.G c.requires.1.1.2), tt))))))) in
     record { owned = sent.owned; leaving = sent.leaving }

@@ -2,12 +2,12 @@
 use denote.Param.Send.{copied_send, copied_sync}
 use Rattle.tab_server.proofs.accepting.fn.serve_forever.fn.scope.spawn.Goals as goal
 
-pub serve_seated-requires-send-H : goal.serve_seated-requires-send-H
-serve_seated-requires-send-H g c κs within =
+pub serve_connection-requires-send-H : goal.serve_connection-requires-send-H
+serve_connection-requires-send-H g c κs within =
     let sent = copied_send 0 g.row.H c.requires.1.1.0 in
     record { owned = sent.owned; leaving = sent.leaving }
 
-pub serve_seated-requires-sync-H : goal.serve_seated-requires-sync-H
-serve_seated-requires-sync-H g c κs within =
+pub serve_connection-requires-sync-H : goal.serve_connection-requires-sync-H
+serve_connection-requires-sync-H g c κs within =
     let seen = copied_sync 0 g.row.H c.requires.1.1.1 in
     record { shared = seen.shared }

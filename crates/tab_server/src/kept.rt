@@ -1,0 +1,21 @@
+//! Frames that are kept until they are written.
+
+ghost use Rattle.std.specs.Prelude.{◌≡◌, ◌≤◌, [], vec_capacity};
+
+/// So many bytes of frames are kept before they are written.
+pub const KEPT: usize = 65_536;
+
+/// Room for so many bytes stays for the frames that come next.
+const ROOM: usize = 4 * KEPT;
+
+/// Empties what was written, and gives back what a long frame took.
+pub fn empty(frames: &mut Vec<u8>)
+    ensures items { frames.new.items ≡ [] }
+    ensures room { vec_capacity frames.new ≤ 262144 }
+{
+    if frames.capacity() > ROOM {
+        *frames = Vec::new(*frames.allocator());
+    } else {
+        frames.clear();
+    }
+}
