@@ -52,6 +52,8 @@ WORDS = [
     (["serve", "--port", "0", "--connections", "1", "--journal", "15"], 2, b"", b"error: "),
     (["serve", "--port", "0", "--connections", "1", "--journal", "65537"], 2, b"", b"error: "),
     (["serve", "--port", "0", "--connections", "1", "--outbox", "0"], 2, b"", b"error: "),
+    (["serve", "--port", "0", "--connections", "1", "--idle", "0"], 2, b"", b"error: "),
+    (["serve", "--port", "0", "--connections", "1", "--idle", "86401"], 2, b"", b"error: "),
     (["--version"], 0, b"tabd 0.1.0\n", b""),
     (["--help"], 0, b"A server of named in-memory tables", b""),
     (["replay", "--help"], 0, b"Answers the frames of standard input", b""),

@@ -76,13 +76,13 @@ streams i o f g = record { input = i; output = o; input_faults = f; output_fault
 -- what holds of a replay, by how many items each session's post holds
 abbrev pub IfReplay : Run → (ℕ → Type 0) → Type 0
 IfReplay (Replay outbox) P = P outbox
-IfReplay (Serve port sizes forever delivery) P = Unit {0}
+IfReplay (Serve port sizes forever delivery idle) P = Unit {0}
 
 -- what holds of a run that ends by itself: a server that goes on forever tells on the errors what it can't accept
 abbrev pub IfEnds : Run → Type 0 → Type 0
 IfEnds (Replay outbox) P = P
-IfEnds (Serve port sizes false delivery) P = P
-IfEnds (Serve port sizes true delivery) P = Unit {0}
+IfEnds (Serve port sizes false delivery None) P = P
+IfEnds (Serve port sizes forever delivery idle) P = Unit {0}
 
 -- the program replayed its input onto its output, and ends by a device fault exactly where one rose
 abbrev pub Plays : ℕ → Streams → Streams → End → Type 0

@@ -2,10 +2,12 @@
 #![tactic(auto)]
 
 mod ending;
+mod lines;
 mod running;
 mod serving;
 mod words;
 
+use lines::Lines;
 use running::run;
 use std::marker::Brand;
 use std::process::ExitCode;
@@ -18,13 +20,15 @@ fn main(rt: HostRuntime) -> ExitCode {
     let mut input = Counted::new(rt.stdin());
     let mut output = Counted::new(rt.stdout());
     let mut errors = Counted::new(rt.stderr());
+    let lines = Lines::new(rt, rt.alloc(), Counted::new(rt.stderr()));
     let opened = Opened::new();
-    run::<Brand, _, _, _, _>(
+    run::<Brand, _, _, _, _, _>(
         &rt,
         opened,
         asked(&rt),
         &mut input,
         &mut output,
         &mut errors,
+        &lines,
     )
 }

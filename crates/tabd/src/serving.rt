@@ -10,12 +10,13 @@ use std::marker::PhantomData;
 use std::net::{Net, TcpListener, TcpStream};
 use std::sync::Wait;
 use std::thread::Threads;
+use std::time::Duration;
 use tab_book::{Book, Shared};
 use tab_etf::{Target, give_all};
 use tab_model::Limits;
 use tab_names::{House, Naming, Opened};
 use tab_post::Line;
-use tab_server::{Delivery, Open, serve, serve_forever};
+use tab_server::{Delivery, Gate, Settings, serve, serve_forever};
 
 /// What a server is given: how many connections it accepts, how many items wait for a session, how many entries stand.
 #[derive(Clone, Copy)]
@@ -42,20 +43,31 @@ const fn limits(sessions: u32, journal: u32) -> Limits
     }
 }
 
+/// How connections are served, by what the words say.
+pub fn settings(delivery: Delivery, idle: Option<u32>) -> Settings {
+    let idle = match idle {
+        Some(seconds) if seconds > 0 => Some(Duration::from_secs(u64::from(seconds))),
+        _ => None,
+    };
+    Settings { delivery, idle }
+}
+
 /// Listens on the port, says so, and serves until all sessions have ended.
-pub fn listen<J, R, W>(
+pub fn listen<J, R, W, G>(
     rt: R,
     alloc: Global,
     opened: Opened<Line>,
     port: u16,
     sizes: Sizes,
-    delivery: Delivery,
+    settings: Settings,
     output: &mut W,
+    gate: &G,
 ) -> End
 where
     J: Naming + Send + Sync,
     R: Net<Listener = TcpListener, Stream = TcpStream> + Threads + Wait + Copy + Send + Sync,
     W: Target,
+    G: Gate + Sync,
     requires { opened ≡ J.book }
 {
     let listener = match listening(&rt, alloc, port, output) {
@@ -68,7 +80,8 @@ where
         opened,
         &listener,
         sizes,
-        delivery,
+        settings,
+        gate,
     ) {
         Ok(Ok(())) => End::Done,
         Ok(Err(_)) => End::Stopped(Ended::Device),
@@ -77,21 +90,21 @@ where
 }
 
 /// Listens on the port, says so, and serves for good. It ends where it can't begin.
-pub fn listen_forever<J, R, W, E>(
+pub fn listen_forever<J, R, W, G>(
     rt: R,
     alloc: Global,
     opened: Opened<Line>,
     port: u16,
     sizes: Sizes,
-    delivery: Delivery,
+    settings: Settings,
     output: &mut W,
-    errors: &mut E,
+    gate: &G,
 ) -> End
 where
     J: Naming + Send + Sync,
     R: Net<Listener = TcpListener, Stream = TcpStream> + Threads + Wait + Copy + Send + Sync,
     W: Target,
-    E: Target,
+    G: Gate + Sync,
     requires { opened ≡ J.book }
 {
     let listener = match listening(&rt, alloc, port, output) {
@@ -104,8 +117,8 @@ where
         opened,
         &listener,
         sizes,
-        delivery,
-        errors,
+        settings,
+        gate,
     ) {
         Ok(()) => End::Done,
         Err(_) => End::Stopped(Ended::NoMemory),
@@ -128,13 +141,14 @@ fn listening<R: Net<Listener = TcpListener, Stream = TcpStream>, W: Target>(
     Ok(listener)
 }
 
-fn run<H: House + Threads + Send + Sync>(
+fn run<H: House + Threads + Send + Sync, G: Gate + Sync>(
     house: H,
     alloc: Global,
     opened: Opened<Line>,
     listener: &TcpListener,
     sizes: Sizes,
-    delivery: Delivery,
+    settings: Settings,
+    gate: &G,
 ) -> Result<io::Result<()>, AllocError>
     requires { opened ≡ H.book }
 {
@@ -147,25 +161,25 @@ fn run<H: House + Threads + Send + Sync>(
         listener,
         &shared,
         sizes.connections,
-        delivery,
-        &Open,
+        settings,
+        gate,
     ))
 }
 
-fn run_forever<H: House + Threads + Send + Sync, E: Target>(
+fn run_forever<H: House + Threads + Send + Sync, G: Gate + Sync>(
     house: H,
     alloc: Global,
     opened: Opened<Line>,
     listener: &TcpListener,
     sizes: Sizes,
-    delivery: Delivery,
-    errors: &mut E,
+    settings: Settings,
+    gate: &G,
 ) -> Result<(), AllocError>
     requires { opened ≡ H.book }
 {
     let limits = limits(sizes.connections, sizes.journal);
     let book = Book::new(house, alloc, opened, limits, sizes.outbox as usize)?;
     let shared = Shared::new(book);
-    serve_forever(&house, alloc, listener, &shared, delivery, &Open, errors);
+    serve_forever(&house, alloc, listener, &shared, settings, gate);
     Ok(())
 }
