@@ -9,6 +9,7 @@ where one failed.
 
 import os
 import resource
+import socket
 import subprocess
 import sys
 import time
@@ -170,6 +171,29 @@ def stalled(server):
     same("what it said", server.ended(), "tabd: session 1 was idle\n")
 
 
+def logged(server):
+    """Each start, end, overflow and refusal of a seat has a line."""
+    log = server.process.stderr
+    reader = server.connect(small=True)
+    same("a start", log.readline(), "tabd: session 1 has started\n")
+    writer = server.connect()
+    same("another", log.readline(), "tabd: session 2 has started\n")
+    third = server.connect()
+    same("the third", (third.receive(), log.readline()), (LIMIT, "tabd: no seat for a connection\n"))
+    script((writer, CREATE, ATOMIC), (reader, watch(), HERE_OK))
+    for number in range(1, 201):
+        script((writer, ("transaction", [write(number % 5, b"v" * 4000)], 0), ("atomic", [OK])))
+    reader.socket.setsockopt(socket.SOL_SOCKET, socket.SO_RCVBUF, 1_048_576)
+    while (told := reader.event())[0] != "mnesia_overflow":
+        pass
+    same("an overflow", log.readline(), f"tabd: session 1 lost its events from commit {told[1]} on\n")
+    writer.break_off()
+    same("an end", log.readline(), "tabd: session 2 has ended\n")
+    reader.close()
+    same("another", log.readline(), "tabd: session 1 has ended\n")
+    same("what it said besides", server.ended(), "")
+
+
 # A name, how many seats, how many descriptors, what is done, and further words of the server.
 CASES = [
     ("the ninth is told", 8, None, the_ninth_is_told),
@@ -178,6 +202,7 @@ CASES = [
     ("no descriptor is left", 64, 20, no_descriptor_is_left),
     ("idle", 3, None, idle, "--idle", "1"),
     ("a reader that takes nothing", 2, None, stalled, "--idle", "1"),
+    ("a log", 2, None, logged, "--log", "--outbox", "16"),
 ]
 
 

@@ -69,6 +69,7 @@ pub fn serve_forever<H: House + Threads + Send + Sync, G: Gate + Sync>(
             let (seat, inbox) = match shared.join(house) {
                 Ok(joined) => joined,
                 Err(JoinFault::Limit) => {
+                    gate.note(Note::NoSeat);
                     turn_away(alloc, streams);
                     continue;
                 }
@@ -105,7 +106,7 @@ fn turn_away(alloc: Global, streams: Streams) {
 }
 
 /// Serves one session's connection until it has ended.
-fn serve_connection<H: House + Threads + Send + Sync, G: Gate>(
+fn serve_connection<H: House + Threads + Send + Sync, G: Gate + Sync>(
     house: &H,
     alloc: Global,
     shared: &Shared<H>,
@@ -114,17 +115,19 @@ fn serve_connection<H: House + Threads + Send + Sync, G: Gate>(
     streams: Streams,
     gate: &G,
 ) {
+    gate.note(Note::Started(seat.session()));
     let (connection, reader) = Connection::new(streams);
     let ending = serve_streams(house, alloc, shared, seat, inbox, &connection, reader, gate);
     shared.leave(house, seat);
     if matches!(ending, Ending::Idle) || connection.has_stalled(house) {
         gate.note(Note::Idle(seat.session()));
     }
+    gate.note(Note::Ended(seat.session()));
 }
 
 /// Answers requests in this thread, beside one that sends events and one that watches. Nothing is answered where one of
 /// them can't be started.
-fn serve_streams<H: House + Threads + Send + Sync, G: Gate>(
+fn serve_streams<H: House + Threads + Send + Sync, G: Gate + Sync>(
     house: &H,
     alloc: Global,
     shared: &Shared<H>,
@@ -148,6 +151,7 @@ fn serve_streams<H: House + Threads + Send + Sync, G: Gate>(
                 &mut inbox,
                 &connection.sink,
                 connection.delivery,
+                gate,
             );
             connection.close();
         });

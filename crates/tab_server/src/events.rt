@@ -1,6 +1,7 @@
 //! The events of one connection.
 
 use crate::answers::Unwritten;
+use crate::gate::{Gate, Note};
 use crate::kept::{KEPT, empty};
 use std::alloc::Global;
 use std::io::Write;
@@ -12,7 +13,7 @@ use tab_sink::FrameSink;
 
 /// Sends what comes into the inbox, in order, until the session has left and nothing is left, or a write fails, or no
 /// memory is found for an event. Items that are there at once are written at once.
-pub fn event_loop<H: House, W: Write>(
+pub fn event_loop<H: House, W: Write, G: Gate>(
     house: &H,
     alloc: Global,
     shared: &Shared<H>,
@@ -20,6 +21,7 @@ pub fn event_loop<H: House, W: Write>(
     inbox: &mut SeatInbox<H>,
     sink: &FrameSink<W>,
     delivery: Delivery,
+    gate: &G,
 ) {
     let mut frames = Vec::new(alloc);
     for _ in house.forever() {
@@ -27,7 +29,17 @@ pub fn event_loop<H: House, W: Write>(
             return;
         };
         if append_item(&item, delivery, &mut frames).is_err()
-            || send_all(house, shared, seat, inbox, sink, delivery, &mut frames).is_err()
+            || send_all(
+                house,
+                shared,
+                seat,
+                inbox,
+                sink,
+                delivery,
+                &mut frames,
+                gate,
+            )
+            .is_err()
         {
             return;
         }
@@ -35,7 +47,7 @@ pub fn event_loop<H: House, W: Write>(
 }
 
 /// Sends what is kept and all that is left.
-fn send_all<H: House, W: Write>(
+fn send_all<H: House, W: Write, G: Gate>(
     house: &H,
     shared: &Shared<H>,
     seat: &Seat,
@@ -43,6 +55,7 @@ fn send_all<H: House, W: Write>(
     sink: &FrameSink<W>,
     delivery: Delivery,
     frames: &mut Vec<u8>,
+    gate: &G,
 ) -> Result<(), Unwritten> {
     for _ in house.forever() {
         let going = match shared.drained(house, seat, inbox) {
@@ -51,6 +64,7 @@ fn send_all<H: House, W: Write>(
                 true
             }
             Drained::Overflow(number) => {
+                gate.note(Note::Overflowed(seat.session(), number));
                 append_overflow(number, frames)?;
                 true
             }

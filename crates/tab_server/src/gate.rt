@@ -1,5 +1,7 @@
 //! What is told of a server's calls and sessions.
 
+use std::io;
+
 /// What a server says while it goes on.
 #[derive(Clone, Copy, Debug, PartialEq, Eq)]
 pub enum Note {
@@ -11,6 +13,14 @@ pub enum Note {
     NoThread,
     /// This session was idle for too long, and has left.
     Idle(u32),
+    /// This session has joined.
+    Started(u32),
+    /// This session has left.
+    Ended(u32),
+    /// Of this session's events those from this commit on are lost.
+    Overflowed(u32, u64),
+    /// A connection has found no seat.
+    NoSeat,
 }
 
 /// Told of each call of each session: before it is made, and after its reply is written. A test holds calls by it.
@@ -23,6 +33,9 @@ pub trait Gate {
 
     /// What the server says.
     fn note(&self, note: Note);
+
+    /// Why the server ends.
+    fn fault(&self, error: &io::Error);
 }
 
 /// Holds no one, and says nothing.
@@ -35,4 +48,6 @@ impl Gate for Open {
     fn after(&self, _session: u32, _call: u64) {}
 
     fn note(&self, _note: Note) {}
+
+    fn fault(&self, _error: &io::Error) {}
 }

@@ -59,6 +59,8 @@ impl<R: Threads + Clock> Gate for Held<R> {
     }
 
     fn note(&self, _note: Note) {}
+
+    fn fault(&self, _error: &io::Error) {}
 }
 
 /// `{create_table, u, []}`, and the same of t.

@@ -96,6 +96,7 @@ where
                 forever,
                 delivery,
                 idle,
+                log: _,
             },
         ) => {
             let settings = settings(delivery, idle);

@@ -7,7 +7,7 @@ use crate::ending::End;
 use std::alloc::{AllocError, Global};
 use std::io;
 use std::marker::PhantomData;
-use std::net::{Net, TcpListener, TcpStream};
+use std::net::{Net, SocketAddr, TcpListener, TcpStream};
 use std::sync::Wait;
 use std::thread::Threads;
 use std::time::Duration;
@@ -70,7 +70,7 @@ where
     G: Gate + Sync,
     requires { opened ≡ J.book }
 {
-    let listener = match listening(&rt, alloc, port, output) {
+    let listener = match listening(&rt, alloc, port, output, gate) {
         Ok(listener) => listener,
         Err(ended) => return End::Stopped(ended),
     };
@@ -84,7 +84,10 @@ where
         gate,
     ) {
         Ok(Ok(())) => End::Done,
-        Ok(Err(_)) => End::Stopped(Ended::Device),
+        Ok(Err(error)) => {
+            gate.fault(&error);
+            End::Stopped(Ended::Device)
+        }
         Err(_) => End::Stopped(Ended::NoMemory),
     }
 }
@@ -107,7 +110,7 @@ where
     G: Gate + Sync,
     requires { opened ≡ J.book }
 {
-    let listener = match listening(&rt, alloc, port, output) {
+    let listener = match listening(&rt, alloc, port, output, gate) {
         Ok(listener) => listener,
         Err(ended) => return End::Stopped(ended),
     };
@@ -126,19 +129,39 @@ where
 }
 
 /// Says which port it is, at once, so that clients can connect.
-fn listening<R: Net<Listener = TcpListener, Stream = TcpStream>, W: Target>(
+fn listening<R, W, G>(
     rt: &R,
     alloc: Global,
     port: u16,
     output: &mut W,
-) -> Result<TcpListener, Ended> {
-    let listener = TcpListener::bind(rt, ("127.0.0.1", port)).map_err(|_| Ended::Device)?;
-    let address = listener.local_addr().map_err(|_| Ended::Device)?;
+    gate: &G,
+) -> Result<TcpListener, Ended>
+where
+    R: Net<Listener = TcpListener, Stream = TcpStream>,
+    W: Target,
+    G: Gate,
+{
+    let (listener, address) = match bound(rt, port) {
+        Ok(bound) => bound,
+        Err(error) => {
+            gate.fault(&error);
+            return Err(Ended::Device);
+        }
+    };
     let line = format!(in alloc; "listening on 127.0.0.1:{}\n", address.port());
     let line = line.map_err(|_| Ended::NoMemory)?;
     give_all(output, line.as_bytes())?;
     output.flush()?;
     Ok(listener)
+}
+
+fn bound<R: Net<Listener = TcpListener, Stream = TcpStream>>(
+    rt: &R,
+    port: u16,
+) -> io::Result<(TcpListener, SocketAddr)> {
+    let listener = TcpListener::bind(rt, ("127.0.0.1", port))?;
+    let address = listener.local_addr()?;
+    Ok((listener, address))
 }
 
 fn run<H: House + Threads + Send + Sync, G: Gate + Sync>(

@@ -3,6 +3,7 @@
 ghost use Rattle.std.specs.Prelude.{◌≤◌, IfOk, IfSome};
 ghost use Rattle.tabd.specs.Words.{AreInRange, AreSizes, IsIdle};
 
+use crate::lines::Log;
 use crate::serving::Sizes;
 use clap::error::ErrorKind;
 use clap::{Arg, ArgAction, ArgMatches, Command, Error, value_parser};
@@ -27,6 +28,7 @@ pub enum Run {
         delivery: Delivery,
         /// So many seconds a session may be idle.
         idle: Option<u32>,
+        log: Log,
     },
 }
 
@@ -76,6 +78,10 @@ fn serve<'a>(alloc: Global) -> Result<Command<'a>, AllocError> {
         )
         .action(ArgAction::Set)
         .value_parser(value_parser!(u32).range(1..=86_400));
+    let log = Arg::new(alloc, "log")
+        .long("log")
+        .help("Each session's start and end has a line on standard error, and why the server ends")
+        .action(ArgAction::SetTrue);
     Command::new(alloc, "serve")
         .about("Serves each connection to a port as a session")
         .arg(port)?
@@ -84,7 +90,8 @@ fn serve<'a>(alloc: Global) -> Result<Command<'a>, AllocError> {
         .arg(journal)?
         .arg(forever)?
         .arg(batches)?
-        .arg(idle)
+        .arg(idle)?
+        .arg(log)
 }
 
 fn command<'a>(alloc: Global) -> Result<Command<'a>, AllocError> {
@@ -111,6 +118,7 @@ pub fn read_words<'a, S: AsStr>(alloc: Global, words: &'a [S]) -> Result<Run, Er
             forever: serve.get_flag("forever"),
             delivery: delivery(serve),
             idle: idle(serve),
+            log: log(serve),
         });
     }
     Ok(Run::Replay {
@@ -126,6 +134,14 @@ fn delivery(matches: &ArgMatches<'_>) -> Delivery {
         Delivery::Batches
     } else {
         Delivery::Events
+    }
+}
+
+fn log(matches: &ArgMatches<'_>) -> Log {
+    if matches.get_flag("log") {
+        Log::Full
+    } else {
+        Log::Brief
     }
 }
 
