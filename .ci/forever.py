@@ -9,11 +9,12 @@ where one failed.
 
 import os
 import resource
+import socket
 import subprocess
 import sys
 import time
 
-from server import ATOMIC, CREATE, OK, Connection, Differs, same, script, write
+from server import ATOMIC, CREATE, HERE_OK, OK, Connection, Differs, event, frame, same, script, watch, write
 
 LIMIT = ("reply", ("error", ("system_limit", "sessions")))
 NOT_ACCEPTED = "tabd: no connection was accepted\n"
@@ -22,10 +23,10 @@ PATIENCE = 5.0
 
 
 class Server:
-    """With so many seats, and so many descriptors where that is said. Its journal is soon full, and grows no more."""
+    """With so many seats, so many descriptors where that is said, and further words. Its journal is soon full, and grows no more."""
 
-    def __init__(self, program, seats, files=None):
-        words = [program, "serve", "--port", "0", "--connections", str(seats), "--forever", "--journal", "16"]
+    def __init__(self, program, seats, files=None, more=()):
+        words = [program, "serve", "--port", "0", "--connections", str(seats), "--forever", "--journal", "16", *more]
         limit = (lambda: resource.setrlimit(resource.RLIMIT_NOFILE, (files, files))) if files else None
         self.process = subprocess.Popen(words, stdout=subprocess.PIPE, stderr=subprocess.PIPE, text=True, preexec_fn=limit)
         self.port = int(self.process.stdout.readline().rsplit(":", 1)[1])
@@ -37,8 +38,8 @@ class Server:
         self.process.kill()
         self.process.communicate()
 
-    def connect(self):
-        return Connection(self.port)
+    def connect(self, small=False):
+        return Connection(self.port, small)
 
     def seated(self):
         """A connection that has a seat, as soon as one is free, and its first reply."""
@@ -138,18 +139,76 @@ def no_descriptor_is_left(server):
         raise Differs(f"it said so {len(said)} times")
 
 
-# A name, how many seats, how many descriptors, and what is done.
+def idle(server):
+    """A transaction from which nothing comes ends, with its connection, and what it held is free. Who waits for its lock, and who has
+    no transaction, is not idle, though nothing comes from either."""
+    older, younger, mirror = server.connect(), server.connect(), server.connect()
+    script((older, CREATE, ATOMIC), (mirror, watch(), HERE_OK), (older, "begin", ("tid", 1)))
+    script((younger, "begin", ("tid", 2)), (younger, write(1, "b"), OK))
+    same("begin mark", mirror.event(), ("mnesia_table_begin", "t", "simple"))
+    older.send(("read", "t", 1))
+    same("its end", younger.stream.read(), b"")
+    same("who waits", older.receive(), ("reply", []))
+    script((older, write(1, "a"), OK), (older, "commit", ("atomic", 1)))
+    same("event", mirror.event(), event(1, "a", 1))
+    # Half of a request, and no transaction.
+    mirror.socket.sendall(frame("begin")[:5])
+    time.sleep(2.5)
+    mirror.socket.sendall(frame("begin")[5:])
+    same("who has none", mirror.receive(), ("reply", ("tid", 3)))
+    script((mirror, "commit", ("atomic", 2)), (older, "begin", ("tid", 4)), (older, "commit", ("atomic", 3)))
+    same("what it said", server.ended(), "tabd: session 2 was idle\n")
+
+
+def stalled(server):
+    """Who reads nothing for so long has left, so that its seat is free."""
+    reader, writer = server.connect(small=True), server.connect()
+    script((reader, CREATE, ATOMIC), (reader, watch(), HERE_OK))
+    for number in range(400):
+        script((writer, ("transaction", [write(number % 5, b"v" * 4000)], 0), ("atomic", [OK])))
+    other, found = server.seated()
+    same("the seat", found[0], "tid")
+    same("what it said", server.ended(), "tabd: session 1 was idle\n")
+
+
+def logged(server):
+    """Each start, end, overflow and refusal of a seat has a line."""
+    log = server.process.stderr
+    reader = server.connect(small=True)
+    same("a start", log.readline(), "tabd: session 1 has started\n")
+    writer = server.connect()
+    same("another", log.readline(), "tabd: session 2 has started\n")
+    third = server.connect()
+    same("the third", (third.receive(), log.readline()), (LIMIT, "tabd: no seat for a connection\n"))
+    script((writer, CREATE, ATOMIC), (reader, watch(), HERE_OK))
+    for number in range(1, 201):
+        script((writer, ("transaction", [write(number % 5, b"v" * 4000)], 0), ("atomic", [OK])))
+    reader.socket.setsockopt(socket.SOL_SOCKET, socket.SO_RCVBUF, 1_048_576)
+    while (told := reader.event())[0] != "mnesia_overflow":
+        pass
+    same("an overflow", log.readline(), f"tabd: session 1 lost its events from commit {told[1]} on\n")
+    writer.break_off()
+    same("an end", log.readline(), "tabd: session 2 has ended\n")
+    reader.close()
+    same("another", log.readline(), "tabd: session 1 has ended\n")
+    same("what it said besides", server.ended(), "")
+
+
+# A name, how many seats, how many descriptors, what is done, and further words of the server.
 CASES = [
     ("the ninth is told", 8, None, the_ninth_is_told),
     ("tables outlive connections", 2, None, tables_outlive_connections),
     ("a thousand through a seat", 8, None, a_thousand_through_a_seat),
     ("no descriptor is left", 64, 20, no_descriptor_is_left),
+    ("idle", 3, None, idle, "--idle", "1"),
+    ("a reader that takes nothing", 2, None, stalled, "--idle", "1"),
+    ("a log", 2, None, logged, "--log", "--outbox", "16"),
 ]
 
 
-def fault(program, name, seats, files, case):
+def fault(program, name, seats, files, case, *more):
     try:
-        with Server(program, seats, files) as server:
+        with Server(program, seats, files, more) as server:
             case(server)
         return None
     except (Differs, OSError, ValueError) as error:

@@ -52,6 +52,8 @@ WORDS = [
     (["serve", "--port", "0", "--connections", "1", "--journal", "15"], 2, b"", b"error: "),
     (["serve", "--port", "0", "--connections", "1", "--journal", "65537"], 2, b"", b"error: "),
     (["serve", "--port", "0", "--connections", "1", "--outbox", "0"], 2, b"", b"error: "),
+    (["serve", "--port", "0", "--connections", "1", "--idle", "0"], 2, b"", b"error: "),
+    (["serve", "--port", "0", "--connections", "1", "--idle", "86401"], 2, b"", b"error: "),
     (["--version"], 0, b"tabd 0.1.0\n", b""),
     (["--help"], 0, b"A server of named in-memory tables", b""),
     (["replay", "--help"], 0, b"Answers the frames of standard input", b""),
@@ -226,8 +228,10 @@ def port_faults(program):
     """A port that another has."""
     with socket.create_server(("127.0.0.1", 0)) as taken:
         port = taken.getsockname()[1]
-        found = run(program, ["serve", "--port", str(port), "--connections", "1"], stdin=subprocess.DEVNULL, stdout=subprocess.PIPE)
-    yield None if found == (1, b"", DEVICE) else f"a port that is taken: {found}"
+        for more, wanted in (([], DEVICE), (["--log"], DEVICE + b"tabd: Address already in use (os error 98)\n")):
+            words = ["serve", "--port", str(port), "--connections", "1", *more]
+            found = run(program, words, stdin=subprocess.DEVNULL, stdout=subprocess.PIPE)
+            yield None if found == (1, b"", wanted) else f"a port that is taken, {more}: {found}"
 
 
 def main():

@@ -2,8 +2,9 @@
 
 use crate::connection::{Connection, Streams};
 use crate::events::event_loop;
-use crate::gate::Gate;
-use crate::requests::serve_session;
+use crate::gate::{Gate, Note};
+use crate::requests::{Ending, serve_session};
+use crate::settings::Settings;
 use crate::troubles::Troubles;
 use std::alloc::Global;
 use std::io::Write;
@@ -12,11 +13,10 @@ use std::sync::Wait;
 use std::thread::Threads;
 use std::{io, thread};
 use tab_book::{JoinFault, Seat, Shared};
-use tab_etf::{Counted, Target};
 use tab_model::{Limit, Reply};
 use tab_named::SeatInbox;
 use tab_names::House;
-use tab_proto::{Delivery, append_reply};
+use tab_proto::append_reply;
 
 /// Accepts so many connections, and serves each until its session has ended. Ends when all have; with an error where an
 /// accept failed, which ends the accepting.
@@ -26,13 +26,13 @@ pub fn serve<H: House + Threads + Send + Sync, G: Gate + Sync>(
     listener: &TcpListener,
     shared: &Shared<H>,
     connections: u32,
-    delivery: Delivery,
+    settings: Settings,
     gate: &G,
 ) -> io::Result<()> {
     thread::scope(thread::scope_env(), house, |scope| {
         for _ in 0..connections {
             let (stream, _peer) = listener.accept()?;
-            let Ok(streams) = Streams::of(stream, delivery) else {
+            let Ok(streams) = Streams::of(stream, settings) else {
                 continue;
             };
             let Ok((seat, inbox)) = shared.join(house) else {
@@ -50,31 +50,31 @@ pub fn serve<H: House + Threads + Send + Sync, G: Gate + Sync>(
 }
 
 /// Serves connections for good, at once as many as the book has room for sessions. One that finds no seat is told so and closed.
-/// Where an accept, a join or a thread is refused, the errors have a line, and it goes on after a pause.
-pub fn serve_forever<H: House + Threads + Send + Sync, G: Gate + Sync, E: Target>(
+/// Where an accept, a join or a thread is refused it says so, and goes on after a pause.
+pub fn serve_forever<H: House + Threads + Send + Sync, G: Gate + Sync>(
     house: &H,
     alloc: Global,
     listener: &TcpListener,
     shared: &Shared<H>,
-    delivery: Delivery,
+    settings: Settings,
     gate: &G,
-    errors: &mut E,
 ) {
-    let mut troubles = Troubles::new(errors);
+    let mut troubles = Troubles::new(gate);
     thread::scope(thread::scope_env(), house, |scope| {
         for _ in house.forever() {
-            let Ok(streams) = accepted(listener, delivery) else {
-                troubles.tell(house, "no connection was accepted");
+            let Ok(streams) = accepted(listener, settings) else {
+                troubles.tell(house, Note::NotAccepted);
                 continue;
             };
             let (seat, inbox) = match shared.join(house) {
                 Ok(joined) => joined,
                 Err(JoinFault::Limit) => {
+                    gate.note(Note::NoSeat);
                     turn_away(alloc, streams);
                     continue;
                 }
                 Err(JoinFault::NoMemory) => {
-                    troubles.tell(house, "no memory for a session");
+                    troubles.tell(house, Note::NoMemory);
                     continue;
                 }
             };
@@ -83,7 +83,7 @@ pub fn serve_forever<H: House + Threads + Send + Sync, G: Gate + Sync, E: Target
             });
             if started.is_err() {
                 shared.leave(house, &seat);
-                troubles.tell(house, "no thread for a session");
+                troubles.tell(house, Note::NoThread);
                 continue;
             }
             troubles.are_over();
@@ -91,9 +91,9 @@ pub fn serve_forever<H: House + Threads + Send + Sync, G: Gate + Sync, E: Target
     });
 }
 
-fn accepted(listener: &TcpListener, delivery: Delivery) -> io::Result<Streams> {
+fn accepted(listener: &TcpListener, settings: Settings) -> io::Result<Streams> {
     let (stream, _peer) = listener.accept()?;
-    Streams::of(stream, delivery)
+    Streams::of(stream, settings)
 }
 
 /// Who finds no seat is told so, and closed.
@@ -106,7 +106,7 @@ fn turn_away(alloc: Global, streams: Streams) {
 }
 
 /// Serves one session's connection until it has ended.
-fn serve_connection<H: House + Threads + Send + Sync, G: Gate>(
+fn serve_connection<H: House + Threads + Send + Sync, G: Gate + Sync>(
     house: &H,
     alloc: Global,
     shared: &Shared<H>,
@@ -115,27 +115,32 @@ fn serve_connection<H: House + Threads + Send + Sync, G: Gate>(
     streams: Streams,
     gate: &G,
 ) {
+    gate.note(Note::Started(seat.session()));
     let (connection, reader) = Connection::new(streams);
-    serve_streams(house, alloc, shared, seat, inbox, &connection, reader, gate);
+    let ending = serve_streams(house, alloc, shared, seat, inbox, &connection, reader, gate);
     shared.leave(house, seat);
+    if matches!(ending, Ending::Idle) || connection.has_stalled(house) {
+        gate.note(Note::Idle(seat.session()));
+    }
+    gate.note(Note::Ended(seat.session()));
 }
 
 /// Answers requests in this thread, beside one that sends events and one that watches. Nothing is answered where one of
 /// them can't be started.
-fn serve_streams<H: House + Threads + Send + Sync, G: Gate>(
+fn serve_streams<H: House + Threads + Send + Sync, G: Gate + Sync>(
     house: &H,
     alloc: Global,
     shared: &Shared<H>,
     seat: &Seat,
     mut inbox: SeatInbox<H>,
     connection: &Connection,
-    reader: TcpStream,
+    mut reader: TcpStream,
     gate: &G,
-) {
+) -> Ending {
     thread::scope(thread::scope_env(), house, |scope| {
         let watching = scope.spawn(move || connection.watch_for(house, shared, seat));
         if watching.is_err() {
-            return;
+            return Ending::Over;
         }
         let sending = scope.spawn(move || {
             event_loop(
@@ -146,14 +151,14 @@ fn serve_streams<H: House + Threads + Send + Sync, G: Gate>(
                 &mut inbox,
                 &connection.sink,
                 connection.delivery,
+                gate,
             );
             connection.close();
         });
         if sending.is_err() {
             connection.watch.stop(house);
-            return;
+            return Ending::Over;
         }
-        let mut reader = Counted::new(reader);
         serve_session(
             house,
             alloc,
@@ -163,6 +168,6 @@ fn serve_streams<H: House + Threads + Send + Sync, G: Gate>(
             &mut reader,
             &connection.sink,
             gate,
-        );
-    });
+        )
+    })
 }

@@ -1,5 +1,6 @@
 //! What the threads of a connection share.
 
+use crate::settings::Settings;
 use crate::watch::Watch;
 use std::io;
 use std::net::{Shutdown, TcpStream};
@@ -28,14 +29,18 @@ pub struct Streams {
 }
 
 impl Streams {
-    /// An error where no descriptor is left for one.
-    pub fn of(stream: TcpStream, delivery: Delivery) -> io::Result<Streams> {
+    /// An error where no descriptor is left for one, or a limit of time can't be set.
+    pub fn of(stream: TcpStream, settings: Settings) -> io::Result<Streams> {
         let _delayed = stream.set_nodelay(true);
+        if settings.idle.is_some() {
+            stream.set_read_timeout(settings.idle)?;
+            stream.set_write_timeout(settings.idle)?;
+        }
         Ok(Streams {
             reader: stream.try_clone()?,
             writer: stream.try_clone()?,
             stream,
-            delivery,
+            delivery: settings.delivery,
         })
     }
 }
@@ -66,16 +71,28 @@ impl Connection {
             if !self.watch.wanted(house) {
                 return;
             }
-            match self.stream.peek(&mut next) {
-                // An end that comes later, while no request waits, is for the thread that reads.
-                Ok(0) | Err(_) if self.watch.waits(house) => {
-                    shared.leave(house, seat);
-                    return;
+            let ended = match self.stream.peek(&mut next) {
+                Ok(0) => true,
+                Ok(_) => {
+                    self.watch.over(house);
+                    false
                 }
-                Ok(0) | Err(_) => {}
-                Ok(_) => self.watch.over(house),
+                // It waits for longer than it may be idle, which is not by its own doing.
+                Err(error) => !matches!(error.kind(), io::ErrorKind::WouldBlock),
+            };
+            // An end that comes later, while no request waits, is for the thread that reads.
+            if ended && self.watch.waits(house) {
+                shared.leave(house, seat);
+                return;
             }
         }
+    }
+
+    /// Whether the client has read nothing for longer than it may be idle: a write has failed, and the stream stands.
+    pub fn has_stalled<R: Wait>(&self, rt: &R) -> bool {
+        matches!(self.stream.write_timeout(), Ok(Some(_)))
+            && self.sink.is_broken(rt)
+            && self.stream.peer_addr().is_ok()
     }
 
     /// Nothing more is read or written, so that the thread that reads ends.

@@ -1,10 +1,12 @@
 //! The events of one connection.
 
 use crate::answers::Unwritten;
+use crate::gate::{Gate, Note};
 use crate::kept::{KEPT, empty};
 use std::alloc::Global;
 use std::io::Write;
 use tab_book::{Drained, Seat, Shared};
+use tab_model::Item;
 use tab_named::SeatInbox;
 use tab_names::House;
 use tab_proto::{Delivery, append_item, append_overflow};
@@ -12,7 +14,7 @@ use tab_sink::FrameSink;
 
 /// Sends what comes into the inbox, in order, until the session has left and nothing is left, or a write fails, or no
 /// memory is found for an event. Items that are there at once are written at once.
-pub fn event_loop<H: House, W: Write>(
+pub fn event_loop<H: House, W: Write, G: Gate>(
     house: &H,
     alloc: Global,
     shared: &Shared<H>,
@@ -20,85 +22,90 @@ pub fn event_loop<H: House, W: Write>(
     inbox: &mut SeatInbox<H>,
     sink: &FrameSink<W>,
     delivery: Delivery,
+    gate: &G,
 ) {
-    let mut frames = Vec::new(alloc);
+    let mut events = Events {
+        house,
+        shared,
+        seat,
+        inbox,
+        sink,
+        delivery,
+        gate,
+        frames: Vec::new(alloc),
+    };
     for _ in house.forever() {
-        let Some(item) = inbox.receive() else {
+        let Some(item) = events.inbox.receive() else {
             return;
         };
-        if append_item(&item, delivery, &mut frames).is_err()
-            || send_all(house, shared, seat, inbox, sink, delivery, &mut frames).is_err()
-        {
+        if events.send_from(&item).is_err() {
             return;
         }
     }
 }
 
-/// Sends what is kept and all that is there. A post refuses only where its mailbox is full, and what it held is received then before
-/// the inbox is found empty: where fewer items came than it may hold, nothing was refused, and the book need not be asked.
-fn send_all<H: House, W: Write>(
-    house: &H,
-    shared: &Shared<H>,
-    seat: &Seat,
-    inbox: &mut SeatInbox<H>,
-    sink: &FrameSink<W>,
+/// The events of a session on their way to its connection.
+#[derive(Drop)]
+struct Events<'a, H: House, W: Write, G: Gate> {
+    house: &'a H,
+    shared: &'a Shared<H>,
+    seat: &'a Seat,
+    inbox: &'a mut SeatInbox<H>,
+    sink: &'a FrameSink<W>,
     delivery: Delivery,
-    frames: &mut Vec<u8>,
-) -> Result<(), Unwritten> {
-    let mut count: usize = 1;
-    for _ in house.forever() {
-        let Some(item) = inbox.try_receive() else {
-            break;
-        };
-        append_item(&item, delivery, frames)?;
-        count = count.saturating_add(1);
-        send_long(house, sink, frames)?;
-    }
-    if count >= shared.outbox() {
-        keep_rest(house, shared, seat, inbox, sink, delivery, frames)?;
-    }
-    send(house, sink, frames)
+    gate: &'a G,
+    frames: Vec<u8>,
 }
 
-/// Keeps what is left, and an overflow that was not told yet.
-fn keep_rest<H: House, W: Write>(
-    house: &H,
-    shared: &Shared<H>,
-    seat: &Seat,
-    inbox: &mut SeatInbox<H>,
-    sink: &FrameSink<W>,
-    delivery: Delivery,
-    frames: &mut Vec<u8>,
-) -> Result<(), Unwritten> {
-    for _ in house.forever() {
-        match shared.drained(house, seat, inbox) {
-            Drained::Going(item) => append_item(&item, delivery, frames)?,
-            Drained::Overflow(number) => append_overflow(number, frames)?,
-            Drained::AllTaken | Drained::Left => return Ok(()),
+impl<'a, H: House, W: Write, G: Gate> Events<'a, H, W, G> {
+    /// Sends the item and all that is there behind it. A post refuses only where its mailbox is full, and what that held is
+    /// received then before the inbox is found empty: where fewer items came than it may hold, nothing was refused, and the
+    /// book need not be asked.
+    fn send_from(&mut self, first: &Item) -> Result<(), Unwritten> {
+        self.keep(first)?;
+        let mut count: usize = 1;
+        for _ in self.house.forever() {
+            let Some(item) = self.inbox.try_receive() else {
+                break;
+            };
+            self.keep(&item)?;
+            count = count.saturating_add(1);
         }
-        send_long(house, sink, frames)?;
+        if count >= self.shared.outbox() {
+            self.keep_rest()?;
+        }
+        self.send()
     }
-    unreachable!()
-}
 
-/// Sends what is kept, where it is long.
-fn send_long<H: House, W: Write>(
-    house: &H,
-    sink: &FrameSink<W>,
-    frames: &mut Vec<u8>,
-) -> Result<(), Unwritten> {
-    if frames.len() >= KEPT {
-        send(house, sink, frames)?;
+    /// Keeps what is left, and an overflow that was not told yet.
+    fn keep_rest(&mut self) -> Result<(), Unwritten> {
+        for _ in self.house.forever() {
+            match self.shared.drained(self.house, self.seat, self.inbox) {
+                Drained::Going(item) => self.keep(&item)?,
+                Drained::Overflow(number) => {
+                    self.gate
+                        .note(Note::Overflowed(self.seat.session(), number));
+                    append_overflow(number, &mut self.frames)?;
+                }
+                Drained::AllTaken | Drained::Left => return Ok(()),
+            }
+        }
+        unreachable!()
     }
-    Ok(())
-}
 
-fn send<H: House, W: Write>(
-    house: &H,
-    sink: &FrameSink<W>,
-    frames: &mut Vec<u8>,
-) -> Result<(), Unwritten> {
-    sink.send(house, frames)?;
-    empty(frames);
-    Ok(())
+    /// Keeps an item, until some are sent at once.
+    fn keep(&mut self, item: &Item) -> Result<(), Unwritten> {
+        append_item(item, self.delivery, &mut self.frames)?;
+        if self.frames.len() >= KEPT {
+            self.send()?;
+        }
+        Ok(())
+    }
+
+    /// Sends what is kept.
+    fn send(&mut self) -> Result<(), Unwritten> {
+        self.sink.send(self.house, &self.frames)?;
+        empty(&mut self.frames);
+        Ok(())
+    }
 }

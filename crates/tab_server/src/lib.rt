@@ -13,13 +13,15 @@ mod gate;
 mod kept;
 mod requests;
 mod seated;
+mod settings;
 mod troubles;
 mod watch;
 
 pub use accepting::{serve, serve_forever};
 pub use events::event_loop;
-pub use gate::{Gate, Open};
-pub use requests::serve_session;
+pub use gate::{Gate, Note, Open};
+pub use requests::{Ending, serve_session};
+pub use settings::Settings;
 pub use tab_proto::Delivery;
 pub use tab_sink::{FrameSink, Sink};
 pub use watch::Watch;

@@ -5,14 +5,15 @@ use crate::gate::Gate;
 use crate::seated::Seated;
 use crate::watch::Watch;
 use std::alloc::Global;
-use std::io::Write;
+use std::io::{ErrorKind, Read, Write};
 use tab_book::{Held, Seat, Shared};
-use tab_etf::{EtfFault, Frame, FrameFault, Source, Splitter, decode};
+use tab_etf::{EtfFault, Frame, FrameFault, Splitter, decode};
 use tab_model::{Command, Reply, Told};
 use tab_names::House;
 use tab_oneshot::{Steps, one_shot};
 use tab_proto::{ProtoFault, read_command};
 use tab_sink::FrameSink;
+use tab_term::{Term, Terms};
 
 /// The largest piece that is read at once.
 const PIECE: usize = 65_536;
@@ -28,9 +29,18 @@ pub struct Served<'a, H: House, W: Write, G: Gate> {
     pub answers: Answers<'a, W, G>,
 }
 
+/// Why no more requests of a session are answered.
+#[derive(Clone, Copy, Debug, PartialEq, Eq)]
+pub enum Ending {
+    /// No more came, or they could not be read or answered.
+    Over,
+    /// Its transaction was open, and none came in time.
+    Idle,
+}
+
 /// Answers the requests of a session in order, until its stream ends, a read or a write fails, a frame is too long or no
-/// memory is found for one. Then the session leaves.
-pub fn serve_session<H: House, R: Source, W: Write, G: Gate>(
+/// memory is found for one, or a read takes too long while its transaction is open. Then the session leaves.
+pub fn serve_session<H: House, R: Read, W: Write, G: Gate>(
     house: &H,
     alloc: Global,
     shared: &Shared<H>,
@@ -39,7 +49,7 @@ pub fn serve_session<H: House, R: Source, W: Write, G: Gate>(
     reader: &mut R,
     sink: &FrameSink<W>,
     gate: &G,
-) {
+) -> Ending {
     let mut served = Served {
         alloc,
         house,
@@ -48,25 +58,44 @@ pub fn serve_session<H: House, R: Source, W: Write, G: Gate>(
         watch,
         answers: Answers::new(alloc, sink, gate, seat.session()),
     };
-    let _ended = served.stream(reader);
+    let ending = match served.stream(reader) {
+        Ok(ending) => ending,
+        Err(Unwritten) => Ending::Over,
+    };
     shared.leave(house, seat);
     watch.stop(house);
+    ending
 }
 
 impl<'a, H: House, W: Write, G: Gate> Served<'a, H, W, G> {
-    fn stream<R: Source>(&mut self, reader: &mut R) -> Result<(), Unwritten> {
+    fn stream<R: Read>(&mut self, reader: &mut R) -> Result<Ending, Unwritten> {
         let mut splitter = Splitter::new(self.alloc);
         let Ok(mut piece) = vec![in self.alloc; 0u8; PIECE] else {
             return Err(Unwritten);
         };
         for _ in self.house.forever() {
-            let count = reader.get(&mut piece)?;
-            if count == 0 {
-                return Ok(());
+            match reader.read(&mut piece) {
+                Ok(0) => return Ok(Ending::Over),
+                Ok(count) => self.piece(&mut splitter, &piece[..count])?,
+                Err(error) if matches!(error.kind(), ErrorKind::WouldBlock) => {
+                    if self.ends_transaction() {
+                        return Ok(Ending::Idle);
+                    }
+                }
+                Err(_) => return Err(Unwritten),
             }
-            self.piece(&mut splitter, &piece[..count])?;
         }
         unreachable!()
+    }
+
+    /// Whether a transaction was open. An abort tells, which changes nothing where none is.
+    fn ends_transaction(&mut self) -> bool {
+        let reason = Term::List(Terms::from_vec(Vec::new(self.alloc)));
+        let abort = Command::Abort(reason);
+        match self.shared.step(self.house, &self.seat, abort) {
+            Ok(told) => !matches!(told.reply(), Reply::NoTransaction),
+            Err(_) => true,
+        }
     }
 
     /// Answers the frames that are whole with this piece.

@@ -1,34 +1,29 @@
-//! What keeps a server from accepting, told on standard error.
+//! What keeps a server from accepting.
 
+use crate::gate::{Gate, Note};
 use std::sync::{Condvar, Wait};
 use std::time::Duration;
-use tab_etf::{Target, give_all};
 
 /// So many milliseconds pass after each failure before it goes on.
 const PAUSE: u64 = 100;
 
-/// Failures to accept. Of several in a row the first has a line: a server that has no descriptor left would fill a log.
+/// Failures to accept. Of several in a row the first is told: a server that has no descriptor left would fill a log.
 #[derive(Drop)]
-pub struct Troubles<'e, E: Target> {
-    errors: &'e mut E,
+pub struct Troubles<'g, G: Gate> {
+    gate: &'g G,
     told: bool,
 }
 
-impl<'e, E: Target> Troubles<'e, E> {
-    pub fn new(errors: &'e mut E) -> Troubles<'e, E> {
-        Troubles {
-            errors,
-            told: false,
-        }
+impl<'g, G: Gate> Troubles<'g, G> {
+    pub fn new(gate: &'g G) -> Troubles<'g, G> {
+        Troubles { gate, told: false }
     }
 
-    /// A failure, behind which it pauses. No one is left to hear that the line failed.
-    pub fn tell<R: Wait>(&mut self, rt: &R, what: &str) {
+    /// A failure, behind which it pauses.
+    pub fn tell<R: Wait>(&mut self, rt: &R, note: Note) {
         if !self.told {
             self.told = true;
-            for part in ["tabd: ", what, "\n"] {
-                let _told = give_all(self.errors, part.as_bytes());
-            }
+            self.gate.note(note);
         }
         let pause = Condvar::new();
         pause.sleep(rt, pause.notifications(), Duration::from_millis(PAUSE));

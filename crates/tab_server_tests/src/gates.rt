@@ -16,7 +16,7 @@ use tab_book::{Book, Shared};
 use tab_model::Limits;
 use tab_names::{House, Naming, Opened};
 use tab_post::Line;
-use tab_server::{Delivery, Gate, serve};
+use tab_server::{Gate, Note, Settings, serve};
 
 pub const LIMITS: Limits = Limits {
     sessions: 64,
@@ -57,6 +57,10 @@ impl<R: Threads + Clock> Gate for Held<R> {
             self.answered.store(true, Ordering::SeqCst);
         }
     }
+
+    fn note(&self, _note: Note) {}
+
+    fn fault(&self, _error: &io::Error) {}
 }
 
 /// `{create_table, u, []}`, and the same of t.
@@ -93,8 +97,8 @@ fn serve_all<H: House + Threads + Send + Sync, G: Gate + Sync>(
     gate: &G,
     served: &AtomicU64,
 ) {
-    let delivery = Delivery::Events;
-    if serve(house, alloc, listener, shared, count, delivery, gate).is_ok() {
+    let plain = Settings::PLAIN;
+    if serve(house, alloc, listener, shared, count, plain, gate).is_ok() {
         served.fetch_add(1, Ordering::SeqCst);
     }
 }

@@ -18,7 +18,7 @@ use tab_model::{Command, Level, Operation, Reply, Schema};
 use tab_named::SeatInbox;
 use tab_names::{House, Naming, Opened};
 use tab_post::Line;
-use tab_server::{Delivery, FrameSink, event_loop};
+use tab_server::{Delivery, FrameSink, Open, event_loop};
 use tab_term::Terms;
 
 /// What is written, and whether writes are held.
@@ -190,6 +190,7 @@ fn send_events<H: House>(
         &mut inbox,
         &sink,
         Delivery::Events,
+        &Open,
     );
 }
 

@@ -60,4 +60,9 @@ impl<W: Write> FrameSink<W> {
     pub fn send<R: Wait>(&self, rt: &R, frames: &[u8]) -> Result<(), Broken> {
         self.sink.lock(rt).put(frames)
     }
+
+    /// Whether a write has failed.
+    pub fn is_broken<R: Wait>(&self, rt: &R) -> bool {
+        self.sink.lock(rt).broken
+    }
 }

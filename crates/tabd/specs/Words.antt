@@ -1,5 +1,5 @@
 -- The ranges of the numbers in the words (this project's own limits).
-use Rattle.std.specs.Prelude.{◌≤◌}
+use Rattle.std.specs.Prelude.{◌≤◌, ℕ, IfSome}
 use Rattle.tabd.specs.declared.serving.Sizes.{Sizes}
 use Rattle.tabd.specs.declared.words.Run.{Run}
 use Rattle.tabd.specs.declared.words.Run.TheVariants.{Replay, Serve}
@@ -7,6 +7,10 @@ use Rattle.tabd.specs.declared.words.Run.TheVariants.{Replay, Serve}
 abbrev pub AreSizes : Sizes → Type 0
 AreSizes s = (1 ≤ s.connections) × (s.connections ≤ 64) × (1 ≤ s.outbox) × (s.outbox ≤ 65536) × (16 ≤ s.journal) × (s.journal ≤ 65536)
 
+-- seconds
+abbrev pub IsIdle : ℕ → Type 0
+IsIdle s = (1 ≤ s) × (s ≤ 86400)
+
 abbrev pub AreInRange : Run → Type 0
 AreInRange (Replay outbox) = (1 ≤ outbox) × (outbox ≤ 65536)
-AreInRange (Serve port sizes forever delivery) = AreSizes sizes
+AreInRange (Serve port sizes forever delivery idle log) = AreSizes sizes × IfSome idle IsIdle

@@ -2,29 +2,40 @@
 #![tactic(auto)]
 
 mod ending;
+mod lines;
 mod running;
 mod serving;
 mod words;
 
+use lines::{Lines, Log};
 use running::run;
 use std::marker::Brand;
 use std::process::ExitCode;
 use tab_etf::Counted;
 use tab_names::Opened;
 use tab_session::{Ended, replay};
-use words::asked;
+use words::{Run, asked};
 
 fn main(rt: HostRuntime) -> ExitCode {
     let mut input = Counted::new(rt.stdin());
     let mut output = Counted::new(rt.stdout());
     let mut errors = Counted::new(rt.stderr());
+    let asked = asked(&rt);
+    let log = match asked {
+        Ok(Run::Serve { log, .. }) => log,
+        _ => Log::Brief,
+    };
+    let lines = Lines::new(rt, rt.alloc(), log, Counted::new(rt.stderr()));
     let opened = Opened::new();
-    run::<Brand, _, _, _, _>(
+    let status = run::<Brand, _, _, _, _, _>(
         &rt,
         opened,
-        asked(&rt),
+        asked,
         &mut input,
         &mut output,
         &mut errors,
-    )
+        &lines,
+    );
+    lines.put_reason();
+    status
 }

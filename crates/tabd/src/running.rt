@@ -7,7 +7,7 @@ ghost use Rattle.tabd.specs.declared.ending.End.{End as EndOf};
 ghost use Rattle.tabd.specs.Endings.{IfEnds, IfReplay, IsShown, IsTextFault, OnStreams, Plays, TellsEnd, end_of_words, line_of, status_of, streams};
 
 use crate::ending::{End, end_of_replay, end_of_words, line_of, status_of};
-use crate::serving::{listen, listen_forever};
+use crate::serving::{listen, listen_forever, settings};
 use crate::words::Run;
 use crate::{Ended, replay};
 use clap::Error;
@@ -19,16 +19,19 @@ use std::thread::Threads;
 use tab_etf::{Source, Target, give_all};
 use tab_names::{Naming, Opened};
 use tab_post::Line;
+use tab_server::Gate;
 
 /// Does what the words ask for, and gives the program's exit status. On the errors stands the line of this end and nothing
 /// else, but that of wrong words the parser's text stands there. Its text of what was asked for, as help, is put on the output.
-pub fn run<J, H, R, W, E>(
+/// What a server says while it goes on it says to the gate.
+pub fn run<J, H, R, W, E, G>(
     rt: &H,
     opened: Opened<Line>,
     asked: Result<Run, Error>,
     input: &mut R,
     output: &mut W,
     errors: &mut E,
+    gate: &G,
 ) -> ExitCode
 where
     J: Naming + Send + Sync,
@@ -42,6 +45,7 @@ where
     R: Source,
     W: Target,
     E: Target,
+    G: Gate + Sync,
     requires { opened ≡ J.book }
     ensures replayed { IfOk asked (λ words. (end : EndOf) × (exit_status result ≡ status_of end)
         × IfReplay words (λ outbox. Plays outbox (streams (R.remaining input.old) (W.contents output.old) (R.faults input.old) (W.faults output.old)) (streams (R.remaining input.new) (W.contents output.new) (R.faults input.new) (W.faults output.new)) end)
@@ -50,17 +54,18 @@ where
         × OnStreams (end_of_words (kind_of error)) (output.new ≡ output.old) (TellsEnd (line_of end) (E.contents errors.old) (E.contents errors.new) (E.faults errors.old) (E.faults errors.new))) }
     ensures input { OnErr asked (input.new ≡ input.old) }
 {
-    let end = perform::<J, H, R, W, E>(rt, opened, asked, input, output, errors);
+    let end = perform::<J, H, R, W, E, G>(rt, opened, asked, input, output, errors, gate);
     ExitCode::from(tell(errors, &end))
 }
 
-fn perform<J, H, R, W, E>(
+fn perform<J, H, R, W, E, G>(
     rt: &H,
     opened: Opened<Line>,
     asked: Result<Run, Error>,
     input: &mut R,
     output: &mut W,
     errors: &mut E,
+    gate: &G,
 ) -> End
 where
     J: Naming + Send + Sync,
@@ -74,6 +79,7 @@ where
     R: Source,
     W: Target,
     E: Target,
+    G: Gate + Sync,
     requires { opened ≡ J.book }
     ensures replayed { IfOk asked (λ words. IfReplay words (λ outbox. Plays outbox (streams (R.remaining input.old) (W.contents output.old) (R.faults input.old) (W.faults output.old)) (streams (R.remaining input.new) (W.contents output.new) (R.faults input.new) (W.faults output.new)) result)) }
     ensures quiet { IfOk asked (λ words. IfEnds words (errors.new ≡ errors.old)) }
@@ -87,28 +93,27 @@ where
             Run::Serve {
                 port,
                 sizes,
-                forever: false,
+                forever,
                 delivery,
-            },
-        ) => listen::<J, H, W>(*rt, rt.alloc(), opened, port, sizes, delivery, output),
-        Ok(
-            Run::Serve {
-                port,
-                sizes,
-                forever: true,
-                delivery,
+                idle,
+                log: _,
             },
         ) => {
-            listen_forever::<J, H, W, E>(
-                *rt,
-                rt.alloc(),
-                opened,
-                port,
-                sizes,
-                delivery,
-                output,
-                errors,
-            )
+            let settings = settings(delivery, idle);
+            if forever {
+                listen_forever::<J, H, W, G>(
+                    *rt,
+                    rt.alloc(),
+                    opened,
+                    port,
+                    sizes,
+                    settings,
+                    output,
+                    gate,
+                )
+            } else {
+                listen::<J, H, W, G>(*rt, rt.alloc(), opened, port, sizes, settings, output, gate)
+            }
         }
         Err(error) => show(rt.alloc(), &error, output, errors),
     }

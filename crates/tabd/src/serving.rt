@@ -7,15 +7,16 @@ use crate::ending::End;
 use std::alloc::{AllocError, Global};
 use std::io;
 use std::marker::PhantomData;
-use std::net::{Net, TcpListener, TcpStream};
+use std::net::{Net, SocketAddr, TcpListener, TcpStream};
 use std::sync::Wait;
 use std::thread::Threads;
+use std::time::Duration;
 use tab_book::{Book, Shared};
 use tab_etf::{Target, give_all};
 use tab_model::Limits;
 use tab_names::{House, Naming, Opened};
 use tab_post::Line;
-use tab_server::{Delivery, Open, serve, serve_forever};
+use tab_server::{Delivery, Gate, Settings, serve, serve_forever};
 
 /// What a server is given: how many connections it accepts, how many items wait for a session, how many entries stand.
 #[derive(Clone, Copy)]
@@ -42,23 +43,34 @@ const fn limits(sessions: u32, journal: u32) -> Limits
     }
 }
 
+/// How connections are served, by what the words say.
+pub fn settings(delivery: Delivery, idle: Option<u32>) -> Settings {
+    let idle = match idle {
+        Some(seconds) if seconds > 0 => Some(Duration::from_secs(u64::from(seconds))),
+        _ => None,
+    };
+    Settings { delivery, idle }
+}
+
 /// Listens on the port, says so, and serves until all sessions have ended.
-pub fn listen<J, R, W>(
+pub fn listen<J, R, W, G>(
     rt: R,
     alloc: Global,
     opened: Opened<Line>,
     port: u16,
     sizes: Sizes,
-    delivery: Delivery,
+    settings: Settings,
     output: &mut W,
+    gate: &G,
 ) -> End
 where
     J: Naming + Send + Sync,
     R: Net<Listener = TcpListener, Stream = TcpStream> + Threads + Wait + Copy + Send + Sync,
     W: Target,
+    G: Gate + Sync,
     requires { opened ≡ J.book }
 {
-    let listener = match listening(&rt, alloc, port, output) {
+    let listener = match listening(&rt, alloc, port, output, gate) {
         Ok(listener) => listener,
         Err(ended) => return End::Stopped(ended),
     };
@@ -68,33 +80,37 @@ where
         opened,
         &listener,
         sizes,
-        delivery,
+        settings,
+        gate,
     ) {
         Ok(Ok(())) => End::Done,
-        Ok(Err(_)) => End::Stopped(Ended::Device),
+        Ok(Err(error)) => {
+            gate.fault(&error);
+            End::Stopped(Ended::Device)
+        }
         Err(_) => End::Stopped(Ended::NoMemory),
     }
 }
 
 /// Listens on the port, says so, and serves for good. It ends where it can't begin.
-pub fn listen_forever<J, R, W, E>(
+pub fn listen_forever<J, R, W, G>(
     rt: R,
     alloc: Global,
     opened: Opened<Line>,
     port: u16,
     sizes: Sizes,
-    delivery: Delivery,
+    settings: Settings,
     output: &mut W,
-    errors: &mut E,
+    gate: &G,
 ) -> End
 where
     J: Naming + Send + Sync,
     R: Net<Listener = TcpListener, Stream = TcpStream> + Threads + Wait + Copy + Send + Sync,
     W: Target,
-    E: Target,
+    G: Gate + Sync,
     requires { opened ≡ J.book }
 {
-    let listener = match listening(&rt, alloc, port, output) {
+    let listener = match listening(&rt, alloc, port, output, gate) {
         Ok(listener) => listener,
         Err(ended) => return End::Stopped(ended),
     };
@@ -104,8 +120,8 @@ where
         opened,
         &listener,
         sizes,
-        delivery,
-        errors,
+        settings,
+        gate,
     ) {
         Ok(()) => End::Done,
         Err(_) => End::Stopped(Ended::NoMemory),
@@ -113,14 +129,25 @@ where
 }
 
 /// Says which port it is, at once, so that clients can connect.
-fn listening<R: Net<Listener = TcpListener, Stream = TcpStream>, W: Target>(
+fn listening<R, W, G>(
     rt: &R,
     alloc: Global,
     port: u16,
     output: &mut W,
-) -> Result<TcpListener, Ended> {
-    let listener = TcpListener::bind(rt, ("127.0.0.1", port)).map_err(|_| Ended::Device)?;
-    let address = listener.local_addr().map_err(|_| Ended::Device)?;
+    gate: &G,
+) -> Result<TcpListener, Ended>
+where
+    R: Net<Listener = TcpListener, Stream = TcpStream>,
+    W: Target,
+    G: Gate,
+{
+    let (listener, address) = match bound(rt, port) {
+        Ok(bound) => bound,
+        Err(error) => {
+            gate.fault(&error);
+            return Err(Ended::Device);
+        }
+    };
     let line = format!(in alloc; "listening on 127.0.0.1:{}\n", address.port());
     let line = line.map_err(|_| Ended::NoMemory)?;
     give_all(output, line.as_bytes())?;
@@ -128,13 +155,23 @@ fn listening<R: Net<Listener = TcpListener, Stream = TcpStream>, W: Target>(
     Ok(listener)
 }
 
-fn run<H: House + Threads + Send + Sync>(
+fn bound<R: Net<Listener = TcpListener, Stream = TcpStream>>(
+    rt: &R,
+    port: u16,
+) -> io::Result<(TcpListener, SocketAddr)> {
+    let listener = TcpListener::bind(rt, ("127.0.0.1", port))?;
+    let address = listener.local_addr()?;
+    Ok((listener, address))
+}
+
+fn run<H: House + Threads + Send + Sync, G: Gate + Sync>(
     house: H,
     alloc: Global,
     opened: Opened<Line>,
     listener: &TcpListener,
     sizes: Sizes,
-    delivery: Delivery,
+    settings: Settings,
+    gate: &G,
 ) -> Result<io::Result<()>, AllocError>
     requires { opened ≡ H.book }
 {
@@ -147,25 +184,25 @@ fn run<H: House + Threads + Send + Sync>(
         listener,
         &shared,
         sizes.connections,
-        delivery,
-        &Open,
+        settings,
+        gate,
     ))
 }
 
-fn run_forever<H: House + Threads + Send + Sync, E: Target>(
+fn run_forever<H: House + Threads + Send + Sync, G: Gate + Sync>(
     house: H,
     alloc: Global,
     opened: Opened<Line>,
     listener: &TcpListener,
     sizes: Sizes,
-    delivery: Delivery,
-    errors: &mut E,
+    settings: Settings,
+    gate: &G,
 ) -> Result<(), AllocError>
     requires { opened ≡ H.book }
 {
     let limits = limits(sizes.connections, sizes.journal);
     let book = Book::new(house, alloc, opened, limits, sizes.outbox as usize)?;
     let shared = Shared::new(book);
-    serve_forever(&house, alloc, listener, &shared, delivery, &Open, errors);
+    serve_forever(&house, alloc, listener, &shared, settings, gate);
     Ok(())
 }

@@ -1,8 +1,9 @@
 //! The words of the command line.
 
-ghost use Rattle.std.specs.Prelude.{◌≤◌, IfOk};
-ghost use Rattle.tabd.specs.Words.{AreInRange, AreSizes};
+ghost use Rattle.std.specs.Prelude.{◌≤◌, IfOk, IfSome};
+ghost use Rattle.tabd.specs.Words.{AreInRange, AreSizes, IsIdle};
 
+use crate::lines::Log;
 use crate::serving::Sizes;
 use clap::error::ErrorKind;
 use clap::{Arg, ArgAction, ArgMatches, Command, Error, value_parser};
@@ -25,6 +26,9 @@ pub enum Run {
         sizes: Sizes,
         forever: bool,
         delivery: Delivery,
+        /// So many seconds a session may be idle.
+        idle: Option<u32>,
+        log: Log,
     },
 }
 
@@ -66,6 +70,18 @@ fn serve<'a>(alloc: Global) -> Result<Command<'a>, AllocError> {
         .long("batches")
         .help("A commit's events come in one frame, with the commit's number")
         .action(ArgAction::SetTrue);
+    let idle = Arg::new(alloc, "idle")
+        .long("idle")
+        .value_name("SECONDS")
+        .help(
+            "A session with an open transaction, or that reads nothing, is ended where nothing comes from it for so long, 1 to 86400",
+        )
+        .action(ArgAction::Set)
+        .value_parser(value_parser!(u32).range(1..=86_400));
+    let log = Arg::new(alloc, "log")
+        .long("log")
+        .help("Each session's start and end has a line on standard error, and why the server ends")
+        .action(ArgAction::SetTrue);
     Command::new(alloc, "serve")
         .about("Serves each connection to a port as a session")
         .arg(port)?
@@ -73,7 +89,9 @@ fn serve<'a>(alloc: Global) -> Result<Command<'a>, AllocError> {
         .arg(outbox(alloc))?
         .arg(journal)?
         .arg(forever)?
-        .arg(batches)
+        .arg(batches)?
+        .arg(idle)?
+        .arg(log)
 }
 
 fn command<'a>(alloc: Global) -> Result<Command<'a>, AllocError> {
@@ -99,6 +117,8 @@ pub fn read_words<'a, S: AsStr>(alloc: Global, words: &'a [S]) -> Result<Run, Er
             sizes: sizes(serve),
             forever: serve.get_flag("forever"),
             delivery: delivery(serve),
+            idle: idle(serve),
+            log: log(serve),
         });
     }
     Ok(Run::Replay {
@@ -114,6 +134,23 @@ fn delivery(matches: &ArgMatches<'_>) -> Delivery {
         Delivery::Batches
     } else {
         Delivery::Events
+    }
+}
+
+fn log(matches: &ArgMatches<'_>) -> Log {
+    if matches.get_flag("log") {
+        Log::Full
+    } else {
+        Log::Brief
+    }
+}
+
+fn idle(matches: &ArgMatches<'_>) -> Option<u32>
+    ensures { IfSome result IsIdle }
+{
+    match matches.get_one("idle") {
+        Some(seconds) if 1 <= seconds && seconds <= 86_400 => Some(seconds),
+        _ => None,
     }
 }
 

@@ -1,5 +1,5 @@
--- The handle may go to another thread, and be shared, as the function that starts the thread asks.
-use denote.Param.Send.{copied_send, copied_sync}
+-- The handle may go to another thread, and it and the gate be shared, as the function that starts the thread asks.
+use denote.Param.Send.{copied_send, copied_sync, param_sync}
 use Rattle.tab_server.proofs.accepting.fn.serve.fn.scope.spawn.Goals as goal
 
 pub serve_connection-requires-send-H : goal.serve_connection-requires-send-H
@@ -10,4 +10,9 @@ serve_connection-requires-send-H g c κs within =
 pub serve_connection-requires-sync-H : goal.serve_connection-requires-sync-H
 serve_connection-requires-sync-H g c κs within =
     let seen = copied_sync 0 g.row.H c.requires.1.1.1 in
+    record { shared = seen.shared }
+
+pub serve_connection-requires-sync-G : goal.serve_connection-requires-sync-G
+serve_connection-requires-sync-G g c κs within =
+    let seen = param_sync 1 g.row.G c.requires.1.1.2 in
     record { shared = seen.shared }

@@ -1,0 +1,99 @@
+//! What a server says while it goes on, on standard error.
+
+use std::alloc::Global;
+use std::io;
+use std::sync::{Mutex, Wait};
+use tab_etf::{Target, give_all};
+use tab_server::{Gate, Note};
+
+/// What of a server's notes has a line.
+#[derive(Clone, Copy, Debug, PartialEq, Eq)]
+pub enum Log {
+    /// What keeps it from serving, and whom it ends.
+    Brief,
+    /// Each session's start and end too, and why the server ends.
+    Full,
+}
+
+/// A device for lines, of which each is whole.
+#[derive(Drop)]
+pub struct Lines<R, E> {
+    rt: R,
+    alloc: Global,
+    log: Log,
+    device: Mutex<E>,
+    /// Why the server ends.
+    reason: Mutex<Option<String>>,
+}
+
+impl<R: Wait, E: Target> Lines<R, E> {
+    pub fn new(rt: R, alloc: Global, log: Log, device: E) -> Lines<R, E> {
+        Lines {
+            rt,
+            alloc,
+            log,
+            device: Mutex::new(device),
+            reason: Mutex::new(None),
+        }
+    }
+
+    /// Why the server has ended, behind the line of its end.
+    pub fn put_reason(&self) {
+        if let Some(reason) = self.reason.lock(&self.rt).take() {
+            self.put(&reason);
+        }
+    }
+
+    /// No one is left to hear that a line failed.
+    fn put(&self, line: &str) {
+        let mut device = self.device.lock(&self.rt);
+        let _told = give_all(&mut *device, line.as_bytes());
+    }
+
+    fn put_of(&self, session: u32, what: &str) {
+        if let Ok(line) = format!(in self.alloc; "tabd: session {session} {what}\n") {
+            self.put(&line);
+        }
+    }
+
+    /// Of a session, where sessions have lines.
+    fn log_of(&self, session: u32, what: &str) {
+        if matches!(self.log, Log::Full) {
+            self.put_of(session, what);
+        }
+    }
+
+    fn log_overflow(&self, session: u32, commit: u64) {
+        if let Ok(what) = format!(in self.alloc; "lost its events from commit {commit} on") {
+            self.log_of(session, &what);
+        }
+    }
+}
+
+impl<R: Wait, E: Target> Gate for Lines<R, E> {
+    fn before(&self, _session: u32, _call: u64) {}
+
+    fn after(&self, _session: u32, _call: u64) {}
+
+    fn note(&self, note: Note) {
+        match note {
+            Note::NotAccepted => self.put("tabd: no connection was accepted\n"),
+            Note::NoMemory => self.put("tabd: no memory for a session\n"),
+            Note::NoThread => self.put("tabd: no thread for a session\n"),
+            Note::Idle(session) => self.put_of(session, "was idle"),
+            Note::Started(session) => self.log_of(session, "has started"),
+            Note::Ended(session) => self.log_of(session, "has ended"),
+            Note::Overflowed(session, commit) => self.log_overflow(session, commit),
+            Note::NoSeat if matches!(self.log, Log::Full) => {
+                self.put("tabd: no seat for a connection\n");
+            }
+            Note::NoSeat => {}
+        }
+    }
+
+    fn fault(&self, error: &io::Error) {
+        if matches!(self.log, Log::Full) {
+            *self.reason.lock(&self.rt) = format!(in self.alloc; "tabd: {error}\n").ok();
+        }
+    }
+}
