@@ -1,0 +1,341 @@
+#!/usr/bin/env python3
+"""What the documents name is there, and the bytes that docs/PROTOCOL.md prints are what the built program answers.
+
+    documents.py PROGRAM
+
+Of README.md, CONTRIBUTING.md, docs/*.md and the clients' README.md: each file that is named in backticks or by a link is in the
+repository; so is each crate, function, type and definition (`Type::function` in an `impl` of that type, in a table's row that names one
+file in that file, and under a heading of a crate as a word of its code, or of tab_model's or tab_proto's); each `--option` is in the program's help, in that of `rt`, or in the text of
+a script that the same line names. docs/MAP.md has each file of definitions. The frames of docs/PROTOCOL.md, "Bytes", are sent as they stand
+there, and spell the terms beside them. One line tells each that differs; the last line is `N passed, M failed`, and the status 1 where one
+failed. It takes some seconds.
+"""
+
+import glob
+import io
+import os
+import re
+import socket
+import subprocess
+import sys
+
+HERE = os.path.dirname(os.path.abspath(__file__))
+TOP = os.path.dirname(HERE)
+sys.path.insert(0, os.path.join(TOP, "examples"))
+from frames import frame, read, spell, take  # noqa: E402
+
+DOCUMENTS = ["README.md", "CONTRIBUTING.md", "docs/*.md", "clients/*/README.md"]
+
+# What a document names and the repository doesn't have, with the reason.
+ELSEWHERE = {
+    "crates/tabd/out/tabd": "the program, once it is built",
+    "path/to/tabd": "the same, for a client's reader",
+    "out/": "what a check keeps",
+    "BUILD.bazel": "what rt new writes",
+    "WHAT_IT_DOES.edit": "a name that stands for others",
+    "F/float": "a segment of a binary",
+    "Vec::push_reserved": "a function of the kit",
+    "anyhow": "a crate of the kit",
+    "crossbeam_channel": "a crate of the kit",
+}
+# Documents whose names are not of this repository's code: words of a protocol, which are looked for in it, or functions of Mnesia, which
+# aren't.
+PROTOCOL, MNESIA = "docs/PROTOCOL.md", "docs/MNESIA.md"
+# Programs whose options are theirs, where they stand before them in a line.
+OTHERS = ("erlc", "pip", "mypy", "redis-server", "apt-get")
+# Crates whose words each document of a crate may say: definitions and commands.
+SHARED = ("tab_model", "tab_proto")
+
+SPAN = re.compile(r"`([^`\n]+)`")
+LINK = re.compile(r"\]\(([^)#:\s]+)\)")
+FENCE = re.compile(r"^```.*?^```", re.M | re.S)
+WORD = re.compile(r"[^\W\d]\w*")
+OPTION = re.compile(r"(?<![\w-])--[a-z][a-z-]*")
+PATH = re.compile(r"[\w.*-]*(?:/[\w.*-]+)+/?|[\w.-]+/|[\w*-]+\.(?:py|rt|md|tsv|txt|erl|edit|escript|c|bazel)")
+ARITY = re.compile(r"\w+/\d(,\d)*")
+NAME = re.compile(r"[^\W\d]\w*(::[^\W\d]\w*)?")
+SECTION = re.compile(r"## (\w+):")
+COMMENT = {".rt": re.compile(r"//.*"), ".antt": re.compile(r"--.*"), ".py": re.compile(r"^\s*#.*", re.M), ".erl": re.compile(r"%.*")}
+TYPE = re.compile(r"(?:pub(?:\(crate\))? )?(?:struct|enum|trait|record) (\w+)")
+MEMBER = re.compile(r"(?:  ){1,2}(?:pub(?:\(crate\))? )?(?:const )?(?:fn )?(\w+)")
+ESCAPE = re.compile(r"\\x[0-9a-f]{2}")
+BYTES = re.compile(r"[0-9A-F]{8}(?: [0-9A-F]+)*")
+FRAME = re.compile(rf"    ([<>]) (.*?)(?:\s+({BYTES.pattern}))?")
+JOINS = re.compile(r"    \((\d+) to (\d+) join in the same way\)")
+TOKEN = re.compile(r"<<|>>|[{}\[\],]|-?\d+|[a-z][\w@]*|'[^']*'")
+
+
+class Tree:
+    """The repository's files, the words of each crate's or folder's code, and the functions of each type."""
+
+    def __init__(self):
+        self.files, self.words, self.owned, self.texts = set(), {}, {}, {}
+        for folder, below, names in os.walk(TOP):
+            below[:] = [it for it in below if it not in (".git", "out", "__pycache__")]
+            self.files |= {os.path.relpath(os.path.join(folder, name), TOP) for name in names}
+        for path in self.files:
+            self.add(path)
+        self.all = set().union(*self.words.values())
+
+    def add(self, path):
+        parts, (stem, ending) = path.split(os.sep), os.path.splitext(os.path.basename(path))
+        words = self.words.setdefault(parts[1] if parts[0] == "crates" and len(parts) > 2 else parts[0], set())
+        # A module of specs or proofs is named as its file, an edit too.
+        words |= {stem, *parts[:-1]}
+        if ending in (*COMMENT, ".edit", ".escript") or parts[0] == ".ci":
+            with open(os.path.join(TOP, path), encoding="utf-8") as file:
+                text = file.read()
+            self.texts[path] = text
+            if ending in COMMENT:
+                text = COMMENT[ending].sub("", text)
+            if path != os.path.relpath(__file__, TOP):
+                words |= set(WORD.findall(ESCAPE.sub(" ", text)))
+            if ending in (".rt", ".antt"):
+                self.own(text)
+
+    def own(self, text):
+        """Functions, variants and fields stand one step in, under the head of their type."""
+        owner = None
+        for line in text.split("\n"):
+            if line.startswith("impl") or TYPE.match(line):
+                owner = owner_of(line)
+            elif owner and (found := MEMBER.match(line)):
+                self.owned.setdefault(owner, set()).add(found[1])
+
+    def has(self, path, document):
+        """A path stands below the top, the crates, or the document's own folder; a definition's without its ending."""
+        place = re.sub(r"\b[A-Z_]{2,}\b", "*", path).rstrip("/")
+        for base in ("", "crates", "crates/*", "crates/*/src", "clients/*", os.path.dirname(document)):
+            if any(glob.glob(os.path.join(TOP, base, place + ending)) for ending in ("", ".antt", ".rt")):
+                return True
+        return False
+
+
+def owner_of(head):
+    """The type of an impl's first line, without the parameters of either, or of its own definition."""
+    if found := TYPE.match(head):
+        return found[1]
+    while head != (bare := re.sub(r"<[^<>]*>", "", head.replace("->", ""))):
+        head = bare
+    found = re.match(r"impl (?:.* for )?&?(?:mut )?(\w+)", head)
+    return found and found[1]
+
+
+class Document:
+    def __init__(self, path, tree):
+        self.path, self.tree, self.faults, self.count = path, tree, [], 0
+        with open(os.path.join(TOP, path), encoding="utf-8") as file:
+            self.text = file.read()
+
+    def check(self, right, what):
+        self.count += 1
+        if not right:
+            self.faults.append(f"{self.path}: {what}")
+
+    def names(self):
+        section = None
+        for line in FENCE.sub("", self.text).split("\n"):
+            if line.startswith("## "):
+                head = SECTION.match(line)
+                section = head[1] if head and head[1] in self.tree.words else None
+            for path in LINK.findall(line):
+                self.check(self.tree.has(path, self.path), f"no file {path}")
+            spans = SPAN.findall(line)
+            files = [it for it in spans if line.startswith("|") and it.endswith(".rt") and self.tree.has(it, self.path)]
+            crates = {section} | {crate for crate in self.tree.words if re.search(rf"\b{re.escape(crate)}\b", line)}
+            for span in spans:
+                self.span(span, section and crates, files)
+
+    def span(self, span, crates, files):
+        if span in ELSEWHERE:
+            return
+        if self.path == MNESIA and ARITY.fullmatch(span):
+            return
+        if NAME.fullmatch(span) and not PATH.fullmatch(span):
+            return self.name(span, crates, files)
+        for path in PATH.findall(span):
+            if path not in ELSEWHERE and not ARITY.fullmatch(path):
+                self.check(self.tree.has(path, self.path), f"no file {path}")
+        if self.path == PROTOCOL:
+            for word in re.findall(r"(?<![\w.])[a-z_]\w+", OPTION.sub("", PATH.sub("", span))):
+                self.check(word in self.tree.all, f"no word {word}")
+
+    def name(self, name, crates, files):
+        """A type's function in its type; another name in the row's one file, or in the crates that the line may speak of."""
+        if self.path == MNESIA or self.path == PROTOCOL and name[0].isupper():
+            return
+        owner, _, last = name.rpartition("::")
+        if owner:
+            self.check(last in self.tree.owned.get(owner, ()), f"no {name}")
+        if len(files) == 1:
+            texts = [self.tree.texts[it] for it in self.tree.texts if it.endswith("/" + files[0])]
+            self.check(any(re.search(rf"\bfn {last}\b", text) for text in texts), f"no {name} in {files[0]}")
+        elif not owner:
+            places = {*crates, *SHARED} if crates else self.tree.words
+            self.check(name in self.tree.words or any(name in self.tree.words.get(it, ()) for it in places), f"no name {name}")
+
+    def options(self, program, rt):
+        for line in self.text.split("\n"):
+            for found in OPTION.finditer(line):
+                option, before = found[0], line[: found.start()]
+                if any(re.search(rf"\b{other}\b", before) for other in OTHERS):
+                    continue
+                scripts = [text for path, text in self.tree.texts.items() if os.path.basename(path) in re.findall(r"[\w.]+", before)]
+                own = before.rpartition("`")[2] if before.count("`") % 2 else before
+                of_rt = rt is None or re.search(rf"{option}\b", rt)
+                known = option in program or any(option in text for text in scripts) or "rt " in own and of_rt
+                self.check(known, f"no option {option}")
+
+
+def unlisted(tree):
+    """The files of specs that docs/MAP.md doesn't have: a row names one whole, and its neighbours by their last part."""
+    with open(os.path.join(TOP, "docs/MAP.md"), encoding="utf-8") as file:
+        rows, named = [line for line in file if line.startswith("|")], set()
+    for row in rows:
+        folder = ""
+        for span in SPAN.findall(row):
+            folder = os.path.dirname(span) or folder
+            named.add(os.path.join("crates", folder, os.path.basename(span)) + ".antt")
+    return sorted(it for it in tree.files if re.fullmatch(r"crates/\w+/specs/(?!Lib)\w+\.antt", it) and it not in named)
+
+
+def text_of(words):
+    """What a program prints; None where it isn't there."""
+    try:
+        return subprocess.run(words, stdout=subprocess.PIPE, stderr=subprocess.STDOUT, text=True, check=False).stdout
+    except OSError:
+        return None
+
+
+def term_of(text):
+    """A term as Erlang writes it."""
+    tokens = TOKEN.findall(text)
+
+    def term(at):
+        word = tokens[at]
+        close = {"{": "}", "[": "]", "<<": ">>"}.get(word)
+        if close is None:
+            return (int(word) if word.lstrip("-").isdigit() else word.strip("'")), at + 1
+        members, at = [], at + 1
+        while tokens[at] != close:
+            member, at = term(at + (tokens[at] == ","))
+            members.append(member)
+        return {"{": tuple, "[": list, "<<": bytes}[word](members), at + 1
+
+    return term(0)[0]
+
+
+class Listing:
+    """Frames that are asked and told, from a first one on, and the terms beside them."""
+
+    def __init__(self, lines):
+        self.asked, self.told, self.terms = [], [], []
+        for line in lines:
+            if joins := JOINS.fullmatch(line):
+                for session in range(int(joins[1]), int(joins[2]) + 1):
+                    self.asked.append(frame((session, "join")))
+                    self.told.append(frame((session, "ok")))
+            else:
+                side, text, digits = FRAME.fullmatch(line).groups()
+                data = bytes.fromhex(digits)
+                (self.asked if side == ">" else self.told).append(data)
+                self.terms.append((text, data))
+
+    def is_served(self):
+        return self.told[0][5:].startswith(spell(("reply", "ok"))[:9])
+
+
+def listings(text):
+    """Of the page, those blocks whose lines have frames. Bytes that don't fit beside their term stand on the next line."""
+    text = re.sub(rf"\n +(?={BYTES.pattern}$)", "  ", text, flags=re.M)
+    for block in re.findall(r"(?:^    .*\n)+", text, re.M):
+        if BYTES.search(block):
+            yield Listing(block.rstrip("\n").split("\n"))
+
+
+def frames_of(data):
+    stream, frames = io.BytesIO(data), []
+    while head := stream.read(4):
+        frames.append(head + take(stream, int.from_bytes(head, "big")))
+    return frames
+
+
+def served(program, listing):
+    """What a connection is told: replies, and what comes between them, which no order ties to them."""
+    server = subprocess.Popen([program, "serve", "--port", "0", "--connections", "1"], stdout=subprocess.PIPE)
+    try:
+        port = int(server.stdout.readline().rsplit(b":", 1)[1])
+        with socket.create_connection(("127.0.0.1", port), 10) as connection:
+            connection.sendall(b"".join(listing.asked))
+            connection.shutdown(socket.SHUT_WR)
+            return frames_of(b"".join(iter(lambda: connection.recv(65_536), b"")))
+    finally:
+        server.kill()
+        server.wait()
+
+
+def replayed(program, given):
+    return frames_of(subprocess.run([program, "replay"], input=given, capture_output=True, check=False).stdout)
+
+
+def parted(frames):
+    """Replies, and other frames."""
+    is_reply = lambda it: it[5:].startswith(spell(("reply", "ok"))[:9])
+    return [it for it in frames if is_reply(it)], [it for it in frames if not is_reply(it)]
+
+
+def listing_faults(program, listing):
+    for text, data in listing.terms:
+        wanted = bytes(4) if text == "an empty payload" else frame(term_of(text))
+        if data != wanted:
+            yield f"{text}: its bytes are {wanted.hex()}"
+    told = served(program, listing) if listing.is_served() else replayed(program, b"".join(listing.asked))
+    pairs = zip(parted(told), parted(listing.told)) if listing.is_served() else [(told, listing.told)]
+    for found, wanted in pairs:
+        if found != wanted:
+            at = next((at for at, pair in enumerate(zip(found, wanted)) if pair[0] != pair[1]), min(len(found), len(wanted)))
+            shown = [read(io.BytesIO(it[at][5:])) if at < len(it) else None for it in (found, wanted)]
+            yield f"frame {at + 1}: the program tells {shown[0]} ({found[at].hex() if at < len(found) else ''}), the page {shown[1]}"
+
+
+def term_faults(program, text):
+    """The table of single terms: each is told back, as the reason of an abort, as it stands there."""
+    rows = re.findall(r"^\| (`[^|]*` \| `[0-9A-F ]+` \|.*)$", text, re.M)
+    cells = [cell for row in rows for cell in re.findall(r"`([^`]*)`", row)]
+    terms = [(term, bytes.fromhex(digits)) for term, digits in zip(cells[::2], cells[1::2])]
+    asked = [frame((1, "join"))]
+    for _, data in terms:
+        payload = b"\x83" + spell((1, ("abort", 0)))[:-2] + data
+        asked += [frame((1, "begin")), len(payload).to_bytes(4, "big") + payload]
+    for (term, data), told in zip(terms, replayed(program, b"".join(asked))[2::2]):
+        if spell(term_of(term)) != data or not told.endswith(spell((1, ("aborted", 0)))[:-2] + data):
+            yield f"{term}: the program writes {told.hex()}, and its bytes are {spell(term_of(term)).hex()}"
+
+
+def main():
+    if len(sys.argv) != 2:
+        sys.exit(__doc__)
+    program, tree = os.path.abspath(sys.argv[1]), Tree()
+    helps = "".join(text_of([program, *words, "--help"]) for words in ([], ["serve"], ["replay"])) + "--help --version"
+    rt, faults, count = text_of(["rt", "help"]), [], 0
+    faults += [f"docs/MAP.md: nothing of {it}" for it in unlisted(tree)]
+    for path in sorted(os.path.relpath(it, TOP) for pattern in DOCUMENTS for it in glob.glob(os.path.join(TOP, pattern))):
+        document = Document(path, tree)
+        document.names()
+        document.options(helps, rt)
+        faults += document.faults
+        count += document.count
+        if path == PROTOCOL:
+            pages = list(listings(document.text))
+            for listing in pages:
+                faults += [f"{path}: {it}" for it in listing_faults(program, listing)]
+            faults += [f"{path}: {it}" for it in term_faults(program, document.text)]
+            count += sum(len(it.terms) for it in pages)
+    for fault in faults:
+        print(fault)
+    print(f"{count - len(faults)} passed, {len(faults)} failed")
+    sys.exit(1 if faults or not count else 0)
+
+
+if __name__ == "__main__":
+    main()
