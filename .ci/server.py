@@ -250,6 +250,27 @@ def slow(sent):
     return case
 
 
+def narrow(watcher, writer):
+    """Of an outbox of one item who is told of commits faster than it reads overflows, and is told so also where nothing came before."""
+    script((writer, CREATE, ATOMIC))
+    for first in range(1, 400, 40):
+        numbers = range(first, first + 40)
+        script((watcher, watch(), HERE_OK))
+        same("begin mark", watcher.event(), ("mnesia_table_begin", "t", "simple"))
+        for number in numbers:
+            writer.send(("transaction", [write(number, 0)], 0))
+        for _ in numbers:
+            same("a commit", writer.receive(), ("reply", ("atomic", [OK])))
+        for number in numbers:
+            told = watcher.event()
+            if told == ("mnesia_overflow", number):
+                break
+            same("event", told, event(number, 0, number))
+        else:
+            script((watcher, ("unsubscribe", ("table", "t", "simple")), HERE_OK))
+            same("end mark", watcher.event(), ("mnesia_table_end", "t", "unsubscribed"))
+
+
 # A commit that writes the key of its number, which is its age too, as it is sent.
 def alone(number, value):
     return event(number, value, number)
@@ -400,6 +421,7 @@ CASES = [
     ("replies that are not read", 2, [], frees(unread)),
     ("a slow reader", 3, ["--outbox", "16"], slow(alone)),
     ("a slow reader of batches", 3, ["--outbox", "16", "--batches"], slow(in_batch)),
+    ("an outbox of one item", 2, ["--outbox", "1"], narrow),
     ("batches", 3, ["--batches"], batches),
     ("four move amounts", 5, ["--batches", "--outbox", "1024"], moved),
 ]
