@@ -51,7 +51,7 @@ ghost use Rattle.tab_model.specs.Callers.{Callers, newcomers, entry_told, told_o
 /// order. Each subscription was made on a table that stood then, and each commit's age is from 1 on. Where a subscription
 /// stands now, the changes of the commits since, and so those that the session's items since its begin mark tell, applied
 /// to the table's rows at its beginning, give the table's rows now.
-#[tactic(auto, using(crate::proofs::Schedules::schedule_legal, crate::proofs::Schedules::schedule_tables, crate::proofs::Schedules::schedule_told, crate::proofs::Schedules::schedule_rows, crate::proofs::SubscribedTables::schedule_stood, crate::proofs::PositiveAges::schedule_aged, crate::proofs::SubscribedTables::schedule_applied))]
+#[tactic(auto, using(crate::proofs::Schedules::schedule_legal, crate::proofs::Schedules::schedule_tables, crate::proofs::Schedules::schedule_told, crate::proofs::Schedules::schedule_rows, crate::proofs::Schedules::schedule_stood, crate::proofs::PositiveAges::schedule_aged, crate::proofs::Schedules::schedule_applied))]
 pub fn every_schedule()
     ensures legal { (limits : Limits) (calls : List Call) → AllJoinEmpty calls → IsLegal [] 0 (log_of (new limits) calls) }
     ensures tables { (limits : Limits) (calls : List Call) → AllJoinEmpty calls → (after_all (new limits) calls).tables ≡ serial (log_of (new limits) calls) }
@@ -89,7 +89,7 @@ pub fn callers_tell_the_log()
 
 /// A new core has no history and keeps what every reached core has; and each step keeps it, and keeps the state tied to
 /// its log and to what its sessions have taken, whatever the history was.
-#[tactic(auto, using(crate::proofs::Schedules::new_sound, crate::proofs::SoundSteps::step_sound, crate::proofs::TiedSteps::step_tied))]
+#[tactic(auto, using(crate::proofs::Schedules::new_sound, crate::proofs::SoundSteps::step_sound, crate::proofs::TiedSteps::new_tied, crate::proofs::TiedSteps::step_tied))]
 pub fn steps_keep_what_holds()
     ensures new_sound { (limits : Limits) → IsSound (new limits) }
     ensures new_tied { (limits : Limits) → IsTied (new limits) [] (λ m. []) }
