@@ -22,7 +22,7 @@ use Rattle.tab_model.specs.Outcome.{Outcome, nothing, change, with_transaction, 
 use Rattle.tab_model.specs.Slices.{end_for}
 use Rattle.tab_model.proofs.StepsBySeat.{held_none}
 use Rattle.tab_model.proofs.SurvivorsRight.{survivors_are}
-use Rattle.tab_model.proofs.TiedSteps.{batch_none}
+use Rattle.tab_model.proofs.LoggedSteps.{batch_none}
 use Rattle.tab_txstore.specs.Stores.{Fits}
 use Rattle.tab_txstore.proofs.FitsLemmas.{fits_stays, fits_schema, updates_survive}
 use Rattle.tab_manager.specs.declared.seat.Transaction as kept

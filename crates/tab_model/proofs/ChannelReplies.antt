@@ -1,6 +1,6 @@
--- A session with a channel's post is given no item by a step: its items are taken at the other end.
+-- Who is given an item by a step stays joined. A session with a channel's post is given none: its items are taken at the other end.
 use Rattle.std.proofs.Common.{◌≡◌, ℕ, List, [], ◌∷◌, Bool, true, false, refl, sym, ap, ◌∙◌, subst, Option, Some, None}
-use Rattle.std.specs.Prelude.{nat_lt, length}
+use Rattle.std.specs.Prelude.{◌==◌, if◌then◌else◌, nat_lt, length}
 use Rattle.std.specs.List.{AllByRecursion}
 use Rattle.tab_term.specs.declared.term.Term.{Term}
 use Rattle.tab_model.specs.declared.data.Operation.{Operation}
@@ -17,11 +17,20 @@ use Rattle.tab_model.specs.Worlds.{find}
 use Rattle.tab_model.specs.Ages.{Answer, Granted, Wait, Die}
 use Rattle.tab_model.specs.Schemas.{schema_refusal}
 use Rattle.tab_model.specs.State.{Transaction, Outbox, Watch, Seat, Queued, State, seat_at, level_in, mid_of}
-use Rattle.tab_model.specs.Outcome.{Ask, Join, Leave, Retry, Take, DoCommand, Outcome, outcome, decided, within, operate, retried, retry_in, retry, opened, nested, begin, one_shot, abort, commit_at, commit, schema_if, schema, table_info, is_at, marked, subscribe_refusal, subscribe, unsubscribe, do_command, command_if, give, takable, seated, join, unseated, by_seat}
+use Rattle.tab_model.specs.Outcome.{Ask, Join, Leave, Retry, Take, DoCommand, Outcome, outcome, change, decided, within, operate, retried, retry_in, retry, opened, nested, begin, one_shot, abort, commit_at, commit, schema_if, schema, table_info, is_at, marked, subscribe_refusal, subscribe, unsubscribe, do_command, command_if, give, takable, seated, join, unseated, by_seat}
 use Rattle.tab_model.specs.Run.{item_of}
 use Rattle.tab_model.specs.Standing.{AreChannels}
+use Rattle.tab_model.proofs.Seats.{found, itself, seat_at-change}
 use Rattle.tab_model.proofs.PostsStay.{IsChannel, found_has}
-use Rattle.tab_model.proofs.TiedSteps.{item_in, said_item, info_item, refusal_item, sub_item}
+use Rattle.tab_model.proofs.LoggedSteps.{item_in, said_item, info_item, refusal_item, sub_item}
+
+-- a seat that is changed is there
+changed_there : (seats : List Seat) (x s : Seat) (n : ℕ) → seat_at seats n ≡ Some s → x.number ≡ n → seat_at (change seats x) n ≡ None → ⊥
+changed_there seats x s n here num none = by (n == x.number) (ap (λ k. n == k) num ∙ itself n) (sym (seat_at-change seats x s n (ap (seat_at seats) num ∙ here)) ∙ none)
+  where
+    by : (b : Bool) → b ≡ true → (if b then Some x else seat_at seats n) ≡ None → ⊥
+    by true e h = cc
+    by false e h = cc
 
 abbrev GivesNone : Outcome → Type 0
 GivesNone o = item_of o.reply ≡ []
@@ -152,3 +161,24 @@ no_item σ over n a channels = by (seat_at σ.seats n) refl
     by : (o : Option Seat) → seat_at σ.seats n ≡ o → GivesNone (by_seat σ over n a o)
     by None e = unseated_gives σ n a
     by (Some s) e = seated_gives σ s over a (found_has IsChannel σ.seats n s channels e)
+
+-- who is given an item stays joined
+pub item_stays : (σ : State) (over : List ℕ) (n : ℕ) (a : Ask) → seat_at (outcome σ over n a).state.seats n ≡ None → item_of (outcome σ over n a).reply ≡ []
+unfolding outcome
+item_stays σ over n a gone = by (seat_at σ.seats n) refl gone
+  where
+    given : (s : Seat) (xs : List Item) (l : Option ℕ) → seat_at σ.seats n ≡ Some s → seat_at (give σ s xs l).state.seats n ≡ None → GivesNone (give σ s xs l)
+    given s (x ∷ xs) l e g = absurd (changed_there σ.seats _ s n e (found σ.seats s n e) g)
+    given s [] None e g = refl
+    given s [] (Some k) e g = refl
+
+    by_ask : (s : Seat) (a : Ask) → seat_at σ.seats n ≡ Some s → seat_at (seated σ over s a).state.seats n ≡ None → GivesNone (seated σ over s a)
+    by_ask s (Join b) e g = refl
+    by_ask s Leave e g = refl
+    by_ask s Retry e g = retry_gives σ s _
+    by_ask s Take e g = given s _ _ e g
+    by_ask s (DoCommand c) e g = command_gives σ s over c _
+
+    by : (o : Option Seat) → seat_at σ.seats n ≡ o → seat_at (by_seat σ over n a o).state.seats n ≡ None → GivesNone (by_seat σ over n a o)
+    by None e g = unseated_gives σ n a
+    by (Some s) e g = by_ask s a e g

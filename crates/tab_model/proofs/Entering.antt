@@ -1,5 +1,5 @@
 -- Which steps may give an entry.
-use Rattle.std.proofs.Common.{◌≡◌, ℕ, suc, List, [], ◌∷◌, Bool, true, false, refl, sym, ap, ◌∙◌, arith, Option, Some, None}
+use Rattle.std.proofs.Common.{◌≡◌, ◌↔◌, ℕ, suc, List, [], ◌∷◌, Bool, true, false, refl, sym, ap, ◌∙◌, arith, Option, Some, None}
 use Rattle.std.specs.Prelude.{◌^◌, ◌-◌, ◌==◌, ◌&&◌, not, min, nat_lt, nat_le, is_some, length}
 use Rattle.std.proofs.lemmas.Bool.Decides.{nat_tests}
 use Rattle.tab_model.specs.declared.data.Level.{Level}
@@ -11,9 +11,10 @@ use Rattle.tab_model.specs.declared.data.Command.TheVariants as command
 use Rattle.tab_model.specs.Ages.{Answer, Granted, Wait, Die, decide, can_retry}
 use Rattle.tab_model.specs.Locks.{needs}
 use Rattle.tab_model.specs.Alone.{Mid}
-use Rattle.tab_model.specs.State.{Outbox, Transaction, Seat, Queued, State, seat_at, transaction_in, is_waiting, ages_of, count_moves, mid_of, request_in}
+use Rattle.tab_model.specs.State.{Outbox, Transaction, Seat, Queued, State, seat_at, transaction_in, transaction_at, is_waiting, ages_of, count_moves, mid_of, request_in}
 use Rattle.tab_model.specs.Outcome.{Ask, Join, Leave, Retry, Take, DoCommand, Outcome, outcome, is_empty, decided, within, operate, retried, retry_in, retry, opened, nested, begin, one_shot, abort, commit_at, commit, do_command, is_abort, command_if, give, takable, seated, join, unseated, by_seat}
-use Rattle.tab_model.specs.Standing.{levels_in, levels_of, is_joined, may_enter_command, may_enter_seat, may_enter}
+use Rattle.tab_model.specs.Worlds.{World}
+use Rattle.tab_model.specs.Standing.{EndsTransaction, levels_in, levels_of, is_joined, may_enter_command, may_enter_seat, may_enter}
 
 abbrev EntersNone : Outcome → Type 0
 EntersNone o = o.entry ≡ None
@@ -165,3 +166,37 @@ unsubscribe_may σ n t l = by (is_joined σ n)
 -- the others never
 pub seat_never : (σ : State) (n : ℕ) (a : Ask) → ((b : Bool) → may_enter_seat σ n a b ≡ false) → may_enter σ n a ≡ false
 seat_never σ n a h = h (is_joined σ n)
+
+pub never_of : (σ : State) (n : ℕ) (a : Ask) → may_enter_seat σ n a true ≡ false → may_enter_seat σ n a false ≡ false → may_enter σ n a ≡ false
+never_of σ n a h k = seat_never σ n a by
+  where
+    by : (b : Bool) → may_enter_seat σ n a b ≡ false
+    by true = h
+    by false = k
+
+-- a commit may where it would end its transaction, and only there
+one_level : (k : ℕ) → (suc k == 1) ≡ true → k ≡ 0
+one_level k h = grind (arith, nat_tests)
+
+none_saved : (ws : List World) → length ws ≡ 0 → ws ≡ []
+none_saved [] h = refl
+none_saved (w ∷ ws) h = absurd (omega (arith, h))
+
+pub commit_ends : (σ : State) (n : ℕ) → (may_enter σ n (DoCommand command.Commit) ≡ true) ↔ EndsTransaction σ n
+commit_ends σ n = (λ h. to (seat_at σ.seats n) refl h, from)
+  where
+    open_in : (t : Option Transaction) → transaction_at σ n ≡ t → (levels_in σ t == 1) ≡ true → EndsTransaction σ n
+    open_in None e h = cc
+    open_in (Some t) e h = record { transaction = t; opened = e; outermost = none_saved (mid_of σ t).saved (one_level (length (mid_of σ t).saved) h) }
+
+    to : (o : Option Seat) → seat_at σ.seats n ≡ o → may_enter_seat σ n (DoCommand command.Commit) (is_some o) ≡ true → EndsTransaction σ n
+    to None e h = cc
+    to (Some s) e h = open_in (transaction_at σ n) refl h
+
+    joined : (o : Option Seat) (t : Transaction) → transaction_in o ≡ Some t → is_some o ≡ true
+    joined None t e = cc
+    joined (Some s) t e = refl
+
+    from : EndsTransaction σ n → may_enter σ n (DoCommand command.Commit) ≡ true
+    from x = ap (may_enter_seat σ n (DoCommand command.Commit)) (joined (seat_at σ.seats n) x.transaction x.opened)
+        ∙ ap (λ (t : Option Transaction). levels_in σ t == 1) x.opened ∙ ap (λ (ws : List World). suc (length ws) == 1) x.outermost

@@ -212,3 +212,7 @@ slice_forgotten b s q log h = slice_after_forgotten b s q [] log h
 
 pub history_forgotten : (b : Base) (q : ℕ) (log : List Entry) (w : World) → IsHistory b log w → IsHistory (forgotten b q) log w
 history_forgotten b q log w h = record { legal = h.legal; ends = h.ends }
+
+-- and of itself nothing is left
+pub level_forgotten : (b : Base) (s : ℕ) (t : List ℕ) → level_at (forgotten b s).subscriptions s t ≡ None
+level_forgotten b s t = level_filter (λ x. not (x.session == s)) false b.subscriptions s t (λ x h. ap (λ n. not (n == s)) (whose s t x h).0 ∙ ap not (itself s))

@@ -20,63 +20,56 @@ use Rattle.tab_model.specs.Schemas.{removed}
 use Rattle.tab_model.specs.Alone.{told}
 use Rattle.tab_model.specs.Since.{HasAge, AllAged}
 use Rattle.tab_model.specs.State.{Transaction, Watch, Seat, Queued, State, new, seat_at, mid_of}
+use Rattle.tab_model.specs.Reached.{IsAged, AreAged}
 use Rattle.tab_model.specs.Outcome.{Ask, Join, Leave, Retry, Take, DoCommand, Outcome, outcome, with_transaction, change, without_seat, after_move, ends, decided, within, operate, retried, retry_in, retry, opened, nested, begin, one_shot, abort, given, batch_to, end_to, unwatched, commit_at, commit, events_now, schema_if, schema, marked, subscribe, unsubscribe, command_if, give, seated, fresh, join, unseated, by_seat}
 use Rattle.tab_model.specs.Run.{Call, outcome_of, entries, log_of}
 use Rattle.tab_model.proofs.SoundSteps.{given_same, unwatched_same}
 
-abbrev Aged : Option Transaction → Type 0
-Aged None = Unit {0}
-Aged (Some t) = 0 < t.age
+pub record Ripe (σ : State) : Type 0 where
+  pub next : 0 < σ.next_age
+  pub seats : AreAged σ.seats
 
-abbrev AgedSeats : List Seat → Type 0
-AgedSeats [] = Unit {0}
-AgedSeats (s ∷ seats) = Aged s.transaction × AgedSeats seats
-
-record Ripe (σ : State) : Type 0 where
-  next : 0 < σ.next_age
-  seats : AgedSeats σ.seats
-
-abbrev AgedEntry : Option Entry → Type 0
+abbrev pub AgedEntry : Option Entry → Type 0
 AgedEntry None = Unit {0}
 AgedEntry (Some e) = HasAge e
 
-record Ripens (o : Outcome) : Type 0 where
-  state : Ripe o.state
-  entry : AgedEntry o.entry
+pub record Ripens (o : Outcome) : Type 0 where
+  pub state : Ripe o.state
+  pub entry : AgedEntry o.entry
 
-aged_change : (seats : List Seat) (s : Seat) → AgedSeats seats → Aged s.transaction → AgedSeats (change seats s)
+aged_change : (seats : List Seat) (s : Seat) → AreAged seats → IsAged s.transaction → AreAged (change seats s)
 aged_change [] s h a = tt
 aged_change (x ∷ xs) s h a = cases (x.number == s.number) (aged_change xs s h.1 a)
   where
-    cases : (b : Bool) → AgedSeats (change xs s) → AgedSeats (if b then s ∷ xs else x ∷ change xs s)
+    cases : (b : Bool) → AreAged (change xs s) → AreAged (if b then s ∷ xs else x ∷ change xs s)
     cases true r = (a, h.1)
     cases false r = (h.0, r)
 
-aged_without : (seats : List Seat) (n : ℕ) → AgedSeats seats → AgedSeats (without_seat seats n)
+aged_without : (seats : List Seat) (n : ℕ) → AreAged seats → AreAged (without_seat seats n)
 aged_without [] n h = tt
 aged_without (x ∷ xs) n h = cases (x.number == n) (aged_without xs n h.1)
   where
-    cases : (b : Bool) → AgedSeats (without_seat xs n) → AgedSeats (if b then without_seat xs n else x ∷ without_seat xs n)
+    cases : (b : Bool) → AreAged (without_seat xs n) → AreAged (if b then without_seat xs n else x ∷ without_seat xs n)
     cases true r = r
     cases false r = (h.0, r)
 
-aged_push : (seats : List Seat) (s : Seat) → AgedSeats seats → Aged s.transaction → AgedSeats (seats ++ s ∷ [])
+aged_push : (seats : List Seat) (s : Seat) → AreAged seats → IsAged s.transaction → AreAged (seats ++ s ∷ [])
 aged_push [] s h a = (a, tt)
 aged_push (x ∷ xs) s h a = (h.0, aged_push xs s h.1 a)
 
-aged_map : (f : Seat → Seat) → ((s : Seat) → (f s).transaction ≡ s.transaction) → (seats : List Seat) → AgedSeats seats → AgedSeats (map f seats)
+aged_map : (f : Seat → Seat) → ((s : Seat) → (f s).transaction ≡ s.transaction) → (seats : List Seat) → AreAged seats → AreAged (map f seats)
 aged_map f e [] h = tt
-aged_map f e (x ∷ xs) h = (subst (λ (o : Option Transaction). Aged o) (sym (e x)) h.0, aged_map f e xs h.1)
+aged_map f e (x ∷ xs) h = (subst (λ (o : Option Transaction). IsAged o) (sym (e x)) h.0, aged_map f e xs h.1)
 
-aged_at : (seats : List Seat) (n : ℕ) (s : Seat) → AgedSeats seats → seat_at seats n ≡ Some s → Aged s.transaction
+aged_at : (seats : List Seat) (n : ℕ) (s : Seat) → AreAged seats → seat_at seats n ≡ Some s → IsAged s.transaction
 aged_at [] n s h e = cc
 aged_at (x ∷ xs) n s h e = cases (x.number == n) e (λ f. aged_at xs n s h.1 f)
   where
-    cases : (b : Bool) → (if b then Some x else seat_at xs n) ≡ Some s → (seat_at xs n ≡ Some s → Aged s.transaction) → Aged s.transaction
-    cases true f r = let same : x ≡ s = cc in subst (λ (z : Seat). Aged z.transaction) same h.0
+    cases : (b : Bool) → (if b then Some x else seat_at xs n) ≡ Some s → (seat_at xs n ≡ Some s → IsAged s.transaction) → IsAged s.transaction
+    cases true f r = let same : x ≡ s = cc in subst (λ (z : Seat). IsAged z.transaction) same h.0
     cases false f r = r f
 
-aged_move : (t : Transaction) (x : Move) (r : Option Reply) (b : Bool) → 0 < t.age → Aged (after_move t x r b)
+aged_move : (t : Transaction) (x : Move) (r : Option Reply) (b : Bool) → 0 < t.age → IsAged (after_move t x r b)
 aged_move t x r true a = tt
 aged_move t x r false a = a
 
@@ -85,16 +78,16 @@ module _ (σ : State) (ripe : Ripe σ) (s : Seat) where
   same r = record { state = ripe; entry = tt }
 
   -- the asker's seat is another
-  seat_is : (o : Outcome) (x : Seat) → Aged x.transaction → o.state.seats ≡ change σ.seats x → o.state.next_age ≡ σ.next_age → AgedEntry o.entry → Ripens o
+  seat_is : (o : Outcome) (x : Seat) → IsAged x.transaction → o.state.seats ≡ change σ.seats x → o.state.next_age ≡ σ.next_age → AgedEntry o.entry → Ripens o
   seat_is o x a e n y = record {
-    state = record { next = subst (λ (k : ℕ). 0 < k) (sym n) ripe.next; seats = subst (λ (xs : List Seat). AgedSeats xs) (sym e) (aged_change σ.seats x ripe.seats a) };
+    state = record { next = subst (λ (k : ℕ). 0 < k) (sym n) ripe.next; seats = subst (λ (xs : List Seat). AreAged xs) (sym e) (aged_change σ.seats x ripe.seats a) };
     entry = y;
   }
 
   made_ripe : (o : Outcome) (t : Transaction) (x : Move) (r : Option Reply) (b : Bool) → 0 < t.age → o.state.seats ≡ change σ.seats (with_transaction s (after_move t x r b)) → o.state.next_age ≡ σ.next_age → AgedEntry o.entry → Ripens o
   made_ripe o t x r b a = seat_is o (with_transaction s (after_move t x r b)) (aged_move t x r b a)
 
-  operate_ripe : (o : Operation) (x : Option Transaction) → Aged x → Ripens (operate σ s o x)
+  operate_ripe : (o : Operation) (x : Option Transaction) → IsAged x → Ripens (operate σ s o x)
   operate_ripe o None a = same reply.NoTransaction
   operate_ripe o (Some t) a = by_room _
     where
@@ -107,7 +100,7 @@ module _ (σ : State) (ripe : Ripe σ) (s : Seat) where
       by_room false = same _
       by_room true = by_answer _
 
-  retry_ripe : (q : Option Queued) → Aged s.transaction → Ripens (retry σ s q)
+  retry_ripe : (q : Option Queued) → IsAged s.transaction → Ripens (retry σ s q)
   retry_ripe None a = same reply.NotWaiting
   retry_ripe (Some q) a = by_transaction s.transaction a
     where
@@ -115,7 +108,7 @@ module _ (σ : State) (ripe : Ripe σ) (s : Seat) where
       by_turn t false a = same reply.Waiting
       by_turn t true a = made_ripe (retried σ s t q.operation true) t (Do q.operation) _ _ a refl refl tt
 
-      by_transaction : (x : Option Transaction) → Aged x → Ripens (retry_in σ s q.operation x)
+      by_transaction : (x : Option Transaction) → IsAged x → Ripens (retry_in σ s q.operation x)
       by_transaction None a = same reply.NotWaiting
       by_transaction (Some t) a = by_turn t _ a
 
@@ -126,7 +119,7 @@ module _ (σ : State) (ripe : Ripe σ) (s : Seat) where
       more_than : (k : ℕ) → 0 < k → 0 < k + 1
       more_than k h = omega arith
 
-  begin_ripe : (x : Option Transaction) → Aged x → Ripens (begin σ s x)
+  begin_ripe : (x : Option Transaction) → IsAged x → Ripens (begin σ s x)
   begin_ripe None a = opened_ripe _
   begin_ripe (Some t) a = by_limits _ _
     where
@@ -139,11 +132,11 @@ module _ (σ : State) (ripe : Ripe σ) (s : Seat) where
   one_shot_ripe None = opened_ripe _
   one_shot_ripe (Some t) = same reply.InTransaction
 
-  abort_ripe : (r : Term) (x : Option Transaction) → Aged x → Ripens (abort σ s r x)
+  abort_ripe : (r : Term) (x : Option Transaction) → IsAged x → Ripens (abort σ s r x)
   abort_ripe r None a = same reply.NoTransaction
   abort_ripe r (Some t) a = made_ripe (abort σ s r (Some t)) t Undo _ _ a refl refl tt
 
-  commit_ripe : (over : List ℕ) (x : Option Transaction) → Aged x → Ripens (commit σ over s x)
+  commit_ripe : (over : List ℕ) (x : Option Transaction) → IsAged x → Ripens (commit σ over s x)
   commit_ripe over None a = same reply.NoTransaction
   commit_ripe over (Some t) a = by_level _
     where
@@ -175,19 +168,19 @@ module _ (σ : State) (ripe : Ripe σ) (s : Seat) where
         entry = tt;
       }
 
-  marked_ripe : (full : Bool) (ws : List Watch) (x : Item) (e : Entry) → Aged s.transaction → HasAge e → Ripens (marked σ full s ws x e)
+  marked_ripe : (full : Bool) (ws : List Watch) (x : Item) (e : Entry) → IsAged s.transaction → HasAge e → Ripens (marked σ full s ws x e)
   marked_ripe true ws x e a h = seat_is (marked σ true s ws x e) _ a refl refl tt
   marked_ripe false ws x e a h = seat_is (marked σ false s ws x e) _ a refl refl h
 
-  subscribe_ripe : (over : List ℕ) (t : List ℕ) (l : Level) (dump : Bool) (r : Option Reply) → Aged s.transaction → Ripens (subscribe σ over s t l dump r)
+  subscribe_ripe : (over : List ℕ) (t : List ℕ) (l : Level) (dump : Bool) (r : Option Reply) → IsAged s.transaction → Ripens (subscribe σ over s t l dump r)
   subscribe_ripe over t l dump (Some r) a = same r
   subscribe_ripe over t l dump None a = marked_ripe _ _ _ (Subscribed s.number t l dump) a tt
 
-  unsubscribe_ripe : (over : List ℕ) (t : List ℕ) (b : Bool) → Aged s.transaction → Ripens (unsubscribe σ over s t b)
+  unsubscribe_ripe : (over : List ℕ) (t : List ℕ) (b : Bool) → IsAged s.transaction → Ripens (unsubscribe σ over s t b)
   unsubscribe_ripe over t false a = same _
   unsubscribe_ripe over t true a = marked_ripe _ _ _ (Unsubscribed s.number t) a tt
 
-  command_ripe : (over : List ℕ) (c : Command) (b : Bool) → Aged s.transaction → Ripens (command_if σ over s c b)
+  command_ripe : (over : List ℕ) (c : Command) (b : Bool) → IsAged s.transaction → Ripens (command_if σ over s c b)
   command_ripe over c true a = same reply.WaitingNow
   command_ripe over (command.Schema c) false a = schema_ripe over c s.transaction
   command_ripe over (command.TableInfo t i) false a = same _
@@ -199,12 +192,12 @@ module _ (σ : State) (ripe : Ripe σ) (s : Seat) where
   command_ripe over (command.Unsubscribe t l) false a = unsubscribe_ripe over t _ a
   command_ripe over (command.OneShot parts retries) false a = one_shot_ripe s.transaction
 
-  give_ripe : (xs : List Item) (l : Option ℕ) → Aged s.transaction → Ripens (give σ s xs l)
+  give_ripe : (xs : List Item) (l : Option ℕ) → IsAged s.transaction → Ripens (give σ s xs l)
   give_ripe (x ∷ xs) l a = seat_is (give σ s (x ∷ xs) l) _ a refl refl tt
   give_ripe [] None a = same reply.Empty
   give_ripe [] (Some n) a = seat_is (give σ s [] (Some n)) _ a refl refl tt
 
-  seated_ripe : (over : List ℕ) (x : Ask) → Aged s.transaction → Ripens (seated σ over s x)
+  seated_ripe : (over : List ℕ) (x : Ask) → IsAged s.transaction → Ripens (seated σ over s x)
   seated_ripe over (Join b) a = same reply.BadSession
   seated_ripe over Leave a = record { state = record { next = ripe.next; seats = aged_without σ.seats s.number ripe.seats }; entry = tt }
   seated_ripe over Retry a = retry_ripe _ a
@@ -223,13 +216,18 @@ unseated_ripe σ n Retry ripe = record { state = ripe; entry = tt }
 unseated_ripe σ n Take ripe = record { state = ripe; entry = tt }
 unseated_ripe σ n (DoCommand c) ripe = record { state = ripe; entry = tt }
 
-step_ripe : (σ : State) (over : List ℕ) (n : ℕ) (x : Ask) → Ripe σ → Ripens (outcome σ over n x)
+pub step_ripe : (σ : State) (over : List ℕ) (n : ℕ) (x : Ask) → Ripe σ → Ripens (outcome σ over n x)
 unfolding outcome
 step_ripe σ over n x ripe = cases (seat_at σ.seats n) refl
   where
     cases : (o : Option Seat) → seat_at σ.seats n ≡ o → Ripens (by_seat σ over n x o)
     cases None e = unseated_ripe σ n x ripe
     cases (Some s) e = seated_ripe σ ripe s over x (aged_at σ.seats n s ripe.seats e)
+
+pub aged_more : (xs : List Entry) (o : Option Entry) → AllAged xs → AgedEntry o → AllAged (xs ++ entries o)
+aged_more [] None h a = tt
+aged_more [] (Some e) h a = (a, tt)
+aged_more (x ∷ xs) o h a = (h.0, aged_more xs o h.1 a)
 
 aged_on : (o : Option Entry) (es : List Entry) → AgedEntry o → AllAged es → AllAged (entries o ++ es)
 aged_on None es h r = r

@@ -2,14 +2,17 @@
 use Rattle.std.proofs.Common.{◌≡◌, ℕ, List, [], ◌∷◌, ◌++◌, refl, sym, subst, append-nil, append_assoc, Some}
 use Rattle.tab_model.specs.declared.data.Item.{Item}
 use Rattle.tab_model.specs.declared.data.Entry.{Entry}
+use Rattle.tab_model.specs.declared.data.Level.{Level}
 use Rattle.tab_model.specs.declared.data.Limits.{Limits}
+use Rattle.tab_model.specs.Worlds.{rows_of}
 use Rattle.tab_model.specs.Alone.{start, replies}
 use Rattle.tab_model.specs.Log.{serial, IsLegal}
 use Rattle.tab_model.specs.Slices.{slice}
-use Rattle.tab_model.specs.State.{Seat, State, new, seat_at, age_at, moves_at, told_at, IsSound}
+use Rattle.tab_model.specs.Since.{AllStood, RowsSince}
+use Rattle.tab_model.specs.State.{Seat, State, new, seat_at, age_at, moves_at, told_at, level_in, IsSound}
 use Rattle.tab_model.specs.Outcome.{Outcome}
 use Rattle.tab_model.specs.Run.{Call, outcome_of, after_all, entries, log_of, taken_now, taken_of, AllJoinEmpty, IsTied}
-use Rattle.tab_model.proofs.TiedSteps.{step_tied}
+use Rattle.tab_model.proofs.TiedSteps.{new_tied, step_tied}
 use Rattle.tab_model.proofs.SoundSteps.{step_sound}
 
 pub new_sound : (limits : Limits) → IsSound (new limits)
@@ -37,15 +40,6 @@ run_tied σ log taken (c ∷ calls) sound empty t =
     subst (λ (l : List Entry). IsTied (after_all o.state calls) l (λ m. taken m ++ taken_of m σ (c ∷ calls))) (append_assoc log (entries o.entry) (log_of o.state calls))
     (subst (λ (f : ℕ → List Item). IsTied (after_all o.state calls) ((log ++ entries o.entry) ++ log_of o.state calls) f) (λ i m. append_assoc (taken m) (taken_now m c.session o.reply) (taken_of m o.state calls) i) all)
 
-pub new_tied : (limits : Limits) → IsTied (new limits) [] (λ m. [])
-new_tied limits = record {
-  tables = refl;
-  legal = tt;
-  commits = refl;
-  seats = λ n s e. cc;
-  fresh = λ n h. record { watching = λ t. refl; owed = refl; taken_none = refl };
-}
-
 pub tied : (limits : Limits) (calls : List Call) → AllJoinEmpty calls → IsTied (after_all (new limits) calls) (log_of (new limits) calls) (λ m. taken_of m (new limits) calls)
 tied limits calls empty = run_tied (new limits) [] (λ m. []) calls (new_sound limits) empty (new_tied limits)
 
@@ -60,3 +54,10 @@ schedule_told limits calls n = (run_sound (new limits) calls (new_sound limits))
 
 pub schedule_rows : (limits : Limits) (calls : List Call) (n : ℕ) (s : Seat) → AllJoinEmpty calls → seat_at (after_all (new limits) calls).seats n ≡ Some s → taken_of n (new limits) calls ++ s.outbox.items ≡ slice n (log_of (new limits) calls)
 schedule_rows limits calls n s empty here = ((tied limits calls empty).seats n s here).items
+
+pub schedule_stood : (limits : Limits) (calls : List Call) → AllJoinEmpty calls → AllStood [] (log_of (new limits) calls)
+schedule_stood limits calls empty = (tied limits calls empty).stood
+
+pub schedule_applied : (limits : Limits) (calls : List Call) (n : ℕ) (s : Seat) (t : List ℕ) (l : Level) → AllJoinEmpty calls → seat_at (after_all (new limits) calls).seats n ≡ Some s → level_in s.watching t ≡ Some l
+    → RowsSince n t l (log_of (new limits) calls) (rows_of (after_all (new limits) calls).tables t)
+schedule_applied limits calls n s t l empty = (tied limits calls empty).since n s t l

@@ -17,8 +17,7 @@ use Rattle.tab_model.specs.Outcome.{Ask, Join, Leave, Retry, Take, DoCommand, by
 use Rattle.tab_model.specs.Run.{entries, item_of, taken_now, JoinsEmpty, IsTied, IsNew}
 use Rattle.tab_model.specs.Standing.{AreChannels, JoinsChannel, is_joined, MayStand, IsFolded, Stands, still_joined}
 use Rattle.tab_model.proofs.Seats.{other_number, found, itself, seat_at-without, serial_more, in_force_more, commits-push}
-use Rattle.tab_model.proofs.Schedules.{new_tied}
-use Rattle.tab_model.proofs.TiedSteps.{step_tied}
+use Rattle.tab_model.proofs.TiedSteps.{new_tied, step_tied}
 use Rattle.tab_model.proofs.PostsStay.{IsChannel, JoinsAs, channels_stay}
 use Rattle.tab_model.proofs.ChannelReplies.{no_item}
 use Rattle.tab_model.proofs.WhoLeaves.{IsGone, step_gone}

@@ -1,4 +1,4 @@
--- Each subscription of a schedule was made on a table that stood; so the changes since give the table now.
+-- Each subscription is made on a table that stands; so the changes since give the table now.
 use Rattle.std.proofs.Common.{◌≡◌, ℕ, List, [], ◌∷◌, ◌++◌, Bool, true, false, not, refl, sym, ap, ◌∙◌, subst, Option, Some, None}
 use Rattle.std.specs.Prelude.{if◌then◌else◌, is_some}
 use Rattle.tab_term.specs.declared.term.Term.{Term}
@@ -7,7 +7,6 @@ use Rattle.tab_model.specs.declared.data.Item.{Item}
 use Rattle.tab_model.specs.declared.data.Reply.{Reply}
 use Rattle.tab_model.specs.declared.data.Reply.TheVariants as reply
 use Rattle.tab_model.specs.declared.data.Level.{Level}
-use Rattle.tab_model.specs.declared.data.Limits.{Limits}
 use Rattle.tab_model.specs.declared.data.Schema.{Schema}
 use Rattle.tab_model.specs.declared.data.Entry.{Entry}
 use Rattle.tab_model.specs.declared.data.Entry.TheVariants.{Subscribed, Unsubscribed}
@@ -17,19 +16,16 @@ use Rattle.tab_model.specs.Tables.{applied}
 use Rattle.tab_model.specs.Worlds.{World, Table, find, rows_in, rows_of}
 use Rattle.tab_model.specs.Ages.{Answer, Granted, Wait, Die}
 use Rattle.tab_model.specs.Log.{entered, serial, serial_from}
-use Rattle.tab_model.specs.Since.{changes_on, StandsSince, StoodFor, AllStood, RowsSince}
-use Rattle.tab_model.specs.State.{Transaction, Watch, Seat, Queued, State, new, seat_at, level_in, IsSound}
+use Rattle.tab_model.specs.Since.{changes_on, StandsSince, StoodFor, AllStood, AllAged, RowsSince}
+use Rattle.tab_model.specs.State.{Transaction, Watch, Seat, Queued, State, seat_at, level_in}
 use Rattle.tab_model.specs.Outcome.{Ask, Join, Leave, Retry, Take, DoCommand, Outcome, outcome, decided, within, operate, retried, retry_in, retry, opened, nested, begin, one_shot, abort, commit_at, commit, schema_if, schema, marked, subscribe_refusal, subscribe, unsubscribe, command_if, give, seated, join, unseated, by_seat}
-use Rattle.tab_model.specs.Run.{Call, outcome_of, after_all, entries, log_of, taken_now, AllJoinEmpty, IsTied}
-use Rattle.tab_model.proofs.EventsGiveTheRows.{since_applies, serial-append}
+use Rattle.tab_model.specs.Run.{entries}
+use Rattle.tab_model.proofs.EventsGiveTheRows.{since_applies, dump_applies}
 use Rattle.tab_model.proofs.InForce.{in_force_stands}
 use Rattle.tab_model.proofs.ItemsTellTheChanges.{items_tell}
-use Rattle.tab_model.proofs.PositiveAges.{schedule_aged}
-use Rattle.tab_model.proofs.SoundSteps.{step_sound}
-use Rattle.tab_model.proofs.TiedSteps.{step_tied}
-use Rattle.tab_model.proofs.Schedules.{new_sound, new_tied, tied}
+use Rattle.tab_model.proofs.LoggedLemmas.{IsLogged}
 
-abbrev Stood : World → Option Entry → Type 0
+abbrev pub Stood : World → Option Entry → Type 0
 Stood w None = Unit {0}
 Stood w (Some e) = StoodFor w e
 
@@ -159,7 +155,7 @@ unseated_stood σ n Retry = tt
 unseated_stood σ n Take = tt
 unseated_stood σ n (DoCommand c) = tt
 
-step_stood : (σ : State) (over : List ℕ) (n : ℕ) (a : Ask) → Stood σ.tables (outcome σ over n a).entry
+pub step_stood : (σ : State) (over : List ℕ) (n : ℕ) (a : Ask) → Stood σ.tables (outcome σ over n a).entry
 unfolding outcome
 step_stood σ over n a = cases (seat_at σ.seats n)
   where
@@ -167,53 +163,43 @@ step_stood σ over n a = cases (seat_at σ.seats n)
     cases None = unseated_stood σ n a
     cases (Some s) = seated_stood σ s over a
 
-stood_on : (w : World) (o : Option Entry) (es : List Entry) → Stood w o → AllStood (serial_from w (entries o)) es → AllStood w (entries o ++ es)
-stood_on w None es h r = r
-stood_on w (Some e) es h r = (h, r)
-
-run_stood : (σ : State) (log : List Entry) (taken : ℕ → List Item) (calls : List Call) → IsSound σ → AllJoinEmpty calls → IsTied σ log taken → AllStood σ.tables (log_of σ calls)
-run_stood σ log taken [] sound empty t = tt
-run_stood σ log taken (c ∷ calls) sound empty t =
-    let o : Outcome = outcome_of σ c in
-    let after = step_tied σ log taken c.over c.session c.ask sound empty.0 t in
-    let rest = run_stood o.state (log ++ entries o.entry) (λ m. taken m ++ taken_now m c.session o.reply) calls (step_sound σ c.over c.session c.ask sound) empty.1 after in
-    stood_on σ.tables o.entry (log_of o.state calls) (step_stood σ c.over c.session c.ask)
-    (subst (λ (w : World). AllStood w (log_of o.state calls)) (after.tables ∙ serial-append [] log (entries o.entry) ∙ ap (λ w. serial_from w (entries o.entry)) (sym t.tables)) rest)
+-- a step's entry is put behind a log
+pub stood_more : (w : World) (xs : List Entry) (o : Option Entry) → AllStood w xs → Stood (serial_from w xs) o → AllStood w (xs ++ entries o)
+stood_more w [] None h r = tt
+stood_more w [] (Some e) h r = (r, tt)
+stood_more w (x ∷ xs) o h r = (h.0, stood_more (entered w x) xs o h.1 r)
 
 stood-rest : (w : World) (xs ys : List Entry) → AllStood w (xs ++ ys) → AllStood (serial_from w xs) ys
 stood-rest w [] ys h = h
 stood-rest w (x ∷ xs) ys h = stood-rest (entered w x) xs ys h.1
 
--- the changes since a subscription that stands give the table now, in every schedule
-pub schedule_applied : (limits : Limits) (calls : List Call) (n : ℕ) (s : Seat) (t : List ℕ) (l : Level) → AllJoinEmpty calls → seat_at (after_all (new limits) calls).seats n ≡ Some s → level_in s.watching t ≡ Some l
-    → RowsSince n t l (log_of (new limits) calls) (rows_of (after_all (new limits) calls).tables t)
-schedule_applied limits calls n s t l empty here watched = by_table (find (serial sub.earlier) t) refl stood
-  where
-    log : List Entry
-    log = log_of (new limits) calls
+-- the changes since a subscription that stands give the table now
+module _ (σ : State) (log : List Entry) (tk : ℕ → List Item) (logged : IsLogged σ log tk) (stood : AllStood [] log) (aged : AllAged log) where
+  pub rows_since : (n : ℕ) (s : Seat) (t : List ℕ) (l : Level) → seat_at σ.seats n ≡ Some s → level_in s.watching t ≡ Some l → RowsSince n t l log (rows_of σ.tables t)
+  rows_since n s t l here watched = by_table (find (serial sub.earlier) t) refl there
+    where
+      sub : StandsSince n t l log
+      sub = in_force_stands n t l log (sym ((logged.seats n s here).watching t) ∙ watched)
 
-    sub : StandsSince n t l log
-    sub = in_force_stands n t l log (sym (((tied limits calls empty).seats n s here).watching t) ∙ watched)
+      all : AllStood [] (sub.earlier ++ Subscribed n t l sub.dump ∷ sub.since)
+      all = subst (λ (es : List Entry). AllStood [] es) sub.is stood
 
-    all : AllStood [] (sub.earlier ++ Subscribed n t l sub.dump ∷ sub.since)
-    all = subst (λ (es : List Entry). AllStood [] es) sub.is (run_stood (new limits) [] (λ m. []) calls (new_sound limits) empty (new_tied limits))
+      there : is_some (find (serial sub.earlier) t) ≡ true
+      there = (stood-rest [] sub.earlier (Subscribed n t l sub.dump ∷ sub.since) all).0
 
-    stood : is_some (find (serial sub.earlier) t) ≡ true
-    stood = (stood-rest [] sub.earlier (Subscribed n t l sub.dump ∷ sub.since) all).0
+      serial_rows : rows_of σ.tables t ≡ rows_of (serial log) t
+      serial_rows = ap (λ w. rows_of w t) logged.tables
 
-    now : (x : Table) → find (serial sub.earlier) t ≡ Some x → rows_of (after_all (new limits) calls).tables t ≡ applied x.def.kind x.rows (changes_on t sub.since)
-    now x e = ap (λ w. rows_of w t) (tied limits calls empty).tables ∙ since_applies n t l log x (tied limits calls empty).legal sub e
-        ∙ ap (λ (o : Option Table). applied x.def.kind (rows_in o) (changes_on t sub.since)) e
+      now : (x : Table) → find (serial sub.earlier) t ≡ Some x → rows_of σ.tables t ≡ applied x.def.kind x.rows (changes_on t sub.since)
+      now x e = serial_rows ∙ since_applies n t l log x logged.legal sub e ∙ ap (λ (o : Option Table). applied x.def.kind (rows_in o) (changes_on t sub.since)) e
 
-    by_table : (o : Option Table) → find (serial sub.earlier) t ≡ o → is_some o ≡ true → RowsSince n t l log (rows_of (after_all (new limits) calls).tables t)
-    by_table None e h = cc
-    by_table (Some x) e h = record {
-      subscription = sub;
-      table = x;
-      stood = e;
-      now = now x e;
-      told = now x e ∙ ap (applied x.def.kind x.rows) (sym (items_tell n t l log (tied limits calls empty).legal (schedule_aged limits calls) sub));
-    }
-
-pub schedule_stood : (limits : Limits) (calls : List Call) → AllJoinEmpty calls → AllStood [] (log_of (new limits) calls)
-schedule_stood limits calls empty = run_stood (new limits) [] (λ m. []) calls (new_sound limits) empty (new_tied limits)
+      by_table : (o : Option Table) → find (serial sub.earlier) t ≡ o → is_some o ≡ true → RowsSince n t l log (rows_of σ.tables t)
+      by_table None e h = cc
+      by_table (Some x) e h = record {
+        subscription = sub;
+        table = x;
+        stood = e;
+        now = now x e;
+        told = now x e ∙ ap (applied x.def.kind x.rows) (sym (items_tell n t l log logged.legal aged sub));
+        dumped = λ records d. serial_rows ∙ dump_applies n t l log x records logged.legal sub e d;
+      }

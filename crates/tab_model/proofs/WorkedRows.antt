@@ -1,7 +1,7 @@
 -- Worked rows, by computing.
 use Rattle.std.proofs.Common.{◌≡◌, ℕ, List, [], ◌∷◌, ◌++◌, refl, Some, None, true, false}
 use Rattle.std.specs.Prelude.{codes, pos, negsuc}
-use Rattle.tab_term.specs.Data.{PlainTerm, int, atom, list, PlainTerms, none, one_more, pair, triple}
+use Rattle.tab_term.specs.Data.{PlainTerm, int, atom, tuple, list, PlainTerms, none, one_more, pair, triple}
 use Rattle.tab_term.specs.declared.term.Term.TheVariants as is
 use Rattle.tab_model.specs.declared.data.Operation.TheVariants as op
 use Rattle.tab_model.specs.declared.data.Reply.TheVariants as reply
@@ -217,6 +217,22 @@ pub row_limits : replies_of (new small) (joins 1 ∷ joins 2 ∷ joins 3 ∷ cre
 unfolding outcome canon int_contents
 row_limits = refl
 
+-- where both are used up, nesting is told
+pub row_both_limits : replies_of (new small) (joins 1 ∷ creates 1 (codes "t") none ∷ begins 1 ∷ begins 1 ∷ reads 1 (codes "t") 1 ∷ reads 1 (codes "t") 2 ∷ reads 1 (codes "t") 3 ∷ begins 1 ∷ [])
+    ≡ reply.Done ∷ reply.AtomicOk ∷ reply.Tid 1 ∷ reply.Tid 1 ∷ reply.Found none ∷ reply.Found none ∷ reply.SystemLimit limit.Operations ∷ reply.SystemLimit limit.Nesting ∷ []
+unfolding outcome canon int_contents
+row_both_limits = refl
+
+-- each command of a session that waits, and its other steps; an abort is taken, and the request is gone
+pub row_waiting_session : told_in (joins 1 ∷ joins 2 ∷ creates 1 (codes "t") none ∷ begins 1 ∷ begins 2 ∷ reads 2 (codes "t") 5 ∷ writes 1 (codes "t") 5 (codes "a")
+    ∷ creates 1 (codes "u") none ∷ call 1 (DoCommand (command.TableInfo (codes "t") item.Size)) ∷ begins 1 ∷ commits 1 ∷ reads 1 (codes "t") 6 ∷ subscribes 1 (codes "t") ∷ call 1 (DoCommand (command.Unsubscribe (codes "t") Simple)) ∷ call 1 (DoCommand (command.OneShot [] 0))
+    ∷ joins 1 ∷ takes 1 ∷ call 1 Retry ∷ call 1 (DoCommand (command.Abort (is.Atom (codes "no")))) ∷ call 1 Retry ∷ begins 1 ∷ [])
+    ≡ reply.Done ∷ reply.Done ∷ reply.AtomicOk ∷ reply.Tid 1 ∷ reply.Tid 2 ∷ reply.Found none ∷ reply.Waiting
+    ∷ reply.WaitingNow ∷ reply.WaitingNow ∷ reply.WaitingNow ∷ reply.WaitingNow ∷ reply.WaitingNow ∷ reply.WaitingNow ∷ reply.WaitingNow ∷ reply.WaitingNow
+    ∷ reply.BadSession ∷ reply.Empty ∷ reply.Waiting ∷ reply.UserAbort (is.Atom (codes "no")) ∷ reply.NotWaiting ∷ reply.Tid 3 ∷ []
+unfolding outcome canon int_contents
+row_waiting_session = refl
+
 -- refusals outside a transaction, and of sessions that have not joined or join again
 pub row_refusals : told_in (joins 2 ∷ creates 2 (codes "t") none ∷ reads 2 (codes "t") 1 ∷ commits 2 ∷ call 2 Retry ∷ begins 9 ∷ joins 2 ∷ joins 1 ∷ call 2 Leave ∷ call 2 Leave ∷ joins 2 ∷ joins 3 ∷ begins 3 ∷ creates 3 (codes "u") none ∷ call 3 (DoCommand (command.Unsubscribe (codes "t") Simple)) ∷ subscribes 3 (codes "v") ∷ [])
     ≡ reply.Done ∷ reply.AtomicOk ∷ reply.NoTransaction ∷ reply.NoTransaction ∷ reply.NotWaiting ∷ reply.BadSession ∷ reply.BadSession ∷ reply.BadSession ∷ reply.Done ∷ reply.BadSession ∷ reply.BadSession ∷ reply.Done ∷ reply.Tid 1 ∷ reply.InTransaction ∷ reply.NotSubscribed (codes "t") ∷ reply.SubNoTable (codes "v") ∷ []
@@ -235,6 +251,20 @@ pub row_schema : told_in (joins 1 ∷ creates 1 (codes "t") none
     ∷ reply.Found (plain_terms (rec (codes "t") 1 (codes "a") ∷ [])) ∷ reply.Found none ∷ reply.Done ∷ reply.Atomic 1 ∷ reply.AtomicOk ∷ []
 unfolding outcome canon int_contents
 row_schema = refl
+
+-- of two indexes one is taken away, and the other answers
+abbrev two_indexes : PlainTerms
+two_indexes = options (attributes_are (words (word (codes "k") ∷ word (codes "v") ∷ word (codes "w") ∷ [])) ∷ indexes_are (words (word (codes "v") ∷ word (codes "w") ∷ [])) ∷ [])
+
+abbrev row_of_two : PlainTerms
+row_of_two = plain_terms (word (codes "x") ∷ num 1 ∷ word (codes "a") ∷ word (codes "b") ∷ [])
+
+pub row_other_index : told_in (joins 1 ∷ creates 1 (codes "x") two_indexes ∷ call 1 (DoCommand (command.Schema (DelIndex (codes "x") (is.Atom (codes "v"))))) ∷ call 1 (DoCommand (command.TableInfo (codes "x") item.Index))
+    ∷ begins 1 ∷ does 1 (op.Write (is.Tuple row_of_two)) ∷ does 1 (op.IndexRead (codes "x") (is.Atom (codes "b")) (is.Atom (codes "w"))) ∷ does 1 (op.IndexRead (codes "x") (is.Atom (codes "a")) (is.Atom (codes "v"))) ∷ [])
+    ≡ reply.Done ∷ reply.AtomicOk ∷ reply.AtomicOk ∷ reply.Told (info.Index (numbers (4 ∷ [])))
+    ∷ reply.Tid 1 ∷ reply.Done ∷ reply.Found (plain_terms (tuple row_of_two ∷ [])) ∷ reply.NoIndex (codes "x") (is.Atom (codes "v")) ∷ []
+unfolding outcome canon int_contents
+row_other_index = refl
 
 -- terms that are no events: age 0, another table, a record of arity 2, another tag, a detailed delete_object's own tag
 pub no_age : change_of (event (triple (atom (codes "write")) (rec (codes "t") 1 (codes "a")) (tid 0))) ≡ None

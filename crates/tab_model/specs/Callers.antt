@@ -268,3 +268,12 @@ pub record AreHeard (σ : State) (ks : Callers) : Type 0 where
   pub known : (n : ℕ) (t : Transaction) → transaction_at σ n ≡ Some t → (ks n).transaction ≡ t
   pub waits : (n : ℕ) (q : Queued) → request_in σ.queue n ≡ Some q → (ks n).queued ≡ Some q.operation
   pub aged : (n : ℕ) → (ks n).transaction.age < σ.next_age
+
+-- a reply that says nothing was done: what a caller knows stays, there is no entry, and the queue, the next age and the
+-- asker's post stay
+pub record IsUnheard (r : Reply) : Type 0 where
+  pub knows : (k : Caller) (a : Ask) → hears k a r ≡ k
+  pub entry : (n : ℕ) (over : List ℕ) (k : Caller) (a : Ask) → entry_told n over k a r ≡ None
+  pub queue : (n : ℕ) (k : Caller) (a : Ask) (qs : List Queued) → queue_told n k a r qs ≡ qs
+  pub next : (k : Caller) (a : Ask) (age : ℕ) → next_told k a r age ≡ age
+  pub post : (a : Ask) (p : Post) → post_by_answer a r p ≡ p

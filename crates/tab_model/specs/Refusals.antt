@@ -9,7 +9,7 @@ use Rattle.tab_model.specs.declared.data.Move.{Move}
 use Rattle.tab_model.specs.Alone.{start, after, back}
 use Rattle.tab_model.specs.Locks.{locks_of}
 use Rattle.tab_model.specs.State.{Transaction, Seat, Queued, State, seat_at, transaction_in, transaction_at, mid_of}
-use Rattle.tab_model.specs.Outcome.{Ask, DoCommand, with_transaction, with_seat, with_queue, refused, emptied, more, is_empty}
+use Rattle.tab_model.specs.Outcome.{Ask, DoCommand, outcome, with_transaction, with_seat, with_queue, refused, emptied, more, is_empty}
 
 -- what a reply says of the state after it (this project's own rule, but for a restart: Mnesia User's Guide,
 -- "Locking"): as before; as before but for the post's count of refusals; one request more in the queue; the
@@ -35,6 +35,10 @@ standing reply.OutboxFull = Counted
 standing reply.Waiting = Queues
 standing reply.Restart = Emptied
 standing r = Changes
+
+-- whatever is asked, a reply leaves the state as it was
+abbrev pub LeavesAll : Reply → Type 0
+LeavesAll r = (σ : State) (over : List ℕ) (n : ℕ) (a : Ask) → (outcome σ over n a).reply ≡ r → (outcome σ over n a).state ≡ σ
 
 -- the asker's post counts one refusal more
 abbrev pub counted : State → Option Seat → State

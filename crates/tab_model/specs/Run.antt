@@ -4,6 +4,7 @@ use Rattle.std.specs.List.{filter}
 use Rattle.tab_model.specs.declared.data.Reply.{Reply}
 use Rattle.tab_model.specs.declared.data.Reply.TheVariants as reply
 use Rattle.tab_model.specs.declared.data.Item.{Item}
+use Rattle.tab_model.specs.declared.data.Level.{Level}
 use Rattle.tab_model.specs.declared.data.Schema.{Schema}
 use Rattle.tab_model.specs.declared.data.Command.{Command}
 use Rattle.tab_model.specs.declared.data.Command.TheVariants as command
@@ -11,7 +12,10 @@ use Rattle.tab_model.specs.declared.data.Entry.{Entry}
 use Rattle.tab_model.specs.Schemas.{table_of_schema, schema_refusal, removed}
 use Rattle.tab_model.specs.Log.{serial, in_force, commits_from, IsLegal}
 use Rattle.tab_model.specs.Slices.{slice}
+use Rattle.tab_model.specs.Since.{AllStood, AllAged, RowsSince}
+use Rattle.tab_model.specs.Worlds.{rows_of}
 use Rattle.tab_model.specs.State.{Transaction, Seat, State, seat_at, is_waiting, is_busy, level_in, mid_of}
+use Rattle.tab_model.specs.Reached.{AreAged}
 use Rattle.tab_model.specs.Outcome.{Ask, Join, Leave, Retry, Take, DoCommand, Outcome, outcome, is_empty, batch_to, end_to, events_now, subscribe_refusal, is_at}
 
 -- those whose posts are handed an item in a step
@@ -108,6 +112,11 @@ pub record IsNew (n : ℕ) (log : List Entry) (taken : List Item) : Type 0 where
   pub owed : slice n log ≡ []
   pub taken_none : taken ≡ []
 
+-- a list is a beginning of another
+pub record Begins (xs ys : List Item) : Type 0 where
+  pub rest : List Item
+  pub is : xs ++ rest ≡ ys
+
 -- a state is what the log says, and what its sessions have taken
 pub record IsTied (σ : State) (log : List Entry) (taken : ℕ → List Item) : Type 0 where
   pub tables : σ.tables ≡ serial log
@@ -115,11 +124,16 @@ pub record IsTied (σ : State) (log : List Entry) (taken : ℕ → List Item) : 
   pub commits : σ.commits ≡ commits_from 0 log
   pub seats : (n : ℕ) (s : Seat) → seat_at σ.seats n ≡ Some s → IsSeatTied n s log (taken n)
   pub fresh : (n : ℕ) → σ.greatest < n → IsNew n log (taken n)
-
--- a list is a beginning of another
-pub record Begins (xs ys : List Item) : Type 0 where
-  pub rest : List Item
-  pub is : xs ++ rest ≡ ys
+  -- each session, also one that left, has taken a beginning of what the log owes it
+  pub begun : (n : ℕ) → Begins (taken n) (slice n log)
+  -- where a session watches a table, the changes since it subscribed give the table's rows now
+  pub since : (n : ℕ) (s : Seat) (t : List ℕ) (l : Level) → seat_at σ.seats n ≡ Some s → level_in s.watching t ≡ Some l → RowsSince n t l log (rows_of σ.tables t)
+  -- each subscription was made on a table that stood then
+  pub stood : AllStood [] log
+  -- ages are from 1 on: of commits, of open transactions, and of the next
+  pub aged : AllAged log
+  pub ages : AreAged σ.seats
+  pub next_age : 0 < σ.next_age
 
 abbrev pub leaves : ℕ → Call
 leaves n = record { session = n; ask = Leave; over = [] }

@@ -2,6 +2,7 @@
 use Rattle.std.specs.Prelude.{◌≡◌, ℕ, List, [], ◌∷◌, ◌++◌, Bool, true, false, ◌&&◌, ◌||◌, ◌==◌, Some, is_some, ◌<◌, filter_map}
 use Rattle.std.specs.List.{filter, list_any}
 use Rattle.std.specs.Str.{bytes_eq}
+use Rattle.tab_term.specs.Data.{PlainTerms}
 use Rattle.tab_model.specs.declared.data.Change.{Change}
 use Rattle.tab_model.specs.declared.data.Level.{Level}
 use Rattle.tab_model.specs.declared.data.Entry.{Entry}
@@ -16,7 +17,7 @@ use Rattle.tab_model.specs.Schemas.{removed}
 use Rattle.tab_model.specs.Tables.{Rows, applied}
 use Rattle.tab_model.specs.Worlds.{World, Table, find}
 use Rattle.tab_model.specs.Log.{has_session, is_removed, entered, serial}
-use Rattle.tab_model.specs.Slices.{slice_after}
+use Rattle.tab_model.specs.Slices.{dump_of, slice_after}
 
 abbrev pub is_of : List ℕ → Change → Bool
 is_of t c = bytes_eq (table_of_change c) t
@@ -104,10 +105,11 @@ AllAged [] = Unit {0}
 AllAged (e ∷ es) = HasAge e × AllAged es
 
 -- a table's rows are those of it at the beginning of a subscription that stands, with the changes since applied: those of
--- the log, and those that the items owed since the begin mark tell
+-- the log, and those that the items owed since the begin mark tell; and so are the records of its dump, where the mark has one
 pub record RowsSince (s : ℕ) (t : List ℕ) (l : Level) (log : List Entry) (rows : Rows) : Type 0 where
   pub subscription : StandsSince s t l log
   pub table : Table
   pub stood : find (serial subscription.earlier) t ≡ Some table
   pub now : rows ≡ applied table.def.kind table.rows (changes_on t subscription.since)
   pub told : rows ≡ applied table.def.kind table.rows (changes_told t (slice_after s (subscription.earlier ++ Subscribed s t l subscription.dump ∷ []) subscription.since))
+  pub dumped : (records : PlainTerms) → dump_of (serial subscription.earlier) t subscription.dump ≡ Some records → rows ≡ applied table.def.kind (terms_list records) (changes_on t subscription.since)

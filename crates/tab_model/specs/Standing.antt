@@ -77,5 +77,11 @@ may_enter_seat σ n Leave joined = false
 may_enter_seat σ n Retry joined = false
 may_enter_seat σ n Take joined = false
 
+-- a commit of the session would end its transaction
+pub record EndsTransaction (σ : State) (n : ℕ) : Type 0 where
+  pub transaction : Transaction
+  pub opened : transaction_at σ n ≡ Some transaction
+  pub outermost : (mid_of σ transaction).saved ≡ []
+
 abbrev pub may_enter : State → ℕ → Ask → Bool
 may_enter σ n a = may_enter_seat σ n a (is_joined σ n)

@@ -1,6 +1,6 @@
 //! Laws of the definitions. Each is the contract of a function that does nothing.
 
-ghost use Rattle.std.specs.Prelude.{◌≡◌, ◌≢◌, ◌<◌, ◌↔◌, ◌⊎◌, ℕ, List, [], ◌∷◌, ◌++◌, Bool, true, false, not, if◌then◌else◌, Some, None, map};
+ghost use Rattle.std.specs.Prelude.{◌≡◌, ◌≢◌, ◌<◌, ◌↔◌, ◌⊎◌, ℕ, List, [], ◌∷◌, ◌++◌, Bool, true, false, not, if◌then◌else◌, Some, None, is_some, map};
 ghost use Rattle.std.specs.List.{filter, list_any};
 ghost use Rattle.tab_term.specs.Data.{PlainTerm, PlainTerms};
 ghost use Rattle.tab_term.specs.Same.{same};
@@ -12,13 +12,16 @@ ghost use Rattle.tab_model.specs.declared.data.Entry.{Entry};
 ghost use Rattle.tab_model.specs.declared.data.Entry.TheVariants.{Subscribed};
 ghost use Rattle.tab_model.specs.declared.data.Event.{Event};
 ghost use Rattle.tab_model.specs.declared.data.Item.{Item};
+ghost use Rattle.tab_model.specs.declared.data.InfoItem.{InfoItem};
 ghost use Rattle.tab_model.specs.declared.data.Kind.{Kind};
 ghost use Rattle.tab_model.specs.declared.data.Kind.TheVariants as kind;
 ghost use Rattle.tab_model.specs.declared.data.Level.{Level};
+ghost use Rattle.tab_model.specs.declared.data.Limit.{Limit};
 ghost use Rattle.tab_model.specs.declared.data.Limits.{Limits};
 ghost use Rattle.tab_model.specs.declared.data.Move.{Move};
 ghost use Rattle.tab_model.specs.declared.data.Move.TheVariants.{Do, Undo};
 ghost use Rattle.tab_model.specs.declared.data.Operation.{Operation};
+ghost use Rattle.tab_model.specs.declared.data.Part.{Part};
 ghost use Rattle.tab_model.specs.declared.data.Reply.TheVariants as reply;
 ghost use Rattle.tab_model.specs.declared.data.Schema.{Schema};
 ghost use Rattle.tab_model.specs.declared.data.Command.TheVariants as command;
@@ -34,13 +37,13 @@ ghost use Rattle.tab_model.specs.Ages.{Ages, Owned, Granted, Wait, Die, Covered,
 ghost use Rattle.tab_model.specs.Log.{entered, serial, serial_from, stands, in_force, IsRight, IsLegal, commits_from};
 ghost use Rattle.tab_model.specs.Since.{changes_on, changes_told, deletes, StandsSince, AllStood, AllAged, RowsSince};
 ghost use Rattle.tab_model.specs.Slices.{dump_of, owed, slice, slice_after};
-ghost use Rattle.tab_model.specs.History.{Base, empty, in_force_since, owed_since, slice_since, slice_since_after, IsHistory, tables_after, folded, Admits, forgotten};
-ghost use Rattle.tab_model.specs.State.{State, Seat, Transaction, Queued, new, seat_at, transaction_at, request_in, ages_of, age_at, moves_at, told_at, level_in, IsSound};
-ghost use Rattle.tab_model.specs.Outcome.{Ask, Retry, Take, DoCommand, outcome};
-ghost use Rattle.tab_model.specs.Refusals.{AsBefore, standing, counted, requested, queued, empty_again, restarted, Restarts, EndsLevel, IsSole};
+ghost use Rattle.tab_model.specs.History.{Base, empty, level_at, in_force_since, owed_since, slice_since, slice_since_after, IsHistory, tables_after, folded, Admits, forgotten};
+ghost use Rattle.tab_model.specs.State.{State, Seat, Transaction, Queued, Outbox, new, seat_at, transaction_at, request_in, ages_of, age_at, moves_at, told_at, level_in, IsSound};
+ghost use Rattle.tab_model.specs.Outcome.{Ask, Join, Leave, Retry, Take, DoCommand, outcome};
+ghost use Rattle.tab_model.specs.Refusals.{AsBefore, standing, counted, requested, queued, empty_again, restarted, Restarts, EndsLevel, IsSole, LeavesAll};
 ghost use Rattle.tab_model.specs.Run.{Call, AllJoinEmpty, Begins, leaves, JoinsEmpty, IsTied, outcome_of, after_all, log_of, replies_of, taken_of, entries, taken_now};
-ghost use Rattle.tab_model.specs.Standing.{JoinsChannel, MayStand, Stands, still_joined, may_enter};
-ghost use Rattle.tab_model.specs.Callers.{Callers, newcomers, entry_told, told_one, callers_after, log_told, queue_after, next_after, no_post, post_after, AreHeard};
+ghost use Rattle.tab_model.specs.Standing.{EndsTransaction, JoinsChannel, MayStand, Stands, still_joined, may_enter};
+ghost use Rattle.tab_model.specs.Callers.{Callers, newcomers, entry_told, told_one, callers_after, log_told, queue_after, next_after, no_post, post_after, AreHeard, IsUnheard};
 
 /// For every schedule of steps: commits are numbered in order and were told what they are told alone in that order;
 /// the tables are those of running them so; each open transaction was told what it is told alone on the tables as they
@@ -48,7 +51,7 @@ ghost use Rattle.tab_model.specs.Callers.{Callers, newcomers, entry_told, told_o
 /// order. Each subscription was made on a table that stood then, and each commit's age is from 1 on. Where a subscription
 /// stands now, the changes of the commits since, and so those that the session's items since its begin mark tell, applied
 /// to the table's rows at its beginning, give the table's rows now.
-#[tactic(auto, using(crate::proofs::Schedules::schedule_legal, crate::proofs::Schedules::schedule_tables, crate::proofs::Schedules::schedule_told, crate::proofs::Schedules::schedule_rows, crate::proofs::SubscribedTables::schedule_stood, crate::proofs::PositiveAges::schedule_aged, crate::proofs::SubscribedTables::schedule_applied))]
+#[tactic(auto, using(crate::proofs::Schedules::schedule_legal, crate::proofs::Schedules::schedule_tables, crate::proofs::Schedules::schedule_told, crate::proofs::Schedules::schedule_rows, crate::proofs::Schedules::schedule_stood, crate::proofs::PositiveAges::schedule_aged, crate::proofs::Schedules::schedule_applied))]
 pub fn every_schedule()
     ensures legal { (limits : Limits) (calls : List Call) → AllJoinEmpty calls → IsLegal [] 0 (log_of (new limits) calls) }
     ensures tables { (limits : Limits) (calls : List Call) → AllJoinEmpty calls → (after_all (new limits) calls).tables ≡ serial (log_of (new limits) calls) }
@@ -86,7 +89,7 @@ pub fn callers_tell_the_log()
 
 /// A new core has no history and keeps what every reached core has; and each step keeps it, and keeps the state tied to
 /// its log and to what its sessions have taken, whatever the history was.
-#[tactic(auto, using(crate::proofs::Schedules::new_sound, crate::proofs::SoundSteps::step_sound, crate::proofs::TiedSteps::step_tied))]
+#[tactic(auto, using(crate::proofs::Schedules::new_sound, crate::proofs::SoundSteps::step_sound, crate::proofs::TiedSteps::new_tied, crate::proofs::TiedSteps::step_tied))]
 pub fn steps_keep_what_holds()
     ensures new_sound { (limits : Limits) → IsSound (new limits) }
     ensures new_tied { (limits : Limits) → IsTied (new limits) [] (λ m. []) }
@@ -273,4 +276,65 @@ pub fn a_state_stands_over_its_journal()
     ensures sent { (past log : List Entry) (b : Base) (σ : State) (n : ℕ) (s : Seat) → Stands past b log σ → seat_at σ.seats n ≡ Some s → s.outbox.items ≡ slice n past ++ slice_since b n log }
     ensures grows { (past log more : List Entry) (b : Base) (σ τ : State) (n : ℕ) (s r : Seat) → Stands past b log σ → seat_at σ.seats n ≡ Some s → Stands past b (log ++ more) τ → seat_at τ.seats n ≡ Some r → r.outbox.items ≡ s.outbox.items ++ slice_since_after b n log more }
     ensures enters { (σ : State) (over : List ℕ) (n : ℕ) (a : Ask) (e : Entry) → (outcome σ over n a).entry ≡ Some e → may_enter σ n a ≡ true }
+{}
+
+/// Each refusal by its name: whatever was asked, it leaves the state as it was.
+pub fn a_refusal_leaves_all()
+    ensures bad_session { LeavesAll reply.BadSession }
+    ensures no_transaction { LeavesAll reply.NoTransaction }
+    ensures waiting_now { LeavesAll reply.WaitingNow }
+    ensures in_transaction { LeavesAll reply.InTransaction }
+    ensures not_waiting { LeavesAll reply.NotWaiting }
+    ensures system_limit { (l : Limit) → LeavesAll (reply.SystemLimit l) }
+    ensures already_exists { (t : List ℕ) → LeavesAll (reply.AlreadyExists t) }
+    ensures locked { (t : List ℕ) → LeavesAll (reply.Locked t) }
+    ensures bad_definition { (t : List ℕ) (what : Term) → LeavesAll (reply.BadDefinition t what) }
+    ensures no_table { (t : List ℕ) → LeavesAll (reply.SubNoTable t) }
+    ensures already_subscribed { (t : List ℕ) → LeavesAll (reply.AlreadySubscribed t) }
+    ensures not_subscribed { (t : List ℕ) → LeavesAll (reply.NotSubscribed t) }
+    ensures overflow_untold { LeavesAll reply.OverflowUntold }
+{}
+
+/// Replies that tell a caller nothing, whatever it asked: its transaction and its queued operation are what they were, and
+/// there is no entry.
+#[tactic(auto, using(crate::proofs::Unheard::bad_command, crate::proofs::Unheard::no_memory, crate::proofs::Unheard::bad_session, crate::proofs::Unheard::no_transaction, crate::proofs::Unheard::waiting_now, crate::proofs::Unheard::in_transaction, crate::proofs::Unheard::not_waiting, crate::proofs::Unheard::system_limit))]
+pub fn what_was_not_done_is_not_heard()
+    ensures bad_command { IsUnheard reply.BadCommand }
+    ensures no_memory { IsUnheard reply.NoMemory }
+    ensures bad_session { IsUnheard reply.BadSession }
+    ensures no_transaction { IsUnheard reply.NoTransaction }
+    ensures waiting_now { IsUnheard reply.WaitingNow }
+    ensures in_transaction { IsUnheard reply.InTransaction }
+    ensures not_waiting { IsUnheard reply.NotWaiting }
+    ensures system_limit { (l : Limit) → IsUnheard (reply.SystemLimit l) }
+{}
+
+/// Of a session that left a base keeps nothing once it is forgotten, and all else. A folded subscription whose session has
+/// left adds nothing, and a session is still joined exactly where it sits.
+#[tactic(auto, using(crate::proofs::Folding::level_forgotten))]
+pub fn who_left_is_forgotten()
+    ensures level { (b : Base) (s : ℕ) (t : List ℕ) → level_at (forgotten b s).subscriptions s t ≡ None }
+    ensures tables { (b : Base) (s : ℕ) → (forgotten b s).tables ≡ b.tables }
+    ensures commits { (b : Base) (s : ℕ) → (forgotten b s).commits ≡ b.commits }
+    ensures folded { (b : Base) (s : ℕ) (t : List ℕ) (l : Level) (dump : Bool) → folded false b (Subscribed s t l dump) ≡ b }
+    ensures joined { (σ : State) (s : ℕ) (t : List ℕ) (l : Level) (dump : Bool) → still_joined σ (Subscribed s t l dump) ≡ is_some (seat_at σ.seats s) }
+{}
+
+/// Which steps may give an entry, both ways: a joined session's schema command, its subscription's begin and end, and a commit
+/// that would end its transaction; no other.
+#[tactic(auto, using(crate::proofs::Entering::commit_ends))]
+pub fn these_steps_may_enter()
+    ensures schema { (σ : State) (n : ℕ) (c : Schema) → may_enter σ n (DoCommand (command.Schema c)) ≡ is_some (seat_at σ.seats n) }
+    ensures subscribe { (σ : State) (n : ℕ) (t : List ℕ) (l : Level) (dump : Bool) → may_enter σ n (DoCommand (command.Subscribe t l dump)) ≡ is_some (seat_at σ.seats n) }
+    ensures unsubscribe { (σ : State) (n : ℕ) (t : List ℕ) (l : Level) → may_enter σ n (DoCommand (command.Unsubscribe t l)) ≡ is_some (seat_at σ.seats n) }
+    ensures commit { (σ : State) (n : ℕ) → (may_enter σ n (DoCommand command.Commit) ≡ true) ↔ EndsTransaction σ n }
+    ensures table_info { (σ : State) (n : ℕ) (t : List ℕ) (i : InfoItem) → may_enter σ n (DoCommand (command.TableInfo t i)) ≡ false }
+    ensures begin { (σ : State) (n : ℕ) → may_enter σ n (DoCommand command.Begin) ≡ false }
+    ensures abort { (σ : State) (n : ℕ) (r : Term) → may_enter σ n (DoCommand (command.Abort r)) ≡ false }
+    ensures operation { (σ : State) (n : ℕ) (o : Operation) → may_enter σ n (DoCommand (command.Do o)) ≡ false }
+    ensures one_shot { (σ : State) (n : ℕ) (parts : List Part) (retries : ℕ) → may_enter σ n (DoCommand (command.OneShot parts retries)) ≡ false }
+    ensures join { (σ : State) (n : ℕ) (b : Outbox) → may_enter σ n (Join b) ≡ false }
+    ensures leave { (σ : State) (n : ℕ) → may_enter σ n Leave ≡ false }
+    ensures retry { (σ : State) (n : ℕ) → may_enter σ n Retry ≡ false }
+    ensures take { (σ : State) (n : ℕ) → may_enter σ n Take ≡ false }
 {}

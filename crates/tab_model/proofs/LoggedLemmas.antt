@@ -1,15 +1,23 @@
--- Each step keeps the state tied to its log.
+-- The part of a tie that each step keeps by itself.
 use Rattle.std.proofs.Common.{◌≡◌, ◌≢◌, ℕ, ◌<◌, ◌≤◌, List, [], ◌∷◌, ◌++◌, Bool, true, false, refl, sym, ap, ◌∙◌, subst, arith, append-nil, append_assoc, Some, None}
 use Rattle.std.specs.Prelude.{◌==◌, if◌then◌else◌}
 use Rattle.tab_model.specs.declared.data.Item.{Item}
 use Rattle.tab_model.specs.declared.data.Reply.{Reply}
 use Rattle.tab_model.specs.declared.data.Entry.{Entry}
-use Rattle.tab_model.specs.Log.{entered, stands, IsRight, count_after, commits_from}
+use Rattle.tab_model.specs.Log.{entered, serial, stands, IsRight, IsLegal, count_after, commits_from}
 use Rattle.tab_model.specs.Slices.{owed}
 use Rattle.tab_model.specs.State.{Seat, State, seat_at, level_in}
-use Rattle.tab_model.specs.Run.{entries, item_of, taken_now, IsSeatTied, IsNew, IsTied}
+use Rattle.tab_model.specs.Run.{entries, item_of, taken_now, IsSeatTied, IsNew}
 use Rattle.tab_model.specs.Outcome.{Outcome, change}
 use Rattle.tab_model.proofs.Seats.{eq_true, other_number, seat_at-change, serial-push, in_force-push, commits-push, slice-push, legal-push}
+
+-- a state is what the log says of its tables, its commits and its seats
+pub record IsLogged (σ : State) (log : List Entry) (taken : ℕ → List Item) : Type 0 where
+  pub tables : σ.tables ≡ serial log
+  pub legal : IsLegal [] 0 log
+  pub commits : σ.commits ≡ commits_from 0 log
+  pub seats : (n : ℕ) (s : Seat) → seat_at σ.seats n ≡ Some s → IsSeatTied n s log (taken n)
+  pub fresh : (n : ℕ) → σ.greatest < n → IsNew n log (taken n)
 
 -- what all steps do to the items taken
 abbrev pub kept : ℕ → (ℕ → List Item) → Reply → ℕ → List Item
@@ -24,16 +32,16 @@ none_taken tk n r h m = sym (append-nil (tk m)) ∙ ap (λ xs. tk m ++ xs) (none
 
 -- the outcome of a step of one session keeps the tie
 abbrev pub Ties : ℕ → List Entry → (ℕ → List Item) → Outcome → Type 0
-Ties n log tk o = IsTied o.state (log ++ entries o.entry) (kept n tk o.reply)
+Ties n log tk o = IsLogged o.state (log ++ entries o.entry) (kept n tk o.reply)
 
 -- a step without an entry
-pub quiet_tied : (σ τ : State) (log : List Entry) (tk tk' : ℕ → List Item) → IsTied σ log tk
+pub quiet_tied : (σ τ : State) (log : List Entry) (tk tk' : ℕ → List Item) → IsLogged σ log tk
     → τ.tables ≡ σ.tables → τ.commits ≡ σ.commits → σ.greatest ≤ τ.greatest
     → ((q : ℕ) (r : Seat) → seat_at τ.seats q ≡ Some r → IsSeatTied q r log (tk' q))
     → ((q : ℕ) → τ.greatest < q → tk q ≡ tk' q)
-    → IsTied τ (log ++ []) tk'
+    → IsLogged τ (log ++ []) tk'
 quiet_tied σ τ log tk tk' t ts cs le seats same =
-    subst (λ (l : List Entry). IsTied τ l tk') (sym (append-nil log)) (record {
+    subst (λ (l : List Entry). IsLogged τ l tk') (sym (append-nil log)) (record {
       tables = ts ∙ t.tables;
       legal = t.legal;
       commits = cs ∙ t.commits;
@@ -47,13 +55,13 @@ pub record Moves (q : ℕ) (log : List Entry) (e : Entry) (x r : Seat) : Type 0 
   pub items : r.outbox.items ≡ x.outbox.items ++ owed q log e
 
 -- a step with an entry
-pub entry_tied : (σ τ : State) (log : List Entry) (tk tk' : ℕ → List Item) (e : Entry) → IsTied σ log tk
+pub entry_tied : (σ τ : State) (log : List Entry) (tk tk' : ℕ → List Item) (e : Entry) → IsLogged σ log tk
     → τ.tables ≡ entered σ.tables e → τ.commits ≡ count_after σ.commits e → τ.greatest ≡ σ.greatest
     → IsRight σ.tables σ.commits e
     → ((q : ℕ) (r : Seat) → seat_at τ.seats q ≡ Some r → (x : Seat) × (seat_at σ.seats q ≡ Some x) × Moves q log e x r)
     → ((q : ℕ) → σ.greatest < q → ((u : List ℕ) → stands q u None e ≡ None) × (owed q log e ≡ []))
     → ((q : ℕ) → tk q ≡ tk' q)
-    → IsTied τ (log ++ e ∷ []) tk'
+    → IsLogged τ (log ++ e ∷ []) tk'
 entry_tied σ τ log tk tk' e t ts cs gs right seats new same = record {
   tables = ts ∙ ap (λ w. entered w e) t.tables ∙ sym (serial-push [] log e);
   legal = legal-push [] 0 log e t.legal (subst (λ w. IsRight w (commits_from 0 log) e) t.tables (subst (λ (c : ℕ). IsRight σ.tables c e) t.commits right));

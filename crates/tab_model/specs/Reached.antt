@@ -1,0 +1,12 @@
+-- What every reached state has besides, of its ages (this project's own).
+use Rattle.std.specs.Prelude.{◌<◌, List, [], ◌∷◌, Option, Some, None}
+use Rattle.tab_model.specs.State.{Transaction, Seat}
+
+-- ages are from 1 on
+abbrev pub IsAged : Option Transaction → Type 0
+IsAged None = Unit {0}
+IsAged (Some transaction) = 0 < transaction.age
+
+abbrev pub AreAged : List Seat → Type 0
+AreAged [] = Unit {0}
+AreAged (s ∷ seats) = IsAged s.transaction × AreAged seats
