@@ -8,7 +8,8 @@ for each allocation that it makes: with the nth refused. What is answered `{erro
 all replies are the stream's. A run may end with status 1 and its line instead where memory was refused at the start or for the
 frame itself, behind the replies to all earlier frames; how many did is told, and how many ended for a reply's frame, which are
 not judged. A one-shot uses up an age, so each of one_shots.py has runs of its own, with a probe behind it: it left no level, no
-lock, no request and no change. No contract ties an answer to memory that was refused, so this is where it is seen. Wants a C
+lock, no request and no change. On a connection each larger allocation is refused, so that a long frame finds no memory: it is answered
+so, and the session goes on. No contract ties an answer to memory that was refused, so this is where it is seen. Wants a C
 compiler, for a `malloc` that refuses. One line tells each run that differs; the last line is `N passed, M failed`, and the
 status 1 where one failed.
 """
@@ -21,15 +22,18 @@ import os
 import subprocess
 import sys
 import tempfile
+import time
 
 HERE = os.path.dirname(os.path.abspath(__file__))
 sys.path.insert(0, os.path.join(HERE, "..", "examples"))
+from connection import Connection  # noqa: E402
 from frames import frame, read  # noqa: E402
 from one_shots import ONE_SHOTS, PROBED  # noqa: E402
 from streams import streams  # noqa: E402
 
 # Refuses the allocation number NTH of those that are made once FROM pieces were read. What was refused is told on REPORT: how
 # many pieces had been read, and how many allocations made since the last. Where NTH is 0 this is told before each read instead.
+# Each of more than LARGEST bytes is refused too, where that is not 0.
 MALLOC = r"""
 #define _GNU_SOURCE
 #include <dlfcn.h>
@@ -38,7 +42,7 @@ MALLOC = r"""
 #include <sys/syscall.h>
 #include <unistd.h>
 
-static long made, since, reads, from, nth, report;
+static long made, since, reads, from, nth, report, largest;
 static void *(*allocate)(size_t), *(*move)(void *, size_t);
 static ssize_t (*get)(int, void *, size_t);
 
@@ -55,6 +59,7 @@ __attribute__((constructor)) static void start(void) {
     from = number("FROM");
     nth = number("NTH");
     report = number("REPORT");
+    largest = number("LARGEST");
 }
 
 static int tell(void) {
@@ -63,21 +68,23 @@ static int tell(void) {
     return syscall(SYS_write, report, line, size) > 0;
 }
 
-static int refuses(void) {
+static int refuses(size_t size) {
     ++since;
+    if (largest && size > (size_t)largest)
+        return 1;
     return reads >= from && ++made == nth && tell();
 }
 
 void *malloc(size_t size) {
     if (!allocate)
         allocate = (void *(*)(size_t))dlsym(RTLD_NEXT, "malloc");
-    return refuses() ? 0 : allocate(size);
+    return refuses(size) ? 0 : allocate(size);
 }
 
 void *realloc(void *room, size_t size) {
     if (!move)
         move = (void *(*)(void *, size_t))dlsym(RTLD_NEXT, "realloc");
-    return refuses() ? 0 : move(room, size);
+    return refuses(size) ? 0 : move(room, size);
 }
 
 ssize_t read(int file, void *room, size_t size) {
@@ -301,6 +308,30 @@ def all_tries(program):
         yield case.name, (one_shot_end, program, case, len(case.given))
 
 
+def served_faults(program):
+    """A frame on a connection for which no memory is found, cut in several ways, between two that find some."""
+    env = {"LD_PRELOAD": SHIM, "LARGEST": "300000"}
+    words = [program, "serve", "--port", "0", "--connections", "1"]
+    server = subprocess.Popen(words, stdout=subprocess.PIPE, env=env, text=True)
+    try:
+        connection = Connection(int(server.stdout.readline().rsplit(":", 1)[1]))
+        short, long = frame(("read", "t", 1)), frame(("write", ("t", 1, bytes(900_000))))
+        wanted = [("reply", reply) for reply in ([], NO_MEMORY, [])]
+        if (told := [connection.ask(("create_table", "t", [])), connection.ask("begin")]) != [("atomic", "ok"), ("tid", 1)]:
+            yield f"a served frame: {told}"
+        for cut in (0, 1, 4, 70_000, 400_000, len(long) - 1):
+            connection.socket.sendall(short + long[:cut])
+            time.sleep(0.05)
+            connection.socket.sendall(long[cut:] + short)
+            if (told := [connection.receive() for _ in wanted]) != wanted:
+                yield f"a served frame cut at {cut}: {told}"
+    except OSError as error:
+        yield f"a served frame: {error!r}"
+    finally:
+        server.kill()
+        server.wait()
+
+
 def main():
     global SHIM
     if len(sys.argv) != 2:
@@ -311,14 +342,17 @@ def main():
         names, tries = zip(*all_tries(program))
         with concurrent.futures.ProcessPoolExecutor(os.cpu_count()) as pool:
             told = list(pool.map(all_ends, tries))
-    total, failed = collections.Counter(), 0
+        served = list(served_faults(program))
+    total, failed = collections.Counter(), len(served)
+    for fault in served:
+        print(fault)
     for name, (ends, faults) in zip(names, told):
         total += ends
         failed += len(faults)
         for fault in faults[:5]:
             print(f"{name}: {fault}")
     print(", ".join(f"{total[end]} {text}" for end, text in ENDS.items()))
-    print(f"{sum(total.values()) - total['none'] - total['reply']} passed, {failed} failed")
+    print(f"{sum(total.values()) - total['none'] - total['reply'] + (not served)} passed, {failed} failed")
     sys.exit(1 if failed else 0)
 
 

@@ -7,7 +7,8 @@
 Each row is a server with a table of so many records, `{t, Key, Key}`, or of 40 that have half a megabyte each, and so many connections
 that make rounds side by side: each sends a request and waits for its reply before it sends the next. A line has the processor time of the server for a round in
 microseconds, of its threads and of the system for it, and the memory that it holds before and after the rounds. Its journal
-holds 1,024 entries. The wall time of a round would be mostly that of the clients here.
+holds 1,024 entries. The wall time of a round would be mostly that of the clients here. The last line has what 64 connections take that
+have asked for nothing but one commit.
 """
 
 import os
@@ -108,6 +109,23 @@ def measured(process, port, what, connections, records, rounds):
     return (after - before) / (rounds // connections * connections) * 1e6, held, holds
 
 
+def standing(program, count=64):
+    """What a server holds with so many connections: threads, descriptors, megabytes of addresses and of memory."""
+    words = [program, "serve", "--port", "0", "--connections", str(count), "--forever"]
+    process = subprocess.Popen(words, stdout=subprocess.PIPE, text=True)
+    port = int(process.stdout.readline().rsplit(":", 1)[1])
+    clients = [Client(port) for _ in range(count)]
+    for client in clients:
+        client.make([frame("begin"), frame("commit")], 1)
+    with open(f"/proc/{process.pid}/status") as status:
+        found = dict(line.split(":", 1) for line in status)
+    descriptors = len(os.listdir(f"/proc/{process.pid}/fd"))
+    process.kill()
+    process.wait()
+    addresses, held = (int(found[name].split()[0]) / 1000 for name in ("VmSize", "VmRSS"))
+    return f"{int(found['Threads'])} threads, {descriptors} descriptors, {addresses:.0f} MB of addresses, {held:.1f} MB held"
+
+
 def main():
     if len(sys.argv) < 2:
         sys.exit(__doc__)
@@ -121,6 +139,7 @@ def main():
         process.wait()
         behind = f", {records} records" if records else ""
         print(f"{what}{behind}, {connections} connections: {micros:.1f} us a round, {held:.1f} MB before, {holds:.1f} MB after", flush=True)
+    print(f"64 connections: {standing(sys.argv[1])}")
 
 
 if __name__ == "__main__":

@@ -1,7 +1,10 @@
 //! The requests of one connection.
 
+ghost use Rattle.std.specs.Prelude.{◌≤◌, length};
+
 use crate::answers::{Answers, Unwritten};
 use crate::gate::Gate;
+use crate::place::Place;
 use crate::seated::Seated;
 use crate::watch::Watch;
 use std::alloc::Global;
@@ -27,6 +30,9 @@ pub struct Served<'a, H: House, W: Write, G: Gate> {
     pub seat: Seat,
     pub watch: &'a Watch,
     pub answers: Answers<'a, W, G>,
+    /// Where the stream stands, and whether the frame there is read over.
+    pub place: Place,
+    pub skips: bool,
 }
 
 /// Why no more requests of a session are answered.
@@ -39,7 +45,7 @@ pub enum Ending {
 }
 
 /// Answers the requests of a session in order, until its stream ends, a read or a write fails, a frame is too long or no
-/// memory is found for one, or a read takes too long while its transaction is open. Then the session leaves.
+/// memory is found for a reply's, or a read takes too long while its transaction is open. Then the session leaves.
 pub fn serve_session<H: House, R: Read, W: Write, G: Gate>(
     house: &H,
     alloc: Global,
@@ -57,10 +63,12 @@ pub fn serve_session<H: House, R: Read, W: Write, G: Gate>(
         seat: *seat,
         watch,
         answers: Answers::new(alloc, sink, gate, seat.session()),
+        place: Place::new(),
+        skips: false,
     };
     let ending = match served.stream(reader) {
         Ok(ending) => ending,
-        Err(Unwritten) => Ending::Over,
+        Err(_) => Ending::Over,
     };
     shared.leave(house, seat);
     watch.stop(house);
@@ -100,17 +108,69 @@ impl<'a, H: House, W: Write, G: Gate> Served<'a, H, W, G> {
 
     /// Answers the frames that are whole with this piece.
     fn piece(&mut self, splitter: &mut Splitter, piece: &[u8]) -> Result<(), Unwritten> {
+        let piece = &piece[self.skipped(piece)..];
         match splitter.feed(piece) {
-            Ok(frames) => self.frames(&frames),
-            Err(FrameFault::FrameTooLong(_)) => {
-                self.frames(splitter.before_fault())?;
-                self.answers.begin();
-                self.answers.keep(self.house, &Reply::BadTerm)?;
-                self.answers.write(self.house)?;
-                Err(Unwritten)
+            Ok(frames) => {
+                self.pass(piece);
+                self.frames(&frames)
             }
-            Err(_) => Err(Unwritten),
+            Err(FrameFault::FrameTooLong(_)) => self.too_long(splitter),
+            Err(_) => self.one_by_one(splitter, piece),
         }
+    }
+
+    /// How much of a piece belongs to a frame that is read over.
+    fn skipped(&mut self, piece: &[u8]) -> usize
+        ensures { result ≤ length piece.now }
+    {
+        if !self.skips {
+            return 0;
+        }
+        let count = self.place.pass(piece);
+        self.skips = !self.place.is_between();
+        count
+    }
+
+    fn pass(&mut self, piece: &[u8]) {
+        let mut rest = piece;
+        for _ in self.house.forever() {
+            if rest.is_empty() {
+                return;
+            }
+            rest = &rest[self.place.pass(rest)..];
+        }
+    }
+
+    fn too_long(&mut self, splitter: &Splitter) -> Result<(), Unwritten> {
+        self.frames(splitter.before_fault())?;
+        self.answers.begin();
+        self.answers.keep(self.house, &Reply::BadTerm)?;
+        self.answers.write(self.house)?;
+        Err(Unwritten)
+    }
+
+    /// Memory is short: takes the frames of a piece one by one. One that finds none still is told so, and read over.
+    fn one_by_one(&mut self, splitter: &mut Splitter, piece: &[u8]) -> Result<(), Unwritten> {
+        let mut rest = piece;
+        for _ in self.house.forever() {
+            if rest.is_empty() {
+                return Ok(());
+            }
+            let count = self.place.pass(rest);
+            match splitter.feed(&rest[..count]) {
+                Ok(frames) => self.frames(&frames)?,
+                Err(FrameFault::FrameTooLong(_)) => return self.too_long(splitter),
+                Err(_) => {
+                    *splitter = Splitter::new(self.alloc);
+                    self.skips = !self.place.is_between();
+                    self.answers.begin();
+                    self.answers.keep(self.house, &Reply::NoMemory)?;
+                    self.answers.write(self.house)?;
+                }
+            }
+            rest = &rest[count..];
+        }
+        unreachable!()
     }
 
     fn frames(&mut self, frames: &[Frame]) -> Result<(), Unwritten> {

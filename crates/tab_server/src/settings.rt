@@ -4,7 +4,7 @@ use std::time::Duration;
 use tab_proto::Delivery;
 
 /// How all connections of a server are served.
-#[derive(Clone, Copy, Debug)]
+#[derive(Clone, Copy)]
 pub struct Settings {
     pub delivery: Delivery,
     /// A session from which nothing comes for so long leaves where its transaction is open, or where it reads nothing.

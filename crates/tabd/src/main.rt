@@ -20,8 +20,8 @@ fn main(rt: HostRuntime) -> ExitCode {
     let mut input = Counted::new(rt.stdin());
     let mut output = Counted::new(rt.stdout());
     let mut errors = Counted::new(rt.stderr());
-    let asked = asked(&rt);
-    let log = match asked {
+    let wanted = asked(&rt);
+    let log = match wanted {
         Ok(Run::Serve { log, .. }) => log,
         _ => Log::Brief,
     };
@@ -30,7 +30,7 @@ fn main(rt: HostRuntime) -> ExitCode {
     let status = run::<Brand, _, _, _, _, _>(
         &rt,
         opened,
-        asked,
+        wanted,
         &mut input,
         &mut output,
         &mut errors,

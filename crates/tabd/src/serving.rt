@@ -1,6 +1,7 @@
 //! A run of the server.
 
-ghost use Rattle.std.specs.Prelude.{◌≡◌, ◌≤◌};
+ghost use Rattle.std.specs.Prelude.{◌≡◌, ◌≤◌, ◌*◌, option_map};
+ghost use Rattle.std.specs.Duration.{as_nanos};
 
 use crate::Ended;
 use crate::ending::End;
@@ -44,10 +45,13 @@ const fn limits(sessions: u32, journal: u32) -> Limits
 }
 
 /// How connections are served, by what the words say.
-pub fn settings(delivery: Delivery, idle: Option<u32>) -> Settings {
+pub fn settings(delivery: Delivery, idle: Option<u32>) -> Settings
+    ensures delivery { result.delivery ≡ delivery }
+    ensures idle { option_map as_nanos result.idle ≡ option_map (λ s. s * 1000000000) idle }
+{
     let idle = match idle {
-        Some(seconds) if seconds > 0 => Some(Duration::from_secs(u64::from(seconds))),
-        _ => None,
+        Some(seconds) => Some(Duration::from_secs(u64::from(seconds))),
+        None => None,
     };
     Settings { delivery, idle }
 }
