@@ -1,0 +1,225 @@
+#!/usr/bin/env python3
+"""`tabd serve` beside Mnesia and Redis: the same loads on each in turn, on this machine, as rows of a table.
+
+    beside.py PROGRAM                     as beside.py crates/tabd/out/tabd
+    beside.py PROGRAM --into README.md    puts the table into the document, between the lines that name this program
+
+Needs Debian's erlang-base, erlang-mnesia, redis-server and gcc with libc6-dev: run `apt-get update`, then `apt-get install` them. Mnesia
+stands behind a server of the same frames (beside.escript); Redis keeps nothing on the disk. All have 10,000 records with values of 32
+bytes, and each connection asks and waits for the reply (beside.c). A figure is how often tabd's rate is the other's: the median of
+five rounds, in each of which every server is measured once, and the least and the greatest. Other work on the machine moves them: a
+document gets figures of an idle machine alone. LOAD_MS gives the milliseconds of a run, 1,500 where it is not set, and ROUNDS the rounds.
+"""
+
+import os
+import re
+import socket
+import statistics
+import subprocess
+import sys
+import tempfile
+import time
+
+HERE = os.path.dirname(os.path.abspath(__file__))
+sys.path.insert(0, os.path.join(HERE, "..", "examples"))
+from frames import frame, read, spell, take  # noqa: E402
+
+MILLISECONDS = int(os.environ.get("LOAD_MS", "1500"))
+ROUNDS = int(os.environ.get("ROUNDS", "5"))
+# So many processes may want a processor, before figures go into a document.
+IDLE = 0.5
+KEYS, VALUE = 10_000, bytes(range(97, 123)) + b"abcdef"
+# A key that no request has by chance: its places are those of the keys.
+KEY, DIGITS = 0x7A7B7C7D, b"77777777"
+MANY = 100
+# The bytes of a reply's payload before the reply itself.
+BEFORE = len(b"\x83" + spell(("reply", 0))) - 2
+
+LOADS = [
+    ("one request that writes a record", "one-shot of a write", "`SET`"),
+    ("begin, write, commit: three round trips", "begin, write, commit", "`MULTI`, `SET`, `EXEC`"),
+    ("one request that reads a record", "one-shot of a read", "`GET`"),
+    ("begin, read, commit: three round trips", "begin, read, commit", "`MULTI`, `GET`, `EXEC`"),
+    ("one transaction of 100 writes in one send", "one-shot of 100 writes", "`MULTI`, 100 `SET`, `EXEC`"),
+]
+CONNECTIONS = (1, 16)
+
+
+def places(data, key):
+    return [found.start() for found in re.finditer(re.escape(key), data)]
+
+
+def frame_steps(load):
+    """Requests with the beginnings of their replies, as terms of which the last part may differ."""
+    write, found = ("write", ("t", KEY, VALUE)), ("read", "t", KEY)
+    begin, commit = ("begin", ("tid", 1)), ("commit", ("atomic", 1))
+    return {
+        "one-shot of a write": [(("transaction", [write], 1_000), ("atomic", ["ok"]))],
+        "begin, write, commit": [begin, (write, "ok"), commit],
+        "one-shot of a read": [(("transaction", [found], 1_000), ("atomic", [[]]))],
+        "begin, read, commit": [begin, (found, [("t", 0, VALUE)]), commit],
+        "one-shot of 100 writes": [(("transaction", [write] * MANY, 1_000), ("atomic", ["ok"] * MANY))],
+    }[load]
+
+
+def frame_plan(load):
+    lines = []
+    for request, reply in frame_steps(load):
+        data, whole = frame(request), b"\x83" + spell(("reply", reply))
+        # Of a reply it is compared that it is of its kind: ages, numbers and records differ.
+        size = {list: BEFORE + 1, tuple: BEFORE + 2 + len(spell(reply[0])), str: len(whole)}[type(reply)]
+        wanted = whole[:size]
+        lines.append(" ".join(["1", wanted.hex(), data.hex(), *map(str, places(data, KEY.to_bytes(4, "big")))]))
+    return "\n".join(lines) + "\n"
+
+
+def command(*words):
+    return b"".join([b"*%d\r\n" % len(words), *(b"$%d\r\n%s\r\n" % (len(word), word) for word in words)])
+
+
+def redis_plan(load):
+    multi, execute = command(b"MULTI"), command(b"EXEC")
+    put, get = command(b"SET", DIGITS, VALUE), command(b"GET", DIGITS)
+    steps = {
+        "one-shot of a write": [(1, b"+OK", put)],
+        "begin, write, commit": [(1, b"+OK", multi), (1, b"+QUEUED", put), (1, b"*1\r\n+OK", execute)],
+        "one-shot of a read": [(1, b"$32", get)],
+        "begin, read, commit": [(1, b"+OK", multi), (1, b"+QUEUED", get), (1, b"*1\r\n$32", execute)],
+        "one-shot of 100 writes": [(MANY + 2, b"*100\r\n+OK", multi + put * MANY + execute)],
+    }[load]
+    lines = [" ".join([str(replies), wanted.hex(), data.hex(), *map(str, places(data, DIGITS))]) for replies, wanted, data in steps]
+    return "\n".join(lines) + "\n"
+
+
+def ask(connection, data):
+    """The reply to one request of frames."""
+    connection.sendall(data)
+    stream = connection.makefile("rb")
+    return take(stream, int.from_bytes(take(stream, 4), "big"))
+
+
+class Framed:
+    """A server of tabd's frames, which says its port."""
+
+    kind, plan = "frames", staticmethod(frame_plan)
+
+    def __init__(self, *words):
+        self.process = subprocess.Popen(words, stdout=subprocess.PIPE, stderr=subprocess.DEVNULL)
+        self.port = int(self.process.stdout.readline().rsplit(b":", 1)[1])
+        with socket.create_connection(("127.0.0.1", self.port)) as connection:
+            ask(connection, frame(("create_table", "t", [])))
+            for start in range(0, KEYS, 500):
+                writes = [("write", ("t", key, VALUE)) for key in range(start, start + 500)]
+                if b"atomic" not in ask(connection, frame(("transaction", writes, 0))):
+                    raise ValueError("the records were not written")
+
+
+class Redis:
+    kind, plan = "redis", staticmethod(redis_plan)
+
+    def __init__(self):
+        with socket.socket() as free:
+            free.bind(("127.0.0.1", 0))
+            self.port = free.getsockname()[1]
+        words = ["redis-server", "--port", str(self.port), "--bind", "127.0.0.1", "--save", "", "--appendonly", "no"]
+        self.process = subprocess.Popen(words, stdout=subprocess.DEVNULL)
+        with self.connected() as connection:
+            for key in range(KEYS):
+                connection.sendall(command(b"SET", b"%08d" % key, VALUE))
+                connection.recv(100)
+
+    def connected(self):
+        for _ in range(100):
+            try:
+                return socket.create_connection(("127.0.0.1", self.port))
+            except OSError:
+                time.sleep(0.05)
+        raise ValueError("redis-server does not listen")
+
+
+def rate(load_program, server, load, connections):
+    """Rounds a second. A reply that no load wants is an error."""
+    words = [load_program, server.kind, str(server.port), str(connections), str(MILLISECONDS)]
+    told = subprocess.run(words, input=server.plan(load), capture_output=True, text=True, check=True).stdout
+    rounds, restarts, wrong = map(float, told.split())
+    if wrong or not rounds:
+        raise ValueError(f"{load}: {wrong:.0f} replies differ, {rounds} rounds")
+    return rounds, restarts
+
+
+def figure(ratios):
+    return f"{statistics.median(ratios):.2f} ({min(ratios):.2f} to {max(ratios):.2f})"
+
+
+def rows(load_program, servers):
+    for text, load, of_redis in LOADS:
+        for connections in CONNECTIONS:
+            rounds = [{name: rate(load_program, it, load, connections)[0] for name, it in servers.items()} for _ in range(ROUNDS)]
+            beside = [figure([it["tabd"] / it[name] for it in rounds]) for name in ("Mnesia", "Redis")]
+            tabd = statistics.median(it["tabd"] for it in rounds)
+            yield f"| {text} (Redis: {of_redis}) | {connections} | {tabd:,.0f} | {beside[0]} | {beside[1]} |"
+
+
+def version(*words):
+    return subprocess.run(words, capture_output=True, text=True, check=True).stdout.strip()
+
+
+def head():
+    """What was measured where."""
+    vsn = 'application:load(mnesia), {ok, V} = application:get_key(mnesia, vsn), io:format("~s", [V]), halt().'
+    mnesia = version("erl", "-noshell", "-eval", vsn)
+    redis = re.search(r"v=(\S+)", version("redis-server", "--version"))[1]
+    return [
+        f"How often tabd's rate is that of Mnesia {mnesia} behind a server of the same frames, and of Redis {redis}, over sockets on one machine of",
+        f"{os.cpu_count()} cores, {time.strftime('%Y-%m-%d')}: the median of {ROUNDS} rounds, and the least and the greatest (`bench/beside.py`).",
+        "",
+        "| Load | Connections | tabd, rounds a second | times Mnesia's rate | times Redis's rate |",
+        "|---|---|---|---|---|",
+    ]
+
+
+def put_into(path, lines):
+    """Between the two lines of the document that name this program."""
+    with open(path, encoding="utf-8") as file:
+        text = file.read()
+    mark = r"(<!-- bench/beside\.py -->\n).*?(<!-- end -->\n)"
+    text, count = re.subn(mark, lambda found: found[1] + "\n".join(lines) + "\n" + found[2], text, flags=re.S)
+    if count != 1:
+        sys.exit(f"{path}: no place for the table")
+    with open(path, "w", encoding="utf-8") as file:
+        file.write(text)
+
+
+def main():
+    words = sys.argv[1:]
+    if len(words) not in (1, 3) or len(words) == 3 and words[1] != "--into":
+        sys.exit(__doc__)
+    busy = os.getloadavg()[0]
+    if busy > IDLE:
+        print(f"other work is on this machine (load {busy:.1f}): these figures are for no document", file=sys.stderr)
+        if len(words) == 3:
+            sys.exit(1)
+    servers, lines = {}, head()
+    with tempfile.TemporaryDirectory() as folder:
+        load_program = os.path.join(folder, "beside")
+        subprocess.run(["cc", "-O2", "-pthread", "-o", load_program, os.path.join(HERE, "beside.c")], check=True)
+        try:
+            # A connection that was closed may have its seat for a moment yet.
+            servers["tabd"] = Framed(words[0], "serve", "--port", "0", "--connections", "64", "--forever")
+            servers["Mnesia"] = Framed("escript", os.path.join(HERE, "beside.escript"))
+            servers["Redis"] = Redis()
+            for row in rows(load_program, servers):
+                print(row, flush=True)
+                lines.append(row)
+        finally:
+            for server in servers.values():
+                server.process.kill()
+                server.process.wait()
+    if len(words) == 3:
+        put_into(words[2], lines)
+    else:
+        print("\n" + "\n".join(lines))
+
+
+if __name__ == "__main__":
+    main()
