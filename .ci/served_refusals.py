@@ -1,0 +1,450 @@
+#!/usr/bin/env python3
+"""Refuses the built program's server one allocation or thread, each in turn, while one connection is served, and asks on another.
+
+    served_refusals.py PROGRAM
+
+Each case is run once for each allocation and each thread that the server makes for one request, one connection or one event: with the
+nth refused. The session is told `no_memory` and goes on, or, where memory was refused for a connection, a thread, a frame or an event,
+it is closed with no frame; how many were closed for a frame is told. No lock, level or request is left of it: another connection
+writes the same key and changes the table's indexes. What was told `no_memory` is told its reply when it is asked again. Wants a
+C compiler, for a `malloc` that refuses. One line tells each run that differs; the last line is `N passed, M failed`, and the status 1
+where one failed.
+"""
+
+import collections
+import concurrent.futures
+import mmap
+import os
+import select
+import struct
+import subprocess
+import sys
+import tempfile
+import time
+
+HERE = os.path.dirname(os.path.abspath(__file__))
+sys.path.insert(0, os.path.join(HERE, "..", "examples"))
+from connection import Connection  # noqa: E402
+from server import ATOMIC, HERE_OK, OK, Differs, event, same, watch, write  # noqa: E402
+
+# While the first number of CONTROL is not 0, allocations and threads are counted in the second, and the one with that number refused.
+MALLOC = r"""
+#define _GNU_SOURCE
+#include <dlfcn.h>
+#include <errno.h>
+#include <fcntl.h>
+#include <pthread.h>
+#include <stdlib.h>
+#include <sys/mman.h>
+
+static long *control;
+static void *(*allocate)(size_t), *(*move)(void *, size_t);
+
+__attribute__((constructor)) static void start(void) {
+    int file = open(getenv("CONTROL"), O_RDWR);
+    control = mmap(0, 2 * sizeof(long), PROT_READ | PROT_WRITE, MAP_SHARED, file, 0);
+}
+
+static int refuses(void) {
+    long nth = control && control != MAP_FAILED ? __atomic_load_n(control, __ATOMIC_SEQ_CST) : 0;
+    return nth && __atomic_add_fetch(control + 1, 1, __ATOMIC_SEQ_CST) == nth;
+}
+
+void *malloc(size_t size) {
+    if (!allocate)
+        allocate = (void *(*)(size_t))dlsym(RTLD_NEXT, "malloc");
+    return refuses() ? 0 : allocate(size);
+}
+
+void *realloc(void *room, size_t size) {
+    if (!move)
+        move = (void *(*)(void *, size_t))dlsym(RTLD_NEXT, "realloc");
+    return refuses() ? 0 : move(room, size);
+}
+
+int pthread_create(pthread_t *thread, const pthread_attr_t *how, void *(*run)(void *), void *given) {
+    int (*create)(pthread_t *, const pthread_attr_t *, void *(*)(void *), void *) = dlsym(RTLD_NEXT, "pthread_create");
+    return refuses() ? EAGAIN : create(thread, how, run, given);
+}
+"""
+
+NO_MEMORY, MARK = ("error", "no_memory"), ("mnesia_table_begin", "t", "simple")
+# A frame that is read takes so many allocations at most: the bytes, the payload, and the list of the frames.
+OF_A_FRAME = 3
+# So many runs in which nothing was refused, and none is left.
+NONE_LEFT = 2
+# No request takes so many: it is counted, and nothing refused.
+COUNTED = 1_000_000
+# An end that no reply tells takes so many seconds at most; who waits for a lock was told nothing for so many.
+PATIENCE, QUIET = 20.0, 0.05
+SHIM = os.environ.get("TABD_SHIM", "")
+CREATES = [("create_table", name, []) for name in ("t", "u", "w")]
+
+
+class Server:
+    """One whose allocations can be refused, for so many connections."""
+
+    def __init__(self, program, count, *words):
+        self.file = tempfile.TemporaryFile()
+        self.file.truncate(16)
+        self.control = mmap.mmap(self.file.fileno(), 16)
+        env = {"LD_PRELOAD": SHIM, "CONTROL": f"/proc/self/fd/{self.file.fileno()}"}
+        asked = [program, "serve", "--port", "0", "--connections", str(count), *words]
+        pipe = subprocess.PIPE
+        self.process = subprocess.Popen(asked, stdout=pipe, stderr=pipe, text=True, env=env, pass_fds=[self.file.fileno()])
+        self.port = int(self.process.stdout.readline().rsplit(":", 1)[1])
+
+    def __enter__(self):
+        return self
+
+    def __exit__(self, *_):
+        self.process.kill()
+        self.process.communicate()
+        self.control.close()
+        self.file.close()
+
+    def refuse(self, nth):
+        self.control[:] = struct.pack("ll", nth, 0)
+
+    def made(self):
+        """How many allocations and threads were made since; from here on none is refused."""
+        nth, count = struct.unpack("ll", self.control[:])
+        self.control[:8] = struct.pack("l", 0)
+        self.nth = nth
+        return count
+
+    def ends(self):
+        _, err = self.process.communicate(timeout=PATIENCE)
+        same("its end", (self.process.returncode, err), (0, ""))
+
+
+class Closed(Exception):
+    """A connection was closed, behind so many whole frames of what was asked."""
+
+
+def received(connection):
+    try:
+        return connection.receive()
+    except (ConnectionError, ValueError):
+        if connection.stream.read():
+            raise Differs("it is closed inside a frame") from None
+        raise Closed from None
+
+
+def asked(connection, request):
+    """The reply; events before it are kept."""
+    try:
+        connection.send(request)
+    except ConnectionError:
+        raise Closed from None
+    return replied(connection)
+
+
+def replied(connection):
+    while (term := received(connection))[0] != "reply":
+        connection.events.append(term)
+    return term[1]
+
+
+def soon(what, connection, request, wanted):
+    """It is told so at last: who leaves takes a moment."""
+    end = time.monotonic() + PATIENCE
+    while (found := asked(connection, request)) != wanted and time.monotonic() < end:
+        time.sleep(0.002)
+    same(what, found, wanted)
+
+
+def script(*steps):
+    for connection, request, reply in steps:
+        same(f"{request}", asked(connection, request), reply)
+
+
+def free(connection, table):
+    """No lock is held or awaited in the table."""
+    soon(f"an index of {table}", connection, ("add_table_index", table, "val"), ATOMIC)
+    soon(f"no index of {table}", connection, ("del_table_index", table, "val"), ATOMIC)
+
+
+def probe(connection):
+    """It writes the key, and changes both tables."""
+    same("begin", asked(connection, "begin")[0], "tid")
+    for table in ("u", "t"):
+        soon("its key", connection, ("write", (table, 1, "probe")), OK)
+        soon("its table", connection, ("write_lock_table", table), OK)
+    script((connection, ("abort", "probe"), ("aborted", "probe")))
+    free(connection, "t")
+    free(connection, "u")
+
+
+class Case:
+    """What connections 1 and 2 are asked before, a request of connection 1 and its reply; whether it is asked in a transaction,
+    whether it waits for the transaction of connection 2, and whether it puts a mark, for which it may be closed."""
+
+    def __init__(self, name, before, request, reply, inside=False, waits=False, marks=False):
+        self.name, self.before, self.request, self.reply = name, before, request, reply
+        self.inside, self.waits, self.marks = inside, waits, marks
+
+    def told(self, first, second):
+        """The reply. The second commits where the first waits for it, which may be refused too."""
+        first.send(self.request)
+        if self.waits and not select.select([first.socket], [], [], QUIET)[0]:
+            try:
+                asked(second, "commit")
+            except Closed:
+                pass
+            second.close()
+        try:
+            return replied(first)
+        except Closed:
+            return "closed"
+
+    def again(self, first, other):
+        """It was told `no_memory`, and nothing is left of it. Asked again it is told its reply."""
+        if self.waits:
+            # Its request may be in the queue yet.
+            script((first, ("abort", "why"), ("aborted", "why")))
+        elif self.inside:
+            free(other, "u")
+            script((first, self.request, self.reply))
+        else:
+            script((first, "commit", ("error", "no_transaction")))
+            free(other, "t")
+            free(other, "u")
+            # An age that it used up is not told.
+            same("again", asked(first, self.request)[0], self.reply[0])
+
+    def run(self, program, nth):
+        with Server(program, 3) as server:
+            first, second, other = connections = [Connection(server.port) for _ in range(3)]
+            script(*((other, create, ATOMIC) for create in CREATES), (first, "commit", ("error", "no_transaction")))
+            script(*((connections[who - 1], request, reply) for who, request, reply in self.before))
+            if (1, watch(), HERE_OK) in self.before:
+                same("begin mark", first.event(), MARK)
+            server.refuse(nth)
+            told = self.told(first, second)
+            self.count = server.made()
+            end = "none" if self.count < nth else self.judged(told, nth)
+            if end == "none":
+                same("nothing refused, and the reply", told, self.reply)
+            if end == "told no_memory":
+                self.again(first, other)
+            first.close()
+            second.close()
+            probe(other)
+            other.close()
+            server.ends()
+            return end
+
+    def judged(self, told, nth):
+        if told == NO_MEMORY:
+            return "told no_memory"
+        if told == self.reply:
+            return "had its reply"
+        if told == "closed" and nth <= OF_A_FRAME:
+            return "were closed for a frame"
+        if told == "closed" and self.marks:
+            return "were closed for an event"
+        if told == "closed" and nth == self.all:
+            return "were closed for a reply's frame"
+        raise Differs(f"told {told}, wanted {self.reply}")
+
+    def counted(self, program):
+        """How many allocations it takes where none is refused."""
+        self.run(program, COUNTED)
+        self.all = self.count
+
+
+class Watched:
+    """The second commits what the first watches: the first is told each event, or is closed."""
+
+    name, count = "a commit that is watched", 6
+
+    def counted(self, program):
+        pass
+
+    def run(self, program, nth):
+        with Server(program, 2) as server:
+            first, second = Connection(server.port), Connection(server.port)
+            script(*((second, create, ATOMIC) for create in CREATES), (first, watch(), HERE_OK))
+            same("begin mark", first.event(), MARK)
+            script((second, "begin", ("tid", 1)), *((second, write(key, b"v" * 3000), OK) for key in range(self.count)))
+            server.refuse(nth)
+            try:
+                told = asked(second, "commit")
+            except Closed:
+                told = "closed"
+            end, left = self.events(first, told)
+            made = server.made()
+            if made < nth and (told, left) != (("atomic", 1), 0):
+                raise Differs(f"nothing refused, and told {told}, with {left} events left")
+            if told == NO_MEMORY:
+                script((second, "commit", ("atomic", 1)))
+                end, left = self.events(first, ("atomic", 1))
+                same("events left", left, 0)
+                end = "told no_memory"
+            elif told == "closed" and nth > OF_A_FRAME:
+                raise Differs("who commits is closed")
+            elif told == "closed":
+                end, second = "were closed for a frame", first
+            else:
+                first.close()
+            probe(second)
+            for one in (first, second):
+                one.close()
+            server.ends()
+            return end if made >= nth else "none"
+
+    def events(self, first, told):
+        """How it was told what was committed, and how many events are left of it. It is told a beginning, and closed behind it."""
+        for key in range(self.count if told == ("atomic", 1) else 0):
+            try:
+                same("event", first.events.popleft() if first.events else received(first), event(key, b"v" * 3000, 1))
+            except Closed:
+                return "were closed for an event", self.count - key
+        return "had its reply", 0
+
+
+class Joins:
+    """A connection finds no memory or no thread: it is closed with no frame, and counts among those that are served; where the
+    server is to go on for good, its seat is free again."""
+
+    def __init__(self, name, *words):
+        self.name, self.words = name, words
+
+    def counted(self, program):
+        pass
+
+    def run(self, program, nth):
+        with Server(program, 2, *self.words) as server:
+            second = Connection(server.port)
+            script(*((second, create, ATOMIC) for create in CREATES))
+            server.refuse(nth)
+            first = Connection(server.port)
+            end = self.joined(first)
+            made = server.made()
+            if made < nth and end != "had its reply":
+                raise Differs(f"nothing refused, and {end}")
+            probe(second)
+            first.close()
+            if self.words:
+                self.seat_is_free(server)
+            second.close()
+            if not self.words:
+                server.ends()
+            return end if made >= nth else "none"
+
+    def joined(self, first):
+        try:
+            told = asked(first, "begin")
+            if told == NO_MEMORY:
+                told = asked(first, "begin")
+            same("begin", told, ("tid", 1))
+        except Closed:
+            return "were closed for a connection"
+        return "had its reply"
+
+    def seat_is_free(self, server):
+        end = time.monotonic() + PATIENCE
+        while time.monotonic() < end:
+            other = Connection(server.port)
+            try:
+                if asked(other, "begin")[0] == "tid":
+                    return
+            except Closed:
+                pass
+            finally:
+                other.close()
+            time.sleep(0.002)
+        raise Differs("no seat is free")
+
+
+TID, IN_T = ("tid", 1), [(1, "begin", ("tid", 1)), (1, write(1, "a"), OK)]
+IN_U = [*IN_T, (1, ("write", ("t", 2, "b")), OK)]
+RECORDS = [(2, ("transaction", [("write", ("u", key, "v")) for key in range(5)], 0), ("atomic", [OK] * 5))]
+IN_W = [(2, ("transaction", [("write", ("w", key, "v")) for key in range(3)], 0), ("atomic", [OK] * 3))]
+IN_RECORDS = [*RECORDS, (1, "begin", ("tid", 2)), (1, write(1, "a"), OK)]
+ALL = [("u", key, "v") for key in range(5)]
+INNER = ("transaction", [("write", ("u", 1, "b")), ("abort", "why")])
+DEEP = ("transaction", [("write", ("u", 1, "a")), ("transaction", [("transaction", [("write", ("u", 2, "b"))])]), ("read", "u", 1)], 2)
+DEEP_TOLD = ("atomic", [OK, ("atomic", [("atomic", [OK])]), [("u", 1, "a")]])
+HELD = [(2, "begin", ("tid", 1)), (2, ("wread", ("w", 1)), [])]
+WAITS = [(1, "begin", ("tid", 1)), (1, write(1, "a"), OK), (2, "begin", ("tid", 2)), (2, ("read", "u", 1), [])]
+
+CASES = [
+    Case("a begin", [], "begin", TID),
+    Case("a child's begin", IN_T, "begin", TID, True),
+    Case("a write", IN_U, ("write", ("u", 1, "a")), OK, True),
+    Case("a first write", [(1, "begin", TID)], ("write", ("u", b"k" * 40, [1, ("x", 2**100)])), OK, True),
+    Case("a read", IN_RECORDS, ("read", "u", 1), ALL[1:2], True),
+    Case("a read for a write", IN_RECORDS, ("wread", ("u", 1)), ALL[1:2], True),
+    Case("a delete", IN_RECORDS, ("delete", ("u", 1)), OK, True),
+    Case("a delete of a record", IN_RECORDS, ("delete_object", ("u", 1, "v")), OK, True),
+    Case("all keys", IN_RECORDS, ("all_keys", "u"), list(range(5)), True),
+    Case("a match", IN_RECORDS, ("match_object", ("u", "_", "v")), ALL, True),
+    Case("a table's lock", IN_U, ("write_lock_table", "u"), OK, True),
+    Case("a read of no table", [(1, "begin", TID), (1, "begin", TID)], ("read", "nosuch", 1), ("aborted", ("no_exists", "nosuch")), True),
+    Case("a write that waits", WAITS, ("write", ("u", 1, "a")), OK, True, True),
+    Case("a commit", IN_T, "commit", ("atomic", 1), True),
+    Case("a child's commit", [*IN_T, (1, "begin", TID), (1, write(1, "b"), OK)], "commit", ATOMIC, True),
+    Case("an abort", IN_T, ("abort", ("why", [1, b"x"])), ("aborted", ("why", [1, b"x"])), True),
+    Case("a new table", [], ("create_table", "v", [("attributes", ["k", "v", "w"]), ("index", ["w"])]), ATOMIC),
+    Case("an index", IN_W, ("add_table_index", "w", "val"), ATOMIC),
+    Case("an old table", IN_W, ("delete_table", "w"), ATOMIC),
+    Case("what is told of a table", RECORDS, ("table_info", "u", "attributes"), ["key", "val"]),
+    Case("a subscription with a dump", RECORDS, ("subscribe", ("table", "u", "detailed"), "dump"), HERE_OK, marks=True),
+    Case("the end of one", [(1, watch(), HERE_OK)], ("unsubscribe", ("table", "t", "simple")), HERE_OK, marks=True),
+    Case("a one-shot", [], ("transaction", [("write", ("u", 1, "a")), ("read", "u", 1)], 2), ("atomic", [OK, [("u", 1, "a")]])),
+    Case("a one-shot of three levels", [], DEEP, DEEP_TOLD),
+    Case("a one-shot whose child aborts", [], ("transaction", [write(1, "a"), INNER], 2), ("atomic", [OK, ("aborted", "why")])),
+    Case("a one-shot that gives up", HELD, ("transaction", [write(1, "a"), INNER, ("read", "w", 1)], 0), ("aborted", "nomore")),
+    Watched(),
+    Joins("a connection"),
+    Joins("a connection of a server without an end", "--forever"),
+]
+
+
+def all_ends(one):
+    """How the runs of a case ended, and what differs, for each allocation until none is left."""
+    program, case = one
+    ends, faults, nth = collections.Counter(), [], 0
+    try:
+        case.counted(program)
+        while ends["none"] < NONE_LEFT and len(faults) < 5:
+            nth += 1
+            try:
+                ends[case.run(program, nth)] += 1
+            except (Differs, Closed, OSError, ValueError, subprocess.TimeoutExpired) as error:
+                faults.append(f"{case.name}, allocation {nth}: {type(error).__name__} {error}")
+    except (Differs, Closed, OSError, ValueError, subprocess.TimeoutExpired) as error:
+        faults.append(f"{case.name}: {type(error).__name__} {error}")
+    return ends, faults
+
+
+def shim(folder):
+    source, built = f"{folder}/malloc.c", f"{folder}/malloc.so"
+    with open(source, "w", encoding="utf-8") as file:
+        file.write(MALLOC)
+    subprocess.run(["cc", "-shared", "-fPIC", "-O1", "-o", built, source, "-ldl", "-lpthread"], check=True)
+    return built
+
+
+def main():
+    global SHIM
+    if len(sys.argv) != 2:
+        sys.exit(__doc__)
+    program = os.path.abspath(sys.argv[1])
+    with tempfile.TemporaryDirectory() as folder:
+        SHIM = shim(folder)
+        with concurrent.futures.ProcessPoolExecutor(2 * os.cpu_count()) as pool:
+            told = list(pool.map(all_ends, [(program, case) for case in CASES]))
+    total = sum((ends for ends, _ in told), collections.Counter())
+    faults = [fault for _, found in told for fault in found]
+    for fault in faults:
+        print(fault)
+    print(", ".join(f"{count} {end}" for end, count in total.items() if end != "none"))
+    print(f"{sum(total.values()) - total['none']} passed, {len(faults)} failed")
+    sys.exit(1 if faults else 0)
+
+
+if __name__ == "__main__":
+    main()
