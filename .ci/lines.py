@@ -79,6 +79,28 @@ def commits(count):
     return frames(*asked), frames(*told)
 
 
+def begins(count):
+    """As many transactions that are aborted at once: each has the next age."""
+    asked, told = [(1, "join")], [(1, "ok")]
+    for age in range(1, count + 1):
+        asked += [(1, "begin"), (1, ("abort", "why"))]
+        told += [(1, ("tid", age)), (1, ("aborted", "why"))]
+    return frames(*asked), frames(*told)
+
+
+def used_up():
+    """The limits of levels and of operations, both reached: a begin is told the first, and once a level is free the other."""
+    read, levels, operations = ("read", "t", 1), 16, 1000
+    limit = {what: (1, ("error", ("system_limit", what))) for what in ("nesting", "operations")}
+    children = levels - 1
+    steps = [((1, "join"), (1, "ok")), ((1, ("create_table", "t", [])), (1, ("atomic", "ok")))]
+    steps += [((1, "begin"), (1, ("tid", 1)))] * levels + [((1, read), (1, []))] * (operations - children)
+    steps += [((1, "begin"), limit["nesting"]), ((1, read), limit["operations"]), ((1, "commit"), (1, ("atomic", "ok")))]
+    steps += [((1, "begin"), limit["operations"])] + [((1, "commit"), (1, ("atomic", "ok")))] * (children - 1)
+    steps += [((1, read), limit["operations"]), ((1, "commit"), (1, ("atomic", 1)))]
+    return frames(*(asked for asked, _ in steps)), frames(*(told for _, told in steps))
+
+
 def watched(count):
     """64 sessions watch as many commits; all but the last take each batch, and the last is told of its overflow."""
     sessions, last = range(1, 65), 64
@@ -142,6 +164,9 @@ def streams():
         ("a payload that is too long", [], longest(LONGEST + 1), begun, 3, DAMAGED),
         ("the longest and the deepest", [], *odd_payloads(), 0, b""),
         ("10,000 commits", [], *commits(10_000), 0, b""),
+        # Past ages of two bytes.
+        ("65,540 begins", [], *begins(65_540), 0, b""),
+        ("both limits", [], *used_up(), 0, b""),
         ("64 subscribers", [], *watched(70), 0, b""),
     ]
 

@@ -222,6 +222,42 @@ TWO_WATCH = [
     (1, "take", ("mnesia_table_end", "u", "deleted")),
 ]
 
+# A bag with two indexes: one is taken away and put back, then the other is taken away.
+PX, QX, PY, NEW = ("b", 1, "p", "x"), ("b", 1, "q", "x"), ("b", 2, "p", "y"), ("b", 3, "p", "x")
+TWO_INDEXES = [
+    (1, "join", OK),
+    (1, ("create_table", "b", [("type", "bag"), ("attributes", ["k", "v", "w"]), ("index", ["v", "w"])]), ATOMIC),
+    (1, ("table_info", "b", "index"), [3, 4]),
+    (1, "begin", ("tid", 1)),
+    *[(1, ("write", record), OK) for record in (PX, QX, PY)],
+    (1, "commit", ("atomic", 1)),
+    (1, "begin", ("tid", 2)),
+    (1, ("index_read", "b", "p", "v"), [PX, PY]),
+    (1, ("index_read", "b", "x", "w"), [PX, QX]),
+    (1, "commit", ("atomic", 2)),
+    (1, ("del_table_index", "b", "v"), ATOMIC),
+    (1, ("table_info", "b", "index"), [4]),
+    (1, ("del_table_index", "b", 3), aborted(("no_index", "b", 3))),
+    (1, "begin", ("tid", 3)),
+    (1, ("index_read", "b", "p", "v"), aborted(("no_index", "b", "v"))),
+    (1, "begin", ("tid", 4)),
+    (1, ("index_read", "b", "x", 4), [PX, QX]),
+    (1, ("write", NEW), OK),
+    (1, ("delete_object", QX), OK),
+    (1, ("index_read", "b", "x", "w"), [PX, NEW]),
+    (1, ("index_read", "b", "y", "w"), [PY]),
+    (1, "commit", ("atomic", 3)),
+    (1, ("add_table_index", "b", "v"), ATOMIC),
+    (1, ("table_info", "b", "index"), [3, 4]),
+    (1, "begin", ("tid", 5)),
+    (1, ("index_read", "b", "p", 3), [PX, PY, NEW]),
+    (1, ("index_read", "b", "q", 3), []),
+    (1, ("index_read", "b", "x", 4), [PX, NEW]),
+    (1, "commit", ("atomic", 4)),
+    (1, ("del_table_index", "b", 4), ATOMIC),
+    (1, ("table_info", "b", "index"), [3]),
+]
+
 # As many sessions and tables as there may be, and one more.
 LIMITS = [
     *[(session, "join", OK) for session in range(1, 65)],
@@ -237,5 +273,6 @@ SCRIPTS = [
     ("two sessions", 64, TWO_SESSIONS),
     ("a session watches", 2, WATCHED),
     ("two sessions watch", 2, TWO_WATCH),
+    ("two indexes", 64, TWO_INDEXES),
     ("sessions and tables", 64, LIMITS),
 ]
