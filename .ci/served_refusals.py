@@ -68,7 +68,7 @@ int pthread_create(pthread_t *thread, const pthread_attr_t *how, void *(*run)(vo
 }
 """
 
-NO_MEMORY = ("error", "no_memory")
+NO_MEMORY, MARK = ("error", "no_memory"), ("mnesia_table_begin", "t", "simple")
 # A frame that is read takes so many allocations at most: the bytes, the payload, and the list of the frames.
 OF_A_FRAME = 3
 # So many runs in which nothing was refused, and none is left.
@@ -76,7 +76,7 @@ NONE_LEFT = 2
 # No request takes so many: it is counted, and nothing refused.
 COUNTED = 1_000_000
 # An end that no reply tells takes so many seconds at most; who waits for a lock was told nothing for so many.
-PATIENCE, QUIET = 5.0, 0.05
+PATIENCE, QUIET = 20.0, 0.05
 SHIM = os.environ.get("TABD_SHIM", "")
 CREATES = [("create_table", name, []) for name in ("t", "u", "w")]
 
@@ -177,11 +177,12 @@ def probe(connection):
 
 
 class Case:
-    """What connections 1 and 2 are asked before, a request of connection 1 and its reply; whether it is asked in a transaction, and
-    whether it waits for the transaction of connection 2."""
+    """What connections 1 and 2 are asked before, a request of connection 1 and its reply; whether it is asked in a transaction,
+    whether it waits for the transaction of connection 2, and whether it puts a mark, for which it may be closed."""
 
-    def __init__(self, name, before, request, reply, inside=False, waits=False):
-        self.name, self.before, self.request, self.reply, self.inside, self.waits = name, before, request, reply, inside, waits
+    def __init__(self, name, before, request, reply, inside=False, waits=False, marks=False):
+        self.name, self.before, self.request, self.reply = name, before, request, reply
+        self.inside, self.waits, self.marks = inside, waits, marks
 
     def told(self, first, second):
         """The reply. The second commits where the first waits for it, which may be refused too."""
@@ -217,6 +218,8 @@ class Case:
             first, second, other = connections = [Connection(server.port) for _ in range(3)]
             script(*((other, create, ATOMIC) for create in CREATES), (first, "commit", ("error", "no_transaction")))
             script(*((connections[who - 1], request, reply) for who, request, reply in self.before))
+            if (1, watch(), HERE_OK) in self.before:
+                same("begin mark", first.event(), MARK)
             server.refuse(nth)
             told = self.told(first, second)
             self.count = server.made()
@@ -239,6 +242,8 @@ class Case:
             return "had its reply"
         if told == "closed" and nth <= OF_A_FRAME:
             return "were closed for a frame"
+        if told == "closed" and self.marks:
+            return "were closed for an event"
         if told == "closed" and nth == self.all:
             return "were closed for a reply's frame"
         raise Differs(f"told {told}, wanted {self.reply}")
@@ -261,7 +266,7 @@ class Watched:
         with Server(program, 2) as server:
             first, second = Connection(server.port), Connection(server.port)
             script(*((second, create, ATOMIC) for create in CREATES), (first, watch(), HERE_OK))
-            same("begin mark", first.event(), ("mnesia_table_begin", "t", "simple"))
+            same("begin mark", first.event(), MARK)
             script((second, "begin", ("tid", 1)), *((second, write(key, b"v" * 3000), OK) for key in range(self.count)))
             server.refuse(nth)
             try:
@@ -386,8 +391,8 @@ CASES = [
     Case("an index", IN_W, ("add_table_index", "w", "val"), ATOMIC),
     Case("an old table", IN_W, ("delete_table", "w"), ATOMIC),
     Case("what is told of a table", RECORDS, ("table_info", "u", "attributes"), ["key", "val"]),
-    Case("a subscription with a dump", RECORDS, ("subscribe", ("table", "u", "detailed"), "dump"), HERE_OK),
-    Case("the end of one", [(1, watch(), HERE_OK)], ("unsubscribe", ("table", "t", "simple")), HERE_OK),
+    Case("a subscription with a dump", RECORDS, ("subscribe", ("table", "u", "detailed"), "dump"), HERE_OK, marks=True),
+    Case("the end of one", [(1, watch(), HERE_OK)], ("unsubscribe", ("table", "t", "simple")), HERE_OK, marks=True),
     Case("a one-shot", [], ("transaction", [("write", ("u", 1, "a")), ("read", "u", 1)], 2), ("atomic", [OK, [("u", 1, "a")]])),
     Case("a one-shot of three levels", [], DEEP, DEEP_TOLD),
     Case("a one-shot whose child aborts", [], ("transaction", [write(1, "a"), INNER], 2), ("atomic", [OK, ("aborted", "why")])),
