@@ -190,7 +190,7 @@ fold_kept (Err e) outbox σ j now joined k is ok err = subst (Holds outbox σ) (
 pub take_holds : (outbox : ℕ) (σ : State) (j : Kept) → Holds outbox σ j → (over : List ℕ) (n : ℕ) (o : Outcome) → outcome σ over n Take ≡ o → IsSound o.state → Holds outbox o.state j
 take_holds outbox σ j k over n o is sound =
     let none : entries o.entry ≡ [] = ap (λ (x : Outcome). entries x.entry) (sym is) ∙ ap entries (enters_none σ over n Take (seat_never σ n Take (λ b. refl))) in
-    subst (Holds outbox o.state) (ap (with_entries j) none ∙ (λ i. record { base = j.base; entries = append-nil j.entries i; limit = j.limit }))
+    subst (Holds outbox o.state) (ap (with_entries j) none ∙ (λ i. record j { entries = append-nil j.entries i }))
     (step_holds outbox σ j k over n Take o is tt sound (λ some. absurd (some none)))
 
 -- ---- a step that was made, with its entry and its leaving
@@ -247,7 +247,7 @@ joins_made σ over n b sound room is = by (seat_at σ.seats n) refl
 pub join_holds : (outbox : ℕ) (σ : State) (j : Kept) → Holds outbox σ j → (over : List ℕ) (n : ℕ) (b : Outbox) (o : Outcome) → outcome σ over n (Join b) ≡ o → (b.capacity ≡ None) × (b.items ≡ []) → IsSound o.state → Holds outbox o.state j
 join_holds outbox σ j k over n b o is fresh sound =
     let none : entries o.entry ≡ [] = ap (λ (x : Outcome). entries x.entry) (sym is) ∙ ap entries (enters_none σ over n (Join b) (seat_never σ n (Join b) (λ c. refl))) in
-    subst (Holds outbox o.state) (ap (with_entries j) none ∙ (λ i. record { base = j.base; entries = append-nil j.entries i; limit = j.limit }))
+    subst (Holds outbox o.state) (ap (with_entries j) none ∙ (λ i. record j { entries = append-nil j.entries i }))
     (step_holds outbox σ j k over n (Join b) o is fresh sound (λ some. absurd (some none)))
 
 pub new_post : (b : Outbox) → (m : ℕ) × (b ≡ empty_outbox m) → (b.capacity ≡ None) × (b.items ≡ [])

@@ -44,7 +44,7 @@ abbrev pub with_room : State → ℕ → Ask → Kept → Kept
 with_room σ n a j = if is_full j && may_enter σ n a then folded σ j else j
 
 abbrev pub with_entries : Kept → List Entry → Kept
-with_entries j es = record { base = j.base; entries = j.entries ++ es; limit = j.limit }
+with_entries j es = record j { entries = j.entries ++ es }
 
 -- whether a joined session leaves
 abbrev pub leaves : State → ℕ → Ask → Bool
@@ -88,7 +88,7 @@ abbrev pub has_room : State → Bool
 has_room σ = nat_lt σ.greatest (2 ^ 32 - 1) && nat_lt (length σ.seats) σ.limits.sessions
 
 abbrev pub with_seat : State → ℕ → Outbox → State
-with_seat σ n b = record { tables = σ.tables; seats = σ.seats ++ fresh n b ∷ []; queue = σ.queue; next_age = σ.next_age; commits = σ.commits; greatest = n; limits = σ.limits }
+with_seat σ n b = record σ { seats = σ.seats ++ fresh n b ∷ []; greatest = n }
 
 -- the next number joins, whose post's other end is that of this mailbox, and nothing was taken there
 pub record Joins (old : Running) (session mailbox : ℕ) (taken : List Item) (new : Running) : Type 0 where

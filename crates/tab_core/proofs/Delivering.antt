@@ -56,7 +56,7 @@ found_there bs (x ∷ ss) h n s e = by (x.number == n) refl e (found_there bs ss
 given_number : (n : ℕ) (over : List ℕ) (items : List Item) (b : Subscriber) → (given n over items b).number ≡ b.number
 given_number n over items b = by (has_session over b.number)
   where
-    by : (d : Bool) → Subscriber.number (if d then overflowed n b else record { number = b.number; watching = b.watching; outbox = pushed b.outbox items; overflow = b.overflow }) ≡ b.number
+    by : (d : Bool) → Subscriber.number (if d then overflowed n b else record b { outbox = pushed b.outbox items }) ≡ b.number
     by true = refl
     by false = refl
 
@@ -89,7 +89,7 @@ module _ (n : ℕ) (over : List ℕ) (t : Option (List ℕ)) (h : List Watch →
 
   -- the same of a seat, by the definitions
   abbrev dress : Option Subscriber → Seat → Seat
-  dress o s = record { number = s.number; transaction = s.transaction; watching = watching_of o; outbox = outbox_of o; overflow = overflow_of o }
+  dress o s = record s { watching = watching_of o; outbox = outbox_of o; overflow = overflow_of o }
 
   abbrev pub seat_given : Seat → Seat
   seat_given x = plain.given n over (h x.watching) (plain.unwatched t x)
@@ -98,16 +98,16 @@ module _ (n : ℕ) (over : List ℕ) (t : Option (List ℕ)) (h : List Watch →
   one_seat b s e = at_table t
     where
       at_table : (u : Option (List ℕ)) → plain.given n over (h b.watching) (plain.unwatched u (dress (Some b) s)) ≡ dress (Some (given n over (h b.watching) (unwatched u b))) s
-      at_table None = by (has_session over s.number) ∙ ap (λ k. dress (Some (if has_session over k then overflowed n b else record { number = b.number; watching = b.watching; outbox = pushed b.outbox (h b.watching); overflow = b.overflow })) s) (sym e)
+      at_table None = by (has_session over s.number) ∙ ap (λ k. dress (Some (if has_session over k then overflowed n b else record b { outbox = pushed b.outbox (h b.watching) })) s) (sym e)
         where
-          by : (d : Bool) → (if d then plain.overflowed n (dress (Some b) s) else record { number = s.number; transaction = s.transaction; watching = b.watching; outbox = pushed b.outbox (h b.watching); overflow = b.overflow })
-              ≡ dress (Some (if d then overflowed n b else record { number = b.number; watching = b.watching; outbox = pushed b.outbox (h b.watching); overflow = b.overflow })) s
+          by : (d : Bool) → (if d then plain.overflowed n (dress (Some b) s) else record s { watching = b.watching; outbox = pushed b.outbox (h b.watching); overflow = b.overflow })
+              ≡ dress (Some (if d then overflowed n b else record b { outbox = pushed b.outbox (h b.watching) })) s
           by true = refl
           by false = refl
-      at_table (Some v) = by (has_session over s.number) ∙ ap (λ k. dress (Some (if has_session over k then overflowed n (unwatched (Some v) b) else record { number = b.number; watching = without_watch b.watching v; outbox = pushed b.outbox (h b.watching); overflow = b.overflow })) s) (sym e)
+      at_table (Some v) = by (has_session over s.number) ∙ ap (λ k. dress (Some (if has_session over k then overflowed n (unwatched (Some v) b) else record b { watching = without_watch b.watching v; outbox = pushed b.outbox (h b.watching) })) s) (sym e)
         where
-          by : (d : Bool) → (if d then plain.overflowed n (plain.unwatched (Some v) (dress (Some b) s)) else record { number = s.number; transaction = s.transaction; watching = without_watch b.watching v; outbox = pushed b.outbox (h b.watching); overflow = b.overflow })
-              ≡ dress (Some (if d then overflowed n (unwatched (Some v) b) else record { number = b.number; watching = without_watch b.watching v; outbox = pushed b.outbox (h b.watching); overflow = b.overflow })) s
+          by : (d : Bool) → (if d then plain.overflowed n (plain.unwatched (Some v) (dress (Some b) s)) else record s { watching = without_watch b.watching v; outbox = pushed b.outbox (h b.watching); overflow = b.overflow })
+              ≡ dress (Some (if d then overflowed n (unwatched (Some v) b) else record b { watching = without_watch b.watching v; outbox = pushed b.outbox (h b.watching) })) s
           by true = refl
           by false = refl
 

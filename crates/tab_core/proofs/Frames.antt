@@ -62,7 +62,7 @@ module _ (bs : List Subscriber) where
 
   -- the session's seat becomes another
   seat_dressed : (σ : State) (s : Seat) (r : Reply) → nothing (with_seat (state_with bs σ) (dressed s)) r ≡ lifted (nothing (with_seat σ s) r)
-  seat_dressed σ s r = ap (λ ss. let τ : State = record { tables = σ.tables; seats = ss; queue = σ.queue; next_age = σ.next_age; commits = σ.commits; greatest = σ.greatest; limits = σ.limits } in nothing τ r) (change_dressed σ.seats s)
+  seat_dressed σ s r = ap (λ ss. let τ : State = record σ { seats = ss } in nothing τ r) (change_dressed σ.seats s)
 
   made_dressed : (σ : State) (s : Seat) (t : Transaction) (x : Move) (r : Reply) → made (state_with bs σ) (dressed s) t x r ≡ lifted (made σ s t x r)
   made_dressed σ s t x r = seat_dressed σ (with_transaction s (after_move t x (told (mid_of σ t) x) (ends (mid_of σ t) x))) (said (told (mid_of σ t) x) r)
@@ -95,7 +95,7 @@ module _ (bs : List Subscriber) where
   opened_dressed : (σ : State) (s : Seat) (b : Bool) → opened (state_with bs σ) (dressed s) b ≡ lifted (opened σ s b)
   opened_dressed σ s false = refl
   opened_dressed σ s true =
-      ap (λ ss. let τ : State = record { tables = σ.tables; seats = ss; queue = σ.queue; next_age = σ.next_age + 1; commits = σ.commits; greatest = σ.greatest; limits = σ.limits } in nothing τ (reply.Tid σ.next_age))
+      ap (λ ss. let τ : State = record σ { seats = ss; next_age = σ.next_age + 1 } in nothing τ (reply.Tid σ.next_age))
       (change_dressed σ.seats (with_transaction s (Some (record { age = σ.next_age; moves = []; told = [] }))))
 
   nested_dressed : (σ : State) (s : Seat) (t : Transaction) (a b : Bool) → nested (state_with bs σ) (dressed s) t a b ≡ lifted (nested σ s t a b)

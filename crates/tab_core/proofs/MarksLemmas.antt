@@ -35,7 +35,7 @@ use Rattle.tab_core.proofs.SessionsLemmas.{at_seat, mapped_none, mapped_some, no
 use Rattle.tab_core.proofs.StepsLemmas.{Makes}
 
 abbrev pub with_change : List Subscriber → State → Subscriber → Seat → State
-with_change bs σ b s = record { tables = σ.tables; seats = plain.change (map (seat_with bs) σ.seats) (dress (Some b) s); queue = σ.queue; next_age = σ.next_age; commits = σ.commits; greatest = σ.greatest; limits = σ.limits }
+with_change bs σ b s = record σ { seats = plain.change (map (seat_with bs) σ.seats) (dress (Some b) s) }
 
 module _ (bs : List Subscriber) (σ : State) (k : IsKept bs σ) (n : ℕ) (s : Seat) (here : seat_at σ.seats n ≡ Some s) where
   -- the session's subscriber
@@ -57,7 +57,7 @@ module _ (bs : List Subscriber) (σ : State) (k : IsKept bs σ) (n : ℕ) (s : S
 
   -- the state with another subscriber in its place
   changed : (b b' : Subscriber) → IsMine b → b'.number ≡ b.number → with_change bs σ b' s ≡ state_with (change bs b') σ
-  changed b b' m is = ap (λ ss. let τ : State = record { tables = σ.tables; seats = ss; queue = σ.queue; next_age = σ.next_age; commits = σ.commits; greatest = σ.greatest; limits = σ.limits } in τ)
+  changed b b' m is = ap (λ ss. let τ : State = record σ { seats = ss } in τ)
       (seats_change bs b' b σ.seats s n m.there (is ∙ m.number) here k.sound.distinct)
 
   -- ---- Take
@@ -65,9 +65,9 @@ module _ (bs : List Subscriber) (σ : State) (k : IsKept bs σ) (n : ℕ) (s : S
   gives : (b : Subscriber) → IsMine b → (items : List Item) (l : Option ℕ) → subs.Subscriber.overflow b ≡ l
       → give (state_with bs σ) (dress (Some b) s) items l ≡ record { state = state_with (change bs (subs.give b items l).0) σ; reply = (taken_reply (Some (subs.give b items l).1)).reply; entry = None }
   gives b m (x ∷ xs) l e =
-      ap (λ τ. nothing τ (reply.Taken x)) (changed b (record { number = b.number; watching = b.watching; outbox = record { items = xs; refusals = b.outbox.refusals; capacity = b.outbox.capacity; mailbox = b.outbox.mailbox }; overflow = b.overflow }) m refl)
+      ap (λ τ. nothing τ (reply.Taken x)) (changed b (record b { outbox = record b.outbox { items = xs } }) m refl)
   gives b m [] None e = ap (λ cs. nothing (state_with cs σ) reply.Empty) (sym (change_itself bs b (ap (at bs) m.number ∙ m.there)))
-  gives b m [] (Some c) e = ap (λ τ. nothing τ (reply.Overflow c)) (changed b (record { number = b.number; watching = b.watching; outbox = b.outbox; overflow = None }) m refl)
+  gives b m [] (Some c) e = ap (λ τ. nothing τ (reply.Overflow c)) (changed b (record b { overflow = None }) m refl)
 
   take_number : (b : Subscriber) (items : List Item) (l : Option ℕ) → Subscriber.number (subs.give b items l).0 ≡ b.number
   take_number b (x ∷ xs) l = refl
@@ -84,8 +84,8 @@ module _ (bs : List Subscriber) (σ : State) (k : IsKept bs σ) (n : ℕ) (s : S
 
   marks : (b : Subscriber) → IsMine b → (mm : Marked) (ws : List Watch) (x : Item) (e : Entry)
       → marked (state_with bs σ) (is_full mm) (dress (Some b) s) ws x e ≡ record { state = state_with (change bs (subs.marked mm ws x b)) σ; reply = (marked_reply (Some mm) e).reply; entry = (marked_reply (Some mm) e).entry }
-  marks b m mark.Full ws x e = ap (λ τ. nothing τ reply.OutboxFull) (changed b (record { number = b.number; watching = b.watching; outbox = refused b.outbox; overflow = b.overflow }) m refl)
-  marks b m mark.Told ws x e = ap (λ τ. let o : Outcome = record { state = τ; reply = reply.SubscribedHere; entry = Some e } in o) (changed b (record { number = b.number; watching = ws; outbox = pushed b.outbox (x ∷ []); overflow = b.overflow }) m refl)
+  marks b m mark.Full ws x e = ap (λ τ. nothing τ reply.OutboxFull) (changed b (record b { outbox = refused b.outbox }) m refl)
+  marks b m mark.Told ws x e = ap (λ τ. let o : Outcome = record { state = τ; reply = reply.SubscribedHere; entry = Some e } in o) (changed b (record b { watching = ws; outbox = pushed b.outbox (x ∷ []) }) m refl)
 
   -- who refused the mark
   abbrev pub over_of : Marked → List ℕ

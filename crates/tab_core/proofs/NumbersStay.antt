@@ -42,7 +42,7 @@ each_stays f h [] = refl
 each_stays f h (s ∷ ss) = λ i. h s i ∷ each_stays f h ss i
 
 module _ (σ : State) where
-  made_stays : (q : List Queued) (s : Seat) (t : Transaction) (x : Move) (r : Reply) → Stays σ (made (record { tables = σ.tables; seats = σ.seats; queue = q; next_age = σ.next_age; commits = σ.commits; greatest = σ.greatest; limits = σ.limits }) s t x r)
+  made_stays : (q : List Queued) (s : Seat) (t : Transaction) (x : Move) (r : Reply) → Stays σ (made (record σ { queue = q }) s t x r)
   made_stays q s t x r = change_stays σ.seats _
 
   decided_stays : (s : Seat) (t : Transaction) (o : Operation) (a : Answer) → Stays σ (decided σ s t o a)

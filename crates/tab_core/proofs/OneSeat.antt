@@ -10,7 +10,7 @@ use Rattle.tab_subs.specs.Subscribers.{Subscriber, at, change, without, fresh, n
 use Rattle.tab_core.specs.Seats.{watching_of, outbox_of, seat_with}
 
 abbrev pub dress : Option Subscriber → Seat → Seat
-dress o s = record { number = s.number; transaction = s.transaction; watching = watching_of o; outbox = outbox_of o; overflow = overflow_of o }
+dress o s = record s { watching = watching_of o; outbox = outbox_of o; overflow = overflow_of o }
 
 -- ---- it changes
 

@@ -33,7 +33,7 @@ use Rattle.tab_core.proofs.Batches.{no_batches}
 -- ---- nothing is owed
 
 full : (b : Subscriber) → subs.given 0 [] [] b ≡ b
-full b = λ i. record { number = b.number; watching = b.watching; outbox = record { items = append-nil b.outbox.items i; refusals = b.outbox.refusals; capacity = b.outbox.capacity; mailbox = b.outbox.mailbox }; overflow = b.overflow }
+full b = λ i. record b { outbox = record b.outbox { items = append-nil b.outbox.items i } }
 
 pub none_given : (n : ℕ) (bs : List Subscriber) → given_all n [] None (map (λ (b : Subscriber). []) bs) bs ≡ bs
 none_given n [] = refl
@@ -120,7 +120,7 @@ module _ (bs : List Subscriber) (σ : State) (k : IsKept bs σ) (n : ℕ) where
 
     now_delivered : (over : List ℕ) → commit_now (state_with bs σ) over (seat_with bs e.seat) t (events_now σ t) ≡ delivered (after number over None batch bs) over (commit_now σ [] e.seat t (events_now σ t))
     now_delivered over = λ i. record {
-      state = record { tables = (mid_of σ t).now; seats = seats i; queue = σ.queue; next_age = σ.next_age; commits = number; greatest = σ.greatest; limits = σ.limits };
+      state = record σ { tables = (mid_of σ t).now; seats = seats i; commits = number };
       reply = reply.Atomic number;
       entry = Some (Rattle.tab_model.specs.declared.data.Entry.TheVariants.Committed number e.seat.number t.age t.moves t.told over);
     }
@@ -200,7 +200,7 @@ module _ (bs : List Subscriber) (σ : State) (k : IsKept bs σ) (n : ℕ) where
 
     now_done : (over : List ℕ) → schema_now (state_with bs σ) over c ≡ delivered (after number over (removed c) mark bs) over (schema_now σ [] c)
     now_done over = λ i. record {
-      state = record { tables = Rattle.tab_model.specs.Schemas.schema_effect σ.tables c; seats = seats i; queue = σ.queue; next_age = σ.next_age; commits = σ.commits; greatest = σ.greatest; limits = σ.limits };
+      state = record σ { tables = Rattle.tab_model.specs.Schemas.schema_effect σ.tables c; seats = seats i };
       reply = reply.AtomicOk;
       entry = Some (Rattle.tab_model.specs.declared.data.Entry.TheVariants.Changed c over);
     }

@@ -25,7 +25,7 @@ use Rattle.tab_core.proofs.OneSeat.{dress, seats_change, change_numbers, seats_w
 use Rattle.tab_core.proofs.StepsLemmas.{Makes}
 
 abbrev pub with_seats : State → List Seat → ℕ → State
-with_seats σ ss greatest = record { tables = σ.tables; seats = ss; queue = σ.queue; next_age = σ.next_age; commits = σ.commits; greatest = greatest; limits = σ.limits }
+with_seats σ ss greatest = record σ { seats = ss; greatest = greatest }
 
 pub mapped_none : (bs : List Subscriber) (σ : State) (n : ℕ) → seat_at σ.seats n ≡ None → seat_at (state_with bs σ).seats n ≡ None
 mapped_none bs σ n h = at_dressed bs σ.seats n ∙ ap (option_map (seat_with bs)) h
@@ -176,7 +176,7 @@ module _ (bs : List Subscriber) (σ : State) (k : IsKept bs σ) (n : ℕ) where
       let bare = at_seat σ [] n Leave (Some s) e in
       let is : s.number ≡ n = found σ.seats s n e in (
         at_seat (state_with bs σ) [] n Leave (Some (seat_with bs s)) (mapped_some bs σ n s e)
-            ∙ ap (λ ss. let τ : State = record { tables = σ.tables; seats = ss; queue = Rattle.tab_model.specs.State.without_request σ.queue s.number; next_age = σ.next_age; commits = σ.commits; greatest = σ.greatest; limits = σ.limits } in nothing τ reply.Done)
+            ∙ ap (λ ss. let τ : State = record σ { seats = ss; queue = Rattle.tab_model.specs.State.without_request σ.queue s.number } in nothing τ reply.Done)
             (ap (without_seat (map (seat_with bs) σ.seats)) is ∙ seats_without bs n σ.seats ∙ ap (λ m. map (seat_with (without bs n)) (without_seat σ.seats m)) (sym is))
             ∙ ap (lifted (without bs n)) (sym bare),
         without_numbers bs n σ.seats k.same ∙ ap (λ m. map (λ (y : Seat). y.number) (without_seat σ.seats m)) (sym is) ∙ ap (λ (x : Outcome). map (λ (y : Seat). y.number) x.state.seats) (sym bare),

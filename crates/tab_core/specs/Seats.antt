@@ -15,7 +15,7 @@ outbox_of None = no_outbox
 outbox_of (Some b) = b.outbox
 
 abbrev pub seat_with : List Subscriber → Seat → Seat
-seat_with bs s = record { number = s.number; transaction = s.transaction; watching = watching_of (at bs s.number); outbox = outbox_of (at bs s.number); overflow = overflow_of (at bs s.number) }
+seat_with bs s = record s { watching = watching_of (at bs s.number); outbox = outbox_of (at bs s.number); overflow = overflow_of (at bs s.number) }
 
 abbrev pub state_with : List Subscriber → State → State
 state_with bs σ = record {

@@ -100,7 +100,7 @@ AllOrdered (w ∷ ws) = IsOrderedWorld w × AllOrdered ws
 
 -- the tables become others
 abbrev pub with_now : Mid → World → Mid
-with_now m w = record { age = m.age; now = w; saved = m.saved; base = m.base }
+with_now m w = record m { now = w }
 
 -- a move that is told this, or another thing
 abbrev pub Follows : Mid → Move → Option Reply → Option Mid → Type 0

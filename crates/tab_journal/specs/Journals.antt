@@ -17,4 +17,4 @@ abbrev pub fold_oldest : Bool → Kept → Kept
 fold_oldest joined k = without_oldest joined k.base k.entries k.limit
 
 abbrev pub forget : Kept → ℕ → Kept
-forget k s = record { base = forgotten k.base s; entries = k.entries; limit = k.limit }
+forget k s = record k { base = forgotten k.base s }

@@ -58,7 +58,7 @@ impl Journal {
     /// Puts an entry behind the others, or hands it back. Takes no memory.
     pub fn try_push(&mut self, entry: Entry) -> Result<(), Entry>
         ensures full { IsOk result ↔ (length self.old.entries < self.old.limit) }
-        ensures ok { OnOk result (self.new ≡ record { base = self.old.base; entries = self.old.entries ++ entry ∷ []; limit = self.old.limit }) }
+        ensures ok { OnOk result (self.new ≡ record self.old { entries = self.old.entries ++ entry ∷ [] }) }
         ensures err { IfErr result (λ back. (back ≡ entry) × (self.new ≡ self.old)) }
     {
         self.entries.try_push_back(entry)

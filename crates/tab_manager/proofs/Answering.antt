@@ -158,7 +158,7 @@ module _ (m : Machine) (n : ℕ) (stranger : at m.seats.items n ≡ None) where
 
   -- the machine with one more seat
   abbrev pub joined : ArrayVec code.Seat → Machine
-  joined ss = record { alloc = m.alloc; world = m.world; seats = ss; ages = m.ages; queue = m.queue; begun = m.begun; commits = m.commits; greatest = n; limits = m.limits }
+  joined ss = record m { seats = ss; greatest = n }
 
 pub join_exit : (m : Machine) (n : ℕ) → IsKept m → (stranger : at m.seats.items n ≡ None) → nat_lt m.greatest n ≡ true → nat_lt (length m.seats.items) m.limits.sessions ≡ true → (ss : ArrayVec code.Seat) → ss.items ≡ m.seats.items ++ no_seat n ∷ []
     → Leaves m (joined m n stranger ss) n (Join no_outbox) reply.Done
@@ -238,7 +238,7 @@ module _ (m : Machine) (n i : ℕ) (there : StandsAt m.seats.items n i) where
 
       -- the machine with the new tables
       abbrev pub redefined : World → Machine
-      redefined w = record { alloc = m.alloc; world = w; seats = m.seats; ages = m.ages; queue = m.queue; begun = m.begun; commits = m.commits; greatest = m.greatest; limits = m.limits }
+      redefined w = record m { world = w }
 
       pub schema_exit : list_any (is_in (table_of_schema c)) (all_of m.ages) ≡ false → has_room (state_of m) c ≡ true → (w : World) → w ≡ schema_effect m.world c → (c' : Schema) (none : List ℕ) → c' ≡ c → none ≡ []
           → (outcome (state_of m) [] n (DoCommand (command.Schema c)) ≡ record { state = state_of (redefined w); reply = reply.AtomicOk; entry = Some (entry.Changed c' none) }) × IsKept (redefined w)

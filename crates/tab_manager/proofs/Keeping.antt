@@ -100,7 +100,7 @@ state_next m m' ss qs x = λ i. record {
 
 -- the machine with other seats, locks and requests
 abbrev pub parts : Machine → ArrayVec code.Seat → Plain.Ages → Vec request.Request → Machine
-parts m ss g qs = record { alloc = m.alloc; world = m.world; seats = ss; ages = g; queue = qs; begun = m.begun; commits = m.commits; greatest = m.greatest; limits = m.limits }
+parts m ss g qs = record m { seats = ss; ages = g; queue = qs }
 
 -- what a step without an entry leaves
 abbrev pub Leaves : Machine → Machine → ℕ → Ask → Reply → Type 0

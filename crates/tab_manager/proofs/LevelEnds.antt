@@ -48,7 +48,7 @@ age_stays m (x ∷ xs) = age_stays (next m x) xs ∙ one x
     gone_back [] = refl
     gone_back (w ∷ ws) = refl
 
-    if_failed : (b : Bool) (o : Operation) → Mid.age (if b then back m else record { age = m.age; now = effect m.now o; saved = m.saved; base = m.base }) ≡ m.age
+    if_failed : (b : Bool) (o : Operation) → Mid.age (if b then back m else record m { now = effect m.now o }) ≡ m.age
     if_failed true o = gone_back m.saved
     if_failed false o = refl
 

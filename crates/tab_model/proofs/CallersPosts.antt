@@ -76,7 +76,7 @@ nothing_posted σ m a r calm = stays_posted σ m a (nothing σ r) refl refl refl
 given_post : (n commits : ℕ) (over : List ℕ) (items : List Item) (x : Seat) → x.number ≡ n → post_of (given commits over items x) ≡ (if has_session over n then overflowing commits (post_of x) else post_of x)
 given_post n commits over items x num = cases (has_session over x.number) ∙ ap (λ k. if has_session over k then overflowing commits (post_of x) else post_of x) num
   where
-    cases : (b : Bool) → post_of (if b then overflowed commits x else record { number = x.number; transaction = x.transaction; watching = x.watching; outbox = pushed x.outbox items; overflow = x.overflow }) ≡ (if b then overflowing commits (post_of x) else post_of x)
+    cases : (b : Bool) → post_of (if b then overflowed commits x else record x { outbox = pushed x.outbox items }) ≡ (if b then overflowing commits (post_of x) else post_of x)
     cases true = refl
     cases false = refl
 

@@ -117,7 +117,7 @@ given_moves q n over items log e x y num outbox ow gone stay = cases (has_sessio
     at_q : has_session over y.number ≡ has_session over q
     at_q = ap (has_session over) num
 
-    cases : (b : Bool) → has_session over y.number ≡ b → Moves q log e x (if b then overflowed n y else record { number = y.number; transaction = y.transaction; watching = y.watching; outbox = pushed y.outbox items; overflow = y.overflow })
+    cases : (b : Bool) → has_session over y.number ≡ b → Moves q log e x (if b then overflowed n y else record y { outbox = pushed y.outbox items })
     cases true h = record {
       watching = λ u. sym (gone (sym at_q ∙ h) u);
       items = ap (λ b. b.items) outbox ∙ sym (append-nil x.outbox.items) ∙ ap (λ xs. x.outbox.items ++ xs) (sym (ow ∙ ap (λ b. unless_over b items) (sym at_q ∙ h)));
@@ -130,7 +130,7 @@ given_moves q n over items log e x y num outbox ow gone stay = cases (has_sessio
 given_number : (n : ℕ) (over : List ℕ) (items : List Item) (s : Seat) → (given n over items s).number ≡ s.number
 given_number n over items s = cases (has_session over s.number)
   where
-    cases : (b : Bool) → Seat.number (if b then overflowed n s else record { number = s.number; transaction = s.transaction; watching = s.watching; outbox = pushed s.outbox items; overflow = s.overflow }) ≡ s.number
+    cases : (b : Bool) → Seat.number (if b then overflowed n s else record s { outbox = pushed s.outbox items }) ≡ s.number
     cases true = refl
     cases false = refl
 
@@ -211,7 +211,7 @@ module _ (σ : State) (log : List Entry) (tk : ℕ → List Item) (t : IsLogged 
   module _ (s : Seat) (here : seat_at σ.seats s.number ≡ Some s) where
     -- the seat is another, with the same subscriptions and items
     same_tied : (s' : Seat) (qs : List Queued) (a : ℕ) (r : Reply) → item_of r ≡ [] → s'.number ≡ s.number → s'.watching ≡ s.watching → s'.outbox.items ≡ s.outbox.items
-        → Ties s.number log tk (nothing (record { tables = σ.tables; seats = change σ.seats s'; queue = qs; next_age = a; commits = σ.commits; greatest = σ.greatest; limits = σ.limits }) r)
+        → Ties s.number log tk (nothing (record σ { seats = change σ.seats s'; queue = qs; next_age = a }) r)
     same_tied s' qs a r h num ws bs = quiet_tied σ _ log tk _ t refl refl (omega arith)
         (λ q z f. changed_some σ.seats s' s q z (λ k y. IsSeatTied k y log (kept s.number tk r k)) (ap (seat_at σ.seats) num ∙ here) f
         (let m = t.seats s.number s here in subst (λ (k : ℕ). IsSeatTied k s' log (kept s.number tk r k)) (sym num) (record { watching = λ u. ap (λ w. level_in w u) ws ∙ m.watching u; items = ap (λ xs. xs ++ s'.outbox.items) (sym (none_taken tk s.number r h s.number)) ∙ ap (λ xs. tk s.number ++ xs) bs ∙ m.items }))

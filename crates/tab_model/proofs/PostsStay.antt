@@ -80,7 +80,7 @@ module _ (P : ℕ → Option ℕ → Option ℕ → Type 0) where
   given_has : (n : ℕ) (over : List ℕ) (items : List Item) (s : Seat) → Has s → Has (given n over items s)
   given_has n over items s k = by (has_session over s.number)
     where
-      by : (b : Bool) → Has (if b then overflowed n s else record { number = s.number; transaction = s.transaction; watching = s.watching; outbox = pushed s.outbox items; overflow = s.overflow })
+      by : (b : Bool) → Has (if b then overflowed n s else record s { outbox = pushed s.outbox items })
       by true = k
       by false = k
 

@@ -104,7 +104,7 @@ module _ (σ : State) (s : Seat) where
   decided_fair t o Die e = record { transaction = t; open_before = e; is = same }
     where
       same : (decided σ s t o Die).state ≡ restarted σ (Some s)
-      same = ap (λ (y : Option Transaction). restarted σ (Some (record { number = s.number; transaction = y; watching = s.watching; outbox = s.outbox; overflow = s.overflow }))) (sym e)
+      same = ap (λ (y : Option Transaction). restarted σ (Some (record s { transaction = y }))) (sym e)
 
   within_fair : (t : Transaction) (o : Operation) (b : Bool) → s.transaction ≡ Some t → Fair σ (Some s) (queued_for s.number (Some t) o) (within σ s t o b)
   within_fair t o false e = refl
@@ -115,7 +115,7 @@ module _ (σ : State) (s : Seat) where
   operate_fair o (Some t) e = within_fair t o _ e
 
   retried_fair : (t : Transaction) (o : Operation) (b : Bool) → Fair σ (Some s) [] (retried σ s t o b)
-  retried_fair t o false = ap (λ q. record { tables = σ.tables; seats = σ.seats; queue = q; next_age = σ.next_age; commits = σ.commits; greatest = σ.greatest; limits = σ.limits }) (sym (append-nil σ.queue))
+  retried_fair t o false = ap (λ q. record σ { queue = q }) (sym (append-nil σ.queue))
   retried_fair t o true = made_fair (with_queue σ (without_request σ.queue s.number)) [] t (Do o) reply.Done refl
 
   retry_in_fair : (o : Operation) (x : Option Transaction) → Fair σ (Some s) [] (retry_in σ s o x)

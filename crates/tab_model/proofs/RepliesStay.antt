@@ -234,7 +234,7 @@ module _ (c : List ℕ → PlainTerm → Bool) (d : List ℕ → Bool) where
   keeps_choice w false m n x y = y
 
   keeps_next : (w : World) (m : Mid) (x : Move) → KeepsMid w m → WritesMove x → KeepsMid w (next m x)
-  keeps_next w m (Do o) a s = keeps_choice w (is_some (failure m.now o)) (back m) (record { age = m.age; now = effect m.now o; saved = m.saved; base = m.base }) (keeps_back w m m.saved a.base a.saved) (record { now = keeps_change w m.now (change_of_op o) a.now s; saved = a.saved; base = a.base })
+  keeps_next w m (Do o) a s = keeps_choice w (is_some (failure m.now o)) (back m) (record m { now = effect m.now o }) (keeps_back w m m.saved a.base a.saved) (record { now = keeps_change w m.now (change_of_op o) a.now s; saved = a.saved; base = a.base })
   keeps_next w m Open a s = record { now = a.now; saved = (a.now, a.saved); base = a.base }
   keeps_next w m Close a s = record { now = a.now; saved = keeps_forgotten w m.saved a.saved; base = a.base }
   keeps_next w m Undo a s = keeps_back w m m.saved a.base a.saved

@@ -75,7 +75,7 @@ without_sole n (x ∷ y ∷ xs) m h = absurd h
 given_number : (n : ℕ) (over : List ℕ) (items : List Item) (s : Seat) → (given n over items s).number ≡ s.number
 given_number n over items s = cases (has_session over s.number)
   where
-    cases : (b : Bool) → Seat.number (if b then Rattle.tab_model.specs.Outcome.overflowed n s else record { number = s.number; transaction = s.transaction; watching = s.watching; outbox = Rattle.tab_model.specs.Outcome.pushed s.outbox items; overflow = s.overflow }) ≡ s.number
+    cases : (b : Bool) → Seat.number (if b then Rattle.tab_model.specs.Outcome.overflowed n s else record s { outbox = Rattle.tab_model.specs.Outcome.pushed s.outbox items }) ≡ s.number
     cases true = refl
     cases false = refl
 

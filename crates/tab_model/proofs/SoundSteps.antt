@@ -128,8 +128,8 @@ module _ (σ : State) (sound : IsSound σ) (s : Seat) (here : seat_at σ.seats s
 pub given_same : (n : ℕ) (over : List ℕ) (items : List Item) (s : Seat) → ((given n over items s).number ≡ s.number) × ((given n over items s).transaction ≡ s.transaction)
 given_same n over items s = cases (has_session over s.number)
   where
-    cases : (b : Bool) → (Seat.number (if b then overflowed n s else record { number = s.number; transaction = s.transaction; watching = s.watching; outbox = pushed s.outbox items; overflow = s.overflow }) ≡ s.number)
-        × (Seat.transaction (if b then overflowed n s else record { number = s.number; transaction = s.transaction; watching = s.watching; outbox = pushed s.outbox items; overflow = s.overflow }) ≡ s.transaction)
+    cases : (b : Bool) → (Seat.number (if b then overflowed n s else record s { outbox = pushed s.outbox items }) ≡ s.number)
+        × (Seat.transaction (if b then overflowed n s else record s { outbox = pushed s.outbox items }) ≡ s.transaction)
     cases true = (refl, refl)
     cases false = (refl, refl)
 
@@ -146,7 +146,7 @@ mapped_there f (Some x) r e = (x, refl)
 -- other tables, and seats that keep their numbers and transactions, which are told the same on them
 pub tables_sound : (σ : State) (w : World) (f : Seat → Seat) (c : ℕ) → IsSound σ → ((s : Seat) → (f s).number ≡ s.number) → ((s : Seat) → (f s).transaction ≡ s.transaction) → IsOrderedWorld w
     → ((n : ℕ) → replies (start w (age_at σ n)) (moves_at σ n) ≡ replies (start σ.tables (age_at σ n)) (moves_at σ n))
-    → IsSound (record { tables = w; seats = map f σ.seats; queue = σ.queue; next_age = σ.next_age; commits = c; greatest = σ.greatest; limits = σ.limits })
+    → IsSound (record σ { tables = w; seats = map f σ.seats; commits = c })
 tables_sound σ w f c sound num tx o same = record {
   told = λ n. subst (λ (x : Option Transaction). replies (start w (age_in x)) (moves_in x) ≡ told_in_transaction x) (sym (at' n)) (same n ∙ sound.told n);
   apart = λ m n d. subst (λ (x : Option Transaction). Apart (locks_of (moves_in x)) (locks_of (moves_in (transaction_in (seat_at (map f σ.seats) n))))) (sym (at' m))

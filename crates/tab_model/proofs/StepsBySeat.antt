@@ -202,7 +202,7 @@ pub seat_sound : (σ : State) (seats : List Seat) (qs : List Queued) (a c g n : 
     → ((q : ℕ) → seat_at seats q ≡ (if q == n then o else seat_at σ.seats q))
     → IsSound σ → MaySit σ n (transaction_in o) → ((t : Transaction) → transaction_in o ≡ Some t → t.age < a) → σ.next_age ≤ a
     → ((s : Seat) → o ≡ Some s → n ≤ g) → σ.greatest ≤ g → AreDistinct seats
-    → IsSound (record { tables = σ.tables; seats = seats; queue = qs; next_age = a; commits = c; greatest = g; limits = σ.limits })
+    → IsSound (record σ { seats = seats; queue = qs; next_age = a; commits = c; greatest = g })
 seat_sound σ seats qs a c g n o at' sound sits below later within_g above distinct = record {
   told = λ q. subst (λ (x : Option Seat). replies (start σ.tables (age_in (transaction_in x))) (moves_in (transaction_in x)) ≡ told_in_transaction (transaction_in x)) (sym (at' q)) (told_if q (q == n));
   apart = λ p q differ. subst (λ (x : Option Seat). Apart (locks_of (moves_in (transaction_in x))) (locks_of (moves_in (transaction_in (seat_at seats q))))) (sym (at' p))

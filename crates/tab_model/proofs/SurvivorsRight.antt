@@ -45,7 +45,7 @@ survives w now saved m (Do o ∷ xs) k =
     (survives w (with_change now (change_of_op o)) saved on xs (record { now_is = kept_change w now (change_of_op o) ∙ ap (λ v. effect v o) k.now_is; saved_are = k.saved_are; base_is = k.base_is }))
   where
     on : Mid
-    on = record { age = m.age; now = effect m.now o; saved = m.saved; base = m.base }
+    on = record m { now = effect m.now o }
 
     by_case : (a b : Bool) → a ≡ b
         → change_all w (survivors (top_level saved) (drop_level saved) xs (replies (back m) xs)) ≡ (after (back m) xs).now

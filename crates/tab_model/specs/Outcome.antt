@@ -63,21 +63,21 @@ without_seat [] n = []
 without_seat (x ∷ xs) n = if x.number == n then without_seat xs n else x ∷ without_seat xs n
 
 abbrev pub with_transaction : Seat → Option Transaction → Seat
-with_transaction s transaction = record { number = s.number; transaction = transaction; watching = s.watching; outbox = s.outbox; overflow = s.overflow }
+with_transaction s transaction = record s { transaction = transaction }
 
 abbrev pub with_seat : State → Seat → State
-with_seat σ s = record { tables = σ.tables; seats = change σ.seats s; queue = σ.queue; next_age = σ.next_age; commits = σ.commits; greatest = σ.greatest; limits = σ.limits }
+with_seat σ s = record σ { seats = change σ.seats s }
 
 abbrev pub with_queue : State → List Queued → State
-with_queue σ q = record { tables = σ.tables; seats = σ.seats; queue = q; next_age = σ.next_age; commits = σ.commits; greatest = σ.greatest; limits = σ.limits }
+with_queue σ q = record σ { queue = q }
 
 -- posts
 abbrev pub pushed : Outbox → List Item → Outbox
-pushed b items = record { items = b.items ++ items; refusals = b.refusals; capacity = b.capacity; mailbox = b.mailbox }
+pushed b items = record b { items = b.items ++ items }
 
 -- a post refuses: its count rises, up to the greatest 64 bit number
 abbrev pub refused : Outbox → Outbox
-refused b = record { items = b.items; refusals = min (b.refusals + 1) (2 ^ 64 - 1); capacity = b.capacity; mailbox = b.mailbox }
+refused b = record b { refusals = min (b.refusals + 1) (2 ^ 64 - 1) }
 
 -- moves
 abbrev pub more : Transaction → Move → Option Reply → Transaction
@@ -139,7 +139,7 @@ retry σ s (Some q) = retry_in σ s q.operation s.transaction
 abbrev pub opened : State → Seat → Bool → Outcome
 opened σ s false = nothing σ (reply.SystemLimit limit.Ages)
 opened σ s true =
-    nothing (record { tables = σ.tables; seats = change σ.seats (with_transaction s (Some (record { age = σ.next_age; moves = []; told = [] }))); queue = σ.queue; next_age = σ.next_age + 1; commits = σ.commits; greatest = σ.greatest; limits = σ.limits }) (reply.Tid σ.next_age)
+    nothing (record σ { seats = change σ.seats (with_transaction s (Some (record { age = σ.next_age; moves = []; told = [] }))); next_age = σ.next_age + 1 }) (reply.Tid σ.next_age)
 
 abbrev pub open_first : State → Seat → Outcome
 open_first σ s = opened σ s (nat_le σ.next_age σ.limits.ages)
@@ -165,13 +165,13 @@ abort σ s r (Some transaction) = made (with_queue σ (without_request σ.queue 
 
 -- what a step puts into one seat's post
 abbrev pub overflowed : ℕ → Seat → Seat
-overflowed n s = record { number = s.number; transaction = s.transaction; watching = []; outbox = refused s.outbox; overflow = Some n }
+overflowed n s = record s { watching = []; outbox = refused s.outbox; overflow = Some n }
 
 -- an item of a commit or a deletion: who refuses overflows, and its subscriptions end
 abbrev pub given : ℕ → List ℕ → List Item → Seat → Seat
 given n over items s =
     if has_session over s.number then overflowed n s
-    else record { number = s.number; transaction = s.transaction; watching = s.watching; outbox = pushed s.outbox items; overflow = s.overflow }
+    else record s { outbox = pushed s.outbox items }
 
 abbrev pub batch_to : ℕ → List Event → Seat → List Item
 batch_to n es s = batch_for (level_in s.watching) n es
@@ -209,7 +209,7 @@ commit σ over s (Some transaction) = commit_at σ over s transaction (is_empty 
 -- schema commands
 abbrev pub unwatched : Option (List ℕ) → Seat → Seat
 unwatched None s = s
-unwatched (Some t) s = record { number = s.number; transaction = s.transaction; watching = without_watch s.watching t; outbox = s.outbox; overflow = s.overflow }
+unwatched (Some t) s = record s { watching = without_watch s.watching t }
 
 abbrev pub end_to : Option (List ℕ) → Seat → List Item
 end_to t s = end_for (level_in s.watching) t
@@ -271,10 +271,10 @@ is_at (Some x) l = same_level x l
 
 -- a mark into the post, with what then watches; or a refusal that the post counts
 abbrev pub marked : State → Bool → Seat → List Watch → Item → Entry → Outcome
-marked σ true s ws x e = nothing (with_seat σ (record { number = s.number; transaction = s.transaction; watching = s.watching; outbox = refused s.outbox; overflow = s.overflow })) reply.OutboxFull
+marked σ true s ws x e = nothing (with_seat σ (record s { outbox = refused s.outbox })) reply.OutboxFull
 marked σ false s ws x e =
     record {
-      state = with_seat σ (record { number = s.number; transaction = s.transaction; watching = ws; outbox = pushed s.outbox (x ∷ []); overflow = s.overflow });
+      state = with_seat σ (record s { watching = ws; outbox = pushed s.outbox (x ∷ []) });
       reply = reply.SubscribedHere;
       entry = Some e;
     }
@@ -319,9 +319,9 @@ command_if σ over s c false = do_command σ over s c
 -- a Take: the next item, else an overflow, which is told once, else empty
 abbrev pub give : State → Seat → List Item → Option ℕ → Outcome
 give σ s (x ∷ xs) l =
-    nothing (with_seat σ (record { number = s.number; transaction = s.transaction; watching = s.watching; outbox = record { items = xs; refusals = s.outbox.refusals; capacity = s.outbox.capacity; mailbox = s.outbox.mailbox }; overflow = s.overflow })) (reply.Taken x)
+    nothing (with_seat σ (record s { outbox = record s.outbox { items = xs } })) (reply.Taken x)
 give σ s [] None = nothing σ reply.Empty
-give σ s [] (Some n) = nothing (with_seat σ (record { number = s.number; transaction = s.transaction; watching = s.watching; outbox = s.outbox; overflow = None })) (reply.Overflow n)
+give σ s [] (Some n) = nothing (with_seat σ (record s { overflow = None })) (reply.Overflow n)
 
 -- of a channel post (no capacity that decides) a Take sees no item: they are its other end's
 abbrev pub takable : Outbox → Option ℕ → List Item
@@ -330,7 +330,7 @@ takable b (Some c) = b.items
 
 -- a session leaves: its transaction, locks, request, subscriptions and items are gone
 abbrev pub leave : State → Seat → Outcome
-leave σ s = nothing (record { tables = σ.tables; seats = without_seat σ.seats s.number; queue = without_request σ.queue s.number; next_age = σ.next_age; commits = σ.commits; greatest = σ.greatest; limits = σ.limits }) reply.Done
+leave σ s = nothing (record σ { seats = without_seat σ.seats s.number; queue = without_request σ.queue s.number }) reply.Done
 
 abbrev pub seated : State → List ℕ → Seat → Ask → Outcome
 seated σ over s (Join b) = nothing σ reply.BadSession
@@ -347,7 +347,7 @@ abbrev pub join : State → ℕ → Outbox → Bool → Bool → Outcome
 join σ n b false room = nothing σ reply.BadSession
 join σ n b true false = nothing σ (reply.SystemLimit limit.Sessions)
 join σ n b true true =
-    nothing (record { tables = σ.tables; seats = σ.seats ++ fresh n b ∷ []; queue = σ.queue; next_age = σ.next_age; commits = σ.commits; greatest = n; limits = σ.limits }) reply.Done
+    nothing (record σ { seats = σ.seats ++ fresh n b ∷ []; greatest = n }) reply.Done
 
 abbrev pub unseated : State → ℕ → Ask → Outcome
 unseated σ n (Join b) = join σ n b (nat_lt σ.greatest n) (nat_lt (length σ.seats) σ.limits.sessions)

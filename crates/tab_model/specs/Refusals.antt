@@ -43,7 +43,7 @@ LeavesAll r = (σ : State) (over : List ℕ) (n : ℕ) (a : Ask) → (outcome σ
 -- the asker's post counts one refusal more
 abbrev pub counted : State → Option Seat → State
 counted σ None = σ
-counted σ (Some s) = with_seat σ (record { number = s.number; transaction = s.transaction; watching = s.watching; outbox = refused s.outbox; overflow = s.overflow })
+counted σ (Some s) = with_seat σ (record s { outbox = refused s.outbox })
 
 -- the operation that is asked for, with its session and age
 abbrev pub queued_for : ℕ → Option Transaction → Operation → List Queued
@@ -82,7 +82,7 @@ pub record EndsLevel (σ : State) (n : ℕ) (t : Transaction) (x : Move) (r : Op
   pub back : after (start σ.tables t.age) (t.moves ++ x ∷ []) ≡ back (mid_of σ t)
   pub locks : locks_of (t.moves ++ x ∷ []) ≡ locks_of t.moves ++ locks_of (x ∷ [])
   -- all else stays: the rest of its seat, the others', the queue but for its own request, the numbers
-  pub seat : (s : Seat) → seat_at σ.seats n ≡ Some s → seat_at τ.seats n ≡ Some (record { number = s.number; transaction = transaction_at τ n; watching = s.watching; outbox = s.outbox; overflow = s.overflow })
+  pub seat : (s : Seat) → seat_at σ.seats n ≡ Some s → seat_at τ.seats n ≡ Some (record s { transaction = transaction_at τ n })
   pub others : (m : ℕ) → m ≢ n → seat_at τ.seats m ≡ seat_at σ.seats m
   pub queue : τ.queue ≡ filter (λ q. not (q.session == n)) σ.queue
   pub next_age : τ.next_age ≡ σ.next_age

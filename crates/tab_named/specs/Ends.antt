@@ -35,7 +35,7 @@ module _ {H : Type 0} {N : Ghosts H} where
 
   -- it shows what its channel's post does, all that was ever sent among it, and which mailbox it is of
   abbrev pub as_outbox : SeatPost H N → Outbox
-  as_outbox p = let b = ends.as_outbox p.post in record { items = b.items; refusals = b.refusals; capacity = b.capacity; mailbox = Some p.place }
+  as_outbox p = let b = ends.as_outbox p.post in record b { mailbox = Some p.place }
 
   -- the second is the first after some calls
   abbrev pub IsSamePost : SeatPost H N → SeatPost H N → Type 0

@@ -23,7 +23,7 @@ rest_of (x ∷ xs) = xs
 
 abbrev pub unwatched : Option (List ℕ) → Subscriber → Subscriber
 unwatched None s = s
-unwatched (Some t) s = record { number = s.number; watching = without_watch s.watching t; outbox = s.outbox; overflow = s.overflow }
+unwatched (Some t) s = record s { watching = without_watch s.watching t }
 
 -- who refused is in the first list
 abbrev pub given_all : ℕ → List ℕ → Option (List ℕ) → List (List Item) → List Subscriber → List Subscriber
@@ -57,4 +57,4 @@ pub record Delivers (owed : Owed) (old new : List Subscriber) (over : List ℕ) 
 -- one subscriber after its item, which its post refused or not
 abbrev pub received : ℕ → Bool → List Item → Subscriber → Subscriber
 received n true items s = overflowed n s
-received n false items s = record { number = s.number; watching = s.watching; outbox = pushed s.outbox items; overflow = s.overflow }
+received n false items s = record s { outbox = pushed s.outbox items }

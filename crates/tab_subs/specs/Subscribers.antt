@@ -40,12 +40,12 @@ overflowed n s = record { number = s.number; watching = []; outbox = refused s.o
 abbrev pub given : ℕ → List ℕ → List Item → Subscriber → Subscriber
 given n over items s =
     if has_session over s.number then overflowed n s
-    else record { number = s.number; watching = s.watching; outbox = pushed s.outbox items; overflow = s.overflow }
+    else record s { outbox = pushed s.outbox items }
 
 -- a mark into the post, with what it then watches; or a refusal that the post counts
 abbrev pub marked : Marked → List Watch → Item → Subscriber → Subscriber
-marked mark.Full ws x s = record { number = s.number; watching = s.watching; outbox = refused s.outbox; overflow = s.overflow }
-marked mark.Told ws x s = record { number = s.number; watching = ws; outbox = pushed s.outbox (x ∷ []); overflow = s.overflow }
+marked mark.Full ws x s = record s { outbox = refused s.outbox }
+marked mark.Told ws x s = record s { watching = ws; outbox = pushed s.outbox (x ∷ []) }
 
 abbrev pub is_full : Marked → Bool
 is_full mark.Full = true
@@ -61,9 +61,9 @@ Marks ss (Some s) ws x (Some m) new =
 -- a Take: the next item, else an overflow, which is told once, else empty
 abbrev pub give : Subscriber → List Item → Option ℕ → Subscriber × Taken
 give s (x ∷ xs) l =
-    (record { number = s.number; watching = s.watching; outbox = record { items = xs; refusals = s.outbox.refusals; capacity = s.outbox.capacity; mailbox = s.outbox.mailbox }; overflow = s.overflow }, taken.Item x)
+    (record s { outbox = record s.outbox { items = xs } }, taken.Item x)
 give s [] None = (s, taken.Empty)
-give s [] (Some n) = (record { number = s.number; watching = s.watching; outbox = s.outbox; overflow = None }, taken.Overflow n)
+give s [] (Some n) = (record s { overflow = None }, taken.Overflow n)
 
 abbrev pub take : Subscriber → Subscriber × Taken
 take s = give s (takable s.outbox s.outbox.capacity) s.overflow

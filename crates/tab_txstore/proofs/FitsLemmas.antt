@@ -205,10 +205,10 @@ module _ (w : World) (o : IsOrderedWorld w) where
   shows_dropped (x ∷ ls) [] a = absurd a
 
   shows_changed : (l : Levels) (m : Mid) (h : Change) → ShowsMid w l m
-      → ShowsMid w (changed (find w (table_of_change h)) l (Some h)) (record { age = m.age; now = change_by m.now (Some h); saved = m.saved; base = m.base })
+      → ShowsMid w (changed (find w (table_of_change h)) l (Some h)) (record m { now = change_by m.now (Some h) })
   shows_changed l m h a = record { now = shows_touch w l.now.overlay m.now h a.now; saved = a.saved; base = a.base }
 
-  shows_effect : (l : Levels) (m : Mid) (p : Operation) → ShowsMid w l m → ShowsMid w (changed (find w (table_of p)) l (change_of_op p)) (record { age = m.age; now = effect m.now p; saved = m.saved; base = m.base })
+  shows_effect : (l : Levels) (m : Mid) (p : Operation) → ShowsMid w l m → ShowsMid w (changed (find w (table_of p)) l (change_of_op p)) (record m { now = effect m.now p })
   shows_effect l m (op.Read t k) a = record { now = a.now; saved = a.saved; base = a.base }
   shows_effect l m (op.ReadForWrite t k) a = record { now = a.now; saved = a.saved; base = a.base }
   shows_effect l m (op.Write z) a = shows_changed l m (change.Write z) a

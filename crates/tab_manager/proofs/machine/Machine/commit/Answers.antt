@@ -61,6 +61,6 @@ returns c =
     let same = keep.read m n i c.requires.there c.deref_mut-2.result.now c.index-deref_mut-place-2.result c.deref_mut-2.ensures.value in
     let all = answering.commit_exit m n i c.requires.kept c.requires.there t open_t c.requires.idle (answering.zero_is _ (omega (arith, c.if-depth-gt0.false, c.depth.ensures)))
     (get_or c.deref_mut-2.result.now i c.index-deref_mut-place-2.result) c.finish-finished.new.seat c.finish-finished.result
-    (record { alloc = m.alloc; world = c.commit_to.new.world; seats = with_items m.seats (set c.deref_mut-2.result.now i c.finish-finished.new.seat); ages = c.finish-finished.new.ages; queue = m.queue; begun = m.begun; commits = m.commits + 1; greatest = m.greatest; limits = m.limits })
+    (record m { world = c.commit_to.new.world; seats = with_items m.seats (set c.deref_mut-2.result.now i c.finish-finished.new.seat); ages = c.finish-finished.new.ages; commits = m.commits + 1 })
     same c.finish-finished.ensures.seat c.finish-finished.ensures.told (c.in_ok-commit_to.ensures.ok ∙ ap (Rattle.tab_model.specs.Events.change_all m.world) c.updates.ensures) (refilled m.seats.items _ i c.finish-finished.new.seat c.deref_mut-2.ensures.value) refl refl refl refl refl c.finish-finished.ensures.ages in
     record { ok = all.0; free = λ h. refl; err = tt; kept = all.1 }

@@ -42,6 +42,6 @@ returns c =
     let same = keep.read m n i there c.deref_mut.result.now c.index-deref_mut-place.result c.deref_mut.ensures.value in
     let all = answering.commit_exit m n i c.requires.kept there e.held e.opened e.idle e.deep
     (get_or c.deref_mut.result.now i c.index-deref_mut-place.result) c.finish.new.seat c.finish.result
-    (record { alloc = m.alloc; world = c.args.world; seats = with_items m.seats (set c.deref_mut.result.now i c.finish.new.seat); ages = c.finish.new.ages; queue = m.queue; begun = m.begun; commits = m.commits + 1; greatest = m.greatest; limits = m.limits })
+    (record m { world = c.args.world; seats = with_items m.seats (set c.deref_mut.result.now i c.finish.new.seat); ages = c.finish.new.ages; commits = m.commits + 1 })
     same c.finish.ensures.seat c.finish.ensures.told (c.requires.there.2 ∙ lemmas.updates_are m n i c.requires.kept there c.requires.there.0 e) (refilled m.seats.items _ i c.finish.new.seat c.deref_mut.ensures.value) refl refl refl refl refl c.finish.ensures.ages in
     record { done = all.0; kept = all.1 }

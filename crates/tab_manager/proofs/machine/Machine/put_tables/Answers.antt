@@ -32,5 +32,5 @@ returns c =
     let n = c.args.session in
     let i = c.args.place in
     let all = answering.schema_exit m n i c.requires.there c.requires.outside c.requires.idle c.requires.kept c.args.asked.schema c.requires.done.0 (ap (λ t. Rattle.std.specs.List.list_any (Rattle.tab_model.specs.State.is_in t) (Rattle.tab_model.specs.Ages.all_of m.ages)) (sym c.table_of.ensures) ∙ sym c.busy.ensures ∙ c.if-busy.false) (sym c.has_room.ensures ∙ c.if-not-has_room.false) c.args.world c.requires.done.1 c.into_schema.result c.new-2.result.items c.into_schema.ensures c.new-2.ensures.items in
-    let m' : Machine = record { alloc = m.alloc; world = c.args.world; seats = m.seats; ages = m.ages; queue = m.queue; begun = m.begun; commits = m.commits; greatest = m.greatest; limits = m.limits } in
+    let m' : Machine = record m { world = c.args.world } in
     record { ok = all.0 ∙ (λ j. record { state = state_of m'; reply = sym c.new.ensures j; entry = Some (entry.Changed c.into_schema.result c.new-2.result.items) }); err = tt; kept = all.1 }
