@@ -52,7 +52,7 @@ LINK = re.compile(r"\]\(([^)#:\s]+)\)")
 FENCE = re.compile(r"^```.*?^```", re.M | re.S)
 WORD = re.compile(r"[^\W\d]\w*")
 OPTION = re.compile(r"(?<![\w-])--[a-z][a-z-]*")
-PATH = re.compile(r"[\w.*-]*(?:/[\w.*-]+)+/?|[\w.-]+/|[\w*-]+\.(?:py|rt|md|tsv|txt|erl|edit|escript|c|bazel)")
+PATH = re.compile(r"[\w.*-]*(?:/[\w.*-]+)+/?|[\w.-]+/|[\w*-]+\.(?:py|rt|md|tsv|txt|erl|edit|escript|c|bazel)(?!\w)")
 # An address, or a path that begins at the root or at home, is no file of the repository.
 OUTSIDE = re.compile(r"\w+://\S+|(?<![\w.*-])~?/[\w./-]+")
 ARITY = re.compile(r"\w+/\d(,\d)*")
