@@ -4,11 +4,12 @@
     documents.py PROGRAM
 
 Of README.md, CONTRIBUTING.md, docs/*.md and the clients' README.md: each file that is named in backticks or by a link is in the
-repository; so is each crate, function, type and definition (`Type::function` in an `impl` of that type, in a table's row that names one
-file in that file, and under a heading of a crate as a word of its code, or of tab_model's or tab_proto's); each `--option` is in the program's help, in that of `rt`, or in the text of
-a script that the same line names. docs/MAP.md has each file of definitions. The frames of docs/PROTOCOL.md, "Bytes", are sent as they stand
-there, and spell the terms beside them. One line tells each that differs; the last line is `N passed, M failed`, and the status 1 where one
-failed. It takes some seconds.
+repository; so is each section that is named with its document, and each crate, function, type and definition (`Type::function` in
+an `impl` of that type, in a table's row that names one file in that file, and under a heading of a crate as a word of its code,
+or of tab_model's or tab_proto's); each `--option` is in the program's help, in that of `rt`, or in the text of a script that the
+same line names. docs/MAP.md has each file of definitions. The frames of docs/PROTOCOL.md, "Bytes", are sent as they stand there,
+and spell the terms beside them. One line tells each that differs; the last line is `N passed, M failed`, and the status 1 where
+one failed. It takes some seconds.
 """
 
 import glob
@@ -51,10 +52,14 @@ LINK = re.compile(r"\]\(([^)#:\s]+)\)")
 FENCE = re.compile(r"^```.*?^```", re.M | re.S)
 WORD = re.compile(r"[^\W\d]\w*")
 OPTION = re.compile(r"(?<![\w-])--[a-z][a-z-]*")
-PATH = re.compile(r"[\w.*-]*(?:/[\w.*-]+)+/?|[\w.-]+/|[\w*-]+\.(?:py|rt|md|tsv|txt|erl|edit|escript|c|bazel)")
+PATH = re.compile(r"[\w.*-]*(?:/[\w.*-]+)+/?|[\w.-]+/|[\w*-]+\.(?:py|rt|md|tsv|txt|erl|edit|escript|c|bazel)(?!\w)")
+# An address, or a path that begins at the root or at home, is no file of the repository.
+OUTSIDE = re.compile(r"\w+://\S+|(?<![\w.*-])~?/[\w./-]+")
 ARITY = re.compile(r"\w+/\d(,\d)*")
 NAME = re.compile(r"[^\W\d]\w*(::[^\W\d]\w*)?")
 SECTION = re.compile(r"## (\w+):")
+# `docs/PROTOCOL.md, "Events"`: a document and the beginning of a heading in it.
+HEADING = re.compile(r'(?:docs/)?(\w+\.md)[`)]?,\s"([^"]+)"')
 COMMENT = {".rt": re.compile(r"//.*"), ".antt": re.compile(r"--.*"), ".py": re.compile(r"^\s*#.*", re.M), ".erl": re.compile(r"%.*")}
 TYPE = re.compile(r"(?:pub(?:\(crate\))? )?(?:struct|enum|trait|record) (\w+)")
 MEMBER = re.compile(r"(?:  ){1,2}(?:pub(?:\(crate\))? )?(?:const )?(?:fn )?(\w+)")
@@ -63,6 +68,11 @@ BYTES = re.compile(r"[0-9A-F]{8}(?: [0-9A-F]+)*")
 FRAME = re.compile(rf"    ([<>]) (.*?)(?:\s+({BYTES.pattern}))?")
 JOINS = re.compile(r"    \((\d+) to (\d+) join in the same way\)")
 TOKEN = re.compile(r"<<|>>|[{}\[\],]|-?\d+|[a-z][\w@]*|'[^']*'")
+
+
+def read_text(path):
+    with open(os.path.join(TOP, path), encoding="utf-8") as file:
+        return file.read()
 
 
 class Tree:
@@ -83,9 +93,7 @@ class Tree:
         # A module of specs or proofs is named as its file, an edit too.
         words |= {stem, *parts[:-1]}
         if ending in (*COMMENT, ".edit", ".escript") or parts[0] == ".ci":
-            with open(os.path.join(TOP, path), encoding="utf-8") as file:
-                text = file.read()
-            self.texts[path] = text
+            text = self.texts[path] = read_text(path)
             if ending in COMMENT:
                 text = COMMENT[ending].sub("", text)
             if path != os.path.relpath(__file__, TOP):
@@ -124,8 +132,7 @@ def owner_of(head):
 class Document:
     def __init__(self, path, tree):
         self.path, self.tree, self.faults, self.count = path, tree, [], 0
-        with open(os.path.join(TOP, path), encoding="utf-8") as file:
-            self.text = file.read()
+        self.text = read_text(path)
 
     def check(self, right, what):
         self.count += 1
@@ -153,7 +160,7 @@ class Document:
             return
         if NAME.fullmatch(span) and not PATH.fullmatch(span):
             return self.name(span, crates, files)
-        for path in PATH.findall(span):
+        for path in PATH.findall(OUTSIDE.sub("", span)):
             if path not in ELSEWHERE and not ARITY.fullmatch(path):
                 self.check(self.tree.has(path, self.path), f"no file {path}")
         if self.path == PROTOCOL:
@@ -174,6 +181,11 @@ class Document:
             places = {*crates, *SHARED} if crates else self.tree.words
             self.check(name in self.tree.words or any(name in self.tree.words.get(it, ()) for it in places), f"no name {name}")
 
+    def headings(self):
+        for name, head in HEADING.findall(self.text):
+            path = next((it for it in (f"docs/{name}", name) if it in self.tree.files), None)
+            self.check(path and f"\n## {' '.join(head.split())}" in read_text(path), f"no section {head!r} in {name}")
+
     def options(self, program, rt):
         for line in self.text.split("\n"):
             for found in OPTION.finditer(line):
@@ -189,8 +201,7 @@ class Document:
 
 def unlisted(tree):
     """The files of specs that docs/MAP.md doesn't have: a row names one whole, and its neighbours by their last part."""
-    with open(os.path.join(TOP, "docs/MAP.md"), encoding="utf-8") as file:
-        rows, named = [line for line in file if line.startswith("|")], set()
+    rows, named = [line for line in read_text("docs/MAP.md").split("\n") if line.startswith("|")], set()
     for row in rows:
         folder = ""
         for span in SPAN.findall(row):
@@ -322,6 +333,7 @@ def main():
     for path in sorted(os.path.relpath(it, TOP) for pattern in DOCUMENTS for it in glob.glob(os.path.join(TOP, pattern))):
         document = Document(path, tree)
         document.names()
+        document.headings()
         document.options(helps, rt)
         faults += document.faults
         count += document.count
