@@ -325,7 +325,7 @@ def served_faults(program):
             connection.socket.sendall(long[cut:] + short)
             if (told := [connection.receive() for _ in wanted]) != wanted:
                 yield f"a served frame cut at {cut}: {told}"
-    except OSError as error:
+    except (OSError, ValueError) as error:
         yield f"a served frame: {error!r}"
     finally:
         server.kill()
