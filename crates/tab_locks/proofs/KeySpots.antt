@@ -1,5 +1,6 @@
 -- The locks on the keys of one table, as one list.
 use Rattle.std.proofs.Common.{◌≡◌, List, [], Bool, true, false, ◌&&◌, refl, sym, ap, subst, ◌∙◌, Some, None}
+use Rattle.std.proofs.Math.Bool.{and-true}
 use Rattle.std.specs.Prelude.{map}
 use Rattle.std.specs.List.{list_any}
 use Rattle.std.specs.List.Sorted.{IsStrictlySortedBy}
@@ -38,6 +39,12 @@ any_held p es =
 pub held_at : (p : Holding → Bool) (k : Term) (es : Entries) → IsStrictlySortedBy term_cmp (keys_of es) → list_any (λ s. same (term k) s.0 && p s.1) (key_spots es) ≡ found_any (list_any p) (lookup (is_at (term_cmp k)) es)
 held_at p k es s = spelled_found term_cmp term_total spell k (λ x. same (term k) x.0 && p x.1) (list_any p) es s
     (λ e. any_map (λ x. same (term k) x.0 && p x.1) (λ h. (term e.0, h)) e.1 ∙ any_and (same (term k) (term e.0)) p e.1 ∙ ap (λ b. b && list_any p e.1) (sym (is_key k e.0)))
+
+-- a key that is not there
+pub free_at : (k : Term) (es : Entries) → IsStrictlySortedBy term_cmp (keys_of es) → lookup (is_at (term_cmp k)) es ≡ None → list_any (λ s. same (term k) s.0) (key_spots es) ≡ false
+free_at k es s l =
+    any_same (λ s. same (term k) s.0) (λ s. same (term k) s.0 && true) (key_spots es) (λ s. sym (and-true (same (term k) s.0)))
+    ∙ held_at (λ h. true) k es s ∙ ap (found_any (list_any (λ (h : Holding). true))) l
 
 pub more_at : (k : Term) (x : Holding) (v w : List Holding) (es new : Entries) → lookup (is_at (term_cmp k)) es ≡ Some v → new ≡ set_value (is_at (term_cmp k)) es w → HasMore x v w → HasMore (term k, x) (key_spots es) (key_spots new)
 more_at k x v w es new l is h = spelled_more term_cmp term_total spell k (term k, x) v w es new l is

@@ -1,5 +1,5 @@
 -- The locks of all tables, as one list.
-use Rattle.std.proofs.Common.{◌≡◌, ℕ, List, [], Bool, true, false, ◌||◌, ◌&&◌, not, refl, sym, ap, subst, ◌∙◌, Some, None}
+use Rattle.std.proofs.Common.{◌≡◌, ℕ, List, [], Bool, true, false, ◌||◌, ◌&&◌, not, refl, sym, ap, subst, ◌∙◌, Option, Some, None}
 use Rattle.std.specs.Prelude.{◌==◌, nat_lt}
 use Rattle.std.specs.List.{list_any}
 use Rattle.std.specs.List.Sorted.{IsStrictlySortedBy}
@@ -15,7 +15,7 @@ use Rattle.tab_model.specs.Locks.{Part, lock, meets, contains}
 use Rattle.tab_model.specs.Ages.{Owned}
 use Rattle.tab_locks.specs.declared.question.Relation.{Relation}
 use Rattle.tab_locks.specs.declared.question.Relation.TheVariants.{Meeting, Opposing, Blocking, Covering}
-use Rattle.tab_locks.specs.Questions.{asked, fits, reaches}
+use Rattle.tab_locks.specs.Questions.{asked, fits, reaches, meets_at}
 use Rattle.tab_locks.specs.Members.{HasMore, SameMembers, Drops}
 use Rattle.tab_locks.specs.Spots.{Spot, locks_on, locks_in, stands_on, stands_at}
 use Rattle.tab_locks.proofs.Passing.{any_same, any_map, any_and}
@@ -77,6 +77,15 @@ locked_at t es s = any_same (is_in t) (λ x. bytes_eq t (x.1).table) (locks_in e
     (λ e. any_map (λ x. bytes_eq t (x.1).table) (λ (z : Spot). (z.1.0, lock e.0 z.0 z.1.1)) e.1
     ∙ any_same (λ z. bytes_eq t e.0) (λ z. bytes_eq t e.0 && true) e.1 (λ z. sym (and-true (bytes_eq t e.0)))
     ∙ any_and (bytes_eq t e.0) (λ z. true) e.1 ∙ ap (λ b. b && list_any (λ z. true) e.1) (sym (is_table t e.0)))
+
+-- what no one holds a lock on, by the locks of its table
+pub free_in : (age : ℕ) (write : Bool) (t : List ℕ) (part : Part) (es : Entries) → IsStrictlySortedBy bytes_cmp (keys_of es)
+    → found_any (list_any (λ s. meets part s.0)) (lookup (is_at (bytes_cmp t)) es) ≡ false → list_any (meets_at (age, lock t part write)) (locks_in es) ≡ false
+free_in age write t part es s h = asked_at Meeting age write t part es s ∙ by (lookup (is_at (bytes_cmp t)) es) h
+  where
+    by : (o : Option (List Spot)) → found_any (list_any (λ s. meets part s.0)) o ≡ false → found_any (list_any (λ s. meets part s.0 && true)) o ≡ false
+    by None g = refl
+    by (Some v) g = any_same (λ s. meets part s.0 && true) (λ s. meets part s.0) v (λ s. and-true (meets part s.0)) ∙ g
 
 pub more_in : (t : List ℕ) (x : Spot) (v w : List Spot) (es new : Entries) → lookup (is_at (bytes_cmp t)) es ≡ Some v → new ≡ set_value (is_at (bytes_cmp t)) es w
     → HasMore x v w → HasMore (x.1.0, lock t x.0 x.1.1) (locks_in es) (locks_in new)

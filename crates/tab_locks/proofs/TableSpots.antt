@@ -1,12 +1,12 @@
 -- The locks on one table, as one list.
-use Rattle.std.proofs.Common.{◌≡◌, List, Bool, true, ◌||◌, ◌&&◌, not, refl, sym, ap, ◌∙◌}
+use Rattle.std.proofs.Common.{◌≡◌, List, Bool, true, false, ◌||◌, ◌&&◌, not, refl, sym, ap, ◌∙◌}
 use Rattle.std.proofs.Math.Bool.{and-true, or_assoc}
 use Rattle.std.proofs.lemmas.List.Folds.{list_any-append}
 use Rattle.std.specs.Prelude.{map}
 use Rattle.std.specs.List.{list_any}
 use Rattle.tab_term.specs.Data.{PlainTerm}
 use Rattle.tab_term.specs.Same.{same, same_equiv}
-use Rattle.tab_model.specs.Locks.{Part, All, Key}
+use Rattle.tab_model.specs.Locks.{Part, All, Key, meets}
 use Rattle.tab_locks.specs.declared.question.Relation.{Relation}
 use Rattle.tab_locks.specs.declared.question.Relation.TheVariants.{Meeting, Opposing, Blocking, Covering}
 use Rattle.tab_locks.specs.Questions.{reaches}
@@ -50,6 +50,13 @@ module _ (r : Relation) (p : Holding → Bool) (all : List Holding) (keys : List
 
   pub asked_first : (part : Part) → list_any p all ≡ true → list_any (λ s. reaches r part s.0 && p s.1) (spots_of all keys) ≡ true
   asked_first part h = any_spots (λ s. reaches r part s.0 && p s.1) all keys ∙ (λ i. (of_all part ∙ h) i || list_any (λ s. reaches r part (Key s.0) && p s.1) keys)
+
+-- a part that no one holds a lock on
+pub free_all : (all : List Holding) (keys : List KeySpot) → list_any (λ h. true) all ≡ false → list_any (λ s. true) keys ≡ false → list_any (λ s. meets All s.0) (spots_of all keys) ≡ false
+free_all all keys none bare = any_spots (λ s. meets All s.0) all keys ∙ (λ i. none i || bare i)
+
+pub free_key : (key : PlainTerm) (all : List Holding) (keys : List KeySpot) → list_any (λ h. true) all ≡ false → list_any (λ s. same key s.0) keys ≡ false → list_any (λ s. meets (Key key) s.0) (spots_of all keys) ≡ false
+free_key key all keys none bare = any_spots (λ s. meets (Key key) s.0) all keys ∙ (λ i. none i || bare i)
 
 pub more_on_all : (x : Holding) (all new : List Holding) (keys : List KeySpot) → HasMore x all new → HasMore (All, x) (spots_of all keys) (spots_of new keys)
 more_on_all x all new keys h = λ p.

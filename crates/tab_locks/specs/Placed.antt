@@ -1,5 +1,5 @@
 -- The held locks as one list: owners by ascending age, each owner's locks in the order of granting.
-use Rattle.std.specs.Prelude.{ℕ, List, [], ◌∷◌, Bool, not, ◌&&◌, ◌==◌, nat_lt, if◌then◌else◌, map, Option, Some, None}
+use Rattle.std.specs.Prelude.{◌≡◌, ℕ, List, [], ◌∷◌, Bool, not, ◌&&◌, ◌||◌, ◌==◌, nat_lt, if◌then◌else◌, map, Option, Some, None}
 use Rattle.std.specs.Global.{Vec}
 use Rattle.std.specs.List.{flat_map, list_any}
 use Rattle.std.specs.Ordering.{nat_cmp}
@@ -9,6 +9,8 @@ use Rattle.tab_model.specs.Ages.{Owned, opposes, blocks, covers_own}
 use Rattle.tab_locks.specs.Members.{SameMembers}
 use Rattle.tab_locks.specs.Plain.{lock_of}
 use Rattle.tab_locks.specs.Spots.{stands_at}
+use Rattle.tab_locks.specs.declared.lock_table.Asked.{Asked}
+use Rattle.tab_locks.specs.declared.lock_table.Asked.TheVariants.{Held, InConflict}
 use Rattle.tab_locks.specs.declared.lock_table.Conflict.{Conflict}
 use Rattle.tab_locks.specs.declared.lock_table.Conflict.TheVariants.{Free, WithYounger, WithOlder}
 
@@ -44,3 +46,20 @@ conflict_with r held = if list_any (opposes r) held then (if list_any (blocks r)
 -- the same, and none where a lock of its own owner serves
 abbrev pub standing : Owned → List Owned → Option Conflict
 standing r held = if list_any (covers_own r) held then None else Some (conflict_with r held)
+
+-- whom a lock that is asked for is in conflict with, and none where it may be held
+abbrev pub in_the_way : Owned → List Owned → Option Conflict
+in_the_way r held = if list_any (covers_own r) held || not (list_any (opposes r) held) then None else Some (conflict_with r held)
+
+-- what an answer says of it, which locks are held then, and which lock comes back
+abbrev pub conflict_in : Asked → Option Conflict
+conflict_in Held = None
+conflict_in (InConflict c l) = Some c
+
+abbrev pub after_asked : Owned → List Owned → Asked → List Owned
+after_asked r held Held = placed r held
+after_asked r held (InConflict c l) = held
+
+abbrev pub GivesBack : code.Lock → Asked → Type 0
+GivesBack l Held = Unit {0}
+GivesBack l (InConflict c m) = m ≡ l

@@ -1,15 +1,16 @@
-ghost use Rattle.std.specs.Prelude.{◌≡◌, [], OnOk, OnErr};
+ghost use Rattle.std.specs.Prelude.{◌≡◌, [], OnOk, OnErr, false};
 ghost use Rattle.std.specs.BTreeMap.{IsOrdered};
 ghost use Rattle.std.specs.List.{list_any};
 ghost use Rattle.std.specs.Str.{bytes_eq};
 ghost use Rattle.tab_model.specs.State.{is_in};
 ghost use Rattle.tab_locks.specs.Plain.{is_write as is_write_of, lock_of};
-ghost use Rattle.tab_locks.specs.Questions.{asked};
+ghost use Rattle.tab_locks.specs.Questions.{asked, meets_at};
 ghost use Rattle.tab_locks.specs.Members.{HasMore, SameMembers, Drops};
 ghost use Rattle.tab_locks.specs.Spots.{locks_in, stands_at};
 ghost use Rattle.tab_locks.specs.Filled.{HasNoneEmpty};
 ghost use Rattle.tab_term.specs.Order.{bytes_cmp};
 
+use crate::hindrance::Hindrance;
 use crate::on_table::OnTable;
 use crate::question::{Question, Relation};
 use std::alloc::{AllocError, Global};
@@ -87,6 +88,18 @@ impl Index {
                 self.tables.insert(lock.table.try_clone(alloc)?, only)?;
                 Ok(())
             }
+        }
+    }
+
+    /// The same where no one holds a lock on what this one is on, and else nothing: one search tells and adds.
+    pub fn add_free(&mut self, alloc: Global, age: u64, lock: &Lock) -> Result<(), Hindrance>
+        ensures ok { OnOk result (HasMore (age, lock_of lock.now) self.old self.new) }
+        ensures free { OnOk result (list_any (meets_at (age, lock_of lock.now)) self.old ≡ false) }
+        ensures err { OnErr result (SameMembers self.old self.new) }
+    {
+        match self.tables.get_mut(&lock.table) {
+            Some(spots) => spots.add_free(alloc, &lock.what, age, is_write(lock.mode)),
+            None => Ok(self.add(alloc, age, lock)?),
         }
     }
 

@@ -1,4 +1,4 @@
-ghost use Rattle.std.specs.Prelude.{◌≡◌, ◌&&◌, [], OnOk, OnErr, true};
+ghost use Rattle.std.specs.Prelude.{◌≡◌, ◌&&◌, [], OnOk, OnErr, true, false};
 ghost use Rattle.std.specs.BTreeMap.{values, IsOrdered};
 ghost use Rattle.std.specs.List.{list_any};
 ghost use Rattle.tab_term.specs.Same.{same};
@@ -9,6 +9,7 @@ ghost use Rattle.tab_locks.specs.Spots.{key_spots, stands_on_key};
 ghost use Rattle.tab_locks.specs.Filled.{HasNoneEmpty};
 ghost use Rattle.tab_term.specs.Order.{term_cmp};
 
+use crate::hindrance::Hindrance;
 use crate::holders::Holders;
 use crate::question::Question;
 use std::alloc::{AllocError, Global};
@@ -92,6 +93,33 @@ impl Keys {
             }
             Entry::Vacant(entry) => {
                 entry.insert(only);
+            }
+        }
+        Ok(())
+    }
+
+    /// The same at a key that no one holds a lock on, and nothing at another.
+    pub fn add_free(
+        &mut self,
+        alloc: Global,
+        key: &Term,
+        age: u64,
+        write: bool,
+    ) -> Result<(), Hindrance>
+        ensures ok { OnOk result (HasMore (term key.now, (age, write)) self.old self.new) }
+        ensures free { OnOk result (list_any (λ s. same (term key.now) s.0) self.old ≡ false) }
+        ensures err { OnErr result (SameMembers self.old self.new) }
+    {
+        let alone = Holders::only(alloc, age, write)?;
+        let entry = self.holders.entry(key.try_clone(alloc)?)?;
+        match entry {
+            // What a loan leaves is known, where a dropped entry tells nothing.
+            Entry::Occupied(entry) => {
+                entry.into_mut();
+                return Err(Hindrance);
+            }
+            Entry::Vacant(entry) => {
+                entry.insert(alone);
             }
         }
         Ok(())

@@ -5,6 +5,7 @@
 
 #![tactic(auto)]
 
+mod hindrance;
 mod holders;
 mod index;
 mod keys;
@@ -14,4 +15,4 @@ mod on_table;
 mod question;
 
 pub use laws::a_lock_more_is_one_member_more;
-pub use lock_table::{Conflict, LockTable};
+pub use lock_table::{Asked, Conflict, LockTable};

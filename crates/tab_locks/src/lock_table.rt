@@ -1,4 +1,4 @@
-ghost use Rattle.std.specs.Prelude.{◌≡◌, [], ◌∷◌, ◌++◌, is_ok, if◌then◌else◌, OnOk, OnErr};
+ghost use Rattle.std.specs.Prelude.{◌≡◌, [], ◌∷◌, ◌++◌, is_ok, if◌then◌else◌, OnOk, OnErr, IfOk, IfErr, false};
 ghost use Rattle.std.specs.List.{list_any};
 ghost use Rattle.std.specs.Str.{bytes_eq};
 ghost use Rattle.tab_model.specs.Ages.{covers_own, without};
@@ -6,8 +6,10 @@ ghost use Rattle.tab_model.specs.State.{is_in};
 ghost use Rattle.tab_locks.specs.Plain.{lock_of, part_of};
 ghost use Rattle.tab_locks.specs.Spots.{same_part, same_lock};
 ghost use Rattle.tab_locks.specs.Members.{HasMore, SameMembers, Drops};
-ghost use Rattle.tab_locks.specs.Placed.{placed, without_last, listed, is_of, conflict_with, standing as standing_of};
+ghost use Rattle.tab_locks.specs.Placed.{placed, without_last, listed, is_of, conflict_with, standing as standing_of, in_the_way, conflict_in, after_asked, GivesBack};
+ghost use Rattle.tab_locks.specs.Questions.{meets_at};
 ghost use Rattle.tab_locks.specs.declared.lock_table.Conflict.TheVariants.{WithYounger, WithOlder};
+ghost use Rattle.tab_locks.specs.declared.lock_table.Asked.TheVariants.{Held};
 
 use crate::index::Index;
 use crate::question::Relation;
@@ -36,6 +38,14 @@ impl Conflict {
             Conflict::WithYounger
         }
     }
+}
+
+/// What is answered to who asks for a lock.
+#[derive(Drop)]
+pub enum Asked {
+    Held,
+    /// With whose locks it conflicts, and the lock, which is not held.
+    InConflict(Conflict, Lock),
 }
 
 /// The locks that are held, each under the age of its owner.
@@ -122,6 +132,51 @@ impl LockTable {
         keep(locks, &mut self.index, self.alloc, age, lock)
     }
 
+    /// Holds a lock where one of its owner's serves for it, or no one's is in conflict with it. Mostly no one holds a lock there, and
+    /// then to ask and to hold is one search. To tell of a conflict takes no memory that may be refused.
+    pub fn ask(&mut self, age: u64, lock: Lock) -> Result<Asked, AllocError>
+        ensures answer { IfOk result (λ a. conflict_in a ≡ in_the_way (age, lock_of lock) self.old) }
+        ensures after { IfOk result (λ a. self.new ≡ after_asked (age, lock_of lock) self.old a) }
+        ensures undo { IfOk result (λ a. a ≡ Held → without_last age self.new ≡ self.old) }
+        ensures back { IfOk result (GivesBack lock) }
+        ensures err { OnErr result (self.new ≡ self.old) }
+    {
+        let lock = match self.hold_free(age, lock) {
+            Ok(()) => return Ok(Asked::Held),
+            Err(lock) => lock,
+        };
+        if let Some(conflict) = self.obstacle(age, &lock) {
+            return Ok(Asked::InConflict(conflict, lock));
+        }
+        self.hold(age, lock)?;
+        Ok(Asked::Held)
+    }
+
+    /// Whom a lock that is asked for is in conflict with, or `None` where it may be held. It takes no memory.
+    fn obstacle(&self, age: u64, lock: &Lock) -> Option<Conflict>
+        ensures { result ≡ in_the_way (age, lock_of lock.now) self.now }
+    {
+        if self.covered(age, lock) || !self.index.any(Relation::Opposing, age, lock) {
+            return None;
+        }
+        Some(Conflict::with(self.index.any(Relation::Blocking, age, lock)))
+    }
+
+    /// Holds a lock where no one holds one on what it is on. Else, or where memory is refused, it comes back.
+    fn hold_free(&mut self, age: u64, lock: Lock) -> Result<(), Lock>
+        ensures ok { OnOk result (self.new ≡ placed (age, lock_of lock) self.old) }
+        ensures undo { OnOk result (without_last age self.new ≡ self.old) }
+        ensures free { OnOk result (list_any (meets_at (age, lock_of lock)) self.old ≡ false) }
+        ensures err { OnErr result (self.new ≡ self.old) }
+        ensures back { IfErr result (λ l. l ≡ lock) }
+    {
+        let Ok(entry) = self.owners.entry(age) else {
+            return Err(lock);
+        };
+        let locks = entry.or_insert(Vec::new(self.alloc));
+        keep_free(locks, &mut self.index, self.alloc, age, lock)
+    }
+
     /// Gives the lock back that this owner was granted last. It takes no memory.
     pub fn unhold(&mut self, age: u64)
         ensures { self.new ≡ without_last age self.old }
@@ -163,6 +218,30 @@ fn keep(
 {
     locks.reserve(1)?;
     index.add(alloc, age, &lock)?;
+    locks.push_reserved(lock);
+    Ok(())
+}
+
+/// The same where no one holds a lock on what this one is on. Else, or where memory is refused, it comes back.
+fn keep_free(
+    locks: &mut Vec<Lock>,
+    index: &mut Index,
+    alloc: Global,
+    age: u64,
+    lock: Lock,
+) -> Result<(), Lock>
+    ensures locks { locks.new.items ≡ (if is_ok result then locks.old.items ++ lock ∷ [] else locks.old.items) }
+    ensures ok { OnOk result (HasMore (age, lock_of lock) index.old index.new) }
+    ensures free { OnOk result (list_any (meets_at (age, lock_of lock)) index.old ≡ false) }
+    ensures err { OnErr result (SameMembers index.old index.new) }
+    ensures back { IfErr result (λ l. l ≡ lock) }
+{
+    if locks.reserve(1).is_err() {
+        return Err(lock);
+    }
+    if index.add_free(alloc, age, &lock).is_err() {
+        return Err(lock);
+    }
     locks.push_reserved(lock);
     Ok(())
 }

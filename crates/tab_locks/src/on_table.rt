@@ -1,10 +1,12 @@
-ghost use Rattle.std.specs.Prelude.{◌≡◌, ◌&&◌, [], OnOk, OnErr, IfOk, true};
+ghost use Rattle.std.specs.Prelude.{◌≡◌, ◌&&◌, [], OnOk, OnErr, IfOk, true, false};
 ghost use Rattle.std.specs.List.{list_any};
+ghost use Rattle.tab_model.specs.Locks.{meets};
 ghost use Rattle.tab_locks.specs.Plain.{part_of};
 ghost use Rattle.tab_locks.specs.Questions.{fits, reaches};
 ghost use Rattle.tab_locks.specs.Members.{HasMore, SameMembers, Drops};
 ghost use Rattle.tab_locks.specs.Spots.{stands_on};
 
+use crate::hindrance::Hindrance;
 use crate::holders::Holders;
 use crate::keys::Keys;
 use crate::question::Question;
@@ -82,6 +84,32 @@ impl OnTable {
         match what {
             What::All => self.all.add(age, write),
             What::Key(key) => self.keys.add(alloc, key, age, write),
+        }
+    }
+
+    /// The same where no one holds a lock on that part, and else nothing.
+    pub fn add_free(
+        &mut self,
+        alloc: Global,
+        what: &What,
+        age: u64,
+        write: bool,
+    ) -> Result<(), Hindrance>
+        ensures ok { OnOk result (HasMore (part_of what.now, (age, write)) self.old self.new) }
+        ensures free { OnOk result (list_any (λ s. meets (part_of what.now) s.0) self.old ≡ false) }
+        ensures err { OnErr result (SameMembers self.old self.new) }
+    {
+        if self.all.is_occupied() {
+            return Err(Hindrance);
+        }
+        match what {
+            What::All => {
+                if self.keys.is_occupied() {
+                    return Err(Hindrance);
+                }
+                Ok(self.all.add(age, write)?)
+            }
+            What::Key(key) => self.keys.add_free(alloc, key, age, write),
         }
     }
 
