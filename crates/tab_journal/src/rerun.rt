@@ -39,7 +39,7 @@ impl Model for Midst {
 
     ghost coded = { Prim.hlevel (codes, term_code) };
 
-    ghost view = { λ a. record a { saved = a.saved.items } };
+    ghost view = { λ a. record { age = a.age; now = a.now; saved = a.saved.items; base = a.base } };
 
     ghost invariant = { λ a. IsOrderedWorld a.now × AllOrdered a.saved.items × IsOrderedWorld a.base };
 }
