@@ -7,7 +7,7 @@ use Rattle.tab_model.specs.Ages as plain
 use Rattle.tab_model.specs.Ages.{Owned, opposes, covers_own, blocks, decide, before, can_retry}
 use Rattle.tab_locks.specs.declared.lock_table.Conflict.{Conflict}
 use Rattle.tab_locks.specs.declared.lock_table.Conflict.TheVariants.{Free, WithYounger, WithOlder}
-use Rattle.tab_locks.specs.Placed.{conflict_with, standing}
+use Rattle.tab_locks.specs.Placed.{conflict_with, standing, in_the_way}
 use Rattle.tab_locks.proofs.Passing.{any_map}
 use Rattle.tab_waitdie.specs.declared.waiting.Waiting.{Waiting}
 use Rattle.tab_waitdie.specs.Queue.{owned, queued}
@@ -72,6 +72,30 @@ decided_where o r held queue h = by (list_any (covers_own r) held) refl h
     by : (b : Bool) → list_any (covers_own r) held ≡ b → Some o ≡ (if b then None else Some (conflict_with r held)) → answer_of (answer_to o (conflict_with r queue)) ≡ decide (ages held queue) r
     by true e h = absurd cc
     by false e h = let is : o ≡ conflict_with r held = cc in ap (λ x. answer_of (answer_to x (conflict_with r queue))) is ∙ decided r held queue e
+
+-- the same where no queued request opposes, by what was answered to who asked for the lock
+unopposed_by : (r : Owned) (held queue : List Owned) → list_any (opposes r) queue ≡ false → Free ≡ conflict_with r queue
+unfolding by_whom
+unopposed_by r held queue h = λ i. by_whom (sym h i) (list_any (blocks r) queue)
+
+pub granted_free : (r : Owned) (held queue : List Owned) → list_any (opposes r) queue ≡ false → None ≡ in_the_way r held → plain.Granted ≡ decide (ages held queue) r
+granted_free r held queue none h = by (list_any (covers_own r) held) (list_any (opposes r) held) refl refl h
+  where
+    by : (b o : Bool) → list_any (covers_own r) held ≡ b → list_any (opposes r) held ≡ o → None ≡ (if b || not o then None else Some (conflict_with r held)) → plain.Granted ≡ decide (ages held queue) r
+    by true o e f g = granted r held queue e
+    by false true e f g = absurd cc
+    by false false e f g =
+        λ i. if sym e i || not (sym (list_any-append (opposes r) held queue ∙ (λ j. f j || none j)) i) then plain.Granted else if list_any (blocks r) (held ++ queue) then plain.Die else plain.Wait
+
+pub decided_free : (o : Conflict) (r : Owned) (held queue : List Owned) → list_any (opposes r) queue ≡ false → Some o ≡ in_the_way r held → answer_of (answer_to o Free) ≡ decide (ages held queue) r
+decided_free o r held queue none h = by (list_any (covers_own r) held) (list_any (opposes r) held) refl refl h
+  where
+    by : (b p : Bool) → list_any (covers_own r) held ≡ b → list_any (opposes r) held ≡ p → Some o ≡ (if b || not p then None else Some (conflict_with r held)) → answer_of (answer_to o Free) ≡ decide (ages held queue) r
+    by true p e f g = absurd cc
+    by false false e f g = absurd cc
+    by false true e f g =
+        let is : o ≡ conflict_with r held = cc in
+        (λ i. answer_of (answer_to (is i) (unopposed_by r held queue none i))) ∙ decided r held queue e
 
 pub any_queued : (p : Owned → Bool) (ws : List Waiting) → list_any p (queued ws) ≡ list_any (λ w. p (owned w)) ws
 any_queued p ws = any_map p owned ws

@@ -13,7 +13,7 @@ use crate::waiting::{
 };
 use std::alloc::{AllocError, Global};
 use std::marker::Model;
-use tab_locks::{Conflict, LockTable};
+use tab_locks::{Asked, Conflict, LockTable};
 use tab_model::Lock;
 use tab_term::Atom;
 
@@ -78,7 +78,7 @@ impl Ages {
     }
 
     /// A granted lock is held once more, also where one of its own covers it; a request that waits is queued; who dies
-    /// keeps what it holds.
+    /// keeps what it holds. Where no queued request is in its way, to ask and to hold is one search.
     pub fn request(&mut self, age: u64, lock: Lock) -> Result<Answer, AllocError>
         requires { request_of age self.old.queue ≡ None }
         ensures answer { IfOk result (λ a. answer_of a ≡ decision self.old (age, lock_of lock)) }
@@ -87,7 +87,26 @@ impl Ages {
         ensures err { OnErr result (self.new ≡ self.old) }
     {
         self.end_rest(age);
-        let answer = self.decide(age, &lock);
+        if any_opposing(&self.queue, age, &lock) {
+            let answer = self.decide(age, &lock);
+            return self.settle(age, lock, answer);
+        }
+        match self.locks.ask(age, lock)? {
+            Asked::Held => Ok(Answer::Granted),
+            Asked::InConflict(held, lock) => {
+                self.settle(age, lock, answer_to(held, Conflict::Free))
+            }
+        }
+    }
+
+    /// Does what is answered.
+    fn settle(&mut self, age: u64, lock: Lock, answer: Answer) -> Result<Answer, AllocError>
+        requires { answer_of answer ≡ decision self.old (age, lock_of lock) }
+        ensures answer { IfOk result (λ a. a ≡ answer) }
+        ensures after { IfOk result (λ a. self.new ≡ after_answer self.old (age, lock_of lock) a) }
+        ensures undo { IfOk result (λ a. a ≡ Granted → without_last age self.new.held ≡ self.old.held) }
+        ensures err { OnErr result (self.new ≡ self.old) }
+    {
         match answer {
             Answer::Granted => self.locks.hold(age, lock)?,
             Answer::Wait => self.queue.push(Waiting { age, lock })?,
