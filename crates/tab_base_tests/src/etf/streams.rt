@@ -71,6 +71,28 @@ fn a_long_frame_comes_byte_by_byte(rt: HostRuntime) -> Result<(), Fail> {
     Ok(())
 }
 
+/// Their payloads, each read by itself, and nothing behind them.
+#[test]
+fn frames_are_read_one_after_the_other(rt: HostRuntime) -> Result<(), Fail> {
+    let alloc = rt.alloc();
+    let stream = stream(alloc)?;
+    let mut reader = Counted::new(Device {
+        inner: stream.as_slice(),
+        size: 7,
+        left: 1_000,
+    });
+    for text in &PAYLOADS {
+        let payload = bytes(alloc, text)?;
+        let found = match read_frame(alloc, &mut reader)? {
+            Some(Frame::Payload(found)) => found == payload,
+            _ => false,
+        };
+        assert!(rt; found, "{text}");
+    }
+    assert!(rt; read_frame(alloc, &mut reader)?.is_none());
+    Ok(())
+}
+
 #[test]
 fn a_reader_fails_at_each_call(rt: HostRuntime) -> Result<(), Fail> {
     let alloc = rt.alloc();
