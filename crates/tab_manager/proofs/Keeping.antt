@@ -30,7 +30,8 @@ use Rattle.tab_model.proofs.SoundSteps.{step_sound}
 use Rattle.tab_model.proofs.StepsBySeat.{lock_of_move, locks-more}
 use Rattle.tab_model.proofs.SurvivorsRight.{reply_tells}
 use Rattle.tab_model.proofs.RefusalLaws.{none_queued}
-use Rattle.tab_model.proofs.ReachedWaits.{IsRising, step_rising, Match, match_of, without_match, aged_append}
+use Rattle.tab_model.specs.Reached.{IsRising}
+use Rattle.tab_model.proofs.ReachedWaits.{step_rising, Match, match_of, without_match, aged_append}
 use Rattle.tab_txstore.specs.Stores.{Store, store_next, lent_for, Fits}
 use Rattle.tab_txstore.proofs.FitsLemmas.{depth_shown, fits_next}
 use Rattle.tab_manager.specs.declared.seat.Transaction as kept

@@ -23,6 +23,7 @@ use Rattle.tab_model.specs.Locks.{Lock, needs, locks_of}
 use Rattle.tab_model.specs.Ages.{Owned, Answer, Granted, Wait, Die, blocks, decide, can_retry, request_of, without, after_request, after_retry, RisesAfter, Rises, Chain, last_of}
 use Rattle.tab_model.specs.Schemas.{removed}
 use Rattle.tab_model.specs.State.{Transaction, Outbox, Watch, Seat, Queued, State, new, seat_at, transaction_in, transaction_at, request_in, without_request, is_waiting, with_age, held_by, held_in, queued_in, ages_of, OwnedBy, HasAge, IsSound}
+use Rattle.tab_model.specs.Reached.{IsRising}
 use Rattle.tab_model.specs.Outcome.{Ask, Join, Leave, Retry, Take, DoCommand, outcome, with_transaction, with_queue, change, without_seat, after_move, made, emptied, decided, within, operate, retried, retry_in, retry, opened, nested, begin, one_shot, abort, given, batch_to, end_to, unwatched, commit_at, commit, events_now, schema_if, schema, marked, subscribe, unsubscribe, is_abort, do_command, command_if, give, leave, seated, fresh, join, unseated, by_seat}
 use Rattle.tab_model.specs.Run.{Call, outcome_of, after_all}
 use Rattle.tab_model.proofs.Seats.{eq_true, found, seat_at-push, seat_at-without}
@@ -173,11 +174,6 @@ moved_held p t x r false h g =
     ∙ list_any-append p (with_age t.age (locks_of t.moves)) (with_age t.age (lock_of_move x)) ∙ (λ i. h i || g i)
 
 -- ---- steps
-
--- ages rise along every wait, and each request is of its session's open transaction
-pub record IsRising (σ : State) : Type 0 where
-  pub rises : Rises (ages_of σ)
-  pub owners : OwnedBy (transaction_at σ) σ.queue
 
 same_rising : (σ τ : State) → IsRising σ → τ.queue ≡ σ.queue → ((m : ℕ) → transaction_at τ m ≡ transaction_at σ m) → Fewer (held_in σ.seats) (held_in τ.seats) → IsRising τ
 same_rising σ τ rise q h f = record {
@@ -407,9 +403,12 @@ run_rising : (σ : State) (calls : List Call) → IsSound σ → IsRising σ →
 run_rising σ [] sound rise = rise
 run_rising σ (c ∷ calls) sound rise = run_rising (outcome_of σ c).state calls (step_sound σ c.over c.session c.ask sound) (step_rising σ c.over c.session c.ask sound rise)
 
+pub new_rising : (limits : Limits) → IsRising (new limits)
+new_rising limits = record { rises = tt; owners = tt }
+
 -- in every reached state ages rise along every wait
 pub schedule_rises : (limits : Limits) (calls : List Call) → Rises (ages_of (after_all (new limits) calls))
-schedule_rises limits calls = (run_rising (new limits) calls (new_sound limits) (record { rises = tt; owners = tt })).rises
+schedule_rises limits calls = (run_rising (new limits) calls (new_sound limits) (new_rising limits)).rises
 
 -- so no chain of waits leads back there
 pub schedule_chain : (limits : Limits) (calls : List Call) (a b : ℕ) (bs : List ℕ) → Chain (ages_of (after_all (new limits) calls)) a (b ∷ bs) → a < last_of b bs

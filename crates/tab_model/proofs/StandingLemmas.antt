@@ -12,7 +12,7 @@ use Rattle.tab_model.specs.Worlds.{World}
 use Rattle.tab_model.specs.Log.{entered, serial, serial_from, stands, in_force, in_force_from, count_after, IsRight, IsLegal, commits_from}
 use Rattle.tab_model.specs.Slices.{dump_of, owed, slice_after, slice}
 use Rattle.tab_model.specs.History.{Base, empty, level_at, in_force_since, owed_on, owed_since, slice_since_after, slice_since, IsHistory, folded, Admits, forgotten}
-use Rattle.tab_model.specs.State.{Outbox, Seat, State, new, seat_at, IsSound}
+use Rattle.tab_model.specs.State.{Outbox, Seat, State, new, seat_at, level_in, IsSound}
 use Rattle.tab_model.specs.Outcome.{Ask, Join, Leave, Retry, Take, DoCommand, by_seat, without_seat, outcome}
 use Rattle.tab_model.specs.Run.{entries, item_of, taken_now, JoinsEmpty, IsTied, IsNew}
 use Rattle.tab_model.specs.Standing.{AreChannels, JoinsChannel, is_joined, MayStand, IsFolded, Stands, still_joined}
@@ -129,6 +129,13 @@ module _ (past : List Entry) (b : Base) (log : List Entry) (σ : State) where
         ends = ap (λ w. serial_from w log) k.folded.tables ∙ sym (serial-append [] past log) ∙ sym k.tied.tables;
       }
 
+commits-append : (c : ℕ) (xs ys : List Entry) → commits_from c (xs ++ ys) ≡ commits_from (commits_from c xs) ys
+commits-append c [] ys = refl
+commits-append c (x ∷ xs) ys = commits-append (count_after c x) xs ys
+
+pub commits_are : (past : List Entry) (b : Base) (log : List Entry) (σ : State) → Stands past b log σ → σ.commits ≡ commits_from b.commits log
+commits_are past b log σ k = k.tied.commits ∙ commits-append 0 past log ∙ ap (λ c. commits_from c log) (sym k.folded.commits)
+
 -- ---- what was sent
 
 in_force-append : (s : ℕ) (t : List ℕ) (l : Option Level) (xs ys : List Entry) → in_force_from s t l (xs ++ ys) ≡ in_force_from s t (in_force_from s t l xs) ys
@@ -170,6 +177,10 @@ module _ (past : List Entry) (b : Base) (log : List Entry) (σ : State) (k : Sta
   pub sent_is : s.outbox.items ≡ slice n past ++ slice_since b n log
   sent_is = (k.tied.seats n s here).items ∙ slice_parts n past log ∙ ap (λ xs. slice n past ++ xs)
       (ap (λ es. slice_after n es log) (sym (append-nil past)) ∙ slice_is past b n k.folded.tables (λ t. k.folded.levels n t (inl (is_seat (seat_at σ.seats n) s here))) [] log)
+
+  -- and what it watches
+  pub watched_is : (t : List ℕ) → level_in s.watching t ≡ in_force_since b n log t
+  watched_is t = (k.tied.seats n s here).watching t ∙ in_force-append n t None past log ∙ ap (λ l. in_force_from n t l log) (sym (k.folded.levels n t (inl (is_seat (seat_at σ.seats n) s here))))
 
   -- and after more entries
   pub sent_grows : (more : List Entry) (τ : State) (r : Seat) → Stands past b (log ++ more) τ → seat_at τ.seats n ≡ Some r → r.outbox.items ≡ s.outbox.items ++ slice_since_after b n log more

@@ -39,6 +39,7 @@ ghost use Rattle.tab_model.specs.Since.{changes_on, changes_told, deletes, Stand
 ghost use Rattle.tab_model.specs.Slices.{dump_of, owed, slice, slice_after};
 ghost use Rattle.tab_model.specs.History.{Base, empty, level_at, in_force_since, owed_since, slice_since, slice_since_after, IsHistory, tables_after, folded, Admits, forgotten};
 ghost use Rattle.tab_model.specs.State.{State, Seat, Transaction, Queued, Outbox, new, seat_at, transaction_at, request_in, ages_of, age_at, moves_at, told_at, level_in, IsSound};
+ghost use Rattle.tab_model.specs.Reached.{IsRising};
 ghost use Rattle.tab_model.specs.Outcome.{Ask, Join, Leave, Retry, Take, DoCommand, outcome};
 ghost use Rattle.tab_model.specs.Refusals.{AsBefore, standing, counted, requested, queued, empty_again, restarted, Restarts, EndsLevel, IsSole, LeavesAll};
 ghost use Rattle.tab_model.specs.Run.{Call, AllJoinEmpty, Begins, leaves, JoinsEmpty, IsTied, outcome_of, after_all, log_of, replies_of, taken_of, entries, taken_now};
@@ -89,11 +90,13 @@ pub fn callers_tell_the_log()
 
 /// A new core has no history and keeps what every reached core has; and each step keeps it, and keeps the state tied to
 /// its log and to what its sessions have taken, whatever the history was.
-#[tactic(auto, using(crate::proofs::Schedules::new_sound, crate::proofs::SoundSteps::step_sound, crate::proofs::TiedSteps::new_tied, crate::proofs::TiedSteps::step_tied))]
+#[tactic(auto, using(crate::proofs::Schedules::new_sound, crate::proofs::SoundSteps::step_sound, crate::proofs::ReachedWaits::new_rising, crate::proofs::TiedSteps::new_tied, crate::proofs::TiedSteps::step_tied))]
 pub fn steps_keep_what_holds()
     ensures new_sound { (limits : Limits) → IsSound (new limits) }
+    ensures new_rising { (limits : Limits) → IsRising (new limits) }
     ensures new_tied { (limits : Limits) → IsTied (new limits) [] (λ m. []) }
     ensures sound { (σ : State) (over : List ℕ) (n : ℕ) (a : Ask) → IsSound σ → IsSound (outcome σ over n a).state }
+    ensures rising { (σ : State) (over : List ℕ) (n : ℕ) (a : Ask) → IsSound σ → IsRising σ → IsRising (outcome σ over n a).state }
     ensures tied { (σ : State) (log : List Entry) (taken : ℕ → List Item) (over : List ℕ) (n : ℕ) (a : Ask) → IsSound σ → JoinsEmpty a → IsTied σ log taken → IsTied (outcome σ over n a).state (log ++ entries (outcome σ over n a).entry) (λ m. taken m ++ taken_now m n (outcome σ over n a).reply) }
 {}
 
@@ -273,6 +276,8 @@ pub fn a_state_stands_over_its_journal()
     ensures fold { (past log : List Entry) (b : Base) (e : Entry) (σ : State) → Stands past b (e ∷ log) σ → Stands (past ++ e ∷ []) (folded (still_joined σ e) b e) log σ }
     ensures forget { (past log : List Entry) (b : Base) (σ : State) (n : ℕ) → (MayStand σ n → ⊥) → Stands past b log σ → Stands past (forgotten b n) log σ }
     ensures history { (past log : List Entry) (b : Base) (σ : State) → Stands past b log σ → IsHistory b log σ.tables }
+    ensures commits { (past log : List Entry) (b : Base) (σ : State) → Stands past b log σ → σ.commits ≡ commits_from b.commits log }
+    ensures watching { (past log : List Entry) (b : Base) (σ : State) (n : ℕ) (s : Seat) (t : List ℕ) → Stands past b log σ → seat_at σ.seats n ≡ Some s → level_in s.watching t ≡ in_force_since b n log t }
     ensures sent { (past log : List Entry) (b : Base) (σ : State) (n : ℕ) (s : Seat) → Stands past b log σ → seat_at σ.seats n ≡ Some s → s.outbox.items ≡ slice n past ++ slice_since b n log }
     ensures grows { (past log more : List Entry) (b : Base) (σ τ : State) (n : ℕ) (s r : Seat) → Stands past b log σ → seat_at σ.seats n ≡ Some s → Stands past b (log ++ more) τ → seat_at τ.seats n ≡ Some r → r.outbox.items ≡ s.outbox.items ++ slice_since_after b n log more }
     ensures enters { (σ : State) (over : List ℕ) (n : ℕ) (a : Ask) (e : Entry) → (outcome σ over n a).entry ≡ Some e → may_enter σ n a ≡ true }

@@ -1,4 +1,4 @@
-use Rattle.tab_model.proofs.StandingLemmas.{step_stands, fold_stands, forget_stands, history_of, sent_is, sent_grows}
+use Rattle.tab_model.proofs.StandingLemmas.{step_stands, fold_stands, forget_stands, history_of, commits_are, sent_is, watched_is, sent_grows}
 use Rattle.tab_model.proofs.laws.a_state_stands_over_its_journal.Goals as goal
 
 pub returns-clause-step : goal.returns-clause-step
@@ -18,3 +18,9 @@ returns-clause-sent c = λ past log b σ n s k here. sent_is past b log σ k n s
 
 pub returns-clause-grows : goal.returns-clause-grows
 returns-clause-grows c = λ past log more b σ τ n s r k here h there. sent_grows past b log σ k n s here more τ r h there
+
+pub returns-clause-watching : goal.returns-clause-watching
+returns-clause-watching c = λ past log b σ n s t k here. watched_is past b log σ k n s here t
+
+pub returns-clause-commits : goal.returns-clause-commits
+returns-clause-commits c = λ past log b σ. commits_are past b log σ
