@@ -1,5 +1,5 @@
 -- The exit statuses and the lines on standard error. Source: this project's own rule.
-use Rattle.std.specs.Prelude.{◌≡◌, ℕ, true, false, ◌<◌, ◌-◌, ◌^◌, List, [], ◌∷◌, ◌++◌, take, Option, Some, None, codes, ◌⊎◌, Result, Ok, Err, IfSome, length}
+use Rattle.std.specs.Prelude.{◌≡◌, ℕ, ◌<◌, ◌-◌, ◌^◌, List, [], ◌∷◌, ◌++◌, take, Option, Some, None, codes, ◌⊎◌, Result, Ok, Err, IfSome, length}
 use Rattle.clap.specs.declared.error.kind.ErrorKind.{ErrorKind}
 use Rattle.clap.specs.declared.error.kind.ErrorKind.TheVariants as kind
 use Rattle.std.specs.Io.KnownBytes.{Appends, Keeps}
@@ -10,7 +10,6 @@ use Rattle.tabd.specs.declared.ending.End.{End}
 use Rattle.tabd.specs.declared.ending.End.TheVariants.{Done, WrongWords, Stopped}
 use Rattle.tabd.specs.declared.words.Run.{Run}
 use Rattle.tabd.specs.declared.words.Run.TheVariants.{Replay, Serve}
-use Rattle.tabd.specs.declared.lines.Log.TheVariants.{Brief}
 
 -- 0: done, or help was asked for; 1: device, too long or no memory; 2: wrong words; 3: damaged input
 abbrev pub status_of : End → ℕ
@@ -78,12 +77,6 @@ streams i o f g = record { input = i; output = o; input_faults = f; output_fault
 abbrev pub IfReplay : Run → (ℕ → Type 0) → Type 0
 IfReplay (Replay outbox) P = P outbox
 IfReplay (Serve port sizes forever delivery idle log) P = Unit {0}
-
--- what holds of a run that ends by itself: a server that goes on forever tells on the errors what it can't accept
-abbrev pub IfEnds : Run → Type 0 → Type 0
-IfEnds (Replay outbox) P = P
-IfEnds (Serve port sizes false delivery None Brief) P = P
-IfEnds (Serve port sizes forever delivery idle log) P = Unit {0}
 
 -- the program replayed its input onto its output, and ends by a device fault exactly where one rose
 abbrev pub Plays : ℕ → Streams → Streams → End → Type 0

@@ -1,10 +1,10 @@
 //! A run of the program between its words and its status.
 
-ghost use Rattle.std.specs.Prelude.{◌≡◌, ◌≤◌, IfOk, OnOk, OnErr, IfErr};
+ghost use Rattle.std.specs.Prelude.{◌≡◌, ◌≤◌, IfOk, OnErr, IfErr};
 ghost use Rattle.std.specs.Process.{exit_status};
 ghost use Rattle.clap.specs.Words.{kind_of};
 ghost use Rattle.tabd.specs.declared.ending.End.{End as EndOf};
-ghost use Rattle.tabd.specs.Endings.{IfEnds, IfReplay, IsShown, IsTextFault, OnStreams, Plays, TellsEnd, end_of_words, line_of, status_of, streams};
+ghost use Rattle.tabd.specs.Endings.{IfReplay, IsShown, IsTextFault, OnStreams, Plays, TellsEnd, end_of_words, line_of, status_of, streams};
 
 use crate::ending::{End, end_of_replay, end_of_words, line_of, status_of};
 use crate::serving::{listen, listen_forever, settings};
@@ -49,22 +49,30 @@ where
     requires { opened ≡ J.book }
     ensures replayed { IfOk asked (λ words. (end : EndOf) × (exit_status result ≡ status_of end)
         × IfReplay words (λ outbox. Plays outbox (streams (R.remaining input.old) (W.contents output.old) (R.faults input.old) (W.faults output.old)) (streams (R.remaining input.new) (W.contents output.new) (R.faults input.new) (W.faults output.new)) end)
-        × IfEnds words (TellsEnd (line_of end) (E.contents errors.old) (E.contents errors.new) (E.faults errors.old) (E.faults errors.new))) }
+        × TellsEnd (line_of end) (E.contents errors.old) (E.contents errors.new) (E.faults errors.old) (E.faults errors.new)) }
     ensures shown { IfErr asked (λ error. (end : EndOf) × (exit_status result ≡ status_of end) × IsShown (end_of_words (kind_of error)) end
         × OnStreams (end_of_words (kind_of error)) (output.new ≡ output.old) (TellsEnd (line_of end) (E.contents errors.old) (E.contents errors.new) (E.faults errors.old) (E.faults errors.new))) }
     ensures input { OnErr asked (input.new ≡ input.old) }
 {
-    let end = perform::<J, H, R, W, E, G>(rt, opened, asked, input, output, errors, gate);
-    ExitCode::from(tell(errors, &end))
+    match asked {
+        Ok(words) => {
+            let end = perform::<J, H, R, W, G>(rt, opened, words, input, output, gate);
+            ExitCode::from(tell(errors, &end))
+        }
+        Err(error) => {
+            let end = show(rt.alloc(), &error, output, errors);
+            ExitCode::from(tell(errors, &end))
+        }
+    }
 }
 
-fn perform<J, H, R, W, E, G>(
+/// Does what the words ask for.
+fn perform<J, H, R, W, G>(
     rt: &H,
     opened: Opened<Line>,
-    asked: Result<Run, Error>,
+    words: Run,
     input: &mut R,
     output: &mut W,
-    errors: &mut E,
     gate: &G,
 ) -> End
 where
@@ -78,27 +86,20 @@ where
         + Sync,
     R: Source,
     W: Target,
-    E: Target,
     G: Gate + Sync,
     requires { opened ≡ J.book }
-    ensures replayed { IfOk asked (λ words. IfReplay words (λ outbox. Plays outbox (streams (R.remaining input.old) (W.contents output.old) (R.faults input.old) (W.faults output.old)) (streams (R.remaining input.new) (W.contents output.new) (R.faults input.new) (W.faults output.new)) result)) }
-    ensures quiet { IfOk asked (λ words. IfEnds words (errors.new ≡ errors.old)) }
-    ensures shown { IfErr asked (λ error. IsShown (end_of_words (kind_of error)) result) }
-    ensures streams { IfErr asked (λ error. OnStreams (end_of_words (kind_of error)) (output.new ≡ output.old) (errors.new ≡ errors.old)) }
-    ensures input { OnErr asked (input.new ≡ input.old) }
+    ensures { IfReplay words (λ outbox. Plays outbox (streams (R.remaining input.old) (W.contents output.old) (R.faults input.old) (W.faults output.old)) (streams (R.remaining input.new) (W.contents output.new) (R.faults input.new) (W.faults output.new)) result) }
 {
-    match asked {
-        Ok(Run::Replay { outbox }) => play(rt.alloc(), input, output, outbox),
-        Ok(
-            Run::Serve {
-                port,
-                sizes,
-                forever,
-                delivery,
-                idle,
-                log: _,
-            },
-        ) => {
+    match words {
+        Run::Replay { outbox } => play(rt.alloc(), input, output, outbox),
+        Run::Serve {
+            port,
+            sizes,
+            forever,
+            delivery,
+            idle,
+            log: _,
+        } => {
             let settings = settings(delivery, idle);
             if forever {
                 listen_forever::<J, H, W, G>(
@@ -115,7 +116,6 @@ where
                 listen::<J, H, W, G>(*rt, rt.alloc(), opened, port, sizes, settings, output, gate)
             }
         }
-        Err(error) => show(rt.alloc(), &error, output, errors),
     }
 }
 
