@@ -32,8 +32,8 @@ impl Seat {
 }
 
 /// So often the lock is tried before it is waited for. Who waits for it has to be woken, and each release is a switch of
-/// threads then.
-const TRIES: u32 = 128;
+/// threads then; but who tries for long keeps a processor from others, and leaves the turn to luck.
+const TRIES: u32 = 512;
 
 /// So many milliseconds who rests, or begins to wait, sleeps at a time if it is not woken; and so many who waits on.
 const NAP: u64 = 20;
