@@ -13,7 +13,7 @@ pub const LIMITS: Limits = Limits {
 };
 
 /// The name of the table.
-fn name(alloc: Global) -> Result<Atom, AllocError> {
+pub fn name(alloc: Global) -> Result<Atom, AllocError> {
     Atom::from_short_text(alloc, "t")
 }
 
@@ -22,13 +22,17 @@ pub fn create(alloc: Global) -> Result<Command, AllocError> {
     Ok(Command::Schema(Schema::Create(name(alloc)?, options)))
 }
 
-pub fn write(alloc: Global, value: i128) -> Result<Command, AllocError> {
+/// The record with this value.
+pub fn record(alloc: Global, value: i128) -> Result<Term, AllocError> {
     let mut elements = Vec::with_capacity(alloc, 3)?;
     elements.push_reserved(Term::Atom(name(alloc)?));
     elements.push_reserved(Term::Int(1));
     elements.push_reserved(Term::Int(value));
-    let record = Term::Tuple(Terms::from_vec(elements));
-    Ok(Command::Do(Operation::Write(record)))
+    Ok(Term::Tuple(Terms::from_vec(elements)))
+}
+
+pub fn write(alloc: Global, value: i128) -> Result<Command, AllocError> {
+    Ok(Command::Do(Operation::Write(record(alloc, value)?)))
 }
 
 pub fn read(alloc: Global) -> Result<Command, AllocError> {
@@ -41,6 +45,14 @@ pub fn read_for_write(alloc: Global) -> Result<Command, AllocError> {
 
 pub fn subscribe(alloc: Global) -> Result<Command, AllocError> {
     Ok(Command::Subscribe(name(alloc)?, Level::Simple, false))
+}
+
+/// The number of the commit, 0 where there is none.
+pub fn number_of(reply: &Reply) -> u64 {
+    match reply {
+        Reply::Atomic(number) => *number,
+        _ => 0,
+    }
 }
 
 /// The value of the one record that a read found.

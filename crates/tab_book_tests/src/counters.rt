@@ -2,7 +2,7 @@
 
 ghost use Rattle.std.specs.Prelude.{◌≡◌, ◌≤◌};
 
-use crate::commands::{LIMITS, create, read_for_write, value_in, write};
+use crate::commands::{LIMITS, create, number_of, read_for_write, record, value_in, write};
 use std::alloc::{AllocError, Global};
 use std::marker::{Brand, PhantomData};
 use std::sync::Wait;
@@ -11,13 +11,36 @@ use std::test::*;
 use std::thread;
 use std::thread::Threads;
 use tab_book::{Book, Seat, Shared};
-use tab_model::{Command, Entry, Limits, Reply};
+use tab_journal::Journal;
+use tab_model::{Change, Command, Entry, Limits, Reply, Told};
 use tab_names::{House, Naming, Opened};
 use tab_post::Line;
 
 const THREADS: usize = 4;
 
 const EACH: usize = 50;
+
+/// What a thread was told of a transaction: its age, the number of its commit, and the value that it read last.
+#[derive(Clone, Copy)]
+struct Raised {
+    age: u64,
+    commit: u64,
+    value: i128,
+}
+
+/// A step, and where it has to wait the retries behind it.
+fn answered<H: House>(
+    house: &H,
+    shared: &Shared<H>,
+    seat: &Seat,
+    command: Command,
+) -> Result<Told, AllocError> {
+    let told = shared.step(house, seat, command)?;
+    match told.reply() {
+        Reply::Waiting => shared.retry(house, seat),
+        _ => Ok(told),
+    }
+}
 
 /// The value that is read for a write; None where the transaction is restarted.
 fn value_read<H: House>(
@@ -26,7 +49,7 @@ fn value_read<H: House>(
     shared: &Shared<H>,
     seat: &Seat,
 ) -> Result<Option<i128>, AllocError> {
-    let found = shared.call(house, seat, read_for_write(alloc)?)?;
+    let found = answered(house, shared, seat, read_for_write(alloc)?)?;
     Ok(value_in(found.reply()))
 }
 
@@ -47,7 +70,7 @@ fn attempt<H: House>(
     let Some(value) = value_read(house, alloc, shared, seat)? else {
         return Ok(None);
     };
-    let told = shared.call(house, seat, write(alloc, value.saturating_add(1))?)?;
+    let told = answered(house, shared, seat, write(alloc, value.saturating_add(1))?)?;
     Ok(if is_done(told.reply()) {
         Some(value)
     } else {
@@ -55,42 +78,48 @@ fn attempt<H: House>(
     })
 }
 
-/// The number of the commit, 0 where there is none.
-fn number_of(reply: &Reply) -> u64 {
+/// The age that a begin gave, 0 where it gave none.
+fn age_of(reply: &Reply) -> u64 {
     match reply {
-        Reply::Atomic(number) => *number,
+        Reply::Tid(age) => *age,
         _ => 0,
     }
 }
 
-/// A transaction is begun once, and made again until it commits: the number of its commit and the value that it read.
+/// A transaction is begun once, and made again until it commits.
 fn raise<H: House>(
     house: &H,
     alloc: Global,
     shared: &Shared<H>,
     seat: &Seat,
-) -> Result<(u64, i128), AllocError> {
-    shared.call(house, seat, Command::Begin)?;
+) -> Result<Raised, AllocError> {
+    let age = age_of(shared.step(house, seat, Command::Begin)?.reply());
     for _ in house.forever() {
         if let Some(value) = attempt(house, alloc, shared, seat)? {
-            let told = shared.call(house, seat, Command::Commit)?;
-            return Ok((number_of(told.reply()), value));
+            let told = shared.step(house, seat, Command::Commit)?;
+            let commit = number_of(told.reply());
+            return Ok(Raised { age, commit, value });
         }
     }
     unreachable!()
 }
 
-/// Whether it is this commit of this session, which read this value in it.
-fn is_commit(entry: &Entry, commit: u64, session: u64, value: i128) -> bool {
+/// Whether it is this transaction of this session, which read in it what the commits before had left.
+fn is_commit(entry: &Entry, session: u64, raised: Raised) -> bool {
     match entry {
         Entry::Committed {
             number,
             session: by,
+            age,
             told,
             ..
         } => match told.items.as_slice() {
             [Some(first), ..] => {
-                *number == commit && *by == session && value_in(first.reply()) == Some(value)
+                *number == raised.commit
+                    && *by == session
+                    && *age == raised.age
+                    && value_in(first.reply()) == Some(raised.value)
+                    && raised.value.saturating_add(2) == raised.commit as i128
             }
             _ => false,
         },
@@ -99,19 +128,13 @@ fn is_commit(entry: &Entry, commit: u64, session: u64, value: i128) -> bool {
 }
 
 /// Whether the journal has such an entry.
-fn is_entered<H: House>(
-    house: &H,
-    shared: &Shared<H>,
-    seat: &Seat,
-    commit: u64,
-    value: i128,
-) -> bool {
+fn is_entered<H: House>(house: &H, shared: &Shared<H>, seat: &Seat, raised: Raised) -> bool {
     let book = shared.book.lock(house);
     let journal = book.journal();
     let mut is_found = false;
     for place in 0..journal.len() {
         if let Some(entry) = journal.entry(place) {
-            is_found |= is_commit(entry, commit, seat.session() as u64, value);
+            is_found |= is_commit(entry, seat.session() as u64, raised);
         }
     }
     is_found
@@ -125,8 +148,8 @@ fn raise_all<H: House>(
     entered: &AtomicU64,
 ) {
     for _ in 0..EACH {
-        if let Ok((commit, value)) = raise(house, alloc, shared, &seat) {
-            if is_entered(house, shared, &seat, commit, value) {
+        if let Ok(raised) = raise(house, alloc, shared, &seat) {
+            if is_entered(house, shared, &seat, raised) {
                 entered.fetch_add(1, Ordering::SeqCst);
             }
         }
@@ -156,13 +179,24 @@ fn run_threads<H: House + Threads + Send + Sync>(
 #[derive(Clone, Copy, PartialEq, Eq)]
 struct Counts {
     entries: usize,
-    /// The last commit in the journal's base.
+    /// The last commit in the journal's base, and in the journal.
     base: u64,
+    last: u64,
     /// Of the record.
     value: Option<i128>,
     audit: bool,
+    /// Against tables in which the record has one less.
+    other_audit: bool,
     /// How many of the threads' answers were found in the journal.
     entered: u64,
+}
+
+/// The number of the last entry's commit, 0 where it is none.
+fn last_number(journal: &Journal) -> u64 {
+    match journal.entry(journal.len().saturating_sub(1)) {
+        Some(Entry::Committed { number, .. }) => *number,
+        _ => 0,
+    }
 }
 
 fn count<H: House + Threads + Send + Sync>(
@@ -194,11 +228,16 @@ fn count<H: House + Threads + Send + Sync>(
     let value = value_in(shared.call(&house, &first, read_for_write(alloc)?)?.reply());
     let audit = shared.audit(&house)?;
     let book = shared.book.lock(&house);
+    let journal = book.journal();
+    let change = Change::Write(record(alloc, 199)?);
+    let others = book.tables().updated(alloc, &[change])?;
     Ok(Counts {
-        entries: book.journal().len(),
-        base: book.journal().base().commits(),
+        entries: journal.len(),
+        base: journal.base().commits(),
+        last: last_number(journal),
         value,
         audit,
+        other_audit: journal.audit(alloc, journal.base(), &others)?,
         entered: entered.load(Ordering::SeqCst),
     })
 }
@@ -222,8 +261,10 @@ fn each_raise_counts_once(rt: HostRuntime) -> Result<(), Fail> {
     let wanted = Counts {
         entries: 202,
         base: 0,
+        last: 201,
         value: Some(200),
         audit: true,
+        other_audit: false,
         entered: 200,
     };
     assert!(rt; counts == wanted);
@@ -240,8 +281,10 @@ fn a_short_journal_folds(rt: HostRuntime) -> Result<(), Fail> {
     let wanted = Counts {
         entries: 16,
         base: 185,
+        last: 201,
         value: Some(200),
         audit: true,
+        other_audit: false,
         entered: counts.entered,
     };
     assert!(rt; counts == wanted);

@@ -7,6 +7,8 @@ mod commands;
 #[cfg(test)]
 mod counters;
 #[cfg(test)]
+mod folding;
+#[cfg(test)]
 mod mailboxes;
 #[cfg(test)]
 mod overflow;

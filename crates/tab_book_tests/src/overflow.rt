@@ -1,8 +1,8 @@
-//! A mailbox of two items that overflows, and is told of it once.
+//! A mailbox of two items that overflows twice, with a subscription behind each, and is told of each once.
 
 ghost use Rattle.std.specs.Prelude.{◌≡◌};
 
-use crate::commands::{LIMITS, create, subscribe, write};
+use crate::commands::{LIMITS, create, number_of, subscribe, write};
 use std::alloc::{AllocError, Global};
 use std::marker::{Brand, PhantomData};
 use std::sync::Wait;
@@ -13,8 +13,8 @@ use tab_named::SeatInbox;
 use tab_names::{House, Naming, Opened};
 use tab_post::Line;
 
-/// What is shown at an inbox, as a number: a batch is 100 and its commit, an overflow 200 and its commit.
-fn number_of(drained: &Drained) -> u64 {
+/// What is shown at an inbox, as a number: a batch of one event is 100 and its commit, an overflow 200 and its commit.
+fn shown_as(drained: &Drained) -> u64 {
     match drained {
         Drained::Going(item) => number_in(item),
         Drained::AllTaken => ALL_TAKEN,
@@ -26,7 +26,7 @@ fn number_of(drained: &Drained) -> u64 {
 fn number_in(item: &Item) -> u64 {
     match item {
         Item::Began(..) => BEGAN,
-        Item::Batch(commit, _) => commit.saturating_add(100),
+        Item::Batch(commit, events) if events.as_slice().len() == 1 => commit.saturating_add(100),
         _ => 0,
     }
 }
@@ -37,8 +37,18 @@ const BEGAN: u64 = 2;
 
 const LEFT: u64 = 3;
 
-/// What the reader is shown at its inbox, in turn.
-static SHOWN: [u64; 4] = [BEGAN, 101, 202, ALL_TAKEN];
+/// The numbers of three commits, which begin behind a begin mark that is taken, and what the reader is shown then, in turn.
+static ROUNDS: [([u64; 3], [u64; 4]); 2] = [
+    ([1, 2, 3], [101, 102, 203, ALL_TAKEN]),
+    ([4, 5, 6], [104, 105, 206, ALL_TAKEN]),
+];
+
+fn is_here(reply: &Reply) -> bool {
+    match reply {
+        Reply::SubscribedHere => true,
+        _ => false,
+    }
+}
 
 fn is_untold(reply: &Reply) -> bool {
     match reply {
@@ -52,18 +62,62 @@ fn commit<H: House>(
     alloc: Global,
     shared: &Shared<H>,
     seat: &Seat,
-) -> Result<(), AllocError> {
+) -> Result<u64, AllocError> {
     shared.call(house, seat, Command::Begin)?;
     shared.call(house, seat, write(alloc, 1)?)?;
-    shared.call(house, seat, Command::Commit)?;
-    Ok(())
+    let told = shared.call(house, seat, Command::Commit)?;
+    Ok(number_of(told.reply()))
 }
 
 fn shown<H: House>(house: &H, shared: &Shared<H>, seat: &Seat, inbox: &mut SeatInbox<H>) -> u64 {
-    number_of(&shared.drained(house, seat, inbox))
+    shown_as(&shared.drained(house, seat, inbox))
 }
 
-/// Three commits while nobody takes from a mailbox of two items.
+/// Whether the reader subscribes, and is shown its begin mark.
+fn watches<H: House>(
+    house: &H,
+    alloc: Global,
+    shared: &Shared<H>,
+    seat: &Seat,
+    inbox: &mut SeatInbox<H>,
+) -> Result<bool, AllocError> {
+    let told = shared.call(house, seat, subscribe(alloc)?)?;
+    Ok(is_here(told.reply()) && shown(house, shared, seat, inbox) == BEGAN)
+}
+
+/// Whether the commits have these numbers.
+fn commits<H: House>(
+    house: &H,
+    alloc: Global,
+    shared: &Shared<H>,
+    seat: &Seat,
+    numbers: &[u64],
+) -> Result<bool, AllocError> {
+    let mut right = true;
+    for number in numbers {
+        right = commit(house, alloc, shared, seat)? == *number && right;
+    }
+    Ok(right)
+}
+
+/// Whether the reader, which overflowed, is refused a subscription until it was shown all of these.
+fn is_told<H: House>(
+    house: &H,
+    alloc: Global,
+    shared: &Shared<H>,
+    seat: &Seat,
+    inbox: &mut SeatInbox<H>,
+    items: &[u64],
+) -> Result<bool, AllocError> {
+    let refused = shared.call(house, seat, subscribe(alloc)?)?;
+    let mut right = is_untold(refused.reply());
+    for wanted in items {
+        right = shown(house, shared, seat, inbox) == *wanted && right;
+    }
+    Ok(right)
+}
+
+/// Three commits while nobody takes from a mailbox of two items, twice.
 fn overflow<H: House>(house: H, alloc: Global, opened: Opened<Line>) -> Result<bool, Fail>
     requires { opened ≡ H.book }
 {
@@ -71,19 +125,15 @@ fn overflow<H: House>(house: H, alloc: Global, opened: Opened<Line>) -> Result<b
     let (writer, mut others) = shared.join(&house).map_err(|_| "join")?;
     let (reader, mut inbox) = shared.join(&house).map_err(|_| "join")?;
     shared.call(&house, &writer, create(alloc)?)?;
-    shared.call(&house, &reader, subscribe(alloc)?)?;
-    for _ in 0..3u32 {
-        commit(&house, alloc, &shared, &writer)?;
+    let mut right = true;
+    for (numbers, items) in &ROUNDS {
+        right = watches(&house, alloc, &shared, &reader, &mut inbox)? && right;
+        right = commits(&house, alloc, &shared, &writer, numbers)? && right;
+        // An inbox of another session takes nothing.
+        right = shown(&house, &shared, &reader, &mut others) == ALL_TAKEN && right;
+        right = is_told(&house, alloc, &shared, &reader, &mut inbox, items)? && right;
     }
-    // An inbox of another session takes nothing.
-    let mut right = shown(&house, &shared, &reader, &mut others) == ALL_TAKEN;
-    let refused = shared.call(&house, &reader, subscribe(alloc)?)?;
-    right = right && is_untold(refused.reply());
-    for wanted in &SHOWN {
-        right = right && shown(&house, &shared, &reader, &mut inbox) == *wanted;
-    }
-    shared.call(&house, &reader, subscribe(alloc)?)?;
-    right = right && shown(&house, &shared, &reader, &mut inbox) == BEGAN;
+    right = watches(&house, alloc, &shared, &reader, &mut inbox)? && right;
     shared.leave(&house, &reader);
     Ok(right && shown(&house, &shared, &reader, &mut inbox) == LEFT)
 }
@@ -99,7 +149,7 @@ fn overflow_named<J: Naming, R: Wait + Copy>(
 }
 
 #[test]
-fn an_overflow_is_told_once(rt: HostRuntime) -> Result<(), Fail> {
+fn each_overflow_is_told_once(rt: HostRuntime) -> Result<(), Fail> {
     let right = overflow_named::<Brand, _>(rt, rt.alloc(), Opened::new())?;
     assert!(rt; right);
     Ok(())

@@ -1,0 +1,92 @@
+//! A journal of 16 entries folds, step by step.
+
+ghost use Rattle.std.specs.Prelude.{◌≡◌};
+
+use crate::commands::{LIMITS, create, name, number_of, write};
+use std::alloc::{AllocError, Global};
+use std::marker::{Brand, PhantomData};
+use std::sync::Wait;
+use std::test::*;
+use tab_book::{Book, Shared, Step};
+use tab_journal::{Base, Journal};
+use tab_model::{Command, Entry, Limits};
+use tab_names::{House, Naming, Opened};
+use tab_post::Line;
+use tab_term::Term;
+
+/// A commit of one write: its number.
+fn commit<H: House>(book: &mut Book<H>, alloc: Global, session: u32) -> Result<u64, AllocError> {
+    book.step(session, Step::Do(Command::Begin))?;
+    book.step(session, Step::Do(write(alloc, 1)?))?;
+    let answered = book.step(session, Step::Do(Command::Commit))?;
+    Ok(number_of(answered.told.reply()))
+}
+
+/// Whether the base has the table, without a record or with one, and this commit.
+fn is_base(alloc: Global, base: &Base, commits: u64, records: usize) -> Result<bool, AllocError> {
+    let found = match base.tables().table(&name(alloc)?) {
+        Some(table) => Some(table.at(&Term::Int(1)).len()),
+        None => None,
+    };
+    Ok(base.commits() == commits && found == Some(records))
+}
+
+/// Whether the entry at this place is the commit with this number.
+fn is_commit(journal: &Journal, place: usize, commit: u64) -> bool {
+    match journal.entry(place) {
+        Some(Entry::Committed { number, .. }) => *number == commit,
+        _ => false,
+    }
+}
+
+/// Whether this commit is the newest entry, and behind the table's 15 the oldest is the one behind the base's commits.
+fn is_right(alloc: Global, journal: &Journal, number: u64) -> Result<bool, AllocError> {
+    let newest = is_commit(journal, journal.len().saturating_sub(1), number);
+    let folded = number.saturating_sub(16);
+    let oldest = is_commit(journal, 0, folded.saturating_add(1));
+    if number < 16 {
+        return Ok(newest && journal.len() == (number as usize).saturating_add(1));
+    }
+    let based = is_base(alloc, journal.base(), folded, folded.min(1) as usize)?;
+    Ok(newest && oldest && based && journal.len() == 16)
+}
+
+/// The first commit behind which the journal differs, or is no history of the tables.
+fn fold<H: House>(house: H, alloc: Global, opened: Opened<Line>) -> Result<Option<u64>, Fail>
+    requires { opened ≡ H.book }
+{
+    let limits = Limits {
+        journal: 16,
+        ..LIMITS
+    };
+    let shared = Shared::new(Book::new(house, alloc, opened, limits, 2)?);
+    let (seat, _inbox) = shared.join(&house).map_err(|_| "join")?;
+    let mut book = shared.hold(&house);
+    book.step(seat.session(), Step::Do(create(alloc)?))?;
+    for number in 1..=100u64 {
+        let numbered = commit(&mut book, alloc, seat.session())?;
+        let right = is_right(alloc, book.journal(), number)?;
+        let audit = book.audit()?;
+        if numbered != number || !right || !audit {
+            return Ok(Some(number));
+        }
+    }
+    Ok(None)
+}
+
+fn fold_named<J: Naming, R: Wait + Copy>(
+    rt: R,
+    alloc: Global,
+    opened: Opened<Line>,
+) -> Result<Option<u64>, Fail>
+    requires { opened ≡ J.book }
+{
+    fold((rt, PhantomData::<J>), alloc, opened)
+}
+
+#[test]
+fn a_full_journal_folds_its_oldest(rt: HostRuntime) -> Result<(), Fail> {
+    let differs = fold_named::<Brand, _>(rt, rt.alloc(), Opened::new())?;
+    assert!(rt; differs == None, "a commit");
+    Ok(())
+}
