@@ -198,11 +198,13 @@ class Case:
         except Closed:
             return "closed"
 
-    def again(self, first, other):
+    def again(self, first, second, other):
         """It was told `no_memory`, and nothing is left of it. Asked again it is told its reply."""
         if self.waits:
-            # Its request may be in the queue yet.
-            script((first, ("abort", "why"), ("aborted", "why")))
+            # It waits again where the second's transaction is open yet, and ends.
+            first.send(self.request)
+            second.close()
+            same("again", replied(first), self.reply)
         elif self.inside:
             free(other, "u")
             script((first, self.request, self.reply))
@@ -227,7 +229,7 @@ class Case:
             if end == "none":
                 same("nothing refused, and the reply", told, self.reply)
             if end == "told no_memory":
-                self.again(first, other)
+                self.again(first, second, other)
             first.close()
             second.close()
             probe(other)

@@ -1,8 +1,7 @@
 //! Connections are accepted, each with threads of its own.
 
 use crate::connection::{Connection, Streams};
-use crate::events::event_loop;
-use crate::gate::{Gate, Note};
+use crate::gate::{Gate, Note, Notes};
 use crate::requests::{Ending, serve_session};
 use crate::settings::Settings;
 use crate::troubles::Troubles;
@@ -20,7 +19,7 @@ use tab_proto::append_reply;
 
 /// Accepts so many connections, and serves each until its session has ended. Ends when all have; with an error where an
 /// accept failed, which ends the accepting.
-pub fn serve<H: House + Threads + Send + Sync, G: Gate + Sync>(
+pub fn serve<H: House + Threads + Send + Sync, G: Gate + Notes + Sync>(
     house: &H,
     alloc: Global,
     listener: &TcpListener,
@@ -51,7 +50,7 @@ pub fn serve<H: House + Threads + Send + Sync, G: Gate + Sync>(
 
 /// Serves connections for good, at once as many as the book has room for sessions. One that finds no seat is told so and closed.
 /// Where an accept, a join or a thread is refused it says so, and goes on after a pause.
-pub fn serve_forever<H: House + Threads + Send + Sync, G: Gate + Sync>(
+pub fn serve_forever<H: House + Threads + Send + Sync, G: Gate + Notes + Sync>(
     house: &H,
     alloc: Global,
     listener: &TcpListener,
@@ -106,7 +105,7 @@ fn turn_away(alloc: Global, streams: Streams) {
 }
 
 /// Serves one session's connection until it has ended.
-fn serve_connection<H: House + Threads + Send + Sync, G: Gate + Sync>(
+fn serve_connection<H: House + Threads + Send + Sync, G: Gate + Notes + Sync>(
     house: &H,
     alloc: Global,
     shared: &Shared<H>,
@@ -127,7 +126,7 @@ fn serve_connection<H: House + Threads + Send + Sync, G: Gate + Sync>(
 
 /// Answers requests in this thread, beside one that sends events and one that watches. Nothing is answered where one of
 /// them can't be started.
-fn serve_streams<H: House + Threads + Send + Sync, G: Gate + Sync>(
+fn serve_streams<H: House + Threads + Send + Sync, G: Gate + Notes + Sync>(
     house: &H,
     alloc: Global,
     shared: &Shared<H>,
@@ -143,17 +142,7 @@ fn serve_streams<H: House + Threads + Send + Sync, G: Gate + Sync>(
             return Ending::Over;
         }
         let sending = scope.spawn(move || {
-            event_loop(
-                house,
-                alloc,
-                shared,
-                seat,
-                &mut inbox,
-                &connection.sink,
-                connection.delivery,
-                gate,
-            );
-            connection.close();
+            connection.send_events(house, alloc, shared, seat, &mut inbox, gate);
         });
         if sending.is_err() {
             connection.watch.stop(house);

@@ -1,11 +1,15 @@
 //! What the threads of a connection share.
 
+use crate::events::event_loop;
+use crate::gate::Notes;
 use crate::settings::Settings;
 use crate::watch::Watch;
+use std::alloc::Global;
 use std::io;
 use std::net::{Shutdown, TcpStream};
 use std::sync::Wait;
 use tab_book::{Seat, Shared};
+use tab_named::SeatInbox;
 use tab_names::House;
 use tab_proto::Delivery;
 use tab_sink::FrameSink;
@@ -63,6 +67,29 @@ impl Connection {
         (connection, reader)
     }
 
+    /// Sends the session's events until it has left, and closes the connection.
+    pub fn send_events<H: House, N: Notes>(
+        &self,
+        house: &H,
+        alloc: Global,
+        shared: &Shared<H>,
+        seat: &Seat,
+        inbox: &mut SeatInbox<H>,
+        notes: &N,
+    ) {
+        event_loop(
+            house,
+            alloc,
+            shared,
+            seat,
+            inbox,
+            &self.sink,
+            self.delivery,
+            notes,
+        );
+        self.close();
+    }
+
     /// Waits, while a request waits for a lock, for the end of the stream, at which the session leaves. Where more requests
     /// stand in the stream no end is seen.
     pub fn watch_for<H: House>(&self, house: &H, shared: &Shared<H>, seat: &Seat) {
@@ -96,7 +123,7 @@ impl Connection {
     }
 
     /// Nothing more is read or written, so that the thread that reads ends.
-    pub fn close(&self) {
+    fn close(&self) {
         let _closed = self.stream.shutdown(Shutdown::Both);
     }
 }

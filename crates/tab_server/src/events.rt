@@ -1,7 +1,7 @@
 //! The events of one connection.
 
 use crate::answers::Unwritten;
-use crate::gate::{Gate, Note};
+use crate::gate::{Note, Notes};
 use crate::kept::{KEPT, empty};
 use std::alloc::Global;
 use std::io::Write;
@@ -14,7 +14,7 @@ use tab_sink::FrameSink;
 
 /// Sends what comes into the inbox, in order, until the session has left and nothing is left, or a write fails, or no
 /// memory is found for an event. Items that are there at once are written at once.
-pub fn event_loop<H: House, W: Write, G: Gate>(
+pub fn event_loop<H: House, W: Write, N: Notes>(
     house: &H,
     alloc: Global,
     shared: &Shared<H>,
@@ -22,7 +22,7 @@ pub fn event_loop<H: House, W: Write, G: Gate>(
     inbox: &mut SeatInbox<H>,
     sink: &FrameSink<W>,
     delivery: Delivery,
-    gate: &G,
+    notes: &N,
 ) {
     let mut events = Events {
         house,
@@ -31,7 +31,7 @@ pub fn event_loop<H: House, W: Write, G: Gate>(
         inbox,
         sink,
         delivery,
-        gate,
+        notes,
         frames: Vec::new(alloc),
     };
     for _ in house.forever() {
@@ -46,18 +46,18 @@ pub fn event_loop<H: House, W: Write, G: Gate>(
 
 /// The events of a session on their way to its connection.
 #[derive(Drop)]
-struct Events<'a, H: House, W: Write, G: Gate> {
+struct Events<'a, H: House, W: Write, N: Notes> {
     house: &'a H,
     shared: &'a Shared<H>,
     seat: &'a Seat,
     inbox: &'a mut SeatInbox<H>,
     sink: &'a FrameSink<W>,
     delivery: Delivery,
-    gate: &'a G,
+    notes: &'a N,
     frames: Vec<u8>,
 }
 
-impl<'a, H: House, W: Write, G: Gate> Events<'a, H, W, G> {
+impl<'a, H: House, W: Write, N: Notes> Events<'a, H, W, N> {
     /// Sends the item and all that is there behind it. A post refuses only where its mailbox is full, and what that held is
     /// received then before the inbox is found empty: where fewer items came than it may hold, nothing was refused, and the
     /// book need not be asked.
@@ -83,7 +83,7 @@ impl<'a, H: House, W: Write, G: Gate> Events<'a, H, W, G> {
             match self.shared.drained(self.house, self.seat, self.inbox) {
                 Drained::Going(item) => self.keep(&item)?,
                 Drained::Overflow(number) => {
-                    self.gate
+                    self.notes
                         .note(Note::Overflowed(self.seat.session(), number));
                     append_overflow(number, &mut self.frames)?;
                 }

@@ -1,4 +1,4 @@
-//! What is told of a server's calls and sessions.
+//! What a server tells of its calls and sessions.
 
 use std::io;
 
@@ -30,15 +30,17 @@ pub trait Gate {
 
     /// Its reply is written.
     fn after(&self, session: u32, call: u64);
+}
 
-    /// What the server says.
+/// Told what a server says.
+pub trait Notes {
     fn note(&self, note: Note);
 
     /// Why the server ends.
     fn fault(&self, error: &io::Error);
 }
 
-/// Holds no one, and says nothing.
+/// Holds no one, and hears nothing.
 #[derive(Clone, Copy, Debug)]
 pub struct Open;
 
@@ -46,7 +48,9 @@ impl Gate for Open {
     fn before(&self, _session: u32, _call: u64) {}
 
     fn after(&self, _session: u32, _call: u64) {}
+}
 
+impl Notes for Open {
     fn note(&self, _note: Note) {}
 
     fn fault(&self, _error: &io::Error) {}

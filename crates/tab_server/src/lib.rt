@@ -20,7 +20,7 @@ mod watch;
 
 pub use accepting::{serve, serve_forever};
 pub use events::event_loop;
-pub use gate::{Gate, Note, Open};
+pub use gate::{Gate, Note, Notes, Open};
 pub use requests::{Ending, serve_session};
 pub use settings::Settings;
 pub use tab_proto::Delivery;

@@ -1,10 +1,12 @@
 //! A session of a shared book, as the seat of a one-shot's driver.
 
-ghost use Rattle.std.specs.Prelude.{◌≡◌};
+ghost use Rattle.std.specs.Prelude.{◌≡◌, ◌≢◌};
+ghost use Rattle.tab_model.specs.declared.data.Reply.TheVariants as reply;
 ghost use Rattle.tab_model.specs.Outcome.{is_abort};
 
 use crate::answers::Answers;
 use crate::gate::Gate;
+use crate::troubles::pause;
 use crate::watch::Watch;
 use std::alloc::{AllocError, Global};
 use std::io::Write;
@@ -49,6 +51,20 @@ impl<'a, 'b, H: House, W: Write, G: Gate> Seated<'a, 'b, H, W, G> {
         let _over = self.shared.rest(self.house, &self.seat, NAPS - 1);
         self.watch.end(self.house);
     }
+
+    /// The answer of the request that waits. Where memory is refused while it asks again the request is in the queue still, and
+    /// a connection has no word for it: so it waits on, and asks again after a pause.
+    fn granted(&self) -> Told
+        ensures { result ≢ reply.Waiting }
+    {
+        for _ in self.house.forever() {
+            if let Ok(told) = self.shared.retry(self.house, &self.seat) {
+                return told;
+            }
+            pause(self.house);
+        }
+        unreachable!()
+    }
 }
 
 impl<'a, 'b, H: House, W: Write, G: Gate> Steps for Seated<'a, 'b, H, W, G> {
@@ -69,15 +85,13 @@ impl<'a, 'b, H: House, W: Write, G: Gate> Steps for Seated<'a, 'b, H, W, G> {
         if self.answers.write(self.house).is_err() {
             return None;
         }
-        match self.shared.retry_for(self.house, &self.seat, 1) {
-            Ok(Some(told)) => return Some(Ok(told)),
-            Ok(None) => {}
-            Err(refused) => return Some(Err(refused)),
+        if let Ok(Some(told)) = self.shared.retry_for(self.house, &self.seat, 1) {
+            return Some(Ok(told));
         }
         self.watch.begin(self.house);
-        let told = self.shared.retry(self.house, &self.seat);
+        let told = self.granted();
         self.watch.end(self.house);
-        Some(told)
+        Some(Ok(told))
     }
 
     fn again(&mut self) {

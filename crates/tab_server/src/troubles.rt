@@ -1,32 +1,37 @@
 //! What keeps a server from accepting.
 
-use crate::gate::{Gate, Note};
+use crate::gate::{Note, Notes};
 use std::sync::{Condvar, Wait};
 use std::time::Duration;
 
-/// So many milliseconds pass after each failure before it goes on.
+/// So many milliseconds pass after a failure before it is tried again.
 const PAUSE: u64 = 100;
+
+/// A pause, in which what failed may get better.
+pub fn pause<R: Wait>(rt: &R) {
+    let never = Condvar::new();
+    never.sleep(rt, never.notifications(), Duration::from_millis(PAUSE));
+}
 
 /// Failures to accept. Of several in a row the first is told: a server that has no descriptor left would fill a log.
 #[derive(Drop)]
-pub struct Troubles<'g, G: Gate> {
-    gate: &'g G,
+pub struct Troubles<'n, N: Notes> {
+    notes: &'n N,
     told: bool,
 }
 
-impl<'g, G: Gate> Troubles<'g, G> {
-    pub fn new(gate: &'g G) -> Troubles<'g, G> {
-        Troubles { gate, told: false }
+impl<'n, N: Notes> Troubles<'n, N> {
+    pub fn new(notes: &'n N) -> Troubles<'n, N> {
+        Troubles { notes, told: false }
     }
 
     /// A failure, behind which it pauses.
     pub fn tell<R: Wait>(&mut self, rt: &R, note: Note) {
         if !self.told {
             self.told = true;
-            self.gate.note(note);
+            self.notes.note(note);
         }
-        let pause = Condvar::new();
-        pause.sleep(rt, pause.notifications(), Duration::from_millis(PAUSE));
+        pause(rt);
     }
 
     /// A connection was accepted.

@@ -16,7 +16,7 @@ use tab_book::{Book, Shared};
 use tab_model::Limits;
 use tab_names::{House, Naming, Opened};
 use tab_post::Line;
-use tab_server::{Gate, Note, Settings, serve};
+use tab_server::{Gate, Note, Notes, Settings, serve};
 
 pub const LIMITS: Limits = Limits {
     sessions: 64,
@@ -57,7 +57,9 @@ impl<R: Threads + Clock> Gate for Held<R> {
             self.answered.store(true, Ordering::SeqCst);
         }
     }
+}
 
+impl<R: Threads + Clock> Notes for Held<R> {
     fn note(&self, _note: Note) {}
 
     fn fault(&self, _error: &io::Error) {}
@@ -88,7 +90,7 @@ fn ask<R: Net<Stream = TcpStream>>(rt: &R, address: SocketAddr) -> io::Result<bo
 }
 
 /// Counts a server that ended well.
-fn serve_all<H: House + Threads + Send + Sync, G: Gate + Sync>(
+fn serve_all<H: House + Threads + Send + Sync, G: Gate + Notes + Sync>(
     house: &H,
     alloc: Global,
     listener: &TcpListener,
@@ -118,7 +120,7 @@ fn beside<H, R, G>(
 where
     H: House + Threads + Send + Sync,
     R: Net<Listener = TcpListener, Stream = TcpStream>,
-    G: Gate + Sync,
+    G: Gate + Notes + Sync,
 {
     thread::scope(thread::scope_env(), house, |scope| {
         let serving = scope.spawn(move || serve_all(
@@ -145,7 +147,7 @@ fn run<H, R, G>(
 where
     H: House + Threads + Send + Sync,
     R: Net<Listener = TcpListener, Stream = TcpStream>,
-    G: Gate + Sync,
+    G: Gate + Notes + Sync,
     requires { opened ≡ H.book }
 {
     let listener = TcpListener::bind(rt, ("127.0.0.1", 0)).map_err(|_| "bind")?;

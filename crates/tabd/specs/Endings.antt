@@ -76,7 +76,7 @@ streams i o f g = record { input = i; output = o; input_faults = f; output_fault
 -- what holds of a replay, by how many items each session's post holds
 abbrev pub IfReplay : Run → (ℕ → Type 0) → Type 0
 IfReplay (Replay outbox) P = P outbox
-IfReplay (Serve port sizes forever delivery idle log) P = Unit {0}
+IfReplay (Serve s) P = Unit {0}
 
 -- the program replayed its input onto its output, and ends by a device fault exactly where one rose
 abbrev pub Plays : ℕ → Streams → Streams → End → Type 0

@@ -13,4 +13,4 @@ IsIdle s = (1 ≤ s) × (s ≤ 86400)
 
 abbrev pub AreInRange : Run → Type 0
 AreInRange (Replay outbox) = (1 ≤ outbox) × (outbox ≤ 65536)
-AreInRange (Serve port sizes forever delivery idle log) = AreSizes sizes × IfSome idle IsIdle
+AreInRange (Serve s) = AreSizes s.sizes × IfSome s.idle IsIdle

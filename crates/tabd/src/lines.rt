@@ -4,7 +4,7 @@ use std::alloc::Global;
 use std::io;
 use std::sync::{Mutex, Wait};
 use tab_etf::{Target, give_all};
-use tab_server::{Gate, Note};
+use tab_server::{Gate, Note, Notes};
 
 /// What of a server's notes has a line.
 #[derive(Clone, Copy, Debug, PartialEq, Eq)]
@@ -74,7 +74,9 @@ impl<R: Wait, E: Target> Gate for Lines<R, E> {
     fn before(&self, _session: u32, _call: u64) {}
 
     fn after(&self, _session: u32, _call: u64) {}
+}
 
+impl<R: Wait, E: Target> Notes for Lines<R, E> {
     fn note(&self, note: Note) {
         match note {
             Note::NotAccepted => self.put("tabd: no connection was accepted\n"),

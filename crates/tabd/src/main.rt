@@ -22,7 +22,7 @@ fn main(rt: HostRuntime) -> ExitCode {
     let mut errors = Counted::new(rt.stderr());
     let wanted = asked(&rt);
     let log = match wanted {
-        Ok(Run::Serve { log, .. }) => log,
+        Ok(Run::Serve(service)) => service.log,
         _ => Log::Brief,
     };
     let lines = Lines::new(rt, rt.alloc(), log, Counted::new(rt.stderr()));

@@ -7,7 +7,7 @@ ghost use Rattle.tabd.specs.declared.ending.End.{End as EndOf};
 ghost use Rattle.tabd.specs.Endings.{IfReplay, IsShown, IsTextFault, OnStreams, Plays, TellsEnd, end_of_words, line_of, status_of, streams};
 
 use crate::ending::{End, end_of_replay, end_of_words, line_of, status_of};
-use crate::serving::{listen, listen_forever, settings};
+use crate::serving::listen;
 use crate::words::Run;
 use crate::{Ended, replay};
 use clap::Error;
@@ -19,7 +19,7 @@ use std::thread::Threads;
 use tab_etf::{Source, Target, give_all};
 use tab_names::{Naming, Opened};
 use tab_post::Line;
-use tab_server::Gate;
+use tab_server::{Gate, Notes};
 
 /// Does what the words ask for, and gives the program's exit status. On the errors stands the line of this end and nothing
 /// else, but that of wrong words the parser's text stands there. Its text of what was asked for, as help, is put on the output.
@@ -45,7 +45,7 @@ where
     R: Source,
     W: Target,
     E: Target,
-    G: Gate + Sync,
+    G: Gate + Notes + Sync,
     requires { opened ≡ J.book }
     ensures replayed { IfOk asked (λ words. (end : EndOf) × (exit_status result ≡ status_of end)
         × IfReplay words (λ outbox. Plays outbox (streams (R.remaining input.old) (W.contents output.old) (R.faults input.old) (W.faults output.old)) (streams (R.remaining input.new) (W.contents output.new) (R.faults input.new) (W.faults output.new)) end)
@@ -86,35 +86,14 @@ where
         + Sync,
     R: Source,
     W: Target,
-    G: Gate + Sync,
+    G: Gate + Notes + Sync,
     requires { opened ≡ J.book }
     ensures { IfReplay words (λ outbox. Plays outbox (streams (R.remaining input.old) (W.contents output.old) (R.faults input.old) (W.faults output.old)) (streams (R.remaining input.new) (W.contents output.new) (R.faults input.new) (W.faults output.new)) result) }
 {
     match words {
         Run::Replay { outbox } => play(rt.alloc(), input, output, outbox),
-        Run::Serve {
-            port,
-            sizes,
-            forever,
-            delivery,
-            idle,
-            log: _,
-        } => {
-            let settings = settings(delivery, idle);
-            if forever {
-                listen_forever::<J, H, W, G>(
-                    *rt,
-                    rt.alloc(),
-                    opened,
-                    port,
-                    sizes,
-                    settings,
-                    output,
-                    gate,
-                )
-            } else {
-                listen::<J, H, W, G>(*rt, rt.alloc(), opened, port, sizes, settings, output, gate)
-            }
+        Run::Serve(service) => {
+            listen::<J, H, W, G>(*rt, rt.alloc(), opened, service, output, gate)
         }
     }
 }

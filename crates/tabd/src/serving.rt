@@ -5,6 +5,7 @@ ghost use Rattle.std.specs.Duration.{as_nanos};
 
 use crate::Ended;
 use crate::ending::End;
+use crate::lines::Log;
 use std::alloc::{AllocError, Global};
 use std::io;
 use std::marker::PhantomData;
@@ -17,7 +18,7 @@ use tab_etf::{Target, give_all};
 use tab_model::Limits;
 use tab_names::{House, Naming, Opened};
 use tab_post::Line;
-use tab_server::{Delivery, Gate, Settings, serve, serve_forever};
+use tab_server::{Delivery, Gate, Notes, Settings, serve, serve_forever};
 
 /// What a server is given: how many connections it accepts, how many items wait for a session, how many entries stand.
 #[derive(Clone, Copy)]
@@ -28,6 +29,33 @@ pub struct Sizes {
     ghost seats: { connections ≤ 64 },
     ghost outbox_room: { 1 ≤ outbox },
     ghost journal_room: { 1 ≤ journal },
+}
+
+/// How the server is run.
+#[derive(Clone, Copy)]
+pub struct Service {
+    /// 0 lets the system choose one.
+    pub port: u16,
+    pub sizes: Sizes,
+    /// A connection that ends makes room for another.
+    pub forever: bool,
+    pub delivery: Delivery,
+    /// So many seconds a session may be idle.
+    pub idle: Option<u32>,
+    pub log: Log,
+}
+
+impl Service {
+    /// So many sessions the book has room for. One that serves for good has none beside its connections.
+    fn sessions(&self) -> u32
+        ensures { result ≤ 64 }
+    {
+        if self.forever {
+            self.sizes.connections
+        } else {
+            64
+        }
+    }
 }
 
 const fn limits(sessions: u32, journal: u32) -> Limits
@@ -45,7 +73,7 @@ const fn limits(sessions: u32, journal: u32) -> Limits
 }
 
 /// How connections are served, by what the words say.
-pub fn settings(delivery: Delivery, idle: Option<u32>) -> Settings
+fn settings(delivery: Delivery, idle: Option<u32>) -> Settings
     ensures delivery { result.delivery ≡ delivery }
     ensures idle { option_map as_nanos result.idle ≡ option_map (λ s. s * 1000000000) idle }
 {
@@ -56,14 +84,12 @@ pub fn settings(delivery: Delivery, idle: Option<u32>) -> Settings
     Settings { delivery, idle }
 }
 
-/// Listens on the port, says so, and serves until all sessions have ended.
+/// Listens on the port, says so, and serves: until all sessions have ended, or for good.
 pub fn listen<J, R, W, G>(
     rt: R,
     alloc: Global,
     opened: Opened<Line>,
-    port: u16,
-    sizes: Sizes,
-    settings: Settings,
+    service: Service,
     output: &mut W,
     gate: &G,
 ) -> End
@@ -71,84 +97,35 @@ where
     J: Naming + Send + Sync,
     R: Net<Listener = TcpListener, Stream = TcpStream> + Threads + Wait + Copy + Send + Sync,
     W: Target,
-    G: Gate + Sync,
+    G: Gate + Notes + Sync,
     requires { opened ≡ J.book }
 {
-    let listener = match listening(&rt, alloc, port, output, gate) {
-        Ok(listener) => listener,
-        Err(ended) => return End::Stopped(ended),
-    };
-    match run(
-        (rt, PhantomData::<J>),
-        alloc,
-        opened,
-        &listener,
-        sizes,
-        settings,
-        gate,
-    ) {
-        Ok(Ok(())) => End::Done,
-        Ok(Err(error)) => {
-            gate.fault(&error);
-            End::Stopped(Ended::Device)
+    match listening(&rt, alloc, service.port, output, gate) {
+        Ok(listener) => {
+            let house = (rt, PhantomData::<J>);
+            serve_on(house, alloc, opened, &listener, service, gate)
         }
-        Err(_) => End::Stopped(Ended::NoMemory),
-    }
-}
-
-/// Listens on the port, says so, and serves for good. It ends where it can't begin.
-pub fn listen_forever<J, R, W, G>(
-    rt: R,
-    alloc: Global,
-    opened: Opened<Line>,
-    port: u16,
-    sizes: Sizes,
-    settings: Settings,
-    output: &mut W,
-    gate: &G,
-) -> End
-where
-    J: Naming + Send + Sync,
-    R: Net<Listener = TcpListener, Stream = TcpStream> + Threads + Wait + Copy + Send + Sync,
-    W: Target,
-    G: Gate + Sync,
-    requires { opened ≡ J.book }
-{
-    let listener = match listening(&rt, alloc, port, output, gate) {
-        Ok(listener) => listener,
-        Err(ended) => return End::Stopped(ended),
-    };
-    match run_forever(
-        (rt, PhantomData::<J>),
-        alloc,
-        opened,
-        &listener,
-        sizes,
-        settings,
-        gate,
-    ) {
-        Ok(()) => End::Done,
-        Err(_) => End::Stopped(Ended::NoMemory),
+        Err(ended) => End::Stopped(ended),
     }
 }
 
 /// Says which port it is, at once, so that clients can connect.
-fn listening<R, W, G>(
+fn listening<R, W, N>(
     rt: &R,
     alloc: Global,
     port: u16,
     output: &mut W,
-    gate: &G,
+    notes: &N,
 ) -> Result<TcpListener, Ended>
 where
     R: Net<Listener = TcpListener, Stream = TcpStream>,
     W: Target,
-    G: Gate,
+    N: Notes,
 {
     let (listener, address) = match bound(rt, port) {
         Ok(bound) => bound,
         Err(error) => {
-            gate.fault(&error);
+            notes.fault(&error);
             return Err(Ended::Device);
         }
     };
@@ -168,21 +145,28 @@ fn bound<R: Net<Listener = TcpListener, Stream = TcpStream>>(
     Ok((listener, address))
 }
 
-fn run<H: House + Threads + Send + Sync, G: Gate + Sync>(
+fn serve_on<H: House + Threads + Send + Sync, G: Gate + Notes + Sync>(
     house: H,
     alloc: Global,
     opened: Opened<Line>,
     listener: &TcpListener,
-    sizes: Sizes,
-    settings: Settings,
+    service: Service,
     gate: &G,
-) -> Result<io::Result<()>, AllocError>
+) -> End
     requires { opened ≡ H.book }
 {
-    let limits = limits(64, sizes.journal);
-    let book = Book::new(house, alloc, opened, limits, sizes.outbox as usize)?;
+    let Service { sizes, .. } = service;
+    let limits = limits(service.sessions(), sizes.journal);
+    let Ok(book) = Book::new(house, alloc, opened, limits, sizes.outbox as usize) else {
+        return End::Stopped(Ended::NoMemory);
+    };
     let shared = Shared::new(book);
-    Ok(serve(
+    let settings = settings(service.delivery, service.idle);
+    if service.forever {
+        serve_forever(&house, alloc, listener, &shared, settings, gate);
+        return End::Done;
+    }
+    match serve(
         &house,
         alloc,
         listener,
@@ -190,23 +174,11 @@ fn run<H: House + Threads + Send + Sync, G: Gate + Sync>(
         sizes.connections,
         settings,
         gate,
-    ))
-}
-
-fn run_forever<H: House + Threads + Send + Sync, G: Gate + Sync>(
-    house: H,
-    alloc: Global,
-    opened: Opened<Line>,
-    listener: &TcpListener,
-    sizes: Sizes,
-    settings: Settings,
-    gate: &G,
-) -> Result<(), AllocError>
-    requires { opened ≡ H.book }
-{
-    let limits = limits(sizes.connections, sizes.journal);
-    let book = Book::new(house, alloc, opened, limits, sizes.outbox as usize)?;
-    let shared = Shared::new(book);
-    serve_forever(&house, alloc, listener, &shared, settings, gate);
-    Ok(())
+    ) {
+        Ok(()) => End::Done,
+        Err(error) => {
+            gate.fault(&error);
+            End::Stopped(Ended::Device)
+        }
+    }
 }

@@ -4,7 +4,7 @@ ghost use Rattle.std.specs.Prelude.{◌≤◌, IfOk, IfSome};
 ghost use Rattle.tabd.specs.Words.{AreInRange, AreSizes, IsIdle};
 
 use crate::lines::Log;
-use crate::serving::Sizes;
+use crate::serving::{Service, Sizes};
 use clap::error::ErrorKind;
 use clap::{Arg, ArgAction, ArgMatches, Command, Error, value_parser};
 use std::alloc::{AllocError, Global};
@@ -17,28 +17,27 @@ use tab_server::Delivery;
 #[derive(Clone, Copy)]
 pub enum Run {
     /// Each session's post holds so many items.
-    Replay {
-        outbox: u32,
-    },
-    /// So many connections are served on the port, where 0 lets the system choose one; forever so many at once.
-    Serve {
-        port: u16,
-        sizes: Sizes,
-        forever: bool,
-        delivery: Delivery,
-        /// So many seconds a session may be idle.
-        idle: Option<u32>,
-        log: Log,
-    },
+    Replay { outbox: u32 },
+    Serve(Service),
+}
+
+/// An option with a number in this range.
+fn number_of<'a>(alloc: Global, name: &'a str, value: &'a str, least: i64, most: i64) -> Arg<'a> {
+    Arg::new(alloc, name)
+        .long(name)
+        .value_name(value)
+        .action(ArgAction::Set)
+        .value_parser(value_parser!(u32).range(least..=most))
+}
+
+fn flag<'a>(alloc: Global, name: &'a str) -> Arg<'a> {
+    Arg::new(alloc, name).long(name).action(ArgAction::SetTrue)
 }
 
 fn outbox<'a>(alloc: Global) -> Arg<'a> {
-    Arg::new(alloc, "outbox")
-        .long("outbox")
-        .value_name("ITEMS")
-        .help("How many items wait for a session at most, 1 to 65536; 64 where it is not given")
-        .action(ArgAction::Set)
-        .value_parser(value_parser!(u32).range(1..=65_536))
+    number_of(alloc, "outbox", "ITEMS", 1, 65_536).help(
+        "How many items wait for a session at most, 1 to 65536; 64 where it is not given",
+    )
 }
 
 fn serve<'a>(alloc: Global) -> Result<Command<'a>, AllocError> {
@@ -49,39 +48,24 @@ fn serve<'a>(alloc: Global) -> Result<Command<'a>, AllocError> {
         .required(true)
         .action(ArgAction::Set)
         .value_parser(value_parser!(u16));
-    let connections = Arg::new(alloc, "connections")
-        .long("connections")
-        .value_name("COUNT")
+    let connections = number_of(alloc, "connections", "COUNT", 1, 64)
         .help("How many connections are accepted, 1 to 64; with --forever, how many at once")
-        .required(true)
-        .action(ArgAction::Set)
-        .value_parser(value_parser!(u32).range(1..=64));
-    let journal = Arg::new(alloc, "journal")
-        .long("journal")
-        .value_name("ENTRIES")
-        .help("How many entries the journal holds at most, 16 to 65536; 1024 where it is not given")
-        .action(ArgAction::Set)
-        .value_parser(value_parser!(u32).range(16..=65_536));
-    let forever = Arg::new(alloc, "forever")
-        .long("forever")
-        .help("A connection that ends makes room for another, and the server never ends by itself")
-        .action(ArgAction::SetTrue);
-    let batches = Arg::new(alloc, "batches")
-        .long("batches")
-        .help("A commit's events come in one frame, with the commit's number")
-        .action(ArgAction::SetTrue);
-    let idle = Arg::new(alloc, "idle")
-        .long("idle")
-        .value_name("SECONDS")
-        .help(
-            "A session with an open transaction, or that reads nothing, is ended where nothing comes from it for so long, 1 to 86400",
-        )
-        .action(ArgAction::Set)
-        .value_parser(value_parser!(u32).range(1..=86_400));
-    let log = Arg::new(alloc, "log")
-        .long("log")
-        .help("Each session's start and end has a line on standard error, and why the server ends")
-        .action(ArgAction::SetTrue);
+        .required(true);
+    let journal = number_of(alloc, "journal", "ENTRIES", 16, 65_536).help(
+        "How many entries the journal holds at most, 16 to 65536; 1024 where it is not given",
+    );
+    let forever = flag(alloc, "forever").help(
+        "A connection that ends makes room for another, and the server never ends by itself",
+    );
+    let batches = flag(alloc, "batches").help(
+        "A commit's events come in one frame, with the commit's number",
+    );
+    let idle = number_of(alloc, "idle", "SECONDS", 1, 86_400).help(
+        "A session with an open transaction, or that reads nothing, is ended where nothing comes from it for so long, 1 to 86400",
+    );
+    let log = flag(alloc, "log").help(
+        "Each session's start and end has a line on standard error, and why the server ends",
+    );
     Command::new(alloc, "serve")
         .about("Serves each connection to a port as a session")
         .arg(port)?
@@ -112,14 +96,14 @@ pub fn read_words<'a, S: AsStr>(alloc: Global, words: &'a [S]) -> Result<Run, Er
 {
     let matches = command(alloc)?.try_get_matches_from(words)?;
     if let Some(serve) = matches.subcommand_matches("serve") {
-        return Ok(Run::Serve {
+        return Ok(Run::Serve(Service {
             port: serve.get_one("port").unwrap_or(0),
             sizes: sizes(serve),
             forever: serve.get_flag("forever"),
             delivery: delivery(serve),
             idle: idle(serve),
             log: log(serve),
-        });
+        }));
     }
     Ok(Run::Replay {
         outbox: match matches.subcommand_matches("replay") {
