@@ -259,11 +259,23 @@ def port_faults(program):
             yield None if found == (1, b"", wanted) else f"a port that is taken, {more}: {found}"
 
 
+def serve_faults(program):
+    """A server with a standard stream that is closed, whose number a client's socket would get."""
+    words = ["serve", "--port", "0", "--connections", "1", "--log"]
+    reason = DEVICE + b"tabd: a standard stream is closed\n"
+    for file, wanted in [(0, (1, b"", reason)), (1, (1, b"", reason)), (2, (1, b"", b""))]:
+        try:
+            found = run(program, words, stdin=subprocess.DEVNULL, stdout=subprocess.PIPE, preexec_fn=lambda file=file: os.close(file))
+        except subprocess.TimeoutExpired:
+            found = "it serves"
+        yield None if found == wanted else f"a server whose stream {file} is closed: {found}"
+
+
 def main():
     if len(sys.argv) != 2:
         sys.exit(__doc__)
     program = os.path.abspath(sys.argv[1])
-    tried = [fault for faults in (word_faults, stream_faults, memory_faults, device_faults, port_faults) for fault in faults(program)]
+    tried = [fault for faults in (word_faults, stream_faults, memory_faults, device_faults, port_faults, serve_faults) for fault in faults(program)]
     failed = [fault for fault in tried if fault]
     for fault in failed:
         print(fault)

@@ -10,6 +10,7 @@ use std::alloc::{AllocError, Global};
 use std::io;
 use std::marker::PhantomData;
 use std::net::{Net, SocketAddr, TcpListener, TcpStream};
+use std::os::fd::{AsRawFd, RawFd};
 use std::sync::Wait;
 use std::thread::Threads;
 use std::time::Duration;
@@ -19,6 +20,9 @@ use tab_model::Limits;
 use tab_names::{House, Naming, Opened};
 use tab_post::Line;
 use tab_server::{Delivery, Gate, Notes, Settings, serve, serve_forever};
+
+/// The greatest number of a standard stream.
+const STANDARD_ERROR: RawFd = 2;
 
 /// What a server is given: how many connections it accepts, how many items wait for a session, how many entries stand.
 #[derive(Clone, Copy)]
@@ -141,6 +145,10 @@ fn bound<R: Net<Listener = TcpListener, Stream = TcpStream>>(
     port: u16,
 ) -> io::Result<(TcpListener, SocketAddr)> {
     let listener = TcpListener::bind(rt, ("127.0.0.1", port))?;
+    // A socket gets the least number that is free: what is put on a standard stream that is closed would go to a client.
+    if listener.as_raw_fd() <= STANDARD_ERROR {
+        return Err(io::Error::other("a standard stream is closed"));
+    }
     let address = listener.local_addr()?;
     Ok((listener, address))
 }
