@@ -271,6 +271,25 @@ def narrow(watcher, writer):
             same("end mark", watcher.event(), ("mnesia_table_end", "t", "unsubscribed"))
 
 
+def beside_long_replies(reader, writer):
+    """A reply that goes out in many pieces stands together, while others' commits are told to the same connection."""
+    commits, rows = 400, [("u", key, bytes([key]) * 20_000) for key in range(40)]
+    fill = [("write", row) for row in rows]
+    script((writer, CREATE, ATOMIC), (writer, ("create_table", "u", []), ATOMIC), (reader, watch(), HERE_OK))
+    script((writer, ("transaction", fill, 0), ("atomic", [OK] * len(fill))), (reader, "begin", ("tid", 2)))
+    for number in range(commits):
+        writer.send(("transaction", [write(number, 0)], 0))
+    for _ in range(20):
+        script((reader, ("match_object", ("u", "_", "_")), rows))
+    for _ in range(commits):
+        same("a commit", writer.receive(), ("reply", ("atomic", [OK])))
+    script((reader, ("transaction", [("match_object", ("u", "_", "_"))] * 3, 0), ("error", "in_transaction")), (reader, "commit", ("atomic", commits + 2)))
+    script((reader, ("transaction", [("match_object", ("u", "_", "_"))] * 3, 0), ("atomic", [rows] * 3)))
+    same("begin mark", reader.event(), ("mnesia_table_begin", "t", "simple"))
+    for number in range(commits):
+        same("event", reader.event(), event(number, 0, number + 3))
+
+
 # A commit that writes the key of its number, which is its age too, as it is sent.
 def alone(number, value):
     return event(number, value, number)
@@ -422,6 +441,7 @@ CASES = [
     ("a slow reader", 3, ["--outbox", "16"], slow(alone)),
     ("a slow reader of batches", 3, ["--outbox", "16", "--batches"], slow(in_batch)),
     ("an outbox of one item", 2, ["--outbox", "1"], narrow),
+    ("beside long replies", 2, ["--outbox", "1024"], beside_long_replies),
     ("batches", 3, ["--batches"], batches),
     ("four move amounts", 5, ["--batches", "--outbox", "1024"], moved),
 ]

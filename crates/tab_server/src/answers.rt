@@ -2,12 +2,13 @@
 
 use crate::gate::Gate;
 use crate::kept::{KEPT, empty};
-use std::alloc::Global;
+use crate::pieces::Pieces;
+use std::alloc::{AllocError, Global};
 use std::io::Write;
 use std::sync::Wait;
-use tab_etf::{Broken, EncodeFault};
+use tab_etf::{Broken, Counted, EncodeFault, FrameFault, Target};
 use tab_model::Reply;
-use tab_proto::append_reply;
+use tab_proto::{append_reply, write_reply};
 use tab_sink::FrameSink;
 
 /// Replies of a session, in order: requests that came in one piece are answered in one write.
@@ -38,6 +39,30 @@ impl From<EncodeFault> for Unwritten {
     }
 }
 
+impl From<FrameFault> for Unwritten {
+    fn from(_: FrameFault) -> Unwritten {
+        Unwritten
+    }
+}
+
+impl From<AllocError> for Unwritten {
+    fn from(_: AllocError) -> Unwritten {
+        Unwritten
+    }
+}
+
+/// So many records are short.
+const FEW: usize = 16;
+
+/// Whether a reply may be much longer than a request.
+fn is_long(reply: &Reply) -> bool {
+    match reply {
+        Reply::Found(records) => records.as_slice().len() > FEW,
+        Reply::AtomicTerms(_) => true,
+        _ => false,
+    }
+}
+
 impl<'a, W: Write, G: Gate> Answers<'a, W, G> {
     /// None yet.
     pub fn new(
@@ -64,11 +89,29 @@ impl<'a, W: Write, G: Gate> Answers<'a, W, G> {
 
     /// Keeps the reply to it, until some are written at once.
     pub fn keep<R: Wait>(&mut self, rt: &R, reply: &Reply) -> Result<(), Unwritten> {
-        append_reply(None, reply, &mut self.frames)?;
+        if is_long(reply) {
+            self.send_long(rt, reply)?;
+        } else {
+            append_reply(None, reply, &mut self.frames)?;
+        }
         self.answered = self.answered.saturating_add(1);
         if self.frames.len() >= KEPT {
             self.write(rt)?;
         }
+        Ok(())
+    }
+
+    /// Sends a reply behind those that are kept. In a piece of its own it would take as much room as it is long, which the C
+    /// library would not give back.
+    fn send_long<R: Wait>(&mut self, rt: &R, reply: &Reply) -> Result<(), Unwritten> {
+        self.frames.reserve(2 * KEPT)?;
+        let mut sink = self.sink.hold(rt);
+        let mut pieces = Counted::new(Pieces {
+            sink: &mut sink,
+            kept: &mut self.frames,
+        });
+        write_reply(&mut pieces, None, reply)?;
+        pieces.flush()?;
         Ok(())
     }
 

@@ -11,6 +11,7 @@ mod connection;
 mod events;
 mod gate;
 mod kept;
+mod pieces;
 mod place;
 mod requests;
 mod seated;

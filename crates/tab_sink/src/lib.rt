@@ -6,7 +6,7 @@ ghost use Rattle.std.specs.Prelude.{◌≡◌, ◌+◌, ℕ, Bool, true, false, 
 ghost use Rattle.std.specs.Io.KnownBytes.{Appends};
 
 use std::io::Write;
-use std::sync::{Mutex, Wait};
+use std::sync::{Mutex, MutexGuard, Wait};
 use tab_etf::{Broken, Counted, give_all};
 
 /// A device that frames are written to, until it fails.
@@ -54,6 +54,11 @@ impl<W: Write> FrameSink<W> {
         FrameSink {
             sink: Mutex::new(Sink::new(writer)),
         }
+    }
+
+    /// The sink, alone: nothing of another's comes between what is put in it meanwhile.
+    pub fn hold<R: Wait>(&self, rt: &R) -> MutexGuard<'_, Sink<W>> {
+        self.sink.lock(rt)
     }
 
     /// Writes whole frames, which no other's come between.
