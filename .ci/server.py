@@ -272,22 +272,22 @@ def narrow(watcher, writer):
 
 
 def beside_long_replies(reader, writer):
-    """A reply that goes out in many pieces stands together, while others' commits are told to the same connection."""
-    commits, rows = 400, [("u", key, bytes([key]) * 20_000) for key in range(40)]
-    fill = [("write", row) for row in rows]
+    """A reply that is longer than a socket's room stands together, while others' commits are told to the same connection."""
+    each, rows = 20, [("u", key, bytes([key]) * 200_000) for key in range(40)]
+    all_rows = ("match_object", ("u", "_", "_"))
     script((writer, CREATE, ATOMIC), (writer, ("create_table", "u", []), ATOMIC), (reader, watch(), HERE_OK))
-    script((writer, ("transaction", fill, 0), ("atomic", [OK] * len(fill))), (reader, "begin", ("tid", 2)))
-    for number in range(commits):
-        writer.send(("transaction", [write(number, 0)], 0))
-    for _ in range(20):
-        script((reader, ("match_object", ("u", "_", "_")), rows))
-    for _ in range(commits):
-        same("a commit", writer.receive(), ("reply", ("atomic", [OK])))
-    script((reader, ("transaction", [("match_object", ("u", "_", "_"))] * 3, 0), ("error", "in_transaction")), (reader, "commit", ("atomic", commits + 2)))
-    script((reader, ("transaction", [("match_object", ("u", "_", "_"))] * 3, 0), ("atomic", [rows] * 3)))
+    script(*((writer, ("transaction", [("write", row)], 0), ("atomic", [OK])) for row in rows))
+    script((reader, "begin", ("tid", len(rows) + 1)))
     same("begin mark", reader.event(), ("mnesia_table_begin", "t", "simple"))
-    for number in range(commits):
-        same("event", reader.event(), event(number, 0, number + 3))
+    for first in range(0, 5 * each, each):
+        reader.send(all_rows)
+        time.sleep(QUIET)
+        script(*((writer, ("transaction", [write(key, 0)], 0), ("atomic", [OK])) for key in range(first, first + each)))
+        same("the reply is whole", reader.receive() == ("reply", rows), True)
+        for key in range(first, first + each):
+            same("event", reader.event(), event(key, 0, len(rows) + 2 + key))
+    script((reader, "commit", ("atomic", len(rows) + 5 * each + 1)))
+    same("a one-shot's", reader.ask(("transaction", [all_rows] * 2, 0)) == ("atomic", [rows] * 2), True)
 
 
 # A commit that writes the key of its number, which is its age too, as it is sent.
