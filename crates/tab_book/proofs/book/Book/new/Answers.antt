@@ -7,5 +7,5 @@ use Rattle.tab_book.proofs.book.Book.new.Goals as goal
 
 pub invariant_of-result : goal.invariant_of-result
 invariant_of-result g c =
-    subst (λ (σ : State). Holds c.args.outbox σ c.in_ok-journal.journal) (sym c.new.ensures)
-    (subst (λ (j : Kept). Holds c.args.outbox (new c.args.limits) j) (sym c.in_ok-journal.ensures) (new_holds c.args.outbox c.args.limits c.args.limits.journal c.requires.room c.requires.journal))
+    subst (λ (σ : State). Holds c.args.outbox _ σ c.in_ok-journal.journal) (sym c.new.ensures)
+    (subst (λ (j : Kept). Holds c.args.outbox _ (new c.args.limits) j) (sym c.in_ok-journal.ensures) (new_holds c.args.outbox _ c.args.limits c.args.limits.journal c.requires.room c.requires.journal))
