@@ -311,6 +311,9 @@ unseen seen σ m places le n s here same = let h = subst (λ (x : Option ℕ). I
 pub join_posts : (σ : State) (n : ℕ) (b : Outbox) → IsSound σ → has_room σ ≡ true → n ≡ σ.greatest + 1 → KeepsPosts σ (with_seat σ n b)
 join_posts σ n b sound room is m s x g h = post_stays σ sound [] n (Join b) m s x g (ap (λ (o : Outcome). seat_at o.state.seats m) (joins_made σ [] n b sound room is) ∙ h)
 
+pub keeps_own : (σ : State) → KeepsPosts σ σ
+keeps_own σ m s r g h = (cc, cc)
+
 -- the next number has joined with a mailbox whose place was not seen before
 pub joined_holds : (outbox seen more : ℕ) (σ τ : State) (j : Kept) → Holds outbox seen σ j → has_room σ ≡ true → (n : ℕ) → n ≡ σ.greatest + 1 → (b : Outbox) (m : ℕ) → b ≡ empty_outbox m → seen ≤ m → m < more
     → τ ≡ with_seat σ n b → IsSound τ → Holds outbox more τ j

@@ -1,4 +1,4 @@
-use Rattle.std.proofs.Common.{◌≡◌, ap, sym, ◌∙◌}
+use Rattle.std.proofs.Common.{ap, sym, ◌∙◌}
 use Rattle.tab_model.specs.Outcome.{Outcome}
 use Rattle.tab_named.specs.Ends.{as_outbox}
 use Rattle.tab_book.proofs.Keeping.{joins_made}
