@@ -1,7 +1,8 @@
 -- What holds of a book's parts is kept by its steps, its folds, its joins and its leaves.
 use Rattle.std.proofs.Common.{◌≡◌, ◌≢◌, ◌≤◌, ◌<◌, ◌⊎◌, inl, inr, ℕ, ◌+◌, List, [], ◌∷◌, ◌++◌, Bool, true, false, ◌&&◌, refl, sym, ap, ◌∙◌, subst, arith, append-nil, length, Option, Some, None}
 use Rattle.std.specs.Bool.{Decides}
-use Rattle.std.specs.Prelude.{Result, Ok, Err, IfOk, OnOk, OnErr, ◌==◌, ◌-◌, ◌^◌, if◌then◌else◌, nat_lt}
+use Rattle.std.specs.List.{AllByRecursion}
+use Rattle.std.specs.Prelude.{Result, Ok, Err, IfOk, IfSome, OnOk, OnErr, ◌==◌, ◌-◌, ◌^◌, if◌then◌else◌, nat_lt}
 use Rattle.std.proofs.lemmas.Bool.{and_parts}
 use Rattle.std.proofs.lemmas.Bool.Decides.{nat_tests}
 use Rattle.tab_model.specs.declared.data.Command.TheVariants as command
@@ -11,50 +12,59 @@ use Rattle.tab_model.specs.declared.data.Reply.TheVariants as reply
 use Rattle.tab_model.specs.History.{empty, slice_since_after}
 use Rattle.tab_model.specs.Standing.{JoinsChannel, MayStand, Stands, is_joined, still_joined, may_enter}
 use Rattle.tab_model.specs.State.{Outbox, Seat, State, new, seat_at, IsSound}
+use Rattle.tab_model.specs.Reached.{IsRising}
 use Rattle.tab_model.specs.Outcome.{Ask, Join, Leave, Retry, Take, DoCommand, Outcome, outcome, nothing, join, by_seat}
 use Rattle.tab_model.specs.Run.{Allowed, entries}
 use Rattle.tab_model.proofs.Entering.{enters_none, seat_never}
-use Rattle.tab_model.proofs.PostsStay.{post_stays}
+use Rattle.tab_model.proofs.PostsStay.{JoinsAs, stays, found_has, post_stays}
 use Rattle.tab_model.proofs.Schedules.{new_sound}
-use Rattle.tab_model.proofs.StandingLemmas.{new_stands, step_stands, fold_stands, forget_stands, history_of, sent_is, sent_grows, left_away}
+use Rattle.tab_model.proofs.ReachedWaits.{new_rising, step_rising}
+use Rattle.tab_model.proofs.StandingLemmas.{new_stands, step_stands, fold_stands, forget_stands, history_of, commits_are, sent_is, watched_is, sent_grows, left_away}
 use Rattle.tab_journal.specs.Journals.{Kept, fold_oldest, forget}
 use Rattle.tab_core.specs.Runs.{takes_no_memory}
 use Rattle.tab_named.specs.Ends.{empty_outbox}
 use Rattle.tab_book.specs.declared.step.Step.{Step}
 use Rattle.tab_book.specs.declared.step.Step.TheVariants as step
-use Rattle.tab_book.specs.Running.{IsRunning, Holds}
+use Rattle.tab_book.specs.Running.{IsRunning, HavePlaces, Holds}
 use Rattle.tab_book.specs.Steps.{is_full, oldest_joined, folded, with_room, with_entries, leaves, has_room, with_seat, StepsFrom, KeepsPosts, ask_of, is_never_refused}
 
-pub new_holds : (outbox : ℕ) (limits : Limits) (n : ℕ) → 1 ≤ outbox → 1 ≤ n → Holds outbox (new limits) (record { base = empty; entries = []; limit = n })
-new_holds outbox limits n room limit = record {
+pub new_holds : (outbox seen : ℕ) (limits : Limits) (n : ℕ) → 1 ≤ outbox → 1 ≤ n → Holds outbox seen (new limits) (record { base = empty; entries = []; limit = n })
+new_holds outbox seen limits n room limit = record {
   room = room;
   limit = limit;
   within = omega arith;
   sound = new_sound limits;
+  rising = new_rising limits;
+  places = tt;
   past = [];
   stands = new_stands limits;
 }
 
-pub running : (outbox : ℕ) (σ : State) (j : Kept) → Holds outbox σ j → IsRunning (record { state = σ; journal = j })
-running outbox σ j k = record {
+pub running : (outbox seen : ℕ) (σ : State) (j : Kept) → Holds outbox seen σ j → IsRunning (record { state = σ; journal = j })
+running outbox seen σ j k = record {
   history = history_of k.past j.base j.entries σ k.stands;
+  commits = commits_are k.past j.base j.entries σ k.stands;
   sound = k.sound;
+  rising = k.rising;
   sent = λ n s here. record { before = Rattle.tab_model.specs.Slices.slice n k.past; is = sent_is k.past j.base j.entries σ k.stands n s here };
+  watching = λ n s t here. watched_is k.past j.base j.entries σ k.stands n s here t;
 }
 
 -- ---- the oldest entry is folded
 
-module _ (outbox : ℕ) (σ : State) where
-  pub fold_holds : (j : Kept) → Holds outbox σ j → Holds outbox σ (folded σ j)
+module _ (outbox seen : ℕ) (σ : State) where
+  pub fold_holds : (j : Kept) → Holds outbox seen σ j → Holds outbox seen σ (folded σ j)
   fold_holds j k = by j.entries refl
     where
-      by : (es : List Entry) → j.entries ≡ es → Holds outbox σ (Rattle.tab_journal.specs.Journals.without_oldest (oldest_joined σ es) j.base es j.limit)
-      by [] e = record { room = k.room; limit = k.limit; within = let w = k.within in omega arith; sound = k.sound; past = k.past; stands = subst (λ (es : List Entry). Stands k.past j.base es σ) e k.stands }
+      by : (es : List Entry) → j.entries ≡ es → Holds outbox seen σ (Rattle.tab_journal.specs.Journals.without_oldest (oldest_joined σ es) j.base es j.limit)
+      by [] e = record { room = k.room; limit = k.limit; within = let w = k.within in omega arith; sound = k.sound; rising = k.rising; places = k.places; past = k.past; stands = subst (λ (es : List Entry). Stands k.past j.base es σ) e k.stands }
       by (x ∷ es) e = record {
         room = k.room;
         limit = k.limit;
         within = shorter x es (subst (λ (ys : List Entry). length ys ≤ j.limit) e k.within);
         sound = k.sound;
+        rising = k.rising;
+        places = k.places;
         past = k.past ++ x ∷ [];
         stands = fold_stands k.past j.base x es σ (subst (λ (ys : List Entry). Stands k.past j.base ys σ) e k.stands);
       }
@@ -62,7 +72,7 @@ module _ (outbox : ℕ) (σ : State) where
           shorter : (y : Entry) (ys : List Entry) → length (y ∷ ys) ≤ j.limit → length ys ≤ j.limit
           shorter y ys h = omega (arith, h)
 
-  pub fold_makes_room : (j : Kept) → Holds outbox σ j → is_full j ≡ true → length (folded σ j).entries < (folded σ j).limit
+  pub fold_makes_room : (j : Kept) → Holds outbox seen σ j → is_full j ≡ true → length (folded σ j).entries < (folded σ j).limit
   fold_makes_room j k full = by j.entries (equal (length j.entries) j.limit full)
     where
       equal : (a b : ℕ) → (a == b) ≡ true → a ≡ b
@@ -72,13 +82,38 @@ module _ (outbox : ℕ) (σ : State) where
       by [] e = let l = k.limit in omega (arith, e, l)
       by (x ∷ es) e = omega (arith, e)
 
-  pub has_entry : (j : Kept) → Holds outbox σ j → is_full j ≡ true → 0 < length j.entries
+  pub has_entry : (j : Kept) → Holds outbox seen σ j → is_full j ≡ true → 0 < length j.entries
   has_entry j k full = let l = k.limit in let e = equal (length j.entries) j.limit full in omega (arith, l, e)
     where
       equal : (a b : ℕ) → (a == b) ≡ true → a ≡ b
       equal a b h = grind (arith, nat_tests)
 
 -- ---- a step
+
+-- a session joins with a new channel's post, whose mailbox has a place that was seen
+abbrev pub HasPlace : ℕ → ℕ → Option ℕ → Option ℕ → Type 0
+HasPlace seen n c m = IfSome m (λ place. place < seen)
+
+abbrev pub JoinsBook : ℕ → Ask → Type 0
+JoinsBook seen (Join b) = ((b.capacity ≡ None) × (b.items ≡ [])) × IfSome b.mailbox (λ place. place < seen)
+JoinsBook seen Leave = Unit {0}
+JoinsBook seen Retry = Unit {0}
+JoinsBook seen Take = Unit {0}
+JoinsBook seen (DoCommand c) = Unit {0}
+
+joins_channel : (seen : ℕ) (a : Ask) → JoinsBook seen a → JoinsChannel a
+joins_channel seen (Join b) h = h.0
+joins_channel seen Leave h = tt
+joins_channel seen Retry h = tt
+joins_channel seen Take h = tt
+joins_channel seen (DoCommand c) h = tt
+
+joins_as : (seen : ℕ) (σ : State) (n : ℕ) (a : Ask) → JoinsBook seen a → JoinsAs (HasPlace seen) σ n a
+joins_as seen σ n (Join b) h = λ e. h.1
+joins_as seen σ n Leave h = tt
+joins_as seen σ n Retry h = tt
+joins_as seen σ n Take h = tt
+joins_as seen σ n (DoCommand c) h = tt
 
 -- an entry comes only where there is room for it
 pub one_fits : (σ : State) (j : Kept) (over : List ℕ) (n : ℕ) (a : Ask) (o : Outcome) → outcome σ over n a ≡ o → (may_enter σ n a ≡ true → length j.entries < j.limit) → entries o.entry ≢ [] → length j.entries < j.limit
@@ -105,21 +140,23 @@ at_most_one : (o : Option Entry) → (entries o ≡ []) ⊎ (length (entries o) 
 at_most_one None = inl refl
 at_most_one (Some e) = inr refl
 
-module _ (outbox : ℕ) (σ : State) (j : Kept) (k : Holds outbox σ j) (over : List ℕ) (n : ℕ) (a : Ask) (o : Outcome) (is : outcome σ over n a ≡ o) where
-  pub next_stands : JoinsChannel a → Stands k.past j.base (j.entries ++ entries o.entry) o.state
-  next_stands joins = subst (λ (x : Outcome). Stands k.past j.base (j.entries ++ entries x.entry) x.state) is (step_stands k.past j.base j.entries σ over n a k.sound joins k.stands)
+module _ (outbox seen : ℕ) (σ : State) (j : Kept) (k : Holds outbox seen σ j) (over : List ℕ) (n : ℕ) (a : Ask) (o : Outcome) (is : outcome σ over n a ≡ o) where
+  pub next_stands : JoinsBook seen a → Stands k.past j.base (j.entries ++ entries o.entry) o.state
+  next_stands joins = subst (λ (x : Outcome). Stands k.past j.base (j.entries ++ entries x.entry) x.state) is (step_stands k.past j.base j.entries σ over n a k.sound (joins_channel seen a joins) k.stands)
 
-  pub step_holds : JoinsChannel a → IsSound o.state → (entries o.entry ≢ [] → length j.entries < j.limit) → Holds outbox o.state (with_entries j (entries o.entry))
+  pub step_holds : JoinsBook seen a → IsSound o.state → (entries o.entry ≢ [] → length j.entries < j.limit) → Holds outbox seen o.state (with_entries j (entries o.entry))
   step_holds joins sound room = record {
     room = k.room;
     limit = k.limit;
     within = longer j.entries (entries o.entry) j.limit (at_most_one o.entry) k.within room;
     sound = sound;
+    rising = subst (λ (x : Outcome). IsRising x.state) is (step_rising σ over n a k.sound k.rising);
+    places = subst (λ (x : Outcome). HavePlaces seen x.state) is (stays (HasPlace seen) σ over n a (joins_as seen σ n a joins) k.places);
     past = k.past;
     stands = next_stands joins;
   }
 
-  pub step_sent : JoinsChannel a → (m : ℕ) (s x : Seat) → seat_at σ.seats m ≡ Some s → seat_at o.state.seats m ≡ Some x → x.outbox.items ≡ s.outbox.items ++ slice_since_after j.base m j.entries (entries o.entry)
+  pub step_sent : JoinsBook seen a → (m : ℕ) (s x : Seat) → seat_at σ.seats m ≡ Some s → seat_at o.state.seats m ≡ Some x → x.outbox.items ≡ s.outbox.items ++ slice_since_after j.base m j.entries (entries o.entry)
   step_sent joins m s x g h = sent_grows k.past j.base j.entries σ k.stands m s g (entries o.entry) o.state x (next_stands joins) h
 
   pub step_posts : KeepsPosts σ o.state
@@ -127,12 +164,14 @@ module _ (outbox : ℕ) (σ : State) (j : Kept) (k : Holds outbox σ j) (over : 
 
 -- ---- who leaves is forgotten
 
-pub forget_holds : (outbox : ℕ) (σ : State) (j : Kept) (n : ℕ) → (MayStand σ n → ⊥) → Holds outbox σ j → Holds outbox σ (forget j n)
-forget_holds outbox σ j n gone k = record {
+pub forget_holds : (outbox seen : ℕ) (σ : State) (j : Kept) (n : ℕ) → (MayStand σ n → ⊥) → Holds outbox seen σ j → Holds outbox seen σ (forget j n)
+forget_holds outbox seen σ j n gone k = record {
   room = k.room;
   limit = k.limit;
   within = k.within;
   sound = k.sound;
+  rising = k.rising;
+  places = k.places;
   past = k.past;
   stands = forget_stands k.past j.base j.entries σ n gone k.stands;
 }
@@ -148,8 +187,8 @@ no_fold σ n a j h = ap (λ b. if b then folded σ j else j) h
 pub a_fold : (σ : State) (n : ℕ) (a : Ask) (j : Kept) → (is_full j && may_enter σ n a) ≡ true → with_room σ n a j ≡ folded σ j
 a_fold σ n a j h = ap (λ b. if b then folded σ j else j) h
 
-pub room_left : (outbox : ℕ) (σ : State) (j : Kept) → Holds outbox σ j → is_full j ≡ false → length j.entries < j.limit
-room_left outbox σ j k h = let w = k.within in grind (arith, nat_tests)
+pub room_left : (outbox seen : ℕ) (σ : State) (j : Kept) → Holds outbox seen σ j → is_full j ≡ false → length j.entries < j.limit
+room_left outbox seen σ j k h = let w = k.within in grind (arith, nat_tests)
 
 -- ---- what is never refused
 
@@ -181,27 +220,27 @@ audits (Ok b) P p h = h.1 p
 audits (Err e) P p h = tt
 
 -- whether or not memory was refused
-pub fold_kept : {A E : Type 0} (r : Result A E) (outbox : ℕ) (σ : State) (j now : Kept) (joined : Bool) → Holds outbox σ j → joined ≡ oldest_joined σ j.entries
-    → OnOk r (now ≡ fold_oldest joined j) → OnErr r (now ≡ j) → Holds outbox σ now
-fold_kept (Ok x) outbox σ j now joined k is ok err = subst (Holds outbox σ) (ap (λ b. fold_oldest b j) (sym is) ∙ sym ok) (fold_holds outbox σ j k)
-fold_kept (Err e) outbox σ j now joined k is ok err = subst (Holds outbox σ) (sym err) k
+pub fold_kept : {A E : Type 0} (r : Result A E) (outbox seen : ℕ) (σ : State) (j now : Kept) (joined : Bool) → Holds outbox seen σ j → joined ≡ oldest_joined σ j.entries
+    → OnOk r (now ≡ fold_oldest joined j) → OnErr r (now ≡ j) → Holds outbox seen σ now
+fold_kept (Ok x) outbox seen σ j now joined k is ok err = subst (Holds outbox seen σ) (ap (λ b. fold_oldest b j) (sym is) ∙ sym ok) (fold_holds outbox seen σ j k)
+fold_kept (Err e) outbox seen σ j now joined k is ok err = subst (Holds outbox seen σ) (sym err) k
 
 -- a Take gives no entry
-pub take_holds : (outbox : ℕ) (σ : State) (j : Kept) → Holds outbox σ j → (over : List ℕ) (n : ℕ) (o : Outcome) → outcome σ over n Take ≡ o → IsSound o.state → Holds outbox o.state j
-take_holds outbox σ j k over n o is sound =
+pub take_holds : (outbox seen : ℕ) (σ : State) (j : Kept) → Holds outbox seen σ j → (over : List ℕ) (n : ℕ) (o : Outcome) → outcome σ over n Take ≡ o → IsSound o.state → Holds outbox seen o.state j
+take_holds outbox seen σ j k over n o is sound =
     let none : entries o.entry ≡ [] = ap (λ (x : Outcome). entries x.entry) (sym is) ∙ ap entries (enters_none σ over n Take (seat_never σ n Take (λ b. refl))) in
-    subst (Holds outbox o.state) (ap (with_entries j) none ∙ (λ i. record j { entries = append-nil j.entries i }))
-    (step_holds outbox σ j k over n Take o is tt sound (λ some. absurd (some none)))
+    subst (Holds outbox seen o.state) (ap (with_entries j) none ∙ (λ i. record j { entries = append-nil j.entries i }))
+    (step_holds outbox seen σ j k over n Take o is tt sound (λ some. absurd (some none)))
 
 -- ---- a step that was made, with its entry and its leaving
 
-module _ (outbox : ℕ) (σ : State) (j : Kept) (k : Holds outbox σ j) (over : List ℕ) (n : ℕ) (a : Ask) (o : Outcome) (is : outcome σ over n a ≡ o) (joins : JoinsChannel a) where
+module _ (outbox seen : ℕ) (σ : State) (j : Kept) (k : Holds outbox seen σ j) (over : List ℕ) (n : ℕ) (a : Ask) (o : Outcome) (is : outcome σ over n a ≡ o) (joins : JoinsBook seen a) where
   pub made_holds : IsSound o.state → (may_enter σ n a ≡ true → length j.entries < j.limit) → (entered now : Kept) → entered ≡ with_entries j (entries o.entry)
-      → (b : Bool) → b ≡ leaves σ n a → now ≡ (if b then forget entered n else entered) → Holds outbox o.state now
-  made_holds sound room entered now e b l f = by b l (subst (Holds outbox o.state) (sym e) (step_holds outbox σ j k over n a o is joins sound (one_fits σ j over n a o is room))) f
+      → (b : Bool) → b ≡ leaves σ n a → now ≡ (if b then forget entered n else entered) → Holds outbox seen o.state now
+  made_holds sound room entered now e b l f = by b l (subst (Holds outbox seen o.state) (sym e) (step_holds outbox seen σ j k over n a o is joins sound (one_fits σ j over n a o is room))) f
     where
-      by : (b : Bool) → b ≡ leaves σ n a → Holds outbox o.state entered → now ≡ (if b then forget entered n else entered) → Holds outbox o.state now
-      by true l h f = subst (Holds outbox o.state) (sym f) (forget_holds outbox o.state entered n (gone l) h)
+      by : (b : Bool) → b ≡ leaves σ n a → Holds outbox seen o.state entered → now ≡ (if b then forget entered n else entered) → Holds outbox seen o.state now
+      by true l h f = subst (Holds outbox seen o.state) (sym f) (forget_holds outbox seen o.state entered n (gone l) h)
         where
           gone : true ≡ leaves σ n a → MayStand o.state n → ⊥
           gone l = of_leave a is l
@@ -212,7 +251,7 @@ module _ (outbox : ℕ) (σ : State) (j : Kept) (k : Holds outbox σ j) (over : 
               of_leave Retry q l = cc
               of_leave Take q l = cc
               of_leave (DoCommand c) q l = cc
-      by false l h f = subst (Holds outbox o.state) (sym f) h
+      by false l h f = subst (Holds outbox seen o.state) (sym f) h
 
   pub made_steps : Allowed σ over n a → (entered now : Kept) → entered ≡ with_entries j (entries o.entry) → (b : Bool) → b ≡ leaves σ n a → now ≡ (if b then forget entered n else entered)
       → StepsFrom σ j n a o.reply (record { state = o.state; journal = now })
@@ -222,14 +261,14 @@ module _ (outbox : ℕ) (σ : State) (j : Kept) (k : Holds outbox σ j) (over : 
     allowed = allowed;
     core = is;
     entered = f ∙ (λ i. if l i then forget (e i) n else e i);
-    sent = step_sent outbox σ j k over n a o is joins;
+    sent = step_sent outbox seen σ j k over n a o is joins;
   }
 
 -- a session's own step joins no one
-pub own_ask : (s : Step) → JoinsChannel (ask_of s)
-own_ask step.Leave = tt
-own_ask (step.Do c) = tt
-own_ask step.Retry = tt
+pub own_ask : (seen : ℕ) (s : Step) → JoinsBook seen (ask_of s)
+own_ask seen step.Leave = tt
+own_ask seen (step.Do c) = tt
+own_ask seen step.Retry = tt
 
 -- ---- the next number joins
 
@@ -244,14 +283,40 @@ joins_made σ over n b sound room is = by (seat_at σ.seats n) refl
     by None e = λ i. join σ n b (above i) ((and_parts (nat_lt σ.greatest (2 ^ 32 - 1)) (nat_lt (length σ.seats) σ.limits.sessions) room).1 i)
     by (Some s) e = let le = sound.joined n s e in absurd (omega (arith, le, is))
 
-pub join_holds : (outbox : ℕ) (σ : State) (j : Kept) → Holds outbox σ j → (over : List ℕ) (n : ℕ) (b : Outbox) (o : Outcome) → outcome σ over n (Join b) ≡ o → (b.capacity ≡ None) × (b.items ≡ []) → IsSound o.state → Holds outbox o.state j
-join_holds outbox σ j k over n b o is fresh sound =
+pub join_holds : (outbox seen : ℕ) (σ : State) (j : Kept) → Holds outbox seen σ j → (over : List ℕ) (n : ℕ) (b : Outbox) (o : Outcome) → outcome σ over n (Join b) ≡ o → JoinsBook seen (Join b) → IsSound o.state → Holds outbox seen o.state j
+join_holds outbox seen σ j k over n b o is new sound =
     let none : entries o.entry ≡ [] = ap (λ (x : Outcome). entries x.entry) (sym is) ∙ ap entries (enters_none σ over n (Join b) (seat_never σ n (Join b) (λ c. refl))) in
-    subst (Holds outbox o.state) (ap (with_entries j) none ∙ (λ i. record j { entries = append-nil j.entries i }))
-    (step_holds outbox σ j k over n (Join b) o is fresh sound (λ some. absurd (some none)))
+    subst (Holds outbox seen o.state) (ap (with_entries j) none ∙ (λ i. record j { entries = append-nil j.entries i }))
+    (step_holds outbox seen σ j k over n (Join b) o is new sound (λ some. absurd (some none)))
 
-pub new_post : (b : Outbox) → (m : ℕ) × (b ≡ empty_outbox m) → (b.capacity ≡ None) × (b.items ≡ [])
-new_post b h = (ap (λ (x : Outbox). x.capacity) h.1, ap (λ (x : Outbox). x.items) h.1)
+-- of a mailbox with a place that was not seen before
+pub new_post : (seen : ℕ) (b : Outbox) (m : ℕ) → b ≡ empty_outbox m → m < seen → JoinsBook seen (Join b)
+new_post seen b m is within = ((ap (λ (x : Outbox). x.capacity) is, ap (λ (x : Outbox). x.items) is), subst (λ (x : Option ℕ). IfSome x (λ place. place < seen)) (sym (ap (λ (x : Outbox). x.mailbox) is)) within)
+
+-- more of the register is seen
+pub holds_more : (outbox seen more : ℕ) (σ : State) (j : Kept) → seen ≤ more → Holds outbox seen σ j → Holds outbox more σ j
+holds_more outbox seen more σ j le k = record { room = k.room; limit = k.limit; within = k.within; sound = k.sound; rising = k.rising; places = by σ.seats k.places; past = k.past; stands = k.stands }
+  where
+    one : (m : Option ℕ) → IfSome m (λ place. place < seen) → IfSome m (λ place. place < more)
+    one None h = h
+    one (Some place) h = omega (arith, h, le)
+
+    by : (ss : List Seat) → AllByRecursion (λ (s : Seat). IfSome s.outbox.mailbox (λ place. place < seen)) ss → AllByRecursion (λ (s : Seat). IfSome s.outbox.mailbox (λ place. place < more)) ss
+    by [] h = tt
+    by (s ∷ ss) h = (one s.outbox.mailbox h.0, by ss h.1)
+
+pub unseen : (seen : ℕ) (σ : State) (m : ℕ) → HavePlaces seen σ → seen ≤ m → (n : ℕ) (s : Seat) → seat_at σ.seats n ≡ Some s → s.outbox.mailbox ≢ Some m
+unseen seen σ m places le n s here same = let h = subst (λ (x : Option ℕ). IfSome x (λ place. place < seen)) same (found_has (HasPlace seen) σ.seats n s places here) in absurd (omega (arith, h, le))
 
 pub join_posts : (σ : State) (n : ℕ) (b : Outbox) → IsSound σ → has_room σ ≡ true → n ≡ σ.greatest + 1 → KeepsPosts σ (with_seat σ n b)
 join_posts σ n b sound room is m s x g h = post_stays σ sound [] n (Join b) m s x g (ap (λ (o : Outcome). seat_at o.state.seats m) (joins_made σ [] n b sound room is) ∙ h)
+
+pub keeps_own : (σ : State) → KeepsPosts σ σ
+keeps_own σ m s r g h = (cc, cc)
+
+-- the next number has joined with a mailbox whose place was not seen before
+pub joined_holds : (outbox seen more : ℕ) (σ τ : State) (j : Kept) → Holds outbox seen σ j → has_room σ ≡ true → (n : ℕ) → n ≡ σ.greatest + 1 → (b : Outbox) (m : ℕ) → b ≡ empty_outbox m → seen ≤ m → m < more
+    → τ ≡ with_seat σ n b → IsSound τ → Holds outbox more τ j
+joined_holds outbox seen more σ τ j k room n is b m new le within made sound =
+    subst (λ (x : State). Holds outbox more x j) (sym made)
+    (join_holds outbox more σ j (holds_more outbox seen more σ j (omega (arith, le, within)) k) [] n b (nothing (with_seat σ n b) reply.Done) (joins_made σ [] n b k.sound room is) (new_post more b m new within) (subst IsSound made sound))

@@ -1,11 +1,14 @@
 -- What holds of a book whenever it is seen: its journal replays to its tables, its transactions were told right, and each
 -- session was sent what it is owed (this project's own).
-use Rattle.std.specs.Prelude.{◌≡◌, ◌≤◌, ℕ, List, ◌++◌, Some, length}
+use Rattle.std.specs.Prelude.{◌≡◌, ◌≤◌, ◌<◌, ℕ, List, ◌++◌, Some, IfSome, length}
+use Rattle.std.specs.List.{AllByRecursion}
 use Rattle.tab_model.specs.declared.data.Entry.{Entry}
 use Rattle.tab_model.specs.declared.data.Item.{Item}
-use Rattle.tab_model.specs.History.{slice_since, IsHistory}
+use Rattle.tab_model.specs.Log.{commits_from}
+use Rattle.tab_model.specs.History.{in_force_since, slice_since, IsHistory}
 use Rattle.tab_model.specs.Standing.{Stands}
-use Rattle.tab_model.specs.State.{Seat, State, seat_at, IsSound}
+use Rattle.tab_model.specs.State.{Seat, State, seat_at, level_in, IsSound}
+use Rattle.tab_model.specs.Reached.{IsRising}
 use Rattle.tab_journal.specs.Journals.{Kept}
 
 pub record Running : Type 0 where
@@ -19,16 +22,28 @@ pub record EndsWith (all xs : List Item) : Type 0 where
 pub record IsRunning (b : Running) : Type 0 where
   -- the journal is legal from its base and ends in the tables
   pub history : IsHistory b.journal.base b.journal.entries b.state.tables
+  -- so many commits were made
+  pub commits : b.state.commits ≡ commits_from b.journal.base.commits b.journal.entries
   -- each open transaction was told what it is told alone, on the tables as they are now
   pub sound : IsSound b.state
+  -- ages rise along every wait, and each queued request is of its session's open transaction
+  pub rising : IsRising b.state
   -- the last that a joined session was sent is what it is owed since the base
   pub sent : (n : ℕ) (s : Seat) → seat_at b.state.seats n ≡ Some s → EndsWith s.outbox.items (slice_since b.journal.base n b.journal.entries)
+  -- and it watches what is in force since the base
+  pub watching : (n : ℕ) (s : Seat) (t : List ℕ) → seat_at b.state.seats n ≡ Some s → level_in s.watching t ≡ in_force_since b.journal.base n b.journal.entries t
 
--- what a book's parts have to do with each other; past is what was folded into the base
-pub record Holds (outbox : ℕ) (σ : State) (journal : Kept) : Type 0 where
+-- each session's mailbox has a place among the first of the register
+abbrev pub HavePlaces : ℕ → State → Type 0
+HavePlaces seen σ = AllByRecursion (λ (s : Seat). IfSome s.outbox.mailbox (λ place. place < seen)) σ.seats
+
+-- what a book's parts have to do with each other; seen is how much of the register was seen, past what was folded into the base
+pub record Holds (outbox seen : ℕ) (σ : State) (journal : Kept) : Type 0 where
   pub room : 1 ≤ outbox
   pub limit : 1 ≤ journal.limit
   pub within : length journal.entries ≤ journal.limit
   pub sound : IsSound σ
+  pub rising : IsRising σ
+  pub places : HavePlaces seen σ
   pub past : List Entry
   pub stands : Stands past journal.base journal.entries σ

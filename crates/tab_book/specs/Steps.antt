@@ -1,6 +1,6 @@
 -- What the calls of a book do (this project's own). A step is the core's, and its entry is put into the journal, from which
 -- the oldest goes first where it is full.
-use Rattle.std.specs.Prelude.{◌≡◌, ◌⊎◌, ◌+◌, ◌-◌, ◌^◌, ℕ, List, [], ◌∷◌, ◌++◌, Bool, true, false, ◌&&◌, ◌==◌, nat_lt, if◌then◌else◌, Option, Some, length}
+use Rattle.std.specs.Prelude.{◌≡◌, ◌≢◌, ◌⊎◌, ◌+◌, ◌-◌, ◌^◌, ℕ, List, [], ◌∷◌, ◌++◌, Bool, true, false, ◌&&◌, ◌==◌, nat_lt, if◌then◌else◌, Option, Some, length}
 use Rattle.tab_model.specs.declared.data.Entry.{Entry}
 use Rattle.tab_model.specs.declared.data.Item.{Item}
 use Rattle.tab_model.specs.declared.data.Reply.{Reply}
@@ -96,6 +96,8 @@ pub record Joins (old : Running) (session mailbox : ℕ) (taken : List Item) (ne
   pub number : session ≡ old.state.greatest + 1
   pub state : new.state ≡ with_seat old.state session (empty_outbox mailbox)
   pub nothing_taken : taken ≡ []
+  -- it is no mailbox of a session that sits
+  pub fresh : (n : ℕ) (s : Seat) → seat_at old.state.seats n ≡ Some s → s.outbox.mailbox ≢ Some mailbox
   pub journal : new.journal ≡ old.journal
 
 abbrev pub Refuses : Running → JoinFault → Running → Type 0

@@ -1,9 +1,9 @@
 //! A core over mailboxes, and its journal.
 
-ghost use Rattle.std.specs.Prelude.{◌≡◌, ◌≤◌, ◌+◌, ℕ, [], true, IfOk, IfErr, OnOk, OnErr};
+ghost use Rattle.std.specs.Prelude.{◌≡◌, ◌≤◌, ◌+◌, [], true, IfOk, IfErr, OnOk, OnErr};
 ghost use Rattle.tab_model.specs.History.{empty as empty_base};
-ghost use Rattle.tab_model.specs.State.{new as new_state};
-ghost use Rattle.tab_named.specs.Ends.{as_outbox, empty_outbox, mailbox_of, received};
+ghost use Rattle.tab_model.specs.State.{new as new_state, IsSound};
+ghost use Rattle.tab_named.specs.Ends.{as_outbox, mailbox_of, received};
 ghost use Rattle.tab_book.specs.Running.{IsRunning};
 ghost use Rattle.tab_book.specs.Steps.{Joins, Refuses, has_room as has_room_of, with_seat, KeepsPosts};
 
@@ -34,6 +34,7 @@ pub struct Book<H: House> {
 impl<H: House> Model for Book<H> {
     ghost use Rattle.std.specs.Coded.{codes};
     ghost use Rattle.tab_term.specs.Code.{term_code, terms_code, pairs_code};
+    ghost use Rattle.std.specs.Prelude.{length};
     ghost use Rattle.tab_book.specs.Running.{Running, Holds};
 
     ghost Value = { Running };
@@ -42,7 +43,7 @@ impl<H: House> Model for Book<H> {
 
     ghost view = { λ a. record { state = a.core; journal = a.journal } };
 
-    ghost invariant = { λ a. Holds a.outbox a.core a.journal };
+    ghost invariant = { λ a. Holds a.outbox (length a.front) a.core a.journal };
 }
 
 impl<H: House> Book<H> {
@@ -98,7 +99,7 @@ impl<H: House> Book<H> {
             .audit(self.alloc, self.journal.base(), self.core.tables())
     }
 
-    /// A session joins with this mailbox, whose receiving end is given out.
+    /// A session joins with this mailbox, whose receiving end is given out. It is no mailbox of a session that sits.
     pub fn join(&mut self, mailbox: NewMailbox<H>) -> Result<(u32, SeatInbox<H>), JoinFault>
         ensures ok { IfOk result (λ r. Joins self.old r.0 (mailbox_of r.1) (received r.1) self.new) }
         ensures err { IfErr result (λ e. Refuses self.old e self.new) }
@@ -109,23 +110,10 @@ impl<H: House> Book<H> {
         }
         let session = self.core.greatest() + 1;
         let (post, inbox) = mailbox.enter(&self.register, &mut self.front, self.house);
-        match self.seat(session, post) {
+        match seat(&mut self.core, session, post) {
             Ok(()) => Ok((session, inbox)),
             Err(_) => Err(JoinFault::NoMemory),
         }
-    }
-
-    /// The session joins with this post.
-    fn seat(&mut self, session: u32, post: SeatPost<H>) -> Result<(), AllocError>
-        requires room { has_room_of self.old.state ≡ true }
-        requires number { session ≡ self.old.state.greatest + 1 }
-        requires new { (m : ℕ) × (as_outbox post ≡ empty_outbox m) }
-        ensures ok { OnOk result (self.new ≡ record { state = with_seat self.old.state session (as_outbox post); journal = self.old.journal }) }
-        ensures err { OnErr result (self.new ≡ self.old) }
-    {
-        let stepped = self.core.step(session, Step::Join(post))?;
-        drop(stepped.into_reply());
-        Ok(())
     }
 
     /// How many items a mailbox has room for.
@@ -152,4 +140,22 @@ impl<H: House> Book<H> {
     {
         self.core.greatest() < u32::MAX && self.core.admits(self.core.greatest() + 1)
     }
+}
+
+/// The session joins with this post.
+fn seat<H: House>(
+    core: &mut Core<SeatPost<H>>,
+    session: u32,
+    post: SeatPost<H>,
+) -> Result<(), AllocError>
+    requires sound { IsSound core.old }
+    requires room { has_room_of core.old ≡ true }
+    requires number { session ≡ core.old.greatest + 1 }
+    ensures ok { OnOk result (core.new ≡ with_seat core.old session (as_outbox post)) }
+    ensures err { OnErr result (core.new ≡ core.old) }
+    ensures sound { IsSound core.new }
+{
+    let stepped = core.step(session, Step::Join(post))?;
+    drop(stepped.into_reply());
+    Ok(())
 }

@@ -6,9 +6,11 @@ use Rattle.tab_model.specs.declared.data.Item.{Item}
 use Rattle.tab_model.specs.declared.data.Reply.{Reply}
 use Rattle.tab_model.specs.declared.data.Reply.TheVariants as reply
 use Rattle.tab_model.specs.State.{State, IsSound}
+use Rattle.tab_model.specs.Reached.{IsRising}
 use Rattle.tab_model.specs.Outcome.{Ask, outcome}
 use Rattle.tab_model.specs.Run.{entries, taken_now, JoinsEmpty, IsTied, item_of}
 use Rattle.tab_model.proofs.SoundSteps.{step_sound}
+use Rattle.tab_model.proofs.ReachedWaits.{step_rising}
 use Rattle.tab_model.proofs.TiedSteps.{step_tied}
 use Rattle.tab_core.specs.declared.step.Step.{Step}
 use Rattle.tab_manager.specs.declared.step.Stepped.{Stepped}
@@ -72,6 +74,17 @@ step_takes σ μ a r es log taken (inr (takes, rp, en, st)) empty sound tied = (
   subst IsSound (sym st) sound,
   subst (λ (l : List Entry). IsTied μ (log ++ l) (λ m. taken m ++ taken_now m a.0 r)) (sym en) (quiet_tied σ μ a.0 r log taken st (ap item_of rp) tied),
 )
+
+-- what every reached state has
+step_keeps : (σ μ : State) (a : ℕ × Ask) (r : Reply) (es : List Entry) → StepsOrNoMemory σ a r es μ → IsSound σ → IsRising σ → IsSound μ × IsRising μ
+step_keeps σ μ a r es (inl (over, allowed, st, rp, en)) sound rising = (subst IsSound st (step_sound σ over a.0 a.1 sound), subst IsRising st (step_rising σ over a.0 a.1 sound rising))
+step_keeps σ μ a r es (inr (takes, rp, en, st)) sound rising = (subst IsSound (sym st) sound, subst IsRising (sym st) rising)
+
+pub run_keeps : (σ τ : State) (asks : List (ℕ × Ask)) (rs : List Reply) (run : List Entry) → RunsTo σ asks rs run τ → IsSound σ → IsRising σ → IsSound τ × IsRising τ
+run_keeps σ τ [] [] run ran sound rising = (subst IsSound ran.1 sound, subst IsRising ran.1 rising)
+run_keeps σ τ (a ∷ asks) [] run ran sound rising = absurd ran
+run_keeps σ τ [] (r ∷ rs) run ran sound rising = absurd ran
+run_keeps σ τ (a ∷ asks) (r ∷ rs) run (μ, es, rest, t, ran, is) sound rising = let one = step_keeps σ μ a r es t sound rising in run_keeps μ τ asks rs rest ran one.0 one.1
 
 -- whatever history led to the first state goes on to the last
 pub history_goes_on : (σ τ : State) (asks : List (ℕ × Ask)) (rs : List Reply) (run : List Entry) → RunsTo σ asks rs run τ → AllJoinEmpty asks → IsSound σ → (log : List Entry) (taken : ℕ → List Item) → IsTied σ log taken

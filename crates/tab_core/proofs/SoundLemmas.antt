@@ -1,9 +1,12 @@
--- A core is sound where its manager is: who watches has no part in it.
+-- A core is sound where its manager is, and ages rise along its waits: who watches has no part in it.
 use Rattle.std.proofs.Common.{◌≡◌, ◌≢◌, ℕ, ◌<◌, ◌≤◌, List, [], ◌∷◌, Bool, true, false, refl, sym, ap, ◌∙◌, subst, Option, Some, None}
 use Rattle.std.specs.Prelude.{map, option_map}
 use Rattle.tab_model.specs.Alone.{replies, start}
-use Rattle.tab_model.specs.State.{Transaction, Seat, State, seat_at, transaction_at, moves_in, told_in_transaction, age_in, AreDistinct, IsSound}
+use Rattle.tab_model.specs.State.{Transaction, Seat, State, seat_at, transaction_at, moves_in, told_in_transaction, age_in, queued_in, AreDistinct, IsSound}
+use Rattle.tab_model.specs.Reached.{IsRising}
 use Rattle.tab_model.specs.Locks.{Apart, locks_of}
+use Rattle.tab_model.specs.Ages.{Owned, RisesAfter}
+use Rattle.tab_model.proofs.ReachedWaits.{held_mapped, owned_same}
 use Rattle.tab_subs.specs.Subscribers.{Subscriber}
 use Rattle.tab_core.specs.Seats.{seat_with, state_with}
 use Rattle.tab_core.proofs.Frames.{at_dressed, transactions_dressed}
@@ -30,4 +33,10 @@ sound_with bs σ k = record {
   joined = λ n s h. let x = seated bs (seat_at σ.seats n) s (sym (at_dressed bs σ.seats n) ∙ h) in k.joined n x.0 x.1;
   distinct = distinct_with bs σ.seats k.distinct;
   ordered = k.ordered;
+}
+
+pub rising_with : (bs : List Subscriber) (σ : State) → IsRising σ → IsRising (state_with bs σ)
+rising_with bs σ k = record {
+  rises = subst (λ (xs : List Owned). RisesAfter xs [] (queued_in σ.queue)) (sym (held_mapped (seat_with bs) (λ x. refl) σ.seats)) k.rises;
+  owners = owned_same (transaction_at σ) (transaction_at (state_with bs σ)) σ.queue (transactions_dressed bs σ) k.owners;
 }

@@ -3,6 +3,7 @@ use Rattle.std.specs.Prelude.{◌≡◌, ℕ, List, [], Option, Some, None, map}
 use Rattle.tab_model.specs.declared.data.Entry.{Entry}
 use Rattle.tab_model.specs.declared.data.Entry.TheVariants.{Committed, Changed, Subscribed, Unsubscribed}
 use Rattle.tab_model.specs.State.{Watch, Outbox, Seat, State, IsSound}
+use Rattle.tab_model.specs.Reached.{IsRising}
 use Rattle.tab_manager.specs.Seats.{no_outbox}
 use Rattle.tab_subs.specs.Subscribers.{Subscriber, at, numbers, overflow_of}
 
@@ -36,6 +37,7 @@ AreTheSame bs σ = numbers bs ≡ map (λ (s : Seat). s.number) σ.seats
 pub record IsKept (bs : List Subscriber) (σ : State) : Type 0 where
   pub same : AreTheSame bs σ
   pub sound : IsSound σ
+  pub rising : IsRising σ
 
 -- an entry with those who overflowed in it
 abbrev pub with_overflowed : List ℕ → Entry → Entry

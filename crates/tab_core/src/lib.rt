@@ -9,6 +9,7 @@ ghost use Rattle.std.specs.Prelude.{◌≡◌, ◌≤◌, ◌++◌, ℕ, List, I
 ghost use Rattle.tab_model.specs.declared.data.Entry.{Entry as EntryOf};
 ghost use Rattle.tab_model.specs.declared.data.Item.{Item as ItemOf};
 ghost use Rattle.tab_model.specs.State.{new, IsSound};
+ghost use Rattle.tab_model.specs.Reached.{IsRising};
 ghost use Rattle.tab_model.specs.Outcome.{DoCommand};
 ghost use Rattle.tab_model.specs.Run.{IsTied};
 ghost use Rattle.tab_core.specs.Runs.{ask_of, asks_of, AllJoinEmpty, StepsTo, StepsOrNoMemory, RunsTo, taken_in, takes_no_memory};
@@ -33,7 +34,8 @@ use tab_world::World;
 /// A core: tables, sessions, and what each of them is told.
 ///
 /// Contracts see it as one plain state. Whenever a core stands, each open transaction was told what it is told
-/// alone on the tables as they are, and no two transactions hold locks that conflict (`IsSound`).
+/// alone on the tables as they are, and no two transactions hold locks that conflict (`IsSound`); ages rise along every wait,
+/// and each queued request is of its session's open transaction (`IsRising`).
 #[derive(Drop)]
 pub struct Core<P: Post> {
     alloc: Global,
@@ -75,6 +77,7 @@ impl<P: Post + Drop> Core<P> {
         ensures free { takes_no_memory self.old session (ask_of P.outbox step) ≡ true → IsOk result }
         ensures err { OnErr result (self.new ≡ self.old) }
         ensures sound { IsSound self.new }
+        ensures rising { IsRising self.new }
     {
         let stepped = self.make(session, step);
         // Known of the core from here on is that it is sound.
@@ -118,9 +121,11 @@ impl<P: Post + Drop> Core<P> {
         steps: Vec<(u32, Step<P>)>,
     ) -> Result<Vec<Told>, AllocError>
         requires { AllJoinEmpty (asks_of P.outbox steps.items) }
-        ensures run { IfOk result (λ rs. (log : List EntryOf) × RunsTo self.old (asks_of P.outbox steps.items) rs.items log self.new) }
-        ensures history { IfOk result (λ rs. (log : List EntryOf) (taken : ℕ → List ItemOf) → IsTied self.old log taken → (more : List EntryOf) × IsTied self.new (log ++ more) (λ m. taken m ++ taken_in m (asks_of P.outbox steps.items) rs.items)) }
+        ensures run { IfOk result (λ rs. (log : List EntryOf) × RunsTo self.old (asks_of P.outbox steps.items) rs.items log self.new
+            × ((earlier : List EntryOf) (taken : ℕ → List ItemOf) → IsTied self.old earlier taken → IsTied self.new (earlier ++ log) (λ m. taken m ++ taken_in m (asks_of P.outbox steps.items) rs.items))) }
         ensures err { OnErr result (self.new ≡ self.old) }
+        ensures sound { IsSound self.new }
+        ensures rising { IsRising self.new }
     {
         // Known of the core from here on is that it is sound.
         let _ = &self.manager;

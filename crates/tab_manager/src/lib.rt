@@ -11,6 +11,7 @@ ghost use Rattle.tab_model.specs.Events.{change_all, surviving};
 ghost use Rattle.tab_model.specs.Outcome.{DoCommand};
 ghost use Rattle.tab_model.specs.Standing.{levels_of};
 ghost use Rattle.tab_model.specs.State.{Transaction, new, seat_at, is_waiting, IsSound};
+ghost use Rattle.tab_model.specs.Reached.{IsRising};
 ghost use Rattle.tab_manager.specs.Outermost.{outermost, ending_of, told_of};
 ghost use Rattle.tab_manager.specs.Steps.{ask_of, is_quiet_step, StepsTo, takes_no_memory};
 
@@ -40,7 +41,8 @@ use tab_world::World;
 /// The sessions' transactions and locks, and the tables.
 ///
 /// Contracts see it as one plain state. Whenever a manager stands, each open transaction was told what it is told
-/// alone on the tables as they are, and no two transactions hold locks that conflict (`IsSound`).
+/// alone on the tables as they are, and no two transactions hold locks that conflict (`IsSound`); ages rise along every wait,
+/// and each queued request is of its session's open transaction (`IsRising`).
 #[derive(Drop)]
 pub struct Manager {
     machine: Machine,
@@ -80,6 +82,7 @@ impl Manager {
         ensures free { takes_no_memory self.old session (ask_of step) ≡ true → IsOk result }
         ensures err { OnErr result (self.new ≡ self.old) }
         ensures sound { IsSound self.new }
+        ensures rising { IsRising self.new }
     {
         self.machine.step(session, step)
     }
@@ -97,6 +100,7 @@ impl Manager {
         requires { (t : Transaction) × (outermost self.old session ≡ Some t) × (tables ≡ change_all self.old.tables (surviving t.moves t.told)) }
         ensures done { StepsTo self.old session (DoCommand command.Commit) result self.new }
         ensures sound { IsSound self.new }
+        ensures rising { IsRising self.new }
     {
         self.machine.commit_as(session, tables)
     }

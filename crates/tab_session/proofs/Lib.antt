@@ -6,3 +6,4 @@ mod BoundedSteps
 mod DriverSteps
 mod DriverOnce
 mod RunLaws
+mod AccountsLemmas

@@ -1,22 +1,18 @@
--- What a run over payloads leaves: the history goes on, an answer follows from its payload, and a session alone never waits.
-use Rattle.std.proofs.Common.{◌≡◌, ◌≢◌, ℕ, ℤ, pos, suc, List, [], ◌∷◌, ◌++◌, length, refl, sym, ap, subst, ◌∙◌, inl, inr, append_assoc, append-nil, Bool, true, false, Option, Some, Result, Ok, Err}
+-- What a run over payloads leaves: it leads from state to state, an answer follows from its payload, and a session alone never waits.
+use Rattle.std.proofs.Common.{◌≡◌, ◌≢◌, ℕ, ℤ, pos, suc, List, [], ◌∷◌, length, refl, sym, ap, subst, ◌∙◌, inl, inr, Bool, true, false, Option, Some, Result, Ok, Err}
 use Rattle.std.specs.Prelude.{◌==◌, if◌then◌else◌}
 use Rattle.std.proofs.lemmas.Bool.{false≢true}
 use Rattle.tab_term.specs.Data.{PlainTerm}
 use Rattle.tab_etf.specs.Reading.{whole}
 use Rattle.tab_etf.specs.declared.fault.Stop.{Stop}
-use Rattle.tab_model.specs.declared.data.Entry.{Entry}
-use Rattle.tab_model.specs.declared.data.Item.{Item}
 use Rattle.tab_model.specs.declared.data.Command.{Command}
 use Rattle.tab_model.specs.declared.data.Command.TheVariants as command
 use Rattle.tab_model.specs.declared.data.Reply.{Reply}
 use Rattle.tab_model.specs.declared.data.Reply.TheVariants as reply
-use Rattle.tab_model.specs.State.{State, IsSound}
+use Rattle.tab_model.specs.State.{State}
 use Rattle.tab_model.specs.Outcome.{Ask, DoCommand, Outcome, outcome}
 use Rattle.tab_model.specs.Refusals.{IsSole}
-use Rattle.tab_model.specs.Run.{item_of, entries, taken_now, JoinsEmpty, IsTied}
-use Rattle.tab_model.proofs.SoundSteps.{step_sound}
-use Rattle.tab_model.proofs.TiedSteps.{step_tied}
+use Rattle.tab_model.specs.Run.{item_of, taken_now, JoinsEmpty}
 use Rattle.tab_model.proofs.SessionAlone.{stays_sole, no_wait, no_restart}
 use Rattle.tab_proto.specs.declared.request.Request.{Request}
 use Rattle.tab_proto.specs.declared.request.Request.TheVariants as request
@@ -28,41 +24,16 @@ use Rattle.tab_session.specs.OneSessions.{Ran, IsDriven}
 use Rattle.tab_session.specs.Bounded.{IsBounded}
 use Rattle.tab_session.specs.AnsweredPayloads.{ask_for, is_step, IsDrivenRequest, IsMadeOf, IsNumberOf, AnsweredTerm, AnsweredRead, Answered, AnsweredAll, NoneRefused, NoneWaits, AreOf, taken_by, IsOf}
 use Rattle.tab_session.specs.Replays.{IsRun}
+use Rattle.tab_session.specs.Accounts.{nothing_done, of_step, of_calls, of_request, of_read, of_answer, of_all, account}
 use Rattle.tab_oneshot.specs.Calls.{Call, Asked, Waited, Again}
 use Rattle.tab_oneshot.proofs.LastReplies.{is_handed, AllHanded, Awaited, Answers, last_reply, all_handed}
 use Rattle.tab_session.proofs.BoundedSteps.{JoinsBounded, stays_bounded, is_settled}
 use Rattle.tab_session.proofs.DriverSteps.{no_item}
 use Rattle.tab_session.proofs.DriverOnce.{driven_once}
-use Rattle.tab_core.proofs.RunsLemmas.{rests_tied, quiet_tied}
+use Rattle.tab_session.proofs.AccountsLemmas.{Leads, stays, steps, then_leads, leads_as}
 use Rattle.std.proofs.lemmas.List.Elements.{All-nil, All-cons, All-head, All-tail}
 
--- ---- a step that was made
-
--- the history of a state after an answer under a session
-record Onward (μ : State) (log : List Entry) (taken : ℕ → List Item) : Type 0 where
-  pub sound : IsSound μ
-  pub more : List Entry
-  pub tied : IsTied μ (log ++ more) taken
-
-made_onward : (σ μ : State) (n : ℕ) (a : Ask) (r : Reply) (log : List Entry) (taken : ℕ → List Item) → JoinsEmpty a → IsStepMade σ n a r μ → IsSound σ → IsTied σ log taken → Onward μ log (λ m. taken m ++ taken_now m n r)
-made_onward σ μ n a r log taken empty made sound tied =
-    let o = made.made in
-    record {
-      sound = subst IsSound (ap (λ x. Outcome.state x) o) (step_sound σ made.over n a sound);
-      more = entries (outcome σ made.over n a).entry;
-      tied = subst (λ (x : Outcome). IsTied x.state (log ++ entries (outcome σ made.over n a).entry) (λ m. taken m ++ taken_now m n x.reply)) o
-          (step_tied σ log taken made.over n a sound empty tied);
-    }
-
--- nothing has changed, and nothing was taken
-quiet_onward : (σ μ : State) (n : ℕ) (r : Reply) (log : List Entry) (taken : ℕ → List Item) → μ ≡ σ → item_of r ≡ [] → IsSound σ → IsTied σ log taken → Onward μ log (λ m. taken m ++ taken_now m n r)
-quiet_onward σ μ n r log taken same e sound tied = record {
-  sound = subst IsSound (sym same) sound;
-  more = [];
-  tied = quiet_tied σ μ n r log taken same e tied;
-}
-
--- ---- what a driver hands in
+-- ---- a one-shot's driver
 
 -- a reply that gives no item
 abbrev GivesNone : Reply → Type 0
@@ -75,35 +46,19 @@ none_taken m n r e = cases (m == n)
     cases true = e
     cases false = refl
 
-stays_onward : (σ μ : State) (log : List Entry) (taken : ℕ → List Item) → μ ≡ σ → IsSound σ → IsTied σ log taken → Onward μ log taken
-stays_onward σ μ log taken same sound tied = record {
-  sound = subst IsSound (sym same) sound;
-  more = [];
-  tied = subst (λ (x : State). IsTied x (log ++ []) taken) (sym same) (subst (λ (l : List Entry). IsTied σ l taken) (sym (append-nil log)) tied);
-}
-
 gives_none : (σ μ : State) (n : ℕ) (c : Command) (r : Reply) → is_handed c ≡ true → StepMadeOrRefused σ n (DoCommand c) r μ → GivesNone r
 gives_none σ μ n c r h (inl made) = ap item_of (sym (ap (λ o. Outcome.reply o) made.made)) ∙ no_item σ made.over n c h
 gives_none σ μ n c r h (inr (takes, none, same)) = ap item_of none
 
-call_onward : (σ μ : State) (n : ℕ) (c : Command) (r : Reply) (log : List Entry) (taken : ℕ → List Item) → is_handed c ≡ true → StepMadeOrRefused σ n (DoCommand c) r μ → IsSound σ → IsTied σ log taken → Onward μ log taken
-call_onward σ μ n c r log taken h (inl made) sound tied =
-    subst (λ (f : ℕ → List Item). Onward μ log f) (λ i m. (ap (λ xs. taken m ++ xs) (none_taken m n r (gives_none σ μ n c r h (inl made))) ∙ append-nil (taken m)) i)
-    (made_onward σ μ n (DoCommand c) r log taken tt made sound tied)
-call_onward σ μ n c r log taken h (inr (takes, none, same)) sound tied = stays_onward σ μ log taken same sound tied
+call_leads : (σ μ : State) (n : ℕ) (c : Command) (r : Reply) → is_handed c ≡ true → (one : StepMadeOrRefused σ n (DoCommand c) r μ) → Leads σ μ (of_step σ n (DoCommand c) r μ one) (λ m. [])
+call_leads σ μ n c r h (inl made) = leads_as σ μ _ (λ m. taken_now m n r) (λ m. []) (λ m. none_taken m n r (gives_none σ μ n c r h (inl made))) (steps σ μ n (DoCommand c) r made tt)
+call_leads σ μ n c r h (inr (takes, none, same)) = stays σ μ same
 
-calls_onward : (n : ℕ) (σ μ : State) (calls : List Call) (log : List Entry) (taken : ℕ → List Item) → AllHanded calls → Ran n σ calls μ → IsSound σ → IsTied σ log taken → Onward μ log taken
-calls_onward n σ μ [] log taken h ran sound tied = stays_onward σ μ log taken ran sound tied
-calls_onward n σ μ (Asked c r ∷ calls) log taken (h, hs) (ρ, one, ran) sound tied =
-    let first = call_onward σ ρ n c r log taken h one sound tied in
-    let all = calls_onward n ρ μ calls (log ++ first.more) taken hs ran first.sound first.tied in
-    record {
-      sound = all.sound;
-      more = first.more ++ all.more;
-      tied = subst (λ (l : List Entry). IsTied μ l taken) (append_assoc log first.more all.more) all.tied;
-    }
-calls_onward n σ μ (Waited w ∷ calls) log taken h (e, ran) sound tied = calls_onward n σ μ calls log taken h ran sound tied
-calls_onward n σ μ (Again ∷ calls) log taken h ran sound tied = calls_onward n σ μ calls log taken h ran sound tied
+calls_lead : (n : ℕ) (σ μ : State) (calls : List Call) → AllHanded calls → (ran : Ran n σ calls μ) → Leads σ μ (of_calls n σ calls μ ran) (λ m. [])
+calls_lead n σ μ [] h ran = stays σ μ ran
+calls_lead n σ μ (Asked c r ∷ calls) (h, hs) (ρ, one, ran) = then_leads σ ρ μ (of_step σ n (DoCommand c) r ρ one) (of_calls n ρ calls μ ran) (λ m. []) (λ m. []) (call_leads σ ρ n c r h one) (calls_lead n ρ μ calls hs ran)
+calls_lead n σ μ (Waited w ∷ calls) h (e, ran) = calls_lead n σ μ calls h ran
+calls_lead n σ μ (Again ∷ calls) h ran = calls_lead n σ μ calls h ran
 
 calls_give_none : (n : ℕ) (σ μ : State) (calls : List Call) → AllHanded calls → Ran n σ calls μ → Answers GivesNone calls
 calls_give_none n σ μ [] h ran = tt
@@ -111,10 +66,8 @@ calls_give_none n σ μ (Asked c r ∷ calls) (h, hs) (ρ, one, ran) = (gives_no
 calls_give_none n σ μ (Waited w ∷ calls) h (e, ran) = (subst (λ (x : Option Reply). Awaited GivesNone x) (sym e) tt, calls_give_none n σ μ calls h ran)
 calls_give_none n σ μ (Again ∷ calls) h ran = calls_give_none n σ μ calls h ran
 
-driven_onward : (σ μ : State) (n : ℕ) (c : Command) (r : Reply) (log : List Entry) (taken : ℕ → List Item) → IsDriven σ n c r μ → IsSound σ → IsTied σ log taken → Onward μ log (λ m. taken m ++ taken_now m n r)
-driven_onward σ μ n c r log taken d sound tied =
-    subst (λ (f : ℕ → List Item). Onward μ log f) (λ i m. (sym (append-nil (taken m)) ∙ ap (λ xs. taken m ++ xs) (sym (none_taken m n r none))) i)
-    (calls_onward n σ μ d.calls log taken handed d.ran sound tied)
+driven_leads : (σ μ : State) (n : ℕ) (c : Command) (r : Reply) (d : IsDriven σ n c r μ) → Leads σ μ (of_calls n σ d.calls μ d.ran) (λ m. taken_now m n r)
+driven_leads σ μ n c r d = leads_as σ μ _ (λ m. []) (λ m. taken_now m n r) (λ m. sym (none_taken m n r none)) (calls_lead n σ μ d.calls handed d.ran)
   where
     handed : AllHanded d.calls
     handed = all_handed c d.calls r d.one_shot
@@ -122,9 +75,9 @@ driven_onward σ μ n c r log taken d sound tied =
     none : GivesNone r
     none = last_reply GivesNone (record { no_memory = refl; no_wait = refl; no_more = refl; terms = λ ts. refl }) c d.calls r d.one_shot (calls_give_none n σ μ d.calls handed d.ran)
 
--- ---- an answer
-
--- ---- one answer to each payload
+-- an answer that changes nothing
+quiet_leads : (σ μ : State) (x : Answer) → μ ≡ σ → GivesNone x.reply → Leads σ μ nothing_done (λ m. taken_now m x.session x.reply)
+quiet_leads σ μ x same e = leads_as σ μ nothing_done (λ m. []) (λ m. taken_now m x.session x.reply) (λ m. sym (none_taken m x.session x.reply e)) (stays σ μ same)
 
 -- ---- an answer follows from its payload and the state
 
@@ -213,45 +166,29 @@ module _ (capacity : ℕ) where
   joins_empty request.Take = tt
   joins_empty (request.Do c) = tt
 
-  request_onward : (σ μ : State) (n : ℕ) (a : Request) (r : Reply) (log : List Entry) (taken : ℕ → List Item) → IsMadeOf capacity σ n a r μ → IsSound σ → IsTied σ log taken → Onward μ log (λ m. taken m ++ taken_now m n r)
-  request_onward σ μ n a r log taken (inl (one, made)) sound tied = made_onward σ μ n (ask_for capacity a) r log taken (joins_empty a) made sound tied
-  request_onward σ μ n (request.Do c) r log taken (inr driven) sound tied = driven_onward σ μ n c r log taken driven sound tied
-  request_onward σ μ n a r log taken (inr driven) sound tied = absurd driven
+  request_leads : (σ μ : State) (n : ℕ) (a : Request) (r : Reply) (made : IsMadeOf capacity σ n a r μ) → Leads σ μ (of_request capacity σ n a r μ made) (λ m. taken_now m n r)
+  request_leads σ μ n a r (inl (one, made)) = steps σ μ n (ask_for capacity a) r made (joins_empty a)
+  request_leads σ μ n (request.Do c) r (inr driven) = driven_leads σ μ n c r driven
+  request_leads σ μ n a r (inr driven) = absurd driven
 
-  read_onward : (σ μ : State) (read : Result PlainTerm Stop) (x : Answer) (log : List Entry) (taken : ℕ → List Item) → AnsweredRead capacity σ read x μ → IsSound σ → IsTied σ log taken
-      → Onward μ log (λ m. taken m ++ taken_now m x.session x.reply)
-  read_onward σ μ (Err f) x log taken h sound tied = quiet_onward σ μ x.session x.reply log taken h.1 (ap (λ y. item_of (Answer.reply y)) h.0) sound tied
-  read_onward σ μ (Ok t) x log taken (inl h) sound tied = quiet_onward σ μ x.session x.reply log taken h.same (ap item_of h.reply) sound tied
-  read_onward σ μ (Ok t) x log taken (inr h) sound tied = request_onward σ μ x.session h.asked x.reply log taken h.made sound tied
+  read_leads : (σ μ : State) (read : Result PlainTerm Stop) (x : Answer) (h : AnsweredRead capacity σ read x μ) → Leads σ μ (of_read capacity σ read x μ h) (λ m. taken_now m x.session x.reply)
+  read_leads σ μ (Err f) x h = quiet_leads σ μ x h.1 (ap (λ y. item_of (Answer.reply y)) h.0)
+  read_leads σ μ (Ok t) x (inl h) = quiet_leads σ μ x h.same (ap item_of h.reply)
+  read_leads σ μ (Ok t) x (inr h) = request_leads σ μ x.session h.asked x.reply h.made
 
-  answer_onward : (σ μ : State) (p : List ℕ) (x : Answer) (log : List Entry) (taken : ℕ → List Item) → Answered capacity σ p x μ → IsSound σ → IsTied σ log taken
-      → Onward μ log (λ m. taken m ++ taken_now m x.session x.reply)
-  answer_onward σ μ p x log taken (inl h) sound tied = read_onward σ μ (whole p) x log taken h sound tied
-  answer_onward σ μ p x log taken (inr h) sound tied = quiet_onward σ μ x.session x.reply log taken h.same (ap item_of h.reply) sound tied
+  answer_leads : (σ μ : State) (p : List ℕ) (x : Answer) (h : Answered capacity σ p x μ) → Leads σ μ (of_answer capacity σ p x μ h) (λ m. taken_now m x.session x.reply)
+  answer_leads σ μ p x (inl h) = read_leads σ μ (whole p) x h
+  answer_leads σ μ p x (inr h) = quiet_leads σ μ x h.same (ap item_of h.reply)
 
-  ran_onward : (σ τ : State) (ps : List (List ℕ)) (xs : List Answer) (log : List Entry) (taken : ℕ → List Item) → AnsweredAll capacity σ ps xs τ → IsSound σ → IsTied σ log taken → Onward τ log (λ m. taken m ++ taken_by m xs)
-  ran_onward σ τ [] [] log taken ran sound tied = record {
-    sound = subst IsSound (sym ran) sound;
-    more = [];
-    tied = rests_tied σ τ log taken ran tied;
-  }
-  ran_onward σ τ (p ∷ ps) [] log taken ran sound tied = absurd ran
-  ran_onward σ τ [] (x ∷ xs) log taken ran sound tied = absurd ran
-  ran_onward σ τ (p ∷ ps) (x ∷ xs) log taken (μ, one, rest) sound tied =
-      let first = answer_onward σ μ p x log taken one sound tied in
-      let all = ran_onward μ τ ps xs (log ++ first.more) (λ m. taken m ++ taken_now m x.session x.reply) rest first.sound first.tied in
-      record {
-        sound = all.sound;
-        more = first.more ++ all.more;
-        tied = subst (λ (l : List Entry). IsTied τ l (λ m. taken m ++ taken_by m (x ∷ xs))) (append_assoc log first.more all.more)
-            (subst (λ (f : ℕ → List Item). IsTied τ ((log ++ first.more) ++ all.more) f) (λ i m. append_assoc (taken m) (taken_now m x.session x.reply) (taken_by m xs) i) all.tied);
-      }
+  ran_leads : (σ τ : State) (ps : List (List ℕ)) (xs : List Answer) (ran : AnsweredAll capacity σ ps xs τ) → Leads σ τ (of_all capacity σ ps xs τ ran) (λ m. taken_by m xs)
+  ran_leads σ τ [] [] ran = stays σ τ ran
+  ran_leads σ τ (p ∷ ps) [] ran = absurd ran
+  ran_leads σ τ [] (x ∷ xs) ran = absurd ran
+  ran_leads σ τ (p ∷ ps) (x ∷ xs) (μ, one, rest) =
+      then_leads σ μ τ (of_answer capacity σ p x μ one) (of_all capacity μ ps xs τ rest) (λ m. taken_now m x.session x.reply) (λ m. taken_by m xs) (answer_leads σ μ p x one) (ran_leads μ τ ps xs rest)
 
-  pub said_sound : (σ : State) (ps : List (List ℕ)) (xs : List Answer) (s : IsRun capacity σ ps xs) (log : List Entry) (taken : ℕ → List Item) → IsSound σ → IsTied σ log taken → IsSound s.last
-  said_sound σ ps xs s log taken sound tied = (ran_onward σ s.last ps xs log taken s.ran sound tied).sound
-
-  pub said_tied : (σ : State) (ps : List (List ℕ)) (xs : List Answer) (s : IsRun capacity σ ps xs) (log : List Entry) (taken : ℕ → List Item) → IsSound σ → IsTied σ log taken → (more : List Entry) × IsTied s.last (log ++ more) (λ m. taken m ++ taken_by m xs)
-  said_tied σ ps xs s log taken sound tied = let all = ran_onward σ s.last ps xs log taken s.ran sound tied in (all.more, all.tied)
+  pub run_leads : (σ : State) (ps : List (List ℕ)) (xs : List Answer) (s : IsRun capacity σ ps xs) → Leads σ s.last (account capacity σ ps xs s) (λ m. taken_by m xs)
+  run_leads σ ps xs s = ran_leads σ s.last ps xs s.ran
 
   ran_length : (σ τ : State) (ps : List (List ℕ)) (xs : List Answer) → AnsweredAll capacity σ ps xs τ → length xs ≡ length ps
   ran_length σ τ [] [] ran = refl

@@ -4,3 +4,4 @@ pub mod OneSeats
 pub mod AnsweredPayloads
 pub mod Replays
 pub mod Bounded
+pub mod Accounts

@@ -4,19 +4,27 @@ ghost use Rattle.std.specs.Prelude.{◌≡◌, ◌++◌, ℕ, List, length};
 ghost use Rattle.tab_model.specs.declared.data.Entry.{Entry};
 ghost use Rattle.tab_model.specs.declared.data.Item.{Item};
 ghost use Rattle.tab_model.specs.State.{State, IsSound};
+ghost use Rattle.tab_model.specs.Reached.{IsRising};
+ghost use Rattle.tab_model.specs.Callers.{Callers, callers_after, log_told, AreHeard};
 ghost use Rattle.tab_model.specs.Refusals.{IsSole};
 ghost use Rattle.tab_model.specs.Run.{IsTied};
 ghost use Rattle.tab_session.specs.declared.answered.Answer.{Answer as AnswerOf};
 ghost use Rattle.tab_session.specs.AnsweredPayloads.{NoneRefused, NoneWaits, AreOf, taken_by};
 ghost use Rattle.tab_session.specs.Bounded.{IsBounded};
+ghost use Rattle.tab_session.specs.Accounts.{account, calls_in, replies_in};
 ghost use Rattle.tab_session.specs.Replays.{IsRun};
 
-/// A run is one of the model: whatever log and taken items led to its first state, they go on with it. So from a new core
-/// the log of a run is legal, the tables are those of the log's commits run alone in order, open transactions were told
-/// what they are told alone, and what each session has taken is a beginning of what the log owes it.
+/// A run is one of the model: whatever log and taken items led to its first state, they go on with it, with the log of its steps
+/// (`account`), those of one-shots' drivers among them. So from a new core the log of a run is legal, the tables are those of the
+/// log's commits run alone in order, open transactions were told what they are told alone, and what each session has taken is a
+/// beginning of what the log owes it. That log is the one that the run's callers can tell, who see what they asked and were told,
+/// and nothing of the state.
 pub fn runs_have_a_history()
-    ensures sound { (outbox : ℕ) (σ : State) (ps : List (List ℕ)) (xs : List AnswerOf) (s : IsRun outbox σ ps xs) (log : List Entry) (taken : ℕ → List Item) → IsSound σ → IsTied σ log taken → IsSound s.last }
-    ensures tied { (outbox : ℕ) (σ : State) (ps : List (List ℕ)) (xs : List AnswerOf) (s : IsRun outbox σ ps xs) (log : List Entry) (taken : ℕ → List Item) → IsSound σ → IsTied σ log taken → (more : List Entry) × IsTied s.last (log ++ more) (λ m. taken m ++ taken_by m xs) }
+    ensures sound { (outbox : ℕ) (σ : State) (ps : List (List ℕ)) (xs : List AnswerOf) (s : IsRun outbox σ ps xs) → IsSound σ → IsSound s.last }
+    ensures rising { (outbox : ℕ) (σ : State) (ps : List (List ℕ)) (xs : List AnswerOf) (s : IsRun outbox σ ps xs) → IsSound σ → IsRising σ → IsRising s.last }
+    ensures tied { (outbox : ℕ) (σ : State) (ps : List (List ℕ)) (xs : List AnswerOf) (s : IsRun outbox σ ps xs) (log : List Entry) (taken : ℕ → List Item) → IsSound σ → IsTied σ log taken → IsTied s.last (log ++ (account outbox σ ps xs s).log) (λ m. taken m ++ taken_by m xs) }
+    ensures told { (outbox : ℕ) (σ : State) (ps : List (List ℕ)) (xs : List AnswerOf) (s : IsRun outbox σ ps xs) (ks : Callers) → AreHeard σ ks → let a = account outbox σ ps xs s in a.log ≡ log_told ks (calls_in a.exchanges) (replies_in a.exchanges) }
+    ensures heard { (outbox : ℕ) (σ : State) (ps : List (List ℕ)) (xs : List AnswerOf) (s : IsRun outbox σ ps xs) (ks : Callers) → AreHeard σ ks → let a = account outbox σ ps xs s in AreHeard s.last (callers_after ks (calls_in a.exchanges) (replies_in a.exchanges)) }
 {}
 
 /// There is one answer to each payload; and where no memory was refused, the payloads alone say which: two runs over the

@@ -10,6 +10,7 @@ invariant_of-self g c =
     record {
       same = same_result bs σ c.step.new.self _ c.step.result c.self.invariant.same (λ s h. (command_makes bs σ c.self.invariant c.args.session s c.step.new.self c.args.command c.in_default.not-Commit c.in_default.not-Schema c.in_default.not-Subscribe c.in_default.not-Unsubscribe h).1) c.step.ensures.done c.step.ensures.err;
       sound = c.step.ensures.sound;
+      rising = c.step.ensures.rising;
     }
 
 pub returns-in_default : goal.returns-in_default

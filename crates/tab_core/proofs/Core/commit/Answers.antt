@@ -19,6 +19,7 @@ invariant_of-self g c =
     record {
       same = same_result bs σ c.step.new.self _ c.step.result c.self.invariant.same (λ s h. (inner_commit_makes bs σ c.self.invariant c.args.session s c.step.new.self none h).1) c.step.ensures.done c.step.ensures.err;
       sound = c.step.ensures.sound;
+      rising = c.step.ensures.rising;
     }
 
 pub returns-in_default-clause-done : goal.returns-in_default-clause-done
@@ -45,6 +46,7 @@ invariant_of-self-in_default-2 g c =
     record {
       same = same_result bs σ c.step-in_default-2.new.self _ c.step-in_default-2.result c.self.invariant.same (λ s h. (unwatched_commit_makes bs σ c.self.invariant c.args.session s c.step-in_default-2.new.self e c.in-Some.ensures unseen h).1) c.step-in_default-2.ensures.done c.step-in_default-2.ensures.err;
       sound = c.step-in_default-2.ensures.sound;
+      rising = c.step-in_default-2.ensures.rising;
     }
 
 pub returns-in_default-2-clause-done : goal.returns-in_default-2-clause-done

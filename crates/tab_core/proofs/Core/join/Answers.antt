@@ -12,6 +12,7 @@ pub invariant_of-self : goal.invariant_of-self
 invariant_of-self g c = record {
   same = same_result c.self.inside.subs c.self.inside.manager c.step.new.self _ c.step.result c.self.invariant.same (λ s h. (refused_join_makes c.self.inside.subs c.self.inside.manager c.self.invariant c.args.session (g.P.Post.outbox c.args.post) s c.step.new.self (sym c.if-not-admits.ensures) h).1) c.step.ensures.done c.step.ensures.err;
   sound = c.step.ensures.sound;
+  rising = c.step.ensures.rising;
 }
 
 pub returns-then-not-admits-clause-done : goal.returns-then-not-admits-clause-done
@@ -22,6 +23,7 @@ pub invariant_of-self-2 : goal.invariant_of-self-2
 invariant_of-self-2 g c = record {
   same = same_free c.join.new.self c.step-2.new.self _ c.step-2.result (c.step-2.ensures.free refl) (λ s h. (join_makes c.self.inside.subs c.self.inside.manager c.self.invariant c.args.session (g.P.Post.outbox c.args.post) s c.step-2.new.self c.join.new.self (sym c.if-not-admits.ensures) c.in_ok-join.ensures.ok h).1) c.step-2.ensures.done;
   sound = c.step-2.ensures.sound;
+  rising = c.step-2.ensures.rising;
 }
 
 pub returns-clause-done : goal.returns-clause-done

@@ -7,6 +7,7 @@ pub invariant_of-self-2 : goal.invariant_of-self-2
 invariant_of-self-2 g c = record {
   same = (leave_makes c.self.inside.subs c.self.inside.manager c.self.invariant c.args.session c.in_ok-stepped.stepped c.step.new.self c.leave.new.self c.leave.ensures c.in_ok-stepped.ensures.done).1;
   sound = c.step.ensures.sound;
+  rising = c.step.ensures.rising;
 }
 
 pub returns-clause-done : goal.returns-clause-done

@@ -12,6 +12,7 @@ invariant_of-self g c =
     record {
       same = same_result bs σ c.step.new.self _ c.step.result c.self.invariant.same (λ s h. (retry_makes bs σ c.self.invariant c.args.session s c.step.new.self h).1) c.step.ensures.done c.step.ensures.err;
       sound = c.step.ensures.sound;
+      rising = c.step.ensures.rising;
     }
 
 pub returns-in-Retry-clause-done : goal.returns-in-Retry-clause-done

@@ -1,8 +1,10 @@
 use Rattle.std.proofs.Common.{◌≡◌, List, [], ◌∷◌, length, refl, ap, sym, subst, ◌∙◌, arith}
 use Rattle.std.specs.Vec.Iter.{into_iter_items}
 use Rattle.tab_model.specs.State.{IsSound}
-use Rattle.tab_core.proofs.RunsLemmas.{IsRunning, goes_on, ends_with, history_goes_on}
-use Rattle.tab_core.proofs.SoundLemmas.{sound_with}
+use Rattle.tab_model.specs.Reached.{IsRising}
+use Rattle.tab_core.specs.Runs.{asks_of}
+use Rattle.tab_core.proofs.RunsLemmas.{IsRunning, goes_on, ends_with, run_keeps, history_goes_on}
+use Rattle.tab_core.proofs.SoundLemmas.{sound_with, rising_with}
 use Rattle.tab_core.proofs.Core.run_steps.Goals as goal
 
 no_items : {A : Type 0} (xs : List A) → length xs ≡ 0 → xs ≡ []
@@ -21,13 +23,25 @@ loop-session-preserved g c =
       omega (arith, inv.2, ap length rest, c.in-Some.ensures.steps.1),
     )
 
-pub returns-clause-run : goal.returns-clause-run
-returns-clause-run g c =
+pub returns-in_err-replies-clause-sound : goal.returns-in_err-replies-clause-sound
+returns-in_err-replies-clause-sound g c = subst IsSound c.self.view_is (sound_with c.self.inside.subs c.self.inside.manager c.self.invariant.sound)
+
+pub returns-in_err-replies-clause-rising : goal.returns-in_err-replies-clause-rising
+returns-in_err-replies-clause-rising g c = subst IsRising c.self.view_is (rising_with c.self.inside.subs c.self.inside.manager c.self.invariant.rising)
+
+pub returns : goal.returns
+returns g c =
+    let f = g.P.Post.outbox in
     let inv = c.loop-session.invariant in
     let none : into_iter_items c.loop-session.session-iterator ≡ [] = no_items (into_iter_items c.loop-session.session-iterator) (sym inv.2 ∙ c.in-None.ensures.steps.0) in
-    ends_with g.P.Post.outbox c.args.self.now c.loop-session.self c.args.steps.items c.loop-session.replies.items (subst (λ xs. IsRunning g.P.Post.outbox c.args.self.now c.loop-session.self c.args.steps.items xs c.loop-session.replies.items) none inv.0)
-
-pub returns-clause-history : goal.returns-clause-history
-returns-clause-history g c =
-    let run = returns-clause-run g c in
-    λ log taken tied. (run.0, history_goes_on c.args.self.now c.loop-session.self (Rattle.tab_core.specs.Runs.asks_of g.P.Post.outbox c.args.steps.items) c.loop-session.replies.items run.0 run.1 c.requires (subst IsSound c.self.view_is (sound_with c.self.inside.subs c.self.inside.manager c.self.invariant.sound)) log taken tied)
+    let run = ends_with f c.args.self.now c.loop-session.self c.args.steps.items c.loop-session.replies.items (subst (λ xs. IsRunning f c.args.self.now c.loop-session.self c.args.steps.items xs c.loop-session.replies.items) none inv.0) in
+    let asks = asks_of f c.args.steps.items in
+    let sound = subst IsSound c.self.view_is (sound_with c.self.inside.subs c.self.inside.manager c.self.invariant.sound) in
+    let rising = subst IsRising c.self.view_is (rising_with c.self.inside.subs c.self.inside.manager c.self.invariant.rising) in
+    let last = run_keeps c.args.self.now c.loop-session.self asks c.loop-session.replies.items run.0 run.1 sound rising in
+    record {
+      run = (run.0, run.1, history_goes_on c.args.self.now c.loop-session.self asks c.loop-session.replies.items run.0 run.1 c.requires sound);
+      err = tt;
+      sound = last.0;
+      rising = last.1;
+    }

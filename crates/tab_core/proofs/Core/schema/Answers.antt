@@ -18,6 +18,7 @@ invariant_of-self g c =
     record {
       same = same_result bs σ τ _ c.step.result c.self.invariant.same (λ s h. (quiet_schema_makes bs σ c.self.invariant c.args.session s τ c.args.schema (not_removed c.args.schema c.in_default.not-Remove) h).1) c.step.ensures.done c.step.ensures.err;
       sound = c.step.ensures.sound;
+      rising = c.step.ensures.rising;
     }
 
 pub returns-in_default : goal.returns-in_default
@@ -34,6 +35,7 @@ pub invariant_of-self-then-is_none : goal.invariant_of-self-then-is_none
 invariant_of-self-then-is_none g c = record {
   same = (refused_schema_makes c.self.inside.subs c.self.inside.manager c.self.invariant c.args.session c.in_ok-stepped.stepped c.step-2.new.self c.args.schema c.in_ok-stepped.ensures.done (none_is _ c.if-is_none.ensures)).1;
   sound = c.step-2.ensures.sound;
+  rising = c.step-2.ensures.rising;
 }
 
 pub returns-then-is_none-clause-done : goal.returns-then-is_none-clause-done
@@ -45,6 +47,7 @@ pub invariant_of-self-2 : goal.invariant_of-self-2
 invariant_of-self-2 g c = record {
   same = (removes c.self.inside.subs c.self.inside.manager c.self.invariant c.args.session c.in_ok-stepped.stepped c.step-2.new.self c.args.schema c.in-Remove.table c.in-Remove.is c.in_ok-stepped.ensures.done c.if-is_none.ensures c.deliver-over.new.self c.deliver-over.result c.in_ok-prepared.prepared c.in_ok-number.number c.in_ok-prepared.ensures c.in_ok-number.ensures c.deliver-over.ensures c.with_overflowed.result c.with_overflowed.ensures).1;
   sound = c.step-2.ensures.sound;
+  rising = c.step-2.ensures.rising;
 }
 
 pub returns-clause-done : goal.returns-clause-done

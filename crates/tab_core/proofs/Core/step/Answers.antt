@@ -1,6 +1,7 @@
 use Rattle.std.proofs.Common.{◌≡◌, subst}
 use Rattle.tab_model.specs.State.{IsSound}
-use Rattle.tab_core.proofs.SoundLemmas.{sound_with}
+use Rattle.tab_model.specs.Reached.{IsRising}
+use Rattle.tab_core.proofs.SoundLemmas.{sound_with, rising_with}
 use Rattle.tab_core.proofs.Core.step.Goals as goal
 
 pub returns : goal.returns
@@ -9,4 +10,5 @@ returns g c = record {
   free = c.make-stepped.ensures.free;
   err = c.make-stepped.ensures.err;
   sound = subst IsSound c.self.view_is (sound_with c.self.inside.subs c.self.inside.manager c.self.invariant.sound);
+  rising = subst IsRising c.self.view_is (rising_with c.self.inside.subs c.self.inside.manager c.self.invariant.rising);
 }

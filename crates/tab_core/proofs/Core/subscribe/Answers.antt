@@ -20,6 +20,7 @@ invariant_of-self-2 g c = record {
       (c.in_ok-records.ensures ∙ ap (λ w. dump_of w c.args.table c.args.dump) c.tables.ensures) c.in_ok-marked.ensures.ok)
       c.marked_reply.result c.marked_reply.ensures).1;
   sound = c.self.invariant.sound;
+  rising = c.self.invariant.rising;
 }
 
 pub returns-clause-done : goal.returns-clause-done

@@ -7,6 +7,7 @@ pub invariant_of-self : goal.invariant_of-self
 invariant_of-self g c = record {
   same = (take_makes c.self.inside.subs c.self.inside.manager c.self.invariant c.args.session c.take-taken.new.self c.take-taken.result c.take-taken.ensures c.taken_reply.result c.taken_reply.ensures).1;
   sound = c.self.invariant.sound;
+  rising = c.self.invariant.rising;
 }
 
 pub returns : goal.returns

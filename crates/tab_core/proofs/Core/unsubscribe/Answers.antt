@@ -12,6 +12,7 @@ invariant_of-self-2 g c = record {
   same = (end_made c.self.inside.subs c.self.inside.manager c.args.self.now c.self.invariant c.self.view_is c.args.session c.args.table c.args.level
       (free _ _ c.in_default.not-Some c.in_ok-refusal.ensures) c.in_ok-marked.marked c.unsubscribe.new.self c.in_ok-marked.ensures.ok c.marked_reply.result c.marked_reply.ensures).1;
   sound = c.self.invariant.sound;
+  rising = c.self.invariant.rising;
 }
 
 pub returns-clause-done : goal.returns-clause-done

@@ -12,4 +12,5 @@ returns-clause-kept g c = record {
   same = (ended_commit_makes c.args.subs.now c.args.manager.now c.requires.kept c.args.session c.commit-stepped.result c.commit-stepped.new.self c.args.updated c.requires.ends c.commit-stepped.ensures.done c.deliver-over.new.self c.deliver-over.result
       c.in_ok-prepared.prepared c.in_ok-number.number c.deref.result.now c.deref.ensures.value c.in_ok-prepared.ensures c.in_ok-number.ensures c.deliver-over.ensures c.with_overflowed.result c.with_overflowed.ensures).1;
   sound = c.commit-stepped.ensures.sound;
+  rising = c.commit-stepped.ensures.rising;
 }

@@ -1,8 +1,11 @@
-use Rattle.tab_session.proofs.RunLaws.{said_sound, said_tied}
+use Rattle.tab_session.proofs.RunLaws.{run_leads}
 use Rattle.tab_session.proofs.laws.runs_have_a_history.Goals as goal
 
-pub returns-clause-sound : goal.returns-clause-sound
-returns-clause-sound c = said_sound
-
-pub returns-clause-tied : goal.returns-clause-tied
-returns-clause-tied c = said_tied
+pub returns : goal.returns
+returns c = record {
+  sound = λ outbox σ ps xs s. (run_leads outbox σ ps xs s).sound;
+  rising = λ outbox σ ps xs s. (run_leads outbox σ ps xs s).rising;
+  tied = λ outbox σ ps xs s. (run_leads outbox σ ps xs s).tied;
+  told = λ outbox σ ps xs s. (run_leads outbox σ ps xs s).told;
+  heard = λ outbox σ ps xs s. (run_leads outbox σ ps xs s).heard;
+}

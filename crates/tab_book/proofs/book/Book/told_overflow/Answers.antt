@@ -1,4 +1,4 @@
-use Rattle.std.proofs.Common.{◌≡◌, Some, subst, sym, ◌∙◌}
+use Rattle.std.proofs.Common.{length, ◌≡◌, Some, subst, sym, ◌∙◌}
 use Rattle.tab_model.specs.State.{Seat, seat_at}
 use Rattle.tab_model.specs.Outcome.{Take}
 use Rattle.tab_book.specs.declared.step.Drained.TheVariants.{AllTaken, Overflow}
@@ -12,7 +12,7 @@ use Rattle.tab_book.proofs.book.Book.told_overflow.Goals as goal
 pub invariant_of-self : goal.invariant_of-self
 invariant_of-self g c =
     let done = c.in-Ok.ensures.done in
-    take_holds c.self.inside.outbox c.self.inside.core c.self.inside.journal c.self.invariant done.0 c.args.session _ done.2 c.step.ensures.sound
+    take_holds c.self.inside.outbox (length c.self.inside.front) c.self.inside.core c.self.inside.journal c.self.invariant done.0 c.args.session _ done.2 c.step.ensures.sound
 
 pub returns-in-Overflow-clause-told : goal.returns-in-Overflow-clause-told
 returns-in-Overflow-clause-told g c =
@@ -27,12 +27,12 @@ pub returns-in-Overflow-clause-posts : goal.returns-in-Overflow-clause-posts
 returns-in-Overflow-clause-posts g c =
     let done = c.in-Ok.ensures.done in
     subst (λ (b : Running). KeepsPosts b.state c.step.new.self) c.self.view_is
-    (step_posts c.self.inside.outbox c.self.inside.core c.self.inside.journal c.self.invariant done.0 c.args.session Take _ done.2)
+    (step_posts c.self.inside.outbox (length c.self.inside.front) c.self.inside.core c.self.inside.journal c.self.invariant done.0 c.args.session Take _ done.2)
 
 pub invariant_of-self-2 : goal.invariant_of-self-2
 invariant_of-self-2 g c =
     let done = c.in-Ok.ensures.done in
-    take_holds c.self.inside.outbox c.self.inside.core c.self.inside.journal c.self.invariant done.0 c.args.session _ done.2 c.step.ensures.sound
+    take_holds c.self.inside.outbox (length c.self.inside.front) c.self.inside.core c.self.inside.journal c.self.invariant done.0 c.args.session _ done.2 c.step.ensures.sound
 
 pub returns : goal.returns
 returns g c =
@@ -44,5 +44,5 @@ returns g c =
           (tells_none c.self.inside.core c.self.inside.journal done.0 n there.0 there.1 c.self.invariant.stands.channels _ done.2
           (λ m e. c.in_default-reply.not-Overflow m (c.reply.ensures ∙ c.into_reply.ensures ∙ e)));
       posts = subst (λ (b : Running). KeepsPosts b.state c.step.new.self) c.self.view_is
-          (step_posts c.self.inside.outbox c.self.inside.core c.self.inside.journal c.self.invariant done.0 n Take _ done.2);
+          (step_posts c.self.inside.outbox (length c.self.inside.front) c.self.inside.core c.self.inside.journal c.self.invariant done.0 n Take _ done.2);
     }

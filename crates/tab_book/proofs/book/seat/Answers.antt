@@ -1,0 +1,10 @@
+use Rattle.std.proofs.Common.{ap, sym, ◌∙◌}
+use Rattle.tab_model.specs.Outcome.{Outcome}
+use Rattle.tab_named.specs.Ends.{as_outbox}
+use Rattle.tab_book.proofs.Keeping.{joins_made}
+use Rattle.tab_book.proofs.book.seat.Goals as goal
+
+pub returns-clause-ok : goal.returns-clause-ok
+returns-clause-ok g c =
+    let done = c.in_ok-stepped.ensures.done in
+    ap (λ (o : Outcome). o.state) (sym done.2 ∙ joins_made c.args.core.now done.0 c.args.session (as_outbox c.args.post) c.requires.sound c.requires.room c.requires.number)
