@@ -11,11 +11,19 @@ static INPUT: &[u8] =
 static OUTPUT: &[u8] =
     b"\x00\x00\x00\x09\x83h\x02a\x01w\x02ok\x00\x00\x00\x13\x83h\x02a\x01h\x02w\x06atomicw\x02ok\x00\x00\x00\x0e\x83h\x02a\x01h\x02w\x03tida\x01\x00\x00\x00\x09\x83h\x02a\x01w\x02ok\x00\x00\x00\x15\x83h\x02a\x01l\x00\x00\x00\x01h\x03w\x01ta\x01w\x01aj\x00\x00\x00\x11\x83h\x02a\x01h\x02w\x06atomica\x01";
 
-/// Eight bytes a call; the call after so many fails, of the reader in the one run and of the writer in the other.
+/// So many calls a run makes with eight bytes a call: reads, the last of which finds the end, and writes and flushes.
+const READS: u32 = 17;
+
+const WRITES: u32 = 33;
+
+/// The call after so many fails, of the reader in the one run and of the writer in the other; a run that makes no more calls is whole.
 #[test]
 fn a_device_fails_at_each_call(rt: HostRuntime) -> Result<(), Fail> {
-    for left in 0..16u32 {
-        for (reads, writes) in [(left, u32::MAX), (u32::MAX, left)] {
+    for left in 0..=WRITES {
+        for (reads, writes, fails) in [
+            (left, u32::MAX, left < READS),
+            (u32::MAX, left, left < WRITES),
+        ] {
             let mut reader = Counted::new(Device {
                 inner: INPUT,
                 size: 8,
@@ -28,7 +36,11 @@ fn a_device_fails_at_each_call(rt: HostRuntime) -> Result<(), Fail> {
             });
             let ended = replay(rt.alloc(), &mut reader, &mut writer, 64);
             let written = writer.into_inner().inner;
-            let right = ended == Err(Ended::Device) && OUTPUT.starts_with(written.as_slice());
+            let right = if fails {
+                ended == Err(Ended::Device) && OUTPUT.starts_with(written.as_slice())
+            } else {
+                ended == Ok(()) && written.as_slice() == OUTPUT
+            };
             assert!(rt; right, "call {left}");
         }
     }
