@@ -12,6 +12,7 @@ import resource
 import socket
 import subprocess
 import sys
+import threading
 import time
 
 from server import ATOMIC, CREATE, HERE_OK, OK, Connection, Differs, event, frame, same, script, watch, write
@@ -20,6 +21,8 @@ LIMIT = ("reply", ("error", ("system_limit", "sessions")))
 NOT_ACCEPTED = "tabd: no connection was accepted\n"
 # A thread of the server may still be about to end so many seconds after its connection did.
 PATIENCE = 5.0
+# A case takes so many seconds at most.
+LONGEST = 60
 
 
 class Server:
@@ -31,10 +34,15 @@ class Server:
         self.process = subprocess.Popen(words, stdout=subprocess.PIPE, stderr=subprocess.PIPE, text=True, preexec_fn=limit)
         self.port = int(self.process.stdout.readline().rsplit(":", 1)[1])
 
+        # A line that never comes would be waited for without an end.
+        self.limit = threading.Timer(LONGEST, self.process.kill)
+
     def __enter__(self):
+        self.limit.start()
         return self
 
     def __exit__(self, *_):
+        self.limit.cancel()
         self.process.kill()
         self.process.communicate()
 
