@@ -4,8 +4,8 @@
     served_refusals.py PROGRAM
 
 Each case is run once for each allocation and each thread that the server makes for one request, one connection or one event: with the
-nth refused. The session is told `no_memory` and goes on, or, where memory was refused for a connection, a thread, a frame or an event,
-it is closed with no frame; how many were closed for a frame is told. No lock, level or request is left of it: another connection
+nth refused. The session is told `no_memory` and goes on, or, where memory was refused for a connection, a thread, a reply's frame or an
+event, it is closed with no frame; how many were is told. No lock, level or request is left of it: another connection
 writes the same key and changes the table's indexes. What was told `no_memory` is told its reply when it is asked again. Wants a
 C compiler, for a `malloc` that refuses. One line tells each run that differs; the last line is `N passed, M failed`, and the status 1
 where one failed.
@@ -69,8 +69,6 @@ int pthread_create(pthread_t *thread, const pthread_attr_t *how, void *(*run)(vo
 """
 
 NO_MEMORY, MARK = ("error", "no_memory"), ("mnesia_table_begin", "t", "simple")
-# A frame that is read takes so many allocations at most: the bytes, the payload, and the list of the frames.
-OF_A_FRAME = 3
 # So many runs in which nothing was refused, and none is left.
 NONE_LEFT = 2
 # No request takes so many: it is counted, and nothing refused.
@@ -180,8 +178,8 @@ class Case:
     """What connections 1 and 2 are asked before, a request of connection 1 and its reply; whether it is asked in a transaction,
     whether it waits for the transaction of connection 2, and whether it puts a mark, for which it may be closed."""
 
-    def __init__(self, name, before, request, reply, inside=False, waits=False, marks=False):
-        self.name, self.before, self.request, self.reply = name, before, request, reply
+    def __init__(self, name, before, request, reply, inside=False, waits=False, marks=False, words=()):
+        self.name, self.before, self.request, self.reply, self.words = name, before, request, reply, words
         self.inside, self.waits, self.marks = inside, waits, marks
 
     def told(self, first, second):
@@ -216,7 +214,7 @@ class Case:
             same("again", asked(first, self.request)[0], self.reply[0])
 
     def run(self, program, nth):
-        with Server(program, 3) as server:
+        with Server(program, 3, *self.words) as server:
             first, second, other = connections = [Connection(server.port) for _ in range(3)]
             script(*((other, create, ATOMIC) for create in CREATES), (first, "commit", ("error", "no_transaction")))
             script(*((connections[who - 1], request, reply) for who, request, reply in self.before))
@@ -242,8 +240,6 @@ class Case:
             return "told no_memory"
         if told == self.reply:
             return "had its reply"
-        if told == "closed" and nth <= OF_A_FRAME:
-            return "were closed for a frame"
         if told == "closed" and self.marks:
             return "were closed for an event"
         if told == "closed" and nth == self.all:
@@ -284,10 +280,8 @@ class Watched:
                 end, left = self.events(first, ("atomic", 1))
                 same("events left", left, 0)
                 end = "told no_memory"
-            elif told == "closed" and nth > OF_A_FRAME:
-                raise Differs("who commits is closed")
             elif told == "closed":
-                end, second = "were closed for a frame", first
+                raise Differs("who commits is closed")
             else:
                 first.close()
             probe(second)
@@ -370,6 +364,8 @@ INNER = ("transaction", [("write", ("u", 1, "b")), ("abort", "why")])
 DEEP = ("transaction", [("write", ("u", 1, "a")), ("transaction", [("transaction", [("write", ("u", 2, "b"))])]), ("read", "u", 1)], 2)
 DEEP_TOLD = ("atomic", [OK, ("atomic", [("atomic", [OK])]), [("u", 1, "a")]])
 HELD = [(2, "begin", ("tid", 1)), (2, ("wread", ("w", 1)), [])]
+# The journal of 16 entries is full.
+FULL = [(2, ("transaction", [("write", ("w", number, 0))], 0), ("atomic", [OK])) for number in range(16)]
 WAITS = [(1, "begin", ("tid", 1)), (1, write(1, "a"), OK), (2, "begin", ("tid", 2)), (2, ("read", "u", 1), [])]
 
 CASES = [
@@ -387,6 +383,7 @@ CASES = [
     Case("a read of no table", [(1, "begin", TID), (1, "begin", TID)], ("read", "nosuch", 1), ("aborted", ("no_exists", "nosuch")), True),
     Case("a write that waits", WAITS, ("write", ("u", 1, "a")), OK, True, True),
     Case("a commit", IN_T, "commit", ("atomic", 1), True),
+    Case("a commit that folds", [*FULL, (1, "begin", ("tid", 17)), (1, write(1, "a"), OK)], "commit", ("atomic", 17), True, words=("--journal", "16")),
     Case("a child's commit", [*IN_T, (1, "begin", TID), (1, write(1, "b"), OK)], "commit", ATOMIC, True),
     Case("an abort", IN_T, ("abort", ("why", [1, b"x"])), ("aborted", ("why", [1, b"x"])), True),
     Case("a new table", [], ("create_table", "v", [("attributes", ["k", "v", "w"]), ("index", ["w"])]), ATOMIC),
