@@ -1,4 +1,4 @@
-use Rattle.tab_book_tests.proofs.overflow.an_overflow_is_told_once.Given as goal
+use Rattle.tab_book_tests.proofs.overflow.each_overflow_is_told_once.Given as goal
 
 -- the register that was just opened
 abbrev pub ghosts-overflow_named : goal.ghosts-overflow_named
