@@ -1,5 +1,6 @@
 #!/usr/bin/env python3
-"""Runs the sessions of README.md against `tabd serve --forever` of the built program, in their order, and compares what is printed there.
+"""Runs the sessions of README.md against `tabd serve --forever` of the built program, in their order, and compares what is printed there;
+and its pipe, of which a reader takes one line.
 
     readme.py PROGRAM
 
@@ -17,6 +18,8 @@ import tempfile
 
 TOP = os.path.join(os.path.dirname(os.path.abspath(__file__)), "..")
 SESSION = re.compile(r"^```(pycon|erlang)\n(.*?)^```", re.M | re.S)
+# What makes frames, and what shows them.
+PIPE = re.compile(r"`(\S+ ask) \| \(cd crates/tabd && rt run -- replay\) \| (\S+ show)`")
 PORT = "4000"
 # The shell's prompt and an expression, and what it printed.
 PROMPT = re.compile(r"^\d+> (.*)\n((?:(?!\d+> ).*\n)*)", re.M)
@@ -65,13 +68,25 @@ class Erlang:
         return "" if told == wanted else f"printed {told!r}, wanted {wanted!r}\n"
 
 
+def pipe_differs(text, program):
+    """A replay between two programs that make and show frames; who reads ends after a line, and none of them complains."""
+    found = PIPE.search(text)
+    words = f"{found[1]} | {program} replay | {found[2]} | head -n 1" if found else "echo 'no pipe is there'"
+    ran = subprocess.run(words, shell=True, cwd=TOP, capture_output=True, text=True, timeout=60, check=False)
+    told = ran.stdout, ran.stderr
+    return "" if told == ("(1, 'ok')\n", "") else f"{words}: {told}\n"
+
+
 def main():
     if len(sys.argv) != 2:
         sys.exit(__doc__)
     with open(f"{TOP}/README.md", encoding="utf-8") as file:
-        sessions = SESSION.findall(file.read())
+        text = file.read()
+    sessions = SESSION.findall(text)
     server, port = serve(os.path.abspath(sys.argv[1]))
-    passed = failed = 0
+    told = pipe_differs(text, os.path.abspath(sys.argv[1]))
+    print(told, end="")
+    passed, failed = (0, 1) if told else (1, 0)
     with tempfile.TemporaryDirectory() as room:
         shells = {"pycon": Python(), "erlang": Erlang(room) if shutil.which("erlc") else None}
         try:

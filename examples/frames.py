@@ -23,6 +23,7 @@ bytes that are no frame of a term, after the terms before them. Any term can be 
 import argparse
 import ast
 import io
+import signal
 import struct
 import sys
 
@@ -208,6 +209,9 @@ def main():
     words = parser.parse_args()
     if words.request and words.file or words.what == "show" and (words.request or words.file):
         parser.error("requests are asked by words or by a file, and nothing is asked by show")
+    # Who reads may end first, as `head` does: then this ends too, silently.
+    if hasattr(signal, "SIGPIPE"):
+        signal.signal(signal.SIGPIPE, signal.SIG_DFL)
     if words.what == "show":
         show(sys.stdin.buffer)
     elif words.file:
