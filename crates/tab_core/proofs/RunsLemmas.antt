@@ -52,12 +52,12 @@ no_item m n r e = cases (m == n)
     cases false = refl
 
 -- where nothing more happens, a history stays
-pub rests_tied : (σ τ : State) (log : List Entry) (taken : ℕ → List Item) → τ ≡ σ → IsTied σ log taken → IsTied τ (log ++ []) (λ m. taken m ++ [])
+rests_tied : (σ τ : State) (log : List Entry) (taken : ℕ → List Item) → τ ≡ σ → IsTied σ log taken → IsTied τ (log ++ []) (λ m. taken m ++ [])
 rests_tied σ τ log taken same tied = subst (λ (x : State). IsTied x (log ++ []) (λ m. taken m ++ [])) (sym same)
     (subst (λ (l : List Entry). IsTied σ l (λ m. taken m ++ [])) (sym (append-nil log)) (subst (λ (f : ℕ → List Item). IsTied σ log f) (λ i m. sym (append-nil (taken m)) i) tied))
 
 -- and where an answer that changes nothing gives nothing to take
-pub quiet_tied : (σ μ : State) (n : ℕ) (r : Reply) (log : List Entry) (taken : ℕ → List Item) → μ ≡ σ → item_of r ≡ [] → IsTied σ log taken → IsTied μ (log ++ []) (λ m. taken m ++ taken_now m n r)
+quiet_tied : (σ μ : State) (n : ℕ) (r : Reply) (log : List Entry) (taken : ℕ → List Item) → μ ≡ σ → item_of r ≡ [] → IsTied σ log taken → IsTied μ (log ++ []) (λ m. taken m ++ taken_now m n r)
 quiet_tied σ μ n r log taken same e tied =
     subst (λ (f : ℕ → List Item). IsTied μ (log ++ []) f) (λ i m. taken m ++ no_item m n r e i) (rests_tied σ μ log taken same tied)
 

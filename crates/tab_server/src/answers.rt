@@ -1,15 +1,18 @@
 //! Replies that are kept, and written at once.
 
+ghost use Rattle.std.specs.Prelude.{◌≡◌, OnOk};
+
 use crate::gate::Gate;
 use crate::kept::{KEPT, empty};
 use crate::pieces::Pieces;
-use std::alloc::{AllocError, Global};
+use std::alloc::Global;
 use std::io::Write;
 use std::sync::Wait;
-use tab_etf::{Broken, Counted, EncodeFault, FrameFault, Target};
+use tab_etf::{Broken, Counted, EncodeFault, Target, encoded_len};
 use tab_model::Reply;
 use tab_proto::{append_reply, write_reply};
 use tab_sink::FrameSink;
+use tab_term::Term;
 
 /// Replies of a session, in order: requests that came in one piece are answered in one write.
 #[derive(Drop)]
@@ -39,28 +42,23 @@ impl From<EncodeFault> for Unwritten {
     }
 }
 
-impl From<FrameFault> for Unwritten {
-    fn from(_: FrameFault) -> Unwritten {
-        Unwritten
-    }
-}
-
-impl From<AllocError> for Unwritten {
-    fn from(_: AllocError) -> Unwritten {
-        Unwritten
-    }
-}
-
-/// So many records are short.
-const FEW: usize = 16;
-
-/// Whether a reply may be much longer than a request.
+/// Whether a reply is longer than what is kept before it is written. Only what holds records can be much longer than a request.
 fn is_long(reply: &Reply) -> bool {
     match reply {
-        Reply::Found(records) => records.as_slice().len() > FEW,
-        Reply::AtomicTerms(_) => true,
+        Reply::Found(terms) | Reply::AtomicTerms(terms) => are_long(terms.as_slice()),
         _ => false,
     }
+}
+
+fn are_long(terms: &[Term]) -> bool {
+    let mut len: u64 = 0;
+    for term in terms {
+        len = len.saturating_add(encoded_len(term).unwrap_or(u64::MAX));
+        if len > KEPT as u64 {
+            return true;
+        }
+    }
+    false
 }
 
 impl<'a, W: Write, G: Gate> Answers<'a, W, G> {
@@ -101,27 +99,28 @@ impl<'a, W: Write, G: Gate> Answers<'a, W, G> {
         Ok(())
     }
 
-    /// Sends a reply behind those that are kept. In a piece of its own it would take as much room as it is long, which the C
+    /// Sends a reply behind those that are kept, piece by piece: whole it would take as much room as it is long, which the C
     /// library would not give back.
     fn send_long<R: Wait>(&mut self, rt: &R, reply: &Reply) -> Result<(), Unwritten> {
-        self.frames.reserve(2 * KEPT)?;
+        self.frames.reserve(2 * KEPT).map_err(|_| Unwritten)?;
         let mut sink = self.sink.hold(rt);
         let mut pieces = Counted::new(Pieces {
             sink: &mut sink,
             kept: &mut self.frames,
         });
-        write_reply(&mut pieces, None, reply)?;
+        write_reply(&mut pieces, None, reply).map_err(|_| Unwritten)?;
         pieces.flush()?;
         Ok(())
     }
 
-    /// Writes those that are kept.
-    pub fn write<R: Wait>(&mut self, rt: &R) -> Result<(), Broken> {
-        if self.frames.is_empty() {
-            return Ok(());
+    /// Writes those that are kept. The gate is told of each call that was answered, also of one whose reply was sent before.
+    pub fn write<R: Wait>(&mut self, rt: &R) -> Result<(), Broken>
+        ensures { OnOk result (self.new.written ≡ self.new.answered) }
+    {
+        if !self.frames.is_empty() {
+            self.sink.send(rt, &self.frames)?;
+            empty(&mut self.frames);
         }
-        self.sink.send(rt, &self.frames)?;
-        empty(&mut self.frames);
         for call in self.written..self.answered {
             self.gate.after(self.session, call.saturating_add(1));
         }

@@ -26,8 +26,8 @@ impl<W: Write> Sink<W> {
         }
     }
 
-    /// Writes whole frames. Once a write has failed nothing is written any more: of the frames in which it failed a
-    /// beginning is.
+    /// Writes frames, or the next piece of one. Once a write has failed nothing is written any more: of the bytes in which it
+    /// failed a beginning is.
     pub fn put(&mut self, frames: &[u8]) -> Result<(), Broken>
         ensures ok { OnOk result ((self.old.broken ≡ false) × (self.new.broken ≡ false) × Appends (W.contents self.old.device.inner) (W.contents self.new.device.inner) frames.now) }
         ensures same { OnOk result (self.new.device.faults ≡ self.old.device.faults) }
