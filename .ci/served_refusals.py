@@ -72,7 +72,7 @@ NO_MEMORY, MARK = ("error", "no_memory"), ("mnesia_table_begin", "t", "simple")
 # So many runs in which nothing was refused, and none is left.
 NONE_LEFT = 2
 # No request takes so many: it is counted, and nothing refused.
-COUNTED = 1_000_000
+COUNTED, COUNTS = 1_000_000, 3
 # An end that no reply tells takes so many seconds at most; who waits for a lock was told nothing for so many.
 PATIENCE, QUIET = 20.0, 0.05
 SHIM = os.environ.get("TABD_SHIM", "")
@@ -242,15 +242,16 @@ class Case:
             return "had its reply"
         if told == "closed" and self.marks:
             return "were closed for an event"
-        # A request that comes in two pieces takes one allocation more.
-        if told == "closed" and abs(nth - self.all) <= 1:
+        if told == "closed" and nth >= self.all:
             return "were closed for a reply's frame"
         raise Differs(f"told {told}, wanted {self.reply}")
 
     def counted(self, program):
-        """How many allocations it takes where none is refused."""
-        self.run(program, COUNTED)
-        self.all = self.count
+        """How many allocations it takes where none is refused. A thread of a connection that begins late takes some beside them."""
+        self.all = sys.maxsize
+        for _ in range(COUNTS):
+            self.run(program, COUNTED)
+            self.all = min(self.all, self.count)
 
 
 class Watched:

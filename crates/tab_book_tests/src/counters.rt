@@ -285,7 +285,8 @@ fn a_short_journal_folds(rt: HostRuntime) -> Result<(), Fail> {
         value: Some(200),
         audit: true,
         other_audit: false,
-        entered: counts.entered,
+        // Others may be folded away before they are looked for, but not all.
+        entered: counts.entered.max(1),
     };
     assert!(rt; counts == wanted);
     Ok(())
