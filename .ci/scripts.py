@@ -258,6 +258,72 @@ TWO_INDEXES = [
     (1, ("table_info", "b", "index"), [3]),
 ]
 
+# A bag and then a set with an index after each change: as its transaction sees them, which is aborted, and then as they are committed. A
+# change has the records that are found by the value 7, and those of key 1.
+def row(*numbers):
+    return ("b", *numbers)
+
+
+CHANGES = [
+    (("write", row(1, 7, 6)), [row(1, 7, 6)], [row(1, 7, 6)]),
+    (("write", row(1, 8, 5)), [row(1, 7, 6)], [row(1, 7, 6), row(1, 8, 5)]),
+    (("write", row(0, 7, 5)), [row(0, 7, 5), row(1, 7, 6)], [row(1, 7, 6), row(1, 8, 5)]),
+    # Two records of one key have one value, and both are found once.
+    (("write", row(1, 7, 5)), [row(0, 7, 5), row(1, 7, 6), row(1, 7, 5)], [row(1, 7, 6), row(1, 8, 5), row(1, 7, 5)]),
+    (("write", row(1, 7, 6)), [row(0, 7, 5), row(1, 7, 6), row(1, 7, 5)], [row(1, 7, 6), row(1, 8, 5), row(1, 7, 5)]),
+    (("delete_object", row(1, 7, 6)), [row(0, 7, 5), row(1, 7, 5)], [row(1, 8, 5), row(1, 7, 5)]),
+    (("delete_object", row(1, 7, 9)), [row(0, 7, 5), row(1, 7, 5)], [row(1, 8, 5), row(1, 7, 5)]),
+    (("delete", ("b", 0)), [row(1, 7, 5)], [row(1, 8, 5), row(1, 7, 5)]),
+    (("delete", ("b", 1)), [], []),
+]
+SET_CHANGES = [
+    (("write", row(1, 7, 6)), [row(1, 7, 6)], [row(1, 7, 6)]),
+    (("write", row(2, 7, 6)), [row(1, 7, 6), row(2, 7, 6)], [row(1, 7, 6)]),
+    (("write", row(1, 7, 5)), [row(1, 7, 5), row(2, 7, 6)], [row(1, 7, 5)]),
+    (("write", row(1, 8, 5)), [row(2, 7, 6)], [row(1, 8, 5)]),
+    (("delete_object", row(1, 7, 5)), [row(2, 7, 6)], [row(1, 8, 5)]),
+    (("write", row(1, 7, 6)), [row(1, 7, 6), row(2, 7, 6)], [row(1, 7, 6)]),
+    (("delete", ("b", 2)), [row(1, 7, 6)], [row(1, 7, 6)]),
+    (("delete_object", row(1, 7, 6)), [], []),
+]
+READS = [("index_read", "b", 7, "v"), ("read", "b", 1)]
+
+
+def changed(kind, changes, age):
+    yield 1, ("create_table", "b", [("type", kind), ("attributes", ["k", "v", "w"]), ("index", ["v"])]), ATOMIC
+    yield 1, "begin", ("tid", age)
+    for change, *found in changes:
+        yield 1, change, OK
+        yield from zip([1, 1], READS, found)
+    yield 1, ("abort", "why"), aborted("why")
+    for change, *found in changes:
+        yield 1, ("transaction", [change], 0), ("atomic", [OK])
+        yield 1, ("transaction", READS, 0), ("atomic", found)
+    yield 1, ("table_info", "b", "size"), 1 if changes[-1][2] else 0
+    yield 1, ("delete_table", "b"), ATOMIC
+
+
+AN_INDEX = [(1, "join", OK), *changed("bag", CHANGES, 1), *changed("set", SET_CHANGES, 2 + 2 * len(CHANGES))]
+
+# A child's write to a key that its parent wrote to, in a bag: undone, and then kept.
+LEVELS_OF_A_BAG = [
+    (1, "join", OK),
+    (1, ("create_table", "b", [("type", "bag"), ("attributes", ["k", "v", "w"])]), ATOMIC),
+    (1, "begin", ("tid", 1)),
+    (1, ("write", row(1, 7, 6)), OK),
+    (1, "begin", ("tid", 1)),
+    (1, ("write", row(1, 8, 5)), OK),
+    (1, ("read", "b", 1), [row(1, 7, 6), row(1, 8, 5)]),
+    (1, ("abort", "why"), aborted("why")),
+    (1, ("read", "b", 1), [row(1, 7, 6)]),
+    (1, "begin", ("tid", 1)),
+    (1, ("write", row(1, 8, 6)), OK),
+    (1, "commit", ATOMIC),
+    (1, ("match_object", row(1, "_", 6)), [row(1, 7, 6), row(1, 8, 6)]),
+    (1, "commit", ("atomic", 1)),
+    (1, ("transaction", [("read", "b", 1)], 0), ("atomic", [[row(1, 7, 6), row(1, 8, 6)]])),
+]
+
 # As many sessions and tables as there may be, and one more.
 LIMITS = [
     *[(session, "join", OK) for session in range(1, 65)],
@@ -274,5 +340,7 @@ SCRIPTS = [
     ("a session watches", 2, WATCHED),
     ("two sessions watch", 2, TWO_WATCH),
     ("two indexes", 64, TWO_INDEXES),
+    ("an index after each change", 64, AN_INDEX),
+    ("levels of a bag", 64, LEVELS_OF_A_BAG),
     ("sessions and tables", 64, LIMITS),
 ]
