@@ -1,4 +1,4 @@
-//! Tests of the public calls of what stands below tables: terms and their bytes, maps, definitions, records, requests, locks.
+//! Tests of the public calls of what stands below tables: terms and their bytes, maps, requests, locks.
 
 #![tactic(auto)]
 
@@ -8,9 +8,5 @@ mod etf;
 mod map;
 #[cfg(test)]
 mod proto;
-#[cfg(test)]
-mod rows;
-#[cfg(test)]
-mod schema;
 #[cfg(test)]
 mod waitdie;
