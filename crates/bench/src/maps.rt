@@ -1,6 +1,5 @@
 //! Maps and tables beside the standard map: the same calls, in the same run.
 
-use crate::book::record;
 use anyhow::{Result, ensure};
 use std::alloc::{AllocError, Global};
 use std::collections::BTreeMap;
@@ -10,7 +9,7 @@ use std::time::{Duration, Instant};
 use tab_index::IndexedTable;
 use tab_map::Map;
 use tab_model::{Atoms, Change, Kind, Numbers, TableDef};
-use tab_term::{Atom, Term};
+use tab_term::{Atom, Term, Terms};
 
 /// What is measured, and whether it changes in place, or into a new version while the old one stands.
 #[derive(Clone, Copy)]
@@ -188,4 +187,13 @@ fn has(store: &Store, key: &Term) -> bool {
         Store::Records(map) => map.get(key).is_some(),
         Store::Table(table) | Store::TableVersions(table) => !table.at(key).is_empty(),
     }
+}
+
+/// `{t, Key, Key}`.
+fn record(alloc: Global, key: u64) -> Result<Term, AllocError> {
+    let mut elements = Vec::with_capacity(alloc, 3)?;
+    elements.push(Term::Atom(Atom::from_short_text(alloc, "t")?))?;
+    elements.push(Term::Int(i128::from(key)))?;
+    elements.push(Term::Int(i128::from(key)))?;
+    Ok(Term::Tuple(Terms::from_vec(elements)))
 }
