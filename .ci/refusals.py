@@ -1,17 +1,18 @@
 #!/usr/bin/env python3
 """Refuses the built program's replay one allocation, each in turn, and asks a step again that was told `no_memory`.
 
-    refusals.py PROGRAM
+    refusals.py PROGRAM [wrong]
 
 Each stream of streams.py, but those that take a thousand operations and those that are damaged, is asked frame by frame, once
 for each allocation that it makes: with the nth refused. What is answered `{error, no_memory}` is asked again at once, and then
 all replies are the stream's. A run may end with status 1 and its line instead where memory was refused at the start or for the
-frame itself, behind the replies to all earlier frames; how many did is told, and how many ended for a reply's frame, which are
-not judged. A one-shot uses up an age, so each of one_shots.py has runs of its own, with a probe behind it: it left no level, no
+frame itself, behind the replies to all earlier frames; how many did is told. So it may for a reply's frame, once for each: where the
+last allocation of a frame was refused, which had room for the reply. A one-shot uses up an age, so each of one_shots.py has runs of its own, with a probe behind it: it left no level, no
 lock, no request and no change. On a connection each larger allocation is refused, so that a long frame finds no memory: it is answered
-so, and the session goes on. No contract ties an answer to memory that was refused, so this is where it is seen. Wants a C
-compiler, for a `malloc` that refuses. One line tells each run that differs; the last line is `N passed, M failed`, and the
-status 1 where one failed.
+so, and the session goes on. No contract ties an answer to memory that was refused, so this is where it is seen. With `wrong` the
+program is each of a few wrong ones, which end by themselves where they are refused memory, and each has to be found in each stream.
+Wants a C compiler, for a `malloc` that refuses. One line tells each run that differs; the last line is `N passed, M failed`, and
+the status 1 where one failed.
 """
 
 import collections
@@ -32,8 +33,9 @@ from one_shots import ONE_SHOTS, PROBED  # noqa: E402
 from streams import streams  # noqa: E402
 
 # Refuses the allocation number NTH of those that are made once FROM pieces were read. What was refused is told on REPORT: how
-# many pieces had been read, and how many allocations made since the last. Where NTH is 0 this is told before each read instead.
-# Each of more than LARGEST bytes is refused too, where that is not 0.
+# many pieces had been read, how many allocations made since the last, and how many bytes were asked for. Where NTH is 0 this is told
+# before each read instead. Each of more than LARGEST bytes is refused too, where that is not 0. Where ENDS is not 0 the program
+# is a wrong one: it ends at a refusal behind so many allocations since the last piece, with the status of WRONG and its line.
 MALLOC = r"""
 #define _GNU_SOURCE
 #include <dlfcn.h>
@@ -42,7 +44,7 @@ MALLOC = r"""
 #include <sys/syscall.h>
 #include <unistd.h>
 
-static long made, since, reads, from, nth, report, largest;
+static long made, since, reads, from, nth, report, largest, ends, wrong;
 static void *(*allocate)(size_t), *(*move)(void *, size_t);
 static ssize_t (*get)(int, void *, size_t);
 
@@ -60,19 +62,27 @@ __attribute__((constructor)) static void start(void) {
     nth = number("NTH");
     report = number("REPORT");
     largest = number("LARGEST");
+    ends = number("ENDS");
+    wrong = number("WRONG");
 }
 
-static int tell(void) {
-    char line[64];
-    int size = snprintf(line, sizeof line, "%ld %ld\n", reads, since);
-    return syscall(SYS_write, report, line, size) > 0;
+static int tell(size_t asked) {
+    char line[80];
+    int size = snprintf(line, sizeof line, "%ld %ld %zu\n", reads, since, asked);
+    int told = syscall(SYS_write, report, line, size) > 0;
+    if (nth && ends && since >= ends) {
+        if (wrong)
+            syscall(SYS_write, 2, "tabd: no memory\n", 16);
+        _exit(wrong);
+    }
+    return told;
 }
 
 static int refuses(size_t size) {
     ++since;
     if (largest && size > (size_t)largest)
         return 1;
-    return reads >= from && ++made == nth && tell();
+    return reads >= from && ++made == nth && tell(size);
 }
 
 void *malloc(size_t size) {
@@ -89,7 +99,7 @@ void *realloc(void *room, size_t size) {
 
 ssize_t read(int file, void *room, size_t size) {
     if (file == 0 && nth == 0)
-        tell();
+        tell(0);
     ssize_t count = get(file, room, size);
     if (file == 0) {
         ++reads;
@@ -101,9 +111,9 @@ ssize_t read(int file, void *room, size_t size) {
 
 # Streams of which every frame is asked with a thousand before it, and those that are no whole frames.
 LEFT_OUT = {"limit operations", "child count", "one shot operations", "sessions and tables", "damage cut", "damage too long"}
-# A frame that is read takes so many allocations at most: the bytes, the payload, and the list of the frames. That of its reply
-# takes one, which is the last before the next read.
-OF_A_FRAME = 3
+# A frame that is read takes so many allocations: the bytes, the list of the frames, and the payload, where it is not empty. That
+# of its reply takes one, which is the last before the next read.
+OF_A_FRAME, OF_AN_EMPTY = 3, 2
 # A vector that is not there yet may be tried twice: so many runs with no refusal, and no allocation is left.
 NONE_LEFT = 2
 # How a run ends, and how it is told.
@@ -113,8 +123,15 @@ ENDS = {
     "reply": "ended for a reply's frame",
     "start": "ended at the start",
 }
+# Wrong programs: the first allocation since a piece at whose refusal one ends, and the status.
+WRONG = [
+    ("it ends at each refusal", 1, 1),
+    ("it ends where a step is refused memory", OF_A_FRAME + 1, 1),
+    ("it ends where a step is refused memory, and says nothing", OF_A_FRAME + 1, 0),
+]
 NO_MEMORY, LINE = ("error", "no_memory"), b"tabd: no memory\n"
 SHIM = os.environ.get("TABD_SHIM", "")
+ENDING = {}
 
 
 class Differs(Exception):
@@ -126,7 +143,7 @@ class Run:
 
     def __init__(self, program, words, nth, start=1):
         self.report, told = os.pipe()
-        env = {"LD_PRELOAD": SHIM, "NTH": str(nth), "FROM": str(start), "REPORT": str(told)}
+        env = {"LD_PRELOAD": SHIM, "NTH": str(nth), "FROM": str(start), "REPORT": str(told), **ENDING}
         pipe = subprocess.PIPE
         self.process = subprocess.Popen([program, *words], stdin=pipe, stdout=pipe, stderr=pipe, env=env, pass_fds=[told], bufsize=0)
         os.close(told)
@@ -178,25 +195,25 @@ def is_no_memory(told, wanted):
     return reply == NO_MEMORY and session in (0, read(io.BytesIO(wanted[5:]))[0])
 
 
-def end_of(run, counts):
+def end_of(run, case, counts, is_whole):
     """How a run ended: `whole`, or where its growth was refused: at the `start`, for a `frame`, for a `reply`; `none` where nothing
-    was refused. The counts are of the allocations of each frame."""
+    was refused. Whether all frames of the case were answered; the counts are of the allocations of each."""
     where, status, err = run.ended()
-    if not where:
+    if is_whole:
         if (status, err) != (0, b""):
-            raise Differs(f"nothing refused, status {status}, {err}")
-        return "none"
-    if (status, err) == (0, b""):
-        return "asked again" if run.refused else "whole"
-    reads, since = where
+            raise Differs(f"all is answered, status {status}, {err}")
+        return "asked again" if run.refused else "whole" if where else "none"
+    if not where:
+        raise Differs(f"it ended at frame {run.answered + 1}, and nothing was refused: status {status}, {err}")
+    reads, since, asked = where
     if (status, err) != (1, LINE):
         raise Differs(f"status {status}, {err}")
     if run.refused or run.answered != max(reads - 1, 0):
         raise Differs(f"it ended at frame {run.answered + 1}, and memory was refused at frame {reads}")
-    if not reads or since <= OF_A_FRAME:
+    if not reads or since <= (OF_A_FRAME if len(case.given[reads - 1]) > 4 else OF_AN_EMPTY):
         return "frame" if reads else "start"
-    if since != counts[reads]:
-        raise Differs(f"it ended at frame {reads} for allocation {since}, which is not the frame's")
+    if since != counts[reads] or asked < len(case.told[reads - 1]):
+        raise Differs(f"it ended at frame {reads} for allocation {since} of {asked} bytes, which is not the frame's")
     return "reply"
 
 
@@ -210,7 +227,7 @@ def counts_of(program, stream):
         where, status, err = run.ended()
         if (status, err) != (0, b""):
             raise Differs(f"nothing refused, status {status}, {err}")
-        return dict(zip(where[::2], where[1::2]))
+        return dict(zip(where[::3], where[1::3]))
     finally:
         run.kill()
 
@@ -219,10 +236,8 @@ def row_end(program, stream, nth, start, counts):
     """How the run of a stream ended."""
     run = Run(program, stream.words, nth, start)
     try:
-        for given, wanted in zip(stream.given, stream.told):
-            if run.asked(given, wanted) is None:
-                break
-        return end_of(run, counts)
+        is_whole = all(run.asked(given, wanted) for given, wanted in zip(stream.given, stream.told))
+        return end_of(run, stream, counts, is_whole)
     finally:
         run.kill()
 
@@ -240,7 +255,7 @@ def one_shot_end(program, case, nth, start, counts):
             probe(run, case)
         elif told not in (None, case.told[-1]):
             raise Differs(f"told {told}, wanted {case.told[-1]}")
-        return end_of(run, counts)
+        return end_of(run, case, counts, told is not None)
     finally:
         run.kill()
 
@@ -286,6 +301,8 @@ def all_ends(one):
             ends[does(program, stream, nth, start, counts)] += 1
         except Differs as differs:
             faults.append(f"allocation {nth}: {differs}")
+    if ends["reply"] > (replies := len(stream.given) + 1 - max(start, 1)):
+        faults.append(f"{ends['reply']} runs ended for the frames of {replies} replies")
     return ends, faults
 
 
@@ -332,16 +349,35 @@ def served_faults(program):
         server.wait()
 
 
+def in_turn(tries):
+    with concurrent.futures.ProcessPoolExecutor(os.cpu_count()) as pool:
+        return list(pool.map(all_ends, tries))
+
+
+def wrong_ones(program):
+    """Each stream finds each wrong program."""
+    names, tries = zip(*[one for one in all_tries(program) if one[1][3]])
+    lost = 0
+    for name, ends, status in WRONG:
+        ENDING.update(ENDS=str(ends), WRONG=str(status))
+        passed = [stream for stream, (_, faults) in zip(names, in_turn(tries)) if not faults]
+        lost += len(passed)
+        print(f"{name}: {len(names) - len(passed)} of {len(names)} streams find it", *passed)
+    print(f"{len(WRONG) * len(names) - lost} passed, {lost} failed")
+    sys.exit(1 if lost else 0)
+
+
 def main():
     global SHIM
-    if len(sys.argv) != 2:
+    if len(sys.argv) not in (2, 3) or sys.argv[2:] not in ([], ["wrong"]):
         sys.exit(__doc__)
     program = os.path.abspath(sys.argv[1])
     with tempfile.TemporaryDirectory() as folder:
         SHIM = shim(folder)
+        if sys.argv[2:]:
+            wrong_ones(program)
         names, tries = zip(*all_tries(program))
-        with concurrent.futures.ProcessPoolExecutor(os.cpu_count()) as pool:
-            told = list(pool.map(all_ends, tries))
+        told = in_turn(tries)
         served = list(served_faults(program))
     total, failed = collections.Counter(), len(served)
     for fault in served:
@@ -352,7 +388,7 @@ def main():
         for fault in faults[:5]:
             print(f"{name}: {fault}")
     print(", ".join(f"{total[end]} {text}" for end, text in ENDS.items()))
-    print(f"{sum(total.values()) - total['none'] - total['reply'] + (not served)} passed, {failed} failed")
+    print(f"{sum(total.values()) - total['none'] + (not served)} passed, {failed} failed")
     sys.exit(1 if failed else 0)
 
 

@@ -6,7 +6,8 @@
 Each case is run once for each allocation and each thread that the server makes for one request, one connection or one event: with the
 nth refused. The session is told `no_memory` and goes on, or, where memory was refused for a connection, a thread, a reply's frame or an
 event, it is closed with no frame; how many were is told. No lock, level or request is left of it: another connection
-writes the same key and changes the table's indexes. What was told `no_memory` is told its reply when it is asked again. Wants a
+writes the same key and changes the table's indexes. What was told `no_memory` is told its reply when it is asked again. From the
+allocations of many commits it is seen which is the first that folds the journal of a server whose words don't set it. Wants a
 C compiler, for a `malloc` that refuses. One line tells each run that differs; the last line is `N passed, M failed`, and the status 1
 where one failed.
 """
@@ -68,11 +69,15 @@ int pthread_create(pthread_t *thread, const pthread_attr_t *how, void *(*run)(vo
 }
 """
 
+# The frame that is read takes the first allocations: the bytes, the payload, and the list of the frames.
+OF_A_FRAME = 3
 NO_MEMORY, MARK = ("error", "no_memory"), ("mnesia_table_begin", "t", "simple")
 # So many runs in which nothing was refused, and none is left.
 NONE_LEFT = 2
 # No request takes so many: it is counted, and nothing refused.
 COUNTED, COUNTS = 1_000_000, 3
+# The entries of a journal that no word sets.
+JOURNAL = 1024
 # An end that no reply tells takes so many seconds at most; who waits for a lock was told nothing for so many.
 PATIENCE, QUIET = 20.0, 0.05
 SHIM = os.environ.get("TABD_SHIM", "")
@@ -240,7 +245,7 @@ class Case:
             return "told no_memory"
         if told == self.reply:
             return "had its reply"
-        if told == "closed" and self.marks:
+        if told == "closed" and self.marks and nth > OF_A_FRAME:
             return "were closed for an event"
         if told == "closed" and nth >= self.all:
             return "were closed for a reply's frame"
@@ -255,51 +260,59 @@ class Case:
 
 
 class Watched:
-    """The second commits what the first watches: the first is told each event, or is closed."""
+    """The second commits what the first watches, behind what it committed before: the first is told each event once, or is closed."""
 
-    name, count = "a commit that is watched", 6
+    count = 6
+
+    def __init__(self, name, before=(), *words):
+        self.name, self.before, self.words, self.number = name, before, words, len(before) + 1
 
     def counted(self, program):
         pass
 
     def run(self, program, nth):
-        with Server(program, 2) as server:
+        with Server(program, 2, *self.words) as server:
             first, second = Connection(server.port), Connection(server.port)
             script(*((second, create, ATOMIC) for create in CREATES), (first, watch(), HERE_OK))
             same("begin mark", first.event(), MARK)
-            script((second, "begin", ("tid", 1)), *((second, write(key, b"v" * 3000), OK) for key in range(self.count)))
+            script(*((second, request, reply) for _, request, reply in self.before), (second, "begin", ("tid", self.number)))
+            script(*((second, write(key, b"v" * 3000), OK) for key in range(self.count)))
             server.refuse(nth)
             try:
                 told = asked(second, "commit")
             except Closed:
                 told = "closed"
-            end, left = self.events(first, told)
+            end = self.told(first, told)
             made = server.made()
-            if made < nth and (told, left) != (("atomic", 1), 0):
-                raise Differs(f"nothing refused, and told {told}, with {left} events left")
+            if made < nth and end != "had its reply":
+                raise Differs(f"nothing refused, and told {told}, and {end}")
             if told == NO_MEMORY:
-                script((second, "commit", ("atomic", 1)))
-                end, left = self.events(first, ("atomic", 1))
-                same("events left", left, 0)
-                end = "told no_memory"
-            elif told == "closed":
-                raise Differs("who commits is closed")
-            else:
-                first.close()
+                script((second, "commit", ("atomic", self.number)))
+                same("again", self.told(first, ("atomic", self.number)), "had its reply")
+            if end != "were closed for an event":
+                self.next_event(first, second)
+            first.close()
             probe(second)
-            for one in (first, second):
-                one.close()
+            second.close()
             server.ends()
             return end if made >= nth else "none"
 
-    def events(self, first, told):
-        """How it was told what was committed, and how many events are left of it. It is told a beginning, and closed behind it."""
-        for key in range(self.count if told == ("atomic", 1) else 0):
+    def told(self, first, told):
+        """How the first was told what was committed: where it is closed, a beginning of it."""
+        if told == NO_MEMORY:
+            return "told no_memory"
+        same("a commit", told, ("atomic", self.number))
+        for key in range(self.count):
             try:
-                same("event", first.events.popleft() if first.events else received(first), event(key, b"v" * 3000, 1))
+                same("event", received(first), event(key, b"v" * 3000, self.number))
             except Closed:
-                return "were closed for an event", self.count - key
-        return "had its reply", 0
+                return "were closed for an event"
+        return "had its reply"
+
+    def next_event(self, first, second):
+        """Nothing stands between what the first was told and the event of what is committed next."""
+        script((second, ("transaction", [write("next", 0)], 0), ("atomic", [OK])))
+        same("the next event", received(first), event("next", 0, self.number + 1))
 
 
 class Joins:
@@ -398,7 +411,8 @@ CASES = [
     Case("a one-shot of three levels", [], DEEP, DEEP_TOLD),
     Case("a one-shot whose child aborts", [], ("transaction", [write(1, "a"), INNER], 2), ("atomic", [OK, ("aborted", "why")])),
     Case("a one-shot that gives up", HELD, ("transaction", [write(1, "a"), INNER, ("read", "w", 1)], 0), ("aborted", "nomore")),
-    Watched(),
+    Watched("a commit that is watched"),
+    Watched("a commit that is watched and folds", FULL, "--journal", "16"),
     Joins("a connection"),
     Joins("a connection of a server without an end", "--forever"),
 ]
@@ -421,6 +435,23 @@ def all_ends(one):
     return ends, faults
 
 
+def journal_faults(program):
+    """A commit that folds takes more allocations. The table's entry stands before the commits, so as many fold nothing as the
+    journal has entries, but one."""
+    made = []
+    try:
+        with Server(program, 1) as server:
+            connection = Connection(server.port)
+            script((connection, CREATES[0], ATOMIC))
+            for number in range(1, JOURNAL + 10):
+                server.refuse(COUNTED)
+                script((connection, ("transaction", [write(1, number)], 0), ("atomic", [OK])))
+                made.append(server.made())
+            same("the last commit that folds nothing", max(n for n, count in enumerate(made, 1) if count == min(made)), JOURNAL - 1)
+    except (Differs, Closed, OSError, ValueError) as error:
+        yield f"a journal that no word sets: {type(error).__name__} {error}"
+
+
 def shim(folder):
     source, built = f"{folder}/malloc.c", f"{folder}/malloc.so"
     with open(source, "w", encoding="utf-8") as file:
@@ -438,12 +469,13 @@ def main():
         SHIM = shim(folder)
         with concurrent.futures.ProcessPoolExecutor(2 * os.cpu_count()) as pool:
             told = list(pool.map(all_ends, [(program, case) for case in CASES]))
+        journal = list(journal_faults(program))
     total = sum((ends for ends, _ in told), collections.Counter())
-    faults = [fault for _, found in told for fault in found]
+    faults = [fault for _, found in told for fault in found] + journal
     for fault in faults:
         print(fault)
     print(", ".join(f"{count} {end}" for end, count in total.items() if end != "none"))
-    print(f"{sum(total.values()) - total['none']} passed, {len(faults)} failed")
+    print(f"{sum(total.values()) - total['none'] + (not journal)} passed, {len(faults)} failed")
     sys.exit(1 if faults else 0)
 
 

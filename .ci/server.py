@@ -12,6 +12,7 @@ are closed. One line tells each case that differs; the last line is `N passed, M
 import os
 import random
 import resource
+import select
 import socket
 import subprocess
 import sys
@@ -271,6 +272,25 @@ def narrow(watcher, writer):
             same("end mark", watcher.event(), ("mnesia_table_end", "t", "unsubscribed"))
 
 
+def filled(size):
+    """Behind a commit that is being sent an outbox holds so many, and the next overflows. The commit has no end before it is read, as
+    16 MB stand in no socket."""
+
+    def case(idle, writer):
+        value, keys, next_one = bytes(1_000_000), range(16), size + 2
+        script((writer, CREATE, ATOMIC), (idle, watch(), HERE_OK), (writer, "begin", ("tid", 1)))
+        same("begin mark", idle.event(), ("mnesia_table_begin", "t", "simple"))
+        script(*((writer, write(key, value), OK) for key in keys), (writer, "commit", ("atomic", 1)))
+        # Of the long commit something has come, so it stands in the outbox no more.
+        same("it is sent", bool(select.select([idle.socket], [], [], 10)[0]), True)
+        script(*((writer, ("transaction", [write(0, number)], 0), ("atomic", [OK])) for number in range(2, next_one + 1)))
+        same("the long one", [idle.event() for _ in keys] == [event(key, value, 1) for key in keys], True)
+        same("behind it", [idle.event() for _ in range(size)], [event(0, number, number) for number in range(2, next_one)])
+        same("the next", idle.event(), ("mnesia_overflow", next_one))
+
+    return case
+
+
 def beside_long_replies(reader, writer):
     """A reply that is longer than a socket's room stands together, while others' commits are told to the same connection."""
     each, rows = 20, [("u", key, bytes([key]) * 200_000) for key in range(40)]
@@ -444,6 +464,8 @@ CASES = [
     ("a slow reader", 3, ["--outbox", "16"], slow(alone)),
     ("a slow reader of batches", 3, ["--outbox", "16", "--batches"], slow(in_batch)),
     ("an outbox of one item", 2, ["--outbox", "1"], narrow),
+    ("an outbox of three items", 2, ["--outbox", "3"], filled(3)),
+    ("an outbox that no word sets", 2, [], filled(64)),
     ("beside long replies", 2, ["--outbox", "1024"], beside_long_replies),
     ("batches", 3, ["--batches"], batches),
     ("four move amounts", 5, ["--batches", "--outbox", "1024"], moved),
