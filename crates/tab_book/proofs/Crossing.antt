@@ -1,21 +1,15 @@
 -- A book may go to another thread where its handle may. What it holds may: terms, and what is built of them.
-use mathlib.Core.List.{[], ◌∷◌}
 use denote.RattleType.{RattleType}
-use denote.Struct.Tuple.{Tuple, tuple_type}
-use denote.Struct.Field.{row_field, u64-field, i128-field}
+use denote.Struct.Field.{row_field, u64-field}
 use denote.Param.Send.{IsSend, IsSync, plain_send, plain_sync, sendable}
 use denote.Param.SendFields.{as_row_send, as_row_sync, declared_send, declared_sync, variants_send, variants_sync}
 use Rattle.std.proofs.Crossing.{Vec-send, Vec-sync, Arc-send, Arc-sync, crosses, frees, send as heap_send}
 use Rattle.std.proofs.MapsCrossing.{BTreeMap-send}
 use Rattle.tab_map.proofs.Crossing.{Map-send, Map-sync}
 use Rattle.tab_term.proofs.atom.Atom.TheSendSync as atom_marks
-use Rattle.tab_term.proofs.bytes.Bytes.TheSendSync as bytes_marks
-use Rattle.tab_term.proofs.term.Pairs.TheLaws.TheKnot.{send-Terms, sync-Terms, send-Term, sync-Term, send-Pairs, sync-Pairs}
+use Rattle.tab_term.proofs.Crossing.{Terms-send, Terms-sync, Term-send, Term-sync, SharedTerms-send, SharedTerms-sync}
 use Rattle.tab_term.specs.contracts.atom.Atom as atom
-use Rattle.tab_term.specs.contracts.bytes.Bytes as bytes
 use Rattle.tab_term.specs.contracts.term.Terms as terms
-use Rattle.tab_term.specs.contracts.term.Pairs as pairs
-use Rattle.tab_term.specs.contracts.term.Term as term
 use Rattle.tab_model.specs.contracts.data.Operation as operation
 use Rattle.tab_model.specs.contracts.data.Reply as reply
 use Rattle.tab_model.specs.contracts.data.Entry as entry
@@ -70,98 +64,30 @@ use Rattle.tab_journal.proofs.subscriptions.Subscription.TheSendSync as subscrip
 
 ruleset parts = (sendable, as_row_send, as_row_sync, declared_send, declared_sync, variants_send, variants_sync, Vec-send, Vec-sync, Arc-send, Arc-sync, Map-send, Map-sync, BTreeMap-send, atom_marks.the_send, atom_marks.the_sync)
 
-pair_send : (R : RattleType) → IsSend R → IsSend (Tuple (R ∷ R ∷ []))
-pair_send R s = declared_send (tuple_type (R ∷ R ∷ [])) (as_row_send (row_field R) s, (as_row_send (row_field R) s, tt))
-
-pair_sync : (R : RattleType) → IsSync R → IsSync (Tuple (R ∷ R ∷ []))
-pair_sync R s = declared_sync (tuple_type (R ∷ R ∷ [])) (as_row_sync (row_field R) s, (as_row_sync (row_field R) s, tt))
-
-terms-send : IsSend terms.the_row
-terms-send =
-    send-Terms
-    (λ h s. Vec-send (Tuple (h ∷ h ∷ [])) (pair_send h s))
-    Vec-send
-    (as_row_send i128-field (plain_send _ _ _ _ _))
-    (as_row_send atom.the_field atom_marks.the_send)
-    (as_row_send bytes.the_field bytes_marks.the_send)
-
-terms-sync : IsSync terms.the_row
-terms-sync =
-    sync-Terms
-    (λ h s. Vec-sync (Tuple (h ∷ h ∷ [])) (pair_sync h s))
-    Vec-sync
-    (as_row_sync i128-field (plain_sync _ _ _ _ _))
-    (as_row_sync atom.the_field atom_marks.the_sync)
-    (as_row_sync bytes.the_field bytes_marks.the_sync)
-
-pairs-send : IsSend pairs.the_row
-pairs-send =
-    send-Pairs
-    (λ h s. Vec-send (Tuple (h ∷ h ∷ [])) (pair_send h s))
-    Vec-send
-    (as_row_send i128-field (plain_send _ _ _ _ _))
-    (as_row_send atom.the_field atom_marks.the_send)
-    (as_row_send bytes.the_field bytes_marks.the_send)
-
-term-send : IsSend term.the_row
-term-send =
-    as_row_send
-    term.the_field
-    (
-    send-Term
-    (as_row_send i128-field (plain_send _ _ _ _ _))
-    (as_row_send atom.the_field atom_marks.the_send)
-    terms-send
-    (as_row_send bytes.the_field bytes_marks.the_send)
-    pairs-send
-    )
-
-pairs-sync : IsSync pairs.the_row
-pairs-sync =
-    sync-Pairs
-    (λ h s. Vec-sync (Tuple (h ∷ h ∷ [])) (pair_sync h s))
-    Vec-sync
-    (as_row_sync i128-field (plain_sync _ _ _ _ _))
-    (as_row_sync atom.the_field atom_marks.the_sync)
-    (as_row_sync bytes.the_field bytes_marks.the_sync)
-
-term-sync : IsSync term.the_row
-term-sync =
-    as_row_sync
-    term.the_field
-    (
-    sync-Term
-    (as_row_sync i128-field (plain_sync _ _ _ _ _))
-    (as_row_sync atom.the_field atom_marks.the_sync)
-    terms-sync
-    (as_row_sync bytes.the_field bytes_marks.the_sync)
-    pairs-sync
-    )
-
 operation-send : IsSend operation.the_row
-operation-send = search (parts, term-send, terms-send) depth 20
+operation-send = search (parts, Term-send, Terms-send) depth 20
 
 info-send : IsSend info.the_row
-info-send = search (parts, terms-send) depth 20
+info-send = search (parts, Terms-send) depth 20
 
 info-sync : IsSync info.the_row
-info-sync = search (parts, terms-sync) depth 20
+info-sync = search (parts, Terms-sync) depth 20
 
 item-send : IsSend item.the_row
-item-send = search (parts, terms-send) depth 20
+item-send = search (parts, Terms-send, SharedTerms-send) depth 20
 
 item-sync : IsSync item.the_row
-item-sync = search (parts, terms-sync) depth 20
+item-sync = search (parts, Terms-sync, SharedTerms-sync) depth 20
 
 reply-send : IsSend reply.the_row
 reply-send =
-    let a = as_row_send atom.the_field atom_marks.the_send in let ts = as_row_send (row_field terms.the_row) terms-send in let n = as_row_send u64-field (plain_send _ _ _ _ _) in
-    variants_send reply.enum (tt, (tt, (tt, (tt, (tt, (tt, (tt, ((limit_marks.the_send, tt), (tt, ((a, tt), ((a, (term-send, tt)), ((a, (term-send, tt)), ((term-send, tt), ((a, tt), ((a, tt), ((a, (term-send, tt)), ((a, tt), ((a, tt), ((a, tt), (tt, (tt, (tt, (tt, (tt, ((n, tt), ((n, tt), (tt, ((ts, tt), (tt, (tt, ((ts, tt), (tt, ((info-send, tt), ((item-send, tt), ((n, tt), (tt, tt))))))))))))))))))))))))))))))))))))
+    let a = as_row_send atom.the_field atom_marks.the_send in let ts = as_row_send (row_field terms.the_row) Terms-send in let n = as_row_send u64-field (plain_send _ _ _ _ _) in
+    variants_send reply.enum (tt, (tt, (tt, (tt, (tt, (tt, (tt, ((limit_marks.the_send, tt), (tt, ((a, tt), ((a, (Term-send, tt)), ((a, (Term-send, tt)), ((Term-send, tt), ((a, tt), ((a, tt), ((a, (Term-send, tt)), ((a, tt), ((a, tt), ((a, tt), (tt, (tt, (tt, (tt, (tt, ((n, tt), ((n, tt), (tt, ((ts, tt), (tt, (tt, ((ts, tt), (tt, ((info-send, tt), ((item-send, tt), ((n, tt), (tt, tt))))))))))))))))))))))))))))))))))))
 
 reply-sync : IsSync reply.the_row
 reply-sync =
-    let a = as_row_sync atom.the_field atom_marks.the_sync in let ts = as_row_sync (row_field terms.the_row) terms-sync in let n = as_row_sync u64-field (plain_sync _ _ _ _ _) in
-    variants_sync reply.enum (tt, (tt, (tt, (tt, (tt, (tt, (tt, ((limit_marks.the_sync, tt), (tt, ((a, tt), ((a, (term-sync, tt)), ((a, (term-sync, tt)), ((term-sync, tt), ((a, tt), ((a, tt), ((a, (term-sync, tt)), ((a, tt), ((a, tt), ((a, tt), (tt, (tt, (tt, (tt, (tt, ((n, tt), ((n, tt), (tt, ((ts, tt), (tt, (tt, ((ts, tt), (tt, ((info-sync, tt), ((item-sync, tt), ((n, tt), (tt, tt))))))))))))))))))))))))))))))))))))
+    let a = as_row_sync atom.the_field atom_marks.the_sync in let ts = as_row_sync (row_field terms.the_row) Terms-sync in let n = as_row_sync u64-field (plain_sync _ _ _ _ _) in
+    variants_sync reply.enum (tt, (tt, (tt, (tt, (tt, (tt, (tt, ((limit_marks.the_sync, tt), (tt, ((a, tt), ((a, (Term-sync, tt)), ((a, (Term-sync, tt)), ((Term-sync, tt), ((a, tt), ((a, tt), ((a, (Term-sync, tt)), ((a, tt), ((a, tt), ((a, tt), (tt, (tt, (tt, (tt, (tt, ((n, tt), ((n, tt), (tt, ((ts, tt), (tt, (tt, ((ts, tt), (tt, ((info-sync, tt), ((item-sync, tt), ((n, tt), (tt, tt))))))))))))))))))))))))))))))))))))
 
 told-send : IsSend told.the_row
 told-send = search (parts, reply-send, reply-sync) depth 20
@@ -176,22 +102,22 @@ replies-send : IsSend replies.the_row
 replies-send = search (parts, told-send) depth 20
 
 schema-send : IsSend schema.the_row
-schema-send = search (parts, term-send, terms-send) depth 20
+schema-send = search (parts, Term-send, Terms-send) depth 20
 
 entry-send : IsSend entry.the_row
 entry-send = search (parts, moves-send, replies-send, schema-send, numbers_marks.the_send, level_marks.the_send) depth 30
 
 rows-send : IsSend rows.the_row
-rows-send = search (parts, term-send, term-sync, terms-send, terms-sync) depth 30
+rows-send = search (parts, Term-send, Term-sync, Terms-send, Terms-sync) depth 30
 
 rows-sync : IsSync rows.the_row
-rows-sync = search (parts, term-send, term-sync, terms-send, terms-sync) depth 30
+rows-sync = search (parts, Term-send, Term-sync, Terms-send, Terms-sync) depth 30
 
 index-send : IsSend index.the_row
-index-send = search (parts, term-send, term-sync) depth 30
+index-send = search (parts, Term-send, Term-sync) depth 30
 
 index-sync : IsSync index.the_row
-index-sync = search (parts, term-send, term-sync) depth 30
+index-sync = search (parts, Term-send, Term-sync) depth 30
 
 table-send : IsSend table.the_row
 table-send = search (parts, rows-send, index-send, definition_marks.the_send, definition_marks.the_sync) depth 30
@@ -203,19 +129,19 @@ world-send : IsSend world.the_row
 world-send = search (parts, table-send, table-sync) depth 30
 
 change-send : IsSend change.the_row
-change-send = search (parts, term-send) depth 20
+change-send = search (parts, Term-send) depth 20
 
 overlay-send : IsSend levels.the_row
-overlay-send = search (parts, change-send, term-send, term-sync, terms-send, terms-sync) depth 30
+overlay-send = search (parts, change-send, Term-send, Term-sync, Terms-send, Terms-sync) depth 30
 
 store-send : IsSend store.the_row
 store-send = search (parts, move-send, told-send, overlay-send) depth 30
 
 lock-send : IsSend lock.the_row
-lock-send = search (parts, term-send) depth 20
+lock-send = search (parts, Term-send) depth 20
 
 keys-send : IsSend keys.the_row
-keys-send = search (parts, term-send, holders_marks.the_send) depth 30
+keys-send = search (parts, Term-send, holders_marks.the_send) depth 30
 
 on_table-send : IsSend on_table.the_row
 on_table-send = search (parts, keys-send, holders_marks.the_send) depth 30

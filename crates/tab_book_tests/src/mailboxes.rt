@@ -12,7 +12,7 @@ use tab_named::{NewMailbox, SeatInbox, SeatPost};
 use tab_names::{House, Naming, Opened};
 use tab_outbox::{Item, Mailbox, Met, Post, Refused};
 use tab_post::Line;
-use tab_term::Terms;
+use tab_term::SharedTerms;
 
 /// Items are batches without events, known by their commits.
 enum Call {
@@ -58,7 +58,7 @@ static CALLS: [(usize, usize, Call); 21] = [
 const NONE: u64 = 1_000_000;
 
 fn batch(alloc: Global, commit: u64) -> Item {
-    Item::Batch(commit, Terms::from_vec(Vec::new(alloc)))
+    Item::Batch(commit, SharedTerms::from_vec(Vec::new(alloc)))
 }
 
 fn number_of(item: &Item) -> u64 {

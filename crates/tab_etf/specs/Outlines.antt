@@ -15,6 +15,7 @@ leaf_term (leaf.Word text) = atom text.now
 leaf_term (leaf.Number n) = int (pos n)
 leaf_term (leaf.Held t) = term t.now
 leaf_term (leaf.List ts) = list ts.now
+leaf_term (leaf.SharedList ts) = list ts.now
 
 abbrev pub body_term : Body → PlainTerm
 body_term (body.One a) = leaf_term a

@@ -12,6 +12,7 @@ mod measuring;
 mod outline;
 mod receiving;
 mod run;
+mod shared;
 mod spelling;
 mod splitting;
 mod writer;

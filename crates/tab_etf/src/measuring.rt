@@ -34,7 +34,7 @@ fn big_len(z: i128) -> u64
 }
 
 #[tactic(auto, using(crate::proofs::Lengths::field_short, crate::proofs::Lengths::field_long))]
-fn field_len(n: usize) -> u64
+pub fn field_len(n: usize) -> u64
     ensures value { result ≡ length (length_field n) }
     ensures small { result ≤ 12 }
 {

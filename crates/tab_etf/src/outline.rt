@@ -7,10 +7,11 @@ ghost use Rattle.tab_etf.specs.Writing.{Writes};
 
 use crate::device::Target;
 use crate::measuring::{LONGEST, atom_len, int_len, list_len, spelled_len};
+use crate::shared::{put_shared, shared_len};
 use crate::spelling::{put, put_atom, put_int, put_list};
 use crate::writer::Writer;
 use tab_term::spelling::SMALL_TUPLE_EXT;
-use tab_term::{Term, Terms};
+use tab_term::{SharedTerms, Term, Terms};
 
 /// A part of a term.
 #[derive(Clone, Copy)]
@@ -21,6 +22,8 @@ pub enum Leaf<'a> {
     Held(&'a Term),
     /// A list of these elements.
     List(&'a Terms),
+    /// A list of these elements.
+    SharedList(&'a SharedTerms),
 }
 
 /// One part alone, or a tuple of parts.
@@ -50,6 +53,7 @@ fn put_leaf<W: Target>(writer: &mut Writer<W>, leaf: &Leaf)
         Leaf::Number(number) => put_int(writer, i128::from(*number)),
         Leaf::Held(held) => put(writer, held),
         Leaf::List(elements) => put_list(writer, elements),
+        Leaf::SharedList(elements) => put_shared(writer, elements),
     }
 }
 
@@ -113,6 +117,7 @@ fn leaf_len(leaf: &Leaf) -> u64
         Leaf::Number(number) => int_len(i128::from(*number)),
         Leaf::Held(held) => spelled_len(held),
         Leaf::List(elements) => list_len(elements),
+        Leaf::SharedList(elements) => shared_len(elements),
     }
 }
 

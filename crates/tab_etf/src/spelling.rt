@@ -104,7 +104,7 @@ pub fn put_tuple_head<W: Target>(writer: &mut Writer<W>, n: usize)
 
 /// A tag, a length or a count, and so many bytes.
 #[tactic(auto, using(crate::proofs::WritingLemmas::writes_then))]
-fn put_tagged<W: Target>(writer: &mut Writer<W>, tag: u8, n: usize)
+pub fn put_tagged<W: Target>(writer: &mut Writer<W>, tag: u8, n: usize)
     ensures { Writes W.contents W.faults writer.old writer.new (tag ∷ length_field n) }
 {
     if n < 0xffff_ffff {
@@ -134,7 +134,7 @@ fn put_binary<W: Target>(writer: &mut Writer<W>, bytes: &[u8])
 
 // ---- lists of bytes
 
-fn byte_in(t: &Term) -> u8
+pub fn byte_in(t: &Term) -> u8
     requires { is_byte_term (term t.now) ≡ true }
     ensures { result ≡ byte_of (term t.now) }
 {

@@ -6,6 +6,7 @@ use Rattle.std.specs.Cmp.Lexicographic.{slice_cmp}
 use Rattle.std.specs.Str.{bytes_eq}
 use Rattle.tab_term.specs.Data.{PlainTerm, int, atom, PlainTerms, none, one_more}
 use Rattle.tab_term.specs.Canon.{canon}
+pub use Rattle.tab_term.specs.Data.{plain_terms, terms_list}
 
 -- byte lists in their order
 abbrev pub before : List ℕ → List ℕ → Bool
@@ -20,14 +21,6 @@ same_name a b = bytes_eq a b
 
 abbrev pub has_name : List (List ℕ) → List ℕ → Bool
 has_name names n = list_any (bytes_eq n) names
-
-abbrev pub plain_terms : List PlainTerm → PlainTerms
-plain_terms [] = none
-plain_terms (t ∷ ts) = one_more t (plain_terms ts)
-
-abbrev pub terms_list : PlainTerms → List PlainTerm
-terms_list none = []
-terms_list (one_more t ts) = t ∷ terms_list ts
 
 abbrev pub number : ℕ → PlainTerm
 number n = int (pos n)

@@ -1,6 +1,6 @@
 //! Data that code and definitions share. Ages, numbers of sessions and commits, and positions are from 1 on.
 use crate::lists::{Atoms, Moves, Numbers, Parts, Replies};
-use tab_term::{Atom, Term, Terms};
+use tab_term::{Atom, SharedTerms, Term, Terms};
 
 /// The type of a table: a set keeps one record for each key, a bag several different ones (Mnesia Reference Manual,
 /// `create_table/2`).
@@ -102,7 +102,7 @@ pub enum Ending {
 #[derive(Drop)]
 pub enum Item {
     Began(Atom, Level, Option<Terms>),
-    Batch(u64, Terms),
+    Batch(u64, SharedTerms),
     Ended(Atom, Ending),
 }
 

@@ -1,24 +1,16 @@
--- The ends of a mailbox may go to another thread where their handle may. An item may, since the ring of terms has the law where each of
--- its layers does.
-use mathlib.Core.List.{[], ◌∷◌}
+-- The ends of a mailbox may go to another thread where their handle may. An item may, since terms may, and those that are shared.
 use denote.RattleType.{RattleType}
 use denote.Hole.{as_row}
-use denote.Struct.Tuple.{Tuple, tuple_type}
-use denote.Struct.Field.{row_field, u64-field, i128-field}
+use denote.Struct.Field.{row_field, u64-field}
 use denote.Param.Send.{IsSend, plain_send}
 use denote.Param.SendFields.{as_row_send, declared_send, variants_send}
-use Rattle.std.specs.contracts.alloc.Global as global
-use Rattle.std.specs.contracts.vec.Vec as vec
-use Rattle.std.specs.contracts.impls.GlobalAllocator.TheImpl.{ghosts}
-use Rattle.std.proofs.vec.Vec.TheSendSync as vec_marks
 use Rattle.std.proofs.alloc.Global.TheSendSync as global_marks
 use Rattle.std.below.std_heap.proofs.GlobalAllocator.TheSendSync as heap_marks
 use Rattle.tab_term.proofs.atom.Atom.TheSendSync as atom_marks
-use Rattle.tab_term.proofs.bytes.Bytes.TheSendSync as bytes_marks
-use Rattle.tab_term.proofs.term.Pairs.TheLaws.TheKnot.{send-Terms}
+use Rattle.tab_term.proofs.Crossing.{Terms-send, SharedTerms-send}
 use Rattle.tab_term.specs.contracts.atom.Atom as atom
-use Rattle.tab_term.specs.contracts.bytes.Bytes as bytes
 use Rattle.tab_term.specs.contracts.term.Terms as terms
+use Rattle.tab_term.specs.contracts.shared.SharedTerms as shared_terms
 use Rattle.tab_model.specs.contracts.data.Item as item
 use Rattle.tab_post.specs.contracts.post.ChannelPost as post
 use Rattle.tab_post.specs.contracts.rule.Hand as hand
@@ -36,23 +28,8 @@ use Rattle.tab_model.proofs.data.Level.TheSendSync as level_marks
 use Rattle.tab_model.proofs.data.Ending.TheSendSync as ending_marks
 use Rattle.std.proofs.option.Option.TheSendSync as option_marks
 
-vec_send : (R : RattleType) → IsSend R → IsSend (vec.the_row R global.the_row ghosts)
-vec_send R s = vec_marks.the_send R global.the_row ghosts s global_marks.the_send heap_marks.the_frees
-
-pair_send : (R : RattleType) → IsSend R → IsSend (Tuple (R ∷ R ∷ []))
-pair_send R s = declared_send (tuple_type (R ∷ R ∷ [])) (as_row_send (row_field R) s, (as_row_send (row_field R) s, tt))
-
-terms_send : IsSend terms.the_row
-terms_send =
-    send-Terms
-    (λ h s. vec_send (Tuple (h ∷ h ∷ [])) (pair_send h s))
-    vec_send
-    (as_row_send i128-field (plain_send _ _ _ _ _))
-    (as_row_send atom.the_field atom_marks.the_send)
-    (as_row_send bytes.the_field bytes_marks.the_send)
-
-terms_field : IsSend (as_row (row_field terms.the_row))
-terms_field = as_row_send (row_field terms.the_row) terms_send
+events_field : IsSend (as_row (row_field shared_terms.the_row))
+events_field = as_row_send (row_field shared_terms.the_row) SharedTerms-send
 
 atom_field : IsSend (as_row atom.the_field)
 atom_field = as_row_send atom.the_field atom_marks.the_send
@@ -60,9 +37,9 @@ atom_field = as_row_send atom.the_field atom_marks.the_send
 item_send : IsSend item.the_row
 item_send =
     variants_send item.enum (
-      (atom_field, (level_marks.the_send, (option_marks.the_send terms.the_row terms_send, tt))),
+      (atom_field, (level_marks.the_send, (option_marks.the_send terms.the_row Terms-send, tt))),
       (
-        (as_row_send u64-field (plain_send _ _ _ _ _), (terms_field, tt)),
+        (as_row_send u64-field (plain_send _ _ _ _ _), (events_field, tt)),
         ((atom_field, (ending_marks.the_send, tt)), tt),
       ),
     )

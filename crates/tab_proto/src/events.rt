@@ -3,7 +3,7 @@
 ghost use Rattle.std.specs.Prelude.{◌≡◌, ◌++◌, ◌∷◌, OnOk};
 ghost use Rattle.tab_model.specs.declared.data.Reply.TheVariants as told;
 ghost use Rattle.tab_term.specs.Canon.{canon};
-ghost use Rattle.tab_term.specs.View.{terms};
+ghost use Rattle.tab_term.specs.Data.{plain_terms};
 ghost use Rattle.tab_etf.specs.Frames.{frame};
 ghost use Rattle.tab_proto.specs.Events.{event_frames, item_frames, sent_frames};
 ghost use Rattle.tab_proto.specs.Replies.{reply_term};
@@ -11,7 +11,7 @@ ghost use Rattle.tab_proto.specs.Replies.{reply_term};
 use crate::replying::{item_outline, outline_of};
 use tab_etf::{EncodeFault, append_frame, append_outline};
 use tab_model::{Item, Reply};
-use tab_term::Term;
+use tab_term::SharedTerm;
 
 /// How a commit's events are sent.
 #[derive(Clone, Copy, Debug, PartialEq, Eq)]
@@ -42,11 +42,11 @@ fn append_apart(item: &Item, out: &mut Vec<u8>) -> Result<(), EncodeFault>
     }
 }
 
-fn append_events(events: &[Term], out: &mut Vec<u8>) -> Result<(), EncodeFault>
-    ensures { OnOk result (out.new.items ≡ out.old.items ++ event_frames (terms events.now)) }
+fn append_events(events: &[SharedTerm], out: &mut Vec<u8>) -> Result<(), EncodeFault>
+    ensures { OnOk result (out.new.items ≡ out.old.items ++ event_frames (plain_terms events.now)) }
 {
     for event in events {
-        append_frame(event, out)?;
+        append_frame(event.as_term(), out)?;
     }
     Ok(())
 }

@@ -241,7 +241,7 @@ pub(crate) fn item_outline(item: &Item) -> Outline<'_>
         }
         Item::Began(table, level, Some(records)) => dump_outline(table, *level, records),
         Item::Batch(commits, events) => {
-            told_of("batch", Leaf::Number(*commits), Leaf::List(events))
+            told_of("batch", Leaf::Number(*commits), Leaf::SharedList(events))
         }
         Item::Ended(table, ending) => {
             told_of(

@@ -3,12 +3,10 @@ use Rattle.std.proofs.Common.{◌≡◌, ◌≢◌, ◌+◌, ℕ, zero, suc, ◌
 use Rattle.std.specs.Prelude.{Option, Some, filter_map}
 use Rattle.std.proofs.lemmas.List.{append_assoc, append-nil}
 use Rattle.std.proofs.Math.Seq.{drop-cons}
-use Rattle.tab_term.specs.Data.{PlainTerm, PlainTerms, none, one_more}
-use Rattle.tab_term.specs.View.{term, terms}
-use Rattle.tab_term.specs.declared.term.Term.{Term}
+use Rattle.tab_term.specs.Data.{PlainTerm, PlainTerms}
 use Rattle.tab_model.specs.declared.data.Event.{Event}
 use Rattle.tab_model.specs.declared.data.Item.TheVariants.{Batch}
-use Rattle.tab_model.specs.Names.{plain_terms, terms_list}
+use Rattle.tab_model.specs.Names.{plain_terms}
 use Rattle.tab_model.specs.Slices.{as_batch}
 
 pub set_same : {X : Type 0} (xs : List X) (i : ℕ) (y d : X) → y ≡ get_or xs i d → set xs i y ≡ xs
@@ -16,30 +14,21 @@ set_same [] i y d e = refl
 set_same (x ∷ xs) zero y d e = ap (λ z. z ∷ xs) e
 set_same (x ∷ xs) (suc i) y d e = ap (λ z. x ∷ z) (set_same xs i y d e)
 
-list_push : (ts : List Term) (t : Term) → terms_list (terms (ts ++ t ∷ [])) ≡ terms_list (terms ts) ++ term t ∷ []
-list_push [] t = refl
-list_push (x ∷ ts) t = ap (λ z. term x ∷ z) (list_push ts t)
-
 given_first : (f : Event → Option PlainTerm) (e : Event) (es : List Event) (x : PlainTerm) → f e ≡ Some x → filter_map f (e ∷ es) ≡ x ∷ filter_map f es
 given_first f e es x h = rw h refl
 
-pub event_told : (f : Event → Option PlainTerm) (es : List Event) (i : ℕ) (e : Event) (ts us : List Term) (t : Term) → i < length es → e ≡ get_or es i e → f e ≡ Some (term t) → us ≡ ts ++ t ∷ []
-    → terms_list (terms us) ++ filter_map f (drop (i + 1) es) ≡ terms_list (terms ts) ++ filter_map f (drop i es)
+pub event_told : (f : Event → Option PlainTerm) (es : List Event) (i : ℕ) (e : Event) (ts us : List PlainTerm) (t : PlainTerm) → i < length es → e ≡ get_or es i e → f e ≡ Some t → us ≡ ts ++ t ∷ []
+    → us ++ filter_map f (drop (i + 1) es) ≡ ts ++ filter_map f (drop i es)
 event_told f es i e ts us t lt is h new =
-    ap (λ z. terms_list (terms z) ++ filter_map f (drop (i + 1) es)) new
-    ∙ ap (λ z. z ++ filter_map f (drop (i + 1) es)) (list_push ts t)
-    ∙ append_assoc (terms_list (terms ts)) (term t ∷ []) (filter_map f (drop (i + 1) es))
-    ∙ ap (λ k. terms_list (terms ts) ++ (term t ∷ filter_map f (drop k es))) (add-one i)
-    ∙ ap (λ z. terms_list (terms ts) ++ z) (sym (given_first f e (drop (suc i) es) (term t) h))
-    ∙ ap (λ z. terms_list (terms ts) ++ filter_map f z) (ap (λ z. z ∷ drop (suc i) es) is ∙ sym (drop-cons es i e lt))
+    ap (λ z. z ++ filter_map f (drop (i + 1) es)) new
+    ∙ append_assoc ts (t ∷ []) (filter_map f (drop (i + 1) es))
+    ∙ ap (λ k. ts ++ (t ∷ filter_map f (drop k es))) (add-one i)
+    ∙ ap (λ z. ts ++ z) (sym (given_first f e (drop (suc i) es) t h))
+    ∙ ap (λ z. ts ++ filter_map f z) (ap (λ z. z ∷ drop (suc i) es) is ∙ sym (drop-cons es i e lt))
 
-round : (ts : PlainTerms) → plain_terms (terms_list ts) ≡ ts
-round none = refl
-round (one_more t ts) = ap (one_more t) (round ts)
-
-batch_of : (n : ℕ) (ts : List Term) → length ts ≢ 0 → as_batch n (terms_list (terms ts)) ≡ Batch n (terms ts) ∷ []
+batch_of : (n : ℕ) (ts : List PlainTerm) → length ts ≢ 0 → as_batch n ts ≡ Batch n (plain_terms ts) ∷ []
 batch_of n [] h = absurd (h refl)
-batch_of n (t ∷ ts) h = ap (λ z. Batch n z ∷ []) (round (terms (t ∷ ts)))
+batch_of n (t ∷ ts) h = refl
 
 all_dropped : {X : Type 0} (xs : List X) (i : ℕ) → length xs ≤ i → drop i xs ≡ []
 all_dropped [] zero le = refl
@@ -47,11 +36,11 @@ all_dropped [] (suc i) le = refl
 all_dropped (x ∷ xs) zero le = absurd (omega arith)
 all_dropped (x ∷ xs) (suc i) le = all_dropped xs i (omega arith)
 
-pub batch_told : (n : ℕ) (f : Event → Option PlainTerm) (es : List Event) (i : ℕ) (ts : List Term) (x : PlainTerms) → length es ≤ i → length ts ≢ 0 → x ≡ terms ts
-    → terms_list (terms ts) ++ filter_map f (drop i es) ≡ filter_map f es → Batch n x ∷ [] ≡ as_batch n (filter_map f es)
+pub batch_told : (n : ℕ) (f : Event → Option PlainTerm) (es : List Event) (i : ℕ) (ts : List PlainTerm) (x : PlainTerms) → length es ≤ i → length ts ≢ 0 → x ≡ plain_terms ts
+    → ts ++ filter_map f (drop i es) ≡ filter_map f es → Batch n x ∷ [] ≡ as_batch n (filter_map f es)
 batch_told n f es i ts x le some e told =
     ap (λ z. Batch n z ∷ []) e ∙ sym (batch_of n ts some)
-    ∙ ap (as_batch n) (sym (append-nil (terms_list (terms ts))) ∙ ap (λ z. terms_list (terms ts) ++ filter_map f z) (sym (all_dropped es i le)) ∙ told)
+    ∙ ap (as_batch n) (sym (append-nil ts) ∙ ap (λ z. ts ++ filter_map f z) (sym (all_dropped es i le)) ∙ told)
 
 -- all that was to be made of a list, at the end
 pub all_made : {X Y : Type 0} (f : List X → List Y) (made : List Y) (xs : List X) (i : ℕ) → f [] ≡ [] → length xs ≤ i → made ++ f (drop i xs) ≡ f xs → made ≡ f xs

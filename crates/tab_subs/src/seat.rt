@@ -19,7 +19,7 @@ use std::marker::Model;
 use tab_events::{Item, Level};
 use tab_model::Ending;
 use tab_outbox::{Mailbox, Met, Post};
-use tab_term::{Atom, Terms};
+use tab_term::{Atom, SharedTerms, Terms};
 
 /// A session's seat.
 #[derive(Drop)]
@@ -167,7 +167,7 @@ impl<P: Post + Drop> Seat<P> {
         if told.is_empty() {
             return Ok(None);
         }
-        Ok(Some(Item::Batch(commit, Terms::from_vec(told))))
+        Ok(Some(Item::Batch(commit, SharedTerms::from_vec(told))))
     }
 
     /// The mark of a table's deletion, where the session watches it.

@@ -5,7 +5,7 @@ use Rattle.tab_term.specs.declared.term.Term.{Term}
 use Rattle.std.specs.Str.{IsUtf8, chars}
 use Rattle.std.proofs.Math.Utf8.{encode, encodes}
 use Rattle.std.proofs.lemmas.Str.{length-encode, len_utf8_bounds, encodes-chars}
-use Rattle.tab_term.specs.Data.{PlainTerm, PlainTerms, none, one_more, PlainPairs, no_pair, one_pair, count, pair_count, weight, nodes, pair_nodes}
+use Rattle.tab_term.specs.Data.{PlainTerm, PlainTerms, none, one_more, PlainPairs, no_pair, one_pair, plain_terms, count, pair_count, weight, nodes, pair_nodes}
 use Rattle.tab_term.specs.Same.{same, all_same, pairs_same}
 use Rattle.tab_term.specs.View.{term, terms, pairs}
 use Rattle.tab_term.specs.Pattern.{matches, all_match}
@@ -48,6 +48,10 @@ all_past xs ys i hx hy = at_drop_all (λ us. all_same (terms us) (terms (drop i 
 pub count_terms : (ts : List Term) → count (terms ts) ≡ length ts
 count_terms [] = refl
 count_terms (t ∷ ts) = ap suc (count_terms ts)
+
+pub count_plain : (ts : List PlainTerm) → count (plain_terms ts) ≡ length ts
+count_plain [] = refl
+count_plain (t ∷ ts) = ap suc (count_plain ts)
 
 -- a member weighs no more than all
 pub weight_at : (ts : List Term) (i : ℕ) (t : Term) → i < length ts → t ≡ get_or ts i t → weight (term t) ≤ nodes (terms ts)

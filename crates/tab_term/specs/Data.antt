@@ -1,6 +1,6 @@
 -- What a term is (ERTS User's Guide, External Term Format): an integer, an atom as the UTF-8 bytes of its text, a tuple,
 -- a proper list, a binary, or a map.
-use Rattle.std.specs.Prelude.{ℕ, suc, max, ℤ, ◌+◌, List}
+use Rattle.std.specs.Prelude.{ℕ, suc, max, ℤ, ◌+◌, List, [], ◌∷◌}
 
 mutual
   pub data PlainTerm : Type 0 where
@@ -25,6 +25,15 @@ pair a b = tuple (one_more a (one_more b none))
 
 abbrev pub triple : PlainTerm → PlainTerm → PlainTerm → PlainTerm
 triple a b c = tuple (one_more a (one_more b (one_more c none)))
+
+-- the elements of a tuple or a list as a list of terms, and back
+abbrev pub plain_terms : List PlainTerm → PlainTerms
+plain_terms [] = none
+plain_terms (t ∷ ts) = one_more t (plain_terms ts)
+
+abbrev pub terms_list : PlainTerms → List PlainTerm
+terms_list none = []
+terms_list (one_more t ts) = t ∷ terms_list ts
 
 abbrev pub count : PlainTerms → ℕ
 count none = 0

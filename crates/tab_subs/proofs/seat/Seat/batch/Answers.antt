@@ -2,7 +2,6 @@ use Rattle.std.proofs.Common.{◌≡◌, ◌<◌, ◌≤◌, ℕ, length, vec_le
 use Rattle.std.proofs.lemmas.Bool.{eqb-false}
 use Rattle.tab_model.specs.declared.data.Event.{Event}
 use Rattle.tab_model.specs.Slices.{shape_at}
-use Rattle.tab_term.specs.View.{term}
 use Rattle.tab_model.specs.State.{level_in}
 use Rattle.tab_subs.proofs.Batches.{set_same, event_told, batch_told}
 use Rattle.tab_subs.proofs.seat.Seat.batch.Goals as goal
@@ -22,7 +21,7 @@ loop-event-preserved g c =
     let same = c.loop-event.invariant.same in
     let level = sym (c.level.ensures ∙ ap (level_in watching) c.table.ensures) ∙ c.in-Some.is in
     let stood = get_or c.loop-event.event-items i e in
-    let told = subst (λ (x : Event). shape_at (level_in watching x.tab) x ≡ Some (term c.in_ok-term.field-0)) (sym c.event-item.is) (ap (λ l. shape_at l stood) level ∙ ap Some (sym c.in_ok-term.ensures.term)) in
+    let told = subst (λ (x : Event). shape_at (level_in watching x.tab) x ≡ Some c.in_ok-term.field-0) (sym c.event-item.is) (ap (λ l. shape_at l stood) level ∙ ap Some (sym c.in_ok-term.ensures.term)) in
     record {
       same = set_same c.loop-event.event-items i c.term.new.self e c.term.ensures.same ∙ same;
       told =

@@ -1,0 +1,7 @@
+use Rattle.std.proofs.Common.{◌≡◌, ◌-◌, ◌^◌, min, take, length}
+use Rattle.tab_term.specs.Canon.{canons}
+use Rattle.tab_term.specs.Data.{plain_terms}
+use Rattle.tab_etf.proofs.shared.all_len.Given as goal
+
+abbrev pub invariant-loop-t : goal.invariant-loop-t
+invariant-loop-t l = l.sum ≡ min (length (canons (plain_terms (take l.t-index l.ts)))) (2 ^ 64 - 1)
