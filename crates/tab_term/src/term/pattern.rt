@@ -10,7 +10,7 @@ use crate::term::{Term, Terms};
 fn is_wildcard(name: &Atom) -> bool
     ensures { result ≡ is_wildcard_of name.now }
 {
-    name.as_str() == "_"
+    matches!(name.as_str().as_bytes(), [b'_'])
 }
 
 /// Whether the term fits the pattern: the pattern is `'_'`; or both are tuples, or both are lists, of one length that
