@@ -37,19 +37,20 @@ pub fn unary_of(word: &str) -> Option<Unary>
     ensures known { result ≡ unary_in word.now }
     ensures text { IfSome result (λ u. word.now ≡ unary_text u) }
 {
+    // What transactions ask most comes first: a word is compared with each before its own.
     match word {
-        "abort" => Some(Unary::Abort),
-        "all_keys" => Some(Unary::AllKeys),
+        "write" => Some(Unary::Write),
+        "wread" => Some(Unary::ReadForWrite),
         "delete" => Some(Unary::Delete),
+        "match_object" => Some(Unary::MatchObject),
+        "all_keys" => Some(Unary::AllKeys),
+        "abort" => Some(Unary::Abort),
         "delete_object" => Some(Unary::DeleteObject),
         "delete_table" => Some(Unary::DeleteTable),
-        "match_object" => Some(Unary::MatchObject),
-        "wread" => Some(Unary::ReadForWrite),
         "read_lock_table" => Some(Unary::ReadLockTable),
         "subscribe" => Some(Unary::Subscribe),
         "transaction" => Some(Unary::Transaction),
         "unsubscribe" => Some(Unary::Unsubscribe),
-        "write" => Some(Unary::Write),
         "write_lock_table" => Some(Unary::WriteLockTable),
         _ => None,
     }
@@ -60,13 +61,13 @@ pub fn binary_of(word: &str) -> Option<Binary>
     ensures text { IfSome result (λ b. word.now ≡ binary_text b) }
 {
     match word {
+        "read" => Some(Binary::Read),
+        "transaction" => Some(Binary::Transaction),
         "add_table_index" => Some(Binary::AddTableIndex),
         "create_table" => Some(Binary::CreateTable),
         "del_table_index" => Some(Binary::DelTableIndex),
-        "read" => Some(Binary::Read),
         "subscribe" => Some(Binary::Subscribe),
         "table_info" => Some(Binary::TableInfo),
-        "transaction" => Some(Binary::Transaction),
         _ => None,
     }
 }
