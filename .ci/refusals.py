@@ -6,8 +6,7 @@
 Each stream of streams.py, but those that take a thousand operations and those that are damaged, is asked frame by frame, once
 for each allocation that it makes: with the nth refused. What is answered `{error, no_memory}` is asked again at once, and then
 all replies are the stream's. A run may end with status 1 and its line instead where memory was refused at the start or for the
-frame itself, behind the replies to all earlier frames; how many did is told. So it may for a reply's frame, once for each: where the
-last allocation of a frame was refused, which had room for the reply. A one-shot uses up an age, so each of one_shots.py has runs of its own, with a probe behind it: it left no level, no
+frame itself, behind the replies to all earlier frames; how many did is told. A one-shot uses up an age, so each of one_shots.py has runs of its own, with a probe behind it: it left no level, no
 lock, no request and no change. On a connection each larger allocation is refused, so that a long frame finds no memory: it is answered
 so, and the session goes on. No contract ties an answer to memory that was refused, so this is where it is seen. With `wrong` the
 program is each of a few wrong ones, which end by themselves where they are refused memory, and each has to be found in each stream.
@@ -33,9 +32,9 @@ from one_shots import ONE_SHOTS, PROBED  # noqa: E402
 from streams import streams  # noqa: E402
 
 # Refuses the allocation number NTH of those that are made once FROM pieces were read. What was refused is told on REPORT: how
-# many pieces had been read, how many allocations made since the last, and how many bytes were asked for. Where NTH is 0 this is told
-# before each read instead. Each of more than LARGEST bytes is refused too, where that is not 0. Where ENDS is not 0 the program
-# is a wrong one: it ends at a refusal behind so many allocations since the last piece, with the status of WRONG and its line.
+# many pieces had been read, and how many allocations made since the last. Where NTH is 0 this is told before each read instead.
+# Each of more than LARGEST bytes is refused too, where that is not 0. Where ENDS is not 0 the program is a wrong one: it ends at the
+# refusal of that allocation since a piece, and of each behind it, with the status of WRONG and its line.
 MALLOC = r"""
 #define _GNU_SOURCE
 #include <dlfcn.h>
@@ -66,9 +65,9 @@ __attribute__((constructor)) static void start(void) {
     wrong = number("WRONG");
 }
 
-static int tell(size_t asked) {
-    char line[80];
-    int size = snprintf(line, sizeof line, "%ld %ld %zu\n", reads, since, asked);
+static int tell(void) {
+    char line[64];
+    int size = snprintf(line, sizeof line, "%ld %ld\n", reads, since);
     int told = syscall(SYS_write, report, line, size) > 0;
     if (nth && ends && since >= ends) {
         if (wrong)
@@ -82,7 +81,7 @@ static int refuses(size_t size) {
     ++since;
     if (largest && size > (size_t)largest)
         return 1;
-    return reads >= from && ++made == nth && tell(size);
+    return reads >= from && ++made == nth && tell();
 }
 
 void *malloc(size_t size) {
@@ -99,7 +98,7 @@ void *realloc(void *room, size_t size) {
 
 ssize_t read(int file, void *room, size_t size) {
     if (file == 0 && nth == 0)
-        tell(0);
+        tell();
     ssize_t count = get(file, room, size);
     if (file == 0) {
         ++reads;
@@ -111,8 +110,7 @@ ssize_t read(int file, void *room, size_t size) {
 
 # Streams of which every frame is asked with a thousand before it, and those that are no whole frames.
 LEFT_OUT = {"limit operations", "child count", "one shot operations", "sessions and tables", "damage cut", "damage too long"}
-# A frame that is read takes so many allocations: the bytes, the list of the frames, and the payload, where it is not empty. That
-# of its reply takes one, which is the last before the next read.
+# A frame that is read takes so many allocations: the bytes, the list of the frames, and the payload, where it is not empty.
 OF_A_FRAME, OF_AN_EMPTY = 3, 2
 # A vector that is not there yet may be tried twice: so many runs with no refusal, and no allocation is left.
 NONE_LEFT = 2
@@ -120,7 +118,6 @@ NONE_LEFT = 2
 ENDS = {
     "asked again": "asked a step again",
     "frame": "ended for a frame",
-    "reply": "ended for a reply's frame",
     "start": "ended at the start",
 }
 # Wrong programs: the first allocation since a piece at whose refusal one ends, and the status.
@@ -195,9 +192,9 @@ def is_no_memory(told, wanted):
     return reply == NO_MEMORY and session in (0, read(io.BytesIO(wanted[5:]))[0])
 
 
-def end_of(run, case, counts, is_whole):
-    """How a run ended: `whole`, or where its growth was refused: at the `start`, for a `frame`, for a `reply`; `none` where nothing
-    was refused. Whether all frames of the case were answered; the counts are of the allocations of each."""
+def end_of(run, case, is_whole):
+    """How a run ended: `whole`, where all frames of the case were answered, or where its growth was refused: at the `start`, for a
+    `frame`; `none` where nothing was refused."""
     where, status, err = run.ended()
     if is_whole:
         if (status, err) != (0, b""):
@@ -205,20 +202,20 @@ def end_of(run, case, counts, is_whole):
         return "asked again" if run.refused else "whole" if where else "none"
     if not where:
         raise Differs(f"it ended at frame {run.answered + 1}, and nothing was refused: status {status}, {err}")
-    reads, since, asked = where
+    reads, since = where
     if (status, err) != (1, LINE):
         raise Differs(f"status {status}, {err}")
     if run.refused or run.answered != max(reads - 1, 0):
         raise Differs(f"it ended at frame {run.answered + 1}, and memory was refused at frame {reads}")
-    if not reads or since <= (OF_A_FRAME if len(case.given[reads - 1]) > 4 else OF_AN_EMPTY):
-        return "frame" if reads else "start"
-    if since != counts[reads] or asked < len(case.told[reads - 1]):
-        raise Differs(f"it ended at frame {reads} for allocation {since} of {asked} bytes, which is not the frame's")
-    return "reply"
+    if not reads:
+        return "start"
+    if since > (OF_A_FRAME if len(case.given[reads - 1]) > 4 else OF_AN_EMPTY):
+        raise Differs(f"it ended at frame {reads} for allocation {since}, which is not the frame's")
+    return "frame"
 
 
-def counts_of(program, stream):
-    """How many allocations are made for each of its frames, and before, where none is refused."""
+def count_before(program, stream):
+    """How many allocations are made before a frame is read."""
     run = Run(program, stream.words, 0)
     try:
         for given, wanted in zip(stream.given, stream.told):
@@ -227,22 +224,22 @@ def counts_of(program, stream):
         where, status, err = run.ended()
         if (status, err) != (0, b""):
             raise Differs(f"nothing refused, status {status}, {err}")
-        return dict(zip(where[::3], where[1::3]))
+        return dict(zip(where[::2], where[1::2]))[0]
     finally:
         run.kill()
 
 
-def row_end(program, stream, nth, start, counts):
+def row_end(program, stream, nth, start):
     """How the run of a stream ended."""
     run = Run(program, stream.words, nth, start)
     try:
         is_whole = all(run.asked(given, wanted) for given, wanted in zip(stream.given, stream.told))
-        return end_of(run, stream, counts, is_whole)
+        return end_of(run, stream, is_whole)
     finally:
         run.kill()
 
 
-def one_shot_end(program, case, nth, start, counts):
+def one_shot_end(program, case, nth, start):
     """How the run of a one-shot ended, of which memory was refused to the one-shot alone."""
     run = Run(program, case.words, nth, start)
     try:
@@ -255,7 +252,7 @@ def one_shot_end(program, case, nth, start, counts):
             probe(run, case)
         elif told not in (None, case.told[-1]):
             raise Differs(f"told {told}, wanted {case.told[-1]}")
-        return end_of(run, case, counts, told is not None)
+        return end_of(run, case, told is not None)
     finally:
         run.kill()
 
@@ -292,17 +289,15 @@ def all_ends(one):
     does, program, stream, start = one
     ends, faults, nth = collections.Counter(), [], 0
     try:
-        counts = counts_of(program, stream)
+        before = count_before(program, stream)
     except Differs as differs:
         return ends, [str(differs)]
-    while ends["none"] < NONE_LEFT and (start or nth < counts[0]):
+    while ends["none"] < NONE_LEFT and (start or nth < before):
         nth += 1
         try:
-            ends[does(program, stream, nth, start, counts)] += 1
+            ends[does(program, stream, nth, start)] += 1
         except Differs as differs:
             faults.append(f"allocation {nth}: {differs}")
-    if ends["reply"] > (replies := len(stream.given) + 1 - max(start, 1)):
-        faults.append(f"{ends['reply']} runs ended for the frames of {replies} replies")
     return ends, faults
 
 

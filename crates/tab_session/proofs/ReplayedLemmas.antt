@@ -183,14 +183,7 @@ module _ (capacity : ℕ) where
         text = Appends-then old mid new _ _ _ s.text h.text (sym (frames_join s.said h.first));
         next = too_long_on h.others u.0 h.next;
       }
-  replaying_err stream left held i now μ old mid new given NoMemory s n h =
-      let u = said_on stream left held i now old mid given (h.first ++ h.others) s n h.said in
-      record {
-        first = s.said ++ h.first;
-        others = h.others ++ u.0;
-        said = subst (λ (rs : List Answer). IsRun capacity fresh (payloads stream) rs) (regroup s.said h.first h.others u.0) u.1;
-        text = Appends-then old mid new _ _ _ s.text h.text (sym (frames_join s.said h.first));
-      }
+  replaying_err stream left held i now μ old mid new given NoMemory s n h = absurd h
 
   -- a run over the whole stream from what was done
   said_all : (stream : List ℕ) (left : Option (List ℕ)) (held : List ℕ) (i : ℕ) (now : State) (old new : Option (List ℕ))

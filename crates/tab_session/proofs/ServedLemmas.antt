@@ -1,18 +1,18 @@
 -- The loop over the payloads of a piece.
-use Rattle.std.proofs.Common.{◌≡◌, ℕ, ◌+◌, ◌<◌, List, [], ◌∷◌, ◌++◌, length, take, Option, Err, refl, sym, ap, subst, ◌∙◌, append_assoc}
+use Rattle.std.proofs.Common.{◌≡◌, ℕ, ◌+◌, ◌<◌, List, [], ◌∷◌, ◌++◌, length, take, Option, Result, Ok, Err, refl, sym, ap, subst, ◌∙◌, append_assoc}
 use Rattle.std.proofs.Common.{drop, get_or, add-one, drop-cons, ◌≤◌}
 use Rattle.tab_etf.specs.declared.framing.Frame.{Frame}
 use Rattle.tab_etf.specs.Frames.{payload_of}
 use Rattle.tab_etf.specs.Frames.{contents}
 use Rattle.tab_session.specs.declared.ended.Ended.{Ended}
+use Rattle.tab_session.specs.declared.ended.Ended.TheVariants.{Damaged, Device, TooLong, NoMemory}
 use Rattle.std.specs.Io.KnownBytes.{Appends, Keeps}
 use Rattle.std.proofs.lemmas.List.{append-nil, drop_all}
 use Rattle.tab_session.specs.declared.answered.Answer.{Answer}
-use Rattle.tab_etf.specs.declared.encoding.EncodeFault.{EncodeFault}
-use Rattle.tab_etf.specs.declared.encoding.EncodeFault.TheVariants as puts
 use Rattle.tab_model.specs.State.{State}
-use Rattle.tab_session.specs.AnsweredPayloads.{Answered, AnsweredAll, answer_frame, answer_payload, NotPut}
-use Rattle.tab_session.specs.Replays.{frames_of, IsServing, Passed, WroteSome, WroteFirst, WroteBefore, Served, ended_of}
+use Rattle.tab_session.specs.AnsweredPayloads.{Answered, AnsweredAll, answer_frame, answer_payload}
+use Rattle.tab_session.specs.Replays.{frames_of, Handed, IsServing, Passed, WroteSome, WroteBefore, Served}
+use Rattle.std.proofs.Math.Seq.{take-append-add}
 use Rattle.tab_session.proofs.AnsweredAllLemmas.{total, frames_join, frames_one, beginning_after}
 use Rattle.tab_etf.proofs.KnownBytesLemmas.{Appends-none, Appends-then, Appends-keeps}
 
@@ -28,6 +28,16 @@ left_is ps i v lt e =
 pub none_left : (ps : List Frame) (i : ℕ) → length ps ≤ i → contents (drop i ps) ≡ []
 none_left ps i le = ap contents (drop_all i ps le)
 
+-- what is kept is written first
+pub handed_after : (x : Answer) (old mid new : Option (List ℕ)) (b m c : List ℕ) (r : Result (Unit {0}) Ended) → m ≡ b → Appends old mid m → Handed x mid new [] [] r → c ≡ [] → Handed x old new b c r
+handed_after x old mid new b m c (Ok u) e h g f =
+    (b ++ g.0, Appends-then old mid new m g.0 (b ++ g.0) h g.1 (ap (λ (y : List ℕ). y ++ g.0) e), ap (λ (y : List ℕ). (b ++ g.0) ++ y) f ∙ append_assoc b g.0 [] ∙ ap (λ (y : List ℕ). b ++ y) g.2)
+handed_after x old mid new b m c (Err Damaged) e h g f = absurd g
+handed_after x old mid new b m c (Err Device) e h g f =
+    (length b + g.0, Appends-then old mid new m (take g.0 (answer_frame x)) _ h g.1 (ap (λ (y : List ℕ). y ++ take g.0 (answer_frame x)) e ∙ sym (take-append-add b (answer_frame x) g.0)))
+handed_after x old mid new b m c (Err TooLong) e h g f = (Appends-then old mid new m [] b h g.0 (append-nil m ∙ e), g.1)
+handed_after x old mid new b m c (Err NoMemory) e h g f = absurd g
+
 module _ (capacity : ℕ) where
   pub serving_init : (σ : State) (all : List (List ℕ)) (old : Option (List ℕ)) → IsServing capacity σ σ all all old old []
   serving_init σ all old = record { said = []; goes = λ ss τ r. r; written = []; text = Appends-none old; whole = refl }
@@ -42,14 +52,15 @@ module _ (capacity : ℕ) where
     whole = ap (λ (x : List ℕ). s.written ++ x) e ∙ sym (append_assoc s.written b (answer_frame r)) ∙ ap (λ (x : List ℕ). x ++ answer_frame r) s.whole ∙ sym (frames_one s.said r);
   }
 
-  pub serving_written : (σ now : State) (all left : List (List ℕ)) (old mid new : Option (List ℕ)) (b : List ℕ)
-      → IsServing capacity σ now all left old mid b → Appends mid new b → IsServing capacity σ now all left old new []
-  serving_written σ now all left old mid new b s w = record {
+  -- a beginning of what is kept was written
+  pub serving_moved : (σ now : State) (all left : List (List ℕ)) (old mid new : Option (List ℕ)) (b w c : List ℕ)
+      → IsServing capacity σ now all left old mid b → Appends mid new w → w ++ c ≡ b → IsServing capacity σ now all left old new c
+  serving_moved σ now all left old mid new b w c s h e = record {
     said = s.said;
     goes = s.goes;
-    written = s.written ++ b;
-    text = Appends-then old mid new s.written b (s.written ++ b) s.text w refl;
-    whole = append-nil (s.written ++ b) ∙ s.whole;
+    written = s.written ++ w;
+    text = Appends-then old mid new s.written w (s.written ++ w) s.text h refl;
+    whole = append_assoc s.written w c ∙ ap (λ (x : List ℕ). s.written ++ x) e ∙ s.whole;
   }
 
   pub serving_done : (σ now : State) (all : List (List ℕ)) (old mid new : Option (List ℕ)) (b : List ℕ)
@@ -85,17 +96,6 @@ module _ (capacity : ℕ) where
     text = rw (all_taken (frames_of p.replies)) (Appends-keeps old mid new _ p.text k);
   }
 
-  pub serving_no_memory : (σ now : State) (all left : List (List ℕ)) (old mid new : Option (List ℕ)) (b : List ℕ)
-      → IsServing capacity σ now all left old mid b → Appends mid new b → WroteFirst capacity σ all old new
-  serving_no_memory σ now all left old mid new b s w =
-      let t = total capacity now left in
-      record {
-        first = s.said;
-        others = t.0;
-        said = record { last = t.1.last; ran = s.goes t.0 t.1.last t.1.ran };
-        text = Appends-then old mid new s.written b _ s.text w s.whole;
-      }
-
   pub serving_too_long : (σ now μ : State) (all left : List (List ℕ)) (old mid new : Option (List ℕ)) (b p : List ℕ) (r : Answer)
       → IsServing capacity σ now all (p ∷ left) old mid b → Answered capacity now p r μ → 4294967295 < length (answer_payload r) → Appends mid new b → WroteBefore capacity σ all old new
   serving_too_long σ now μ all left old mid new b p r s a lt w =
@@ -108,10 +108,19 @@ module _ (capacity : ℕ) where
         next = lt;
       }
 
-  pub serving_fault : (σ now μ : State) (all left : List (List ℕ)) (old mid new : Option (List ℕ)) (b c p : List ℕ) (r : Answer) (e : EncodeFault)
-      → IsServing capacity σ now all (p ∷ left) old mid b → Answered capacity now p r μ → NotPut r e → c ≡ b → Appends mid new c → Served capacity σ μ all old new (Err (ended_of e))
-  serving_fault σ now μ all left old mid new b c p r puts.TooLong s a h same w = serving_too_long σ now μ all left old mid new b p r s a h (subst (λ (x : List ℕ). Appends mid new x) same w)
-  serving_fault σ now μ all left old mid new b c p r puts.NoMemory s a h same w = serving_no_memory σ now all (p ∷ left) old mid new b s (subst (λ (x : List ℕ). Appends mid new x) same w)
+  -- a payload was answered, and its frame handed on
+  pub serving_handed : (σ now μ : State) (all left : List (List ℕ)) (old mid new : Option (List ℕ)) (b c p : List ℕ) (r : Answer)
+      → IsServing capacity σ now all (p ∷ left) old mid b → Answered capacity now p r μ → Handed r mid new b c (Ok tt) → IsServing capacity σ μ all left old new c
+  serving_handed σ now μ all left old mid new b c p r s a h =
+      serving_moved σ μ all left old mid new (b ++ answer_frame r) h.0 c (serving_kept σ now μ all left old mid b (b ++ answer_frame r) p r s a refl) h.1 h.2
+
+  pub serving_fault : (σ now μ : State) (all left : List (List ℕ)) (old mid new : Option (List ℕ)) (b c p : List ℕ) (r : Answer) (e : Ended)
+      → IsServing capacity σ now all (p ∷ left) old mid b → Answered capacity now p r μ → Handed r mid new b c (Err e) → Served capacity σ μ all old new (Err e)
+  serving_fault σ now μ all left old mid new b c p r Damaged s a h = absurd h
+  serving_fault σ now μ all left old mid new b c p r Device s a h =
+      serving_device σ μ all left old mid new (b ++ answer_frame r) h.0 (serving_kept σ now μ all left old mid b (b ++ answer_frame r) p r s a refl) h.1
+  serving_fault σ now μ all left old mid new b c p r TooLong s a h = serving_too_long σ now μ all left old mid new b p r s a h.1 h.0
+  serving_fault σ now μ all left old mid new b c p r NoMemory s a h = absurd h
 
   -- the payload at the index
   pub serving_at : (σ now : State) (ps : List Frame) (i : ℕ) (v : Frame) (q : List ℕ) (old new : Option (List ℕ)) (b : List ℕ)
@@ -126,6 +135,3 @@ module _ (capacity : ℕ) where
 
   pub serving_buffer : (σ now : State) (all left : List (List ℕ)) (old new : Option (List ℕ)) (b c : List ℕ) → IsServing capacity σ now all left old new b → c ≡ b → IsServing capacity σ now all left old new c
   serving_buffer σ now all left old new b c s e = subst (λ (x : List ℕ). IsServing capacity σ now all left old new x) (sym e) s
-
-  pub ended_is : (σ μ : State) (all : List (List ℕ)) (old new : Option (List ℕ)) (e f : Ended) → Served capacity σ μ all old new (Err e) → f ≡ e → Served capacity σ μ all old new (Err f)
-  ended_is σ μ all old new e f s h = subst (λ (x : Ended). Served capacity σ μ all old new (Err x)) (sym h) s

@@ -6,9 +6,7 @@ use Rattle.tab_etf.specs.Streams.{payloads, rest_of}
 use Rattle.tab_session.specs.declared.answered.Answer.{Answer}
 use Rattle.tab_model.specs.State.{State, new}
 use Rattle.tab_model.specs.declared.data.Limits.{Limits}
-use Rattle.tab_session.specs.AnsweredPayloads.{Answered, NotPut, AnsweredAll, answer_payload, answer_frame}
-use Rattle.tab_etf.specs.declared.encoding.EncodeFault.{EncodeFault}
-use Rattle.tab_etf.specs.declared.encoding.EncodeFault.TheVariants as puts
+use Rattle.tab_session.specs.AnsweredPayloads.{AnsweredAll, answer_payload, answer_frame}
 use Rattle.tab_session.specs.declared.ended.Ended.{Ended}
 use Rattle.tab_session.specs.declared.ended.Ended.TheVariants.{Damaged, Device, TooLong, NoMemory}
 
@@ -26,10 +24,6 @@ frames_of rs = flat_map answer_frame rs
 abbrev pub BeginsTooLong : List Answer → Type 0
 BeginsTooLong [] = ⊥
 BeginsTooLong (r ∷ rs) = 4294967295 < length (answer_payload r)
-
-abbrev pub ended_of : EncodeFault → Ended
-ended_of puts.TooLong = TooLong
-ended_of puts.NoMemory = NoMemory
 
 abbrev pub Rises : ℕ → ℕ → Type 0
 Rises old new = new ≡ min (old + 1) (2 ^ 64 - 1)
@@ -60,6 +54,14 @@ HasFlushed (Err Damaged) flushed = flushed ≡ true
 HasFlushed (Err Device) flushed = Unit {0}
 HasFlushed (Err TooLong) flushed = Unit {0}
 HasFlushed (Err NoMemory) flushed = Unit {0}
+
+-- the frame of an answer was kept behind those that are kept, or written with them: what a writer had and has, and what is kept
+abbrev pub Handed : Answer → Option (List ℕ) → Option (List ℕ) → List ℕ → List ℕ → Result (Unit {0}) Ended → Type 0
+Handed x old new kept rest (Ok u) = (written : List ℕ) × Appends old new written × (written ++ rest ≡ kept ++ answer_frame x)
+Handed x old new kept rest (Err Damaged) = ⊥
+Handed x old new kept rest (Err Device) = (n : ℕ) × Appends old new (take n (kept ++ answer_frame x))
+Handed x old new kept rest (Err TooLong) = Appends old new kept × (4294967295 < length (answer_payload x))
+Handed x old new kept rest (Err NoMemory) = ⊥
 
 module _ (capacity : ℕ) where
   -- a run over all these payloads says these replies
@@ -100,30 +102,13 @@ module _ (capacity : ℕ) where
     pub ran : AnsweredAll capacity σ ps replies τ
     pub text : Appends old new (frames_of replies)
 
-  -- one payload was answered, and its frame added
-  pub record Put (σ μ : State) (p : List ℕ) (old new : List ℕ) : Type 0 where
-    pub answer : Answer
-    pub answered : Answered capacity σ p answer μ
-    pub text : new ≡ old ++ answer_frame answer
-
-  -- one payload was answered, and its frame could not be added
-  pub record Unput (σ μ : State) (p : List ℕ) (old new : List ℕ) (e : EncodeFault) : Type 0 where
-    pub answer : Answer
-    pub answered : Answered capacity σ p answer μ
-    pub why : NotPut answer e
-    pub same : new ≡ old
-
-  abbrev pub ServedOne : State → List ℕ → State → List ℕ → List ℕ → Result (Unit {0}) EncodeFault → Type 0
-  ServedOne σ p μ old new (Ok u) = Put σ μ p old new
-  ServedOne σ p μ old new (Err e) = Unput σ μ p old new e
-
   -- these payloads were served
   abbrev pub Served : State → State → List (List ℕ) → Option (List ℕ) → Option (List ℕ) → Result (Unit {0}) Ended → Type 0
   Served σ τ ps old new (Ok u) = Passed σ τ ps old new
   Served σ τ ps old new (Err Damaged) = ⊥
   Served σ τ ps old new (Err Device) = WroteSome σ ps old new
   Served σ τ ps old new (Err TooLong) = WroteBefore σ ps old new
-  Served σ τ ps old new (Err NoMemory) = WroteFirst σ ps old new
+  Served σ τ ps old new (Err NoMemory) = ⊥
 
   -- the whole stream was replayed by a new core
   abbrev pub Replayed : List ℕ → Option (List ℕ) → Option (List ℕ) → Result (Unit {0}) Ended → Type 0

@@ -1,6 +1,6 @@
 //! One payload, and how it is answered.
 
-ghost use Rattle.std.specs.Prelude.{◌≡◌, ◌++◌, ◌⊎◌, ℕ, IfErr, OnOk, OnErr};
+ghost use Rattle.std.specs.Prelude.{◌≡◌, ◌++◌, ◌⊎◌, ℕ, [], IfErr, OnOk, OnErr};
 ghost use Rattle.tab_term.specs.View.{term};
 ghost use Rattle.tab_model.specs.Outcome.{Join};
 ghost use Rattle.tab_core.specs.Runs.{ask_of};
@@ -9,15 +9,16 @@ ghost use Rattle.tab_proto.specs.declared.request.Request.TheVariants as request
 ghost use Rattle.tab_oneshot.specs.OneShots.{is_one_shot as is_one_shot_command};
 ghost use Rattle.tab_session.specs.StepsMade.{StepMadeOrRefused};
 ghost use Rattle.tab_session.specs.AnsweredPayloads.{IsNumberOf, Answered, AnsweredTerm, RefusedTerm, RepliesTo, answer_frame, empty_post, NotPut};
+ghost use Rattle.tab_session.specs.Replays.{Handed, OneFault};
 
-use crate::Answer;
 use crate::one_session::drive;
+use crate::{Answer, Ended};
 use std::alloc::Global;
 use tab_core::{Core, Step};
-use tab_etf::{EncodeFault, EtfFault, decode};
+use tab_etf::{EncodeFault, EtfFault, FrameFault, Target, decode};
 use tab_model::{Command, Reply, Told};
 use tab_outbox::RingPost;
-use tab_proto::{ProtoFault, Request, append_reply, read_request, session_of};
+use tab_proto::{ProtoFault, Request, append_reply, read_request, session_of, write_reply};
 use tab_term::Term;
 
 /// Answers a payload: what is no term is BadTerm under 0, and a term that asks nothing is BadCommand, under the number in
@@ -139,4 +140,17 @@ pub fn put_answer(answer: &Answer, out: &mut Vec<u8>) -> Result<(), EncodeFault>
     ensures same { OnErr result (out.new.items ≡ out.old.items) }
 {
     append_reply(Some(answer.session), answer.reply.reply(), out)
+}
+
+/// Writes the frame of `{Session, Reply}`, and takes no memory.
+#[tactic(auto, unfolding(crate::specs::AnsweredPayloads::answer_frame))]
+pub fn write_answer<W: Target>(answer: &Answer, output: &mut W) -> Result<(), Ended>
+    ensures handed { Handed answer.now (W.contents output.old) (W.contents output.new) [] [] result }
+    ensures faults { OneFault (W.faults output.old) (W.faults output.new) result }
+{
+    match write_reply(output, Some(answer.session), answer.reply.reply()) {
+        Ok(()) => Ok(()),
+        Err(FrameFault::FrameTooLong(_)) => Err(Ended::TooLong),
+        Err(_) => Err(Ended::Device),
+    }
 }

@@ -1,6 +1,6 @@
 //! Why a replay ends.
 
-use tab_etf::{Broken, EncodeFault};
+use tab_etf::Broken;
 use thiserror::Error;
 
 /// Why a replay ended before its stream did, or inside a frame.
@@ -27,19 +27,5 @@ impl From<Broken> for Ended {
 
     fn from(_: Broken) -> Ended {
         Ended::Device
-    }
-}
-
-impl From<EncodeFault> for Ended {
-    ghost use Rattle.std.specs.Prelude.{◌≡◌};
-    ghost use Rattle.tab_session.specs.Replays.{ended_of};
-
-    ghost from_gives = { λ fault ended. ended ≡ ended_of fault };
-
-    fn from(fault: EncodeFault) -> Ended {
-        match fault {
-            EncodeFault::TooLong => Ended::TooLong,
-            EncodeFault::NoMemory => Ended::NoMemory,
-        }
     }
 }

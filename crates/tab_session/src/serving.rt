@@ -1,15 +1,15 @@
 //! The frames of one piece of the stream, and what is written for them.
 
-ghost use Rattle.std.specs.Prelude.{◌≡◌, ◌+◌, ◌<◌, ℕ, List, Option, None, true, length, OnOk};
+ghost use Rattle.std.specs.Prelude.{◌≡◌, ◌+◌, ◌<◌, ℕ, List, Option, [], None, true, length, OnOk};
 ghost use Rattle.std.specs.Io.KnownBytes.{Consumes};
 ghost use Rattle.tab_etf.specs.Frames.{contents, payload_of};
-ghost use Rattle.tab_session.specs.Replays.{IsReplaying, Advances, Served, ServedOne, OneFault, HasFlushed};
+ghost use Rattle.tab_session.specs.Replays.{IsReplaying, Advances, Handed, Served, OneFault, HasFlushed};
 
-use crate::Ended;
-use crate::answering::{answer, put_answer};
+use crate::answering::{answer, put_answer, write_answer};
+use crate::{Answer, Ended};
 use std::alloc::Global;
 use tab_core::Core;
-use tab_etf::{EncodeFault, Frame, FrameFault, Splitter, Target, give_all};
+use tab_etf::{Frame, FrameFault, Splitter, Target, give_all};
 use tab_outbox::RingPost;
 
 /// So many bytes of replies are kept before they are written.
@@ -24,18 +24,26 @@ fn payload_in(frame: &Frame) -> &[u8]
     }
 }
 
-/// Answers one payload, and adds the frame of its reply. On an error the bytes are as before.
-fn serve_one(
-    alloc: Global,
-    core: &mut Core<RingPost>,
-    outbox: usize,
-    frame: &Frame,
-    buffer: &mut Vec<u8>,
-) -> Result<(), EncodeFault>
-    ensures { ServedOne outbox core.old (payload_of frame.now) core.new buffer.old.items buffer.new.items result }
+/// Keeps the frame of a reply until there are some to be written at once. Where no memory is found to keep it in, what is kept
+/// is written, and then this frame by itself.
+fn put<W: Target>(answer: &Answer, buffer: &mut Vec<u8>, output: &mut W) -> Result<(), Ended>
+    ensures handed { Handed answer.now (W.contents output.old) (W.contents output.new) buffer.old.items buffer.new.items result }
+    ensures faults { OneFault (W.faults output.old) (W.faults output.new) result }
 {
-    let answer = answer(core, alloc, outbox, payload_in(frame));
-    put_answer(&answer, buffer)
+    match put_answer(answer, buffer) {
+        Ok(()) => {
+            if buffer.len() >= KEPT {
+                give_all(output, buffer)?;
+                buffer.clear();
+            }
+            Ok(())
+        }
+        Err(_) => {
+            give_all(output, buffer)?;
+            buffer.clear();
+            write_answer(answer, output)
+        }
+    }
 }
 
 /// Answers the payloads of these frames, and writes the replies.
@@ -52,14 +60,8 @@ fn serve_all<W: Target>(
 {
     let mut buffer = Vec::new(alloc);
     for frame in frames {
-        if let Err(fault) = serve_one(alloc, core, outbox, frame, &mut buffer) {
-            give_all(output, &buffer)?;
-            return Err(Ended::from(fault));
-        }
-        if buffer.len() >= KEPT {
-            give_all(output, &buffer)?;
-            buffer.clear();
-        }
+        let answer = answer(core, alloc, outbox, payload_in(frame));
+        put(&answer, &mut buffer, output)?;
     }
     give_all(output, &buffer)?;
     output.flush()?;
