@@ -65,26 +65,27 @@ static RECORDS: [Shape; 3] = [
     Tuple(&[Atom("t"), Int(3), Atom("a")]),
 ];
 
-fn is_committed(reply: &Reply) -> bool {
+fn is_committed(reply: &Reply, wanted: u64) -> bool {
     match reply {
-        Reply::Atomic(_) => true,
+        Reply::Atomic(number) => *number == wanted,
         _ => false,
     }
 }
 
-/// Whether a record is written and committed.
+/// Whether a record is written and committed, as the commit with this number.
 fn commit<H: House>(
     house: &H,
     alloc: Global,
     shared: &Shared<H>,
     seat: &Seat,
     record: &Shape,
+    number: u64,
 ) -> Result<bool, AllocError> {
     let write = Command::Do(Operation::Write(build(alloc, record)?));
     shared.call(house, seat, Command::Begin)?;
     shared.call(house, seat, write)?;
     let told = shared.call(house, seat, Command::Commit)?;
-    Ok(is_committed(told.reply()))
+    Ok(is_committed(told.reply(), number))
 }
 
 /// How many items were there for a session; None where it overflowed or left.
@@ -136,8 +137,8 @@ fn commit_all<H: House>(
 ) -> Result<bool, AllocError> {
     wait_for_write(house, pipe);
     let mut right = taken(house, shared, writer, &mut inbox) == Some(1);
-    for record in &RECORDS {
-        right &= commit(house, alloc, shared, writer, record)?;
+    for (record, number) in RECORDS.iter().zip(1..) {
+        right &= commit(house, alloc, shared, writer, record, number)?;
         right &= taken(house, shared, writer, &mut inbox) == Some(1);
     }
     pipe.open.store(true, Ordering::SeqCst);
