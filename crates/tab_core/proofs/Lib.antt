@@ -6,6 +6,7 @@ pub mod Batches
 pub mod OwingLemmas
 pub mod RunsLemmas
 pub mod StepsLemmas
+pub mod TellsLemmas
 pub mod SessionsLemmas
 pub mod MarksLemmas
 pub mod Dumps

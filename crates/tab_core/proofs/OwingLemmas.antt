@@ -1,8 +1,7 @@
 -- Commits and schema commands: what they owe is delivered.
-use Rattle.std.proofs.Common.{◌≡◌, ℕ, ◌+◌, List, [], ◌∷◌, ◌++◌, Bool, true, false, ◌&&◌, ◌||◌, not, refl, sym, ap, ◌∙◌, subst, append-nil, length, Option, Some, None, inl, inr}
-use Rattle.std.specs.Prelude.{◌==◌, ◌⊎◌, if◌then◌else◌, is_some, map, option_map}
+use Rattle.std.proofs.Common.{◌≡◌, ℕ, ◌+◌, List, [], ◌∷◌, Bool, true, false, ◌&&◌, ◌||◌, not, refl, sym, ap, ◌∙◌, subst, append-nil, Option, Some, None}
+use Rattle.std.specs.Prelude.{if◌then◌else◌, is_some, map, option_map}
 use Rattle.std.specs.List.{AllByRecursion, filter}
-use Rattle.tab_model.specs.declared.data.Event.{Event}
 use Rattle.tab_model.specs.declared.data.Entry.{Entry}
 use Rattle.tab_model.specs.declared.data.Item.{Item}
 use Rattle.tab_model.specs.declared.data.Reply.{Reply}
@@ -16,17 +15,17 @@ use Rattle.tab_model.specs.Schemas.{table_of_schema, schema_refusal, removed}
 use Rattle.tab_model.specs.Slices.{batch_for, end_for}
 use Rattle.tab_model.specs.State as plain
 use Rattle.tab_model.specs.State.{Transaction, Watch, Seat, State, seat_at, transaction_at, is_waiting, is_busy, level_in, mid_of}
-use Rattle.tab_model.specs.Outcome.{Ask, DoCommand, Outcome, outcome, nothing, is_empty, change, with_transaction, given, batch_to, commit_now, commit_at, commit, events_now, unwatched, end_to, schema_now, has_room, schema_if, schema, do_command, is_abort, command_if, by_seat}
-use Rattle.tab_model.specs.Run.{Allowed, Pinned, put_ask, put_command, put_commit, put_schema}
+use Rattle.tab_model.specs.Outcome.{Ask, DoCommand, Outcome, outcome, is_empty, change, with_transaction, given, batch_to, commit_now, commit_at, commit, events_now, unwatched, end_to, schema_now, has_room, schema_if, schema, do_command, is_abort, command_if, by_seat}
+use Rattle.tab_model.specs.Run.{Allowed, Pinned, put_ask, put_commit, put_schema}
 use Rattle.tab_model.proofs.Seats.{found}
 use Rattle.tab_manager.specs.Outermost.{outermost, outermost_of}
 use Rattle.tab_subs.specs.Subscribers.{Subscriber, numbers}
 use Rattle.tab_subs.specs.Subscribers as subs
 use Rattle.tab_subs.specs.Deliveries.{given_all, AreDecided, those_in}
 use Rattle.tab_core.specs.Seats.{seat_with, state_with, with_overflowed, IsKept}
-use Rattle.tab_core.specs.Owing.{is_watched, are_watched}
+use Rattle.tab_core.specs.Owing.{are_watched}
 use Rattle.tab_core.proofs.Frames.{at_dressed, change_dressed, busy_dressed, lifted}
-use Rattle.tab_core.proofs.Delivering.{after, after_numbers, seats_after, seated_there, seat_given, owing, are_pinned, IsThere}
+use Rattle.tab_core.proofs.Delivering.{after, seats_after, seated_there, seat_given, owing, are_pinned, IsThere}
 use Rattle.tab_core.proofs.NumbersStay.{seat_numbers, change_stays}
 use Rattle.tab_core.proofs.Batches.{no_batches}
 
@@ -53,7 +52,7 @@ abbrev pub delivered : List Subscriber → List ℕ → Outcome → Outcome
 delivered bs over o = record { state = state_with bs o.state; reply = o.reply; entry = option_map (with_overflowed over) o.entry }
 
 -- a seat's session, idle
-idles : (σ : State) (over : List ℕ) (n : ℕ) (s : Seat) (c : Command) → seat_at σ.seats n ≡ Some s → is_waiting σ s.number ≡ false → outcome σ over n (DoCommand c) ≡ do_command σ over s c
+pub idles : (σ : State) (over : List ℕ) (n : ℕ) (s : Seat) (c : Command) → seat_at σ.seats n ≡ Some s → is_waiting σ s.number ≡ false → outcome σ over n (DoCommand c) ≡ do_command σ over s c
 unfolding outcome
 idles σ over n s c here idle = ap (by_seat σ over n (DoCommand c)) here ∙ ap (λ b. command_if σ over s c (b && not (is_abort c))) idle
 

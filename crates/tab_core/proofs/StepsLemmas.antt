@@ -1,8 +1,7 @@
 -- Steps of the manager as steps of the core.
-use Rattle.std.proofs.Common.{◌≡◌, ℕ, ◌+◌, ◌<◌, List, [], ◌∷◌, ◌++◌, Bool, true, false, ◌&&◌, not, refl, sym, ap, ◌∙◌, subst, arith, length, Option, Some, None}
-use Rattle.std.specs.Prelude.{◌==◌, if◌then◌else◌, is_some, nat_lt, Result, Ok, Err, IfOk, IsOk, OnErr, map, option_map}
+use Rattle.std.proofs.Common.{◌≡◌, ℕ, ◌+◌, List, [], ◌∷◌, Bool, true, false, ◌&&◌, not, refl, sym, ap, ◌∙◌, subst, Option, Some, None}
+use Rattle.std.specs.Prelude.{if◌then◌else◌, is_some, Result, Ok, Err, IfOk, IsOk, OnErr, map, option_map}
 use Rattle.std.specs.List.{filter}
-use Rattle.tab_term.specs.declared.term.Term.{Term}
 use Rattle.tab_model.specs.declared.data.Change.{Change}
 use Rattle.tab_model.specs.declared.data.Entry.{Entry}
 use Rattle.tab_model.specs.declared.data.Event.{Event}
@@ -28,6 +27,7 @@ use Rattle.tab_core.specs.Seats.{seat_with, state_with, with_overflowed, AreTheS
 use Rattle.tab_core.specs.Owing.{is_watched, are_watched, Updates, Owes, Commits}
 use Rattle.tab_core.specs.Runs.{StepsTo, takes_no_memory}
 use Rattle.tab_core.proofs.Frames.{at_dressed, transactions_dressed, lifted, IsQuiet, quiet_command, quiet_retry}
+use Rattle.tab_core.proofs.TellsLemmas.{did_nothing}
 use Rattle.tab_core.proofs.Delivering.{after, after_numbers}
 use Rattle.tab_core.proofs.NumbersStay.{seat_numbers, commands_stay, retries_stay}
 use Rattle.tab_core.proofs.Batches.{batches_of_watched}
@@ -164,18 +164,6 @@ module _ (bs : List Subscriber) (σ : State) (k : IsKept bs σ) (n : ℕ) (s : S
             same_after (DoCommand (command.Schema c)) (commands_stay σ [] n (command.Schema c)) h,
           )
 
--- what takes no memory of the core takes none of the manager
-pub free_command : (bs : List Subscriber) (σ : State) (n : ℕ) (c : Command) → takes_no_memory (state_with bs σ) n (DoCommand c) ≡ true → manager.takes_no_memory σ n (DoCommand c) ≡ true
-free_command bs σ n (command.Schema x) h = cc
-free_command bs σ n (command.TableInfo t i) h = cc
-free_command bs σ n command.Begin h = cc
-free_command bs σ n command.Commit h = sym (ap (λ o. is_empty (plain.moves_in o)) (transactions_dressed bs σ n)) ∙ h
-free_command bs σ n (command.Abort r) h = refl
-free_command bs σ n (command.Do o) h = cc
-free_command bs σ n (command.Subscribe t l d) h = cc
-free_command bs σ n (command.Unsubscribe t l) h = cc
-free_command bs σ n (command.OneShot parts retries) h = cc
-
 -- ---- what a call of the manager answers
 
 pub ok_makes : {E : Type 0} (P Q : Stepped → Type 0) (r : Result Stepped E) → ((s : Stepped) → P s → Q s) → IfOk r P → IfOk r Q
@@ -238,7 +226,7 @@ no_updates bs σ n t ends h = by t.moves bare
     bare : is_empty t.moves ≡ true
     bare =
         let e = committing.is_ending σ n t ends in
-        sym (ap (λ o. is_empty (plain.moves_in o)) (transactions_dressed bs σ n ∙ ap plain.transaction_in e.here ∙ e.opened)) ∙ h
+        sym (ap (λ o. is_empty (plain.moves_in o)) (transactions_dressed bs σ n ∙ ap plain.transaction_in e.here ∙ e.opened)) ∙ did_nothing bs σ n t ends h
 
     by : (xs : List Move) → is_empty xs ≡ true → surviving xs t.told ≡ []
     by [] q = refl
@@ -297,7 +285,3 @@ commits_of w bs σ n e u is h updates =
       ends = t.1;
       updates = subst (λ (p : ℕ × List Change). Updates σ.tables bs p.0 p.1 u) t.2 (subst (λ (v : Rattle.tab_model.specs.Worlds.World). Updates v bs e.0 e.1 u) is updates);
     }
-
--- memory that a free command of the core would take is none that the manager takes
-pub seen_free : (bs : List Subscriber) (σ ρ : State) (n : ℕ) (c : Command) → state_with bs σ ≡ ρ → takes_no_memory ρ n (DoCommand c) ≡ true → manager.takes_no_memory σ n (DoCommand c) ≡ true
-seen_free bs σ ρ n c view h = free_command bs σ n c (subst (λ (μ : State). takes_no_memory μ n (DoCommand c) ≡ true) (sym view) h)

@@ -1,14 +1,14 @@
 -- Steps of a core, lists of them, and what a run of them leaves.
-use Rattle.std.specs.Prelude.{◌≡◌, ℕ, List, [], ◌∷◌, ◌++◌, Bool, true, false, not, ◌⊎◌}
+use Rattle.std.specs.Prelude.{◌≡◌, ℕ, List, [], ◌∷◌, ◌++◌, Bool, true, false, ◌⊎◌}
 use Rattle.tab_model.specs.declared.data.Entry.{Entry}
 use Rattle.tab_model.specs.declared.data.Item.{Item}
 use Rattle.tab_model.specs.declared.data.Reply.{Reply}
 use Rattle.tab_model.specs.declared.data.Reply.TheVariants as reply
-use Rattle.tab_model.specs.declared.data.Command.TheVariants as command
-use Rattle.tab_model.specs.State.{Outbox, State, is_waiting, moves_at}
-use Rattle.tab_model.specs.Outcome.{Ask, Join, Leave, Retry, Take, DoCommand, is_empty, outcome}
+use Rattle.tab_model.specs.State.{Outbox, State}
+use Rattle.tab_model.specs.Outcome.{Ask, Join, Leave, Retry, Take, DoCommand, outcome}
 use Rattle.tab_model.specs.Run.{Allowed, JoinsEmpty, entries, taken_now}
 use Rattle.tab_manager.specs.declared.step.Stepped.{Stepped}
+use Rattle.tab_manager.specs.Steps as manager
 use Rattle.tab_core.specs.declared.step.Step.{Step}
 use Rattle.tab_core.specs.declared.step.Step.TheVariants as step
 
@@ -28,16 +28,13 @@ abbrev pub AllJoinEmpty : List (ℕ × Ask) → Type 0
 AllJoinEmpty [] = Unit {0}
 AllJoinEmpty (a ∷ asks) = JoinsEmpty a.1 × AllJoinEmpty asks
 
--- what is done without memory: to leave, to take, to abort; to retry where nothing is queued; and to commit a transaction
--- that did nothing
+-- what takes no memory: what takes none of the manager, but to join, since the post that is handed in was made for it
 abbrev pub takes_no_memory : State → ℕ → Ask → Bool
 takes_no_memory σ n (Join b) = false
 takes_no_memory σ n Leave = true
-takes_no_memory σ n Retry = not (is_waiting σ n)
 takes_no_memory σ n Take = true
-takes_no_memory σ n (DoCommand (command.Abort r)) = true
-takes_no_memory σ n (DoCommand command.Commit) = is_empty (moves_at σ n)
-takes_no_memory σ n (DoCommand c) = false
+takes_no_memory σ n Retry = manager.takes_no_memory σ n Retry
+takes_no_memory σ n (DoCommand c) = manager.takes_no_memory σ n (DoCommand c)
 
 -- a step that was made: who overflowed in it, which the posts' capacities decide where they have one
 abbrev pub StepsTo : State → ℕ → Ask → Stepped → State → Type 0

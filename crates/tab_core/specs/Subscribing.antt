@@ -1,5 +1,5 @@
--- What refuses a subscription, and what marks and Takes are answered (the order of the refusals is this project's own rule).
-use Rattle.std.specs.Prelude.{ℕ, List, if◌then◌else◌, Option, Some, None}
+-- What refuses a subscription or a schema command, and what marks and Takes are answered (the order of the refusals is this project's own rule).
+use Rattle.std.specs.Prelude.{ℕ, List, if◌then◌else◌, is_some, Option, Some, None}
 use Rattle.tab_model.specs.declared.data.Entry.{Entry}
 use Rattle.tab_model.specs.declared.data.Reply.{Reply}
 use Rattle.tab_model.specs.declared.data.Reply.TheVariants as reply
@@ -16,6 +16,10 @@ use Rattle.tab_subs.specs.declared.answers.Marked.TheVariants as mark
 abbrev pub refused_by : State → ℕ → (Seat → Option Reply) → Option Seat → Option Reply
 refused_by σ n f None = Some reply.BadSession
 refused_by σ n f (Some s) = if is_waiting σ n then Some reply.WaitingNow else f s
+
+-- a session that stands in a transaction
+abbrev pub inside_refusal : Seat → Option Reply
+inside_refusal s = if is_some s.transaction then Some reply.InTransaction else None
 
 -- a table that the session doesn't watch at that level
 abbrev pub unsubscribe_refusal : List ℕ → Level → Seat → Option Reply

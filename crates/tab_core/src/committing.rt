@@ -5,15 +5,17 @@ ghost use Rattle.std.specs.List.{filter};
 ghost use Rattle.tab_model.specs.declared.data.Command.TheVariants as command;
 ghost use Rattle.tab_model.specs.Outcome.{DoCommand};
 ghost use Rattle.tab_model.specs.Events.{event_of};
+ghost use Rattle.tab_model.specs.State.{seat_at};
 ghost use Rattle.tab_core.specs.Owing.{are_watched as are_watched_by, is_watched, Commits, Owes, Updates};
 ghost use Rattle.tab_core.specs.Runs.{StepsTo, takes_no_memory};
 ghost use Rattle.tab_core.specs.Seats.{state_with, IsKept};
+ghost use Rattle.tab_core.specs.Subscribing.{inside_refusal, refused_by};
 
 use crate::Core;
 use crate::step::with_overflowed;
 use std::alloc::{AllocError, Global};
 use tab_manager::{Ending, Manager, Step, Stepped};
-use tab_model::{Change, Command, Event, Schema};
+use tab_model::{Change, Command, Event, Reply, Schema};
 use tab_outbox::Post;
 use tab_subs::Subs;
 use tab_term::Atom;
@@ -65,8 +67,33 @@ impl<P: Post + Drop> Core<P> {
         )
     }
 
-    /// A table's deletion owes end marks; no other schema command owes anything.
+    /// What the session itself refuses is looked for before any memory is taken.
     pub(crate) fn schema(&mut self, session: u32, schema: Schema) -> Result<Stepped, AllocError>
+        ensures done { IfOk result (λ s. StepsTo self.old session (DoCommand (command.Schema schema)) s self.new) }
+        ensures free { takes_no_memory self.old session (DoCommand (command.Schema schema)) ≡ true → IsOk result }
+        ensures err { OnErr result (self.new ≡ self.old) }
+    {
+        if let Some(refusal) = self.schema_refusal(session) {
+            return Ok(Stepped::without_entry(refusal));
+        }
+        self.redefine(session, schema)
+    }
+
+    /// What refuses a schema command before its table is looked at.
+    fn schema_refusal(&self, session: u32) -> Option<Reply>
+        ensures { result ≡ refused_by self.now session inside_refusal (seat_at self.now.seats session) }
+    {
+        if let Some(refusal) = self.session_refusal(session) {
+            return Some(refusal);
+        }
+        if self.levels(session) > 0 {
+            return Some(Reply::InTransaction);
+        }
+        None
+    }
+
+    /// A table's deletion owes end marks; no other schema command owes anything.
+    fn redefine(&mut self, session: u32, schema: Schema) -> Result<Stepped, AllocError>
         ensures done { IfOk result (λ s. StepsTo self.old session (DoCommand (command.Schema schema)) s self.new) }
         ensures err { OnErr result (self.new ≡ self.old) }
     {

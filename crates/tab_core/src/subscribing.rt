@@ -1,11 +1,13 @@
 //! Subscriptions begin and end.
 
-ghost use Rattle.std.specs.Prelude.{◌≡◌, None, IfOk, OnErr};
+ghost use Rattle.std.specs.Prelude.{◌≡◌, Bool, None, IfOk, IsOk, OnErr, true};
 ghost use Rattle.tab_model.specs.declared.data.Command.TheVariants as command;
+ghost use Rattle.tab_model.specs.declared.data.Level.{Level as LevelOf};
 ghost use Rattle.tab_model.specs.Outcome.{DoCommand, is_at as is_at_of, subscribe_refusal as subscribe_refusal_of};
 ghost use Rattle.tab_model.specs.State.{seat_at};
+ghost use Rattle.tab_manager.specs.Steps.{is_told_for_none};
 ghost use Rattle.tab_core.specs.Subscribing.{marked_reply as marked_reply_of, refused_by, unsubscribe_refusal as unsubscribe_refusal_of};
-ghost use Rattle.tab_core.specs.Runs.{StepsTo};
+ghost use Rattle.tab_core.specs.Runs.{StepsTo, takes_no_memory};
 
 use crate::Core;
 use crate::dump::dump_of;
@@ -28,6 +30,7 @@ impl<P: Post + Drop> Core<P> {
         dump: bool,
     ) -> Result<Stepped, AllocError>
         ensures done { IfOk result (λ s. StepsTo self.old session (DoCommand (command.Subscribe table level dump)) s self.new) }
+        ensures free { takes_no_memory self.old session (DoCommand (command.Subscribe table level dump)) ≡ true → IsOk result }
         ensures err { OnErr result (self.new ≡ self.old) }
     {
         if let Some(refusal) = self.subscribe_refusal(session, &table)? {
@@ -51,7 +54,8 @@ impl<P: Post + Drop> Core<P> {
 
     /// What refuses a subscription but its post.
     fn subscribe_refusal(&self, session: u32, table: &Atom) -> Result<Option<Reply>, AllocError>
-        ensures { IfOk result (λ refusal. refusal ≡ refused_by self.now session (λ s. subscribe_refusal_of self.now s table.now) (seat_at self.now.seats session)) }
+        ensures ok { IfOk result (λ refusal. refusal ≡ refused_by self.now session (λ s. subscribe_refusal_of self.now s table.now) (seat_at self.now.seats session)) }
+        ensures free { (l : LevelOf) (dump : Bool) → is_told_for_none self.now session (DoCommand (command.Subscribe table.now l dump)) ≡ true → IsOk result }
     {
         if let Some(refusal) = self.session_refusal(session) {
             return Ok(Some(refusal));
@@ -69,7 +73,7 @@ impl<P: Post + Drop> Core<P> {
     }
 
     /// A command of a session that has not joined, or that waits.
-    fn session_refusal(&self, session: u32) -> Option<Reply>
+    pub(crate) fn session_refusal(&self, session: u32) -> Option<Reply>
         ensures { result ≡ refused_by self.now session (λ s. None) (seat_at self.now.seats session) }
     {
         if !self.manager.joined(session) {
@@ -89,6 +93,7 @@ impl<P: Post + Drop> Core<P> {
         level: Level,
     ) -> Result<Stepped, AllocError>
         ensures done { IfOk result (λ s. StepsTo self.old session (DoCommand (command.Unsubscribe table level)) s self.new) }
+        ensures free { takes_no_memory self.old session (DoCommand (command.Unsubscribe table level)) ≡ true → IsOk result }
         ensures err { OnErr result (self.new ≡ self.old) }
     {
         if let Some(refusal) = self.unsubscribe_refusal(session, &table, level)? {
@@ -105,7 +110,8 @@ impl<P: Post + Drop> Core<P> {
         table: &Atom,
         level: Level,
     ) -> Result<Option<Reply>, AllocError>
-        ensures { IfOk result (λ refusal. refusal ≡ refused_by self.now session (unsubscribe_refusal_of table.now level) (seat_at self.now.seats session)) }
+        ensures ok { IfOk result (λ refusal. refusal ≡ refused_by self.now session (unsubscribe_refusal_of table.now level) (seat_at self.now.seats session)) }
+        ensures free { is_told_for_none self.now session (DoCommand (command.Unsubscribe table.now level)) ≡ true → IsOk result }
     {
         if let Some(refusal) = self.session_refusal(session) {
             return Ok(Some(refusal));

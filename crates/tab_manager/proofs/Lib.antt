@@ -9,3 +9,4 @@ pub mod OperatingLemmas
 pub mod Places
 pub mod OneShots
 pub mod OutermostLemmas
+pub mod StepsLemmas

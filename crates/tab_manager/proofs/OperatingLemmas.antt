@@ -1,14 +1,13 @@
 -- Operations and retries: the lock is decided, and then the work is done, queued, or given up.
-use Rattle.std.proofs.Common.{◌≡◌, ◌≢◌, ℕ, suc, ◌+◌, ◌<◌, ◌≤◌, List, [], ◌∷◌, ◌++◌, Bool, true, false, not, refl, sym, ap, ◌∙◌, subst, arith, length, Option, Some, None, get_or, set}
+use Rattle.std.proofs.Common.{◌≡◌, ℕ, ◌+◌, ◌≤◌, List, [], ◌∷◌, ◌++◌, Bool, true, false, not, refl, sym, ap, ◌∙◌, subst, arith, Option, Some, None, set}
 use Rattle.std.specs.Prelude.{◌==◌, nat_lt, if◌then◌else◌, map, option_map, IfSome}
-use Rattle.std.specs.List.{list_any, filter}
+use Rattle.std.specs.List.{filter}
 use Rattle.tab_locks.specs.Members.{SameMembers}
 use Rattle.tab_locks.specs.Placed.{placed, without_last}
 use Rattle.tab_model.specs.declared.data.Command.TheVariants as command
 use Rattle.tab_model.specs.declared.data.Limit.TheVariants as limit
 use Rattle.tab_model.specs.declared.data.Move.TheVariants.{Do}
 use Rattle.tab_model.specs.declared.data.Operation.{Operation}
-use Rattle.tab_model.specs.declared.data.Reply.{Reply}
 use Rattle.tab_model.specs.declared.data.Reply.TheVariants as reply
 use Rattle.tab_model.specs.Ages.{Owned, Ages, Answer, Granted, Wait, Die, without, forget, decide, can_retry, request_of}
 use Rattle.tab_model.specs.Locks.{needs}
@@ -27,7 +26,7 @@ use Rattle.tab_manager.specs.declared.seat.Seat as code
 use Rattle.tab_manager.specs.declared.queue.Request as request
 use Rattle.tab_manager.specs.declared.machine.Machine.{Machine}
 use Rattle.tab_manager.specs.declared.operating.Worked.{Worked}
-use Rattle.tab_manager.specs.Seats.{transaction_of, seat_of, queued_of, state_of, transaction_in, at, StandsAt}
+use Rattle.tab_manager.specs.Seats.{transaction_of, seat_of, queued_of, state_of, StandsAt}
 use Rattle.tab_manager.specs.Works.{Works, ended}
 use Rattle.tab_manager.specs.Works as works
 use Rattle.tab_manager.specs.Kept.{opens, Agree, IsKept}
@@ -71,7 +70,7 @@ module _ (m : Machine) (n i : ℕ) (k : IsKept m) (there : StandsAt m.seats.item
     abbrev tr : plain.Transaction
     tr = transaction_of t
 
-    at_within : (o : Operation) (b : Bool) → is_waiting σ n ≡ false → nat_lt (count_moves t.store.moves) m.limits.operations ≡ b → outcome σ [] n (DoCommand (command.Do o)) ≡ within σ (seat_of s) tr o b
+    pub at_within : (o : Operation) (b : Bool) → is_waiting σ n ≡ false → nat_lt (count_moves t.store.moves) m.limits.operations ≡ b → outcome σ [] n (DoCommand (command.Do o)) ≡ within σ (seat_of s) tr o b
     at_within o b idle room =
         keep.asks m n i k there (command.Do o) idle ∙ ap (operate σ (seat_of s) o) (ap (option_map transaction_of) open_t) ∙ ap (within σ (seat_of s) tr o) room
 
@@ -276,7 +275,7 @@ module _ (m : Machine) (n i : ℕ) (k : IsKept m) (there : StandsAt m.seats.item
         sym (ap (λ (x : List Owned). let g : Ages = record { held = m.ages.held; queue = x } in can_retry g (r.transaction.age, needs q.operation)) k.agree.queue ∙ retries (held_in (map seat_of m.seats.items)) m.ages.held (queued_in (map queued_of m.queue.items)) (r.transaction.age, needs q.operation) k.agree.held)
         ∙ ap (λ a. can_retry m.ages (a, needs q.operation)) r.age ∙ h
 
-    retried_as : (b : Bool) → can_retry m.ages (q.age, needs q.operation) ≡ b → outcome τ [] n Retry ≡ retried τ (seat_of sitting) (transaction_of r.transaction) q.operation b
+    pub retried_as : (b : Bool) → can_retry m.ages (q.age, needs q.operation) ≡ b → outcome τ [] n Retry ≡ retried τ (seat_of sitting) (transaction_of r.transaction) q.operation b
     retried_as b h =
         keep.sits τ n (seat_of sitting) Retry (keep.here m n i k there) ∙ ap (retry τ (seat_of sitting)) (ap (request_in (map queued_of m.queue.items)) (keep.is m n i k there) ∙ rq)
         ∙ ap (retry_in τ (seat_of sitting) q.operation) (ap (option_map transaction_of) r.open_t) ∙ ap (retried τ (seat_of sitting) (transaction_of r.transaction) q.operation) (may b h)

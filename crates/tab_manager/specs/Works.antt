@@ -1,5 +1,5 @@
 -- What becomes of a seat and of its transaction's locks.
-use Rattle.std.specs.Prelude.{◌≡◌, ℕ, suc, [], Bool, true, false, ◌&&◌, ◌==◌, nat_lt, if◌then◌else◌, Option, None, Some, length, option_map}
+use Rattle.std.specs.Prelude.{◌≡◌, ℕ, suc, [], Bool, true, false, ◌&&◌, ◌==◌, nat_lt, Option, None, Some, length, option_map}
 use Rattle.tab_model.specs.declared.data.Operation.{Operation}
 use Rattle.tab_model.specs.declared.data.Move.TheVariants.{Do, Open, Close, Undo}
 use Rattle.tab_model.specs.declared.data.Limits.{Limits}
@@ -50,6 +50,10 @@ WorksTo w t o x (Some new) = Works w t o x new
 -- a child's begin (the order of the limits is this project's own rule)
 abbrev pub Nests : Limits → kept.Transaction → kept.Transaction → Reply → Type 0
 Nests ls t new r = NestsIf t (nat_lt (suc (length t.store.levels.saved)) ls.nesting) (nat_lt (count_moves t.store.moves) ls.operations) new r
+
+-- whether the limits let a child begin
+abbrev pub has_level : Limits → kept.Transaction → Bool
+has_level ls t = nat_lt (suc (length t.store.levels.saved)) ls.nesting && nat_lt (count_moves t.store.moves) ls.operations
 
 abbrev pub NestsTo : Limits → kept.Transaction → Option kept.Transaction → Reply → Type 0
 NestsTo ls t None r = ⊥

@@ -1,14 +1,15 @@
 //! The levels of a transaction: their begins and ends.
 
-ghost use Rattle.std.specs.Prelude.{◌≡◌, ◌<◌, ◌==◌, ℕ, List, [], IfOk, IsOk, IsSome, IfSome, OnOk, OnErr, false, true, length, if◌then◌else◌};
+ghost use Rattle.std.specs.Prelude.{◌≡◌, ◌<◌, ◌==◌, ℕ, List, [], IfOk, IsOk, IsSome, IfSome, OnOk, OnErr, None, false, true, length, if◌then◌else◌};
 ghost use Rattle.tab_model.specs.declared.data.Command.TheVariants as command;
 ghost use Rattle.tab_model.specs.declared.data.Part.{Part};
 ghost use Rattle.tab_model.specs.Events.{change_all};
-ghost use Rattle.tab_model.specs.State.{is_waiting, moves_at};
+ghost use Rattle.tab_model.specs.State.{is_waiting, moves_at, transaction_at};
 ghost use Rattle.tab_model.specs.Outcome.{DoCommand, is_empty, nothing, outcome};
 ghost use Rattle.tab_manager.specs.Seats.{state_of, StandsAt};
 ghost use Rattle.tab_manager.specs.Kept.{IsKept};
-ghost use Rattle.tab_manager.specs.Works.{Nests, NestsTo, Undoes, undone, joined, ended, forgotten_if, committed};
+ghost use Rattle.tab_manager.specs.Steps.{is_told_for_none};
+ghost use Rattle.tab_manager.specs.Works.{Nests, NestsTo, has_level, Undoes, undone, joined, ended, forgotten_if, committed};
 
 use crate::machine::Machine;
 use crate::operating::end_if;
@@ -28,6 +29,8 @@ impl Machine {
         requires there { StandsAt self.old.seats.items session place }
         requires idle { is_waiting (state_of self.old) session ≡ false }
         ensures ok { IfOk result (λ r. outcome (state_of self.old) [] session (DoCommand command.Begin) ≡ nothing (state_of self.new) r) }
+        ensures free { transaction_at (state_of self.old) session ≡ None → IsOk result }
+        ensures told { is_told_for_none (state_of self.old) session (DoCommand command.Begin) ≡ true → IsOk result }
         ensures err { OnErr result (state_of self.new ≡ state_of self.old) }
         ensures kept { IsKept self.new }
     {
@@ -51,6 +54,7 @@ impl Machine {
         requires there { StandsAt self.old.seats.items session place }
         requires idle { is_waiting (state_of self.old) session ≡ false }
         ensures ok { IfOk result (λ r. (parts : List Part) (retries : ℕ) → outcome (state_of self.old) [] session (DoCommand (command.OneShot parts retries)) ≡ nothing (state_of self.new) r) }
+        ensures free { IsOk result }
         ensures err { OnErr result (state_of self.new ≡ state_of self.old) }
         ensures kept { IsKept self.new }
     {
@@ -67,6 +71,7 @@ impl Machine {
         requires idle { is_waiting (state_of self.old) session ≡ false }
         ensures ok { IfOk result (λ s. outcome (state_of self.old) [] session (DoCommand command.Commit) ≡ record { state = state_of self.new; reply = s.reply; entry = s.entry }) }
         ensures free { is_empty (moves_at (state_of self.old) session) ≡ true → IsOk result }
+        ensures told { is_told_for_none (state_of self.old) session (DoCommand command.Commit) ≡ true → IsOk result }
         ensures err { OnErr result (state_of self.new ≡ state_of self.old) }
         ensures kept { IsKept self.new }
     {
@@ -109,6 +114,7 @@ fn nest(limits: &Limits, seat: &mut Seat) -> Result<Reply, AllocError>
     requires { IsSome seat.old.transaction }
     ensures number { seat.new.number ≡ seat.old.number }
     ensures ok { IfSome seat.old.transaction (λ t. IfOk result (NestsTo limits.now t seat.new.transaction)) }
+    ensures free { IfSome seat.old.transaction (λ t. has_level limits.now t ≡ false → IsOk result) }
     ensures err { OnErr result (seat.new.transaction ≡ seat.old.transaction) }
 {
     let Some(transaction) = &mut seat.transaction else {
@@ -119,6 +125,7 @@ fn nest(limits: &Limits, seat: &mut Seat) -> Result<Reply, AllocError>
 
 fn nest_in(limits: &Limits, transaction: &mut Transaction) -> Result<Reply, AllocError>
     ensures ok { IfOk result (Nests limits.now transaction.old transaction.new) }
+    ensures free { has_level limits.now transaction.old ≡ false → IsOk result }
     ensures err { OnErr result (transaction.new ≡ transaction.old) }
 {
     if transaction.store.depth() as u64 >= limits.nesting.saturating_sub(1) {

@@ -3,7 +3,7 @@
 ghost use Rattle.std.specs.Prelude.{◌≡◌, ◌≤◌, [], Some, None, IfOk, IsOk, OnErr, MatchOption, false, true};
 ghost use Rattle.tab_model.specs.State.{new, is_waiting};
 ghost use Rattle.tab_model.specs.Outcome.{DoCommand, nothing, outcome};
-ghost use Rattle.tab_manager.specs.Steps.{StepsTo, ask_of, is_quiet_step, takes_no_memory};
+ghost use Rattle.tab_manager.specs.Steps.{StepsTo, ask_of, is_quiet_step, asks_for_none, is_told_for_none};
 ghost use Rattle.tab_manager.specs.Quiet.{is_quiet};
 ghost use Rattle.tab_manager.specs.Seats.{state_of, at, StandsAt};
 ghost use Rattle.tab_manager.specs.Kept.{IsKept};
@@ -92,7 +92,8 @@ impl Machine {
         requires quiet { is_quiet_step step ≡ true }
         requires kept { IsKept self.old }
         ensures done { IfOk result (λ s. StepsTo (state_of self.old) session (ask_of step) s (state_of self.new)) }
-        ensures free { takes_no_memory (state_of self.old) session (ask_of step) ≡ true → IsOk result }
+        ensures free { asks_for_none (state_of self.old) session (ask_of step) ≡ true → IsOk result }
+        ensures told { is_told_for_none (state_of self.old) session (ask_of step) ≡ true → IsOk result }
         ensures err { OnErr result (state_of self.new ≡ state_of self.old) }
         ensures kept { IsKept self.new }
     {
@@ -113,7 +114,8 @@ impl Machine {
         requires kept { IsKept self.old }
         requires there { StandsAt self.old.seats.items session place }
         ensures done { IfOk result (λ s. outcome (state_of self.old) [] session (DoCommand asked.command) ≡ record { state = state_of self.new; reply = s.reply; entry = s.entry }) }
-        ensures free { takes_no_memory (state_of self.old) session (DoCommand asked.command) ≡ true → IsOk result }
+        ensures free { asks_for_none (state_of self.old) session (DoCommand asked.command) ≡ true → IsOk result }
+        ensures told { is_told_for_none (state_of self.old) session (DoCommand asked.command) ≡ true → IsOk result }
         ensures err { OnErr result (state_of self.new ≡ state_of self.old) }
         ensures kept { IsKept self.new }
     {
@@ -139,7 +141,8 @@ impl Machine {
         requires there { StandsAt self.old.seats.items session place }
         requires idle { is_waiting (state_of self.old) session ≡ false }
         ensures done { IfOk result (λ s. outcome (state_of self.old) [] session (DoCommand asked.command) ≡ record { state = state_of self.new; reply = s.reply; entry = s.entry }) }
-        ensures free { takes_no_memory (state_of self.old) session (DoCommand asked.command) ≡ true → IsOk result }
+        ensures free { asks_for_none (state_of self.old) session (DoCommand asked.command) ≡ true → IsOk result }
+        ensures told { is_told_for_none (state_of self.old) session (DoCommand asked.command) ≡ true → IsOk result }
         ensures err { OnErr result (state_of self.new ≡ state_of self.old) }
         ensures kept { IsKept self.new }
     {

@@ -1,6 +1,6 @@
 //! Operations of a transaction, and their locks.
 
-ghost use Rattle.std.specs.Prelude.{◌≡◌, ◌&&◌, ◌==◌, [], Some, IfOk, IfSome, IsOk, IsSome, OnErr, false, if◌then◌else◌, option_map, length};
+ghost use Rattle.std.specs.Prelude.{◌≡◌, ◌&&◌, ◌==◌, [], Some, IfOk, IfSome, IsOk, IsSome, OnErr, false, true, if◌then◌else◌, option_map, length};
 ghost use Rattle.tab_model.specs.declared.data.Command.TheVariants as command;
 ghost use Rattle.tab_model.specs.Ages.{forget as forgotten};
 ghost use Rattle.tab_model.specs.Events.{is_failure as is_failure_of};
@@ -10,6 +10,7 @@ ghost use Rattle.tab_locks.specs.Placed.{without_last};
 ghost use Rattle.tab_waitdie.specs.Decisions.{ages as ages_with};
 ghost use Rattle.tab_manager.specs.Seats.{state_of, StandsAt};
 ghost use Rattle.tab_manager.specs.Kept.{IsKept};
+ghost use Rattle.tab_manager.specs.Steps.{is_told_for_none};
 ghost use Rattle.tab_manager.specs.Works.{Works, WorksTo, emptied, ended, forgotten_if};
 
 use crate::machine::Machine;
@@ -56,6 +57,7 @@ impl Machine {
         requires there { StandsAt self.old.seats.items session place }
         requires idle { is_waiting (state_of self.old) session ≡ false }
         ensures ok { IfOk result (λ r. outcome (state_of self.old) [] session (DoCommand (command.Do pending.operation)) ≡ nothing (state_of self.new) r) }
+        ensures told { is_told_for_none (state_of self.old) session (DoCommand (command.Do pending.operation)) ≡ true → IsOk result }
         ensures err { OnErr result (state_of self.new ≡ state_of self.old) }
         ensures kept { IsKept self.new }
     {
@@ -96,6 +98,7 @@ impl Machine {
         requires there { StandsAt self.old.seats.items session place }
         ensures ok { IfOk result (λ r. outcome (state_of self.old) [] session Retry ≡ nothing (state_of self.new) r) }
         ensures free { is_waiting (state_of self.old) session ≡ false → IsOk result }
+        ensures told { is_told_for_none (state_of self.old) session Retry ≡ true → IsOk result }
         ensures err { OnErr result (state_of self.new ≡ state_of self.old) }
         ensures kept { IsKept self.new }
     {

@@ -1,12 +1,13 @@
 //! Schema commands, and what is told of tables.
 
-ghost use Rattle.std.specs.Prelude.{◌≡◌, [], None, IfOk, OnErr, false, slice_index_or};
+ghost use Rattle.std.specs.Prelude.{◌≡◌, [], None, IfOk, IsOk, OnErr, false, true, slice_index_or};
 ghost use Rattle.tab_model.specs.declared.data.Command.TheVariants as command;
 ghost use Rattle.tab_model.specs.Outcome.{DoCommand, has_room, nothing, outcome};
 ghost use Rattle.tab_model.specs.Schemas.{schema_effect, schema_refusal, table_of_schema};
 ghost use Rattle.tab_model.specs.State.{is_waiting};
 ghost use Rattle.tab_manager.specs.Seats.{no_seat, state_of, StandsAt};
 ghost use Rattle.tab_manager.specs.Kept.{IsKept};
+ghost use Rattle.tab_manager.specs.Steps.{is_told_for_none};
 
 use crate::command::AskedSchema;
 use crate::machine::Machine;
@@ -27,6 +28,7 @@ impl Machine {
         requires there { StandsAt self.old.seats.items session place }
         requires idle { is_waiting (state_of self.old) session ≡ false }
         ensures ok { IfOk result (λ s. outcome (state_of self.old) [] session (DoCommand (command.Schema asked.schema)) ≡ record { state = state_of self.new; reply = s.reply; entry = s.entry }) }
+        ensures told { is_told_for_none (state_of self.old) session (DoCommand (command.Schema asked.schema)) ≡ true → IsOk result }
         ensures err { OnErr result (state_of self.new ≡ state_of self.old) }
         ensures kept { IsKept self.new }
     {
@@ -53,6 +55,7 @@ impl Machine {
         requires outside { (slice_index_or self.old.seats.items place (no_seat session)).transaction ≡ None }
         requires done { (schema_refusal self.old.world asked.schema ≡ None) × (world ≡ schema_effect self.old.world asked.schema) }
         ensures ok { IfOk result (λ s. outcome (state_of self.old) [] session (DoCommand (command.Schema asked.schema)) ≡ record { state = state_of self.new; reply = s.reply; entry = s.entry }) }
+        ensures told { is_told_for_none (state_of self.old) session (DoCommand (command.Schema asked.schema)) ≡ true → IsOk result }
         ensures err { OnErr result (state_of self.new ≡ state_of self.old) }
         ensures kept { IsKept self.new }
     {
@@ -88,7 +91,8 @@ impl Machine {
     pub fn table_info(&self, session: u32, name: &Atom, item: InfoItem) -> Result<Reply, AllocError>
         requires there { (i : _) × StandsAt self.now.seats.items session i }
         requires idle { is_waiting (state_of self.now) session ≡ false }
-        ensures { IfOk result (λ r. outcome (state_of self.now) [] session (DoCommand (command.TableInfo name.now item)) ≡ nothing (state_of self.now) r) }
+        ensures ok { IfOk result (λ r. outcome (state_of self.now) [] session (DoCommand (command.TableInfo name.now item)) ≡ nothing (state_of self.now) r) }
+        ensures told { is_told_for_none (state_of self.now) session (DoCommand (command.TableInfo name.now item)) ≡ true → IsOk result }
     {
         table_info(self.alloc, &self.world, name, item)
     }

@@ -1,4 +1,4 @@
-use Rattle.std.proofs.Common.{◌≡◌, ℕ, List, [], sym, ap, subst, ◌∙◌, Some, None, IfOk}
+use Rattle.std.proofs.Common.{ℕ, List, sym, ap, subst, ◌∙◌, IfOk}
 use Rattle.std.proofs.lemmas.Bool.{false≢true}
 use Rattle.tab_model.specs.declared.data.Change.{Change}
 use Rattle.tab_model.specs.declared.data.Command.TheVariants as command
@@ -8,7 +8,8 @@ use Rattle.tab_manager.specs.Outermost.{outermost}
 use Rattle.tab_core.specs.Owing.{Owes, are_watched}
 use Rattle.tab_core.specs.Runs.{StepsTo}
 use Rattle.tab_core.specs.Seats.{state_with}
-use Rattle.tab_core.proofs.StepsLemmas.{inner_commit_makes, unwatched_commit_makes, same_result, ok_sees, none_of, nothing_due, unwatched_of, commits_of, seen_free}
+use Rattle.tab_core.proofs.StepsLemmas.{inner_commit_makes, unwatched_commit_makes, same_result, ok_sees, none_of, nothing_due, unwatched_of, commits_of}
+use Rattle.tab_core.proofs.TellsLemmas.{seen_commit_free}
 use Rattle.tab_core.proofs.Core.commit.Goals as goal
 
 pub invariant_of-self : goal.invariant_of-self
@@ -30,7 +31,7 @@ returns-in_default-clause-done g c =
     ok_sees bs bs σ c.step.new.self c.args.self.now c.args.session (DoCommand command.Commit) _ c.step.result c.self.view_is (λ s h. (inner_commit_makes bs σ c.self.invariant c.args.session s c.step.new.self none h).0) c.step.ensures.done
 
 pub returns-in_default-clause-free : goal.returns-in_default-clause-free
-returns-in_default-clause-free g c h = c.step.ensures.free (seen_free c.self.inside.subs c.self.inside.manager c.args.self.now c.args.session command.Commit c.self.view_is h)
+returns-in_default-clause-free g c h = c.step.ensures.free (seen_commit_free c.self.inside.subs c.self.inside.manager c.args.self.now c.args.session c.self.view_is h)
 
 pub returns-in_err-updated-clause-free : goal.returns-in_err-updated-clause-free
 returns-in_err-updated-clause-free g c h =
@@ -58,7 +59,7 @@ returns-in_default-2-clause-done g c =
     ok_sees bs bs σ c.step-in_default-2.new.self c.args.self.now c.args.session (DoCommand command.Commit) _ c.step-in_default-2.result c.self.view_is (λ s h. (unwatched_commit_makes bs σ c.self.invariant c.args.session s c.step-in_default-2.new.self e c.in-Some.ensures unseen h).0) c.step-in_default-2.ensures.done
 
 pub returns-in_default-2-clause-free : goal.returns-in_default-2-clause-free
-returns-in_default-2-clause-free g c h = c.step-in_default-2.ensures.free (seen_free c.self.inside.subs c.self.inside.manager c.args.self.now c.args.session command.Commit c.self.view_is h)
+returns-in_default-2-clause-free g c h = c.step-in_default-2.ensures.free (seen_commit_free c.self.inside.subs c.self.inside.manager c.args.self.now c.args.session c.self.view_is h)
 
 pub deliver_commit-requires-clause-ends : goal.deliver_commit-requires-clause-ends
 deliver_commit-requires-clause-ends g c =

@@ -1,8 +1,9 @@
-use Rattle.std.proofs.Common.{◌≡◌, IfOk, sym, subst}
+use Rattle.std.proofs.Common.{◌≡◌, IfOk, true, sym, subst}
 use Rattle.tab_model.specs.Outcome.{Retry}
-use Rattle.tab_core.specs.Runs.{ask_of, StepsTo}
+use Rattle.tab_core.specs.Runs.{ask_of, StepsTo, takes_no_memory}
 use Rattle.tab_core.specs.Seats.{state_with}
 use Rattle.tab_core.proofs.StepsLemmas.{retry_makes, same_result, ok_sees}
+use Rattle.tab_core.proofs.TellsLemmas.{seen_retry_free}
 use Rattle.tab_core.proofs.Core.make.Goals as goal
 
 pub invariant_of-self : goal.invariant_of-self
@@ -21,3 +22,7 @@ returns-in-Retry-clause-done g c =
     let σ = c.self.inside.manager in
     subst (λ x. IfOk c.step.result (λ s. StepsTo c.args.self.now c.args.session (ask_of g.P.Post.outbox x) s (state_with bs c.step.new.self))) (sym c.in-Retry.is)
     (ok_sees bs bs σ c.step.new.self c.args.self.now c.args.session Retry _ c.step.result c.self.view_is (λ s h. (retry_makes bs σ c.self.invariant c.args.session s c.step.new.self h).0) c.step.ensures.done)
+
+pub returns-in-Retry-clause-free : goal.returns-in-Retry-clause-free
+returns-in-Retry-clause-free g c h =
+    c.step.ensures.free (seen_retry_free c.self.inside.subs c.self.inside.manager c.args.self.now c.args.session c.self.view_is (subst (λ x. takes_no_memory c.args.self.now c.args.session (ask_of g.P.Post.outbox x) ≡ true) c.in-Retry.is h))

@@ -1,21 +1,20 @@
-use Rattle.std.proofs.Common.{◌≡◌, ℕ, List, ◌∷◌, sym, ap, ◌∙◌, subst, Option, Some, None}
-use Rattle.tab_model.specs.declared.data.Item.{Item}
-use Rattle.tab_model.specs.declared.data.Item.TheVariants.{Began}
+use Rattle.std.proofs.Common.{sym, ap, ◌∙◌, None}
 use Rattle.tab_model.specs.Slices.{dump_of}
-use Rattle.tab_model.specs.State.{Watch}
-use Rattle.tab_subs.specs.Subscribers.{Subscriber, at, Marks}
 use Rattle.tab_core.proofs.MarksLemmas.{free, subscription_refused, subscription_made, began_with}
+use Rattle.tab_manager.proofs.Answering.{not_refused}
+use Rattle.tab_manager.proofs.StepsLemmas.{differ}
+use Rattle.tab_core.proofs.TellsLemmas.{subscribe_told}
 use Rattle.tab_core.proofs.Core.subscribe.Goals as goal
 
 pub returns-in-Some-clause-done : goal.returns-in-Some-clause-done
 returns-in-Some-clause-done g c =
     subscription_refused c.self.inside.subs c.self.inside.manager c.args.self.now c.self.invariant c.self.view_is c.args.session c.args.table c.args.level c.args.dump
-    c.in-Some.refusal (sym c.in-Some.is ∙ c.in_ok-refusal.ensures) c.without_entry.result c.without_entry.ensures
+    c.in-Some.refusal (sym c.in-Some.is ∙ c.in_ok-refusal.ensures.ok) c.without_entry.result c.without_entry.ensures
 
 pub invariant_of-self-2 : goal.invariant_of-self-2
 invariant_of-self-2 g c = record {
   same = (subscription_made c.self.inside.subs c.self.inside.manager c.args.self.now c.self.invariant c.self.view_is c.args.session c.args.table c.args.level c.args.dump
-      (free _ _ c.in_default.not-Some c.in_ok-refusal.ensures) c.in_ok-marked.marked c.subscribe.new.self
+      (free _ _ c.in_default.not-Some c.in_ok-refusal.ensures.ok) c.in_ok-marked.marked c.subscribe.new.self
       (began_with c.self.inside.subs c.subscribe.new.self c.args.session c.args.table c.args.level c.in_ok-named.named c.in_ok-records.records (dump_of c.self.inside.manager.tables c.args.table c.args.dump) c.in_ok-marked.marked c.in_ok-named.ensures
       (c.in_ok-records.ensures ∙ ap (λ w. dump_of w c.args.table c.args.dump) c.tables.ensures) c.in_ok-marked.ensures.ok)
       c.marked_reply.result c.marked_reply.ensures).1;
@@ -26,7 +25,19 @@ invariant_of-self-2 g c = record {
 pub returns-clause-done : goal.returns-clause-done
 returns-clause-done g c =
     (subscription_made c.self.inside.subs c.self.inside.manager c.args.self.now c.self.invariant c.self.view_is c.args.session c.args.table c.args.level c.args.dump
-    (free _ _ c.in_default.not-Some c.in_ok-refusal.ensures) c.in_ok-marked.marked c.subscribe.new.self
+    (free _ _ c.in_default.not-Some c.in_ok-refusal.ensures.ok) c.in_ok-marked.marked c.subscribe.new.self
     (began_with c.self.inside.subs c.subscribe.new.self c.args.session c.args.table c.args.level c.in_ok-named.named c.in_ok-records.records (dump_of c.self.inside.manager.tables c.args.table c.args.dump) c.in_ok-marked.marked c.in_ok-named.ensures
     (c.in_ok-records.ensures ∙ ap (λ w. dump_of w c.args.table c.args.dump) c.tables.ensures) c.in_ok-marked.ensures.ok)
     c.marked_reply.result c.marked_reply.ensures).0
+
+pub returns-in_err-refusal-clause-free : goal.returns-in_err-refusal-clause-free
+returns-in_err-refusal-clause-free g c h = absurd (not_refused _ _ c.in_err-refusal.was (c.subscribe_refusal.ensures.free c.args.level c.args.dump h))
+
+pub returns-in_err-records-clause-free : goal.returns-in_err-records-clause-free
+returns-in_err-records-clause-free g c h = absurd (differ _ h (subscribe_told c.args.self.now c.args.session c.args.table c.args.level c.args.dump None (free _ _ c.in_default.not-Some c.in_ok-refusal.ensures.ok) tt))
+
+pub returns-in_err-named-clause-free : goal.returns-in_err-named-clause-free
+returns-in_err-named-clause-free g c h = absurd (differ _ h (subscribe_told c.args.self.now c.args.session c.args.table c.args.level c.args.dump None (free _ _ c.in_default.not-Some c.in_ok-refusal.ensures.ok) tt))
+
+pub returns-in_err-marked-clause-free : goal.returns-in_err-marked-clause-free
+returns-in_err-marked-clause-free g c h = absurd (differ _ h (subscribe_told c.args.self.now c.args.session c.args.table c.args.level c.args.dump None (free _ _ c.in_default.not-Some c.in_ok-refusal.ensures.ok) tt))

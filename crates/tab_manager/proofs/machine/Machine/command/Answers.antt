@@ -12,6 +12,7 @@ returns-in_default c =
     record {
       done = waiting_default m n c.args.place c.requires.there waits c.args.asked.command (λ r e. c.in_default.not-Abort r (c.into_command.ensures ∙ e)) ∙ without_entry (state_of m) reply.WaitingNow c.without_entry-in_default.result c.without_entry-in_default.ensures;
       free = λ h. refl;
+      told = λ h. refl;
       err = tt;
       kept = c.requires.kept;
     }

@@ -1,10 +1,10 @@
-use Rattle.std.proofs.Common.{sym, ap, ◌∙◌}
-use Rattle.std.specs.Prelude.{is_some}
-use Rattle.tab_manager.specs.declared.seat.Seat as code
+use Rattle.std.proofs.Common.{sym}
 use Rattle.tab_manager.specs.Seats.{state_of}
 use Rattle.tab_manager.proofs.Keeping as keep
 use Rattle.tab_manager.proofs.Keeping.{the_seat}
 use Rattle.tab_manager.proofs.OneShots.{inside, outside}
+use Rattle.tab_manager.proofs.StepsLemmas as steps
+use Rattle.tab_manager.proofs.Answering as answering
 use Rattle.tab_manager.proofs.machine.Machine.one_shot.Goals as goal
 
 pub returns-then-is_some-clause-ok : goal.returns-then-is_some-clause-ok
@@ -22,3 +22,11 @@ returns-clause-ok c =
     let n = c.args.session in
     let i = c.args.place in
     outside m n i c.requires.there c.requires.idle (keep.found m n i c.requires.there c.deref.result.now c.index-deref-place.result c.deref.ensures.0 (keep.none_of _ (sym c.if-is_some.ensures))) (state_of c.begin.new.self) _ c.in_ok-begin.ensures.ok
+
+pub returns-in_err-begin-clause-free : goal.returns-in_err-begin-clause-free
+returns-in_err-begin-clause-free c =
+    let m = c.args.self.now in
+    let n = c.args.session in
+    let i = c.args.place in
+    let closed = keep.found m n i c.requires.there c.deref.result.now c.index-deref-place.result c.deref.ensures.0 (keep.none_of _ (sym c.if-is_some.ensures)) in
+    absurd (answering.not_refused _ _ c.in_err-begin.was (c.begin.ensures.free (steps.closed_at m n i c.requires.kept c.requires.there closed)))

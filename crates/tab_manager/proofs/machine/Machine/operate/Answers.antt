@@ -10,6 +10,7 @@ use Rattle.tab_manager.proofs.Keeping.{IsNext, Leaves, leaves, parts}
 use Rattle.arrayvec.specs.ArrayVec.{with_items}
 use Rattle.tab_manager.proofs.OperatingLemmas as operating
 use Rattle.tab_manager.proofs.Numbers.{less, not_less}
+use Rattle.tab_manager.proofs.StepsLemmas as steps
 use Rattle.tab_manager.proofs.machine.Machine.operate.Goals as goal
 
 pub returns-in_default-clause-ok : goal.returns-in_default-clause-ok
@@ -68,7 +69,7 @@ returns-in_ok-worked-in-Granted c =
     c.requires.idle room (operating.decides_as m.ages t.age _ o c.in_ok-request.field-0 Granted c.in_ok-request.ensures.answer c.in-Granted.is lock)
     (c.in_ok-worked-in-Granted.ensures.held ∙ operating.ages_after m.ages c.request.new.self t.age _ o c.in_ok-request.field-0 Granted c.in_ok-request.ensures.after c.in-Granted.is lock) c.end_if.ensures.ages
     (record { world = refl; seats = refilled m.seats.items _ i c.end_if.new.seat c.deref_mut.ensures.value; queue = c.in_ok-reserve.ensures.items; limits = refl; begun = refl; commits = refl; greatest = refl }) refl in
-    record { ok = all.0 ∙ ap (nothing (state_of (parts m (with_items m.seats (set c.deref_mut.result.now i c.end_if.new.seat)) c.end_if.new.ages c.reserve.new.self))) (sym c.into_reply.ensures); err = tt; kept = all.1 }
+    record { ok = all.0 ∙ ap (nothing (state_of (parts m (with_items m.seats (set c.deref_mut.result.now i c.end_if.new.seat)) c.end_if.new.ages c.reserve.new.self))) (sym c.into_reply.ensures); told = λ h. refl; err = tt; kept = all.1 }
 
 pub returns-in-Wait : goal.returns-in-Wait
 returns-in-Wait c =
@@ -86,7 +87,7 @@ returns-in-Wait c =
     (operating.decides_as m.ages t.age _ o c.in_ok-request.field-0 Wait c.in_ok-request.ensures.answer c.in-Wait.is lock)
     (operating.ages_after m.ages c.request.new.self t.age _ o c.in_ok-request.field-0 Wait c.in_ok-request.ensures.after c.in-Wait.is lock)
     (record { world = refl; seats = refl; queue = c.push_reserved.ensures.items ∙ ap (λ qs. qs ++ q ∷ []) c.in_ok-reserve.ensures.items; limits = refl; begun = refl; commits = refl; greatest = refl }) in
-    record { ok = all.0 ∙ ap (nothing (state_of (parts m m.seats c.request.new.self c.push_reserved.new.self))) (sym c.new-in-Wait.ensures); err = tt; kept = all.1 }
+    record { ok = all.0 ∙ ap (nothing (state_of (parts m m.seats c.request.new.self c.push_reserved.new.self))) (sym c.new-in-Wait.ensures); told = λ h. refl; err = tt; kept = all.1 }
 
 pub returns-in-Die : goal.returns-in-Die
 returns-in-Die c =
@@ -104,4 +105,44 @@ returns-in-Die c =
     (operating.decides_as m.ages t.age _ o c.in_ok-request.field-0 Die c.in_ok-request.ensures.answer c.in-Die.is lock)
     (operating.ages_after m.ages c.request.new.self t.age _ o c.in_ok-request.field-0 Die c.in_ok-request.ensures.after c.in-Die.is lock) c.restart.ensures.ages
     (record { world = refl; seats = refilled m.seats.items _ i c.restart.new.seat c.deref_mut-in-Die.ensures.value; queue = c.in_ok-reserve.ensures.items; limits = refl; begun = refl; commits = refl; greatest = refl }) in
-    record { ok = all.0 ∙ ap (nothing (state_of (parts m (with_items m.seats (set c.deref_mut-in-Die.result.now i c.restart.new.seat)) c.restart.new.ages c.reserve.new.self))) (sym c.new-in-Die.ensures); err = tt; kept = all.1 }
+    record { ok = all.0 ∙ ap (nothing (state_of (parts m (with_items m.seats (set c.deref_mut-in-Die.result.now i c.restart.new.seat)) c.restart.new.ages c.reserve.new.self))) (sym c.new-in-Die.ensures); told = λ h. refl; err = tt; kept = all.1 }
+
+pub returns-in_err-reserve-clause-told : goal.returns-in_err-reserve-clause-told
+returns-in_err-reserve-clause-told c =
+    let m = c.args.self.now in
+    let n = c.args.session in
+    let i = c.args.place in
+    let t = c.in-Some.transaction in
+    let open_t = keep.found m n i c.requires.there c.deref.result.now c.index-deref-place.result c.deref.ensures.0 c.in-Some.is in
+    let room = less _ _ (omega (arith, c.if-count-self.false, c.count.ensures)) in
+    λ h. absurd (steps.differ _ h (steps.operation_told m n i c.requires.kept c.requires.there t open_t c.args.pending.operation c.requires.idle room))
+
+pub returns-in_err-lock-clause-told : goal.returns-in_err-lock-clause-told
+returns-in_err-lock-clause-told c =
+    let m = c.args.self.now in
+    let n = c.args.session in
+    let i = c.args.place in
+    let t = c.in-Some.transaction in
+    let open_t = keep.found m n i c.requires.there c.deref.result.now c.index-deref-place.result c.deref.ensures.0 c.in-Some.is in
+    let room = less _ _ (omega (arith, c.if-count-self.false, c.count.ensures)) in
+    λ h. absurd (steps.differ _ h (steps.operation_told m n i c.requires.kept c.requires.there t open_t c.args.pending.operation c.requires.idle room))
+
+pub returns-in_err-request-clause-told : goal.returns-in_err-request-clause-told
+returns-in_err-request-clause-told c =
+    let m = c.args.self.now in
+    let n = c.args.session in
+    let i = c.args.place in
+    let t = c.in-Some.transaction in
+    let open_t = keep.found m n i c.requires.there c.deref.result.now c.index-deref-place.result c.deref.ensures.0 c.in-Some.is in
+    let room = less _ _ (omega (arith, c.if-count-self.false, c.count.ensures)) in
+    λ h. absurd (steps.differ _ h (steps.operation_told m n i c.requires.kept c.requires.there t open_t c.args.pending.operation c.requires.idle room))
+
+pub returns-in_err-worked-in-Granted-clause-told : goal.returns-in_err-worked-in-Granted-clause-told
+returns-in_err-worked-in-Granted-clause-told c =
+    let m = c.args.self.now in
+    let n = c.args.session in
+    let i = c.args.place in
+    let t = c.in-Some.transaction in
+    let open_t = keep.found m n i c.requires.there c.deref.result.now c.index-deref-place.result c.deref.ensures.0 c.in-Some.is in
+    let room = less _ _ (omega (arith, c.if-count-self.false, c.count.ensures)) in
+    λ h. absurd (steps.differ _ h (steps.operation_told m n i c.requires.kept c.requires.there t open_t c.args.pending.operation c.requires.idle room))

@@ -1,13 +1,12 @@
-use Rattle.std.proofs.Common.{sym, ap, ◌∙◌, Some}
+use Rattle.std.proofs.Common.{refl, sym, ap, ◌∙◌, Some}
 use Rattle.tab_model.specs.declared.data.Reply.TheVariants as reply
 use Rattle.tab_model.specs.declared.data.Entry.TheVariants as entry
 use Rattle.tab_model.specs.Outcome.{nothing}
 use Rattle.tab_model.specs.State.{State, request_in}
 use Rattle.tab_manager.specs.declared.machine.Machine.{Machine}
 use Rattle.tab_manager.specs.Seats.{state_of}
-use Rattle.tab_manager.proofs.Keeping as keep
-use Rattle.tab_manager.proofs.Keeping.{the_seat, parts}
 use Rattle.tab_manager.proofs.Answering as answering
+use Rattle.tab_manager.proofs.StepsLemmas as steps
 use Rattle.tab_manager.proofs.machine.Machine.put_tables.Goals as goal
 
 pub returns-then-busy-clause-ok : goal.returns-then-busy-clause-ok
@@ -33,4 +32,7 @@ returns c =
     let i = c.args.place in
     let all = answering.schema_exit m n i c.requires.there c.requires.outside c.requires.idle c.requires.kept c.args.asked.schema c.requires.done.0 (ap (λ t. Rattle.std.specs.List.list_any (Rattle.tab_model.specs.State.is_in t) (Rattle.tab_model.specs.Ages.all_of m.ages)) (sym c.table_of.ensures) ∙ sym c.busy.ensures ∙ c.if-busy.false) (sym c.has_room.ensures ∙ c.if-not-has_room.false) c.args.world c.requires.done.1 c.into_schema.result c.new-2.result.items c.into_schema.ensures c.new-2.ensures.items in
     let m' : Machine = record m { world = c.args.world } in
-    record { ok = all.0 ∙ (λ j. record { state = state_of m'; reply = sym c.new.ensures j; entry = Some (entry.Changed c.into_schema.result c.new-2.result.items) }); err = tt; kept = all.1 }
+    record { ok = all.0 ∙ (λ j. record { state = state_of m'; reply = sym c.new.ensures j; entry = Some (entry.Changed c.into_schema.result c.new-2.result.items) }); told = λ h. refl; err = tt; kept = all.1 }
+
+pub returns-in_err-name-clause-told : goal.returns-in_err-name-clause-told
+returns-in_err-name-clause-told c = λ h. absurd (steps.differ _ h (steps.schema_told c.args.self.now c.args.session c.args.place c.requires.kept c.requires.there c.requires.outside c.requires.idle c.args.asked.schema))

@@ -1,19 +1,18 @@
 use Rattle.std.proofs.Common.{◌≡◌, true, false, refl, sym, ap, ◌∙◌, subst, get_or, set, not, rules}
-use Rattle.std.specs.Prelude.{◌==◌, IfSome, IsSome, map}
+use Rattle.std.specs.Prelude.{◌==◌, IfSome, IsSome}
 use Rattle.std.proofs.lemmas.Fn.{filter_same}
 use Rattle.arrayvec.specs.ArrayVec.{with_items}
 use Rattle.tab_model.specs.Ages as plain
 use Rattle.tab_model.specs.Outcome.{nothing}
-use Rattle.tab_model.specs.State.{request_in}
-use Rattle.tab_locks.specs.Placed.{placed}
 use Rattle.tab_manager.specs.declared.seat.Seat as code
 use Rattle.tab_manager.specs.declared.queue.Request as request
-use Rattle.tab_manager.specs.Seats.{state_of, queued_of}
+use Rattle.tab_manager.specs.Seats.{state_of}
 use Rattle.tab_manager.specs.Works as works
 use Rattle.tab_manager.proofs.Places.{refilled}
 use Rattle.tab_manager.proofs.Keeping as keep
 use Rattle.tab_manager.proofs.Keeping.{the_seat, parts}
 use Rattle.tab_manager.proofs.OperatingLemmas as operating
+use Rattle.tab_manager.proofs.StepsLemmas as steps
 use Rattle.tab_manager.proofs.machine.Machine.retry.Goals as goal
 
 pub returns-in_default-clause-ok : goal.returns-in_default-clause-ok
@@ -100,4 +99,34 @@ returns c =
     (sym (subst (λ x. IfSome x (λ z. true ≡ plain.can_retry m.ages z)) r.request c.if-not-may_go.ensures))
     (c.drop_wait.ensures ∙ (λ j. let g : plain.Ages = record { held = plain.Ages.held (before j); queue = plain.without c.in-Some.request.now.age (plain.Ages.queue (before j)) } in g)) c.end_if.ensures.ages
     (record { world = refl; seats = refilled m.seats.items _ i c.end_if.new.seat c.deref_mut.ensures.value; queue = filter_same _ (λ (x : request.Request). not (x.session == n)) _ (λ x b f t. search rules) _ _ c.retain.ensures.filtered; limits = refl; begun = refl; commits = refl; greatest = refl }) refl in
-    record { ok = all.0 ∙ ap (nothing (state_of (parts m (with_items m.seats (set c.deref_mut.result.now i c.end_if.new.seat)) c.end_if.new.ages c.retain.new.self))) (sym c.into_reply.ensures); free = λ h. refl; err = tt; kept = all.1 }
+    record { ok = all.0 ∙ ap (nothing (state_of (parts m (with_items m.seats (set c.deref_mut.result.now i c.end_if.new.seat)) c.end_if.new.ages c.retain.new.self))) (sym c.into_reply.ensures); free = λ h. refl; told = λ h. refl; err = tt; kept = all.1 }
+
+pub returns-in_err-try_clone-clause-told : goal.returns-in_err-try_clone-clause-told
+returns-in_err-try_clone-clause-told c =
+    let m = c.args.self.now in
+    let n = c.args.session in
+    let i = c.args.place in
+    let rq = operating.queued_here m n i c.requires.kept c.requires.there _ c.deref.ensures.value c.in-Some.ensures in
+    let r = operating.requested m n i c.requires.kept c.requires.there c.in-Some.request.now rq in
+    let may = sym (subst (λ x. IfSome x (λ z. true ≡ plain.can_retry m.ages z)) r.request c.if-not-may_go.ensures) in
+    λ h. absurd (steps.differ _ h (steps.retry_told m n i c.requires.kept c.requires.there c.in-Some.request.now rq may))
+
+pub returns-in_err-grant-clause-told : goal.returns-in_err-grant-clause-told
+returns-in_err-grant-clause-told c =
+    let m = c.args.self.now in
+    let n = c.args.session in
+    let i = c.args.place in
+    let rq = operating.queued_here m n i c.requires.kept c.requires.there _ c.deref.ensures.value c.in-Some.ensures in
+    let r = operating.requested m n i c.requires.kept c.requires.there c.in-Some.request.now rq in
+    let may = sym (subst (λ x. IfSome x (λ z. true ≡ plain.can_retry m.ages z)) r.request c.if-not-may_go.ensures) in
+    λ h. absurd (steps.differ _ h (steps.retry_told m n i c.requires.kept c.requires.there c.in-Some.request.now rq may))
+
+pub returns-in_err-worked-clause-told : goal.returns-in_err-worked-clause-told
+returns-in_err-worked-clause-told c =
+    let m = c.args.self.now in
+    let n = c.args.session in
+    let i = c.args.place in
+    let rq = operating.queued_here m n i c.requires.kept c.requires.there _ c.deref.ensures.value c.in-Some.ensures in
+    let r = operating.requested m n i c.requires.kept c.requires.there c.in-Some.request.now rq in
+    let may = sym (subst (λ x. IfSome x (λ z. true ≡ plain.can_retry m.ages z)) r.request c.if-not-may_go.ensures) in
+    λ h. absurd (steps.differ _ h (steps.retry_told m n i c.requires.kept c.requires.there c.in-Some.request.now rq may))
