@@ -31,6 +31,14 @@ fn is_base(alloc: Global, base: &Base, commits: u64, records: usize) -> Result<b
     Ok(base.commits() == commits && found == Some(records))
 }
 
+/// Whether the oldest entry is the table's.
+fn is_table(journal: &Journal) -> bool {
+    match journal.entry(0) {
+        Some(Entry::Changed(..)) => true,
+        _ => false,
+    }
+}
+
 /// Whether the entry at this place is the commit with this number.
 fn is_commit(journal: &Journal, place: usize, commit: u64) -> bool {
     match journal.entry(place) {
@@ -39,16 +47,23 @@ fn is_commit(journal: &Journal, place: usize, commit: u64) -> bool {
     }
 }
 
-/// Whether this commit is the newest entry, and behind the table's 15 the oldest is the one behind the base's commits.
-fn is_right(alloc: Global, journal: &Journal, number: u64) -> Result<bool, AllocError> {
-    let newest = is_commit(journal, journal.len().saturating_sub(1), number);
-    let folded = number.saturating_sub(16);
-    let oldest = is_commit(journal, 0, folded.saturating_add(1));
-    if number < 16 {
-        return Ok(newest && journal.len() == (number as usize).saturating_add(1));
+/// Whether the entries from this place on are the commits from this one on, in turn, and no more.
+fn are_commits(journal: &Journal, first: usize, from: u64, count: usize) -> bool {
+    let mut right = journal.len() == first.saturating_add(count);
+    for (place, commit) in (first..journal.len()).zip(from..) {
+        right &= is_commit(journal, place, commit);
     }
+    right
+}
+
+/// Whether the entries end with this commit: behind the table's those from the first on, until that is folded, and then 16.
+fn is_right(alloc: Global, journal: &Journal, number: u64) -> Result<bool, AllocError> {
+    if number < 16 {
+        return Ok(is_table(journal) && are_commits(journal, 1, 1, number as usize));
+    }
+    let folded = number - 16;
     let based = is_base(alloc, journal.base(), folded, folded.min(1) as usize)?;
-    Ok(newest && oldest && based && journal.len() == 16)
+    Ok(based && are_commits(journal, 0, folded + 1, 16))
 }
 
 /// The first commit behind which the journal differs, or is no history of the tables.

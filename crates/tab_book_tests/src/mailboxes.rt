@@ -29,7 +29,7 @@ enum Call {
 }
 
 /// Each call with the mailboxes that its post and its inbox are of.
-static CALLS: [(usize, usize, Call); 21] = [
+static CALLS: [(usize, usize, Call); 31] = [
     (0, 1, Call::Apart),
     (1, 0, Call::Apart),
     (0, 0, Call::All),
@@ -52,6 +52,17 @@ static CALLS: [(usize, usize, Call); 21] = [
     (1, 1, Call::Put(5)),
     (1, 0, Call::Apart),
     (1, 1, Call::Receive(5)),
+    // Both items are taken by meetings, and the mailbox goes on behind them.
+    (0, 0, Call::Put(6)),
+    (0, 0, Call::Put(7)),
+    (0, 0, Call::Full(8)),
+    (0, 0, Call::Refusals(2)),
+    (0, 0, Call::Pull),
+    (0, 0, Call::Going(6)),
+    (0, 0, Call::Going(7)),
+    (0, 0, Call::All),
+    (0, 0, Call::Put(8)),
+    (0, 0, Call::Receive(8)),
 ];
 
 /// No item has this number.

@@ -51,7 +51,7 @@ static RESPELLED: [(&str, &str); 12] = [
 ];
 
 /// Payloads, the first fault of each, and its place.
-static REFUSED: [(&str, Fault, usize); 35] = [
+static REFUSED: [(&str, Fault, usize); 36] = [
     ("", Fault::Truncated, 0),
     ("82 61 01", Fault::Version, 0),
     ("83 62 00 00", Fault::Truncated, 4),
@@ -76,7 +76,8 @@ static REFUSED: [(&str, Fault, usize); 35] = [
     ("83 77 03 ED A0 80", Fault::Atom, 1),
     ("83", Fault::Truncated, 1),
     ("83 50 00 00 00 00", Fault::LeftOut(80), 1),
-    ("83 1000000*6C", Fault::Depth, 321),
+    // As long as a payload may be.
+    ("83 1048575*6C", Fault::Depth, 321),
     (
         "83 74 00000002 6101 6105 6200000001 6106",
         Fault::DuplicateKey,
@@ -102,6 +103,7 @@ static REFUSED: [(&str, Fault, usize); 35] = [
     ),
     ("83 63*6801 74 00000001 6100 6100", Fault::Depth, 132),
     ("83 74 0000", Fault::Truncated, 4),
+    ("83 74 FFFFFFFF", Fault::Truncated, 6),
     ("83 74 FFFFFFFF 6101 6A", Fault::Truncated, 9),
 ];
 
