@@ -1,2 +1,5 @@
+pub mod Asked
+pub mod CommandLine
 pub mod Endings
+pub mod Served
 pub mod Words

@@ -1,8 +1,10 @@
 //! The program: tables served over frames.
 #![tactic(auto)]
 
+mod command_line;
 mod ending;
 mod lines;
+mod opening;
 mod running;
 mod serving;
 mod words;

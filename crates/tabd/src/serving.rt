@@ -6,6 +6,7 @@ ghost use Rattle.std.specs.Duration.{as_nanos};
 use crate::Ended;
 use crate::ending::End;
 use crate::lines::Log;
+use crate::opening::opened_book;
 use std::alloc::{AllocError, Global};
 use std::io;
 use std::marker::PhantomData;
@@ -14,9 +15,8 @@ use std::os::fd::{AsRawFd, RawFd};
 use std::sync::Wait;
 use std::thread::Threads;
 use std::time::Duration;
-use tab_book::{Book, Shared};
+use tab_book::Shared;
 use tab_etf::{Target, give_all};
-use tab_model::Limits;
 use tab_names::{House, Naming, Opened};
 use tab_post::Line;
 use tab_server::{Delivery, Gate, Notes, Settings, serve, serve_forever};
@@ -47,33 +47,6 @@ pub struct Service {
     /// So many seconds a session may be idle.
     pub idle: Option<u32>,
     pub log: Log,
-}
-
-impl Service {
-    /// So many sessions the book has room for. One that serves for good has none beside its connections.
-    fn sessions(&self) -> u32
-        ensures { result ≤ 64 }
-    {
-        if self.forever {
-            self.sizes.connections
-        } else {
-            64
-        }
-    }
-}
-
-const fn limits(sessions: u32, journal: u32) -> Limits
-    ensures sessions { result.sessions ≡ sessions }
-    ensures journal { result.journal ≡ journal }
-{
-    Limits {
-        sessions: sessions as u64,
-        nesting: 16,
-        operations: 1000,
-        tables: 256,
-        ages: 9_223_372_036_854_775_807,
-        journal: journal as u64,
-    }
 }
 
 /// How connections are served, by what the words say.
@@ -163,9 +136,7 @@ fn serve_on<H: House + Threads + Send + Sync, G: Gate + Notes + Sync>(
 ) -> End
     requires { opened ≡ H.book }
 {
-    let Service { sizes, .. } = service;
-    let limits = limits(service.sessions(), sizes.journal);
-    let Ok(book) = Book::new(house, alloc, opened, limits, sizes.outbox as usize) else {
+    let Ok(book) = opened_book(house, alloc, opened, &service) else {
         return End::Stopped(Ended::NoMemory);
     };
     let shared = Shared::new(book);
@@ -179,7 +150,7 @@ fn serve_on<H: House + Threads + Send + Sync, G: Gate + Notes + Sync>(
         alloc,
         listener,
         &shared,
-        sizes.connections,
+        service.sizes.connections,
         settings,
         gate,
     ) {

@@ -1,12 +1,16 @@
 //! The words of the command line.
 
-ghost use Rattle.std.specs.Prelude.{◌≤◌, IfOk, IfSome};
+ghost use Rattle.std.specs.Prelude.{◌≤◌, ℕ, List, IfOk, IfSome, map, codes};
+ghost use Rattle.clap.specs.Words.{FailsBy, fault_of, found_of, rows_of, subcommand_of, subcommand_rows_of};
+ghost use Rattle.tabd.specs.Asked.{IsAskedBy, IsFlagOf, IsNumberOf, IsServiceOf, MayBeNumberOf, is_batches, is_full};
+ghost use Rattle.tabd.specs.CommandLine.{command_line};
 ghost use Rattle.tabd.specs.Words.{AreInRange, AreSizes, IsIdle};
 
+use crate::command_line::command;
 use crate::lines::Log;
 use crate::serving::{Service, Sizes};
 use clap::error::ErrorKind;
-use clap::{Arg, ArgAction, ArgMatches, Command, Error, value_parser};
+use clap::{ArgMatches, Error};
 use std::alloc::{AllocError, Global};
 use std::convert::AsStr;
 use std::io;
@@ -21,108 +25,76 @@ pub enum Run {
     Serve(Service),
 }
 
-/// An option with a number in this range.
-fn number_of<'a>(alloc: Global, name: &'a str, value: &'a str, least: i64, most: i64) -> Arg<'a> {
-    Arg::new(alloc, name)
-        .long(name)
-        .value_name(value)
-        .action(ArgAction::Set)
-        .value_parser(value_parser!(u32).range(least..=most))
-}
-
-fn flag<'a>(alloc: Global, name: &'a str) -> Arg<'a> {
-    Arg::new(alloc, name).long(name).action(ArgAction::SetTrue)
-}
-
-fn outbox<'a>(alloc: Global) -> Arg<'a> {
-    number_of(alloc, "outbox", "ITEMS", 1, 65_536).help(
-        "How many items wait for a session at most, 1 to 65536; 64 where it is not given",
-    )
-}
-
-fn serve<'a>(alloc: Global) -> Result<Command<'a>, AllocError> {
-    let port = Arg::new(alloc, "port")
-        .long("port")
-        .value_name("PORT")
-        .help("The port on 127.0.0.1; 0 lets the system choose one")
-        .required(true)
-        .action(ArgAction::Set)
-        .value_parser(value_parser!(u16));
-    let connections = number_of(alloc, "connections", "COUNT", 1, 64)
-        .help("How many connections are accepted, 1 to 64; with --forever, how many at once")
-        .required(true);
-    let journal = number_of(alloc, "journal", "ENTRIES", 16, 65_536).help(
-        "How many entries the journal holds at most, 16 to 65536; 1024 where it is not given",
-    );
-    let forever = flag(alloc, "forever").help(
-        "A connection that ends makes room for another, and the server never ends by itself",
-    );
-    let batches = flag(alloc, "batches").help(
-        "A commit's events come in one frame, with the commit's number",
-    );
-    let idle = number_of(alloc, "idle", "SECONDS", 1, 86_400).help(
-        "A session with an open transaction, or that reads nothing, is ended where nothing comes from it for so long, 1 to 86400",
-    );
-    let log = flag(alloc, "log").help(
-        "Each session's start and end has a line on standard error, and why the server ends",
-    );
-    Command::new(alloc, "serve")
-        .about("Serves each connection to a port as a session")
-        .arg(port)?
-        .arg(connections)?
-        .arg(outbox(alloc))?
-        .arg(journal)?
-        .arg(forever)?
-        .arg(batches)?
-        .arg(idle)?
-        .arg(log)
-}
-
-fn command<'a>(alloc: Global) -> Result<Command<'a>, AllocError> {
-    let replay = Command::new(alloc, "replay")
-        .about("Answers the frames of standard input on standard output")
-        .arg(outbox(alloc))?;
-    Command::new(alloc, "tabd")
-        .version("0.1.0")
-        .about("A server of named in-memory tables with transactions and events")
-        .subcommand_required(true)
-        .subcommand(replay)?
-        .subcommand(serve(alloc)?)
-}
-
 /// What these words ask for. The first is the program's name.
 pub fn read_words<'a, S: AsStr>(alloc: Global, words: &'a [S]) -> Result<Run, Error>
-    ensures { IfOk result AreInRange }
+    ensures range { IfOk result AreInRange }
+    ensures asked { IfOk result (IsAskedBy (subcommand_of command_line (map S.text words.entry.now))) }
+    ensures fails { FailsBy (fault_of command_line (map S.text words.entry.now)) result }
 {
     let matches = command(alloc)?.try_get_matches_from(words)?;
+    Ok(run_of(&matches))
+}
+
+/// What these matches ask for.
+fn run_of(matches: &ArgMatches<'_>) -> Run
+    ensures range { AreInRange result }
+    ensures asked { IsAskedBy (subcommand_rows_of matches.now) result }
+{
     if let Some(serve) = matches.subcommand_matches("serve") {
-        return Ok(Run::Serve(Service {
-            port: serve.get_one("port").unwrap_or(0),
-            sizes: sizes(serve),
-            forever: serve.get_flag("forever"),
-            delivery: delivery(serve),
-            idle: idle(serve),
-            log: log(serve),
-        }));
+        return Run::Serve(service(serve));
     }
-    Ok(Run::Replay {
+    Run::Replay {
         outbox: match matches.subcommand_matches("replay") {
             Some(replay) => number(replay, "outbox", 1, 65_536, 64),
             None => 64,
         },
-    })
+    }
 }
 
-fn delivery(matches: &ArgMatches<'_>) -> Delivery {
-    if matches.get_flag("batches") {
+fn service(matches: &ArgMatches<'_>) -> Service
+    ensures range { AreSizes result.sizes × IfSome result.idle IsIdle }
+    ensures asked { IsServiceOf (rows_of (found_of matches.now)) result }
+{
+    Service {
+        port: port(matches),
+        sizes: sizes(matches),
+        forever: is_given(matches, "forever"),
+        delivery: delivery(matches),
+        idle: idle(matches),
+        log: log(matches),
+    }
+}
+
+fn port(matches: &ArgMatches<'_>) -> u16
+    ensures { IsNumberOf (codes "port") 0 65535 0 (rows_of (found_of matches.now)) result }
+{
+    match matches.get_one("port") {
+        Some(port) => port,
+        None => 0,
+    }
+}
+
+/// Whether a flag is given.
+fn is_given(matches: &ArgMatches<'_>, name: &str) -> bool
+    ensures { IsFlagOf name.now (rows_of (found_of matches.now)) result }
+{
+    matches.get_flag(name)
+}
+
+fn delivery(matches: &ArgMatches<'_>) -> Delivery
+    ensures { IsFlagOf (codes "batches") (rows_of (found_of matches.now)) (is_batches result) }
+{
+    if is_given(matches, "batches") {
         Delivery::Batches
     } else {
         Delivery::Events
     }
 }
 
-fn log(matches: &ArgMatches<'_>) -> Log {
-    if matches.get_flag("log") {
+fn log(matches: &ArgMatches<'_>) -> Log
+    ensures { IsFlagOf (codes "log") (rows_of (found_of matches.now)) (is_full result) }
+{
+    if is_given(matches, "log") {
         Log::Full
     } else {
         Log::Brief
@@ -130,7 +102,8 @@ fn log(matches: &ArgMatches<'_>) -> Log {
 }
 
 fn idle(matches: &ArgMatches<'_>) -> Option<u32>
-    ensures { IfSome result IsIdle }
+    ensures range { IfSome result IsIdle }
+    ensures asked { MayBeNumberOf (codes "idle") 1 86400 (rows_of (found_of matches.now)) result }
 {
     match matches.get_one("idle") {
         Some(seconds) if 1 <= seconds && seconds <= 86_400 => Some(seconds),
@@ -139,7 +112,10 @@ fn idle(matches: &ArgMatches<'_>) -> Option<u32>
 }
 
 fn sizes(matches: &ArgMatches<'_>) -> Sizes
-    ensures { AreSizes result }
+    ensures range { AreSizes result }
+    ensures connections { IsNumberOf (codes "connections") 1 64 1 (rows_of (found_of matches.now)) result.connections }
+    ensures outbox { IsNumberOf (codes "outbox") 1 65536 64 (rows_of (found_of matches.now)) result.outbox }
+    ensures journal { IsNumberOf (codes "journal") 16 65536 1024 (rows_of (found_of matches.now)) result.journal }
 {
     Sizes {
         connections: number(matches, "connections", 1, 64, 1),
@@ -154,6 +130,7 @@ fn number(matches: &ArgMatches<'_>, name: &str, least: u32, most: u32, fallback:
     requires most { fallback ≤ most }
     ensures least { least ≤ result }
     ensures most { result ≤ most }
+    ensures asked { IsNumberOf name.now least most fallback (rows_of (found_of matches.now)) result }
 {
     match matches.get_one(name) {
         Some(number) if least <= number && number <= most => number,
@@ -163,7 +140,8 @@ fn number(matches: &ArgMatches<'_>, name: &str, least: u32, most: u32, fallback:
 
 /// What the words of this process ask for.
 pub fn asked<H: Env + AllocGlobal>(rt: &H) -> Result<Run, Error>
-    ensures { IfOk result AreInRange }
+    ensures range { IfOk result AreInRange }
+    ensures asked { IfOk result (λ run. (words : List (List ℕ)) × IsAskedBy (subcommand_of command_line words) run) }
 {
     let alloc = rt.alloc();
     match std::env::args(rt) {

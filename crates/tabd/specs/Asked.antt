@@ -1,0 +1,55 @@
+-- What the words ask for (this project's own): an option that is not given has its default.
+use Rattle.std.specs.Prelude.{◌≡◌, ◌≢◌, ℕ, List, Bool, true, false, Option, Some, None, codes}
+use Rattle.std.specs.Str.Parse.{digits_value, without_leading_plus}
+use Rattle.clap.specs.Words.{IsUnsignedIn, Row, Text, one_of}
+use Rattle.tabd.specs.declared.lines.Log.{Log}
+use Rattle.tabd.specs.declared.lines.Log.TheVariants.{Full, Brief}
+use Rattle.tab_proto.specs.declared.events.Delivery.{Delivery}
+use Rattle.tab_proto.specs.declared.events.Delivery.TheVariants.{Batches, Events}
+use Rattle.tabd.specs.declared.serving.Service.{Service}
+use Rattle.tabd.specs.declared.words.Run.{Run}
+use Rattle.tabd.specs.declared.words.Run.TheVariants.{Replay, Serve}
+
+-- the number in a text
+abbrev pub number_in : Text → ℕ
+number_in t = digits_value 10 (without_leading_plus t)
+
+-- an option's number, where a command's options are these rows; the fallback where it is not given
+pub record IsNumberOf (name : Text) (least most fallback : ℕ) (rows : List Row) (n : ℕ) : Type 0 where
+  pub absent : one_of name rows ≡ None → n ≡ fallback
+  pub given : (t : Text) → one_of name rows ≡ Some t → IsUnsignedIn least most t → n ≡ number_in t
+
+-- a number that has no default
+pub record MayBeNumberOf (name : Text) (least most : ℕ) (rows : List Row) (n : Option ℕ) : Type 0 where
+  pub absent : one_of name rows ≡ None → n ≡ None
+  pub given : (t : Text) → one_of name rows ≡ Some t → IsUnsignedIn least most t → n ≡ Some (number_in t)
+
+-- a flag, which the parser writes out where it is not given
+pub record IsFlagOf (name : Text) (rows : List Row) (is : Bool) : Type 0 where
+  pub absent : one_of name rows ≡ None → is ≡ false
+  pub given : one_of name rows ≡ Some (codes "true") → is ≡ true
+  pub untrue : one_of name rows ≡ Some (codes "false") → is ≡ false
+
+abbrev pub is_batches : Delivery → Bool
+is_batches Batches = true
+is_batches Events = false
+
+abbrev pub is_full : Log → Bool
+is_full Full = true
+is_full Brief = false
+
+pub record IsServiceOf (rows : List Row) (s : Service) : Type 0 where
+  pub port : IsNumberOf (codes "port") 0 65535 0 rows s.port
+  pub connections : IsNumberOf (codes "connections") 1 64 1 rows s.sizes.connections
+  pub outbox : IsNumberOf (codes "outbox") 1 65536 64 rows s.sizes.outbox
+  pub journal : IsNumberOf (codes "journal") 16 65536 1024 rows s.sizes.journal
+  pub forever : IsFlagOf (codes "forever") rows s.forever
+  pub batches : IsFlagOf (codes "batches") rows (is_batches s.delivery)
+  pub idle : MayBeNumberOf (codes "idle") 1 86400 rows s.idle
+  pub log : IsFlagOf (codes "log") rows (is_full s.log)
+
+-- by the command that the words name, with its options; the parser refuses words that name none
+abbrev pub IsAskedBy : Option (Text × List Row) → Run → Type 0
+IsAskedBy None r = Unit {0}
+IsAskedBy (Some c) (Serve s) = (c.0 ≡ codes "serve") × IsServiceOf c.1 s
+IsAskedBy (Some c) (Replay outbox) = (c.0 ≢ codes "serve") × (c.0 ≡ codes "replay" → IsNumberOf (codes "outbox") 1 65536 64 c.1 outbox)

@@ -1,0 +1,20 @@
+-- The book that a server serves, by its words. Source of the limits: docs/PROTOCOL.md, "Limits".
+use Rattle.std.specs.Prelude.{ℕ, [], if◌then◌else◌}
+use Rattle.tab_model.specs.declared.data.Limits.{Limits}
+use Rattle.tab_model.specs.History.{empty}
+use Rattle.tab_model.specs.State.{new}
+use Rattle.tab_book.specs.Running.{Running}
+use Rattle.tabd.specs.declared.serving.Service.{Service}
+
+-- one that serves for good has no session beside its connections
+abbrev pub sessions_of : Service → ℕ
+sessions_of s = if s.forever then s.sizes.connections else 64
+
+abbrev pub limits_of : Service → Limits
+limits_of s = record { sessions = sessions_of s; nesting = 16; operations = 1000; tables = 256; ages = 9223372036854775807; journal = s.sizes.journal }
+
+abbrev pub new_book : Limits → Running
+new_book limits = record { state = new limits; journal = record { base = empty; entries = []; limit = limits.journal } }
+
+abbrev pub book_of : Service → Running
+book_of s = new_book (limits_of s)

@@ -1,0 +1,56 @@
+//! The book that a server serves.
+
+ghost use Rattle.std.specs.Prelude.{◌≡◌, ◌≤◌, IfOk};
+ghost use Rattle.tabd.specs.Served.{book_of, limits_of, sessions_of};
+
+use crate::serving::Service;
+use std::alloc::{AllocError, Global};
+use tab_book::Book;
+use tab_model::Limits;
+use tab_names::{House, Opened};
+use tab_post::Line;
+
+/// No tables and no sessions, and the limits that the words and the program set.
+pub fn opened_book<H: House>(
+    house: H,
+    alloc: Global,
+    opened: Opened<Line>,
+    service: &Service,
+) -> Result<Book<H>, AllocError>
+    requires { opened ≡ H.book }
+    ensures { IfOk result (λ b. b ≡ book_of service.now) }
+{
+    Book::new(
+        house,
+        alloc,
+        opened,
+        limits(service),
+        service.sizes.outbox as usize,
+    )
+}
+
+fn limits(service: &Service) -> Limits
+    ensures limits { result ≡ limits_of service.now }
+    ensures sessions { result.sessions ≤ 64 }
+{
+    Limits {
+        sessions: u64::from(sessions(service)),
+        nesting: 16,
+        operations: 1000,
+        tables: 256,
+        ages: 9_223_372_036_854_775_807,
+        journal: u64::from(service.sizes.journal),
+    }
+}
+
+/// So many sessions the book has room for. One that serves for good has none beside its connections.
+fn sessions(service: &Service) -> u32
+    ensures sessions { result ≡ sessions_of service.now }
+    ensures room { result ≤ 64 }
+{
+    if service.forever {
+        service.sizes.connections
+    } else {
+        64
+    }
+}
