@@ -1,4 +1,4 @@
-use Rattle.std.proofs.Common.{ap, sym, ◌∙◌}
+use Rattle.std.proofs.Common.{ap, sym}
 use Rattle.tab_term.specs.Canon.{canon}
 use Rattle.tab_etf.proofs.WritingLemmas.{writes_as, writes_then, writes_none}
 use Rattle.tab_etf.proofs.Elements.{no_canons}
