@@ -1,23 +1,13 @@
 -- Posts that have a capacity keep it; and where all have one, who refuses is decided.
-use Rattle.std.proofs.Common.{◌≡◌, ℕ, suc, ◌+◌, List, [], ◌∷◌, ◌++◌, Bool, true, false, ◌&&◌, not, refl, sym, ap, ◌∙◌, subst, length, Option, Some, None}
-use Rattle.std.specs.Prelude.{◌==◌, ◌||◌, if◌then◌else◌, nat_lt, nat_le, is_some, IfSome, map}
+use Rattle.std.proofs.Common.{◌≡◌, ℕ, ◌+◌, List, [], ◌∷◌, Bool, true, false, not, refl, ◌∙◌, length, Option, Some, None}
+use Rattle.std.specs.Prelude.{◌||◌, if◌then◌else◌, nat_le, is_some, IfSome}
 use Rattle.std.specs.List.{AllByRecursion, filter}
-use Rattle.tab_term.specs.declared.term.Term.{Term}
-use Rattle.tab_model.specs.declared.data.Item.{Item}
-use Rattle.tab_model.specs.declared.data.Entry.{Entry}
-use Rattle.tab_model.specs.declared.data.Level.{Level}
-use Rattle.tab_model.specs.declared.data.Operation.{Operation}
-use Rattle.tab_model.specs.declared.data.Move.{Move}
-use Rattle.tab_model.specs.declared.data.Reply.{Reply}
 use Rattle.tab_model.specs.declared.data.Schema.{Schema}
 use Rattle.tab_model.specs.declared.data.Command.{Command}
 use Rattle.tab_model.specs.declared.data.Command.TheVariants as command
-use Rattle.tab_model.specs.Ages.{Answer, Granted, Wait, Die, decide, can_retry}
-use Rattle.tab_model.specs.Locks.{needs}
-use Rattle.tab_model.specs.Log.{has_session}
 use Rattle.tab_model.specs.Schemas.{table_of_schema, schema_refusal, removed}
-use Rattle.tab_model.specs.State.{Outbox, Transaction, Watch, Seat, Queued, State, seat_at, request_in, is_waiting, ages_of, is_busy, level_in, mid_of, count_moves}
-use Rattle.tab_model.specs.Outcome.{Ask, Join, Leave, Retry, Take, DoCommand, Outcome, outcome, is_empty, change, without_seat, made, decided, within, operate, retried, retry_in, retry, opened, nested, begin, one_shot, abort, overflowed, pushed, takable, given, batch_to, commit_at, commit, events_now, unwatched, end_to, has_room, schema_if, schema, marked, subscribe_refusal, subscribe, unsubscribe, is_at, do_command, is_abort, command_if, give, leave, join, unseated, seated, by_seat}
+use Rattle.tab_model.specs.State.{Outbox, Transaction, Seat, State, seat_at, is_waiting, is_busy, level_in, mid_of}
+use Rattle.tab_model.specs.Outcome.{Ask, Join, Leave, Retry, Take, DoCommand, outcome, is_empty, batch_to, events_now, end_to, subscribe_refusal, is_at}
 use Rattle.tab_model.specs.Run.{Allowed, Pinned, put_ask, put_command, put_commit, put_schema}
 use Rattle.tab_session.specs.Bounded.{HasCapacity, IsBounded}
 use Rattle.tab_model.proofs.PostsStay.{found_has, JoinsAs, stays}

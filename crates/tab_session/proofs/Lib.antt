@@ -7,3 +7,4 @@ mod DriverSteps
 mod DriverOnce
 mod RunLaws
 mod AccountsLemmas
+mod Joining

@@ -5,7 +5,6 @@ use Rattle.std.proofs.Common.{inl, inr}
 use Rattle.tab_term.specs.Data.{PlainTerm}
 use Rattle.tab_etf.specs.Reading.{whole}
 use Rattle.tab_etf.specs.declared.fault.Stop.{Stop}
-use Rattle.tab_model.specs.declared.data.Command.{Command}
 use Rattle.tab_model.specs.declared.data.Entry.{Entry}
 use Rattle.tab_model.specs.declared.data.Reply.{Reply}
 use Rattle.tab_model.specs.State.{State}
@@ -17,7 +16,7 @@ use Rattle.tab_proto.specs.declared.request.Request.TheVariants as request
 use Rattle.tab_oneshot.specs.Calls.{Call, Asked, Waited, Again}
 use Rattle.tab_session.specs.declared.answered.Answer.{Answer}
 use Rattle.tab_session.specs.StepsMade.{IsStepMade, StepMadeOrRefused}
-use Rattle.tab_session.specs.OneSessions.{Ran, IsDriven}
+use Rattle.tab_session.specs.OneSessions.{Ran}
 use Rattle.tab_session.specs.AnsweredPayloads.{ask_for, IsDrivenRequest, IsMadeOf, AnsweredTerm, AnsweredRead, Answered, AnsweredAll}
 use Rattle.tab_session.specs.Replays.{IsRun}
 

@@ -1,5 +1,5 @@
 -- Whose posts have a capacity.
-use Rattle.std.specs.Prelude.{◌≡◌, List, true, is_some}
+use Rattle.std.specs.Prelude.{◌≡◌, true, is_some}
 use Rattle.std.specs.List.{AllByRecursion}
 use Rattle.tab_model.specs.State.{Seat, State}
 

@@ -1,7 +1,7 @@
 -- A step of a core that a request asks for, made or refused for memory (this project's own rules).
-use Rattle.std.specs.Prelude.{◌≡◌, ℕ, List, false, Option, ◌⊎◌}
-use Rattle.tab_model.specs.State.{State}
-use Rattle.tab_model.specs.Outcome.{Ask, outcome}
+use Rattle.std.specs.Prelude.{◌≡◌, ℕ, List, [], false, Option, ◌⊎◌}
+use Rattle.tab_model.specs.State.{Outbox, State}
+use Rattle.tab_model.specs.Outcome.{Ask, Join, nothing, outcome}
 use Rattle.tab_model.specs.Run.{Allowed}
 use Rattle.tab_model.specs.declared.data.Entry.{Entry}
 use Rattle.tab_model.specs.declared.data.Reply.{Reply}
@@ -18,3 +18,7 @@ pub record IsStepMade (σ : State) (session : ℕ) (a : Ask) (r : Reply) (μ : S
 -- or it was refused for memory that it takes, with nothing changed
 abbrev pub StepMadeOrRefused : State → ℕ → Ask → Reply → State → Type 0
 StepMadeOrRefused σ session a r μ = IsStepMade σ session a r μ ⊎ (takes_no_memory σ session a ≡ false) × (r ≡ NoMemory) × (μ ≡ σ)
+
+-- a join is told so, whatever the post, and changes nothing
+abbrev pub IsJoinRefused : State → ℕ → Reply → Type 0
+IsJoinRefused σ session r = (b : Outbox) → outcome σ [] session (Join b) ≡ nothing σ r

@@ -1,13 +1,13 @@
 //! One payload, and how it is answered.
 
-ghost use Rattle.std.specs.Prelude.{◌≡◌, ◌++◌, ◌⊎◌, ℕ, [], IfErr, OnOk, OnErr};
+ghost use Rattle.std.specs.Prelude.{◌≡◌, ◌++◌, ◌⊎◌, ℕ, [], IfErr, IfSome, OnOk, OnErr};
 ghost use Rattle.tab_term.specs.View.{term};
 ghost use Rattle.tab_model.specs.Outcome.{Join};
 ghost use Rattle.tab_core.specs.Runs.{ask_of};
 ghost use Rattle.tab_outbox.specs.Posts.{as_outbox};
 ghost use Rattle.tab_proto.specs.declared.request.Request.TheVariants as request;
 ghost use Rattle.tab_oneshot.specs.OneShots.{is_one_shot as is_one_shot_command};
-ghost use Rattle.tab_session.specs.StepsMade.{StepMadeOrRefused};
+ghost use Rattle.tab_session.specs.StepsMade.{IsJoinRefused, StepMadeOrRefused};
 ghost use Rattle.tab_session.specs.AnsweredPayloads.{IsNumberOf, Answered, AnsweredTerm, RefusedTerm, RepliesTo, answer_frame, empty_post, NotPut};
 ghost use Rattle.tab_session.specs.Replays.{Handed, OneFault};
 
@@ -16,7 +16,7 @@ use crate::{Answer, Ended};
 use std::alloc::Global;
 use tab_core::{Core, Step};
 use tab_etf::{EncodeFault, EtfFault, FrameFault, Target, decode};
-use tab_model::{Command, Reply, Told};
+use tab_model::{Command, Limit, Reply, Told};
 use tab_outbox::RingPost;
 use tab_proto::{ProtoFault, Request, append_reply, read_request, session_of, write_reply};
 use tab_term::Term;
@@ -89,14 +89,33 @@ fn reply_to(
     }
 }
 
-/// A session joins with a post of its own.
+/// A session joins with a post of its own, which is made where the session may join.
 fn join(core: &mut Core<RingPost>, alloc: Global, outbox: usize, session: u32) -> Told
     ensures { StepMadeOrRefused core.old session (Join (empty_post outbox)) result core.new }
 {
+    if let Some(refusal) = join_refusal(core, session) {
+        return Told::new(refusal);
+    }
     match RingPost::with_capacity(alloc, outbox) {
         Ok(post) => reply_of(core, session, Step::Join(post)),
         Err(_) => Told::new(Reply::NoMemory),
     }
+}
+
+/// What a session is told that may not join.
+fn join_refusal(core: &Core<RingPost>, session: u32) -> Option<Reply>
+    ensures { IfSome result (IsJoinRefused core.now session) }
+{
+    if core.joined(u64::from(session)) {
+        return Some(Reply::BadSession);
+    }
+    if session <= core.greatest() {
+        return Some(Reply::BadSession);
+    }
+    if core.admits(session) {
+        return None;
+    }
+    Some(Reply::SystemLimit(Limit::Sessions))
 }
 
 fn reply_to_command(
