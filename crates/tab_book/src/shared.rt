@@ -1,6 +1,6 @@
 //! A book that threads share.
 
-ghost use Rattle.std.specs.Prelude.{◌≡◌, ◌≢◌, ◌≤◌, true, IfOk, IfSome, IsOk};
+ghost use Rattle.std.specs.Prelude.{◌≡◌, ◌≢◌, ◌≤◌, [], true, IfOk, IfSome, IsOk};
 ghost use Rattle.tab_model.specs.declared.data.Reply.TheVariants as reply;
 ghost use Rattle.tab_model.specs.Outcome.{is_abort};
 ghost use Rattle.tab_named.specs.Ends.{received};
@@ -11,6 +11,7 @@ use crate::bells::Bells;
 use crate::book::Book;
 use crate::step::{Drained, JoinFault, Step};
 use std::alloc::{AllocError, Global};
+use std::marker::Model;
 use std::sync::{Mutex, MutexGuard};
 use std::thread;
 use std::time::Duration;
@@ -19,14 +20,26 @@ use tab_model::{Command, Reply, Told};
 use tab_named::{NewMailbox, SeatInbox};
 use tab_names::House;
 
-/// Names a session of a book that is shared.
+/// Names a session of a book that is shared. Contracts see it as the session's number.
 #[derive(Clone, Copy, Debug, PartialEq, Eq)]
 pub struct Seat {
     session: u32,
 }
 
+impl Model for Seat {
+    ghost use Rattle.std.specs.Prelude.{ℕ};
+
+    ghost Value = { ℕ };
+
+    ghost view = { λ a. a.session };
+
+    ghost inverse = { λ n. record { session = n } };
+}
+
 impl Seat {
-    pub fn session(&self) -> u32 {
+    pub fn session(&self) -> u32
+        ensures { result ≡ self.now }
+    {
         self.session
     }
 }
@@ -91,7 +104,10 @@ impl<H: House> Shared<H> {
 
     /// A session joins, with a mailbox of its own, whose receiving end is given out. The mailbox is made before the book is
     /// held, since it has room for all that it may hold.
-    pub fn join(&self, house: &H) -> Result<(Seat, SeatInbox<H>), JoinFault> {
+    pub fn join(&self, house: &H) -> Result<(Seat, SeatInbox<H>), JoinFault>
+        ensures number { IfOk result (λ r. 1 ≤ r.0) }
+        ensures inbox { IfOk result (λ r. received r.1 ≡ []) }
+    {
         let Ok(mailbox) = NewMailbox::new(*house, self.alloc, self.outbox) else {
             return Err(JoinFault::NoMemory);
         };
