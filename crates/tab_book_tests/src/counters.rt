@@ -150,12 +150,12 @@ fn raise_all<H: House>(
     house: &H,
     alloc: Global,
     shared: &Shared<H>,
-    seat: Seat,
+    seat: &Seat,
     entered: &AtomicU64,
 ) {
     for _ in 0..EACH {
-        if let Ok(raised) = raise(house, alloc, shared, &seat) {
-            if is_entered(house, shared, &seat, raised) {
+        if let Ok(raised) = raise(house, alloc, shared, seat) {
+            if is_entered(house, shared, seat, raised) {
                 entered.fetch_add(1, Ordering::SeqCst);
             }
         }
@@ -173,7 +173,7 @@ fn run_threads<H: House + Threads + Send + Sync>(
     thread::scope(thread::scope_env(), house, |scope| {
         for seat in seats {
             let seat = *seat;
-            let started = scope.spawn(move || raise_all(house, alloc, shared, seat, entered));
+            let started = scope.spawn(move || raise_all(house, alloc, shared, &seat, entered));
             if started.is_err() {
                 shared.leave(house, &seat);
             }
