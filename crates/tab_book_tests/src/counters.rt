@@ -172,10 +172,9 @@ fn run_threads<H: House + Threads + Send + Sync>(
 ) {
     thread::scope(thread::scope_env(), house, |scope| {
         for seat in seats {
-            let seat = *seat;
-            let started = scope.spawn(move || raise_all(house, alloc, shared, &seat, entered));
+            let started = scope.spawn(move || raise_all(house, alloc, shared, seat, entered));
             if started.is_err() {
-                shared.leave(house, &seat);
+                shared.leave(house, seat);
             }
         }
     });
