@@ -28,9 +28,9 @@ from scripts import SCRIPTS  # noqa: E402
 DAMAGED = b"tabd: damaged input\n"
 DEVICE = b"tabd: device\n"
 SECONDS = 60
-# A stream of at most so many bytes is cut at each of them: all but those of a thousand operations, which are cut around the ends
-# of their first frames.
-CUT = 2_000
+# A stream of at most so many bytes is cut at each of them: all but those of a thousand operations or of hundreds of sessions and
+# tables, which are cut around the ends of their first frames.
+CUT = 4_000
 ENDS = 12
 # The output of one with so many bytes is full after each of its bytes.
 SHORT = 130
