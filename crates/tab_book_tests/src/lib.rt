@@ -13,4 +13,6 @@ mod mailboxes;
 #[cfg(test)]
 mod overflow;
 #[cfg(test)]
+mod refused;
+#[cfg(test)]
 mod waking;

@@ -31,9 +31,9 @@ fn number_in(item: &Item) -> u64 {
     }
 }
 
-const ALL_TAKEN: u64 = 1;
+pub const ALL_TAKEN: u64 = 1;
 
-const BEGAN: u64 = 2;
+pub const BEGAN: u64 = 2;
 
 const LEFT: u64 = 3;
 
@@ -69,7 +69,12 @@ fn commit<H: House>(
     Ok(number_of(told.reply()))
 }
 
-fn shown<H: House>(house: &H, shared: &Shared<H>, seat: &Seat, inbox: &mut SeatInbox<H>) -> u64 {
+pub fn shown<H: House>(
+    house: &H,
+    shared: &Shared<H>,
+    seat: &Seat,
+    inbox: &mut SeatInbox<H>,
+) -> u64 {
     shown_as(&shared.drained(house, seat, inbox))
 }
 

@@ -8,7 +8,7 @@ use Rattle.tab_model.specs.declared.data.Item.{Item}
 use Rattle.tab_model.specs.declared.data.Reply.{Reply}
 use Rattle.tab_model.specs.declared.data.Reply.TheVariants as reply
 use Rattle.tab_model.specs.Log.{has_session}
-use Rattle.tab_model.specs.State.{Outbox, Watch, Seat, State, seat_at, AreDistinct, is_waiting}
+use Rattle.tab_model.specs.State.{Outbox, Watch, Seat, State, seat_at, AreDistinct, is_waiting, transaction_at}
 use Rattle.tab_model.specs.Outcome as plain
 use Rattle.tab_model.specs.Outcome.{Ask, Join, Leave, Take, DoCommand, Outcome, outcome, nothing, by_seat, unseated, join, fresh, without_seat, with_seat, pushed, refused, takable, give}
 use Rattle.tab_model.proofs.Seats.{found}
@@ -18,7 +18,7 @@ use Rattle.tab_manager.specs.declared.step.Stepped.{Stepped}
 use Rattle.tab_subs.specs.Subscribers as subs
 use Rattle.tab_subs.specs.Subscribers.{Subscriber, at, numbers, AllBelow, change, without, taken_from, overflow_of}
 use Rattle.tab_core.specs.Seats.{seat_with, state_with, watching_of, outbox_of, AreTheSame, IsKept}
-use Rattle.tab_core.specs.Runs.{StepsTo}
+use Rattle.tab_core.specs.Runs.{StepsTo, takes_no_memory}
 use Rattle.tab_core.proofs.Frames.{at_dressed, lifted}
 use Rattle.tab_core.proofs.Delivering.{seated_there, found_there}
 use Rattle.tab_core.proofs.OneSeat.{dress, seats_change, change_numbers, seats_without, without_nobody, without_numbers, seats_joined, joined_numbers}
@@ -161,6 +161,21 @@ module _ (bs : List Subscriber) (σ : State) (k : IsKept bs σ) (n : ℕ) where
 
       numbers_are : AreTheSame cs τ
       numbers_are = ap numbers is ∙ joined_numbers bs (subs.fresh n o) σ.seats (fresh n no_outbox) k.same refl ∙ ap (λ (x : Outcome). map (λ (y : Seat). y.number) x.state.seats) (sym bare ∙ m)
+
+  -- who is admitted takes memory: its post's place
+  admitted_takes : (o : Outbox) → admitted ≡ true → takes_no_memory (state_with bs σ) n (Join o) ≡ false
+  admitted_takes o h = ap (λ (x : Outcome). manager.tells_for_none (is_some (transaction_at (state_with bs σ) n)) (Join o) x.reply) joins
+    where
+      both : (nat_lt σ.greatest n ≡ true) × (nat_lt (length σ.seats) σ.limits.sessions ≡ true)
+      both = and_both _ _ h
+
+      joins : outcome (state_with bs σ) [] n (Join o) ≡ join (state_with bs σ) n o true true
+      joins =
+          at_seat (state_with bs σ) [] n (Join o) None (mapped_none bs σ n (newcomer h))
+          ∙ (λ i. join (state_with bs σ) n o (both.0 i) ((ap (λ l. nat_lt l σ.limits.sessions) (length_mapped (seat_with bs) σ.seats) ∙ both.1) i))
+
+  pub not_admitted : (ρ : State) (o : Outbox) → state_with bs σ ≡ ρ → takes_no_memory ρ n (Join o) ≡ true → admitted ≡ true → ⊥
+  not_admitted ρ o view free h = cc (free, ap (λ (x : State). takes_no_memory x n (Join o)) view, admitted_takes o h)
 
   -- ---- leaving
 

@@ -28,9 +28,9 @@ abbrev pub AllJoinEmpty : List (ℕ × Ask) → Type 0
 AllJoinEmpty [] = Unit {0}
 AllJoinEmpty (a ∷ asks) = JoinsEmpty a.1 × AllJoinEmpty asks
 
--- what takes no memory: what takes none of the manager, but to join, since the post that is handed in was made for it
+-- what takes no memory: what takes none of the manager, but of joins only those that are refused
 abbrev pub takes_no_memory : State → ℕ → Ask → Bool
-takes_no_memory σ n (Join b) = false
+takes_no_memory σ n (Join b) = manager.is_told_for_none σ n (Join b)
 takes_no_memory σ n Leave = true
 takes_no_memory σ n Take = true
 takes_no_memory σ n Retry = manager.takes_no_memory σ n Retry

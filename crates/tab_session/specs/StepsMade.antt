@@ -19,6 +19,10 @@ pub record IsStepMade (σ : State) (session : ℕ) (a : Ask) (r : Reply) (μ : S
 abbrev pub StepMadeOrRefused : State → ℕ → Ask → Reply → State → Type 0
 StepMadeOrRefused σ session a r μ = IsStepMade σ session a r μ ⊎ (takes_no_memory σ session a ≡ false) × (r ≡ NoMemory) × (μ ≡ σ)
 
+-- a join takes memory, whatever the post
+abbrev pub JoinTakesMemory : State → ℕ → Type 0
+JoinTakesMemory σ session = (b : Outbox) → takes_no_memory σ session (Join b) ≡ false
+
 -- a join is told so, whatever the post, and changes nothing
 abbrev pub IsJoinRefused : State → ℕ → Reply → Type 0
 IsJoinRefused σ session r = (b : Outbox) → outcome σ [] session (Join b) ≡ nothing σ r

@@ -1,13 +1,13 @@
 //! One payload, and how it is answered.
 
-ghost use Rattle.std.specs.Prelude.{◌≡◌, ◌++◌, ◌⊎◌, ℕ, [], IfErr, IfSome, OnOk, OnErr};
+ghost use Rattle.std.specs.Prelude.{◌≡◌, ◌++◌, ◌⊎◌, ℕ, [], IfErr, MatchOption, OnOk, OnErr};
 ghost use Rattle.tab_term.specs.View.{term};
 ghost use Rattle.tab_model.specs.Outcome.{Join};
 ghost use Rattle.tab_core.specs.Runs.{ask_of};
 ghost use Rattle.tab_outbox.specs.Posts.{as_outbox};
 ghost use Rattle.tab_proto.specs.declared.request.Request.TheVariants as request;
 ghost use Rattle.tab_oneshot.specs.OneShots.{is_one_shot as is_one_shot_command};
-ghost use Rattle.tab_session.specs.StepsMade.{IsJoinRefused, StepMadeOrRefused};
+ghost use Rattle.tab_session.specs.StepsMade.{IsJoinRefused, JoinTakesMemory, StepMadeOrRefused};
 ghost use Rattle.tab_session.specs.AnsweredPayloads.{IsNumberOf, Answered, AnsweredTerm, RefusedTerm, RepliesTo, answer_frame, empty_post, NotPut};
 ghost use Rattle.tab_session.specs.Replays.{Handed, OneFault};
 
@@ -104,7 +104,7 @@ fn join(core: &mut Core<RingPost>, alloc: Global, outbox: usize, session: u32) -
 
 /// What a session is told that may not join.
 fn join_refusal(core: &Core<RingPost>, session: u32) -> Option<Reply>
-    ensures { IfSome result (IsJoinRefused core.now session) }
+    ensures { MatchOption result (JoinTakesMemory core.now session) (IsJoinRefused core.now session) }
 {
     if core.joined(u64::from(session)) {
         return Some(Reply::BadSession);

@@ -1,6 +1,6 @@
 use Rattle.std.proofs.Common.{◌∙◌, ap, sym, subst, ◌<◌, ◌≤◌}
 use Rattle.tab_model.specs.Standing.{is_joined}
-use Rattle.tab_session.proofs.Joining.{joined, not_above, full}
+use Rattle.tab_session.proofs.Joining.{joined, not_above, admitted, full}
 use Rattle.tab_session.proofs.answering.join_refusal.Goals as goal
 
 pub returns-then-joined : goal.returns-then-joined
@@ -8,6 +8,9 @@ returns-then-joined c = joined c.args.core.now c.args.session (ap (is_joined c.a
 
 pub returns-then-session-greatest : goal.returns-then-session-greatest
 returns-then-session-greatest c = not_above c.args.core.now c.args.session (subst (λ g. c.args.session ≤ g) c.greatest.ensures c.if-session-greatest.true)
+
+pub returns-then-admits : goal.returns-then-admits
+returns-then-admits c = admitted c.args.core.now c.args.session (ap (is_joined c.args.core.now) (sym c.from.ensures) ∙ sym c.joined.ensures ∙ c.if-joined.false) (sym c.admits.ensures ∙ c.if-admits.true)
 
 pub returns : goal.returns
 returns c =

@@ -1,0 +1,168 @@
+//! Joins, steps, folds and an audit for which memory is refused are made again: one refusal, wherever it comes, changes nothing
+//! that is told. `rt try --test --fail-alloc N -- refused` refuses the Nth allocation; without a refusal it is one more happy path.
+
+ghost use Rattle.std.specs.Prelude.{◌≡◌};
+
+use crate::commands::{LIMITS, create, subscribe, write};
+use crate::overflow::{ALL_TAKEN, BEGAN, shown};
+use std::alloc::{AllocError, Global};
+use std::marker::{Brand, PhantomData};
+use std::sync::Wait;
+use std::test::*;
+use tab_book::{Book, JoinFault, Seat, Shared};
+use tab_model::{Command, Limits, Reply};
+use tab_named::SeatInbox;
+use tab_names::{House, Naming, Opened};
+use tab_post::Line;
+
+/// Who asks, and what.
+#[derive(Clone, Copy)]
+enum Ask {
+    Create,
+    Watch,
+    Begin,
+    Write(i128),
+    Commit,
+}
+
+/// A journal of two entries folds at each entry from the third on.
+const ENTRIES: usize = 2;
+
+/// What is asked in turn, and what it is told.
+static STEPS: [(Ask, u64); 11] = [
+    (Ask::Create, DEFINED),
+    (Ask::Watch, WATCHED),
+    (Ask::Begin, 101),
+    (Ask::Write(5), DONE),
+    (Ask::Commit, 201),
+    (Ask::Begin, 102),
+    (Ask::Write(6), DONE),
+    (Ask::Commit, 202),
+    (Ask::Begin, 103),
+    (Ask::Write(7), DONE),
+    (Ask::Commit, 203),
+];
+
+const DONE: u64 = 1;
+
+const DEFINED: u64 = 2;
+
+const WATCHED: u64 = 3;
+
+/// What the watcher, whose mailbox holds three items, is shown behind them.
+static SHOWN: [u64; 5] = [BEGAN, 101, 102, 203, ALL_TAKEN];
+
+fn command(alloc: Global, ask: Ask) -> Result<Command, AllocError> {
+    match ask {
+        Ask::Create => create(alloc),
+        Ask::Watch => subscribe(alloc),
+        Ask::Begin => Ok(Command::Begin),
+        Ask::Write(value) => write(alloc, value),
+        Ask::Commit => Ok(Command::Commit),
+    }
+}
+
+/// A reply as a number: an age is 100 and the age, a commit 200 and its number.
+fn number(reply: &Reply) -> u64 {
+    match reply {
+        Reply::Done => DONE,
+        Reply::AtomicOk => DEFINED,
+        Reply::SubscribedHere => WATCHED,
+        Reply::Tid(age) => age.saturating_add(100),
+        Reply::Atomic(commit) => commit.saturating_add(200),
+        _ => 0,
+    }
+}
+
+fn join<H: House>(house: &H, shared: &Shared<H>) -> Result<(Seat, SeatInbox<H>), JoinFault> {
+    match shared.join(house) {
+        Err(JoinFault::NoMemory) => shared.join(house),
+        joined => joined,
+    }
+}
+
+fn step<H: House>(
+    house: &H,
+    alloc: Global,
+    shared: &Shared<H>,
+    seat: &Seat,
+    ask: Ask,
+) -> Result<u64, AllocError> {
+    let told = shared.step(house, seat, command(alloc, ask)?)?;
+    Ok(number(told.reply()))
+}
+
+fn again<H: House>(
+    house: &H,
+    alloc: Global,
+    shared: &Shared<H>,
+    seat: &Seat,
+    ask: Ask,
+) -> Result<u64, AllocError> {
+    match step(house, alloc, shared, seat, ask) {
+        Err(_) => step(house, alloc, shared, seat, ask),
+        told => told,
+    }
+}
+
+/// Whether the journal has its two last entries behind a base of the commits before, and is a history of the tables.
+fn is_history<H: House>(house: &H, shared: &Shared<H>) -> Result<bool, AllocError> {
+    let audit = match shared.audit(house) {
+        Err(_) => shared.audit(house)?,
+        Ok(audit) => audit,
+    };
+    let book = shared.hold(house);
+    let journal = book.journal();
+    Ok(audit && journal.len() == ENTRIES && journal.base().commits() == 1)
+}
+
+/// The first step that was told another thing, or of those that the watcher is shown, behind them; None where all is right.
+fn differs<H: House>(house: H, alloc: Global, opened: Opened<Line>) -> Result<Option<usize>, Fail>
+    requires { opened ≡ H.book }
+{
+    let limits = Limits {
+        journal: ENTRIES as u64,
+        ..LIMITS
+    };
+    let book = Book::new(house, alloc, opened, limits, 3).map_err(|_| "no book")?;
+    let shared = Shared::new(book);
+    let (writer, _inbox) = join(&house, &shared).map_err(|_| "no writer")?;
+    let (watcher, mut inbox) = join(&house, &shared).map_err(|_| "no watcher")?;
+    for (place, (ask, wanted)) in STEPS.iter().enumerate() {
+        let seat = if matches!(ask, Ask::Watch) {
+            &watcher
+        } else {
+            &writer
+        };
+        if again(&house, alloc, &shared, seat, *ask)? != *wanted {
+            return Ok(Some(place));
+        }
+    }
+    for (place, wanted) in SHOWN.iter().enumerate() {
+        if shown(&house, &shared, &watcher, &mut inbox) != *wanted {
+            return Ok(Some(STEPS.len() + place));
+        }
+    }
+    Ok(if is_history(&house, &shared)? {
+        None
+    } else {
+        Some(STEPS.len() + SHOWN.len())
+    })
+}
+
+fn differs_named<J: Naming, R: Wait + Copy>(
+    rt: R,
+    alloc: Global,
+    opened: Opened<Line>,
+) -> Result<Option<usize>, Fail>
+    requires { opened ≡ J.book }
+{
+    differs((rt, PhantomData::<J>), alloc, opened)
+}
+
+#[test]
+fn a_refused_step_is_made_again(rt: HostRuntime) -> Result<(), Fail> {
+    let differs = differs_named::<Brand, _>(rt, rt.alloc(), Opened::new())?;
+    assert!(rt; differs == None, "a step");
+    Ok(())
+}
