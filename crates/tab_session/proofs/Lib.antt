@@ -5,6 +5,8 @@ pub mod ReplayedLemmas
 mod BoundedSteps
 mod DriverSteps
 mod DriverOnce
+mod DriverLeaves
+mod DriverEnds
 mod RunLaws
 mod AccountsLemmas
 mod Joining
