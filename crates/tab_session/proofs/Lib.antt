@@ -7,6 +7,7 @@ mod DriverSteps
 mod DriverOnce
 mod DriverLeaves
 mod DriverEnds
+mod WorkedOneShots
 mod RunLaws
 mod AccountsLemmas
 mod Joining
