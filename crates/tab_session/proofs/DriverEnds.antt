@@ -15,7 +15,7 @@ use Rattle.tab_model.specs.declared.data.Reply.TheVariants as reply
 use Rattle.tab_model.specs.Worlds.{World}
 use Rattle.tab_model.specs.Operations.{failure}
 use Rattle.tab_model.specs.Alone.{Mid, start, next, back_to, forgotten}
-use Rattle.tab_model.specs.State.{Transaction, Seat, Queued, State, seat_at, transaction_at, is_waiting, request_in, HasAge, OwnedBy}
+use Rattle.tab_model.specs.State.{Transaction, Seat, Queued, State, seat_at, transaction_at, is_waiting, request_in, HasAge, OwnedBy, IsSound}
 use Rattle.tab_model.specs.Reached.{IsRising}
 use Rattle.tab_model.specs.Outcome.{DoCommand, Outcome, outcome, by_seat, command_if}
 use Rattle.tab_model.proofs.Seats.{found, eq_true}
@@ -31,6 +31,9 @@ use Rattle.tab_oneshot.specs.OneShots.{Follows, Tries, Runs, Opens, IsRun}
 use Rattle.tab_session.specs.OneSessions.{Ran, IsDriven}
 use Rattle.tab_session.specs.PartsAlone as alone
 use Rattle.tab_session.specs.PartsAlone.{run_on, run_alone}
+use Rattle.tab_oneshot.proofs.LastReplies.{all_handed}
+use Rattle.tab_session.specs.Accounts.{IsOneCommit, of_calls}
+use Rattle.tab_session.proofs.DriverLogs.{logs_one, logs_none}
 use Rattle.tab_session.proofs.DriverSteps.{if_true, if_false}
 use Rattle.tab_session.proofs.DriverOnce.{ran_split, told_length}
 use Rattle.tab_session.proofs.DriverLeaves.{is_atomic, Within, Inside, Outside, Committed, Back, Did, Aborted, Began, Closed, Opened, did, begun, closed, aborted, opened}
@@ -428,3 +431,9 @@ comes_as_alone σ μ n parts retries ts known none_open d =
   where
     same_terms : (us : PlainTerms) → reply.AtomicTerms ts ≡ reply.AtomicTerms us → us ≡ ts
     same_terms us e = cc
+
+pub enters_once : (σ μ : State) (n : ℕ) (c : Command) (ts : PlainTerms) → is_command c ≡ true → IsSound σ → transaction_at σ n ≡ None → (d : IsDriven σ n c (reply.AtomicTerms ts) μ) → IsOneCommit σ n (of_calls n σ d.calls μ d.ran).log μ
+enters_once σ μ n c ts known sound none_open d = logs_one n σ μ d.calls sound (all_handed c d.calls (reply.AtomicTerms ts) d.one_shot) d.ran (committed_once σ μ n c ts known none_open d)
+
+pub else_enters_none : (σ μ : State) (n : ℕ) (c : Command) (r : Reply) → is_command c ≡ true → IsSound σ → transaction_at σ n ≡ None → (d : IsDriven σ n c r μ) → ((ts : PlainTerms) → r ≢ reply.AtomicTerms ts) → (of_calls n σ d.calls μ d.ran).log ≡ []
+else_enters_none σ μ n c r known sound none_open d other = logs_none n σ μ d.calls sound (all_handed c d.calls r d.one_shot) d.ran (else_undone σ μ n c r known none_open d other).1

@@ -7,6 +7,7 @@ mod DriverSteps
 mod DriverOnce
 mod DriverLeaves
 mod DriverEnds
+mod DriverLogs
 mod WorkedOneShots
 mod RunLaws
 mod AccountsLemmas

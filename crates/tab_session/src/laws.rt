@@ -1,6 +1,6 @@
 //! What a run over a stream's payloads says, and what a one-shot leaves. Each law is the contract of a function that does nothing.
 
-ghost use Rattle.std.specs.Prelude.{◌≡◌, ◌≢◌, ◌++◌, ℕ, suc, List, length, false, true, Some, None};
+ghost use Rattle.std.specs.Prelude.{◌≡◌, ◌≢◌, ◌++◌, ℕ, suc, List, [], length, false, true, Some, None};
 ghost use Rattle.tab_term.specs.Data.{PlainTerms};
 ghost use Rattle.tab_model.specs.declared.data.Command.{Command as CommandOf};
 ghost use Rattle.tab_model.specs.declared.data.Command.TheVariants as command;
@@ -18,7 +18,7 @@ ghost use Rattle.tab_proto.specs.Commands.{is_command};
 ghost use Rattle.tab_session.specs.declared.answered.Answer.{Answer as AnswerOf};
 ghost use Rattle.tab_session.specs.AnsweredPayloads.{NoneRefused, NoneWaits, AreOf, taken_by};
 ghost use Rattle.tab_session.specs.Bounded.{IsBounded};
-ghost use Rattle.tab_session.specs.Accounts.{account, calls_in, replies_in};
+ghost use Rattle.tab_session.specs.Accounts.{account, calls_in, replies_in, of_calls, IsOneCommit};
 ghost use Rattle.tab_session.specs.OneSessions.{IsDriven};
 ghost use Rattle.tab_session.specs.PartsAlone.{run_alone};
 ghost use Rattle.tab_session.specs.Replays.{IsRun};
@@ -57,10 +57,13 @@ pub fn a_one_shot_leaves_nothing_open()
 {}
 
 /// The reply says what such a one-shot has done. With `{atomic, Replies}` it has committed once, and Replies and the tables are
-/// what its parts come to alone, on the tables before it and with the next age, however often it began anew. With any other
-/// reply it has committed nothing, and the tables are as before it.
+/// what its parts come to alone, on the tables before it and with the next age, however often it began anew and whoever else
+/// sits; its log is that commit, which was told what it is told alone. With any other reply it has committed nothing, the tables
+/// are as before it, and it has no log.
 pub fn a_one_shot_is_told_what_it_did()
     ensures commit { (σ μ : State) (n : ℕ) (c : CommandOf) (ts : PlainTerms) → is_command c ≡ true → transaction_at σ n ≡ None → IsDriven σ n c (reply.AtomicTerms ts) μ → μ.commits ≡ suc σ.commits }
     ensures alone { (σ μ : State) (n : ℕ) (parts : List PartOf) (retries : ℕ) (ts : PlainTerms) → is_command (command.OneShot parts retries) ≡ true → transaction_at σ n ≡ None → IsDriven σ n (command.OneShot parts retries) (reply.AtomicTerms ts) μ → run_alone parts σ.tables σ.next_age ≡ Some (record { replies = ts; tables = μ.tables }) }
     ensures undone { (σ μ : State) (n : ℕ) (c : CommandOf) (r : ReplyOf) → is_command c ≡ true → transaction_at σ n ≡ None → IsDriven σ n c r μ → ((ts : PlainTerms) → r ≢ reply.AtomicTerms ts) → (μ.tables ≡ σ.tables) × (μ.commits ≡ σ.commits) }
+    ensures entry { (σ μ : State) (n : ℕ) (c : CommandOf) (ts : PlainTerms) → is_command c ≡ true → IsSound σ → transaction_at σ n ≡ None → (d : IsDriven σ n c (reply.AtomicTerms ts) μ) → IsOneCommit σ n (of_calls n σ d.calls μ d.ran).log μ }
+    ensures no_entry { (σ μ : State) (n : ℕ) (c : CommandOf) (r : ReplyOf) → is_command c ≡ true → IsSound σ → transaction_at σ n ≡ None → (d : IsDriven σ n c r μ) → ((ts : PlainTerms) → r ≢ reply.AtomicTerms ts) → (of_calls n σ d.calls μ d.ran).log ≡ [] }
 {}
