@@ -38,12 +38,12 @@ use Rattle.tab_session.proofs.DriverSteps.{if_true, if_false}
 use Rattle.tab_session.proofs.DriverOnce.{ran_split, told_length}
 use Rattle.tab_session.proofs.DriverLeaves.{is_atomic, Within, Inside, Outside, Committed, Back, Did, Aborted, Began, Closed, Opened, did, begun, closed, aborted, opened}
 
--- an answer of any of the other sorts is none of the driver's
+-- a reply that a sort tells is no {atomic, Replies}, which is the driver's own
 not_atomic : (r : Reply) (s : Sort) → sort_of r ≡ s → (s ≡ sort.Other → ⊥) → is_atomic r ≡ false
 not_atomic (reply.AtomicTerms ts) s e f = absurd (f (sym e))
 not_atomic r s e f = refl
 
--- the driver's own reason
+-- the reason by which a driver ends levels
 abbrev reason : Term
 reason = Int (pos 0)
 
@@ -52,8 +52,9 @@ abbrev around : ℕ → List World → ℕ
 around zero ws = length ws
 around (suc j) ws = suc (around j ws)
 
+-- session n runs a one-shot on tables w, after k commits, by a transaction of age a
 module _ (n : ℕ) (w : World) (k a : ℕ) where
-  -- its level is open behind so many ended ones, and what the parts come to alone is what is left of them comes to
+  -- the attempt goes on behind the ends of so many levels: all parts come to what the parts that are left come to from here
   record Stands (parts : List Part) (all : Option alone.Commit) (skipped : ℕ) (levels : List PlainTerms) (μ : State) : Type 0 where
     pub m : Mid
     pub inside : Inside n w k a m μ
@@ -213,7 +214,7 @@ module _ (n : ℕ) (w : World) (k a : ℕ) where
 
   -- ---- attempts
 
-  -- the last reply says whether the transaction is committed, as the parts come to alone
+  -- the transaction is committed as all parts come to alone, and the reply says so
   pub record IsDone (all : Option alone.Commit) (r : Reply) (μ : State) : Type 0 where
     pub comes : alone.Commit
     pub said : r ≡ reply.AtomicTerms comes.replies

@@ -1,4 +1,4 @@
--- What a command that a one-shot's driver hands in leaves of its session's transaction, which stands on tables as its moves leave them.
+-- What each command that a one-shot's driver hands in leaves of its session's transaction, told by the tables that its moves give.
 use Rattle.std.proofs.Common.{◌≡◌, ℕ, suc, ◌+◌, List, [], ◌∷◌, Bool, true, false, ◌&&◌, refl, sym, ap, subst, ◌∙◌, inl, inr, arith, ◌⊎◌, Option, Some, None}
 use Rattle.std.proofs.Math.Bool.{and-false}
 use Rattle.std.specs.Prelude.{◌==◌, not, if◌then◌else◌, is_some}
@@ -43,9 +43,9 @@ none_of (q ∷ qs) n = cases (q.session == n) refl (none_of qs n)
     cases true e ih = ih
     cases false e ih = subst (λ (b : Bool). is_some (if b then Some q else request_in (without_request qs n) n) ≡ false) (sym e) ih
 
--- session n has no more than one transaction, of this age; the tables are these, and so many commits were made
+-- session n has a transaction of age a, or none, on tables w after k commits
 module _ (n : ℕ) (w : World) (k a : ℕ) where
-  -- it stands so
+  -- the transaction stands so, alone
   pub record Within (m : Mid) (σ : State) : Type 0 where
     pub transaction : Transaction
     pub opened : transaction_at σ n ≡ Some transaction
@@ -54,26 +54,26 @@ module _ (n : ℕ) (w : World) (k a : ℕ) where
     pub tables : σ.tables ≡ w
     pub commits : σ.commits ≡ k
 
-  -- and no operation of it is queued
+  -- and has no operation queued
   pub record Inside (m : Mid) (σ : State) : Type 0 where
     pub stands : Within m σ
     pub free : is_waiting σ n ≡ false
 
-  -- it is over, and the tables are as before it
+  -- the transaction is no more, and the tables are as before it
   pub record Outside (σ : State) : Type 0 where
     pub none : transaction_at σ n ≡ None
     pub free : is_waiting σ n ≡ false
     pub tables : σ.tables ≡ w
     pub commits : σ.commits ≡ k
 
-  -- it is committed
+  -- the transaction is committed
   pub record Committed (v : World) (σ : State) : Type 0 where
     pub none : transaction_at σ n ≡ None
     pub free : is_waiting σ n ≡ false
     pub tables : σ.tables ≡ v
     pub commits : σ.commits ≡ suc k
 
-  -- its innermost level is ended
+  -- the innermost level is ended
   abbrev pub Back : List World → Mid → State → Type 0
   Back [] m μ = Outside μ
   Back (v ∷ vs) m μ = Inside (back_to m (v ∷ vs)) μ
