@@ -24,11 +24,15 @@ use Rattle.tab_session.specs.Bounded.{IsBounded}
 use Rattle.tab_session.proofs.BoundedSteps.{stays_bounded, settled, is_settled}
 use Rattle.tab_session.proofs.DriverSteps.{less_one, depth, Deepens, deepens, aborts, opens}
 
-ran_split : (n : ℕ) (σ τ : State) (first rest : List Call) → Ran n σ (first ++ rest) τ → (μ : State) × Ran n σ first μ × Ran n μ rest τ
+pub ran_split : (n : ℕ) (σ τ : State) (first rest : List Call) → Ran n σ (first ++ rest) τ → (μ : State) × Ran n σ first μ × Ran n μ rest τ
 ran_split n σ τ [] rest h = (σ, refl, h)
 ran_split n σ τ (Asked c r ∷ first) rest (ρ, one, h) = let s = ran_split n ρ τ first rest h in (s.0, (ρ, one, s.1), s.2)
 ran_split n σ τ (Waited w ∷ first) rest (e, h) = let s = ran_split n σ τ first rest h in (s.0, (e, s.1), s.2)
 ran_split n σ τ (Again ∷ first) rest h = ran_split n σ τ first rest h
+
+pub told_length : (t : PlainTerm) (levels : List PlainTerms) → length (told t levels) ≡ length levels
+told_length t [] = refl
+told_length t (ts ∷ outer) = refl
 
 -- a state whose posts all have a capacity, so that it decides who refuses
 record Held : Type 0 where
@@ -133,10 +137,6 @@ module _ (n : ℕ) where
 
   refused_stops : (levels : List PlainTerms) (σ : Held) → length levels ≡ depth σ.now n → (calls : List Call) (turn : Turn) (ν : State) → Stops reply.NoMemory levels calls turn → Ran n σ.now calls ν → turn ≡ IsOver reply.NoMemory
   refused_stops levels σ e calls turn ν (last, h, f) ran = f ∙ ap IsOver (refused_ends (length levels) σ (omega (arith, e)) calls last ν h ran)
-
-  told_length : (t : PlainTerm) (levels : List PlainTerms) → length (told t levels) ≡ length levels
-  told_length t [] = refl
-  told_length t (ts ∷ outer) = refl
 
   put : (k : ℕ) (r : Reply) (levels : List PlainTerms) (σ : Held) → length levels ≡ depth σ.now n → OnceTurned σ (Puts k r levels)
   put k r levels σ e = record { value = GoesOn k (told (reply_term r) levels); after = σ; keeps = told_length (reply_term r) levels ∙ e; only = only }

@@ -73,16 +73,16 @@ back_levels t x r σ (w ∷ ws) e f = ap (λ (k : Mid). suc (length k.saved)) (a
 on_levels : (t : Transaction) (x : Move) (r : Option Reply) (σ : State) (m : Mid) → next (mid_of σ t) x ≡ m → depth_in σ (after_move t x r false) ≡ suc (length m.saved)
 on_levels t x r σ m e = ap (λ (k : Mid). suc (length k.saved)) (after-more (start σ.tables t.age) t.moves x ∙ e)
 
-if_true : {A : Type 0} (b : Bool) (x y : A) → b ≡ true → (if b then x else y) ≡ x
+pub if_true : {A : Type 0} (b : Bool) (x y : A) → b ≡ true → (if b then x else y) ≡ x
 if_true true x y e = refl
 if_true false x y e = cc
 
-if_false : {A : Type 0} (b : Bool) (x y : A) → b ≡ false → (if b then x else y) ≡ y
+pub if_false : {A : Type 0} (b : Bool) (x y : A) → b ≡ false → (if b then x else y) ≡ y
 if_false true x y e = cc
 if_false false x y e = refl
 
 module _ (σ : State) (n : ℕ) (s : Seat) (here : seat_at σ.seats n ≡ Some s) where
-  placed : (o : Option Transaction) → transaction_in (seat_at (change σ.seats (with_transaction s o)) n) ≡ o
+  pub placed : (o : Option Transaction) → transaction_in (seat_at (change σ.seats (with_transaction s o)) n) ≡ o
   placed o = ap transaction_in
       (seat_at-change σ.seats (with_transaction s o) s n (ap (seat_at σ.seats) (found σ.seats s n here) ∙ here)
       ∙ ap (λ b. if b then Some (with_transaction s o) else seat_at σ.seats n) (ap (λ m. n == m) (found σ.seats s n here) ∙ itself n))

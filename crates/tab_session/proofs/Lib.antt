@@ -5,6 +5,10 @@ pub mod ReplayedLemmas
 mod BoundedSteps
 mod DriverSteps
 mod DriverOnce
+mod DriverLeaves
+mod DriverEnds
+mod DriverLogs
+mod WorkedOneShots
 mod RunLaws
 mod AccountsLemmas
 mod Joining

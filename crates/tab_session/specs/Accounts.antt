@@ -1,12 +1,16 @@
 -- What the callers of a run asked and were told, and the log of its steps, read off the run: each step that was made, those of a
 -- one-shot's driver among them. A step that is refused for memory is none (this project's own).
-use Rattle.std.specs.Prelude.{ℕ, List, [], ◌∷◌, ◌++◌, map, Result, Ok, Err}
+use Rattle.std.specs.Prelude.{◌≡◌, ℕ, suc, Option, List, [], ◌∷◌, ◌++◌, map, Result, Ok, Err}
 use Rattle.std.proofs.Common.{inl, inr}
 use Rattle.tab_term.specs.Data.{PlainTerm}
 use Rattle.tab_etf.specs.Reading.{whole}
 use Rattle.tab_etf.specs.declared.fault.Stop.{Stop}
+use Rattle.tab_model.specs.declared.data.Move.{Move}
 use Rattle.tab_model.specs.declared.data.Entry.{Entry}
+use Rattle.tab_model.specs.declared.data.Entry.TheVariants.{Committed}
 use Rattle.tab_model.specs.declared.data.Reply.{Reply}
+use Rattle.tab_model.specs.Worlds.{World}
+use Rattle.tab_model.specs.Alone.{start, after, replies}
 use Rattle.tab_model.specs.State.{State}
 use Rattle.tab_model.specs.Outcome.{Ask, DoCommand}
 use Rattle.tab_model.specs.Run as model
@@ -88,3 +92,19 @@ module _ (capacity : ℕ) where
   -- a run
   abbrev pub account : (σ : State) (ps : List (List ℕ)) (xs : List Answer) → IsRun capacity σ ps xs → Account
   account σ ps xs s = of_all σ ps xs s.last s.ran
+
+-- an entry that is a commit of this session, the next after so many, and told what it is told alone on these tables
+pub record IsCommitOf (n : ℕ) (w : World) (commits : ℕ) (e : Entry) : Type 0 where
+  pub age : ℕ
+  pub moves : List Move
+  pub told : List (Option Reply)
+  pub over : List ℕ
+  pub is : e ≡ Committed (suc commits) n age moves told over
+  pub alone : replies (start w age) moves ≡ told
+
+-- the log of one commit, which leaves the tables that its moves leave alone
+pub record IsOneCommit (σ : State) (n : ℕ) (log : List Entry) (μ : State) : Type 0 where
+  pub entry : Entry
+  pub is : log ≡ entry ∷ []
+  pub commit : IsCommitOf n σ.tables σ.commits entry
+  pub leaves : (after (start σ.tables commit.age) commit.moves).now ≡ μ.tables

@@ -1,5 +1,6 @@
 pub mod StepsMade
 pub mod OneSessions
+pub mod PartsAlone
 pub mod OneSeats
 pub mod AnsweredPayloads
 pub mod Replays

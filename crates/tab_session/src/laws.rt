@@ -1,17 +1,26 @@
-//! What a run over a stream's payloads says. Each law is the contract of a function that does nothing.
+//! What a run over a stream's payloads says, and what a one-shot leaves. Each law is the contract of a function that does nothing.
 
-ghost use Rattle.std.specs.Prelude.{◌≡◌, ◌++◌, ℕ, List, length};
+ghost use Rattle.std.specs.Prelude.{◌≡◌, ◌≢◌, ◌++◌, ℕ, suc, List, [], length, false, true, Some, None};
+ghost use Rattle.tab_term.specs.Data.{PlainTerms};
+ghost use Rattle.tab_model.specs.declared.data.Command.{Command as CommandOf};
+ghost use Rattle.tab_model.specs.declared.data.Command.TheVariants as command;
 ghost use Rattle.tab_model.specs.declared.data.Entry.{Entry};
 ghost use Rattle.tab_model.specs.declared.data.Item.{Item};
-ghost use Rattle.tab_model.specs.State.{State, IsSound};
+ghost use Rattle.tab_model.specs.declared.data.Part.{Part as PartOf};
+ghost use Rattle.tab_model.specs.declared.data.Reply.{Reply as ReplyOf};
+ghost use Rattle.tab_model.specs.declared.data.Reply.TheVariants as reply;
+ghost use Rattle.tab_model.specs.State.{State, IsSound, transaction_at, is_waiting};
 ghost use Rattle.tab_model.specs.Reached.{IsRising};
 ghost use Rattle.tab_model.specs.Callers.{Callers, callers_after, log_told, AreHeard};
 ghost use Rattle.tab_model.specs.Refusals.{IsSole};
 ghost use Rattle.tab_model.specs.Run.{IsTied};
+ghost use Rattle.tab_proto.specs.Commands.{is_command};
 ghost use Rattle.tab_session.specs.declared.answered.Answer.{Answer as AnswerOf};
 ghost use Rattle.tab_session.specs.AnsweredPayloads.{NoneRefused, NoneWaits, AreOf, taken_by};
 ghost use Rattle.tab_session.specs.Bounded.{IsBounded};
-ghost use Rattle.tab_session.specs.Accounts.{account, calls_in, replies_in};
+ghost use Rattle.tab_session.specs.Accounts.{account, calls_in, replies_in, of_calls, IsOneCommit};
+ghost use Rattle.tab_session.specs.OneSessions.{IsDriven};
+ghost use Rattle.tab_session.specs.PartsAlone.{run_alone};
 ghost use Rattle.tab_session.specs.Replays.{IsRun};
 
 /// A run is one of the model: whatever log and taken items led to its first state, they go on with it, with the log of its steps
@@ -37,4 +46,24 @@ pub fn an_answer_follows()
 /// Where all payloads are of one session, and no other sits, no answer is a wait or a restart.
 pub fn one_session_never_waits()
     ensures { (outbox n : ℕ) (σ : State) (ps : List (List ℕ)) (xs : List AnswerOf) → AreOf n ps → IsSole n σ → IsRun outbox σ ps xs → NoneWaits xs }
+{}
+
+/// A one-shot that is driven on a session with no transaction leaves it with none, whatever the reply; and where each queued
+/// request is of an open transaction, as in every reached state, it leaves none of its own. Its parts nest, as those of every
+/// request do.
+pub fn a_one_shot_leaves_nothing_open()
+    ensures levels { (σ μ : State) (n : ℕ) (c : CommandOf) (r : ReplyOf) → is_command c ≡ true → transaction_at σ n ≡ None → IsDriven σ n c r μ → transaction_at μ n ≡ None }
+    ensures queue { (σ μ : State) (n : ℕ) (c : CommandOf) (r : ReplyOf) → is_command c ≡ true → IsRising σ → transaction_at σ n ≡ None → IsDriven σ n c r μ → is_waiting μ n ≡ false }
+{}
+
+/// The reply says what such a one-shot has done. With `{atomic, Replies}` it has committed once, and Replies and the tables are
+/// what its parts come to alone, on the tables before it and with the next age, however often it began anew and whoever else
+/// sits; its log is that commit, which was told what it is told alone. With any other reply it has committed nothing, the tables
+/// are as before it, and it has no log.
+pub fn a_one_shot_is_told_what_it_did()
+    ensures commit { (σ μ : State) (n : ℕ) (c : CommandOf) (ts : PlainTerms) → is_command c ≡ true → transaction_at σ n ≡ None → IsDriven σ n c (reply.AtomicTerms ts) μ → μ.commits ≡ suc σ.commits }
+    ensures alone { (σ μ : State) (n : ℕ) (parts : List PartOf) (retries : ℕ) (ts : PlainTerms) → is_command (command.OneShot parts retries) ≡ true → transaction_at σ n ≡ None → IsDriven σ n (command.OneShot parts retries) (reply.AtomicTerms ts) μ → run_alone parts σ.tables σ.next_age ≡ Some (record { replies = ts; tables = μ.tables }) }
+    ensures undone { (σ μ : State) (n : ℕ) (c : CommandOf) (r : ReplyOf) → is_command c ≡ true → transaction_at σ n ≡ None → IsDriven σ n c r μ → ((ts : PlainTerms) → r ≢ reply.AtomicTerms ts) → (μ.tables ≡ σ.tables) × (μ.commits ≡ σ.commits) }
+    ensures entry { (σ μ : State) (n : ℕ) (c : CommandOf) (ts : PlainTerms) → is_command c ≡ true → IsSound σ → transaction_at σ n ≡ None → (d : IsDriven σ n c (reply.AtomicTerms ts) μ) → IsOneCommit σ n (of_calls n σ d.calls μ d.ran).log μ }
+    ensures no_entry { (σ μ : State) (n : ℕ) (c : CommandOf) (r : ReplyOf) → is_command c ≡ true → IsSound σ → transaction_at σ n ≡ None → (d : IsDriven σ n c r μ) → ((ts : PlainTerms) → r ≢ reply.AtomicTerms ts) → (of_calls n σ d.calls μ d.ran).log ≡ [] }
 {}

@@ -12,5 +12,8 @@ mod serving;
 pub use answered::Answer;
 pub use answering::answer;
 pub use ended::Ended;
-pub use laws::{an_answer_follows, one_session_never_waits, runs_have_a_history};
+pub use laws::{
+    a_one_shot_is_told_what_it_did, a_one_shot_leaves_nothing_open, an_answer_follows,
+    one_session_never_waits, runs_have_a_history,
+};
 pub use replaying::replay;
