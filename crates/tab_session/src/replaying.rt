@@ -43,7 +43,7 @@ fn run_all<R: Source, W: Target>(
     ensures flushed { W.is_flushed output.old ≡ true → HasFlushed result (W.is_flushed output.new) }
 {
     for round in 0..u64::MAX {
-        // It tells that no whole frame is held.
+        // Its contract says that no whole frame is held.
         let end = end_of_stream(splitter);
         let count = input.get(piece)?;
         if count == 0 {
@@ -69,8 +69,8 @@ fn end_of_stream(splitter: &Splitter) -> Result<(), Ended>
 /// Reads the frames of a stream, and writes the frames of their replies, in order, with a flush after each piece. Each
 /// session's post holds so many items as `outbox` says.
 ///
-/// The replies to all whole frames are written before it ends as `Damaged`; before `TooLong`, those to the frames before;
-/// before `NoMemory`, those to all frames of what was read but one last piece; before `Device`, a beginning of them.
+/// The replies to all whole frames are written before it ends as `Damaged`; before `TooLong`, those to the first frames,
+/// whole; before `NoMemory`, those to all frames of what was read but one last piece; before `Device`, a beginning of them.
 pub fn replay<R: Source, W: Target>(
     alloc: Global,
     input: &mut R,
