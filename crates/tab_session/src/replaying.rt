@@ -43,7 +43,7 @@ fn run_all<R: Source, W: Target>(
     ensures flushed { W.is_flushed output.old ≡ true → HasFlushed result (W.is_flushed output.new) }
 {
     for round in 0..u64::MAX {
-        // Its contract says that no whole frame is held.
+        // How it ends where nothing more comes; and so no whole frame is held.
         let end = end_of_stream(splitter);
         let count = input.get(piece)?;
         if count == 0 {
