@@ -2,7 +2,7 @@
 use Rattle.std.specs.Prelude.{◌≡◌, ◌≢◌, ℕ, ◌+◌, ◌<◌, ◌≤◌, ◌-◌, ◌^◌, min, List, [], ◌∷◌, ◌++◌, length, take, Option, Some, Result, Ok, Err, ◌⊎◌, Bool, true}
 use Rattle.std.specs.List.{flat_map}
 use Rattle.std.specs.Io.KnownBytes.{Appends}
-use Rattle.tab_etf.specs.Streams.{payloads, rest_of}
+use Rattle.tab_etf.specs.Streams.{payloads, rest_of, GoesOn}
 use Rattle.tab_session.specs.declared.answered.Answer.{Answer}
 use Rattle.tab_model.specs.State.{State, new}
 use Rattle.tab_model.specs.declared.data.Limits.{Limits}
@@ -82,13 +82,6 @@ module _ (capacity : ℕ) where
     pub count : ℕ
     pub text : Appends old new (take count (frames_of replies))
 
-  -- the frames of the first replies were written
-  pub record WroteFirst (σ : State) (ps : List (List ℕ)) (old new : Option (List ℕ)) : Type 0 where
-    pub first : List Answer
-    pub others : List Answer
-    pub said : IsRun σ ps (first ++ others)
-    pub text : Appends old new (frames_of first)
-
   -- the frames of the replies before one that is too long were written
   pub record WroteBefore (σ : State) (ps : List (List ℕ)) (old new : Option (List ℕ)) : Type 0 where
     pub first : List Answer
@@ -110,13 +103,23 @@ module _ (capacity : ℕ) where
   Served σ τ ps old new (Err TooLong) = WroteBefore σ ps old new
   Served σ τ ps old new (Err NoMemory) = ⊥
 
-  -- the whole stream was replayed by a new core
-  abbrev pub Replayed : List ℕ → Option (List ℕ) → Option (List ℕ) → Result (Unit {0}) Ended → Type 0
-  Replayed stream old new (Ok u) = (rest_of stream ≡ []) × WroteAll fresh (payloads stream) old new
-  Replayed stream old new (Err Damaged) = (rest_of stream ≢ []) × WroteAll fresh (payloads stream) old new
-  Replayed stream old new (Err Device) = WroteSome fresh (payloads stream) old new
-  Replayed stream old new (Err TooLong) = WroteBefore fresh (payloads stream) old new
-  Replayed stream old new (Err NoMemory) = WroteFirst fresh (payloads stream) old new
+  -- of what was read all but one last piece is answered, and the frames of all its replies were written
+  pub record WroteBeforePiece (stream : List ℕ) (left old new : Option (List ℕ)) : Type 0 where
+    pub answered : List ℕ
+    pub piece : List ℕ
+    pub more : List ℕ
+    pub parts : answered ++ (piece ++ more) ≡ stream
+    pub unread : left ≡ Some more
+    pub short : length piece ≤ 65536
+    pub wrote : WroteAll fresh (payloads answered) old new
+
+  -- the whole stream was replayed by a new core, or what was read of it where this is left
+  abbrev pub Replayed : List ℕ → Option (List ℕ) → Option (List ℕ) → Option (List ℕ) → Result (Unit {0}) Ended → Type 0
+  Replayed stream left old new (Ok u) = (rest_of stream ≡ []) × WroteAll fresh (payloads stream) old new
+  Replayed stream left old new (Err Damaged) = (rest_of stream ≢ []) × WroteAll fresh (payloads stream) old new
+  Replayed stream left old new (Err Device) = WroteSome fresh (payloads stream) old new
+  Replayed stream left old new (Err TooLong) = WroteBefore fresh (payloads stream) old new
+  Replayed stream left old new (Err NoMemory) = WroteBeforePiece stream left old new
 
   -- the loop over the payloads of a piece: what was said, and how a run goes on
   pub record IsServing (σ now : State) (all left : List (List ℕ)) (old new : Option (List ℕ)) (buffer : List ℕ) : Type 0 where
@@ -128,12 +131,13 @@ module _ (capacity : ℕ) where
 
   -- the loop over the reader
   pub record IsReplaying (stream : List ℕ) (left : Option (List ℕ)) (held : List ℕ) (rounds : ℕ) (now : State) (old new : Option (List ℕ)) : Type 0 where
+    pub read : List ℕ
     pub more : List ℕ
+    pub parts : read ++ more ≡ stream
     pub has : left ≡ Some more
     pub done : List (List ℕ)
     pub said : List Answer
-    pub found : payloads stream ≡ done ++ payloads (held ++ more)
-    pub ends : rest_of stream ≡ rest_of (held ++ more)
+    pub cut : GoesOn read done held
     pub goes : (qs : List (List ℕ)) (ss : List Answer) (τ : State) → AnsweredAll capacity now qs ss τ → AnsweredAll capacity fresh (done ++ qs) (said ++ ss) τ
     pub text : Appends old new (frames_of said)
     pub count : rounds + length more ≤ length stream
@@ -141,4 +145,4 @@ module _ (capacity : ℕ) where
   -- after a piece the loop goes on, or the whole is said
   abbrev pub Advances : Result (Unit {0}) Ended → List ℕ → Option (List ℕ) → List ℕ → ℕ → State → Option (List ℕ) → Option (List ℕ) → Type 0
   Advances (Ok u) stream left held rounds now old new = IsReplaying stream left held rounds now old new
-  Advances (Err e) stream left held rounds now old new = Replayed stream old new (Err e)
+  Advances (Err e) stream left held rounds now old new = Replayed stream left old new (Err e)

@@ -36,16 +36,18 @@ fn run_all<R: Source, W: Target>(
 ) -> Result<(), Ended>
     requires core { core.old ≡ fresh }
     requires splitter { splitter.old ≡ record { rest = []; over = None; before = [] } }
-    requires room { 0 < length piece.old }
+    requires room { length piece.old ≡ 65536 }
     ensures bytes { IfSome (R.remaining input.old) (λ stream. length stream < 2 ^ 64 - 1 →
-        Replayed outbox stream (W.contents output.old) (W.contents output.new) result) }
+        Replayed outbox stream (R.remaining input.new) (W.contents output.old) (W.contents output.new) result) }
     ensures faults { Faults (R.faults input.old) (R.faults input.new) (W.faults output.old) (W.faults output.new) result }
     ensures flushed { W.is_flushed output.old ≡ true → HasFlushed result (W.is_flushed output.new) }
 {
     for round in 0..u64::MAX {
+        // How it ends where nothing more comes; and so no whole frame is held.
+        let end = end_of_stream(splitter);
         let count = input.get(piece)?;
         if count == 0 {
-            return end_of_stream(splitter);
+            return end;
         }
         serve_piece(alloc, core, outbox, splitter, &piece[..count], output)?;
     }
@@ -67,8 +69,8 @@ fn end_of_stream(splitter: &Splitter) -> Result<(), Ended>
 /// Reads the frames of a stream, and writes the frames of their replies, in order, with a flush after each piece. Each
 /// session's post holds so many items as `outbox` says.
 ///
-/// The replies to all whole frames are written before it ends as `Damaged`; before `TooLong` and `NoMemory`, those to
-/// the first frames, whole; before `Device`, a beginning of them.
+/// The replies to all whole frames are written before it ends as `Damaged`; before `TooLong`, those to the first frames,
+/// whole; before `NoMemory`, those to all frames of what was read but one last piece; before `Device`, a beginning of them.
 pub fn replay<R: Source, W: Target>(
     alloc: Global,
     input: &mut R,
@@ -76,7 +78,7 @@ pub fn replay<R: Source, W: Target>(
     outbox: usize,
 ) -> Result<(), Ended>
     ensures bytes { IfSome (R.remaining input.old) (λ stream. length stream < 2 ^ 64 - 1 →
-        Replayed outbox stream (W.contents output.old) (W.contents output.new) result) }
+        Replayed outbox stream (R.remaining input.new) (W.contents output.old) (W.contents output.new) result) }
     ensures faults { Faults (R.faults input.old) (R.faults input.new) (W.faults output.old) (W.faults output.new) result }
     ensures flushed { W.is_flushed output.old ≡ true → HasFlushed result (W.is_flushed output.new) }
 {

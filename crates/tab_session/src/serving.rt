@@ -1,8 +1,9 @@
 //! The frames of one piece of the stream, and what is written for them.
 
-ghost use Rattle.std.specs.Prelude.{◌≡◌, ◌+◌, ◌<◌, ℕ, List, Option, [], None, true, length, OnOk};
+ghost use Rattle.std.specs.Prelude.{◌≡◌, ◌+◌, ◌<◌, ◌≤◌, ℕ, List, Option, [], None, true, length, OnOk};
 ghost use Rattle.std.specs.Io.KnownBytes.{Consumes};
 ghost use Rattle.tab_etf.specs.Frames.{contents, payload_of};
+ghost use Rattle.tab_etf.specs.Streams.{payloads};
 ghost use Rattle.tab_session.specs.Replays.{IsReplaying, Advances, Handed, Served, OneFault, HasFlushed};
 
 use crate::answering::{answer, put_answer, write_answer};
@@ -80,7 +81,8 @@ pub fn serve_piece<W: Target>(
     requires { splitter.old.over ≡ None }
     ensures piece { (stream : List ℕ) (old left new_left : Option (List ℕ)) (i : ℕ) →
         IsReplaying outbox stream left splitter.old.rest i core.old old (W.contents output.old) →
-        Consumes left new_left piece.now → 0 < length piece.now →
+        payloads splitter.old.rest ≡ [] →
+        Consumes left new_left piece.now → 0 < length piece.now → length piece.now ≤ 65536 →
         Advances outbox result stream new_left splitter.new.rest (i + 1) core.new old (W.contents output.new) }
     ensures going { OnOk result (splitter.new.over ≡ None) }
     ensures faults { OneFault (W.faults output.old) (W.faults output.new) result }

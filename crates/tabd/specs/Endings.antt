@@ -81,5 +81,5 @@ OfRun (Serve s) replays serves = serves
 -- the program replayed its input onto its output, and ends by a device fault exactly where one rose
 abbrev pub Plays : ℕ → Streams → Streams → End → Type 0
 Plays outbox old new end = (r : Result (Unit {0}) Ended) × (end ≡ end_of r)
-    × IfSome old.input (λ stream. length stream < 2 ^ 64 - 1 → Replayed outbox stream old.output new.output r)
+    × IfSome old.input (λ stream. length stream < 2 ^ 64 - 1 → Replayed outbox stream new.input old.output new.output r)
     × Faults old.input_faults new.input_faults old.output_faults new.output_faults r
