@@ -2,7 +2,7 @@
 """What a round costs `tabd serve`, over loopback, with Python's standard library alone.
 
     serve.py PROGRAM             as serve.py crates/tabd/out/tabd
-    serve.py PROGRAM ROUNDS      so many rounds in all, 20,000 where it is not given; of reads at most 1,024
+    serve.py PROGRAM ROUNDS      so many rounds in all, 20,000 where it is not given; of reads at most 1,024, of long writes a tenth
 
 Each row is a server with a table of so many records, `{t, Key, Key}`, or of 40 that have half a megabyte each, and so many connections
 that make rounds side by side: each sends a request and waits for its reply before it sends the next. A line has the processor time of the server for a round in
@@ -26,12 +26,15 @@ TICKS = os.sysconf("SC_CLK_TCK")
 RECORDS = 100_000
 # Records of so many bytes, which one reply tells: 20 MB.
 LONG, BYTES = 40, 500_000
+MANY = "one-shot of 100 writes"
 
 # What a round is, how many make it side by side, and the records.
 ROWS = [
     ("one-shot of a write", 1, 0),
     ("one-shot of a write", 4, 0),
     ("one-shot of a write", 16, 0),
+    (MANY, 1, 0),
+    (MANY, 16, 0),
     ("begin, write, commit", 1, 0),
     ("begin, write, commit", 4, 0),
     ("begin, write, commit", 16, 0),
@@ -48,6 +51,7 @@ def requests(what, client):
     reads = [("read", "t", key) for key in range(1_000)]
     rounds = {
         "one-shot of a write": [("transaction", [write], 1_000)],
+        MANY: [("transaction", [("write", ("t", 100 * client + key, key)) for key in range(100)], 1_000)],
         "begin, write, commit": ["begin", write, "commit"],
         "one read": ["begin", reads[0], "commit"],
         "a thousand reads": ["begin", *reads, "commit"],
@@ -126,6 +130,15 @@ def standing(program, count=64):
     return f"{int(found['Threads'])} threads, {descriptors} descriptors, {addresses:.0f} MB of addresses, {held:.1f} MB held"
 
 
+def rounds_of(what, connections, records, asked):
+    """Fewer are made of rounds that take long."""
+    if records == LONG:
+        return min(asked, connections)
+    if records:
+        return min(asked, 1_024)
+    return asked // 10 if what == MANY else asked
+
+
 def main():
     if len(sys.argv) < 2:
         sys.exit(__doc__)
@@ -134,8 +147,7 @@ def main():
         words = [sys.argv[1], "serve", "--port", "0", "--connections", str(connections)]
         process = subprocess.Popen(words, stdout=subprocess.PIPE, text=True)
         port = int(process.stdout.readline().rsplit(":", 1)[1])
-        rounds = min(asked, connections if records == LONG else 1_024) if records else asked
-        micros, held, holds = measured(process, port, what, connections, records, rounds)
+        micros, held, holds = measured(process, port, what, connections, records, rounds_of(what, connections, records, asked))
         process.wait()
         behind = f", {records} records" if records else ""
         print(f"{what}{behind}, {connections} connections: {micros:.1f} us a round, {held:.1f} MB before, {holds:.1f} MB after", flush=True)
