@@ -100,6 +100,14 @@ def the_ninth_is_told(server):
     same("what it said", server.ended(), "")
 
 
+def at_last(connection, request):
+    """The reply, where whoever broke off may leave later than a restarted request rests."""
+    for _ in range(100):
+        if (reply := connection.ask(request)) != "restart":
+            return reply
+    return "restart"
+
+
 def tables_outlive_connections(server):
     """All have left, one in the midst of a transaction, and what was committed is there for who comes."""
     first, second = server.connect(), server.connect()
@@ -109,7 +117,7 @@ def tables_outlive_connections(server):
     second.break_off()
     third, found = server.seated()
     same("the third", found[0], "tid")
-    same("it left", third.ask(("wread", ("t", 1))), [("t", 1, "a")])
+    same("it left", at_last(third, ("wread", ("t", 1))), [("t", 1, "a")])
     same("what it said", server.ended(), "")
 
 
