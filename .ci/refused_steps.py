@@ -16,67 +16,36 @@ import subprocess
 import sys
 import tempfile
 
+from refusals import shim
+
 TEST = "refused::a_refused_step_is_made_again"
-TOLD, NO_BOOK = b"refused\n", b"no book"
+NO_BOOK = b"no book"
 # The script makes far more allocations than this: where it seems to make fewer, none was refused.
 FEWEST = 100
 
-MALLOC = r"""
-#define _GNU_SOURCE
-#include <dlfcn.h>
-#include <stdlib.h>
-#include <unistd.h>
 
-static long made, nth = -1;
-static void *(*allocate)(size_t), *(*move)(void *, size_t);
-
-static int refuses(void) {
-    if (nth < 0)
-        nth = getenv("NTH") ? atol(getenv("NTH")) : 0;
-    return __atomic_add_fetch(&made, 1, __ATOMIC_SEQ_CST) == nth && write(2, "refused\n", 8) == 8;
-}
-
-void *malloc(size_t size) {
-    if (!allocate)
-        allocate = (void *(*)(size_t))dlsym(RTLD_NEXT, "malloc");
-    return refuses() ? 0 : allocate(size);
-}
-
-void *realloc(void *room, size_t size) {
-    if (!move)
-        move = (void *(*)(void *, size_t))dlsym(RTLD_NEXT, "realloc");
-    return refuses() ? 0 : move(room, size);
-}
-"""
-
-
-def shim(folder):
-    source, built = f"{folder}/malloc.c", f"{folder}/malloc.so"
-    with open(source, "w", encoding="utf-8") as file:
-        file.write(MALLOC)
-    subprocess.run(["cc", "-shared", "-fPIC", "-O1", "-o", built, source, "-ldl"], check=True)
-    return built
-
-
-def run(tests, built, nth):
-    """The test's status and what it said, with its nth allocation refused."""
-    env = {"LD_PRELOAD": built, "NTH": str(nth)}
-    done = subprocess.run([tests, TEST], env=env, stdout=subprocess.PIPE, stderr=subprocess.STDOUT, timeout=60, check=False)
-    return done.returncode, done.stdout
+def run(tests, built, nth, report):
+    """The test's status, what it said, and whether its nth allocation was refused, which the shim tells on the report."""
+    report.truncate(0)
+    env = {"LD_PRELOAD": built, "NTH": str(nth), "REPORT": str(report.fileno())}
+    done = subprocess.run(
+        [tests, TEST], env=env, pass_fds=[report.fileno()], stdout=subprocess.PIPE, stderr=subprocess.STDOUT, timeout=60, check=False
+    )
+    return done.returncode, done.stdout, os.fstat(report.fileno()).st_size > 0
 
 
 def main():
     tests = os.path.join(os.path.dirname(os.path.abspath(sys.argv[1])), "../../tab_book_tests/out/tab_book_tests_tests")
     passed, faults = 0, []
-    with tempfile.TemporaryDirectory() as folder:
+    with tempfile.TemporaryDirectory() as folder, tempfile.TemporaryFile() as report:
         built = shim(folder)
         for nth in itertools.count(1):
-            status, said = run(tests, built, nth)
-            if status == 0 or (TOLD in said and NO_BOOK in said):
+            status, said, is_refused = run(tests, built, nth, report)
+            if status == 0 or (is_refused and NO_BOOK in said):
                 passed += 1
             else:
                 faults.append(f"allocation {nth}: status {status}, {said[-200:]!r}")
-            if TOLD not in said:
+            if not is_refused:
                 break
     if passed + len(faults) < FEWEST:
         faults.append(f"the script seems to make {nth - 1} allocations")

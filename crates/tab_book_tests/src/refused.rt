@@ -81,28 +81,23 @@ fn join<H: House>(house: &H, shared: &Shared<H>) -> Result<(Seat, SeatInbox<H>),
     }
 }
 
-fn step<H: House>(
+/// What the step is told, which is made again where it finds no memory: one allocation alone is refused.
+fn told<H: House>(
     house: &H,
     alloc: Global,
     shared: &Shared<H>,
     seat: &Seat,
     ask: Ask,
-) -> Result<u64, AllocError> {
-    let told = shared.step(house, seat, command(alloc, ask)?)?;
-    Ok(number(told.reply()))
-}
-
-fn again<H: House>(
-    house: &H,
-    alloc: Global,
-    shared: &Shared<H>,
-    seat: &Seat,
-    ask: Ask,
-) -> Result<u64, AllocError> {
-    match step(house, alloc, shared, seat, ask) {
-        Err(_) => step(house, alloc, shared, seat, ask),
-        told => told,
+) -> Option<u64> {
+    for _ in 0..2 {
+        let Ok(command) = command(alloc, ask) else {
+            continue;
+        };
+        if let Ok(told) = shared.step(house, seat, command) {
+            return Some(number(told.reply()));
+        }
     }
+    None
 }
 
 /// Whether the journal has its two last entries behind a base of the commits before, and is a history of the tables.
@@ -134,7 +129,7 @@ fn differs<H: House>(house: H, alloc: Global, opened: Opened<Line>) -> Result<Op
         } else {
             &writer
         };
-        if again(&house, alloc, &shared, seat, *ask)? != *wanted {
+        if told(&house, alloc, &shared, seat, *ask) != Some(*wanted) {
             return Ok(Some(place));
         }
     }

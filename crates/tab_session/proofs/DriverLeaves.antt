@@ -249,26 +249,23 @@ module _ (n : ℕ) (w : World) (k a : ℕ) where
   no_wait false c e = refl
 
   module _ (σ : State) (over : List ℕ) (m : Mid) where
-    does_so : (o : Operation) → Inside m σ → DidSo m o (outcome σ over n (DoCommand (command.Do o)))
-    does_so o i =
+    -- a command that is handed in where nothing is queued does on the session's transaction, which stands at m, what it does on each that stands so
+    step_so : (P : Mid → Outcome → Type 0) (c : Command) → ((s : Seat) (t : Transaction) → seat_at σ.seats n ≡ Some s → s.transaction ≡ Some t → t.age ≡ a → σ.tables ≡ w → σ.commits ≡ k → P (mid_of σ t) (do_command σ over s c))
+        → Inside m σ → P m (outcome σ over n (DoCommand c))
+    step_so P c here i =
         let h = i.stands in
         let seated = sits (seat_at σ.seats n) h.transaction h.opened in
-        subst (DidSo m o) (sym (is_done σ over seated.0 (command.Do o) seated.1 (no_wait _ _ i.free)))
-        (subst (λ (p : Mid). DidSo p o (do_command σ over seated.0 (command.Do o))) h.mid (does σ seated.0 h.transaction seated.1 seated.2 h.age h.tables h.commits i.free over o))
+        subst (P m) (sym (is_done σ over seated.0 c seated.1 (no_wait _ _ i.free)))
+        (subst (λ (p : Mid). P p (do_command σ over seated.0 c)) h.mid (here seated.0 h.transaction seated.1 seated.2 h.age h.tables h.commits))
+
+    does_so : (o : Operation) → Inside m σ → DidSo m o (outcome σ over n (DoCommand (command.Do o)))
+    does_so o i = step_so (λ p. DidSo p o) (command.Do o) (λ s t here has aged tables commits. does σ s t here has aged tables commits i.free over o) i
 
     begins_so : Inside m σ → BeganSo m (outcome σ over n (DoCommand command.Begin))
-    begins_so i =
-        let h = i.stands in
-        let seated = sits (seat_at σ.seats n) h.transaction h.opened in
-        subst (BeganSo m) (sym (is_done σ over seated.0 command.Begin seated.1 (no_wait _ _ i.free)))
-        (subst (λ (p : Mid). BeganSo p (do_command σ over seated.0 command.Begin)) h.mid (begins σ seated.0 h.transaction seated.1 seated.2 h.age h.tables h.commits i.free over))
+    begins_so i = step_so BeganSo command.Begin (λ s t here has aged tables commits. begins σ s t here has aged tables commits i.free over) i
 
     closes_so : Inside m σ → ClosedSo m (outcome σ over n (DoCommand command.Commit))
-    closes_so i =
-        let h = i.stands in
-        let seated = sits (seat_at σ.seats n) h.transaction h.opened in
-        subst (ClosedSo m) (sym (is_done σ over seated.0 command.Commit seated.1 (no_wait _ _ i.free)))
-        (subst (λ (p : Mid). ClosedSo p (do_command σ over seated.0 command.Commit)) h.mid (closes σ seated.0 h.transaction seated.1 seated.2 h.age h.tables h.commits i.free over))
+    closes_so i = step_so ClosedSo command.Commit (λ s t here has aged tables commits. closes σ s t here has aged tables commits i.free over) i
 
     aborts_so : (r : Term) → Within m σ → AbortedSo m r (outcome σ over n (DoCommand (command.Abort r)))
     aborts_so r h =

@@ -1,7 +1,7 @@
 -- Who may not join, and what it is told.
-use Rattle.std.proofs.Common.{◌≡◌, ◌∙◌, ap, sym, refl, ℕ, [], Bool, ◌&&◌, true, false, Option, Some, None, length, nat_lt, ◌<◌, ◌≤◌}
+use Rattle.std.proofs.Common.{◌≡◌, ◌∙◌, ap, sym, refl, ℕ, [], ◌&&◌, true, false, Option, Some, None, length, nat_lt, ◌<◌, ◌≤◌}
 use Rattle.std.specs.Prelude.{is_some}
-use Rattle.std.proofs.lemmas.Bool.{lt-ltb, le-ltb}
+use Rattle.std.proofs.lemmas.Bool.{lt-ltb, le-ltb, and_parts}
 use Rattle.tab_model.specs.declared.data.Limit.TheVariants as limit
 use Rattle.tab_model.specs.declared.data.Reply.TheVariants as reply
 use Rattle.tab_model.specs.State.{State, Seat, Outbox, seat_at, transaction_at}
@@ -43,13 +43,8 @@ of_room : (σ : State) (n : ℕ) (b : Outbox) (o : Option Seat) → is_some o �
 of_room σ n b None h above fits = rw (above, fits) refl
 of_room σ n b (Some s) h above fits = cc
 
-both_true : (a b : Bool) → (a && b) ≡ true → (a ≡ true) × (b ≡ true)
-both_true true true h = (refl, refl)
-both_true true false h = cc
-both_true false b h = cc
-
 pub admitted : (σ : State) (n : ℕ) → is_joined σ n ≡ false → (nat_lt σ.greatest n && nat_lt (length σ.seats) σ.limits.sessions) ≡ true → JoinTakesMemory σ n
 unfolding outcome
 admitted σ n h room b =
-    let both = both_true _ _ room in
+    let both = and_parts _ _ room in
     ap (tells_for_none (is_some (transaction_at σ n)) (Join b)) (of_room σ n b (seat_at σ.seats n) h both.0 both.1)
