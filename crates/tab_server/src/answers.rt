@@ -2,7 +2,7 @@
 
 ghost use Rattle.std.specs.Prelude.{◌≡◌, OnOk};
 
-use crate::gate::Gate;
+use crate::gate::{Count, Gate};
 use crate::kept::{KEPT, empty};
 use crate::pieces::Pieces;
 use std::alloc::Global;
@@ -79,6 +79,11 @@ impl<'a, W: Write, G: Gate> Answers<'a, W, G> {
         }
     }
 
+    /// Who is told what is counted.
+    pub fn counts(&self) -> &'a G {
+        self.gate
+    }
+
     /// The next call is read.
     pub fn begin(&self) {
         self.gate
@@ -107,9 +112,11 @@ impl<'a, W: Write, G: Gate> Answers<'a, W, G> {
         let mut pieces = Counted::new(Pieces {
             sink: &mut sink,
             kept: &mut self.frames,
+            written: 0,
         });
         write_reply(&mut pieces, None, reply).map_err(|_| Unwritten)?;
         pieces.flush()?;
+        self.gate.count(Count::Written, pieces.into_inner().written);
         Ok(())
     }
 
@@ -119,6 +126,7 @@ impl<'a, W: Write, G: Gate> Answers<'a, W, G> {
     {
         if !self.frames.is_empty() {
             self.sink.send(rt, &self.frames)?;
+            self.gate.count(Count::Written, self.frames.len() as u64);
             empty(&mut self.frames);
         }
         for call in self.written..self.answered {

@@ -1,7 +1,7 @@
 //! The events of one connection.
 
 use crate::answers::Unwritten;
-use crate::gate::{Note, Notes};
+use crate::gate::{Count, Note, Notes};
 use crate::kept::{KEPT, empty};
 use std::alloc::Global;
 use std::io::Write;
@@ -96,6 +96,7 @@ impl<'a, H: House, W: Write, N: Notes> Events<'a, H, W, N> {
     /// Keeps an item, until some are sent at once.
     fn keep(&mut self, item: &Item) -> Result<(), Unwritten> {
         append_item(item, self.delivery, &mut self.frames)?;
+        self.notes.count(Count::Items, 1);
         if self.frames.len() >= KEPT {
             self.send()?;
         }
@@ -105,6 +106,7 @@ impl<'a, H: House, W: Write, N: Notes> Events<'a, H, W, N> {
     /// Sends what is kept.
     fn send(&mut self) -> Result<(), Unwritten> {
         self.sink.send(self.house, &self.frames)?;
+        self.notes.count(Count::Written, self.frames.len() as u64);
         empty(&mut self.frames);
         Ok(())
     }

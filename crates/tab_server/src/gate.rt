@@ -23,8 +23,39 @@ pub enum Note {
     NoSeat,
 }
 
+/// What a server counts.
+#[derive(Clone, Copy, Debug, PartialEq, Eq)]
+pub enum Count {
+    /// Bytes of requests.
+    Read,
+    /// Bytes of replies and items.
+    Written,
+    /// Items of outboxes that were sent.
+    Items,
+    Commits,
+    /// Transactions that ended without a commit.
+    Aborts,
+    Restarts,
+    /// Operations that waited for a lock.
+    Waits,
+    /// One-shots whose restarts were used up.
+    GivenUp,
+}
+
+/// Told what a server counts. It takes no memory and waits for no one for long: it is told of each call.
+pub trait Counts {
+    /// So many more of these.
+    fn count(&self, count: Count, many: u64);
+
+    /// The session has opened a transaction.
+    fn begin(&self, session: u32);
+
+    /// The session's transaction has ended.
+    fn end(&self, session: u32);
+}
+
 /// Told of each call of each session: before it is made, and after its reply is written. A test holds calls by it.
-pub trait Gate {
+pub trait Gate: Counts {
     /// The frame of the session's call, counted from 1, is read.
     fn before(&self, session: u32, call: u64);
 
@@ -33,7 +64,7 @@ pub trait Gate {
 }
 
 /// Told what a server says.
-pub trait Notes {
+pub trait Notes: Counts {
     fn note(&self, note: Note);
 
     /// Why the server ends.
@@ -43,6 +74,14 @@ pub trait Notes {
 /// Holds no one, and hears nothing.
 #[derive(Clone, Copy, Debug)]
 pub struct Open;
+
+impl Counts for Open {
+    fn count(&self, _count: Count, _many: u64) {}
+
+    fn begin(&self, _session: u32) {}
+
+    fn end(&self, _session: u32) {}
+}
 
 impl Gate for Open {
     fn before(&self, _session: u32, _call: u64) {}

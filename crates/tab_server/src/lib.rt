@@ -11,6 +11,7 @@ mod connection;
 mod events;
 mod gate;
 mod kept;
+mod levels;
 mod pieces;
 mod place;
 mod requests;
@@ -21,7 +22,7 @@ mod watch;
 
 pub use accepting::{serve, serve_forever};
 pub use events::event_loop;
-pub use gate::{Gate, Note, Notes, Open};
+pub use gate::{Count, Counts, Gate, Note, Notes, Open};
 pub use requests::{Ending, serve_session};
 pub use settings::Settings;
 pub use tab_proto::Delivery;

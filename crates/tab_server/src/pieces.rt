@@ -9,6 +9,8 @@ use tab_sink::Sink;
 pub struct Pieces<'a, W: Write> {
     pub sink: &'a mut Sink<W>,
     pub kept: &'a mut Vec<u8>,
+    /// So many bytes were put in it.
+    pub written: u64,
 }
 
 impl<'a, W: Write> Write for Pieces<'a, W> {
@@ -24,6 +26,7 @@ impl<'a, W: Write> Write for Pieces<'a, W> {
         if self.sink.put(self.kept).is_err() {
             return Err(io::Error::from(ErrorKind::BrokenPipe));
         }
+        self.written = self.written.saturating_add(self.kept.len() as u64);
         self.kept.clear();
         Ok(())
     }

@@ -3,7 +3,8 @@
 ghost use Rattle.std.specs.Prelude.{◌≤◌, length};
 
 use crate::answers::{Answers, Unwritten};
-use crate::gate::Gate;
+use crate::gate::{Count, Gate};
+use crate::levels::{Kind, Levels};
 use crate::place::Place;
 use crate::seated::Seated;
 use crate::watch::Watch;
@@ -30,6 +31,7 @@ pub struct Served<'a, H: House, W: Write, G: Gate> {
     pub seat: Seat,
     pub watch: &'a Watch,
     pub answers: Answers<'a, W, G>,
+    pub levels: Levels,
     /// Where the stream stands, and whether the frame there is read over.
     pub place: Place,
     pub skips: bool,
@@ -63,6 +65,7 @@ pub fn serve_session<H: House, R: Read, W: Write, G: Gate>(
         seat: *seat,
         watch,
         answers: Answers::new(alloc, sink, gate, seat.session()),
+        levels: Levels::new(seat.session()),
         place: Place::new(),
         skips: false,
     };
@@ -71,6 +74,7 @@ pub fn serve_session<H: House, R: Read, W: Write, G: Gate>(
         Err(_) => Ending::Over,
     };
     shared.leave(house, seat);
+    served.levels.leave(gate);
     watch.stop(house);
     ending
 }
@@ -84,7 +88,10 @@ impl<'a, H: House, W: Write, G: Gate> Served<'a, H, W, G> {
         for _ in self.house.forever() {
             match reader.read(&mut piece) {
                 Ok(0) => return Ok(Ending::Over),
-                Ok(count) => self.piece(&mut splitter, &piece[..count])?,
+                Ok(count) => {
+                    self.answers.counts().count(Count::Read, count as u64);
+                    self.piece(&mut splitter, &piece[..count])?;
+                }
                 Err(error) if matches!(error.kind(), ErrorKind::WouldBlock) => {
                     if self.ends_transaction() {
                         return Ok(Ending::Idle);
@@ -201,9 +208,12 @@ impl<'a, H: House, W: Write, G: Gate> Served<'a, H, W, G> {
 
     fn command(&mut self, command: Command) -> Told {
         let alloc = self.alloc;
+        let kind = Kind::of(&command);
+        self.levels.ask(kind, self.answers.counts());
         let mut seated = self.seated();
         let told = answer(&mut seated, alloc, command);
         seated.give_back();
+        self.levels.tell(kind, told.reply(), self.answers.counts());
         told
     }
 

@@ -5,7 +5,7 @@ ghost use Rattle.tab_model.specs.declared.data.Reply.TheVariants as reply;
 ghost use Rattle.tab_model.specs.Outcome.{is_abort};
 
 use crate::answers::Answers;
-use crate::gate::Gate;
+use crate::gate::{Count, Gate};
 use crate::troubles::pause;
 use crate::watch::Watch;
 use std::alloc::{AllocError, Global};
@@ -82,6 +82,7 @@ impl<'a, 'b, H: House, W: Write, G: Gate> Steps for Seated<'a, 'b, H, W, G> {
     /// None where no one is left to be answered.
     fn wait(&mut self) -> Option<Result<Told, AllocError>> {
         self.held.give_back();
+        self.answers.counts().count(Count::Waits, 1);
         if self.answers.write(self.house).is_err() {
             return None;
         }
@@ -95,6 +96,7 @@ impl<'a, 'b, H: House, W: Write, G: Gate> Steps for Seated<'a, 'b, H, W, G> {
     }
 
     fn again(&mut self) {
+        self.answers.counts().count(Count::Restarts, 1);
         self.rest();
     }
 }

@@ -16,7 +16,7 @@ use tab_book::{Book, Shared};
 use tab_model::Limits;
 use tab_names::{House, Naming, Opened};
 use tab_post::Line;
-use tab_server::{Gate, Note, Notes, Settings, serve};
+use tab_server::{Count, Counts, Gate, Note, Notes, Settings, serve};
 
 pub const LIMITS: Limits = Limits {
     sessions: 64,
@@ -36,6 +36,14 @@ struct Held<R> {
     rt: R,
     answered: AtomicBool,
     gave_up: AtomicBool,
+}
+
+impl<R: Threads + Clock> Counts for Held<R> {
+    fn count(&self, _count: Count, _many: u64) {}
+
+    fn begin(&self, _session: u32) {}
+
+    fn end(&self, _session: u32) {}
 }
 
 impl<R: Threads + Clock> Gate for Held<R> {

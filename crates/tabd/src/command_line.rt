@@ -100,6 +100,20 @@ fn log<'a>(alloc: Global) -> Arg<'a>
     )
 }
 
+fn metrics<'a>(alloc: Global) -> Arg<'a>
+    ensures rule { rule_of result ≡ number_rule (codes "metrics") 0 65535 }
+    ensures own { result.global ≡ false }
+{
+    Arg::new(alloc, "metrics")
+        .long("metrics")
+        .value_name("PORT")
+        .help(
+            "A port on 127.0.0.1 where GET /metrics is answered by counters, as Prometheus reads them; 0 lets the system choose one",
+        )
+        .action(ArgAction::Set)
+        .value_parser(value_parser!(u16))
+}
+
 fn serve<'a>(alloc: Global) -> Result<Command<'a>, AllocError>
     ensures line { IfOk result (λ c. app_of c ≡ serve_line) }
     ensures own { IfOk result (λ c. has_globals c ≡ false) }
@@ -113,7 +127,8 @@ fn serve<'a>(alloc: Global) -> Result<Command<'a>, AllocError>
         .arg(forever(alloc))?
         .arg(batches(alloc))?
         .arg(idle(alloc))?
-        .arg(log(alloc))
+        .arg(log(alloc))?
+        .arg(metrics(alloc))
 }
 
 fn replay<'a>(alloc: Global) -> Result<Command<'a>, AllocError>

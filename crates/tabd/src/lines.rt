@@ -1,10 +1,12 @@
 //! What a server says while it goes on, on standard error.
 
-use std::alloc::Global;
+use std::alloc::{AllocError, Global};
 use std::io;
 use std::sync::{Mutex, Wait};
+use std::time::Clock;
 use tab_etf::{Target, give_all};
-use tab_server::{Gate, Note, Notes};
+use tab_metrics::{Holdings, Meters, Paged, page_of};
+use tab_server::{Count, Counts, Gate, Note, Notes};
 
 /// What of a server's notes has a line.
 #[derive(Clone, Copy, Debug, PartialEq, Eq)]
@@ -24,16 +26,19 @@ pub struct Lines<R, E> {
     device: Mutex<E>,
     /// Why the server ends.
     reason: Mutex<Option<String>>,
+    /// Where the counters may be asked for.
+    meters: Option<Meters>,
 }
 
 impl<R: Wait, E: Target> Lines<R, E> {
-    pub fn new(rt: R, alloc: Global, log: Log, device: E) -> Lines<R, E> {
+    pub fn new(rt: R, alloc: Global, log: Log, meters: Option<Meters>, device: E) -> Lines<R, E> {
         Lines {
             rt,
             alloc,
             log,
             device: Mutex::new(device),
             reason: Mutex::new(None),
+            meters,
         }
     }
 
@@ -70,14 +75,46 @@ impl<R: Wait, E: Target> Lines<R, E> {
     }
 }
 
-impl<R: Wait, E: Target> Gate for Lines<R, E> {
+impl<R: Wait + Clock, E: Target> Counts for Lines<R, E> {
+    fn count(&self, count: Count, many: u64) {
+        if let Some(meters) = &self.meters {
+            meters.count(count, many);
+        }
+    }
+
+    fn begin(&self, session: u32) {
+        if let Some(meters) = &self.meters {
+            meters.begin(&self.rt, session);
+        }
+    }
+
+    fn end(&self, session: u32) {
+        if let Some(meters) = &self.meters {
+            meters.end(&self.rt, session);
+        }
+    }
+}
+
+impl<R: Wait + Clock, E: Target> Paged for Lines<R, E> {
+    fn page(&self, holdings: Holdings) -> Result<String, AllocError> {
+        match &self.meters {
+            Some(meters) => page_of(&self.rt, self.alloc, meters, holdings),
+            None => Ok(String::new(self.alloc)),
+        }
+    }
+}
+
+impl<R: Wait + Clock, E: Target> Gate for Lines<R, E> {
     fn before(&self, _session: u32, _call: u64) {}
 
     fn after(&self, _session: u32, _call: u64) {}
 }
 
-impl<R: Wait, E: Target> Notes for Lines<R, E> {
+impl<R: Wait + Clock, E: Target> Notes for Lines<R, E> {
     fn note(&self, note: Note) {
+        if let Some(meters) = &self.meters {
+            meters.note(note);
+        }
         match note {
             Note::NotAccepted => self.put("tabd: no connection was accepted\n"),
             Note::NoMemory => self.put("tabd: no memory for a session\n"),

@@ -14,6 +14,7 @@ use running::run;
 use std::marker::Brand;
 use std::process::ExitCode;
 use tab_etf::Counted;
+use tab_metrics::Meters;
 use tab_names::Opened;
 use tab_session::{Ended, replay};
 use words::{Run, asked};
@@ -23,11 +24,11 @@ fn main(rt: HostRuntime) -> ExitCode {
     let mut output = Counted::new(rt.stdout());
     let mut errors = Counted::new(rt.stderr());
     let wanted = asked(&rt);
-    let log = match wanted {
-        Ok(Run::Serve(service)) => service.log,
-        _ => Log::Brief,
+    let (log, meters) = match wanted {
+        Ok(Run::Serve(service)) => (service.log, service.metrics.map(|_| Meters::new())),
+        _ => (Log::Brief, None),
     };
-    let lines = Lines::new(rt, rt.alloc(), log, Counted::new(rt.stderr()));
+    let lines = Lines::new(rt, rt.alloc(), log, meters, Counted::new(rt.stderr()));
     let opened = Opened::new();
     let status = run::<Brand, _, _, _, _, _>(
         &rt,

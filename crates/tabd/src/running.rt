@@ -17,6 +17,7 @@ use std::process::ExitCode;
 use std::sync::Wait;
 use std::thread::Threads;
 use tab_etf::{Source, Target, give_all};
+use tab_metrics::Paged;
 use tab_names::{Naming, Opened};
 use tab_post::Line;
 use tab_server::{Gate, Notes};
@@ -45,7 +46,7 @@ where
     R: Source,
     W: Target,
     E: Target,
-    G: Gate + Notes + Sync,
+    G: Gate + Notes + Paged + Sync,
     requires { opened ≡ J.book }
     ensures replayed { IfOk asked (λ words. (end : EndOf) × (exit_status result ≡ status_of end)
         × OfRun words (λ outbox. Plays outbox (streams (R.remaining input.old) (W.contents output.old) (R.faults input.old) (W.faults output.old)) (streams (R.remaining input.new) (W.contents output.new) (R.faults input.new) (W.faults output.new)) end) (input.new ≡ input.old)
@@ -86,7 +87,7 @@ where
         + Sync,
     R: Source,
     W: Target,
-    G: Gate + Notes + Sync,
+    G: Gate + Notes + Paged + Sync,
     requires { opened ≡ J.book }
     ensures { OfRun words (λ outbox. Plays outbox (streams (R.remaining input.old) (W.contents output.old) (R.faults input.old) (W.faults output.old)) (streams (R.remaining input.new) (W.contents output.new) (R.faults input.new) (W.faults output.new)) result) (input.new ≡ input.old) }
 {

@@ -8,15 +8,16 @@ use crate::ending::End;
 use crate::lines::Log;
 use crate::opening::opened_book;
 use std::alloc::{AllocError, Global};
-use std::io;
 use std::marker::PhantomData;
 use std::net::{Net, SocketAddr, TcpListener, TcpStream};
 use std::os::fd::{AsRawFd, RawFd};
 use std::sync::Wait;
 use std::thread::Threads;
 use std::time::Duration;
+use std::{io, thread};
 use tab_book::Shared;
 use tab_etf::{Target, give_all};
+use tab_metrics::{Closing, Paged, serve_pages};
 use tab_names::{House, Naming, Opened};
 use tab_post::Line;
 use tab_server::{Delivery, Gate, Notes, Settings, serve, serve_forever};
@@ -47,6 +48,15 @@ pub struct Service {
     /// So many seconds a session may be idle.
     pub idle: Option<u32>,
     pub log: Log,
+    /// The port where the counters are asked for; 0 lets the system choose one.
+    pub metrics: Option<u16>,
+}
+
+/// Where clients connect, and who asks for the counters.
+#[derive(Drop)]
+struct Listeners {
+    clients: TcpListener,
+    pages: Option<TcpListener>,
 }
 
 /// How connections are served, by what the words say.
@@ -74,43 +84,67 @@ where
     J: Naming + Send + Sync,
     R: Net<Listener = TcpListener, Stream = TcpStream> + Threads + Wait + Copy + Send + Sync,
     W: Target,
-    G: Gate + Notes + Sync,
+    G: Gate + Notes + Paged + Sync,
     requires { opened ≡ J.book }
 {
-    match listening(&rt, alloc, service.port, output, gate) {
-        Ok(listener) => {
+    match listening(&rt, alloc, &service, output, gate) {
+        Ok(listeners) => {
             let house = (rt, PhantomData::<J>);
-            serve_on(house, alloc, opened, &listener, service, gate)
+            serve_on(house, alloc, opened, &listeners, service, gate)
         }
         Err(ended) => End::Stopped(ended),
     }
 }
 
-/// Says which port it is, at once, so that clients can connect.
+/// Says which ports they are, at once, so that clients can connect.
 fn listening<R, W, N>(
     rt: &R,
     alloc: Global,
-    port: u16,
+    service: &Service,
     output: &mut W,
     notes: &N,
-) -> Result<TcpListener, Ended>
+) -> Result<Listeners, Ended>
 where
     R: Net<Listener = TcpListener, Stream = TcpStream>,
     W: Target,
     N: Notes,
 {
-    let (listener, address) = match bound(rt, port) {
-        Ok(bound) => bound,
+    let (clients, port) = listener(rt, service.port, notes)?;
+    let pages = match service.metrics {
+        Some(port) => Some(listener(rt, port, notes)?),
+        None => None,
+    };
+    say(alloc, output, "listening", port)?;
+    let pages = match pages {
+        Some((pages, port)) => {
+            say(alloc, output, "metrics", port)?;
+            Some(pages)
+        }
+        None => None,
+    };
+    output.flush()?;
+    Ok(Listeners { clients, pages })
+}
+
+/// A listener and its port.
+fn listener<R: Net<Listener = TcpListener, Stream = TcpStream>, N: Notes>(
+    rt: &R,
+    port: u16,
+    notes: &N,
+) -> Result<(TcpListener, u16), Ended> {
+    match bound(rt, port) {
+        Ok((listener, address)) => Ok((listener, address.port())),
         Err(error) => {
             notes.fault(&error);
-            return Err(Ended::Device);
+            Err(Ended::Device)
         }
-    };
-    let line = format!(in alloc; "listening on 127.0.0.1:{}\n", address.port());
-    let line = line.map_err(|_| Ended::NoMemory)?;
+    }
+}
+
+fn say<W: Target>(alloc: Global, output: &mut W, what: &str, port: u16) -> Result<(), Ended> {
+    let line = format!(in alloc; "{what} on 127.0.0.1:{port}\n").map_err(|_| Ended::NoMemory)?;
     give_all(output, line.as_bytes())?;
-    output.flush()?;
-    Ok(listener)
+    Ok(())
 }
 
 fn bound<R: Net<Listener = TcpListener, Stream = TcpStream>>(
@@ -126,11 +160,12 @@ fn bound<R: Net<Listener = TcpListener, Stream = TcpStream>>(
     Ok((listener, address))
 }
 
-fn serve_on<H: House + Threads + Send + Sync, G: Gate + Notes + Sync>(
+/// Serves clients, beside a thread for who asks for the counters.
+fn serve_on<H: House + Threads + Send + Sync, G: Gate + Notes + Paged + Sync>(
     house: H,
     alloc: Global,
     opened: Opened<Line>,
-    listener: &TcpListener,
+    listeners: &Listeners,
     service: Service,
     gate: &G,
 ) -> End
@@ -140,20 +175,56 @@ fn serve_on<H: House + Threads + Send + Sync, G: Gate + Notes + Sync>(
         return End::Stopped(Ended::NoMemory);
     };
     let shared = Shared::new(book);
+    match &listeners.pages {
+        Some(pages) => beside_pages(
+            &house,
+            alloc,
+            &listeners.clients,
+            pages,
+            &shared,
+            service,
+            gate,
+        ),
+        None => serve_clients(&house, alloc, &listeners.clients, &shared, service, gate),
+    }
+}
+
+fn beside_pages<H: House + Threads + Send + Sync, G: Gate + Notes + Paged + Sync>(
+    house: &H,
+    alloc: Global,
+    clients: &TcpListener,
+    pages: &TcpListener,
+    shared: &Shared<H>,
+    service: Service,
+    gate: &G,
+) -> End {
+    let closing = Closing::new();
+    thread::scope(thread::scope_env(), house, |scope| {
+        let started = scope.spawn(|| serve_pages(house, alloc, pages, shared, gate, &closing));
+        if started.is_err() {
+            return End::Stopped(Ended::NoMemory);
+        }
+        let end = serve_clients(house, alloc, clients, shared, service, gate);
+        closing.close();
+        end
+    })
+}
+
+fn serve_clients<H: House + Threads + Send + Sync, G: Gate + Notes + Sync>(
+    house: &H,
+    alloc: Global,
+    clients: &TcpListener,
+    shared: &Shared<H>,
+    service: Service,
+    gate: &G,
+) -> End {
     let settings = settings(service.delivery, service.idle);
     if service.forever {
-        serve_forever(&house, alloc, listener, &shared, settings, gate);
+        serve_forever(house, alloc, clients, shared, settings, gate);
         return End::Done;
     }
-    match serve(
-        &house,
-        alloc,
-        listener,
-        &shared,
-        service.sizes.connections,
-        settings,
-        gate,
-    ) {
+    let connections = service.sizes.connections;
+    match serve(house, alloc, clients, shared, connections, settings, gate) {
         Ok(()) => End::Done,
         Err(error) => {
             gate.fault(&error);

@@ -62,6 +62,7 @@ fn service(matches: &ArgMatches<'_>) -> Service
         delivery: delivery(matches),
         idle: idle(matches),
         log: log(matches),
+        metrics: metrics(matches),
     }
 }
 
@@ -99,6 +100,12 @@ fn log(matches: &ArgMatches<'_>) -> Log
     } else {
         Log::Brief
     }
+}
+
+fn metrics(matches: &ArgMatches<'_>) -> Option<u16>
+    ensures { MayBeNumberOf (codes "metrics") 0 65535 (rows_of (found_of matches.now)) result }
+{
+    matches.get_one("metrics")
 }
 
 fn idle(matches: &ArgMatches<'_>) -> Option<u32>

@@ -1,0 +1,40 @@
+//! The end of a thread that looks for connections.
+
+use std::sync::atomic::{AtomicBool, Ordering};
+use std::sync::{Condvar, Wait};
+use std::time::Duration;
+
+/// So many milliseconds pass between two looks for a connection.
+const LOOK: u64 = 100;
+
+/// Says whether connections are looked for still.
+#[derive(Drop)]
+pub struct Closing {
+    is_over: AtomicBool,
+    changed: Condvar,
+}
+
+impl Closing {
+    pub fn new() -> Closing {
+        Closing {
+            is_over: AtomicBool::new(false),
+            changed: Condvar::new(),
+        }
+    }
+
+    /// They are looked for no more.
+    pub fn close(&self) {
+        self.is_over.store(true, Ordering::SeqCst);
+        self.changed.notify_all();
+    }
+
+    /// Waits until the next look. False where they are looked for no more.
+    pub fn goes_on<R: Wait>(&self, rt: &R) -> bool {
+        let seen = self.changed.notifications();
+        if self.is_over.load(Ordering::SeqCst) {
+            return false;
+        }
+        self.changed.sleep(rt, seen, Duration::from_millis(LOOK));
+        true
+    }
+}

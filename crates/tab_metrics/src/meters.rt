@@ -1,0 +1,142 @@
+//! The counters of a server, and its open transactions.
+
+use arrayvec::ArrayVec;
+use std::sync::atomic::{AtomicU64, Ordering};
+use std::sync::{Mutex, Wait};
+use std::time::{Clock, Instant};
+use tab_server::{Count, Note};
+
+/// So many sessions are there at once at most.
+const SESSIONS: usize = 64;
+
+/// A session's open transaction.
+#[derive(Clone, Copy, Default)]
+struct Open {
+    session: u32,
+    /// When it began, where the clock could be read.
+    since: Option<Instant>,
+}
+
+/// The counters, each from the server's start on, and the transactions that are open.
+#[derive(Drop)]
+pub struct Meters {
+    read: AtomicU64,
+    written: AtomicU64,
+    items: AtomicU64,
+    commits: AtomicU64,
+    aborts: AtomicU64,
+    restarts: AtomicU64,
+    waits: AtomicU64,
+    given_up: AtomicU64,
+    overflows: AtomicU64,
+    started: AtomicU64,
+    ended: AtomicU64,
+    open: Mutex<ArrayVec<Open, SESSIONS>>,
+}
+
+impl Meters {
+    /// Nothing has happened yet.
+    pub fn new() -> Meters {
+        Meters {
+            read: AtomicU64::new(0),
+            written: AtomicU64::new(0),
+            items: AtomicU64::new(0),
+            commits: AtomicU64::new(0),
+            aborts: AtomicU64::new(0),
+            restarts: AtomicU64::new(0),
+            waits: AtomicU64::new(0),
+            given_up: AtomicU64::new(0),
+            overflows: AtomicU64::new(0),
+            started: AtomicU64::new(0),
+            ended: AtomicU64::new(0),
+            open: Mutex::new(ArrayVec::new()),
+        }
+    }
+
+    fn counter(&self, count: Count) -> &AtomicU64 {
+        match count {
+            Count::Read => &self.read,
+            Count::Written => &self.written,
+            Count::Items => &self.items,
+            Count::Commits => &self.commits,
+            Count::Aborts => &self.aborts,
+            Count::Restarts => &self.restarts,
+            Count::Waits => &self.waits,
+            Count::GivenUp => &self.given_up,
+        }
+    }
+
+    /// So many more of these.
+    pub fn count(&self, count: Count, many: u64) {
+        add(self.counter(count), many);
+    }
+
+    /// What of a server's notes is counted.
+    pub fn note(&self, note: Note) {
+        match note {
+            Note::Started(_) => add(&self.started, 1),
+            Note::Ended(_) => add(&self.ended, 1),
+            Note::Overflowed(_, _) => add(&self.overflows, 1),
+            _ => {}
+        }
+    }
+
+    /// Sessions that have started.
+    pub fn started(&self) -> u64 {
+        self.started.load(Ordering::SeqCst)
+    }
+
+    /// Sessions that are joined.
+    pub fn sessions(&self) -> u64 {
+        let ended = self.ended.load(Ordering::SeqCst);
+        self.started().saturating_sub(ended)
+    }
+
+    /// Sessions whose outbox was full, each as often as it was.
+    pub fn overflows(&self) -> u64 {
+        self.overflows.load(Ordering::SeqCst)
+    }
+
+    /// So many of these since the start.
+    pub fn total(&self, count: Count) -> u64 {
+        self.counter(count).load(Ordering::SeqCst)
+    }
+
+    /// The session has opened a transaction.
+    pub fn begin<R: Wait + Clock>(&self, rt: &R, session: u32) {
+        let since = Instant::now(rt).ok();
+        let _kept = self.open.lock(rt).try_push(Open { session, since });
+    }
+
+    /// The session's transaction is open no more.
+    pub fn end<R: Wait>(&self, rt: &R, session: u32) {
+        self.open.lock(rt).retain(|open| open.session != session);
+    }
+
+    /// How many transactions are open.
+    pub fn open<R: Wait>(&self, rt: &R) -> u64 {
+        self.open.lock(rt).len() as u64
+    }
+
+    /// How many seconds the oldest of them is open; 0 where there is none.
+    pub fn oldest<R: Wait + Clock>(&self, rt: &R) -> u64 {
+        let first = self.open.lock(rt).first().copied();
+        let Some(
+            Open {
+                since: Some(since),
+                ..
+            },
+        ) = first
+        else {
+            return 0;
+        };
+        match since.elapsed(rt) {
+            Ok(age) => age.as_secs(),
+            Err(_) => 0,
+        }
+    }
+}
+
+fn add(counter: &AtomicU64, many: u64) {
+    counter.fetch_add(many, Ordering::SeqCst);
+}
