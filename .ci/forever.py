@@ -8,6 +8,7 @@ where one failed.
 """
 
 import os
+import random
 import resource
 import socket
 import subprocess
@@ -15,7 +16,7 @@ import sys
 import threading
 import time
 
-from server import ATOMIC, CREATE, HERE_OK, OK, Connection, Differs, event, frame, same, script, watch, write
+from server import ATOMIC, CREATE, HERE_OK, OK, Connection, Differs, event, frame, same, script, waits, watch, write
 
 LIMIT = ("reply", ("error", ("system_limit", "sessions")))
 NOT_ACCEPTED = "tabd: no connection was accepted\n"
@@ -210,6 +211,102 @@ def logged(server):
     same("what it said besides", server.ended(), "")
 
 
+ABORT = ("abort", "no")
+ABORTED = ("aborted", "no")
+
+
+def held(server):
+    """An older session with two levels, whose read waits for a younger's write, and the younger."""
+    older, younger = server.connect(), server.connect()
+    script((older, CREATE, ATOMIC), (older, "begin", ("tid", 1)), (older, "begin", ("tid", 1)))
+    script((younger, "begin", ("tid", 2)), (younger, write(1, "b"), OK))
+    older.send(("read", "t", 1))
+    waits(older)
+    return older, younger
+
+
+def abort_ends_a_wait(server):
+    """It is answered alone, and ends one level. What it drops is asked for no more; the next operation waits as before."""
+    older, younger = held(server)
+    script((older, ABORT, ABORTED))
+    older.send(("read", "t", 1))
+    waits(older)
+    # In pieces, of which the first are no frame.
+    for byte in frame(ABORT):
+        older.socket.sendall(bytes([byte]))
+        time.sleep(0.01)
+    same("in pieces", older.receive(), ("reply", ABORTED))
+    script((older, "commit", ("error", "no_transaction")), (younger, write(2, "c"), OK), (younger, "commit", ("atomic", 1)))
+    same("what it said", server.ended(), "")
+
+
+def abort_in_the_same_piece(server):
+    """Of what came at once the abort behind the operation ends its wait, and what comes behind that is answered."""
+    older, younger = held(server)
+    script((older, ABORT, ABORTED))
+    older.socket.sendall(b"".join(map(frame, [("read", "t", 2), ("read", "t", 1), ABORT, "begin"])))
+    same("the replies", [older.receive()[1] for _ in range(3)], [[], ABORTED, ("tid", 3)])
+    # Behind one that does not wait it is answered behind it.
+    older.socket.sendall(b"".join(map(frame, [("read", "t", 2), ABORT])))
+    same("the replies", [older.receive()[1] for _ in range(2)], [[], ABORTED])
+    script((younger, "commit", ("atomic", 1)))
+    same("what it said", server.ended(), "")
+
+
+def others_are_answered_behind(server):
+    """Another request behind a wait is answered behind it, and so is an abort behind that one."""
+    older, younger = held(server)
+    older.socket.sendall(b"".join(map(frame, [("read", "t", 2), ABORT])))
+    waits(older)
+    script((younger, "commit", ("atomic", 1)))
+    same("the replies", [older.receive()[1] for _ in range(3)], [[("t", 1, "b")], [], ABORTED])
+    same("what it said", server.ended(), "")
+
+
+def not_asked_for(server):
+    """Without the word an abort is answered behind what waits."""
+    older, younger = held(server)
+    older.send(ABORT)
+    waits(older)
+    script((younger, "commit", ("atomic", 1)))
+    same("the replies", [older.receive()[1] for _ in range(2)], [[("t", 1, "b")], ABORTED])
+    same("what it said", server.ended(), "")
+
+
+def abort_ends_a_one_shot(server):
+    """A one-shot that waits, for a younger's lock behind an older's, is given up."""
+    first, one_shot, younger = server.connect(), server.connect(), server.connect()
+    script((first, CREATE, ATOMIC), (first, "begin", ("tid", 1)), (first, write(1, "a"), OK))
+    one_shot.send(("transaction", [write(1, "b"), write(2, "b")], 1000))
+    waits(one_shot)
+    script((younger, "begin", ("tid", 3)), (younger, write(2, "c"), OK), (first, "commit", ("atomic", 1)))
+    waits(one_shot)
+    one_shot.send(ABORT)
+    same("the replies", [one_shot.receive()[1] for _ in range(2)], [("aborted", "nowait"), ("error", "no_transaction")])
+    script((younger, "commit", ("atomic", 2)), (first, "begin", ("tid", 4)), (first, ("read", "t", 1), [("t", 1, "a")]))
+    same("what it said", server.ended(), "")
+
+
+def abort_beside_a_commit(server):
+    """An abort comes about when the lock is free: the operation is answered, and the abort behind it, or the abort alone."""
+    chance = random.Random(1)
+    older, younger = server.connect(), server.connect()
+    script((older, CREATE, ATOMIC))
+    for turn in range(200):
+        script((older, "begin", ("tid", 2 * turn + 1)), (younger, "begin", ("tid", 2 * turn + 2)), (younger, write(1, turn), OK))
+        older.send(("read", "t", 1))
+        # Past the first nap, in which no abort is heard.
+        time.sleep(0.03)
+        younger.send("commit")
+        time.sleep(chance.random() * 0.0005)
+        older.send(("abort", turn))
+        found = older.receive()[1]
+        if found != ("aborted", turn):
+            same("the replies", (found, older.receive()[1]), ([("t", 1, turn)], ("aborted", turn)))
+        same("the commit", younger.receive()[1], ("atomic", turn + 1))
+    same("what it said", server.ended(), "")
+
+
 # A name, how many seats, how many descriptors, what is done, and further words of the server.
 CASES = [
     ("the ninth is told", 8, None, the_ninth_is_told),
@@ -219,6 +316,12 @@ CASES = [
     ("idle", 3, None, idle, "--idle", "1"),
     ("a reader that takes nothing", 2, None, stalled, "--idle", "1"),
     ("a log", 2, None, logged, "--log", "--outbox", "16"),
+    ("an abort ends a wait", 2, None, abort_ends_a_wait, "--abort-waits"),
+    ("an abort in the same piece", 2, None, abort_in_the_same_piece, "--abort-waits"),
+    ("others are answered behind", 2, None, others_are_answered_behind, "--abort-waits"),
+    ("an abort ends a one-shot", 3, None, abort_ends_a_one_shot, "--abort-waits"),
+    ("an abort beside a commit", 2, None, abort_beside_a_commit, "--abort-waits"),
+    ("an abort is answered behind", 2, None, not_asked_for),
 ]
 
 

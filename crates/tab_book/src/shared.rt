@@ -12,6 +12,7 @@ use crate::book::Book;
 use crate::step::{Drained, JoinFault, Step};
 use std::alloc::{AllocError, Global};
 use std::marker::Model;
+use std::sync::atomic::{AtomicBool, Ordering};
 use std::sync::{Mutex, MutexGuard};
 use std::thread;
 use std::time::Duration;
@@ -142,6 +143,36 @@ impl<H: House> Shared<H> {
             }
         }
         unreachable!()
+    }
+
+    /// Asks for the lock that the session waits for, after each release once more, until it is told otherwise. None once the
+    /// wait is over, of which `wake` tells.
+    pub fn retry_until(
+        &self,
+        house: &H,
+        seat: &Seat,
+        over: &AtomicBool,
+    ) -> Result<Option<Told>, AllocError>
+        ensures { IfOk result (λ told. IfSome told (λ r. r ≢ reply.Waiting)) }
+    {
+        let bell = self.bells.of(seat.session);
+        for _ in house.forever() {
+            let seen = bell.notifications();
+            if over.load(Ordering::SeqCst) {
+                return Ok(None);
+            }
+            let told = self.make(house, seat, Step::Retry)?;
+            if !matches!(told.reply(), Reply::Waiting) {
+                return Ok(Some(told));
+            }
+            bell.sleep(house, seen, Duration::from_millis(SLEEP));
+        }
+        unreachable!()
+    }
+
+    /// Wakes the session, so that it looks whether its wait is over.
+    pub fn wake(&self, seat: &Seat) {
+        self.bells.of(seat.session).notify_all();
     }
 
     /// Asks for the lock that the session waits for, and once more where it is woken or has slept for a nap, so many naps

@@ -137,7 +137,7 @@ fn serve_streams<H: House + Threads + Send + Sync, G: Gate + Notes + Sync>(
     gate: &G,
 ) -> Ending {
     thread::scope(thread::scope_env(), house, |scope| {
-        let watching = scope.spawn(move || connection.watch_for(house, shared, seat));
+        let watching = scope.spawn(move || connection.watch_for(house, alloc, shared, seat));
         if watching.is_err() {
             return Ending::Over;
         }
@@ -154,6 +154,7 @@ fn serve_streams<H: House + Threads + Send + Sync, G: Gate + Notes + Sync>(
             shared,
             seat,
             &connection.watch,
+            connection.aborts,
             &mut reader,
             &connection.sink,
             gate,

@@ -2,7 +2,9 @@
 
 use crate::events::event_loop;
 use crate::gate::Notes;
+use crate::next::{Next, next_on};
 use crate::settings::Settings;
+use crate::troubles::pause;
 use crate::watch::Watch;
 use std::alloc::Global;
 use std::io;
@@ -20,6 +22,8 @@ pub struct Connection {
     pub sink: FrameSink<TcpStream>,
     pub watch: Watch,
     pub delivery: Delivery,
+    /// Whether an abort ends the wait of the operation before it.
+    pub aborts: bool,
     stream: TcpStream,
 }
 
@@ -29,7 +33,7 @@ pub struct Streams {
     reader: TcpStream,
     writer: TcpStream,
     stream: TcpStream,
-    delivery: Delivery,
+    settings: Settings,
 }
 
 impl Streams {
@@ -44,7 +48,7 @@ impl Streams {
             reader: stream.try_clone()?,
             writer: stream.try_clone()?,
             stream,
-            delivery: settings.delivery,
+            settings,
         })
     }
 }
@@ -56,12 +60,13 @@ impl Connection {
             reader,
             writer,
             stream,
-            delivery,
+            settings,
         } = streams;
         let connection = Connection {
             sink: FrameSink::new(writer),
             watch: Watch::new(),
-            delivery,
+            delivery: settings.delivery,
+            aborts: settings.aborts,
             stream,
         };
         (connection, reader)
@@ -90,27 +95,29 @@ impl Connection {
         self.close();
     }
 
-    /// Waits, while a request waits for a lock, for the end of the stream, at which the session leaves. Where more requests
-    /// stand in the stream no end is seen.
-    pub fn watch_for<H: House>(&self, house: &H, shared: &Shared<H>, seat: &Seat) {
-        let mut next = [0];
+    /// Waits, while a request waits for a lock, for the end of the stream, at which the session leaves, or for an abort that ends
+    /// the wait. Where other requests stand in the stream neither is seen.
+    pub fn watch_for<H: House>(&self, house: &H, alloc: Global, shared: &Shared<H>, seat: &Seat) {
         for _ in house.forever() {
-            if !self.watch.wanted(house) {
+            let Some(wait) = self.watch.wanted(house) else {
                 return;
-            }
-            let ended = match self.stream.peek(&mut next) {
-                Ok(0) => true,
-                Ok(_) => {
-                    self.watch.over(house);
-                    false
-                }
-                // It waits for longer than it may be idle, which is not by its own doing.
-                Err(error) => !matches!(error.kind(), io::ErrorKind::WouldBlock),
             };
-            // An end that comes later, while no request waits, is for the thread that reads.
-            if ended && self.watch.waits(house) {
-                shared.leave(house, seat);
-                return;
+            match next_on(alloc, &self.stream, wait.hears) {
+                // An end that comes later, while no request waits, is for the thread that reads.
+                Next::End if self.watch.waits(house, wait) => {
+                    shared.leave(house, seat);
+                    return;
+                }
+                Next::Abort => {
+                    if self.watch.abort(house, wait) {
+                        shared.wake(seat);
+                    }
+                    self.watch.over(house, wait);
+                }
+                Next::Other => self.watch.over(house, wait),
+                Next::Part => pause(house),
+                // It waits for longer than it may be idle, which is not by its own doing.
+                Next::End | Next::Nothing => {}
             }
         }
     }

@@ -12,6 +12,7 @@ mod events;
 mod gate;
 mod kept;
 mod levels;
+mod next;
 mod pieces;
 mod place;
 mod requests;

@@ -5,8 +5,9 @@ ghost use Rattle.std.specs.Prelude.{◌≤◌, length};
 use crate::answers::{Answers, Unwritten};
 use crate::gate::{Count, Gate};
 use crate::levels::{Kind, Levels};
+use crate::next::is_abort_in;
 use crate::place::Place;
-use crate::seated::Seated;
+use crate::seated::{Behind, Seated};
 use crate::watch::Watch;
 use std::alloc::Global;
 use std::io::{ErrorKind, Read, Write};
@@ -30,6 +31,8 @@ pub struct Served<'a, H: House, W: Write, G: Gate> {
     pub shared: &'a Shared<H>,
     pub seat: Seat,
     pub watch: &'a Watch,
+    /// Whether an abort ends the wait of the operation before it.
+    pub aborts: bool,
     pub answers: Answers<'a, W, G>,
     pub levels: Levels,
     /// Where the stream stands, and whether the frame there is read over.
@@ -54,6 +57,7 @@ pub fn serve_session<H: House, R: Read, W: Write, G: Gate>(
     shared: &Shared<H>,
     seat: &Seat,
     watch: &Watch,
+    aborts: bool,
     reader: &mut R,
     sink: &FrameSink<W>,
     gate: &G,
@@ -64,6 +68,7 @@ pub fn serve_session<H: House, R: Read, W: Write, G: Gate>(
         shared,
         seat: *seat,
         watch,
+        aborts,
         answers: Answers::new(alloc, sink, gate, seat.session()),
         levels: Levels::new(seat.session()),
         place: Place::new(),
@@ -181,43 +186,60 @@ impl<'a, H: House, W: Write, G: Gate> Served<'a, H, W, G> {
     }
 
     fn frames(&mut self, frames: &[Frame]) -> Result<(), Unwritten> {
-        for frame in frames {
+        for (place, frame) in frames.iter().enumerate() {
             self.answers.begin();
             let told = match frame {
-                Frame::Empty => Told::new(Reply::BadTerm),
-                Frame::Payload(payload) => self.payload(payload),
+                Frame::Empty => Some(Told::new(Reply::BadTerm)),
+                Frame::Payload(payload) => self.payload(payload, frames.get(place + 1)),
             };
-            self.answers.keep(self.house, told.reply())?;
+            if let Some(told) = told {
+                self.answers.keep(self.house, told.reply())?;
+            }
         }
         self.answers.write(self.house)?;
         Ok(())
     }
 
-    fn payload(&mut self, payload: &[u8]) -> Told {
+    /// The reply to a payload, behind which this frame has come. None where an abort has ended its wait.
+    fn payload(&mut self, payload: &[u8], next: Option<&Frame>) -> Option<Told> {
         let held = match decode(self.alloc, payload) {
             Ok(held) => held,
-            Err(EtfFault::At(_, _)) => return Told::new(Reply::BadTerm),
-            Err(EtfFault::NoMemory) => return Told::new(Reply::NoMemory),
+            Err(EtfFault::At(_, _)) => return Some(Told::new(Reply::BadTerm)),
+            Err(EtfFault::NoMemory) => return Some(Told::new(Reply::NoMemory)),
         };
         match read_command(self.alloc, held) {
-            Ok(command) => self.command(command),
-            Err(ProtoFault::BadCommand) => Told::new(Reply::BadCommand),
-            Err(ProtoFault::NoMemory) => Told::new(Reply::NoMemory),
+            Ok(command) => self.command(command, next),
+            Err(ProtoFault::BadCommand) => Some(Told::new(Reply::BadCommand)),
+            Err(ProtoFault::NoMemory) => Some(Told::new(Reply::NoMemory)),
         }
     }
 
-    fn command(&mut self, command: Command) -> Told {
+    fn command(&mut self, command: Command, next: Option<&Frame>) -> Option<Told> {
         let alloc = self.alloc;
+        let behind = self.behind(next);
         let kind = Kind::of(&command);
         self.levels.ask(kind, self.answers.counts());
-        let mut seated = self.seated();
+        let mut seated = self.seated(behind);
         let told = answer(&mut seated, alloc, command);
         seated.give_back();
+        let aborted = seated.aborted;
         self.levels.tell(kind, told.reply(), self.answers.counts());
-        told
+        if aborted && matches!(told.reply(), Reply::Waiting) {
+            return None;
+        }
+        Some(told)
     }
 
-    fn seated(&mut self) -> Seated<'a, '_, H, W, G> {
+    /// What ends the wait of a request behind which this frame has come.
+    fn behind(&self, next: Option<&Frame>) -> Behind {
+        match next {
+            Some(frame) if self.aborts && is_abort_in(self.alloc, frame) => Behind::Abort,
+            None if self.aborts && self.place.is_between() => Behind::Stream,
+            _ => Behind::Nothing,
+        }
+    }
+
+    fn seated(&mut self, behind: Behind) -> Seated<'a, '_, H, W, G> {
         Seated {
             alloc: self.alloc,
             house: self.house,
@@ -226,6 +248,8 @@ impl<'a, H: House, W: Write, G: Gate> Served<'a, H, W, G> {
             watch: self.watch,
             answers: &mut self.answers,
             held: Held::new(self.house, self.shared),
+            behind,
+            aborted: false,
         }
     }
 }

@@ -1,6 +1,6 @@
 //! A session of a shared book, as the seat of a one-shot's driver.
 
-ghost use Rattle.std.specs.Prelude.{◌≡◌, ◌≢◌};
+ghost use Rattle.std.specs.Prelude.{◌≡◌, ◌≢◌, IfSome};
 ghost use Rattle.tab_model.specs.declared.data.Reply.TheVariants as reply;
 ghost use Rattle.tab_model.specs.Outcome.{is_abort};
 
@@ -19,6 +19,16 @@ use tab_oneshot::Steps;
 /// has to be told `restart` while the other's transaction is open.
 const NAPS: u32 = 5;
 
+/// What ends a request's wait besides its lock.
+#[derive(Clone, Copy, Debug, PartialEq, Eq)]
+pub enum Behind {
+    Nothing,
+    /// An abort that comes next on the stream.
+    Stream,
+    /// An abort that has come behind it.
+    Abort,
+}
+
 /// The seat of one connection. It holds the book from a step on until it waits, rests or gives the book back. Before it waits
 /// or rests, what was answered is written, and where that takes longer than a nap the stream is watched.
 #[derive(Drop)]
@@ -30,6 +40,9 @@ pub struct Seated<'a, 'b, H: House, W: Write, G: Gate> {
     pub watch: &'a Watch,
     pub answers: &'b mut Answers<'a, W, G>,
     pub held: Held<'a, H>,
+    pub behind: Behind,
+    /// Whether an abort has ended its wait.
+    pub aborted: bool,
 }
 
 impl<'a, 'b, H: House, W: Write, G: Gate> Seated<'a, 'b, H, W, G> {
@@ -47,18 +60,19 @@ impl<'a, 'b, H: House, W: Write, G: Gate> Seated<'a, 'b, H, W, G> {
         if self.answers.write(self.house).is_err() || self.shared.rest(self.house, &self.seat, 1) {
             return;
         }
-        self.watch.begin(self.house);
+        self.watch.begin(self.house, false);
         let _over = self.shared.rest(self.house, &self.seat, NAPS - 1);
         self.watch.end(self.house);
     }
 
-    /// The answer of the request that waits. Where memory is refused while it asks again the request is in the queue still, and
-    /// a connection has no word for it: so it waits on, and asks again after a pause.
-    fn granted(&self) -> Told
-        ensures { result ≢ reply.Waiting }
+    /// The answer of the request that waits; None where an abort ends its wait. Where memory is refused while it asks again the
+    /// request is in the queue still, and a connection has no word for it: so it waits on, and asks again after a pause.
+    fn granted(&self) -> Option<Told>
+        ensures { IfSome result (λ told. told ≢ reply.Waiting) }
     {
+        let aborted = self.watch.aborted();
         for _ in self.house.forever() {
-            if let Ok(told) = self.shared.retry(self.house, &self.seat) {
+            if let Ok(told) = self.shared.retry_until(self.house, &self.seat, aborted) {
                 return told;
             }
             pause(self.house);
@@ -79,20 +93,25 @@ impl<'a, 'b, H: House, W: Write, G: Gate> Steps for Seated<'a, 'b, H, W, G> {
             .step(&self.seat, Step::Do(level_of(self.alloc, command)))
     }
 
-    /// None where no one is left to be answered.
+    /// None where an abort has ended the wait, or no one is left to be answered.
     fn wait(&mut self) -> Option<Result<Told, AllocError>> {
         self.held.give_back();
         self.answers.counts().count(Count::Waits, 1);
         if self.answers.write(self.house).is_err() {
             return None;
         }
+        if self.behind == Behind::Abort {
+            self.aborted = true;
+            return None;
+        }
         if let Ok(Some(told)) = self.shared.retry_for(self.house, &self.seat, 1) {
             return Some(Ok(told));
         }
-        self.watch.begin(self.house);
+        self.watch.begin(self.house, self.behind == Behind::Stream);
         let told = self.granted();
         self.watch.end(self.house);
-        Some(Ok(told))
+        self.aborted = told.is_none();
+        told.map(Ok)
     }
 
     fn again(&mut self) {

@@ -9,12 +9,15 @@ pub struct Settings {
     pub delivery: Delivery,
     /// A session from which nothing comes for so long leaves where its transaction is open, or where it reads nothing.
     pub idle: Option<Duration>,
+    /// An abort ends the wait of the operation before it, which is told nothing then.
+    pub aborts: bool,
 }
 
 impl Settings {
-    /// Each event has a frame, and a session may be idle for good.
+    /// Each event has a frame, a session may be idle for good, and what waits is answered first.
     pub const PLAIN: Settings = Settings {
         delivery: Delivery::Events,
         idle: None,
+        aborts: false,
     };
 }

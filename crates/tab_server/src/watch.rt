@@ -1,34 +1,74 @@
 //! A stream is watched while its session waits for a lock.
 
+use std::sync::atomic::{AtomicBool, Ordering};
 use std::sync::{Condvar, Mutex, Wait};
 
 /// What the thread that reads requests is doing.
 #[derive(Clone, Copy, Debug, PartialEq, Eq)]
 enum Phase {
     Serving,
+    /// A request waits for a lock.
     Waiting,
     Ended,
+}
+
+/// One of a session's waits.
+#[derive(Clone, Copy, Debug, PartialEq, Eq)]
+pub struct Waited {
+    number: u64,
+    /// Whether it ends by an abort that stands next in the stream.
+    pub hears: bool,
+}
+
+#[derive(Clone, Copy, Debug)]
+struct Doing {
+    phase: Phase,
+    /// The last wait.
+    wait: Waited,
+}
+
+impl Doing {
+    fn is_in(self, wait: Waited) -> bool {
+        self.phase == Phase::Waiting && self.wait == wait
+    }
 }
 
 /// Says when a session's stream is to be watched: while a request waits for a lock no one else reads the stream, and an end
 /// of it would not be seen.
 #[derive(Drop)]
 pub struct Watch {
-    phase: Mutex<Phase>,
+    doing: Mutex<Doing>,
     changed: Condvar,
+    /// Whether an abort has ended the last wait.
+    aborted: AtomicBool,
 }
 
 impl Watch {
     pub fn new() -> Watch {
         Watch {
-            phase: Mutex::new(Phase::Serving),
+            doing: Mutex::new(Doing {
+                phase: Phase::Serving,
+                wait: Waited {
+                    number: 0,
+                    hears: false,
+                },
+            }),
             changed: Condvar::new(),
+            aborted: AtomicBool::new(false),
         }
     }
 
-    /// A request waits for a lock.
-    pub fn begin<R: Wait>(&self, rt: &R) {
-        self.set(rt, Phase::Waiting);
+    /// A request waits for a lock, and hears an abort that stands next in the stream, or doesn't.
+    pub fn begin<R: Wait>(&self, rt: &R, hears: bool) {
+        let mut doing = self.doing.lock(rt);
+        self.aborted.store(false, Ordering::SeqCst);
+        let number = doing.wait.number.wrapping_add(1);
+        *doing = Doing {
+            phase: Phase::Waiting,
+            wait: Waited { number, hears },
+        };
+        drop(doing);
+        self.changed.notify_all();
     }
 
     /// It waits no more.
@@ -41,29 +81,51 @@ impl Watch {
         self.set(rt, Phase::Ended);
     }
 
-    /// Waits until a request waits for a lock. False where no more come.
-    pub fn wanted<R: Wait>(&self, rt: &R) -> bool {
-        let phase = self
-            .changed
-            .wait_while(rt, self.phase.lock(rt), |phase| *phase == Phase::Serving);
-        *phase == Phase::Waiting
+    /// Waits until a request waits for a lock. None where no more come.
+    pub fn wanted<R: Wait>(&self, rt: &R) -> Option<Waited> {
+        let doing = self.changed.wait_while(
+            rt,
+            self.doing.lock(rt),
+            |doing| doing.phase == Phase::Serving,
+        );
+        if doing.phase == Phase::Waiting {
+            Some(doing.wait)
+        } else {
+            None
+        }
     }
 
-    /// Whether a request waits for a lock now.
-    pub fn waits<R: Wait>(&self, rt: &R) -> bool {
-        *self.phase.lock(rt) == Phase::Waiting
+    /// Whether this wait goes on.
+    pub fn waits<R: Wait>(&self, rt: &R, wait: Waited) -> bool {
+        self.doing.lock(rt).is_in(wait)
     }
 
-    /// Waits until that request waits no more.
-    pub fn over<R: Wait>(&self, rt: &R) {
-        let phase = self
+    /// Waits until this wait is over.
+    pub fn over<R: Wait>(&self, rt: &R, wait: Waited) {
+        let doing = self
             .changed
-            .wait_while(rt, self.phase.lock(rt), |phase| *phase == Phase::Waiting);
-        drop(phase);
+            .wait_while(rt, self.doing.lock(rt), |doing| doing.is_in(wait));
+        drop(doing);
+    }
+
+    /// An abort ends this wait, where it goes on.
+    pub fn abort<R: Wait>(&self, rt: &R, wait: Waited) -> bool {
+        let doing = self.doing.lock(rt);
+        let ends = doing.is_in(wait);
+        if ends {
+            self.aborted.store(true, Ordering::SeqCst);
+        }
+        drop(doing);
+        ends
+    }
+
+    /// Whether an abort has ended the last wait.
+    pub fn aborted(&self) -> &AtomicBool {
+        &self.aborted
     }
 
     fn set<R: Wait>(&self, rt: &R, phase: Phase) {
-        *self.phase.lock(rt) = phase;
+        self.doing.lock(rt).phase = phase;
         self.changed.notify_all();
     }
 }

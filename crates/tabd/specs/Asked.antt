@@ -48,6 +48,7 @@ pub record IsServiceOf (rows : List Row) (s : Service) : Type 0 where
   pub idle : MayBeNumberOf (codes "idle") 1 86400 rows s.idle
   pub log : IsFlagOf (codes "log") rows (is_full s.log)
   pub metrics : MayBeNumberOf (codes "metrics") 0 65535 rows s.metrics
+  pub aborts : IsFlagOf (codes "abort-waits") rows s.aborts
 
 -- by the command that the words name, with its options; the parser refuses words that name none
 abbrev pub IsAskedBy : Option (Text × List Row) → Run → Type 0

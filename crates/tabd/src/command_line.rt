@@ -100,6 +100,15 @@ fn log<'a>(alloc: Global) -> Arg<'a>
     )
 }
 
+fn abort_waits<'a>(alloc: Global) -> Arg<'a>
+    ensures rule { rule_of result ≡ flag_rule (codes "abort-waits") }
+    ensures own { result.global ≡ false }
+{
+    flag(alloc, "abort-waits").help(
+        "An abort that comes while an operation waits for a lock ends the wait: it is answered, and the operation is not",
+    )
+}
+
 fn metrics<'a>(alloc: Global) -> Arg<'a>
     ensures rule { rule_of result ≡ number_rule (codes "metrics") 0 65535 }
     ensures own { result.global ≡ false }
@@ -128,7 +137,8 @@ fn serve<'a>(alloc: Global) -> Result<Command<'a>, AllocError>
         .arg(batches(alloc))?
         .arg(idle(alloc))?
         .arg(log(alloc))?
-        .arg(metrics(alloc))
+        .arg(metrics(alloc))?
+        .arg(abort_waits(alloc))
 }
 
 fn replay<'a>(alloc: Global) -> Result<Command<'a>, AllocError>

@@ -50,6 +50,8 @@ pub struct Service {
     pub log: Log,
     /// The port where the counters are asked for; 0 lets the system choose one.
     pub metrics: Option<u16>,
+    /// An abort ends the wait of the operation before it, which is told nothing then.
+    pub aborts: bool,
 }
 
 /// Where clients connect, and who asks for the counters.
@@ -60,15 +62,20 @@ struct Listeners {
 }
 
 /// How connections are served, by what the words say.
-fn settings(delivery: Delivery, idle: Option<u32>) -> Settings
+fn settings(delivery: Delivery, idle: Option<u32>, aborts: bool) -> Settings
     ensures delivery { result.delivery ≡ delivery }
+    ensures aborts { result.aborts ≡ aborts }
     ensures idle { option_map as_nanos result.idle ≡ option_map (λ s. s * 1000000000) idle }
 {
     let idle = match idle {
         Some(seconds) => Some(Duration::from_secs(u64::from(seconds))),
         None => None,
     };
-    Settings { delivery, idle }
+    Settings {
+        delivery,
+        idle,
+        aborts,
+    }
 }
 
 /// Listens on the port, says so, and serves: until all sessions have ended, or for good.
@@ -218,7 +225,7 @@ fn serve_clients<H: House + Threads + Send + Sync, G: Gate + Notes + Sync>(
     service: Service,
     gate: &G,
 ) -> End {
-    let settings = settings(service.delivery, service.idle);
+    let settings = settings(service.delivery, service.idle, service.aborts);
     if service.forever {
         serve_forever(house, alloc, clients, shared, settings, gate);
         return End::Done;

@@ -63,6 +63,7 @@ fn service(matches: &ArgMatches<'_>) -> Service
         idle: idle(matches),
         log: log(matches),
         metrics: metrics(matches),
+        aborts: is_given(matches, "abort-waits"),
     }
 }
 

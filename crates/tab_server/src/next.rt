@@ -1,0 +1,71 @@
+//! What stands next in a stream whose session waits.
+
+use std::alloc::Global;
+use std::io::ErrorKind;
+use std::net::TcpStream;
+use tab_etf::{Frame, decode};
+use tab_model::Command;
+use tab_proto::read_command;
+
+/// An abort ends a wait where its frame has so many bytes at most.
+const LONGEST: usize = 4_096;
+
+/// What stands next in the stream.
+#[derive(Clone, Copy, Debug, PartialEq, Eq)]
+pub enum Next {
+    /// Its end, or a fault.
+    End,
+    Abort,
+    /// Some request that is none.
+    Other,
+    /// A beginning of a frame.
+    Part,
+    /// Nothing has come in time.
+    Nothing,
+}
+
+/// Waits for something on the stream, and takes nothing of it. What it is, is looked at where an abort would be heard.
+pub fn next_on(alloc: Global, stream: &TcpStream, hears: bool) -> Next {
+    let mut bytes = [0u8; LONGEST];
+    let room = if hears { LONGEST } else { 1 };
+    match stream.peek(&mut bytes[..room]) {
+        Ok(0) => Next::End,
+        Ok(count) if hears && count <= LONGEST => next_in(alloc, &bytes[..count]),
+        Ok(_) => Next::Other,
+        Err(error) if matches!(error.kind(), ErrorKind::WouldBlock) => Next::Nothing,
+        Err(_) => Next::End,
+    }
+}
+
+fn next_in(alloc: Global, bytes: &[u8]) -> Next {
+    if bytes.len() < 4 {
+        return Next::Part;
+    }
+    let len = u32::from_be_bytes([bytes[0], bytes[1], bytes[2], bytes[3]]) as usize;
+    if len > LONGEST - 4 {
+        return Next::Other;
+    }
+    if bytes.len() < 4 + len {
+        return Next::Part;
+    }
+    if is_abort(alloc, &bytes[4..4 + len]) {
+        Next::Abort
+    } else {
+        Next::Other
+    }
+}
+
+/// Whether a frame that has come is one of an abort.
+pub fn is_abort_in(alloc: Global, frame: &Frame) -> bool {
+    match frame {
+        Frame::Empty => false,
+        Frame::Payload(payload) => is_abort(alloc, payload),
+    }
+}
+
+fn is_abort(alloc: Global, payload: &[u8]) -> bool {
+    match decode(alloc, payload) {
+        Ok(held) => matches!(read_command(alloc, held), Ok(Command::Abort(_))),
+        Err(_) => false,
+    }
+}
