@@ -211,6 +211,22 @@ def logged(server):
     same("what it said besides", server.ended(), "")
 
 
+def broken_off_behind_a_wait(server):
+    """Who breaks off while it waits has left at once, also where a further request stands unread, and what it held is free."""
+    older, younger, third = server.connect(), server.connect(), server.connect()
+    script((older, CREATE, ATOMIC), (older, "begin", ("tid", 1)), (older, write(2, "a"), OK))
+    script((younger, "begin", ("tid", 2)), (younger, write(1, "b"), OK))
+    older.socket.sendall(frame(("read", "t", 1)))
+    waits(older)
+    older.socket.sendall(frame(("read", "t", 3)))
+    waits(older)
+    older.break_off()
+    script((third, "begin", ("tid", 3)))
+    same("what it held", at_last(third, ("wread", ("t", 2))), [])
+    script((younger, "commit", ("atomic", 1)))
+    same("what it said", server.ended(), "")
+
+
 ABORT = ("abort", "no")
 ABORTED = ("aborted", "no")
 
@@ -316,6 +332,7 @@ CASES = [
     ("idle", 3, None, idle, "--idle", "1"),
     ("a reader that takes nothing", 2, None, stalled, "--idle", "1"),
     ("a log", 2, None, logged, "--log", "--outbox", "16"),
+    ("broken off behind a wait", 3, None, broken_off_behind_a_wait),
     ("an abort ends a wait", 2, None, abort_ends_a_wait, "--abort-waits"),
     ("an abort in the same piece", 2, None, abort_in_the_same_piece, "--abort-waits"),
     ("others are answered behind", 2, None, others_are_answered_behind, "--abort-waits"),

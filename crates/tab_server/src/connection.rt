@@ -96,7 +96,7 @@ impl Connection {
     }
 
     /// Waits, while a request waits for a lock, for the end of the stream, at which the session leaves, or for an abort that ends
-    /// the wait. Where other requests stand in the stream neither is seen.
+    /// the wait. Where other requests stand in the stream neither is seen, but that the client has broken off.
     pub fn watch_for<H: House>(&self, house: &H, alloc: Global, shared: &Shared<H>, seat: &Seat) {
         for _ in house.forever() {
             let Some(wait) = self.watch.wanted(house) else {
@@ -114,8 +114,12 @@ impl Connection {
                     }
                     self.watch.over(house, wait);
                 }
-                Next::Other => self.watch.over(house, wait),
-                Next::Part => pause(house),
+                Next::Other | Next::Part
+                    if self.has_broken_off() && self.watch.waits(house, wait) => {
+                    shared.leave(house, seat);
+                    return;
+                }
+                Next::Other | Next::Part => pause(house),
                 // It waits for longer than it may be idle, which is not by its own doing.
                 Next::End | Next::Nothing => {}
             }
@@ -126,7 +130,12 @@ impl Connection {
     pub fn has_stalled<R: Wait>(&self, rt: &R) -> bool {
         matches!(self.stream.write_timeout(), Ok(Some(_)))
             && self.sink.is_broken(rt)
-            && self.stream.peer_addr().is_ok()
+            && !self.has_broken_off()
+    }
+
+    /// Whether the connection was reset. What was sent before may be read still.
+    fn has_broken_off(&self) -> bool {
+        self.stream.peer_addr().is_err()
     }
 
     /// Nothing more is read or written, so that the thread that reads ends.
