@@ -54,3 +54,8 @@ module _ {K V : Type 0} (cmp : K → K → Ordering) where
       subst (λ z. Ascends cmp (z.below ++ z.entry ∷ m)) l_is s
   last_children (b ∷ c ∷ bs) zero l m p q s = absurd (cc)
   last_children (b ∷ bs) (suc n) l m p q s = last_children bs n l m p q (later cmp b bs m s)
+
+module _ {A : Type 0} where
+  -- two rows with an entry between them, each copied
+  pub joined_rows : (all pushed copied more left right l r : List A) (entry e : A) → all ≡ pushed ++ more → pushed ≡ copied ++ entry ∷ [] → copied ≡ left → more ≡ right → entry ≡ e → left ≡ l → right ≡ r → all ≡ l ++ e ∷ r
+  joined_rows all pushed copied more left right l r entry e p q a b x y z = rw (p, q, a, b, x, y, z) (append_assoc l (e ∷ []) r)
