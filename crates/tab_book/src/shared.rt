@@ -38,6 +38,7 @@ impl Model for Seat {
 }
 
 impl Seat {
+    /// The session's number, from 1 on; each join has a greater one.
     pub fn session(&self) -> u32
         ensures { result ≡ self.now }
     {

@@ -15,12 +15,14 @@ use tab_term::spelling::{
 };
 use tab_term::{Atom, Bytes, Term, Terms};
 
+/// The first fault of a payload, with so many bytes of it left.
 pub fn stop(fault: Fault, left: usize) -> ReadError
     ensures { result ≡ ReadError.At (record { fault = fault; left = left }) }
 {
     ReadError::At(Stop { fault, left })
 }
 
+/// The next byte, and what is behind it.
 pub fn u8_at(bytes: &[u8]) -> Result<(u8, &[u8]), ReadError>
     ensures { Gives (λ x. (x.0, x.1.now)) result (byte_at bytes.now) }
 {
@@ -40,6 +42,7 @@ fn u16_at(bytes: &[u8]) -> Result<(u16, &[u8]), ReadError>
     Ok((u16::from_be_bytes([front[0], front[1]]), rest))
 }
 
+/// The next four bytes as a number, the highest first, and what is behind them.
 pub fn u32_at(bytes: &[u8]) -> Result<(u32, &[u8]), ReadError>
     ensures { Gives (λ x. (x.0, x.1.now)) result (number_at w32 bytes.now) }
 {

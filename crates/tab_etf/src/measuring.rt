@@ -13,6 +13,7 @@ use tab_term::{Term, Terms};
 /// The longest payload that a length of four bytes can tell.
 pub const LONGEST: u64 = 0xffff_ffff;
 
+/// How many bytes an integer takes, its tag too.
 #[tactic(auto, using(crate::proofs::Lengths::one_long, crate::proofs::Lengths::four_long, crate::proofs::Lengths::big_long))]
 pub fn int_len(z: i128) -> u64
     ensures { result ≡ length (int_tag z ∷ int_contents z) }
@@ -33,6 +34,7 @@ fn big_len(z: i128) -> u64
     significant_of(&bytes).len() as u64 + 3
 }
 
+/// How many bytes a count of elements takes.
 #[tactic(auto, using(crate::proofs::Lengths::field_short, crate::proofs::Lengths::field_long))]
 pub fn field_len(n: usize) -> u64
     ensures value { result ≡ length (length_field n) }
@@ -41,6 +43,7 @@ pub fn field_len(n: usize) -> u64
     if n < 0xffff_ffff { 4 } else { 12 }
 }
 
+/// How many bytes an atom of so many bytes of text takes.
 #[tactic(auto, using(crate::proofs::Lengths::atom_short, crate::proofs::Lengths::atom_long))]
 pub fn atom_len(n: usize) -> u64
     requires { n < 2 ^ 16 }
@@ -82,6 +85,7 @@ pub fn spelled_len(t: &Term) -> u64
     }
 }
 
+/// How many bytes a list takes; `u64::MAX` where it is more.
 #[cycle(len)]
 #[tactic(auto, using(crate::proofs::Lengths::empty_length, crate::proofs::Lengths::bytes_length, crate::proofs::Lengths::others_length))]
 pub fn list_len(ts: &Terms) -> u64

@@ -50,6 +50,7 @@ fn put_big<W: Target>(writer: &mut Writer<W>, z: i128)
     put_digits(writer, sign_byte(z), significant_of(&bytes));
 }
 
+/// Writes an integer in the shortest of its forms.
 #[tactic(auto, using(crate::proofs::WritingLemmas::writes_then))]
 pub fn put_int<W: Target>(writer: &mut Writer<W>, z: i128)
     ensures { Writes W.contents W.faults writer.old writer.new (int_tag z ∷ int_contents z) }
@@ -90,6 +91,7 @@ fn put_atom_head<W: Target>(writer: &mut Writer<W>, n: usize)
     }
 }
 
+/// Writes the beginning of a tuple: its tag, and how many elements follow.
 #[tactic(auto, using(crate::proofs::WritingLemmas::writes_then))]
 pub fn put_tuple_head<W: Target>(writer: &mut Writer<W>, n: usize)
     ensures { Writes W.contents W.faults writer.old writer.new (tuple_tag n ∷ arity_field n) }
@@ -115,6 +117,7 @@ pub fn put_tagged<W: Target>(writer: &mut Writer<W>, tag: u8, n: usize)
     }
 }
 
+/// Writes an atom in the shorter of its two forms that are UTF-8.
 #[tactic(auto, using(crate::proofs::WritingLemmas::writes_then))]
 pub fn put_atom<W: Target>(writer: &mut Writer<W>, text: &str)
     requires { length text.now < 2 ^ 16 }
@@ -134,6 +137,7 @@ fn put_binary<W: Target>(writer: &mut Writer<W>, bytes: &[u8])
 
 // ---- lists of bytes
 
+/// The number of an integer that one byte holds.
 pub fn byte_in(t: &Term) -> u8
     requires { is_byte_term (term t.now) ≡ true }
     ensures { result ≡ byte_of (term t.now) }
@@ -166,6 +170,7 @@ fn put_string<W: Target>(writer: &mut Writer<W>, ts: &[Term])
 
 // ---- terms
 
+/// Writes a term in its canonical form, which is the one that a payload of this program has.
 #[cycle(put)]
 #[tactic(auto, using(crate::proofs::WritingLemmas::writes_then), unfolding(tab_term::specs::Canon::canon))]
 pub fn put<W: Target>(writer: &mut Writer<W>, t: &Term)
@@ -191,6 +196,7 @@ fn put_tuple<W: Target>(writer: &mut Writer<W>, ts: &Terms)
     put_all(writer, items);
 }
 
+/// Writes a list: one of bytes as a string, where it is short enough, as Erlang does.
 #[cycle(put)]
 #[tactic(auto, using(crate::proofs::WritingLemmas::writes_then))]
 pub fn put_list<W: Target>(writer: &mut Writer<W>, ts: &Terms)

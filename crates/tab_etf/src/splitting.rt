@@ -26,6 +26,7 @@ enum Front {
     Whole(usize),
 }
 
+/// The length that a frame begins with; None where fewer than four bytes are there.
 #[tactic(auto, unfolding(crate::specs::Frames::length_next))]
 pub fn length_at(bytes: &[u8]) -> Option<u32>
     ensures value { result ≡ length_next bytes.now }
@@ -136,6 +137,7 @@ impl Model for Splitter {
 }
 
 impl Splitter {
+    /// No byte has come.
     pub fn new(alloc: Global) -> Splitter
         ensures { result ≡ record { rest = []; over = None; before = [] } }
     {

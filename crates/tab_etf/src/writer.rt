@@ -40,6 +40,7 @@ impl<'a, W: Target> Writer<'a, W> {
         }
     }
 
+    /// Whether a write has failed: then nothing is written any more.
     pub fn has_failed(&self) -> bool
         ensures { result ≡ self.now.failed }
     {

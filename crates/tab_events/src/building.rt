@@ -8,6 +8,7 @@ ghost use Rattle.tab_model.specs.Shapes.{five as five_of};
 use std::alloc::{AllocError, Global};
 use tab_term::{Atom, Term, Terms};
 
+/// A word of the protocol, which is an atom.
 pub fn word(alloc: Global, text: &str) -> Result<Term, AllocError>
     requires { length text.now ≤ 255 }
     ensures { IfOk result (λ t. term t ≡ atom text.now) }
@@ -15,12 +16,14 @@ pub fn word(alloc: Global, text: &str) -> Result<Term, AllocError>
     Ok(Term::Atom(Atom::from_short_text(alloc, text)?))
 }
 
+/// A table's name.
 pub fn name(alloc: Global, table: &Atom) -> Result<Term, AllocError>
     ensures { IfOk result (λ t. term t ≡ atom table.now) }
 {
     Ok(Term::Atom(table.try_clone(alloc)?))
 }
 
+/// `{First, Second}`.
 pub fn pair(alloc: Global, first: Term, second: Term) -> Result<Term, AllocError>
     ensures { IfOk result (λ t. term t ≡ pair_of (term first) (term second)) }
 {
@@ -30,6 +33,7 @@ pub fn pair(alloc: Global, first: Term, second: Term) -> Result<Term, AllocError
     Ok(Term::Tuple(Terms::from_vec(parts)))
 }
 
+/// `{First, Second, Third}`.
 pub fn triple(alloc: Global, first: Term, second: Term, third: Term) -> Result<Term, AllocError>
     ensures { IfOk result (λ t. term t ≡ triple_of (term first) (term second) (term third)) }
 {
@@ -40,6 +44,7 @@ pub fn triple(alloc: Global, first: Term, second: Term, third: Term) -> Result<T
     Ok(Term::Tuple(Terms::from_vec(parts)))
 }
 
+/// A tuple of these five.
 pub fn five(
     alloc: Global,
     first: Term,

@@ -9,6 +9,7 @@ use crate::index::Index;
 use std::alloc::{AllocError, Global};
 use tab_model::Numbers;
 
+/// An index without a record for each of these positions.
 pub fn empty_indexes(alloc: Global, numbers: &Numbers) -> Result<Vec<Index>, AllocError>
     ensures positions { IfOk result (λ indexes. positions indexes.items ≡ numbers.now) }
     ensures indexes { IfOk result (λ indexes. AreIndexesOf [] indexes.items) }
@@ -20,6 +21,7 @@ pub fn empty_indexes(alloc: Global, numbers: &Numbers) -> Result<Vec<Index>, All
     Ok(indexes)
 }
 
+/// The same indexes, each in constant time.
 pub fn shared_indexes(alloc: Global, indexes: &[Index]) -> Result<Vec<Index>, AllocError>
     ensures { IfOk result (λ same. same.items ≡ indexes.now) }
 {
@@ -64,6 +66,7 @@ pub fn other_indexes(
     Ok(others)
 }
 
+/// The positions that have an index, in their order.
 pub fn positions_of(alloc: Global, indexes: &[Index]) -> Result<Vec<u64>, AllocError>
     ensures { IfOk result (λ numbers. numbers.items ≡ positions indexes.now) }
 {

@@ -83,6 +83,7 @@ impl IndexedTable {
         })
     }
 
+    /// The table's definition.
     pub fn def(&self) -> &TableDef
         ensures { result.now ≡ self.now.def }
     {

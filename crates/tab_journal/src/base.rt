@@ -49,6 +49,7 @@ impl Base {
         }
     }
 
+    /// The tables that the first entry starts from.
     pub fn tables(&self) -> &World
         ensures tables { result.now ≡ self.now.tables }
         ensures ordered { IsOrderedWorld self.now.tables }
@@ -63,6 +64,7 @@ impl Base {
         self.commits
     }
 
+    /// The subscriptions that are in force there.
     pub fn subscriptions(&self) -> &[Subscription]
         ensures { result.now ≡ self.now.subscriptions }
     {
@@ -122,6 +124,7 @@ impl Base {
     }
 }
 
+/// How many commits there are behind this entry.
 pub fn number_after(commits: u64, entry: &Entry) -> u64
     ensures { result ≡ number_after_entry commits entry.now }
 {

@@ -53,6 +53,7 @@ fn is_failure(told: &Option<Told>) -> bool
     }
 }
 
+/// What an operation changes; None for one that reads or locks.
 pub fn change_of(alloc: Global, operation: &Operation) -> Result<Option<Change>, AllocError>
     ensures { IfOk result (λ change. change ≡ change_of_op operation.now) }
 {

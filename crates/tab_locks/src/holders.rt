@@ -33,6 +33,7 @@ impl Holders {
         }
     }
 
+    /// One holder alone.
     pub fn only(alloc: Global, age: u64, write: bool) -> Result<Holders, AllocError>
         ensures { IfOk result (λ holders. HasMore (age, write) [] holders) }
     {
@@ -41,18 +42,21 @@ impl Holders {
         Ok(holders)
     }
 
+    /// Whether anyone holds it.
     pub fn is_occupied(&self) -> bool
         ensures { result ≡ list_any (λ _. true) self.now }
     {
         is_filled(&self.held)
     }
 
+    /// Whether a holder stands in this relation to who asks.
     pub fn any(&self, question: Question) -> bool
         ensures { result ≡ list_any (fits question.relation (question.age, question.write)) self.now }
     {
         any_of(&self.held, question)
     }
 
+    /// The transaction of this age holds it too.
     pub fn add(&mut self, age: u64, write: bool) -> Result<(), AllocError>
         ensures ok { OnOk result (HasMore (age, write) self.old self.new) }
         ensures err { OnErr result (self.new ≡ self.old) }
@@ -63,6 +67,7 @@ impl Holders {
         Ok(())
     }
 
+    /// This one holds it no more.
     pub fn remove(&mut self, age: u64, write: bool)
         ensures { Drops (is_holding (age, write)) self.old self.new }
     {

@@ -53,6 +53,7 @@ impl Index {
         }
     }
 
+    /// Whether a transaction that holds a lock stands in this relation to who asks for that one.
     pub fn any(&self, relation: Relation, age: u64, lock: &Lock) -> bool
         ensures { result ≡ list_any (asked relation (age, lock_of lock.now)) self.now }
     {
@@ -67,6 +68,7 @@ impl Index {
         }
     }
 
+    /// Whether anyone holds a lock in the table.
     pub fn is_locked(&self, table: &Atom) -> bool
         ensures { result ≡ list_any (is_in table.now) self.now }
     {
@@ -76,6 +78,7 @@ impl Index {
         }
     }
 
+    /// The transaction of this age holds the lock too.
     pub fn add(&mut self, alloc: Global, age: u64, lock: &Lock) -> Result<(), AllocError>
         ensures ok { OnOk result (HasMore (age, lock_of lock.now) self.old self.new) }
         ensures err { OnErr result (SameMembers self.old self.new) }

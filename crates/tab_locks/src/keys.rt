@@ -50,6 +50,7 @@ impl Keys {
         }
     }
 
+    /// Whether anyone holds a lock of a key.
     pub fn is_occupied(&self) -> bool
         ensures { result ≡ list_any (λ _. true) self.now }
     {

@@ -73,6 +73,7 @@ impl Model for LockTable {
 }
 
 impl LockTable {
+    /// No one holds a lock.
     pub fn new(alloc: Global) -> LockTable
         ensures { result ≡ [] }
     {

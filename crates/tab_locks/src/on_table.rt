@@ -44,6 +44,7 @@ impl OnTable {
         }
     }
 
+    /// One lock alone.
     pub fn only(alloc: Global, what: &What, age: u64, write: bool) -> Result<OnTable, AllocError>
         ensures { IfOk result (λ spots. HasMore (part_of what.now, (age, write)) [] spots) }
     {
@@ -52,6 +53,7 @@ impl OnTable {
         Ok(spots)
     }
 
+    /// Whether anyone holds a lock in the table.
     pub fn is_occupied(&self) -> bool
         ensures { result ≡ list_any (λ _. true) self.now }
     {
@@ -71,6 +73,7 @@ impl OnTable {
         }
     }
 
+    /// The transaction of this age holds this part of the table too.
     pub fn add(
         &mut self,
         alloc: Global,
@@ -113,6 +116,7 @@ impl OnTable {
         }
     }
 
+    /// It holds this part no more.
     pub fn remove(&mut self, alloc: Global, what: What, age: u64, write: bool)
         ensures { Drops (stands_on (part_of what) (age, write)) self.old self.new }
     {

@@ -32,6 +32,7 @@ impl Question {
         }
     }
 
+    /// Whether a holder of this age and kind is one that is asked for.
     pub fn fits(self, age: u64, write: bool) -> bool
         ensures { result ≡ fits_of self.relation (self.age, self.write) (age, write) }
     {

@@ -24,6 +24,7 @@ pub struct Ending<'a> {
 }
 
 impl Machine {
+    /// The end of the session's transaction, where level 1 alone is open and nothing waits.
     pub fn outermost(&self, session: u32) -> Option<Ending<'_>>
         requires kept { IsKept self.now }
         ensures { option_map told_of result ≡ option_map ending_of (outermost (state_of self.now) session) }

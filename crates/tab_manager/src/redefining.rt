@@ -18,6 +18,7 @@ use tab_term::Atom;
 use tab_world::{Redefined, World, redefine, table_info};
 
 impl Machine {
+    /// A command on tables' definitions, refused while anyone holds or awaits a lock in the table.
     pub fn schema(
         &mut self,
         session: u32,
@@ -88,6 +89,7 @@ impl Machine {
         }
     }
 
+    /// What is asked of a table as it is committed.
     pub fn table_info(&self, session: u32, name: &Atom, item: InfoItem) -> Result<Reply, AllocError>
         requires there { (i : _) × StandsAt self.now.seats.items session i }
         requires idle { is_waiting (state_of self.now) session ≡ false }

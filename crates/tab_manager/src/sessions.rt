@@ -21,6 +21,7 @@ impl Machine {
         find(&self.queue, session).is_some()
     }
 
+    /// Whether the session is joined.
     pub fn joined(&self, session: u32) -> bool
         ensures { result ≡ is_some (seat_at (state_of self.now).seats session) }
     {

@@ -25,6 +25,7 @@ pub struct Stepped {
 }
 
 impl Stepped {
+    /// A step that adds nothing to the log.
     pub fn without_entry(reply: Reply) -> Stepped
         ensures { result ≡ record { reply = reply; entry = None } }
     {

@@ -33,6 +33,7 @@ pub fn place<K: Abbreviate + Drop, V: Drop>(
 }
 
 impl<K: Abbreviate + Drop, V: Drop> Branch<K, V> {
+    /// The same branch, whose child two maps have then. It copies the abbreviation and raises a count.
     pub fn share(&self) -> Result<Branch<K, V>, AllocError>
         ensures { IfOk result (λ b. b ≡ self.now) }
     {

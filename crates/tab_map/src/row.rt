@@ -36,6 +36,7 @@ fn place<K: Abbreviate + Drop, V: Drop>(
     )
 }
 
+/// The value at the key.
 pub fn get<'a, K: Abbreviate + Drop, V: Drop>(
     items: &'a [Entry<K, V>],
     sought: &Sought<K>,
@@ -49,6 +50,7 @@ pub fn get<'a, K: Abbreviate + Drop, V: Drop>(
     }
 }
 
+/// The entries from the key on.
 pub fn next_from<'a, K: Abbreviate + Drop, V: Drop>(
     items: &'a [Entry<K, V>],
     sought: &Sought<K>,
@@ -62,6 +64,7 @@ pub fn next_from<'a, K: Abbreviate + Drop, V: Drop>(
     }
 }
 
+/// The entries above the key.
 pub fn next_above<'a, K: Abbreviate + Drop, V: Drop>(
     items: &'a [Entry<K, V>],
     sought: &Sought<K>,
@@ -75,6 +78,7 @@ pub fn next_above<'a, K: Abbreviate + Drop, V: Drop>(
     }
 }
 
+/// Puts an entry at its place; what stood there is given back.
 pub fn put<K: Abbreviate + Drop, V: Drop>(
     items: &mut Vec<Entry<K, V>>,
     entry: Entry<K, V>,
@@ -94,6 +98,7 @@ pub fn put<K: Abbreviate + Drop, V: Drop>(
     }
 }
 
+/// Revises the value at the key, where one is.
 pub fn revise<K: Abbreviate + Drop, V: Drop, R: Revise<V> + Drop>(
     alloc: Global,
     items: &mut Vec<Entry<K, V>>,
@@ -112,6 +117,7 @@ pub fn revise<K: Abbreviate + Drop, V: Drop, R: Revise<V> + Drop>(
     Ok(())
 }
 
+/// Takes away the entry at the key, where one is.
 pub fn take<K: Abbreviate + Drop, V: Drop>(items: &mut Vec<Entry<K, V>>, sought: &Sought<K>)
     requires { Ascends K.cmp items.old.items }
     ensures { items.new.items ≡ remove_entry K.cmp sought.now items.old.items }
@@ -122,6 +128,7 @@ pub fn take<K: Abbreviate + Drop, V: Drop>(items: &mut Vec<Entry<K, V>>, sought:
     }
 }
 
+/// A row with the same entries, which are shared, and room for one more.
 pub fn copied<K: Abbreviate + Drop, V: Drop>(
     alloc: Global,
     items: &[Entry<K, V>],
@@ -135,6 +142,7 @@ pub fn copied<K: Abbreviate + Drop, V: Drop>(
     Ok(copies)
 }
 
+/// A row of these pairs, in their order.
 pub fn of_pairs<K: Abbreviate + Drop, V: Drop>(
     alloc: Global,
     pairs: Vec<(K, V)>,

@@ -15,6 +15,7 @@ pub struct Closing {
 }
 
 impl Closing {
+    /// They are looked for.
     pub fn new() -> Closing {
         Closing {
             is_over: AtomicBool::new(false),

@@ -72,6 +72,7 @@ impl Told {
         }
     }
 
+    /// The reply itself.
     pub fn reply(&self) -> &Reply
         ensures { result.now ≡ self.now }
     {

@@ -46,6 +46,7 @@ impl Drop for Answer {
 }
 
 impl Answer {
+    /// Memory was refused.
     pub fn no_memory() -> Answer
         ensures { result.reply ≡ reply.NoMemory }
     {
@@ -61,6 +62,7 @@ impl Answer {
         reply
     }
 
+    /// What the answer says of the levels.
     pub fn sort(&self) -> Sort
         ensures { result ≡ sort_of self.now.reply }
     {

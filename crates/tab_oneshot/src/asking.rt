@@ -12,6 +12,7 @@ use crate::turn::Turn;
 use tab_model::{Command, Told};
 use tab_term::Term;
 
+/// Hands a command in.
 pub fn ask<S: Steps>(steps: &mut S, command: Command) -> Answer
     ensures { S.shows steps.old (Asked command result.reply ∷ []) steps.new }
 {
@@ -21,6 +22,7 @@ pub fn ask<S: Steps>(steps: &mut S, command: Command) -> Answer
     }
 }
 
+/// The answer of what waits; None where no one can wait.
 pub fn wait<S: Steps>(steps: &mut S) -> Option<Answer>
     ensures { S.shows steps.old (Waited (awaited result) ∷ []) steps.new }
 {

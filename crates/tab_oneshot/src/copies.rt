@@ -33,6 +33,7 @@ fn items_of(alloc: Global, parts: &[Part]) -> Result<Vec<Part>, AllocError>
     Ok(copies)
 }
 
+/// The same parts once more.
 pub fn parts_of(alloc: Global, parts: &Parts) -> Result<Parts, AllocError>
     ensures { IfOk result (λ copy. copy ≡ parts.now) }
 {

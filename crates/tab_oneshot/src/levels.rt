@@ -137,6 +137,7 @@ impl Levels {
         self.inner.reserve()
     }
 
+    /// One answer more, of the innermost level.
     pub fn put(&mut self, answer: Term) -> Result<(), AllocError>
         ensures { OnOk result (self.new ≡ told (term answer) self.old) }
     {

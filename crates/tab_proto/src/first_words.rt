@@ -33,6 +33,7 @@ pub enum Binary {
     Transaction,
 }
 
+/// What a request of two elements asks, by the first of them.
 pub fn unary_of(word: &str) -> Option<Unary>
     ensures known { result ≡ unary_in word.now }
     ensures text { IfSome result (λ u. word.now ≡ unary_text u) }
@@ -56,6 +57,7 @@ pub fn unary_of(word: &str) -> Option<Unary>
     }
 }
 
+/// What a request of three elements asks, by the first of them.
 pub fn binary_of(word: &str) -> Option<Binary>
     ensures known { result ≡ binary_in word.now }
     ensures text { IfSome result (λ b. word.now ≡ binary_text b) }

@@ -293,6 +293,7 @@ fn kind_word(kind: Kind) -> &'static str
     }
 }
 
+/// The word for how events are told: `simple` or `detailed`.
 pub fn level_word(level: Level) -> &'static str
     ensures word { atom result.now ≡ level_word_of level }
     ensures short { length result.now ≤ 255 }

@@ -292,6 +292,7 @@ pub fn copy_of_key(alloc: Global, row: &Term) -> Result<Term, AllocError>
     }
 }
 
+/// The same records once more.
 pub fn copies(alloc: Global, records: &[Term]) -> Result<Terms, AllocError>
     ensures { IfOk result (λ copy. copy ≡ terms records.now) }
 {

@@ -15,6 +15,7 @@ pub enum Kind {
 }
 
 impl Kind {
+    /// A command's kind.
     pub fn of(command: &Command) -> Kind {
         match command {
             Command::Begin => Kind::Begin,

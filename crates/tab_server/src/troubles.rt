@@ -21,6 +21,7 @@ pub struct Troubles<'n, N: Notes> {
 }
 
 impl<'n, N: Notes> Troubles<'n, N> {
+    /// None yet.
     pub fn new(notes: &'n N) -> Troubles<'n, N> {
         Troubles { notes, told: false }
     }

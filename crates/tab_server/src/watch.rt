@@ -44,6 +44,7 @@ pub struct Watch {
 }
 
 impl Watch {
+    /// No request waits.
     pub fn new() -> Watch {
         Watch {
             doing: Mutex::new(Doing {

@@ -17,6 +17,7 @@ pub struct Sink<W> {
 }
 
 impl<W: Write> Sink<W> {
+    /// A device that has not failed.
     pub fn new(writer: W) -> Sink<W>
         ensures { (result.broken ≡ false) × (result.device.inner ≡ writer) × (result.device.faults ≡ 0) }
     {
@@ -50,6 +51,7 @@ pub struct FrameSink<W> {
 }
 
 impl<W: Write> FrameSink<W> {
+    /// A device that has not failed, for two threads.
     pub fn new(writer: W) -> FrameSink<W> {
         FrameSink {
             sink: Mutex::new(Sink::new(writer)),

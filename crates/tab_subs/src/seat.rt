@@ -56,30 +56,35 @@ impl<P: Post + Drop> Seat<P> {
         }
     }
 
+    /// The session's number.
     pub fn number(&self) -> u64
         ensures { result ≡ self.now.number }
     {
         self.number
     }
 
+    /// Where its items are put.
     pub fn post(&self) -> &P
         ensures { P.outbox result.now ≡ self.now.outbox }
     {
         &self.post
     }
 
+    /// The commit from which on its items are lost, where it was not told so yet.
     pub fn overflow(&self) -> Option<u64>
         ensures { result ≡ self.now.overflow }
     {
         self.overflow
     }
 
+    /// How it watches the table; None where it does not.
     pub fn level(&self, table: &Atom) -> Option<Level>
         ensures { result ≡ level_in self.now.watching table.now }
     {
         level_of(&self.watching, table)
     }
 
+    /// Takes its next item, or tells its overflow once all items are taken.
     pub fn take(&mut self) -> Taken
         ensures { (self.new, result) ≡ take_of self.old }
     {

@@ -45,6 +45,7 @@ impl<'a> Shaped<'a> {
         }
     }
 
+    /// The table that it is about.
     pub fn table(&self) -> &Atom
         ensures { result.now ≡ self.now.tab }
     {

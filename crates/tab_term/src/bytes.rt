@@ -32,6 +32,7 @@ impl Bytes {
         self.bytes
     }
 
+    /// The bytes.
     pub fn as_slice(&self) -> &[u8]
         ensures { result.now ≡ self.now }
     {

@@ -47,6 +47,7 @@ impl SharedTerm {
         })
     }
 
+    /// The term, which is shared.
     pub fn as_term(&self) -> &Term
         ensures { term_of result.now ≡ self.now }
     {
@@ -79,6 +80,7 @@ impl SharedTerms {
         SharedTerms { items }
     }
 
+    /// The terms, in their order.
     #[tactic(auto, using(crate::proofs::Lists::count_plain))]
     pub fn as_slice(&self) -> &[SharedTerm]
         ensures items { plain_terms result.now ≡ self.now }

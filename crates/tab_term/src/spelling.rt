@@ -10,32 +10,46 @@ use crate::shared::{SharedTerm, SharedTerms};
 use crate::term::{Term, Terms};
 
 // The tags, by their names in the External Term Format.
+/// The tags of the external term format (ERTS User's Guide, "External Term Format"): an integer of one byte.
 pub const SMALL_INTEGER_EXT: u8 = 97;
 
+/// An integer of four bytes.
 pub const INTEGER_EXT: u8 = 98;
 
+/// An atom in Latin-1, whose length has two bytes. It is read, and never written.
 pub const ATOM_EXT: u8 = 100;
 
+/// A tuple whose arity has one byte.
 pub const SMALL_TUPLE_EXT: u8 = 104;
 
+/// A tuple whose arity has four bytes.
 pub const LARGE_TUPLE_EXT: u8 = 105;
 
+/// The empty list.
 pub const NIL_EXT: u8 = 106;
 
+/// A list of bytes.
 pub const STRING_EXT: u8 = 107;
 
+/// A list of terms.
 pub const LIST_EXT: u8 = 108;
 
+/// A binary.
 pub const BINARY_EXT: u8 = 109;
 
+/// An integer of fewer than 256 bytes, the lowest first, behind its sign.
 pub const SMALL_BIG_EXT: u8 = 110;
 
+/// An atom in Latin-1, whose length has one byte. It is read, and never written.
 pub const SMALL_ATOM_EXT: u8 = 115;
 
+/// A map.
 pub const MAP_EXT: u8 = 116;
 
+/// An atom in UTF-8, whose length has two bytes.
 pub const ATOM_UTF8_EXT: u8 = 118;
 
+/// An atom in UTF-8, whose length has one byte.
 pub const SMALL_ATOM_UTF8_EXT: u8 = 119;
 
 /// Whether one byte holds the integer.

@@ -129,6 +129,7 @@ impl Terms {
         self.items
     }
 
+    /// The terms, in their order.
     #[tactic(auto, using(crate::proofs::Lists::count_terms))]
     pub fn as_slice(&self) -> &[Term]
         ensures items { terms result.now ≡ self.now }
@@ -176,6 +177,7 @@ impl Pairs {
         self.pairs
     }
 
+    /// The pairs of key and value, in the order of their keys.
     #[tactic(auto, using(crate::proofs::Lists::count_pairs))]
     pub fn as_slice(&self) -> &[(Term, Term)]
         ensures items { pairs_of result.now ≡ self.now }

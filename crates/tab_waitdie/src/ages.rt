@@ -59,6 +59,7 @@ impl Model for Ages {
 }
 
 impl Ages {
+    /// No transaction holds or asks for a lock.
     pub fn new(alloc: Global) -> Ages
         ensures { result ≡ ages [] [] }
     {

@@ -82,6 +82,7 @@ impl Changing {
         Ok(Changing { world, newer })
     }
 
+    /// The tables, once the last change is made.
     pub fn into_world(self, alloc: Global) -> Result<World, AllocError>
         ensures { IfOk result (λ world. world ≡ self) }
     {

@@ -37,6 +37,7 @@ impl Model for World {
 }
 
 impl World {
+    /// No tables.
     pub fn empty() -> World
         ensures { result ≡ [] }
     {
@@ -54,6 +55,7 @@ impl World {
         })
     }
 
+    /// The table of this name.
     pub fn table(&self, name: &Atom) -> Option<&IndexedTable>
         ensures { option_copied result ≡ find self.now name.now }
     {

@@ -150,6 +150,7 @@ fn replay<'a>(alloc: Global) -> Result<Command<'a>, AllocError>
         .arg(outbox(alloc))
 }
 
+/// The whole command line.
 pub fn command<'a>(alloc: Global) -> Result<Command<'a>, AllocError>
     ensures { IfOk result (λ c. app_of c ≡ command_line) }
 {
