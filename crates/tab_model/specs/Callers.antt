@@ -39,6 +39,7 @@ afresh k age = record { transaction = record { age = age; moves = []; told = [] 
 pub data AnswerKind : Type 0 where
   NotMade Waits BeginsAnew Made : AnswerKind
 
+-- the kind of a reply to an operation or a retry; each reply that is not listed, as a failure, says that it was made
 abbrev pub kind_of : Reply → AnswerKind
 kind_of reply.BadCommand = NotMade
 kind_of reply.NoTransaction = NotMade
@@ -52,6 +53,7 @@ kind_of reply.Waiting = Waits
 kind_of reply.Restart = BeginsAnew
 kind_of r = Made
 
+-- what a caller knows after an operation: the same, that it waits, that its transaction is empty, or a move more
 abbrev pub operated : Caller → Operation → Reply → AnswerKind → Caller
 operated k o r NotMade = k
 operated k o r Waits = record { transaction = k.transaction; queued = Some o }
@@ -68,6 +70,7 @@ abbrev pub begun : Caller → Reply → Caller
 begun k (reply.Tid age) = if k.transaction.age == age then did k Open (Some (reply.Tid age)) else afresh k age
 begun k r = k
 
+-- what a caller knows after a commit: a move more where a child's was done, else the same
 abbrev pub closed : Caller → Reply → Caller
 closed k reply.AtomicOk = did k Close (Some reply.AtomicOk)
 closed k r = k
@@ -77,6 +80,7 @@ abbrev pub undone : Caller → Reply → Caller
 undone k (reply.UserAbort reason) = did k Undo None
 undone k r = k
 
+-- what a caller knows after a command of its own; schema commands, table_info and subscriptions change nothing
 abbrev pub hears_command : Caller → Command → Reply → Caller
 hears_command k command.Begin r = begun k r
 hears_command k command.Commit r = closed k r
@@ -96,14 +100,17 @@ abbrev pub commit_told : ℕ → List ℕ → Caller → Reply → Option Entry
 commit_told n over k (reply.Atomic i) = Some (Committed i n k.transaction.age k.transaction.moves k.transaction.told over)
 commit_told n over k r = None
 
+-- the entry of a schema command, where its reply says that it is done
 abbrev pub schema_told : List ℕ → Schema → Reply → Option Entry
 schema_told over c reply.AtomicOk = Some (Changed c over)
 schema_told over c r = None
 
+-- the entry of a subscription or of its end, where its reply says that it is done
 abbrev pub done_told : Entry → Reply → Option Entry
 done_told e reply.SubscribedHere = Some e
 done_told e r = None
 
+-- the entry that a command of session n adds: only schema commands, commits, subscriptions and their ends add one
 abbrev pub command_told : ℕ → List ℕ → Caller → Command → Reply → Option Entry
 command_told n over k (command.Schema c) r = schema_told over c r
 command_told n over k command.Commit r = commit_told n over k r
@@ -130,14 +137,17 @@ abbrev pub answered_told : ℕ → AnswerKind → List Queued → List Queued
 answered_told n Made qs = without_own n qs
 answered_told n x qs = qs
 
+-- the queue after an abort: without its session's requests where its reply says that it is done
 abbrev pub aborted_told : ℕ → Reply → List Queued → List Queued
 aborted_told n (reply.UserAbort reason) qs = without_own n qs
 aborted_told n r qs = qs
 
+-- the queue after a session leaves: without its requests where its reply says that it has left
 abbrev pub left_told : ℕ → Reply → List Queued → List Queued
 left_told n reply.Done qs = without_own n qs
 left_told n r qs = qs
 
+-- the queue after a command of session n: only an operation and an abort may change it
 abbrev pub queue_by_command : ℕ → Caller → Command → Reply → List Queued → List Queued
 queue_by_command n k (command.Abort reason) r qs = aborted_told n r qs
 queue_by_command n k (command.Do o) r qs = queued_told n k o (kind_of r) qs
@@ -155,11 +165,13 @@ abbrev pub age_told : Caller → Reply → ℕ → ℕ
 age_told k (reply.Tid age) a = if k.transaction.age == age then a else a + 1
 age_told k r a = a
 
+-- the next age after a command: only a begin and a one-shot may change it
 abbrev pub age_by_command : Caller → Command → Reply → ℕ → ℕ
 age_by_command k command.Begin r a = age_told k r a
 age_by_command k (command.OneShot parts retries) r a = age_told k r a
 age_by_command k c r a = a
 
+-- the next age after one step of a caller: only commands may change it
 abbrev pub next_told : Caller → Ask → Reply → ℕ → ℕ
 next_told k (DoCommand c) r a = age_by_command k c r a
 next_told k x r a = a
@@ -203,6 +215,7 @@ abbrev pub post_marked : Reply → Post → Post
 post_marked reply.OutboxFull p = record { refusals = next_refusals p.refusals; overflow = p.overflow }
 post_marked r p = p
 
+-- a post after a command of its own session: only a refused mark of a subscription's begin or end changes it
 abbrev pub post_by_command : Command → Reply → Post → Post
 post_by_command (command.Subscribe t l dump) r p = post_marked r p
 post_by_command (command.Unsubscribe t l) r p = post_marked r p
@@ -223,12 +236,15 @@ post_told n commits m a r e p = post_by_entry n commits e (if n == m then post_b
 abbrev pub Callers : Type 0
 Callers = ℕ → Caller
 
+-- what callers know before all calls
 abbrev pub newcomers : Callers
 newcomers m = newcomer
 
+-- what callers know after one call and its reply, of which the asker's caller alone learns
 abbrev pub told_one : Callers → Call → Reply → Callers
 told_one ks c r m = if m == c.session then hears (ks c.session) c.ask r else ks m
 
+-- the entry that a call adds, read off its reply and what its caller knows
 abbrev pub told_entry : Callers → Call → Reply → Option Entry
 told_entry ks c r = entry_told c.session c.over (ks c.session) c.ask r
 

@@ -11,6 +11,7 @@ use Rattle.tab_model.specs.Names.{plain_terms}
 use Rattle.tab_model.specs.Worlds.{World, cell}
 use Rattle.tab_model.specs.Operations.{change_of_op, table_of_change, key_of_change, change_world}
 
+-- the saved updates without those of the innermost level, where any are saved
 abbrev pub drop_level : List (List Change) → List (List Change)
 drop_level [] = []
 drop_level (x ∷ xs) = xs
@@ -27,6 +28,7 @@ is_failure (Some (reply.BadType t r)) = true
 is_failure (Some (reply.NoIndex t a)) = true
 is_failure r = false
 
+-- the updates, with one more behind them where there is one
 abbrev pub with_change : List Change → Option Change → List Change
 with_change cs None = cs
 with_change cs (Some c) = cs ++ c ∷ []

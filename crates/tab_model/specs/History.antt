@@ -16,11 +16,13 @@ use Rattle.tab_model.specs.Schemas.{removed, schema_refusal, schema_effect}
 use Rattle.tab_model.specs.Log.{serial_from, in_force_from, is_removed, has_session, IsLegal}
 use Rattle.tab_model.specs.Slices.{batch_for, dump_of, end_for, unless_over}
 
+-- a subscription in force: its session, its table and its level
 pub record Subscription : Type 0 where
   pub session : ℕ
   pub table : List ℕ
   pub level : Level
 
+-- where a journal starts from: the tables, the last commit's number, the subscriptions in force
 pub record Base : Type 0 where
   pub tables : World
   pub commits : ℕ
@@ -30,6 +32,7 @@ pub record Base : Type 0 where
 abbrev pub empty : Base
 empty = record { tables = []; commits = 0; subscriptions = [] }
 
+-- the subscription is that of the session to the table
 abbrev pub is_of : ℕ → List ℕ → Subscription → Bool
 is_of s t x = (x.session == s) && bytes_eq x.table t
 
@@ -53,6 +56,7 @@ owed_on w levels s (Unsubscribed x t) = if x == s then Ended t ending.Unsubscrib
 abbrev pub owed_since : Base → ℕ → List Entry → Entry → List Item
 owed_since b s log e = owed_on (serial_from b.tables log) (in_force_since b s log) s e
 
+-- what the second log owes to a session, in order, where the first log came before it, from the base
 abbrev pub slice_since_after : Base → ℕ → List Entry → List Entry → List Item
 slice_since_after b s log [] = []
 slice_since_after b s log (e ∷ es) = owed_since b s log e ++ slice_since_after b s (log ++ e ∷ []) es
@@ -82,6 +86,7 @@ subscriptions_after joined xs (Changed c over) = filter (outlasts over (removed 
 subscriptions_after joined xs (Subscribed s t l dump) = subscribed joined xs (record { session = s; table = t; level = l })
 subscriptions_after joined xs (Unsubscribed s t) = filter (λ y. not (is_of s t y)) xs
 
+-- the tables after a schema command, or those before it where it is refused
 abbrev pub unless_refused : Option Reply → World → World → World
 unless_refused None done was = done
 unless_refused (Some r) done was = was

@@ -15,15 +15,18 @@ use Rattle.tab_term.specs.Pattern.{has_wildcard}
 use Rattle.tab_model.specs.Operations.{table_of}
 
 -- a lock as definitions speak of it: keys are terms
+-- what a lock is on: a whole table, or one key of it
 pub data Part : Type 0 where
   All : Part
   Key : PlainTerm → Part
 
+-- a lock on a whole table or on one key of it; a write lock, or else a read lock
 pub record Lock : Type 0 where
   pub table : List ℕ
   pub part : Part
   pub write : Bool
 
+-- the lock on a part of a table, a write lock where w is true
 abbrev pub lock : List ℕ → Part → Bool → Lock
 lock t p w = record { table = t; part = p; write = w }
 

@@ -17,6 +17,7 @@ use Rattle.tab_model.specs.WholeTables.{index_read, match_object}
 use Rattle.tab_model.specs.Definitions.{position, is_indexed, fits_def}
 use Rattle.tab_model.specs.Worlds.{World, Table, find, place, with_rows}
 
+-- the text of the first element, as UTF-8 bytes; empty where there is none or it is no atom
 abbrev pub tag_in : PlainTerms → List ℕ
 tag_in none = []
 tag_in (one_more (atom s) ts) = s
@@ -78,6 +79,7 @@ failure_at t (op.AllKeys n) = None
 failure_at t (op.ReadLockTable n) = None
 failure_at t (op.WriteLockTable n) = None
 
+-- the records whose attribute at a position has this value; none where there is no position
 abbrev pub by_position : Rows → Option ℕ → PlainTerm → Rows
 by_position rows None x = []
 by_position rows (Some p) x = index_read rows p x
@@ -95,6 +97,7 @@ answer_at t (op.AllKeys n) = reply.Found (plain_terms (keys t.rows))
 answer_at t (op.ReadLockTable n) = reply.Done
 answer_at t (op.WriteLockTable n) = reply.Done
 
+-- an operation's failure on its table, if it fails; that there is no such table is the first failure
 abbrev pub failure_in : Option Table → Operation → Option Reply
 failure_in None o = Some (reply.NoTable (table_of o))
 failure_in (Some t) o = failure_at t o
@@ -115,6 +118,7 @@ key_of_change (change.Write r) = key (term r)
 key_of_change (change.Delete t k) = term k
 key_of_change (change.DeleteObject r) = key (term r)
 
+-- the tables with one of them changed; as they were where that is not there
 abbrev pub change_table : World → Option Table → Change → World
 change_table w None c = w
 change_table w (Some t) c = place w (with_rows t (apply t.def.kind t.rows c))
@@ -123,6 +127,7 @@ change_table w (Some t) c = place w (with_rows t (apply t.def.kind t.rows c))
 abbrev pub change_world : World → Change → World
 change_world w c = change_table w (find w (table_of_change c)) c
 
+-- the tables after a change, or as they were without one
 abbrev pub change_by : World → Option Change → World
 change_by w None = w
 change_by w (Some c) = change_world w c
@@ -131,10 +136,12 @@ change_by w (Some c) = change_world w c
 abbrev pub effect : World → Operation → World
 effect w o = change_by w (change_of_op o)
 
+-- the answer of an operation that does not fail, on its table; without one it fails, and this answer is not used
 abbrev pub answer_in : Option Table → Operation → Reply
 answer_in None o = reply.Done
 answer_in (Some t) o = answer_at t o
 
+-- the failure of an operation where it fails, else its answer
 abbrev pub answer_or : Option Reply → Option Table → Operation → Reply
 answer_or (Some r) t o = r
 answer_or None t o = answer_in t o

@@ -13,6 +13,7 @@ abbrev pub IsAged : Option Transaction → Type 0
 IsAged None = Unit {0}
 IsAged (Some transaction) = 0 < transaction.age
 
+-- the ages of all sessions' open transactions are from 1 on
 abbrev pub AreAged : List Seat → Type 0
 AreAged [] = Unit {0}
 AreAged (s ∷ seats) = IsAged s.transaction × AreAged seats

@@ -17,6 +17,7 @@ use Rattle.tab_model.specs.Outcome.{Ask, DoCommand, outcome, with_transaction, w
 pub data Standing : Type 0 where
   AsBefore Counted Queues Emptied Changes : Standing
 
+-- what each reply says of the state after it; after one that is not listed the state may have changed
 abbrev pub standing : Reply → Standing
 standing reply.BadSession = AsBefore
 standing reply.NoTransaction = AsBefore
@@ -50,10 +51,12 @@ abbrev pub queued_for : ℕ → Option Transaction → Operation → List Queued
 queued_for n None o = []
 queued_for n (Some t) o = record { session = n; age = t.age; operation = o } ∷ []
 
+-- what joins the queue where this is answered Waiting: an operation, with its session and age; of all else nothing
 abbrev pub requested : Option Seat → Ask → List Queued
 requested (Some s) (DoCommand (command.Do o)) = queued_for s.number s.transaction o
 requested s a = []
 
+-- the state with these requests at the end of the queue, and all else as it was
 abbrev pub queued : State → List Queued → State
 queued σ q = with_queue σ (σ.queue ++ q)
 
@@ -62,6 +65,7 @@ abbrev pub empty_again : Option Transaction → Option Transaction
 empty_again None = None
 empty_again (Some t) = Some (emptied t)
 
+-- the state with the asker's transaction empty again, and all else as it was
 abbrev pub restarted : State → Option Seat → State
 restarted σ None = σ
 restarted σ (Some s) = with_seat σ (with_transaction s (empty_again s.transaction))
@@ -96,5 +100,6 @@ IsSeatOf n [] = Unit {0}
 IsSeatOf n (s ∷ []) = s.number ≡ n
 IsSeatOf n (s ∷ t ∷ seats) = ⊥
 
+-- no other session is joined, and the queue is empty
 abbrev pub IsSole : ℕ → State → Type 0
 IsSole n σ = IsSeatOf n σ.seats × (σ.queue ≡ [])

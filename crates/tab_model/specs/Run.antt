@@ -19,15 +19,18 @@ use Rattle.tab_model.specs.Reached.{AreAged}
 use Rattle.tab_model.specs.Outcome.{Ask, Join, Leave, Retry, Take, DoCommand, Outcome, outcome, is_empty, batch_to, end_to, events_now, subscribe_refusal, is_at}
 
 -- those whose posts are handed an item in a step
+-- who watches what an outermost commit changes; none by a child's
 abbrev pub put_commit : State → Option Transaction → List Seat
 put_commit σ None = []
 put_commit σ (Some transaction) = if is_empty (mid_of σ transaction).saved then filter (λ x. not (is_empty (batch_to (σ.commits + 1) (events_now σ transaction) x))) σ.seats else []
 
+-- those whom a schema command hands an end mark: who watches the table that it deletes; none where it is refused
 abbrev pub put_schema : State → Schema → Option Transaction → List Seat
 put_schema σ c (Some transaction) = []
 put_schema σ c None =
     if is_some (schema_refusal σ.tables c) || is_busy σ (table_of_schema c) then [] else filter (λ x. not (is_empty (end_to (removed c) x))) σ.seats
 
+-- those whom a command hands an item: who watches, by a commit or a deletion; the asker, by a subscription or its end
 abbrev pub put_command : State → Seat → Command → List Seat
 put_command σ s (command.Schema c) = put_schema σ c s.transaction
 put_command σ s command.Commit = put_commit σ s.transaction
@@ -35,6 +38,7 @@ put_command σ s (command.Subscribe t l dump) = if is_some (subscribe_refusal σ
 put_command σ s (command.Unsubscribe t l) = if is_at (level_in s.watching t) l then s ∷ [] else []
 put_command σ s c = []
 
+-- those whom a step hands an item: none but by a command of a joined session that does not wait
 abbrev pub put_ask : State → Ask → Option Seat → List Seat
 put_ask σ (DoCommand c) (Some s) = if is_waiting σ s.number then [] else put_command σ s c
 put_ask σ a s = []
@@ -58,16 +62,19 @@ JoinsEmpty Retry = Unit {0}
 JoinsEmpty Take = Unit {0}
 JoinsEmpty (DoCommand c) = Unit {0}
 
+-- a step of a run: who asks, and what
 pub record Call : Type 0 where
   pub session : ℕ
   pub ask : Ask
   -- the sessions whose posts refused
   pub over : List ℕ
 
+-- each Join of a run hands in an empty outbox
 abbrev pub AllJoinEmpty : List Call → Type 0
 AllJoinEmpty [] = Unit {0}
 AllJoinEmpty (c ∷ cs) = JoinsEmpty c.ask × AllJoinEmpty cs
 
+-- what a call comes to, from a state
 abbrev pub outcome_of : State → Call → Outcome
 outcome_of σ c = outcome σ c.over c.session c.ask
 
@@ -76,6 +83,7 @@ abbrev pub after_all : State → List Call → State
 after_all σ [] = σ
 after_all σ (c ∷ cs) = after_all (outcome_of σ c).state cs
 
+-- the entry of a step as a list of one, or of none
 abbrev pub entries : Option Entry → List Entry
 entries None = []
 entries (Some e) = e ∷ []
@@ -90,10 +98,12 @@ abbrev pub replies_of : State → List Call → List Reply
 replies_of σ [] = []
 replies_of σ (c ∷ cs) = (outcome_of σ c).reply ∷ replies_of (outcome_of σ c).state cs
 
+-- the item that a reply to a Take carries; none of any other reply
 abbrev pub item_of : Reply → List Item
 item_of (reply.Taken x) = x ∷ []
 item_of r = []
 
+-- what session m takes by a reply to session n: its item where they are one session, else nothing
 abbrev pub taken_now : ℕ → ℕ → Reply → List Item
 taken_now m n r = if m == n then item_of r else []
 
@@ -102,6 +112,7 @@ abbrev pub taken_of : ℕ → State → List Call → List Item
 taken_of m σ [] = []
 taken_of m σ (c ∷ cs) = taken_now m c.session (outcome_of σ c).reply ++ taken_of m (outcome_of σ c).state cs
 
+-- a joined session is as the log says: it watches what is in force, and what it took and then its outbox are its slice
 pub record IsSeatTied (n : ℕ) (s : Seat) (log : List Entry) (taken : List Item) : Type 0 where
   pub watching : (t : List ℕ) → level_in s.watching t ≡ in_force n log t
   pub items : taken ++ s.outbox.items ≡ slice n log
@@ -135,5 +146,6 @@ pub record IsTied (σ : State) (log : List Entry) (taken : ℕ → List Item) : 
   pub ages : AreAged σ.seats
   pub next_age : 0 < σ.next_age
 
+-- the call of a session that leaves; no outbox refuses in it
 abbrev pub leaves : ℕ → Call
 leaves n = record { session = n; ask = Leave; over = [] }

@@ -26,6 +26,7 @@ held (map ps) = is.Map ps
 abbrev pub tid : ℕ → PlainTerm
 tid age = pair (atom (codes "tid")) (int (pos age))
 
+-- a tuple of five elements
 abbrev pub five : PlainTerm → PlainTerm → PlainTerm → PlainTerm → PlainTerm → PlainTerm
 five a b c d e = tuple (one_more a (one_more b (one_more c (one_more d (one_more e none)))))
 
@@ -41,6 +42,7 @@ detailed (change.Write r) t old age = five (atom (codes "write")) (atom t) (term
 detailed (change.Delete t' k) t old age = five (atom (codes "delete")) (atom t) (pair (atom t') (term k)) (list old) (tid age)
 detailed (change.DeleteObject r) t old age = five (atom (codes "delete")) (atom t) (term r) (list old) (tid age)
 
+-- the second element of an event's term, which tells the change at a level
 abbrev pub body : Level → Event → PlainTerm
 body Simple e = simple e.change e.age
 body Detailed e = detailed e.change e.tab e.old e.age
@@ -62,9 +64,11 @@ abbrev pub is_id : PlainTerm → Bool
 is_id (tuple (one_more (atom n) (one_more (int (pos (suc a))) none))) = bytes_eq n (codes "tid")
 is_id x = false
 
+-- the write of a record; none where the term is no record
 abbrev pub written : PlainTerm → Option Change
 written x = if is_record x then Some (change.Write (held x)) else None
 
+-- the deletion of a record; none where the term is no record
 abbrev pub object_deleted : PlainTerm → Option Change
 object_deleted x = if is_record x then Some (change.DeleteObject (held x)) else None
 
@@ -78,48 +82,58 @@ abbrev pub deleted : PlainTerm → Option Change
 deleted (tuple (one_more (atom t) (one_more k none))) = Some (change.Delete t (held k))
 deleted x = object_deleted x
 
+-- the change where it is made in the table; none where it is made in another
 abbrev pub in_table : List ℕ → Option Change → Option Change
 in_table t None = None
 in_table t (Some c) = if bytes_eq (table_of_change c) t then Some c else None
 
+-- the change that a simple event tells, by its tag n and the record or `{Tab, Key}` behind it
 abbrev pub simple_change : List ℕ → PlainTerm → Option Change
 simple_change n x =
     if bytes_eq n (codes "write") then written x
     else (if bytes_eq n (codes "delete") then key_deleted x
     else (if bytes_eq n (codes "delete_object") then object_deleted x else None))
 
+-- the change that a detailed event tells, by its tag n, its table t, and the record or `{Tab, Key}` behind them
 abbrev pub detailed_change : List ℕ → List ℕ → PlainTerm → Option Change
 detailed_change n t x =
     if bytes_eq n (codes "write") then in_table t (written x)
     else (if bytes_eq n (codes "delete") then in_table t (deleted x) else None)
 
+-- the change of `{n, x, i}`, where i is an activity id
 abbrev pub simple_body : List ℕ → PlainTerm → PlainTerm → Option Change
 simple_body n x i = if is_id i then simple_change n x else None
 
+-- the change of `{n, t, x, old, i}`, where t is an atom, old a list and i an activity id
 abbrev pub detailed_body : List ℕ → PlainTerm → PlainTerm → PlainTerm → PlainTerm → Option Change
 detailed_body n (atom t) x (list old) i = if is_id i then detailed_change n t x else None
 detailed_body n t x old i = None
 
+-- the change of a body of n, x, y and a rest: of three elements a simple one, of five a detailed one, else none
 abbrev pub by_rest : List ℕ → PlainTerm → PlainTerm → PlainTerms → Option Change
 by_rest n x y none = simple_body n x y
 by_rest n x y (one_more old none) = None
 by_rest n x y (one_more old (one_more i none)) = detailed_body n x y old i
 by_rest n x y (one_more old (one_more i (one_more z zs))) = None
 
+-- the change that a body of these elements tells; none where they are fewer than three or the first is no atom
 abbrev pub change_in_body : PlainTerms → Option Change
 change_in_body (one_more (atom n) (one_more x (one_more y rest))) = by_rest n x y rest
 change_in_body ts = None
 
+-- the change that a tuple of these elements tells: `mnesia_table_event` and a body, which is a tuple
 abbrev pub change_in : PlainTerms → Option Change
 change_in (one_more (atom n) (one_more (tuple ts) none)) = if bytes_eq n (codes "mnesia_table_event") then change_in_body ts else None
 change_in ts = None
 
+-- the change that an event's term tells; none of any other term
 abbrev pub change_of : PlainTerm → Option Change
 change_of (tuple ts) = change_in ts
 change_of t = None
 
 -- ---- which events have a shape
 
+-- the change has no record, or one of 3 elements or more with an atom as the first
 abbrev pub is_whole : Change → Bool
 is_whole (change.Write r) = is_record (term r)
 is_whole (change.Delete t k) = true

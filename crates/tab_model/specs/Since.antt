@@ -19,6 +19,7 @@ use Rattle.tab_model.specs.Worlds.{World, Table, find}
 use Rattle.tab_model.specs.Log.{has_session, is_removed, entered, serial}
 use Rattle.tab_model.specs.Slices.{dump_of, slice_after}
 
+-- the change is made in the table
 abbrev pub is_of : List ℕ → Change → Bool
 is_of t c = bytes_eq (table_of_change c) t
 
@@ -29,6 +30,7 @@ changes_in t (Changed c over) = []
 changes_in t (Subscribed s u l dump) = []
 changes_in t (Unsubscribed s u) = []
 
+-- the changes of a table in a whole log, in the log's order
 abbrev pub changes_on : List ℕ → List Entry → List Change
 changes_on t [] = []
 changes_on t (e ∷ es) = changes_in t e ++ changes_on t es
@@ -82,6 +84,7 @@ StoodFor w (Changed c over) = Unit {0}
 StoodFor w (Subscribed s t l dump) = is_some (find w t) ≡ true
 StoodFor w (Unsubscribed s t) = Unit {0}
 
+-- each subscription of a log, which is run from these tables, was made on a table that was there then
 abbrev pub AllStood : World → List Entry → Type 0
 AllStood w [] = Unit {0}
 AllStood w (e ∷ es) = StoodFor w e × AllStood (entered w e) es
@@ -100,6 +103,7 @@ HasAge (Changed c over) = Unit {0}
 HasAge (Subscribed s t l dump) = Unit {0}
 HasAge (Unsubscribed s t) = Unit {0}
 
+-- the age of each commit of a log is from 1 on
 abbrev pub AllAged : List Entry → Type 0
 AllAged [] = Unit {0}
 AllAged (e ∷ es) = HasAge e × AllAged es

@@ -20,6 +20,7 @@ abbrev pub as_batch : ℕ → List PlainTerm → List Item
 as_batch n [] = []
 as_batch n (e ∷ es) = Batch n (plain_terms (e ∷ es)) ∷ []
 
+-- an event's term at the level of a subscription; none without one
 abbrev pub shape_at : Option Level → Event → Option PlainTerm
 shape_at None e = None
 shape_at (Some l) e = Some (shape l e)
@@ -33,6 +34,7 @@ abbrev pub dump_of : World → List ℕ → Bool → Option PlainTerms
 dump_of w t true = Some (plain_terms (rows_of w t))
 dump_of w t false = None
 
+-- the end mark of a deleted table, where there is a subscription to it
 abbrev pub ended_item : List ℕ → Option Level → List Item
 ended_item t None = []
 ended_item t (Some l) = Ended t ending.Deleted ∷ []
@@ -54,6 +56,7 @@ owed s log (Changed c over) = unless_over (has_session over s) (end_for (in_forc
 owed s log (Subscribed x t l dump) = if x == s then Began t l (dump_of (serial log) t dump) ∷ [] else []
 owed s log (Unsubscribed x t) = if x == s then Ended t ending.Unsubscribed ∷ [] else []
 
+-- what the second log owes to a session, in order, where the first log came before it
 abbrev pub slice_after : ℕ → List Entry → List Entry → List Item
 slice_after s log [] = []
 slice_after s log (e ∷ es) = owed s log e ++ slice_after s (log ++ e ∷ []) es

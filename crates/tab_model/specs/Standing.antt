@@ -16,6 +16,7 @@ use Rattle.tab_model.specs.Run.{IsTied}
 abbrev pub AreChannels : State → Type 0
 AreChannels σ = AllByRecursion (λ s. s.outbox.capacity ≡ None) σ.seats
 
+-- a Join hands in an empty outbox of a channel; of all else nothing is required
 abbrev pub JoinsChannel : Ask → Type 0
 JoinsChannel (Join b) = (b.capacity ≡ None) × (b.items ≡ [])
 JoinsChannel Leave = Unit {0}
@@ -23,6 +24,7 @@ JoinsChannel Retry = Unit {0}
 JoinsChannel Take = Unit {0}
 JoinsChannel (DoCommand c) = Unit {0}
 
+-- the session is joined
 abbrev pub is_joined : State → ℕ → Bool
 is_joined σ n = is_some (seat_at σ.seats n)
 
@@ -54,6 +56,7 @@ abbrev pub levels_in : State → Option Transaction → ℕ
 levels_in σ None = 0
 levels_in σ (Some t) = suc (length (mid_of σ t).saved)
 
+-- how many levels the session of a number has open; 0 where it is not joined or has no transaction
 abbrev pub levels_of : State → ℕ → ℕ
 levels_of σ n = levels_in σ (transaction_at σ n)
 
@@ -69,6 +72,7 @@ may_enter_command σ n (command.Abort r) = false
 may_enter_command σ n (command.Do o) = false
 may_enter_command σ n (command.OneShot parts retries) = false
 
+-- the step may give an entry: it is a command that may, and true says that its session is joined
 abbrev pub may_enter_seat : State → ℕ → Ask → Bool → Bool
 may_enter_seat σ n (DoCommand c) true = may_enter_command σ n c
 may_enter_seat σ n (DoCommand c) false = false
@@ -83,5 +87,6 @@ pub record EndsTransaction (σ : State) (n : ℕ) : Type 0 where
   pub opened : transaction_at σ n ≡ Some transaction
   pub outermost : (mid_of σ transaction).saved ≡ []
 
+-- the step may give an entry: it is a command that may, of a joined session
 abbrev pub may_enter : State → ℕ → Ask → Bool
 may_enter σ n a = may_enter_seat σ n a (is_joined σ n)

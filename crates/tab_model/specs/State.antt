@@ -22,15 +22,19 @@ pub record Transaction : Type 0 where
 
 -- a post: its items, how often it refused, and its capacity where that decides
 pub record Outbox : Type 0 where
+  -- those that are not taken yet; of a channel's, whose capacity is None, all that it was ever handed
   pub items : List Item
   pub refusals : ℕ
   pub capacity : Option ℕ
+  -- the place of its mailbox in a register, where it has one
   pub mailbox : Option ℕ
 
+-- a table that a session watches, with the level at which it does
 pub record Watch : Type 0 where
   pub table : List ℕ
   pub level : Level
 
+-- a joined session; overflow is the number of the first commit of which it gets nothing, until it has that number
 pub record Seat : Type 0 where
   pub number : ℕ
   pub transaction : Option Transaction
@@ -38,17 +42,20 @@ pub record Seat : Type 0 where
   pub outbox : Outbox
   pub overflow : Option ℕ
 
+-- a request in the queue: the session that waits, its transaction's age, and the operation that it waits with
 pub record Queued : Type 0 where
   pub session : ℕ
   pub age : ℕ
   pub operation : Operation
 
+-- a core between steps: committed tables, sessions in the order of joining, the queue, counts, and limits
 pub record State : Type 0 where
   pub tables : World
   pub seats : List Seat
   pub queue : List Queued
   pub next_age : ℕ
   pub commits : ℕ
+  -- the greatest number of a session that has joined
   pub greatest : ℕ
   pub limits : Limits
 
@@ -56,22 +63,27 @@ pub record State : Type 0 where
 abbrev pub new : Limits → State
 new limits = record { tables = []; seats = []; queue = []; next_age = 1; commits = 0; greatest = 0; limits = limits }
 
+-- the session of a number, where it is joined
 abbrev pub seat_at : List Seat → ℕ → Option Seat
 seat_at [] n = None
 seat_at (s ∷ seats) n = if s.number == n then Some s else seat_at seats n
 
+-- the moves of an open transaction; empty where none is open
 abbrev pub moves_in : Option Transaction → List Move
 moves_in None = []
 moves_in (Some transaction) = transaction.moves
 
+-- the replies to an open transaction's moves, in their order, None for an abort; empty where none is open
 abbrev pub told_in_transaction : Option Transaction → List (Option Reply)
 told_in_transaction None = []
 told_in_transaction (Some transaction) = transaction.told
 
+-- the age of an open transaction, or 0 where none is open
 abbrev pub age_in : Option Transaction → ℕ
 age_in None = 0
 age_in (Some transaction) = transaction.age
 
+-- the open transaction of a session, where it is joined and has one
 abbrev pub transaction_in : Option Seat → Option Transaction
 transaction_in None = None
 transaction_in (Some s) = s.transaction
@@ -80,19 +92,24 @@ transaction_in (Some s) = s.transaction
 abbrev pub transaction_at : State → ℕ → Option Transaction
 transaction_at σ n = transaction_in (seat_at σ.seats n)
 
+-- the moves of a session's open transaction; empty where it has none
 abbrev pub moves_at : State → ℕ → List Move
 moves_at σ n = moves_in (transaction_at σ n)
 
+-- the replies to the moves of a session's open transaction, None for an abort; empty where it has none
 abbrev pub told_at : State → ℕ → List (Option Reply)
 told_at σ n = told_in_transaction (transaction_at σ n)
 
+-- the age of a session's open transaction, or 0 where it has none
 abbrev pub age_at : State → ℕ → ℕ
 age_at σ n = age_in (transaction_at σ n)
 
+-- a session's first request in the queue, where it has one
 abbrev pub request_in : List Queued → ℕ → Option Queued
 request_in [] n = None
 request_in (q ∷ qs) n = if q.session == n then Some q else request_in qs n
 
+-- the queue without a session's requests, the others in their order
 abbrev pub without_request : List Queued → ℕ → List Queued
 without_request [] n = []
 without_request (q ∷ qs) n = if q.session == n then without_request qs n else q ∷ without_request qs n
@@ -102,18 +119,22 @@ abbrev pub is_waiting : State → ℕ → Bool
 is_waiting σ n = is_some (request_in σ.queue n)
 
 -- the locks held and awaited, each with its age
+-- locks, each with this age
 abbrev pub with_age : ℕ → List Lock → List Owned
 with_age a [] = []
 with_age a (l ∷ ls) = (a, l) ∷ with_age a ls
 
+-- the locks that an open transaction holds, each with its age, in the order of its operations
 abbrev pub held_by : Option Transaction → List Owned
 held_by None = []
 held_by (Some transaction) = with_age transaction.age (locks_of transaction.moves)
 
+-- the locks that the transactions of all sessions hold, each with its age, session by session
 abbrev pub held_in : List Seat → List Owned
 held_in [] = []
 held_in (s ∷ seats) = held_by s.transaction ++ held_in seats
 
+-- the locks that the queued requests wait for, each with its age, in the order of the queue
 abbrev pub queued_in : List Queued → List Owned
 queued_in [] = []
 queued_in (q ∷ qs) = (q.age, needs q.operation) ∷ queued_in qs
@@ -122,6 +143,7 @@ queued_in (q ∷ qs) = (q.age, needs q.operation) ∷ queued_in qs
 abbrev pub ages_of : State → Ages
 ages_of σ = record { held = held_in σ.seats; queue = queued_in σ.queue }
 
+-- the lock is on the table or on a key of it
 abbrev pub is_in : List ℕ → Owned → Bool
 is_in t x = bytes_eq (x.1).table t
 
@@ -134,6 +156,7 @@ abbrev pub level_in : List Watch → List ℕ → Option Level
 level_in [] t = None
 level_in (x ∷ xs) t = if bytes_eq x.table t then Some x.level else level_in xs t
 
+-- what a session watches, without a table
 abbrev pub without_watch : List Watch → List ℕ → List Watch
 without_watch [] t = []
 without_watch (x ∷ xs) t = if bytes_eq x.table t then without_watch xs t else x ∷ without_watch xs t
@@ -150,6 +173,7 @@ count_moves (Undo ∷ xs) = count_moves xs
 abbrev pub mid_of : State → Transaction → Mid
 mid_of σ transaction = after (start σ.tables transaction.age) transaction.moves
 
+-- a transaction is open, and this is its age
 abbrev pub HasAge : Option Transaction → ℕ → Type 0
 HasAge None a = ⊥
 HasAge (Some transaction) a = transaction.age ≡ a

@@ -11,6 +11,7 @@ use Rattle.tab_model.specs.declared.data.Change.{Change}
 use Rattle.tab_model.specs.declared.data.Change.TheVariants as change
 use Rattle.tab_model.specs.Names.{less}
 
+-- a list of records; those of a table in canonical order
 abbrev pub Rows : Type 0
 Rows = List PlainTerm
 
@@ -29,6 +30,7 @@ key (list ts) = list none
 key (bin b) = list none
 key (map ps) = list none
 
+-- the record has this key
 abbrev pub has_key : PlainTerm → PlainTerm → Bool
 has_key k r = same (key r) k
 
@@ -79,6 +81,7 @@ whole_onto (r ∷ rs) done = whole_onto rs (insert r done)
 abbrev pub whole : Rows → Rows
 whole rows = whole_onto rows []
 
+-- the key of x is that of r, or a greater one
 abbrev pub follows : PlainTerm → PlainTerm → Bool
 follows r x = same (key r) (key x) || less (key r) (key x)
 

@@ -7,6 +7,7 @@ use Rattle.tab_term.specs.Same.{same}
 use Rattle.tab_term.specs.Pattern.{matches}
 use Rattle.tab_model.specs.Tables.{Rows}
 
+-- the element at a place, counted from 0; `[]` where there is none
 abbrev pub nth : ℕ → PlainTerms → PlainTerm
 nth n none = list none
 nth zero (one_more t ts) = t

@@ -6,13 +6,16 @@ use Rattle.tab_model.specs.declared.data.TableDef.{TableDef}
 use Rattle.tab_model.specs.Names.{before}
 use Rattle.tab_model.specs.Tables.{Rows, at, is_ordered}
 
+-- a table: its definition and its records
 pub record Table : Type 0 where
   pub def : TableDef
   pub rows : Rows
 
+-- all tables, as a list in the order of their names' bytes
 abbrev pub World : Type 0
 World = List Table
 
+-- a table's name
 abbrev pub name_of : Table → List ℕ
 name_of t = t.def.name
 
@@ -35,6 +38,7 @@ abbrev pub without : World → List ℕ → World
 without [] n = []
 without (t ∷ w) n = if bytes_eq (name_of t) n then without w n else t ∷ without w n
 
+-- the records of a table; none without a table
 abbrev pub rows_in : Option Table → Rows
 rows_in None = []
 rows_in (Some t) = t.rows
@@ -47,9 +51,11 @@ rows_of w n = rows_in (find w n)
 abbrev pub cell : World → List ℕ → PlainTerm → Rows
 cell w n k = at (rows_of w n) k
 
+-- the table with these records, and its definition as it was
 abbrev pub with_rows : Table → Rows → Table
 with_rows t rows = record { def = t.def; rows = rows }
 
+-- the table with this definition, and its records as they were
 abbrev pub with_def : Table → TableDef → Table
 with_def t def = record { def = def; rows = t.rows }
 
