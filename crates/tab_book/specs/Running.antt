@@ -11,14 +11,17 @@ use Rattle.tab_model.specs.State.{Seat, State, seat_at, level_in, IsSound}
 use Rattle.tab_model.specs.Reached.{IsRising}
 use Rattle.tab_journal.specs.Journals.{Kept}
 
+-- a book as plain data: its core's state and its journal
 pub record Running : Type 0 where
   pub state : State
   pub journal : Kept
 
+-- the first list ends with the second
 pub record EndsWith (all xs : List Item) : Type 0 where
   pub before : List Item
   pub is : all ≡ before ++ xs
 
+-- what holds of a book whenever it is seen
 pub record IsRunning (b : Running) : Type 0 where
   -- the journal is legal from its base and ends in the tables
   pub history : IsHistory b.journal.base b.journal.entries b.state.tables

@@ -17,6 +17,7 @@ use Rattle.tab_book.specs.declared.step.JoinFault.{JoinFault}
 use Rattle.tab_book.specs.declared.step.JoinFault.TheVariants.{Limit, NoMemory}
 use Rattle.tab_book.specs.Running.{Running}
 
+-- what the core is asked for a step
 abbrev pub ask_of : Step → Ask
 ask_of step.Leave = Leave
 ask_of (step.Do c) = DoCommand c
@@ -28,6 +29,7 @@ is_never_refused step.Leave = true
 is_never_refused (step.Do c) = is_abort c
 is_never_refused step.Retry = false
 
+-- the journal has as many entries as its limit says
 abbrev pub is_full : Kept → Bool
 is_full j = length j.entries == j.limit
 
@@ -36,6 +38,7 @@ abbrev pub oldest_joined : State → List Entry → Bool
 oldest_joined σ [] = false
 oldest_joined σ (e ∷ es) = still_joined σ e
 
+-- the journal with its oldest entry, if it has one, in its base; a subscription goes there while its session is joined
 abbrev pub folded : State → Kept → Kept
 folded σ j = fold_oldest (oldest_joined σ j.entries) j
 
@@ -43,6 +46,7 @@ folded σ j = fold_oldest (oldest_joined σ j.entries) j
 abbrev pub with_room : State → ℕ → Ask → Kept → Kept
 with_room σ n a j = if is_full j && may_enter σ n a then folded σ j else j
 
+-- the journal with these entries behind its own
 abbrev pub with_entries : Kept → List Entry → Kept
 with_entries j es = record j { entries = j.entries ++ es }
 
@@ -69,6 +73,7 @@ pub record StepsFrom (σ : State) (journal : Kept) (n : ℕ) (a : Ask) (r : Repl
   pub sent : (m : ℕ) (s x : Seat) → seat_at σ.seats m ≡ Some s → seat_at new.state.seats m ≡ Some x
       → x.outbox.items ≡ s.outbox.items ++ slice_since_after journal.base m journal.entries (entries entry)
 
+-- a step of a book that was made; the oldest entry was folded first where the journal had no room
 abbrev pub StepsTo : Running → ℕ → Ask → Reply → Running → Type 0
 StepsTo old n a r new = StepsFrom old.state (with_room old.state n a old.journal) n a r new
 
@@ -87,6 +92,7 @@ KeepsPosts σ τ = (m : ℕ) (s r : Seat) → seat_at σ.seats m ≡ Some s → 
 abbrev pub has_room : State → Bool
 has_room σ = nat_lt σ.greatest (2 ^ 32 - 1) && nat_lt (length σ.seats) σ.limits.sessions
 
+-- the state with one more session, which has this post, and whose number is now the greatest
 abbrev pub with_seat : State → ℕ → Outbox → State
 with_seat σ n b = record σ { seats = σ.seats ++ fresh n b ∷ []; greatest = n }
 
@@ -100,6 +106,7 @@ pub record Joins (old : Running) (session mailbox : ℕ) (taken : List Item) (ne
   pub fresh : (n : ℕ) (s : Seat) → seat_at old.state.seats n ≡ Some s → s.outbox.mailbox ≢ Some mailbox
   pub journal : new.journal ≡ old.journal
 
+-- a join that changed nothing: no room is left, or there is room and memory was refused
 abbrev pub Refuses : Running → JoinFault → Running → Type 0
 Refuses old Limit new = (has_room old.state ≡ false) × (new ≡ old)
 Refuses old NoMemory new = (has_room old.state ≡ true) × (new ≡ old)

@@ -11,9 +11,11 @@ use Rattle.tab_manager.specs.Outermost.{outermost}
 use Rattle.tab_subs.specs.Subscribers.{Subscriber, watched}
 use Rattle.tab_core.specs.declared.committing.Updated.{Updated}
 
+-- some session watches the event's table
 abbrev pub is_watched : List Subscriber → Event → Bool
 is_watched bs e = is_some (watched bs e.tab)
 
+-- some session watches the table of one of the changes
 abbrev pub are_watched : List Subscriber → List Change → Bool
 are_watched bs cs = list_any (λ c. is_some (watched bs (table_of_change c))) cs
 

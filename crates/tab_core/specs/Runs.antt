@@ -12,6 +12,7 @@ use Rattle.tab_manager.specs.Steps as manager
 use Rattle.tab_core.specs.declared.step.Step.{Step}
 use Rattle.tab_core.specs.declared.step.Step.TheVariants as step
 
+-- what a step asks; f says what a post shows
 abbrev pub ask_of : {P : Type 0} → (P → Outbox) → Step P → Ask
 ask_of f (step.Join p) = Join (f p)
 ask_of f step.Leave = Leave
@@ -19,6 +20,7 @@ ask_of f (step.Do c) = DoCommand c
 ask_of f step.Retry = Retry
 ask_of f step.Take = Take
 
+-- what steps ask, in their order, each with the number of its session
 abbrev pub asks_of : {P : Type 0} → (P → Outbox) → List (ℕ × Step P) → List (ℕ × Ask)
 asks_of f [] = []
 asks_of f (s ∷ steps) = (s.0, ask_of f s.1) ∷ asks_of f steps

@@ -7,17 +7,21 @@ use Rattle.tab_model.specs.Reached.{IsRising}
 use Rattle.tab_manager.specs.Seats.{no_outbox}
 use Rattle.tab_subs.specs.Subscribers.{Subscriber, at, numbers, overflow_of}
 
+-- what a subscriber watches; nothing where there is none
 abbrev pub watching_of : Option Subscriber → List Watch
 watching_of None = []
 watching_of (Some b) = b.watching
 
+-- what a subscriber's post shows; where there is none, the outbox into which nothing is put
 abbrev pub outbox_of : Option Subscriber → Outbox
 outbox_of None = no_outbox
 outbox_of (Some b) = b.outbox
 
+-- a manager's session with the subscriptions, the outbox and the overflow of the subscriber of its number
 abbrev pub seat_with : List Subscriber → Seat → Seat
 seat_with bs s = record s { watching = watching_of (at bs s.number); outbox = outbox_of (at bs s.number); overflow = overflow_of (at bs s.number) }
 
+-- a manager's state, in which each session has what the subscriber of its number has
 abbrev pub state_with : List Subscriber → State → State
 state_with bs σ = record {
   tables = σ.tables;

@@ -28,10 +28,12 @@ IsOver (Some m) n = (m ≡ n) × (limit < m)
 
 -- ---- what a frame of the program stands for
 
+-- the bytes of a frame's payload, none for Empty
 abbrev pub payload_of : Frame → List ℕ
 payload_of Empty = []
 payload_of (Payload bytes) = bytes.items
 
+-- the payloads of the frames, in their order
 abbrev pub contents : List Frame → List (List ℕ)
 contents fs = map payload_of fs
 
@@ -40,6 +42,7 @@ abbrev pub IsTold : Frame → Type 0
 IsTold Empty = Unit {0}
 IsTold (Payload bytes) = bytes.items ≢ []
 
+-- each empty payload among them is an Empty
 abbrev pub AreTold : List Frame → Type 0
 AreTold [] = Unit {0}
 AreTold (f ∷ fs) = IsTold f × AreTold fs

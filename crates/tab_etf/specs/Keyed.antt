@@ -15,9 +15,11 @@ spelling_at s k = if nat_le k.start k.end && nat_le k.end (length s) then slice_
 abbrev pub next_key : List ℕ → List ℕ → ℕ → ℕ → Key
 next_key before after left pair = record { start = length before; end = length after; left = left; pair = pair }
 
+-- keys by their spellings as bytes, and those of one spelling by the numbers of their pairs
 abbrev pub key_order : List ℕ → Key → Key → Ordering
 key_order s k l = ordering_then (bytes_cmp (spelling_at s k) (spelling_at s l)) (nat_cmp k.pair l.pair)
 
+-- of two keys the one whose pair has the lesser number; k where there is no other
 abbrev pub earlier : Option Key → Key → Key
 earlier None k = k
 earlier (Some l) k = if nat_le l.pair k.pair then l else k
@@ -52,5 +54,6 @@ pub record AreRanked (ranks : List ℕ) : Type 0 where
 abbrev pub no_terms : Term × Term
 no_terms = (is.Int (pos 0), is.Int (pos 0))
 
+-- for each key, in their order, the pair that has its number
 abbrev pub picked : List (Term × Term) → List Key → List (Term × Term)
 picked ps ks = map (λ k. slice_index_or ps k.pair no_terms) ks

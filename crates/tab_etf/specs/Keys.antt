@@ -8,6 +8,7 @@ use Rattle.tab_term.specs.Canon.{canon}
 use Rattle.tab_term.specs.Order.{bytes_cmp}
 use Rattle.tab_term.specs.Same.{same}
 
+-- keys by their canonical spellings, byte by byte
 abbrev pub key_cmp : PlainTerm → PlainTerm → Ordering
 key_cmp k l = bytes_cmp (canon k) (canon l)
 
@@ -16,6 +17,7 @@ abbrev pub AllAbove : PlainTerm → PlainPairs → Type 0
 AllAbove k no_pair = Unit {0}
 AllAbove k (one_pair l y ps) = (key_cmp k l ≡ Less) × AllAbove k ps
 
+-- the keys ascend, so no two are equal
 abbrev pub KeysAscend : PlainPairs → Type 0
 KeysAscend no_pair = Unit {0}
 KeysAscend (one_pair k x ps) = AllAbove k ps × KeysAscend ps
@@ -25,6 +27,7 @@ pub data HasOneMore (k x : PlainTerm) : PlainPairs → PlainPairs → Type 0 whe
   here : {ps : PlainPairs} → HasOneMore k x ps (one_pair k x ps)
   later : {l y : PlainTerm} {ps qs : PlainPairs} → HasOneMore k x ps qs → HasOneMore k x (one_pair l y ps) (one_pair l y qs)
 
+-- one of the pairs has a key equal to k
 abbrev pub has_key : PlainTerm → PlainPairs → Bool
 has_key k no_pair = false
 has_key k (one_pair l y ps) = same k l || has_key k ps

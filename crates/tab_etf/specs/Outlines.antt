@@ -10,6 +10,7 @@ use Rattle.tab_etf.specs.declared.outline.Body.{Body}
 use Rattle.tab_etf.specs.declared.outline.Body.TheVariants as body
 use Rattle.tab_etf.specs.declared.outline.Outline.{Outline}
 
+-- the term of one part: an atom of this text, an integer, a term that is there, or a list of these terms
 abbrev pub leaf_term : Leaf → PlainTerm
 leaf_term (leaf.Word text) = atom text.now
 leaf_term (leaf.Number n) = int (pos n)
@@ -17,6 +18,7 @@ leaf_term (leaf.Held t) = term t.now
 leaf_term (leaf.List ts) = list ts.now
 leaf_term (leaf.SharedList ts) = list ts.now
 
+-- the one part by itself, or the tuple of two to four parts
 abbrev pub body_term : Body → PlainTerm
 body_term (body.One a) = leaf_term a
 body_term (body.Two a b) = pair (leaf_term a) (leaf_term b)
@@ -28,6 +30,7 @@ abbrev pub under : Option Leaf → PlainTerm → PlainTerm
 under None t = t
 under (Some l) t = pair (leaf_term l) t
 
+-- the body, in a pair behind the second part where there is one, and that in a pair behind the first
 abbrev pub outline_term : Outline → PlainTerm
 outline_term o = under o.first (under o.second (body_term o.body))
 
@@ -41,15 +44,18 @@ abbrev pub IsShort : Leaf → Type 0
 IsShort (leaf.Word text) = length text.now < 2 ^ 16
 IsShort l = Unit {0}
 
+-- each atom among the parts has a text of less than 65,536 bytes
 abbrev pub IsShortBody : Body → Type 0
 IsShortBody (body.One a) = IsShort a
 IsShortBody (body.Two a b) = IsShort a × IsShort b
 IsShortBody (body.Three a b c) = IsShort a × IsShort b × IsShort c
 IsShortBody (body.Four a b c d) = IsShort a × IsShort b × IsShort c × IsShort d
 
+-- where there is a part and it is an atom, its text has less than 65,536 bytes
 abbrev pub IsShortHead : Option Leaf → Type 0
 IsShortHead None = Unit {0}
 IsShortHead (Some l) = IsShort l
 
+-- each atom of the outline has a text of less than 65,536 bytes
 abbrev pub IsShortOutline : Outline → Type 0
 IsShortOutline o = IsShortHead o.first × IsShortHead o.second × IsShortBody o.body

@@ -44,15 +44,18 @@ pub record IsNoted (spelled : List ℕ) (i : ℕ) (k : Key) (e : Entry) : Type 0
   pub inside : k.end ≤ length spelled
   pub spelling : spelling_at spelled k ≡ canon e.0
 
+-- for each entry the key that is kept of it, in their order
 pub record AreNoted (spelled : List ℕ) (ks : List Key) (es : List Entry) : Type 0 where
   pub len : length ks ≡ length es
   pub each : (i : ℕ) (d : Key) (e : Entry) → i < length es → IsNoted spelled i (slice_index_or ks i d) (slice_index_or es i e)
 
+-- for each entry its key and its value, in their order
 pub record ArePaired (ps : List (Term × Term)) (es : List Entry) : Type 0 where
   pub len : length ps ≡ length es
   pub keys : (i : ℕ) (d : Term × Term) (e : Entry) → i < length es → term (slice_index_or ps i d).0 ≡ (slice_index_or es i e).0
   pub values : (i : ℕ) (d : Term × Term) (e : Entry) → i < length es → term (slice_index_or ps i d).1 ≡ (slice_index_or es i e).1
 
+-- the run keeps the keys and the pairs of these entries
 abbrev pub Holds : Run → List Entry → Type 0
 Holds run es = AreNoted run.spelled.items run.keys.items es × ArePaired run.pairs.items es
 
@@ -62,5 +65,6 @@ GoesOn view go_on run (Ok x) answer = (es : List Entry) × Holds run es × (answ
 GoesOn view go_on run (Err errors.Memory) answer = Unit {0}
 GoesOn view go_on run (Err (errors.At s)) answer = (es : List Entry) × AreNoted run.spelled.items run.keys.items es × (answer ≡ put_all no_pair es (λ ps. Err s))
 
+-- all pairs of a map were read: the answer is those of the run and the bytes that view shows, or the first fault
 abbrev pub Ran : {X : Type 0} → (X → List ℕ) → Run → Result X ReadError → Result (PlainPairs × List ℕ) Stop → Type 0
 Ran view run read answer = GoesOn view (λ x. Ok x) run read answer

@@ -29,6 +29,7 @@ abbrev pub IsLatin1Text : List ℕ → Type 0
 IsLatin1Text s = All (λ c. c < 256) s × (length s ≤ 255)
 
 mutual
+  -- these bytes spell the term
   pub data Spells : PlainTerm → List ℕ → Type 0 where
     small_integer_ext : {n : ℕ} → n < 256 → Spells (int (pos n)) (97 ∷ n ∷ [])
     integer_ext : {z : ℤ} → FitsSigned w32 z → Spells (int z) (98 ∷ to_be_bytes w32 (cast_unsigned w32 z))

@@ -8,6 +8,7 @@ payload_and_rest n bytes =
     if nat_lt limit n then None
     else (if nat_lt (length bytes) n then None else Some (take n bytes, drop n bytes))
 
+-- the first payload and the rest, where its length has come, is within the limit, and so many bytes came
 abbrev pub after_length : Option ℕ → List ℕ → Option (List ℕ × List ℕ)
 after_length None bytes = None
 after_length (Some n) bytes = payload_and_rest n (drop 4 bytes)
@@ -16,10 +17,12 @@ after_length (Some n) bytes = payload_and_rest n (drop 4 bytes)
 unfoldable pub front : List ℕ → Option (List ℕ × List ℕ)
 front bytes = after_length (length_next bytes) bytes
 
+-- the payloads that were found, and the bytes behind them
 pub record Cut : Type 0 where
   pub found : List (List ℕ)
   pub left : List ℕ
 
+-- the first payload, if there is one, and what go finds in the rest
 abbrev pub cut_by : (List ℕ → Cut) → List ℕ → Option (List ℕ × List ℕ) → Cut
 cut_by go bytes None = record { found = []; left = bytes }
 cut_by go bytes (Some x) = record { found = x.0 ∷ (go x.1).found; left = (go x.1).left }
@@ -33,6 +36,7 @@ cut_at_most (suc n) bytes = cut_by (cut_at_most n) bytes (front bytes)
 unfoldable pub payloads : List ℕ → List (List ℕ)
 payloads bytes = (cut_at_most (length bytes) bytes).found
 
+-- what is left of a stream behind its payloads
 unfoldable pub rest_of : List ℕ → List ℕ
 rest_of bytes = (cut_at_most (length bytes) bytes).left
 
@@ -50,6 +54,7 @@ pub record Stops (bytes : List ℕ) (given : List (List ℕ)) (n : ℕ) : Type 0
 
 -- ---- what the payloads of a stream are, in the words of frames
 
+-- no payload is longer than the limit
 abbrev pub AreWithin : List (List ℕ) → Type 0
 AreWithin [] = Unit {0}
 AreWithin (p ∷ ps) = (length p ≤ limit) × AreWithin ps

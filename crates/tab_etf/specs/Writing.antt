@@ -6,12 +6,14 @@ use Rattle.tab_etf.specs.declared.framing.FrameFault.{FrameFault}
 use Rattle.tab_etf.specs.declared.framing.FrameFault.TheVariants.{FrameTooLong, Device}
 use Rattle.tab_etf.specs.declared.writer.Writer.{Writer}
 
+-- a writer: whether a write failed, how often its device did, what the device holds, and what waits to be written
 pub record Output : Type 0 where
   pub failed : Bool
   pub faults : ℕ
   pub sent : Option (List ℕ)  -- what the device holds, where that is known
   pub kept : List ℕ
 
+-- a writer as an output, by what its device tells of its bytes and of its faults
 abbrev pub output : {W : Type 0} → (W → Option (List ℕ)) → (W → ℕ) → Writer W → Output
 output contents faults w = record { failed = w.failed; faults = faults w.device.now; sent = contents w.device.now; kept = w.bytes.items }
 
@@ -25,10 +27,12 @@ abbrev pub Leads : Bool → List ℕ → List ℕ → List ℕ → List ℕ → 
 Leads false sent kept more whole = sent ++ (kept ++ more) ≡ whole
 Leads true sent kept more whole = (n : ℕ) × (sent ≡ take n whole)
 
+-- the device has no fewer bytes than before, and with these bytes next it comes to the same whole
 pub record Grows (old : Output) (xs : List ℕ) (new : Output) (ys : List ℕ) (bytes : List ℕ) : Type 0 where
   pub longer : length xs ≤ length ys
   pub leads : (more whole : List ℕ) → Leads old.failed xs old.kept (bytes ++ more) whole → Leads new.failed ys new.kept more whole
 
+-- the same where the device tells its bytes; one that told them goes on to tell them
 abbrev pub KnownGrows : Output → Option (List ℕ) → Output → Option (List ℕ) → List ℕ → Type 0
 KnownGrows old None new known bytes = Unit {0}
 KnownGrows old (Some xs) new None bytes = ⊥

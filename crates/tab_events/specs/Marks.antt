@@ -11,13 +11,16 @@ abbrev pub is_row_of : List ℕ → PlainTerm → Bool
 is_row_of t (tuple (one_more (atom n) (one_more k (one_more v vs)))) = bytes_eq n t
 is_row_of t x = false
 
+-- the term is the atom of this text
 abbrev pub is_named : List ℕ → PlainTerm → Bool
 is_named t (atom n) = bytes_eq n t
 is_named t x = false
 
+-- the term is one of the atoms simple and detailed
 abbrev pub is_level : PlainTerm → Bool
 is_level x = is_named (codes "simple") x || is_named (codes "detailed") x
 
+-- the term is one of the atoms unsubscribed and deleted
 abbrev pub is_ending : PlainTerm → Bool
 is_ending x = is_named (codes "unsubscribed") x || is_named (codes "deleted") x
 
@@ -26,6 +29,7 @@ abbrev pub is_commit : PlainTerm → Bool
 is_commit (int (pos (suc n))) = true
 is_commit x = false
 
+-- the members of a list, where each is a record of the table
 abbrev pub rows_in : List ℕ → PlainTerm → Option Rows
 rows_in t (list rs) = if list_all (is_row_of t) (terms_list rs) then Some (terms_list rs) else None
 rows_in t x = None

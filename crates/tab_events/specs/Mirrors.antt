@@ -27,10 +27,12 @@ changed kind None c = (None, Other)
 changed kind (Some rows) None = (Some rows, Other)
 changed kind (Some rows) (Some c) = (Some (apply kind rows c), Applied)
 
+-- an overflow or an end mark leaves no rows; any other term is taken as an event of the table
 abbrev pub unless_ended : List ℕ → Kind → Option Rows → PlainTerm → Bool → Option Rows × Mirrored
 unless_ended t kind rows x true = (None, Ended)
 unless_ended t kind rows x false = changed kind rows (in_table t (change_of x))
 
+-- a dump's records are the rows, whatever was there; any other term is an end or an event
 abbrev pub unless_dumped : List ℕ → Kind → Option Rows → PlainTerm → Option Rows → Option Rows × Mirrored
 unless_dumped t kind rows x (Some dump) = (Some (put_all kind [] dump), Begun)
 unless_dumped t kind rows x None = unless_ended t kind rows x (is_overflow x || is_end_mark t x)

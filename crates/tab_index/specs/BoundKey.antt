@@ -4,6 +4,7 @@ use Rattle.std.specs.Prelude.{Option, Some, None, if◌then◌else◌}
 use Rattle.tab_term.specs.Data.{PlainTerm, int, atom, tuple, list, bin, map, PlainTerms, none, one_more}
 use Rattle.tab_term.specs.Pattern.{has_wildcard}
 
+-- the second of these elements, where there is one and it has no '_' outside of maps
 abbrev pub bound_second : PlainTerms → Option PlainTerm
 bound_second none = None
 bound_second (one_more t none) = None

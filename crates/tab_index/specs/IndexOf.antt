@@ -16,6 +16,7 @@ use Rattle.tab_model.specs.WholeTables.{element}
 abbrev pub Entry : Type 0
 Entry = Term × List Term
 
+-- the keys of a value, none where the index has no such value
 abbrev pub keys_in : Option (List Term) → List Term
 keys_in None = []
 keys_in (Some ks) = ks

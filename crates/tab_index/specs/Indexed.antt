@@ -8,6 +8,7 @@ use Rattle.tab_model.specs.declared.data.Kind.{Kind}
 use Rattle.tab_model.specs.declared.data.TableDef.{TableDef}
 use Rattle.tab_model.specs.Tables.{Rows, is_ordered}
 
+-- the positions of the indexes, in their order
 abbrev pub positions : List Index → List ℕ
 positions indexes = map (λ i. i.position) indexes
 

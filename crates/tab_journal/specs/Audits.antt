@@ -21,26 +21,32 @@ use Rattle.tab_model.specs.Worlds.{World, Table, IsOrderedWorld}
 
 -- ---- the same reply, of those that operations have
 
+-- the reply is ok
 abbrev pub is_done : Reply → Bool
 is_done reply.Done = true
 is_done r = false
 
+-- the reply is these records, in this order
 abbrev pub is_found : PlainTerms → Reply → Bool
 is_found ts (reply.Found us) = all_same ts us
 is_found ts r = false
 
+-- the reply is that there is no table of this name
 abbrev pub is_no_table : List ℕ → Reply → Bool
 is_no_table t (reply.NoTable u) = bytes_eq t u
 is_no_table t r = false
 
+-- the reply is that this record doesn't fit the table of this name
 abbrev pub is_bad_type : List ℕ → Term → Reply → Bool
 is_bad_type t x (reply.BadType u y) = bytes_eq t u && same (term x) (term y)
 is_bad_type t x r = false
 
+-- the reply is that the table of this name has no index at this attribute
 abbrev pub is_no_index : List ℕ → Term → Reply → Bool
 is_no_index t x (reply.NoIndex u y) = bytes_eq t u && same (term x) (term y)
 is_no_index t x r = false
 
+-- the two are the same answer of an operation; of other replies none is the same as any
 abbrev pub is_answer : Reply → Reply → Bool
 is_answer reply.Done r = is_done r
 is_answer (reply.Found ts) r = is_found ts r
@@ -54,38 +60,46 @@ abbrev pub is_tid : ℕ → Option Reply → Bool
 is_tid age (Some (reply.Tid n)) = age == n
 is_tid age r = false
 
+-- the reply is there, and is {atomic, ok}
 abbrev pub is_atomic_ok : Option Reply → Bool
 is_atomic_ok (Some reply.AtomicOk) = true
 is_atomic_ok r = false
 
 -- ---- the same tables
 
+-- the same names in the same order
 abbrev pub same_names : List (List ℕ) → List (List ℕ) → Bool
 same_names [] [] = true
 same_names (t ∷ ts) (u ∷ us) = bytes_eq t u && same_names ts us
 same_names ts us = false
 
+-- both are sets, or both are bags
 abbrev pub same_kind : Kind → Kind → Bool
 same_kind Set Set = true
 same_kind Bag Bag = true
 same_kind k l = false
 
+-- the same numbers in the same order
 abbrev pub same_numbers : List ℕ → List ℕ → Bool
 same_numbers [] [] = true
 same_numbers (n ∷ ns) (m ∷ ms) = (n == m) && same_numbers ns ms
 same_numbers ns ms = false
 
+-- the same name, type, attributes and positions of indexes
 abbrev pub same_def : TableDef → TableDef → Bool
 same_def d e = (bytes_eq d.name e.name && same_kind d.kind e.kind) && (same_names d.attributes e.attributes && same_numbers d.indexes e.indexes)
 
+-- the same records in the same order
 abbrev pub same_rows : Rows → Rows → Bool
 same_rows [] [] = true
 same_rows (x ∷ xs) (y ∷ ys) = same x y && same_rows xs ys
 same_rows xs ys = false
 
+-- the same definition, and the same records in the same order
 abbrev pub same_table : Table → Table → Bool
 same_table t u = same_def t.def u.def && same_rows t.rows u.rows
 
+-- the same tables in the same order
 abbrev pub same_tables : World → World → Bool
 same_tables [] [] = true
 same_tables (t ∷ w) (u ∷ v) = same_table t u && same_tables w v

@@ -3,6 +3,7 @@ use Rattle.std.specs.Prelude.{ℕ, Bool, List, [], ◌∷◌}
 use Rattle.tab_model.specs.declared.data.Entry.{Entry}
 use Rattle.tab_model.specs.History.{Base, folded, forgotten}
 
+-- a journal as plain data, the oldest entry first
 pub record Kept : Type 0 where
   pub base : Base
   pub entries : List Entry
@@ -13,8 +14,10 @@ abbrev pub without_oldest : Bool → Base → List Entry → ℕ → Kept
 without_oldest joined b [] n = record { base = b; entries = []; limit = n }
 without_oldest joined b (e ∷ es) n = record { base = folded joined b e; entries = es; limit = n }
 
+-- the journal with its oldest entry, if it has one, in its base; joined says that this entry's session is joined
 abbrev pub fold_oldest : Bool → Kept → Kept
 fold_oldest joined k = without_oldest joined k.base k.entries k.limit
 
+-- the journal, whose base has no subscription of session s any more
 abbrev pub forget : Kept → ℕ → Kept
 forget k s = record k { base = forgotten k.base s }

@@ -8,22 +8,28 @@ use Rattle.tab_model.specs.declared.data.Reply.{Reply}
 use Rattle.tab_model.specs.Operations.{change_of_op}
 use Rattle.tab_model.specs.Events.{is_failure, drop_level, top_level, with_change, survivors}
 
+-- the updates that survive until now, and those that each open level goes back to, innermost first
 pub record Standing : Type 0 where
   pub now : List Change
   pub saved : List (List Change)
 
+-- a child begins, and goes back to what survives now
 abbrev pub opened : Standing → Standing
 opened s = record { now = s.now; saved = s.now ∷ s.saved }
 
+-- a child commits, and its updates stay
 abbrev pub closed : Standing → Standing
 closed s = record { now = s.now; saved = drop_level s.saved }
 
+-- the innermost level is over: what survived at its begin survives, and nothing after level 1
 abbrev pub ended : Standing → Standing
 ended s = record { now = top_level s.saved; saved = drop_level s.saved }
 
+-- one more update, if there is one
 abbrev pub changed : Standing → Option Change → Standing
 changed s c = record { now = with_change s.now c; saved = s.saved }
 
+-- after a move with reply r; an operation that failed ends the innermost level
 abbrev pub next : Standing → Move → Option Reply → Standing
 next s (Do o) r = if is_failure r then ended s else changed s (change_of_op o)
 next s Open r = opened s

@@ -14,9 +14,11 @@ head zero bs = 0
 head (suc k) [] = 0
 head (suc k) (b ∷ bs) = if nat_lt b 255 then b * 256 ^ k + head k bs else 256 ^ suc k - 1
 
+-- of two numbers of two digits in base p the one with the lesser first digit is the lesser
 pub two_less : (p a b r s : ℕ) → r < p → a < b → a * p + r < b * p + s
 two_less p a b r s hr h = let e : p * suc a ≤ p * b = mul-le-mul_left p h in omega (arith, e)
 
+-- a power of 256 is above 0
 pub power_above : (k : ℕ) → 0 < 256 ^ k
 power_above zero = omega arith
 power_above (suc k) = omega (arith, power_above k)
@@ -25,6 +27,7 @@ head_of_byte : (p : Bool) (k b : ℕ) (bs : List ℕ) → nat_lt b 255 ≡ p →
 head_of_byte true k b bs hp h = omega (arith, two_less (256 ^ k) b 255 (head k bs) 0 h (ltb-true b 255 hp))
 head_of_byte false k b bs hp h = omega (arith, power_above k)
 
+-- the number of the first k bytes is below 256 ^ k, whatever they are
 pub head_below : (k : ℕ) (bs : List ℕ) → head k bs < 256 ^ k
 head_below zero bs = omega arith
 head_below (suc k) [] = power_above (suc k)

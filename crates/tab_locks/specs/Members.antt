@@ -6,6 +6,7 @@ use Rattle.std.specs.List.{list_any}
 abbrev pub HasMore : {X : Type 0} → X → List X → List X → Type 0
 HasMore {X} x old new = (p : X → Bool) → list_any p new ≡ (p x || list_any p old)
 
+-- the two lists have the same members
 abbrev pub SameMembers : {X : Type 0} → List X → List X → Type 0
 SameMembers {X} old new = (p : X → Bool) → list_any p new ≡ list_any p old
 

@@ -24,9 +24,11 @@ abbrev pub without_last : ℕ → List Owned → List Owned
 without_last age [] = []
 without_last age (x ∷ xs) = if (x.0 == age) && not (list_any (λ y. y.0 == age) xs) then xs else x ∷ without_last age xs
 
+-- these locks, each with its owner's age
 abbrev pub owned_by : ℕ → List code.Lock → List Owned
 owned_by age locks = map (λ l. (age, lock_of l)) locks
 
+-- the locks of all owners, each with its owner's age, in the order of the owners
 abbrev pub listed : List (ℕ × Vec code.Lock) → List Owned
 listed owners = flat_map (λ e. owned_by e.0 (e.1).items) owners
 
@@ -56,10 +58,12 @@ abbrev pub conflict_in : Asked → Option Conflict
 conflict_in Held = None
 conflict_in (InConflict c l) = Some c
 
+-- the locks that are held after the answer: with the new one where it is held now
 abbrev pub after_asked : Owned → List Owned → Asked → List Owned
 after_asked r held Held = placed r held
 after_asked r held (InConflict c l) = held
 
+-- a lock that comes back is the one that was asked for
 abbrev pub GivesBack : code.Lock → Asked → Type 0
 GivesBack l Held = Unit {0}
 GivesBack l (InConflict c m) = m ≡ l

@@ -11,6 +11,7 @@ use Rattle.tab_locks.specs.declared.question.Relation.TheVariants.{Meeting, Oppo
 abbrev pub meets_at : Owned → Owned → Bool
 meets_at r x = bytes_eq r.1.table x.1.table && meets r.1.part x.1.part
 
+-- whether a held lock x meets request r, opposes it, blocks it or covers it, as the relation asks
 abbrev pub asked : Relation → Owned → Owned → Bool
 asked Meeting r x = meets_at r x
 asked Opposing r x = opposes r x

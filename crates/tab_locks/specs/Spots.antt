@@ -17,21 +17,27 @@ Holding = ℕ × Bool
 abbrev pub Spot : Type 0
 Spot = Part × Holding
 
+-- a key with an owner's age, and whether it holds for writing
 abbrev pub KeySpot : Type 0
 KeySpot = PlainTerm × Holding
 
+-- each holding of each key, with its key
 abbrev pub key_spots : List (Term × List Holding) → List KeySpot
 key_spots keys = flat_map (λ e. map (λ h. (term e.0, h)) e.1) keys
 
+-- the holdings of the whole table, and then those of its keys
 abbrev pub spots_of : List Holding → List KeySpot → List Spot
 spots_of all keys = map (λ h. (All, h)) all ++ map (λ s. (Key s.0, s.1)) keys
 
+-- the locks of a table that these spots are, each with its owner's age
 abbrev pub locks_on : List ℕ → List Spot → List Owned
 locks_on table spots = map (λ s. (s.1.0, lock table s.0 s.1.1)) spots
 
+-- the locks of all tables, each with its owner's age
 abbrev pub locks_in : List (List ℕ × List Spot) → List Owned
 locks_in tables = flat_map (λ e. locks_on e.0 e.1) tables
 
+-- both are all of a table, or both are the same key
 abbrev pub same_part : Part → Part → Bool
 same_part All All = true
 same_part (Key j) (Key k) = same j k
@@ -42,9 +48,11 @@ abbrev pub same_mode : Bool → Bool → Bool
 same_mode true w = w
 same_mode false w = not w
 
+-- the two have one owner and one mode
 abbrev pub is_holding : Holding → Holding → Bool
 is_holding h x = (x.0 == h.0) && same_mode h.1 x.1
 
+-- the two are of one table, one part of it and one mode
 abbrev pub same_lock : Lock → Lock → Bool
 same_lock l m = bytes_eq l.table m.table && (same_part l.part m.part && same_mode l.write m.write)
 
@@ -52,8 +60,10 @@ same_lock l m = bytes_eq l.table m.table && (same_part l.part m.part && same_mod
 abbrev pub stands_on_key : PlainTerm → Holding → KeySpot → Bool
 stands_on_key key h s = same key s.0 && is_holding h s.1
 
+-- the spot is this part's, of this owner and mode
 abbrev pub stands_on : Part → Holding → Spot → Bool
 stands_on part h s = same_part part s.0 && is_holding h s.1
 
+-- the held lock is this one, of this owner
 abbrev pub stands_at : ℕ → Lock → Owned → Bool
 stands_at age l x = bytes_eq l.table x.1.table && (same_part l.part x.1.part && is_holding (age, l.write) (x.0, x.1.write))

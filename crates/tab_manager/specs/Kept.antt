@@ -9,10 +9,12 @@ use Rattle.tab_manager.specs.declared.seat.Seat as code
 use Rattle.tab_manager.specs.declared.machine.Machine.{Machine}
 use Rattle.tab_manager.specs.Seats.{seat_of, queued_of, state_of, at, transaction_in}
 
+-- how many transactions are open there: one or none
 abbrev pub opens : Option kept.Transaction → ℕ
 opens None = 0
 opens (Some t) = 1
 
+-- how many sessions have a transaction open
 abbrev pub count_open : List code.Seat → ℕ
 count_open [] = 0
 count_open (s ∷ ss) = opens s.transaction + count_open ss
@@ -30,6 +32,7 @@ pub record Agree (m : Machine) : Type 0 where
   pub word : m.limits.ages < 18446744073709551616
   pub sessions : m.limits.sessions ≤ 64
 
+-- what holds of a manager whenever it is seen
 pub record IsKept (m : Machine) : Type 0 where
   pub agree : Agree m
   pub sound : IsSound (state_of m)

@@ -20,5 +20,6 @@ outermost σ n = if is_waiting σ n then None else outermost_of σ (transaction_
 abbrev pub ending_of : Transaction → ℕ × List Change
 ending_of t = (t.age, surviving t.moves t.told)
 
+-- the age of a transaction that its commit ends, and its updates in order
 abbrev pub told_of : Ending → ℕ × List Change
 told_of e = (e.age, e.updates.now)

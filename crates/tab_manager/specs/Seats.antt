@@ -11,9 +11,11 @@ use Rattle.tab_manager.specs.declared.machine.Machine.{Machine}
 abbrev pub no_outbox : Outbox
 no_outbox = record { items = []; refusals = 0; capacity = Some 0; mailbox = None }
 
+-- a transaction of the program as the definitions speak of it
 abbrev pub transaction_of : kept.Transaction → Transaction
 transaction_of t = record { age = t.age; moves = t.store.moves; told = t.store.told }
 
+-- a session of the program as the definitions speak of it: it watches nothing, and its outbox has no room
 abbrev pub seat_of : code.Seat → Seat
 seat_of s = record { number = s.number; transaction = option_map transaction_of s.transaction; watching = []; outbox = no_outbox; overflow = None }
 
@@ -21,9 +23,11 @@ seat_of s = record { number = s.number; transaction = option_map transaction_of 
 abbrev pub no_seat : ℕ → code.Seat
 no_seat n = record { number = n; transaction = None }
 
+-- a queued request of the program as the definitions speak of it
 abbrev pub queued_of : request.Request → Queued
 queued_of q = record { session = q.session; age = q.age; operation = q.operation }
 
+-- a manager as the state that the definitions speak of; the next age is one more than the begins so far
 abbrev pub state_of : Machine → State
 state_of m = record {
   tables = m.world;
@@ -35,10 +39,12 @@ state_of m = record {
   limits = m.limits;
 }
 
+-- the open transaction of a session, if there is one
 abbrev pub transaction_in : Option code.Seat → Option kept.Transaction
 transaction_in None = None
 transaction_in (Some s) = s.transaction
 
+-- the session of this number, the first if there are several
 abbrev pub at : List code.Seat → ℕ → Option code.Seat
 at [] n = None
 at (s ∷ ss) n = if s.number == n then Some s else at ss n

@@ -13,6 +13,7 @@ use Rattle.tab_manager.specs.declared.step.Stepped.{Stepped}
 use Rattle.tab_manager.specs.Quiet.{is_quiet}
 use Rattle.tab_manager.specs.Seats.{no_outbox}
 
+-- what a step asks; a session joins with the outbox into which nothing is put
 abbrev pub ask_of : Step → Ask
 ask_of step.Join = Join no_outbox
 ask_of step.Leave = Leave
@@ -40,10 +41,12 @@ abbrev pub is_free_limit : Limit → Bool
 is_free_limit limit.Tables = false
 is_free_limit l = true
 
+-- a session asks again for the lock that it waits for
 abbrev pub is_retry : Ask → Bool
 is_retry Retry = true
 is_retry a = false
 
+-- a session asks for a commit, of a child or of the whole
 abbrev pub is_commit : Ask → Bool
 is_commit (DoCommand command.Commit) = true
 is_commit a = false
@@ -63,6 +66,7 @@ tells_for_none inside a reply.AtomicOk = is_commit a
 tells_for_none inside a reply.Waiting = is_retry a
 tells_for_none inside a r = false
 
+-- the step, where no post refuses, is answered by a reply that takes no memory
 abbrev pub is_told_for_none : State → ℕ → Ask → Bool
 is_told_for_none σ n a = tells_for_none (is_some (transaction_at σ n)) a (outcome σ [] n a).reply
 

@@ -19,15 +19,19 @@ use Rattle.tab_manager.specs.declared.seat.Seat as code
 use Rattle.tab_manager.specs.declared.operating.Worked.{Worked}
 use Rattle.tab_manager.specs.declared.step.Stepped.{Stepped}
 
+-- the transaction, of the same age, with this private store
 abbrev pub with_store : kept.Transaction → Store → kept.Transaction
 with_store t s = record { age = t.age; store = s }
 
+-- the session without a transaction
 abbrev pub ended : code.Seat → code.Seat
 ended s = record { number = s.number; transaction = None }
 
+-- the session, whose transaction, if it has one, starts anew with the age that it has
 abbrev pub emptied : code.Seat → code.Seat
 emptied s = record { number = s.number; transaction = option_map (λ t. with_store t no_store) s.transaction }
 
+-- the locks and requests without those of this transaction, if there is one
 abbrev pub forgotten_if : Ages → Option kept.Transaction → Ages
 forgotten_if g None = g
 forgotten_if g (Some t) = forget g t.age
@@ -38,11 +42,13 @@ pub record Works (w : World) (t : kept.Transaction) (o : Operation) (x : Worked)
   pub answer : (age : ℕ) → IsOrderedWorld w → Fits t.store w → replies (start w age) t.store.moves ≡ t.store.told → x.reply ≡ answer (after (start w age) t.store.moves).now o
   pub over : x.over ≡ ((length t.store.levels.saved == 0) && is_failure (Some x.reply))
 
+-- a child's begin, by whether a level is left and whether a move is: done, or refused with nothing changed
 abbrev pub NestsIf : kept.Transaction → Bool → Bool → kept.Transaction → Reply → Type 0
 NestsIf t true true new r = (new ≡ with_store t (store_next None t.store Open (Some (reply.Tid t.age)))) × (r ≡ reply.Tid t.age)
 NestsIf t true false new r = (new ≡ t) × (r ≡ reply.SystemLimit limit.Operations)
 NestsIf t false room new r = (new ≡ t) × (r ≡ reply.SystemLimit limit.Nesting)
 
+-- an operation that was made, whose transaction is still in its place
 abbrev pub WorksTo : World → kept.Transaction → Operation → Worked → Option kept.Transaction → Type 0
 WorksTo w t o x None = ⊥
 WorksTo w t o x (Some new) = Works w t o x new
@@ -55,6 +61,7 @@ Nests ls t new r = NestsIf t (nat_lt (suc (length t.store.levels.saved)) ls.nest
 abbrev pub has_level : Limits → kept.Transaction → Bool
 has_level ls t = nat_lt (suc (length t.store.levels.saved)) ls.nesting && nat_lt (count_moves t.store.moves) ls.operations
 
+-- a child's begin, whose transaction is still in its place
 abbrev pub NestsTo : Limits → kept.Transaction → Option kept.Transaction → Reply → Type 0
 NestsTo ls t None r = ⊥
 NestsTo ls t (Some new) r = Nests ls t new r
@@ -72,8 +79,10 @@ abbrev pub UndoesIf : Bool → kept.Transaction → code.Seat → Ages → code.
 UndoesIf true t s g s' g' = (s' ≡ ended s) × (g'.held ≡ without t.age g.held) × (g'.queue ≡ without t.age (without t.age g.queue))
 UndoesIf false t s g s' g' = (s' ≡ record { number = s.number; transaction = Some (undone t) }) × (g' ≡ record { held = g.held; queue = without t.age g.queue })
 
+-- an abort of the innermost level: of the whole where no child is open
 abbrev pub Undoes : kept.Transaction → code.Seat → Ages → code.Seat → Ages → Type 0
 Undoes t s g s' g' = UndoesIf (length t.store.levels.saved == 0) t s g s' g'
 
+-- the reply and the entry of an outermost commit in which no post refused
 abbrev pub committed : ℕ → ℕ → kept.Transaction → Stepped
 committed number session t = record { reply = reply.Atomic number; entry = Some (entry.Committed number session t.age t.store.moves t.store.told []) }

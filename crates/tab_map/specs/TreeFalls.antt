@@ -23,6 +23,7 @@ module _ {K V : Type 0} (a : abbreviate.Ghosts K) (o : ord.Ghosts K) (e : partia
   last_le-spread [] m = omega arith
   last_le-spread (b ∷ bs) m = omega (arith, last_le-spread bs m, length-append b.below (b.entry ∷ spread bs m))
 
+  -- each child of a tree has fewer entries than the tree, where a node has a branch
   pub falls : (t : Tree K V) → HasBranch t → max (deep-Tree K V a o e p t) 0 ≤ length (entries t)
   falls Empty h = omega arith
   falls (Leaf c) h = omega arith

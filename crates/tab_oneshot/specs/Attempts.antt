@@ -64,6 +64,7 @@ AsItIs r calls turn = (calls ≡ []) × (turn ≡ IsOver r)
 abbrev pub Stops : Reply → List PlainTerms → List Call → Turn → Type 0
 Stops r levels calls turn = (last : Reply) × Ends (length levels) r calls last × (turn ≡ IsOver last)
 
+-- the answers with one more behind them
 abbrev pub with_last : PlainTerms → PlainTerm → PlainTerms
 with_last none t = one_more t none
 with_last (one_more u us) t = one_more u (with_last us t)
@@ -83,6 +84,7 @@ abbrev pub LevelEnds : Reply → List PlainTerms → List Call → Turn → Type
 LevelEnds r (ts ∷ us ∷ outer) calls turn = Puts 1 r (us ∷ outer) calls turn
 LevelEnds r levels calls turn = AsItIs r calls turn
 
+-- after an operation's answer: it is put, ends its level, begins all anew, ends all levels, or is the reply
 abbrev pub AfterOperation : Sort → Reply → List PlainTerms → List Call → Turn → Type 0
 AfterOperation sort.Told r levels calls turn = Puts 0 r levels calls turn
 AfterOperation sort.Failed r levels calls turn = LevelEnds r levels calls turn
@@ -90,6 +92,7 @@ AfterOperation sort.Restarted r levels calls turn = (calls ≡ []) × (turn ≡ 
 AfterOperation sort.Refused r levels calls turn = Stops r levels calls turn
 AfterOperation s r levels calls turn = AsItIs r calls turn
 
+-- after a wait, with an operation's answer; where the surroundings can't wait, all levels end with nowait
 abbrev pub AfterWait : Option Reply → List PlainTerms → List Call → Turn → Type 0
 AfterWait None levels calls turn = Stops reply.NoWait levels calls turn
 AfterWait (Some r) levels calls turn = AfterOperation (sort_of r) r levels calls turn
@@ -99,11 +102,13 @@ abbrev pub AfterAsked : Sort → Reply → List PlainTerms → List Call → Tur
 AfterAsked sort.Waits r levels calls turn = (w : Option Reply) × (rest : List Call) × (calls ≡ Waited w ∷ rest) × AfterWait w levels rest turn
 AfterAsked s r levels calls turn = AfterOperation s r levels calls turn
 
+-- after the answer to {abort, Reason}: its level is over, a refusal ends all levels, or it is the reply as it is
 abbrev pub AfterAbort : Sort → Reply → List PlainTerms → List Call → Turn → Type 0
 AfterAbort sort.Aborted r levels calls turn = LevelEnds r levels calls turn
 AfterAbort sort.Refused r levels calls turn = Stops r levels calls turn
 AfterAbort s r levels calls turn = AsItIs r calls turn
 
+-- after the answer to a child's begin: a level without answers is open, a refusal ends all, or it is the reply
 abbrev pub AfterBegin : Sort → Reply → List PlainTerms → List Call → Turn → Type 0
 AfterBegin sort.Opened r levels calls turn = (calls ≡ []) × (turn ≡ GoesOn 0 (none ∷ levels))
 AfterBegin sort.Refused r levels calls turn = Stops r levels calls turn
@@ -114,6 +119,7 @@ abbrev pub Joins : Reply → List PlainTerms → List Call → Turn → Type 0
 Joins r (ts ∷ us ∷ outer) calls turn = Puts 0 (reply.AtomicTerms ts) (us ∷ outer) calls turn
 Joins r levels calls turn = AsItIs r calls turn
 
+-- after the answer to a child's commit: it joins the level around, a refusal ends all, or it is the reply
 abbrev pub AfterInner : Sort → Reply → List PlainTerms → List Call → Turn → Type 0
 AfterInner sort.Joined r levels calls turn = Joins r levels calls turn
 AfterInner sort.Refused r levels calls turn = Stops r levels calls turn
@@ -124,6 +130,7 @@ abbrev pub innermost : List PlainTerms → PlainTerms
 innermost [] = none
 innermost (ts ∷ outer) = ts
 
+-- after the answer to the commit of level 1: its answers are the reply, or a refusal ends all, or it is the reply
 abbrev pub AfterCommit : Sort → Reply → List PlainTerms → List Call → Reply → Type 0
 AfterCommit sort.Committed r levels calls last = (calls ≡ []) × (last ≡ reply.AtomicTerms (innermost levels))
 AfterCommit sort.Refused r levels calls last = Ends (length levels) r calls last
@@ -131,6 +138,7 @@ AfterCommit s r levels calls last = (calls ≡ []) × (last ≡ r)
 
 -- ---- a part
 
+-- the part is handed in as its command, and this is what its answer leads to
 abbrev pub HandsIn : Part → List PlainTerms → List Call → Turn → Type 0
 HandsIn (part.Do o) levels calls turn = Asks (command.Do o) (λ s x rest. AfterAsked s x levels rest turn) calls
 HandsIn (part.Abort r) levels calls turn = Asks (command.Abort r) (λ s x rest. AfterAbort s x levels rest turn) calls
@@ -142,6 +150,7 @@ abbrev pub takes_place : Part → Bool
 takes_place part.Close = false
 takes_place p = true
 
+-- the part is handed in, or it is refused memory before that, and all open levels are ended
 abbrev pub Serves : Part → List PlainTerms → List Call → Turn → Type 0
 Serves p levels calls turn = HandsIn p levels calls turn ⊎ (takes_place p ≡ true) × Stops reply.NoMemory levels calls turn
 

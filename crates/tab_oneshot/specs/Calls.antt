@@ -4,6 +4,7 @@ use Rattle.tab_model.specs.declared.data.Command.{Command}
 use Rattle.tab_model.specs.declared.data.Reply.{Reply}
 use Rattle.tab_model.specs.declared.data.Reply.TheVariants as reply
 
+-- what a one-shot's driver does on its session: it asks, it waits, or it begins anew
 pub data Call : Type 0 where
   -- a command that was handed in, with its answer
   Asked : Command → Reply → Call
@@ -17,6 +18,7 @@ abbrev pub answer_in : {E : Type 0} → Result Reply E → Reply
 answer_in (Ok r) = r
 answer_in (Err e) = reply.NoMemory
 
+-- the answer of a wait, if the surroundings could wait; a want of memory is answered NoMemory
 abbrev pub waited_for : {E : Type 0} → Option (Result Reply E) → Option Reply
 waited_for None = None
 waited_for (Some r) = Some (answer_in r)

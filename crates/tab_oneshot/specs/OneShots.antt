@@ -11,6 +11,7 @@ use Rattle.tab_oneshot.specs.declared.answer.Sort.TheVariants as sort
 use Rattle.tab_oneshot.specs.Calls.{Call, Again}
 use Rattle.tab_oneshot.specs.Attempts.{Ends, Asks, IsAttempt}
 
+-- the command is {transaction, Ops, Retries}
 abbrev pub is_one_shot : Command → Bool
 is_one_shot (command.OneShot parts retries) = true
 is_one_shot c = false
@@ -40,6 +41,7 @@ abbrev pub IsRun : List Part → ℕ → List Call → Reply → Type 0
 IsRun parts retries calls last =
     Asks (command.OneShot parts retries) (λ s x rest. Opens s x parts retries rest last) calls ⊎ (calls ≡ []) × (last ≡ reply.NoMemory)
 
+-- the command is a one-shot, whose run made these calls and gave this reply
 abbrev pub IsOneShot : Command → List Call → Reply → Type 0
 IsOneShot (command.OneShot parts retries) calls last = IsRun parts retries calls last
 IsOneShot c calls last = ⊥

@@ -7,10 +7,12 @@ use Rattle.tab_oneshot.specs.declared.turn.Turn as code
 use Rattle.tab_oneshot.specs.declared.turn.Turn.TheVariants as turn
 use Rattle.tab_oneshot.specs.Attempts.{Turn, GoesOn, IsOver, Restarts}
 
+-- the reply of a wait, if the surroundings could wait
 abbrev pub awaited : Option Answer → Option Reply
 awaited None = None
 awaited (Some x) = Some x.reply
 
+-- what follows an answer, as the program says it, with these open levels
 abbrev pub turn_of : code.Turn → List PlainTerms → Turn
 turn_of turn.GoOn levels = GoesOn 0 levels
 turn_of turn.Skip levels = GoesOn 1 levels

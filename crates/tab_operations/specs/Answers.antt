@@ -12,6 +12,7 @@ use Rattle.tab_txstore.specs.Overlays.{Touched}
 use Rattle.tab_operations.specs.declared.answering.Answer.{Answer}
 use Rattle.tab_operations.specs.declared.answering.Answer.TheVariants as answer
 
+-- an answer of the program as a reply
 abbrev pub reply_of : Answer → Reply
 reply_of answer.Done = reply.Done
 reply_of (answer.Found ts) = reply.Found ts

@@ -5,6 +5,7 @@ use Rattle.tab_model.specs.State.{Outbox}
 use Rattle.tab_outbox.specs.declared.mailbox.Met.{Met}
 use Rattle.tab_outbox.specs.declared.mailbox.Met.TheVariants.{Apart, Going, All}
 
+-- the first list starts with the second
 abbrev pub StartsWith : List Item → List Item → Type 0
 StartsWith all xs = (others : List Item) × (all ≡ xs ++ others)
 

@@ -11,6 +11,7 @@ abbrev pub refused_item : Refused → Item
 refused_item (Full x) = x
 refused_item (Gone x) = x
 
+-- the post refused the item because it is full, not because nobody takes from it any more
 abbrev pub IsFull : Refused → Type 0
 IsFull (Full x) = Unit {0}
 IsFull (Gone x) = ⊥

@@ -21,6 +21,7 @@ module _ {R : Type 0} where
   abbrev pub taken_by : Inbox R → List Item
   taken_by i = (view i.pass).taken
 
+  -- how many items the mailbox's channel can hold
   abbrev pub capacity_of : ChannelPost R → ℕ
   capacity_of p = ruled_capacity (sends_on p.line)
 
@@ -36,6 +37,7 @@ module _ {R : Type 0} where
   abbrev pub IsSamePost : ChannelPost R → ChannelPost R → Type 0
   IsSamePost a b = sends_on b.line ≡ sends_on a.line
 
+  -- the second inbox is the first after some calls
   abbrev pub IsSameInbox : Inbox R → Inbox R → Type 0
   IsSameInbox a b = receives_on b.line ≡ receives_on a.line
 

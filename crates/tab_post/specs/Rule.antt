@@ -5,9 +5,11 @@ use lib.ListN.{get_elem?}
 use Rattle.tab_model.specs.declared.data.Item.{Item}
 use Rattle.tab_post.specs.declared.rule.Hand.{Hand}
 
+-- what a pass knows: whether it sends, whether it takes, and the items that it sent and took
 abbrev pub hand : Bool → Bool → List Item → List Item → Hand
 hand a b sent taken = record { sends = a; takes = b; sent = sent; taken = taken }
 
+-- the first list ends with the second
 abbrev pub EndsWith : List Item → List Item → Type 0
 EndsWith all xs = (others : List Item) × (all ≡ others ++ xs)
 
@@ -15,6 +17,7 @@ EndsWith all xs = (others : List Item) × (all ≡ others ++ xs)
 abbrev pub Knows : ℕ → ℕ → List Item → List Item → ℕ → Hand → Type 0
 Knows writer reader sent taken port v = (v.sends ≡ true → (port ≡ writer) × (v.sent ≡ sent)) × (v.takes ≡ true → (port ≡ reader) × (v.taken ≡ taken))
 
+-- what was sent is what was taken, followed by these items, and each pass knows what is its own of that
 abbrev pub Relayed : List Item → List Hand → Type 0
 Relayed items views = (writer : ℕ) × (reader : ℕ) × (sent : List Item) × (taken : List Item) × (sent ≡ taken ++ items)
     × ((port : ℕ) (v : Hand) → get_elem? views port ≡ some v → Knows writer reader sent taken port v)

@@ -18,15 +18,18 @@ use Rattle.tab_model.specs.declared.data.Part.TheVariants as part
 use Rattle.tab_model.specs.declared.data.Command.{Command}
 use Rattle.tab_model.specs.declared.data.Command.TheVariants as command
 
+-- the tuple of four terms
 abbrev pub four : PlainTerm → PlainTerm → PlainTerm → PlainTerm → PlainTerm
 four a b c d = tuple (one_more a (one_more b (one_more c (one_more d none))))
 
+-- the term of a command on tables
 abbrev pub schema_term : Schema → PlainTerm
 schema_term (schema.Create t options) = triple (atom (codes "create_table")) (atom t) (list options)
 schema_term (schema.Remove t) = pair (atom (codes "delete_table")) (atom t)
 schema_term (schema.AddIndex t a) = triple (atom (codes "add_table_index")) (atom t) (term a)
 schema_term (schema.DelIndex t a) = triple (atom (codes "del_table_index")) (atom t) (term a)
 
+-- the term of an operation
 abbrev pub operation_term : Operation → PlainTerm
 operation_term (op.Read t k) = triple (atom (codes "read")) (atom t) (term k)
 operation_term (op.ReadForWrite t k) = pair (atom (codes "wread")) (pair (atom t) (term k))
@@ -39,6 +42,7 @@ operation_term (op.AllKeys t) = pair (atom (codes "all_keys")) (atom t)
 operation_term (op.ReadLockTable t) = pair (atom (codes "read_lock_table")) (atom t)
 operation_term (op.WriteLockTable t) = pair (atom (codes "write_lock_table")) (atom t)
 
+-- the atom of a subscription's level
 abbrev pub level_word : Level → PlainTerm
 level_word Simple = atom (codes "simple")
 level_word Detailed = atom (codes "detailed")
@@ -47,12 +51,14 @@ level_word Detailed = atom (codes "detailed")
 abbrev pub watch_term : List ℕ → Level → PlainTerm
 watch_term t l = triple (atom (codes "table")) (atom t) (level_word l)
 
+-- the atom that says what of a table is asked for
 abbrev pub item_word : InfoItem → PlainTerm
 item_word item.Kind = atom (codes "type")
 item_word item.Attributes = atom (codes "attributes")
 item_word item.Index = atom (codes "index")
 item_word item.Size = atom (codes "size")
 
+-- {abort, Reason}
 abbrev pub abort_term : PlainTerm → PlainTerm
 abort_term r = pair (atom (codes "abort")) r
 
@@ -74,11 +80,13 @@ levels (part.Abort r ∷ parts) = with_first (abort_term (term r)) (levels parts
 levels (part.Open ∷ parts) = enclosed (levels parts)
 levels (part.Close ∷ parts) = none ∷ levels parts
 
+-- the last of these lists, which is the outermost transaction's; none where there is no list
 abbrev pub outermost : List PlainTerms → PlainTerms
 outermost [] = none
 outermost (ts ∷ []) = ts
 outermost (ts ∷ outer) = outermost outer
 
+-- the term of a command, without a session's number
 abbrev pub term_of : Command → PlainTerm
 term_of (command.Schema c) = schema_term c
 term_of (command.TableInfo t i) = triple (atom (codes "table_info")) (atom t) (item_word i)
@@ -102,6 +110,7 @@ is_attribute (atom name) = true
 is_attribute (int z) = true
 is_attribute t = false
 
+-- an operation's record or pattern is a row, and its attribute an atom or an integer
 abbrev pub is_operation : Operation → Bool
 is_operation (op.Write r) = is_row (term r)
 is_operation (op.DeleteObject r) = is_row (term r)
@@ -109,11 +118,13 @@ is_operation (op.MatchObject p) = is_row (term p)
 is_operation (op.IndexRead t x a) = is_attribute (term a)
 is_operation o = true
 
+-- the attribute of an index is an atom or an integer
 abbrev pub is_schema : Schema → Bool
 is_schema (schema.AddIndex t a) = is_attribute (term a)
 is_schema (schema.DelIndex t a) = is_attribute (term a)
 is_schema c = true
 
+-- a part that is an operation is such a one; every other part is well formed
 abbrev pub is_part : Part → Bool
 is_part (part.Do o) = is_operation o
 is_part p = true

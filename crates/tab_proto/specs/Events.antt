@@ -10,10 +10,12 @@ use Rattle.tab_proto.specs.Replies.{reply_term, item_term}
 use Rattle.tab_proto.specs.declared.events.Delivery.{Delivery}
 use Rattle.tab_proto.specs.declared.events.Delivery.TheVariants.{Events, Batches}
 
+-- the frames of the events, each with the version byte and its term, one after another
 abbrev pub event_frames : PlainTerms → List ℕ
 event_frames none = []
 event_frames (one_more e es) = frame (131 ∷ canon e) ++ event_frames es
 
+-- the frames of an item by its events: one for each event of a batch, one for a mark
 abbrev pub item_frames : Item → List ℕ
 item_frames (Batch n events) = event_frames events
 item_frames (Began t l dump) = frame (131 ∷ canon (item_term (Began t l dump)))

@@ -20,12 +20,15 @@ use Rattle.tab_etf.specs.declared.outline.Outline.{Outline}
 use Rattle.tab_etf.specs.Outlines.{outline_term, IsShortOutline}
 use Rattle.tab_proto.specs.Commands.{four, level_word}
 
+-- {error, Reason}
 abbrev pub error : PlainTerm → PlainTerm
 error reason = pair (atom (codes "error")) reason
 
+-- {aborted, Reason}
 abbrev pub aborted : PlainTerm → PlainTerm
 aborted reason = pair (atom (codes "aborted")) reason
 
+-- the text of What in {error, {system_limit, What}}
 abbrev pub limit_word : Limit → List ℕ
 limit_word limit.Sessions = codes "sessions"
 limit_word limit.Nesting = codes "nesting"
@@ -34,26 +37,31 @@ limit_word limit.Tables = codes "tables"
 limit_word limit.Ages = codes "ages"
 limit_word limit.Journal = codes "journal"
 
+-- the text of the atom of a table's type
 abbrev pub kind_word : Kind → List ℕ
 kind_word Set = codes "set"
 kind_word Bag = codes "bag"
 
+-- the text of the atom that an end mark has
 abbrev pub ending_word : Ending → List ℕ
 ending_word Unsubscribed = codes "unsubscribed"
 ending_word Deleted = codes "deleted"
 
+-- what table_info is answered: an atom, a list of names or of positions, a number
 abbrev pub info_term : TableInfo → PlainTerm
 info_term (info.Kind k) = atom (kind_word k)
 info_term (info.Attributes ns) = list ns
 info_term (info.Index ns) = list ns
 info_term (info.Size n) = number n
 
+-- the term of an item as a Take is answered it: a mark, or a batch whole
 abbrev pub item_term : Item → PlainTerm
 item_term (Began t l None) = triple (atom (codes "mnesia_table_begin")) (atom t) (level_word l)
 item_term (Began t l (Some records)) = four (atom (codes "mnesia_table_begin")) (atom t) (level_word l) (list records)
 item_term (Batch n events) = triple (atom (codes "batch")) (number n) (list events)
 item_term (Ended t e) = triple (atom (codes "mnesia_table_end")) (atom t) (atom (ending_word e))
 
+-- the term of a reply, without a session's number
 abbrev pub reply_term : Reply → PlainTerm
 reply_term reply.BadTerm = error (atom (codes "badterm"))
 reply_term reply.BadCommand = error (atom (codes "badcommand"))

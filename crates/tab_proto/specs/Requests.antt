@@ -9,6 +9,7 @@ use Rattle.tab_proto.specs.declared.fault.ProtoFault.TheVariants.{BadCommand, No
 use Rattle.tab_proto.specs.Commands.{term_of, is_command}
 use Rattle.tab_proto.specs.Reading.{is_one_word, is_call, is_one_shot_term}
 
+-- the term of what a session asks, without its number
 abbrev pub asked_term : Request → PlainTerm
 asked_term request.Join = atom (codes "join")
 asked_term request.Leave = atom (codes "leave")
@@ -33,6 +34,7 @@ IsSession n = (1 ≤ n) × (n < 4294967296)
 abbrev pub IsNumbered : PlainTerm → ℕ → Type 0
 IsNumbered t n = IsSession n × (number_in t ≡ Some (pos n))
 
+-- the term is no {Session, X}
 abbrev pub HasNoNumber : PlainTerm → Type 0
 HasNoNumber t = (n : ℕ) → IsSession n → number_in t ≢ Some (pos n)
 
@@ -41,9 +43,11 @@ abbrev pub IsRequest : Request → Type 0
 IsRequest (request.Do c) = is_command c ≡ true
 IsRequest r = Unit {0}
 
+-- the text is a request without arguments: join, leave, retry, take, begin or commit
 abbrev pub is_word_alone : List ℕ → Bool
 is_word_alone w = bytes_eq w (codes "join") || (bytes_eq w (codes "leave") || (bytes_eq w (codes "retry") || (bytes_eq w (codes "take") || is_one_word w)))
 
+-- the term is a request, without a session's number
 abbrev pub is_asked : PlainTerm → Bool
 is_asked (atom w) = is_word_alone w
 is_asked (tuple ts) = is_call ts

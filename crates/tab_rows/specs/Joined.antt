@@ -9,6 +9,7 @@ use Rattle.tab_model.specs.Names.{plain_terms, terms_list}
 use Rattle.tab_model.specs.Tables.{Rows, has_key}
 use Rattle.tab_term.specs.Order.{term_cmp}
 
+-- a key with its records
 abbrev pub Entry : Type 0
 Entry = Term × PlainTerms
 
@@ -22,6 +23,7 @@ pub record IsKeyed (e : Entry) : Type 0 where
   pub keyed : list_all (has_key (term e.0)) (terms_list e.1) ≡ true
   pub filled : terms_list e.1 ≢ []
 
+-- each key has records, and they have that key
 abbrev pub AllKeyed : List Entry → Type 0
 AllKeyed [] = Unit {0}
 AllKeyed (e ∷ es) = IsKeyed e × AllKeyed es

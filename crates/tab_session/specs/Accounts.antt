@@ -29,10 +29,12 @@ pub record Exchange : Type 0 where
   pub call : model.Call
   pub reply : Reply
 
+-- the exchanges of the steps that were made, in order, and the entries that these steps added to the log
 pub record Account : Type 0 where
   pub exchanges : List Exchange
   pub log : List Entry
 
+-- an account without steps
 abbrev pub nothing_done : Account
 nothing_done = record { exchanges = []; log = [] }
 
@@ -40,9 +42,11 @@ nothing_done = record { exchanges = []; log = [] }
 abbrev pub joined : Account → Account → Account
 joined a b = record { exchanges = a.exchanges ++ b.exchanges; log = a.log ++ b.log }
 
+-- what was asked in each exchange, by whom, and whose posts refused in it
 abbrev pub calls_in : List Exchange → List model.Call
 calls_in xs = map (λ (x : Exchange). x.call) xs
 
+-- the reply of each exchange
 abbrev pub replies_in : List Exchange → List Reply
 replies_in xs = map (λ (x : Exchange). x.reply) xs
 
@@ -50,6 +54,7 @@ replies_in xs = map (λ (x : Exchange). x.reply) xs
 abbrev pub of_made : (σ : State) (n : ℕ) (a : Ask) (r : Reply) (μ : State) → IsStepMade σ n a r μ → Account
 of_made σ n a r μ made = record { exchanges = record { call = record { session = n; ask = a; over = made.over }; reply = r } ∷ []; log = entries made.entry }
 
+-- a step that was made; one that was refused for memory leaves nothing
 abbrev pub of_step : (σ : State) (n : ℕ) (a : Ask) (r : Reply) (μ : State) → StepMadeOrRefused σ n a r μ → Account
 of_step σ n a r μ (inl made) = of_made σ n a r μ made
 of_step σ n a r μ (inr refused) = nothing_done
@@ -61,11 +66,13 @@ of_calls n σ (Asked c r ∷ calls) μ (ρ, one, ran) = joined (of_step σ n (Do
 of_calls n σ (Waited w ∷ calls) μ (none, ran) = of_calls n σ calls μ ran
 of_calls n σ (Again ∷ calls) μ ran = of_calls n σ calls μ ran
 
+-- a one-shot: the calls of its driver; no other request is driven
 abbrev pub of_driven : (σ : State) (n : ℕ) (a : Request) (r : Reply) (μ : State) → IsDrivenRequest σ n a r μ → Account
 of_driven σ n (request.Do c) r μ driven = of_calls n σ driven.calls μ driven.ran
 of_driven σ n a r μ driven = nothing_done
 
 module _ (capacity : ℕ) where
+  -- a request: its one step, or the calls of its one-shot's driver
   abbrev pub of_request : (σ : State) (n : ℕ) (a : Request) (r : Reply) (μ : State) → IsMadeOf capacity σ n a r μ → Account
   of_request σ n a r μ (inl (one, made)) = of_made σ n (ask_for capacity a) r μ made
   of_request σ n a r μ (inr driven) = of_driven σ n a r μ driven
@@ -75,14 +82,17 @@ module _ (capacity : ℕ) where
   of_term σ t x μ (inl no_command) = nothing_done
   of_term σ t x μ (inr made) = of_request σ x.session made.asked x.reply μ made.made
 
+  -- a payload as it was read; one that is no term leaves nothing
   abbrev pub of_read : (σ : State) (read : Result PlainTerm Stop) (x : Answer) (μ : State) → AnsweredRead capacity σ read x μ → Account
   of_read σ (Err f) x μ answered = nothing_done
   of_read σ (Ok t) x μ answered = of_term σ t x μ answered
 
+  -- a payload that was answered; one that was refused for memory leaves nothing
   abbrev pub of_answer : (σ : State) (payload : List ℕ) (x : Answer) (μ : State) → Answered capacity σ payload x μ → Account
   of_answer σ payload x μ (inl answered) = of_read σ (whole payload) x μ answered
   of_answer σ payload x μ (inr refused) = nothing_done
 
+  -- payloads that were answered one after another
   abbrev pub of_all : (σ : State) (ps : List (List ℕ)) (xs : List Answer) (τ : State) → AnsweredAll capacity σ ps xs τ → Account
   of_all σ [] [] τ ran = nothing_done
   of_all σ (p ∷ ps) [] τ ran = nothing_done

@@ -37,6 +37,7 @@ abbrev pub is_step : Request → Bool
 is_step (request.Do c) = not (is_one_shot c)
 is_step r = true
 
+-- the request is a one-shot, which its driver ran up to this reply and this state
 abbrev pub IsDrivenRequest : State → ℕ → Request → Reply → State → Type 0
 IsDrivenRequest σ session (request.Do c) r μ = IsDriven σ session c r μ
 IsDrivenRequest σ session a r μ = ⊥
@@ -62,6 +63,7 @@ module _ (capacity : ℕ) where
   ask_for request.Take = Take
   ask_for (request.Do c) = DoCommand c
 
+  -- the request was made: as one step, or as a one-shot by its driver
   abbrev pub IsMadeOf : State → ℕ → Request → Reply → State → Type 0
   IsMadeOf σ session a r μ = (is_step a ≡ true) × IsStepMade σ session (ask_for a) r μ ⊎ IsDrivenRequest σ session a r μ
 
@@ -73,6 +75,7 @@ module _ (capacity : ℕ) where
   abbrev pub RepliesTo : State → ℕ → Request → Reply → State → Type 0
   RepliesTo σ session a r μ = IsMadeOf σ session a r μ ⊎ TakesStep σ session a × (r ≡ NoMemory) × (μ ≡ σ)
 
+  -- the term is a request of the answer's session, and it was made
   pub record IsMade (σ : State) (t : PlainTerm) (x : Answer) (μ : State) : Type 0 where
     pub asked : Request
     pub spelled : request_term x.session asked ≡ t
@@ -80,9 +83,11 @@ module _ (capacity : ℕ) where
     pub formed : IsRequest asked
     pub made : IsMadeOf σ x.session asked x.reply μ
 
+  -- the term was refused as no command, or its request was made
   abbrev pub AnsweredTerm : State → PlainTerm → Answer → State → Type 0
   AnsweredTerm σ t x μ = IsNoCommand σ t x μ ⊎ IsMade σ t x μ
 
+  -- no term: badterm under 0, with nothing changed; a term: answered as a term is
   abbrev pub AnsweredRead : State → Result PlainTerm Stop → Answer → State → Type 0
   AnsweredRead σ (Err f) x μ = (x ≡ record { session = 0; reply = BadTerm }) × (μ ≡ σ)
   AnsweredRead σ (Ok t) x μ = AnsweredTerm σ t x μ
@@ -111,11 +116,13 @@ module _ (capacity : ℕ) where
   IsUnderRead σ (Err f) session = session ≡ 0
   IsUnderRead σ (Ok t) session = (session ≡ 0) ⊎ TakesMemory σ t session
 
+  -- the payload was refused for memory, with nothing changed
   pub record Refused (σ : State) (read : Result PlainTerm Stop) (x : Answer) (μ : State) : Type 0 where
     pub reply : x.reply ≡ NoMemory
     pub same : μ ≡ σ
     pub under : IsUnderRead σ read x.session
 
+  -- the payload was answered as it reads, or refused for memory
   abbrev pub Answered : State → List ℕ → Answer → State → Type 0
   Answered σ payload x μ = AnsweredRead σ (whole payload) x μ ⊎ Refused σ (whole payload) x μ
 
@@ -138,6 +145,7 @@ NoneWaits xs = All (λ (x : Answer). (x.reply ≢ Waiting) × (x.reply ≢ Resta
 abbrev pub IsOf : ℕ → List ℕ → Type 0
 IsOf n p = (t : PlainTerm) (m : ℕ) → whole p ≡ Ok t → IsNumbered t m → m ≡ n
 
+-- where these payloads have numbers, they are this session's
 abbrev pub AreOf : ℕ → List (List ℕ) → Type 0
 AreOf n ps = All (IsOf n) ps
 
@@ -151,9 +159,11 @@ taken_by m xs = flat_map (λ x. taken_now m x.session x.reply) xs
 abbrev pub answer_payload : Answer → List ℕ
 answer_payload x = 131 ∷ canon (response (Some x.session) x.reply)
 
+-- the payload of an answer behind its length
 unfoldable pub answer_frame : Answer → List ℕ
 answer_frame x = frame (answer_payload x)
 
+-- why an answer's frame was not put: its payload is too long for a length of four bytes, or memory was refused
 abbrev pub NotPut : Answer → EncodeFault → Type 0
 NotPut x puts.TooLong = 4294967295 < length (answer_payload x)
 NotPut x puts.NoMemory = Unit {0}

@@ -3,6 +3,7 @@ use Rattle.std.specs.Prelude.{◌≡◌, true, is_some}
 use Rattle.std.specs.List.{AllByRecursion}
 use Rattle.tab_model.specs.State.{Seat, State}
 
+-- the post of the session has a capacity
 abbrev pub HasCapacity : Seat → Type 0
 HasCapacity s = is_some s.outbox.capacity ≡ true
 

@@ -13,6 +13,7 @@ use Rattle.tab_model.specs.Alone.{Mid, start, next, back}
 use Rattle.tab_proto.specs.Replies.{reply_term}
 use Rattle.tab_oneshot.specs.Attempts.{told, innermost, passed}
 
+-- what is answered to a one-shot that commits, and the tables that it leaves
 pub record Commit : Type 0 where
   pub replies : PlainTerms
   pub tables : World
@@ -22,6 +23,7 @@ abbrev pub ended : (ℕ → Mid → List PlainTerms → Option Commit) → Mid �
 ended Rest m r (ts ∷ us ∷ outer) = Rest 1 (back m) (told (reply_term r) (us ∷ outer))
 ended Rest m r levels = None
 
+-- an inner level commits: {atomic, Replies} is its answer in the level around, which goes on; level 1 has no such end
 abbrev pub closed : (ℕ → Mid → List PlainTerms → Option Commit) → Mid → List PlainTerms → Option Commit
 closed Rest m (ts ∷ us ∷ outer) = Rest 0 (next m Close) (told (reply_term (reply.AtomicTerms ts)) (us ∷ outer))
 closed Rest m levels = None

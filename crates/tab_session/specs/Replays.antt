@@ -18,13 +18,16 @@ limits = record { sessions = 64; nesting = 16; operations = 1000; tables = 256; 
 abbrev pub fresh : State
 fresh = new limits
 
+-- the frames of the answers, one after another
 abbrev pub frames_of : List Answer → List ℕ
 frames_of rs = flat_map answer_frame rs
 
+-- there is a first answer, and its payload has over 4,294,967,295 bytes
 abbrev pub BeginsTooLong : List Answer → Type 0
 BeginsTooLong [] = ⊥
 BeginsTooLong (r ∷ rs) = 4294967295 < length (answer_payload r)
 
+-- a count of faults is one more, up to the greatest 64 bit number
 abbrev pub Rises : ℕ → ℕ → Type 0
 Rises old new = new ≡ min (old + 1) (2 ^ 64 - 1)
 
@@ -36,6 +39,7 @@ OneFault old new (Err Device) = Rises old new
 OneFault old new (Err TooLong) = new ≡ old
 OneFault old new (Err NoMemory) = new ≡ old
 
+-- neither count of faults, from a to b and from c to d, has changed
 abbrev pub Sound : ℕ → ℕ → ℕ → ℕ → Type 0
 Sound a b c d = (b ≡ a) × (d ≡ c)
 
@@ -90,6 +94,7 @@ module _ (capacity : ℕ) where
     pub text : Appends old new (frames_of first)
     pub next : BeginsTooLong others
 
+  -- all payloads were answered, from the one state to the other, and the frames of the answers were written
   pub record Passed (σ τ : State) (ps : List (List ℕ)) (old new : Option (List ℕ)) : Type 0 where
     pub replies : List Answer
     pub ran : AnsweredAll capacity σ ps replies τ

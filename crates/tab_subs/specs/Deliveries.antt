@@ -17,10 +17,12 @@ abbrev pub first_of : List (List Item) → List Item
 first_of [] = []
 first_of (x ∷ xs) = x
 
+-- the items of all subscribers but the first
 abbrev pub rest_of : List (List Item) → List (List Item)
 rest_of [] = []
 rest_of (x ∷ xs) = xs
 
+-- a subscriber without its subscription to the table that is gone, if one is
 abbrev pub unwatched : Option (List ℕ) → Subscriber → Subscriber
 unwatched None s = s
 unwatched (Some t) s = record s { watching = without_watch s.watching t }
@@ -35,10 +37,12 @@ abbrev pub IsDecided : Bool → List Item → Outbox → Type 0
 IsDecided b [] o = b ≡ false
 IsDecided b (x ∷ xs) o = IfSome o.capacity (λ c. b ≡ nat_le c (length o.items))
 
+-- for each subscriber it is decided so whether it is in the list, by the items that are owed to it
 abbrev pub AreDecided : List ℕ → List (List Item) → List Subscriber → Type 0
 AreDecided over items [] = Unit {0}
 AreDecided over items (s ∷ ss) = IsDecided (has_session over s.number) (first_of items) s.outbox × AreDecided over (rest_of items) ss
 
+-- the list with n before it where the Bool is true
 abbrev pub joined_if : Bool → ℕ → List ℕ → List ℕ
 joined_if true n ns = n ∷ ns
 joined_if false n ns = ns

@@ -12,23 +12,28 @@ use Rattle.tab_subs.specs.declared.answers.Taken.TheVariants as taken
 use Rattle.tab_subs.specs.declared.answers.Marked.{Marked}
 use Rattle.tab_subs.specs.declared.answers.Marked.TheVariants as mark
 
+-- a joined session: what it watches, what its post shows, and an overflow that it was not sent yet
 pub record Subscriber : Type 0 where
   pub number : ℕ
   pub watching : List Watch
   pub outbox : Outbox
   pub overflow : Option ℕ
 
+-- a session that has just joined with this post
 abbrev pub fresh : ℕ → Outbox → Subscriber
 fresh n b = record { number = n; watching = []; outbox = b; overflow = None }
 
+-- the subscriber of this number, the first if there are several
 abbrev pub at : List Subscriber → ℕ → Option Subscriber
 at [] n = None
 at (s ∷ ss) n = if s.number == n then Some s else at ss n
 
+-- the list with s in the place of the first subscriber of its number; nothing is added where there is none
 abbrev pub change : List Subscriber → Subscriber → List Subscriber
 change [] s = []
 change (x ∷ xs) s = if x.number == s.number then s ∷ xs else x ∷ change xs s
 
+-- the list without the subscribers of this number
 abbrev pub without : List Subscriber → ℕ → List Subscriber
 without [] n = []
 without (x ∷ xs) n = if x.number == n then without xs n else x ∷ without xs n
@@ -37,6 +42,7 @@ without (x ∷ xs) n = if x.number == n then without xs n else x ∷ without xs 
 abbrev pub overflowed : ℕ → Subscriber → Subscriber
 overflowed n s = record { number = s.number; watching = []; outbox = refused s.outbox; overflow = Some n }
 
+-- a subscriber after its items: overflowed where its number is in the list, else with them behind its outbox
 abbrev pub given : ℕ → List ℕ → List Item → Subscriber → Subscriber
 given n over items s =
     if has_session over s.number then overflowed n s
@@ -47,6 +53,7 @@ abbrev pub marked : Marked → List Watch → Item → Subscriber → Subscriber
 marked mark.Full ws x s = record s { outbox = refused s.outbox }
 marked mark.Told ws x s = record s { watching = ws; outbox = pushed s.outbox (x ∷ []) }
 
+-- the mark found no room in the post
 abbrev pub is_full : Marked → Bool
 is_full mark.Full = true
 is_full mark.Told = false
@@ -65,17 +72,21 @@ give s (x ∷ xs) l =
 give s [] None = (s, taken.Empty)
 give s [] (Some n) = (record s { overflow = None }, taken.Overflow n)
 
+-- a Take: the subscriber after it, and what it is answered
 abbrev pub take : Subscriber → Subscriber × Taken
 take s = give s (takable s.outbox s.outbox.capacity) s.overflow
 
+-- a Take by one of the subscribers, or by none: the list after it, and what it is answered
 abbrev pub taken_from : List Subscriber → Option Subscriber → List Subscriber × Option Taken
 taken_from ss None = (ss, None)
 taken_from ss (Some s) = (change ss (take s).0, Some (take s).1)
 
+-- the level at which a subscriber, if there is one, watches a table
 abbrev pub level_of : Option Subscriber → List ℕ → Option Level
 level_of None t = None
 level_of (Some s) t = level_in s.watching t
 
+-- the overflow that a subscriber, if there is one, was not sent yet
 abbrev pub overflow_of : Option Subscriber → Option ℕ
 overflow_of None = None
 overflow_of (Some s) = s.overflow
@@ -87,23 +98,28 @@ higher (Some Simple) (Some Detailed) = Some Detailed
 higher (Some Simple) l = Some Simple
 higher None l = l
 
+-- the highest level at which any of the subscribers watches a table
 abbrev pub watched : List Subscriber → List ℕ → Option Level
 watched [] t = None
 watched (s ∷ ss) t = higher (level_in s.watching t) (watched ss t)
 
 -- ---- places
 
+-- the numbers of the subscribers, in their order
 abbrev pub numbers : List Subscriber → List ℕ
 numbers ss = map (λ (s : Subscriber). s.number) ss
 
+-- each number of the list is above n
 abbrev pub AllAbove : ℕ → List ℕ → Type 0
 AllAbove n [] = Unit {0}
 AllAbove n (m ∷ ms) = (n < m) × AllAbove n ms
 
+-- the numbers ascend, so no two are equal
 abbrev pub Ascends : List ℕ → Type 0
 Ascends [] = Unit {0}
 Ascends (n ∷ ns) = AllAbove n ns × Ascends ns
 
+-- each number of the list is below n
 abbrev pub AllBelow : ℕ → List ℕ → Type 0
 AllBelow n [] = Unit {0}
 AllBelow n (m ∷ ms) = (m < n) × AllBelow n ms

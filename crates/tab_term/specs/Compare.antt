@@ -37,15 +37,18 @@ length_by false true n m u v hn hm =
     ∙ ap (λ o. ordering_then o (bytes_cmp u v)) (sym (greater_is n m (omega (arith, ltb-true m 4294967295 hm, ltb-false n 4294967295 hn))))
 length_by false false n m u v hn hm = wide_cmp n m u v
 
+-- fields of lengths compare as the lengths do, and where these are one what follows decides
 pub length_cmp : (n m : ℕ) (u v : List ℕ) → bytes_cmp (length_field n ++ u) (length_field m ++ v) ≡ ordering_then (nat_cmp n m) (bytes_cmp u v)
 unfolding length_field
 length_cmp n m u v = length_by (nat_lt n 4294967295) (nat_lt m 4294967295) n m u v refl refl
 
 -- ---- lengths of atoms and tuples, where the tags are one
 
+-- an atom's tag, by whether its length is under 256, and under 65,536
 abbrev atom_tag_at : Bool → Bool → ℕ
 atom_tag_at p q = if p then 119 else (if q then 118 else 120)
 
+-- a tuple's tag, by whether its arity is under 256
 abbrev tuple_tag_at : Bool → ℕ
 tuple_tag_at p = if p then 104 else 105
 
@@ -88,9 +91,11 @@ big_cmp s t a b u v =
     (λ e. ap (ordering_then (nat_cmp s t)) (text_cmp a b u v (equal_is (length a) (length b) e)) ∙ sym (then_assoc (nat_cmp s t) (bytes_cmp a b) (bytes_cmp u v)))
     ∙ sym (then_assoc (nat_cmp (length a) (length b)) (ordering_then (nat_cmp s t) (bytes_cmp a b)) (bytes_cmp u v))
 
+-- the contents of an integer, by whether one byte holds it, and four with a sign
 abbrev pub int_at : Bool → Bool → ℤ → List ℕ
 int_at p q z = if p then unsigned_abs z ∷ [] else (if q then to_be_bytes w32 (cast_unsigned w32 z) else length (magnitude (unsigned_abs z)) ∷ sign_of z ∷ magnitude (unsigned_abs z))
 
+-- the tag of an integer, by whether one byte holds it, and four with a sign
 abbrev pub int_tag_at : Bool → Bool → ℕ
 int_tag_at p q = if p then 97 else (if q then 98 else 110)
 
@@ -111,9 +116,11 @@ int_cmp x y u v e = int_by (is_byte x) (fits_four x) (is_byte y) (fits_four y) x
 
 -- ---- which tags are whose
 
+-- which kind of term a tag is of, by the numbers of `code`; every number from 117 on is counted an atom's
 abbrev kind : ℕ → ℕ
 kind n = if nat_lt n 99 then 0 else (if nat_lt n 106 then 2 else (if nat_lt n 109 then 3 else (if nat_lt n 110 then 4 else (if nat_lt n 111 then 0 else (if nat_lt n 117 then 5 else 1)))))
 
+-- the number of a term's kind
 abbrev pub code : PlainTerm → ℕ
 code (int z) = 0
 code (atom s) = 1
@@ -175,9 +182,11 @@ bytes_of_cmp (one_more x xs) (one_more y ys) u v hx hy e =
     ap₂ ordering_then (sym (small_order x y p.0 q.0)) (bytes_of_cmp xs ys u v p.1 q.1 (omega arith))
     ∙ sym (then_assoc (by_tag x y (contents_order x y)) (members_order xs ys) (bytes_cmp u v))
 
+-- a list's tag, by whether it is empty, and whether it is of bytes and has under 65,536
 abbrev list_tag_at : Bool → Bool → ℕ
 list_tag_at p q = if p then 106 else (if q then 107 else 108)
 
+-- a list's contents, by the same, with the spellings e of its elements
 abbrev list_at : Bool → Bool → PlainTerms → List ℕ → List ℕ
 list_at p q ts e = if p then [] else (if q then to_be_bytes w16 (count ts) ++ bytes_of ts else length_field (count ts) ++ e ++ 106 ∷ [])
 
@@ -218,6 +227,7 @@ list_cmp xs ys a b u v f e = list_by (count xs == 0) (nat_lt (count xs) (2 ^ 16)
 
 -- ---- what follows the tag
 
+-- what follows the tag in a term's canonical spelling
 abbrev contents : PlainTerm → List ℕ
 contents (int z) = int_contents z
 contents (atom s) = atom_length_field (length s) ++ s
@@ -251,6 +261,7 @@ pairs_more : (k x : PlainTerm) (ps : PlainPairs) → pair_canons (one_pair k x p
 unfolding canon
 pairs_more k x ps = refl
 
+-- what follows the tags compares by contents_order, and where that ties what comes behind decides
 abbrev AreCompared : PlainTerm → PlainTerm → List ℕ → List ℕ → Type 0
 AreCompared a b u v = bytes_cmp (contents a ++ u) (contents b ++ v) ≡ ordering_then (contents_order a b) (bytes_cmp u v)
 
@@ -297,5 +308,6 @@ mutual
       ∙ sym (then_assoc (order k l) (ordering_then (order x y) (pairs_order ps qs)) (bytes_cmp u v))
       ∙ ap (λ o. ordering_then o (bytes_cmp u v)) (sym (then_assoc (order k l) (order x y) (pairs_order ps qs)))
 
+-- canonical spellings compare as the terms do, and where these are one what follows decides
 pub canon_cmp : (a b : PlainTerm) (u v : List ℕ) → bytes_cmp (canon a ++ u) (canon b ++ v) ≡ ordering_then (order a b) (bytes_cmp u v)
 canon_cmp a b u v = by_contents a b u v (λ h. contents_cmp a b u v h)

@@ -16,9 +16,11 @@ bytes_cmp = slice_cmp nat_cmp
 abbrev pub term_cmp : Term → Term → Ordering
 term_cmp = on (λ t. canon (term t)) bytes_cmp
 
+-- the lesser tag first, and where the tags are one the answer o
 abbrev pub by_tag : PlainTerm → PlainTerm → Ordering → Ordering
 by_tag a b o = ordering_then (nat_cmp (tag a) (tag b)) o
 
+-- the order of what follows the tags: counts or lengths first, then members from the first on
 abbrev mutual
   -- where the tags are one
   pub contents_order : PlainTerm → PlainTerm → Ordering
@@ -30,17 +32,20 @@ abbrev mutual
   contents_order (map ps) (map qs) = ordering_then (nat_cmp (pair_count ps) (pair_count qs)) (pairs_order ps qs)
   contents_order a b = Equal
 
+  -- the first members that differ decide; where one list ends before the other, it is the lesser
   pub members_order : PlainTerms → PlainTerms → Ordering
   members_order none none = Equal
   members_order none (one_more y ys) = Less
   members_order (one_more x xs) none = Greater
   members_order (one_more x xs) (one_more y ys) = ordering_then (by_tag x y (contents_order x y)) (members_order xs ys)
 
+  -- the first keys or values that differ decide; where one map ends before the other, it is the lesser
   pub pairs_order : PlainPairs → PlainPairs → Ordering
   pairs_order no_pair no_pair = Equal
   pairs_order no_pair (one_pair l y qs) = Less
   pairs_order (one_pair k x ps) no_pair = Greater
   pairs_order (one_pair k x ps) (one_pair l y qs) = ordering_then (ordering_then (by_tag k l (contents_order k l)) (by_tag x y (contents_order x y))) (pairs_order ps qs)
 
+-- terms by their tags, and where these are one by what follows them
 abbrev pub order : PlainTerm → PlainTerm → Ordering
 order a b = by_tag a b (contents_order a b)

@@ -128,6 +128,7 @@ mutual
       let t = tags_same x y (contents_order x y) q.1 in
       pair_is k l x y ps qs (contents_order_same k l s.0 s.1) (contents_order_same x y t.0 t.1) (pairs_order_same ps qs p.1)
 
+-- terms that tie are one
 pub order_same : (a b : PlainTerm) → order a b ≡ Equal → a ≡ b
 order_same a b e = let t = tags_same a b (contents_order a b) e in contents_order_same a b t.0 t.1
 
@@ -136,18 +137,22 @@ order_same a b e = let t = tags_same a b (contents_order a b) e in contents_orde
 itself : (a : List ℕ) → bytes_cmp a a ≡ Equal
 itself a = tied_itself nat_list_cmp_total a
 
+-- where spellings with what follows them are one, the terms are one, and so is what follows
 pub canon_apart : (a b : PlainTerm) (u v : List ℕ) → canon a ++ u ≡ canon b ++ v → (a ≡ b) × (u ≡ v)
 canon_apart a b u v e =
     let c : ordering_then (order a b) (bytes_cmp u v) ≡ Equal = sym (canon_cmp a b u v) ∙ ap (λ x. bytes_cmp x (canon b ++ v)) e ∙ itself (canon b ++ v) in
     let p = then_both (order a b) (bytes_cmp u v) c in
     (order_same a b p.0, lists_are u v p.1)
 
+-- the order of canonical spellings is that of the terms
 pub order_is : (a b : PlainTerm) → bytes_cmp (canon a) (canon b) ≡ order a b
 order_is a b = ap₂ bytes_cmp (sym (append-nil (canon a))) (sym (append-nil (canon b))) ∙ canon_cmp a b [] [] ∙ then_equal (order a b)
 
+-- terms whose canonical spellings tie are one
 pub canon_same : (a b : PlainTerm) → bytes_cmp (canon a) (canon b) ≡ Equal → a ≡ b
 canon_same a b e = order_same a b (sym (order_is a b) ∙ e)
 
+-- the order of terms by their canonical spellings is total
 pub canon_total : IsTotalOrder (on canon (slice_cmp nat_cmp))
 canon_total = on_total canon nat_list_cmp_total
 
@@ -155,6 +160,7 @@ canon_total = on_total canon nat_list_cmp_total
 pub at_one_tag : (a b : PlainTerm) → tag a ≡ tag b → order a b ≡ contents_order a b
 at_one_tag a b e = ap (λ o. ordering_then o (contents_order a b)) (tie_is (tag a) (tag b) e)
 
+-- terms of different tags compare as the tags do
 pub at_two_tags : (a b : PlainTerm) → tag a ≢ tag b → order a b ≡ nat_cmp (tag a) (tag b)
 at_two_tags a b n = by (nat_cmp (tag a) (tag b)) (λ e. n (equal_is (tag a) (tag b) e))
   where
@@ -168,9 +174,11 @@ is_tie Less e = absurd cc
 is_tie Equal e = refl
 is_tie Greater e = absurd cc
 
+-- terms are equal exactly where their canonical spellings tie
 pub matches_same : (a b : PlainTerm) → same a b ≡ is_eq (bytes_cmp (canon a) (canon b))
 matches_same a b = same_from_decides (same a b) (is_eq (bytes_cmp (canon a) (canon b))) (same-Decides a b) (λ e. canon_same a b (is_tie (bytes_cmp (canon a) (canon b)) e), λ e. ap (λ t. is_eq (bytes_cmp (canon t) (canon b))) e ∙ ap is_eq (itself (canon b)))
 
+-- texts are equal exactly where they tie
 pub matches_bytes : (a b : List ℕ) → bytes_eq a b ≡ is_eq (bytes_cmp a b)
 matches_bytes a b = same_from_decides (bytes_eq a b) (is_eq (bytes_cmp a b)) (bytes_eq-Decides a b) (λ e. lists_are a b (is_tie (bytes_cmp a b) e), λ e. ap (λ t. is_eq (bytes_cmp t b)) e ∙ ap is_eq (itself b))
 
@@ -180,10 +188,12 @@ magnitude_at : (p : Bool) (n : ℕ) → p ≡ true → (if p then significant (t
 magnitude_at true n h = refl
 magnitude_at false n h = absurd cc
 
+-- a number of 128 bits is spelled by its bytes, the lowest first, without the zeros at their end
 pub magnitude_in : (n : ℕ) → n < 2 ^ 128 → magnitude n ≡ significant (to_le_bytes w128 n)
 unfolding magnitude
 magnitude_in n h = magnitude_at (nat_lt n (2 ^ 128)) n (grind arith)
 
+-- of integers with one tag, where one byte holds the first, the contents compare as the integers do
 pub bytes_at : (x y : ℤ) → is_byte x ≡ true → int_tag x ≡ int_tag y → bytes_cmp (int_contents x) (int_contents y) ≡ nat_cmp (unsigned_abs x) (unsigned_abs y)
 unfolding int_contents
 bytes_at x y h e = by (is_byte x) (fits_four x) (is_byte y) (fits_four y) h e
@@ -205,6 +215,7 @@ four_bytes_at x y g h e = by (is_byte x) (fits_four x) (is_byte y) (fits_four y)
     by false false _ _ g h e = absurd cc
     by true _ _ _ g h e = absurd cc
 
+-- of integers with one tag, where four bytes and not one hold the first, they compare as 32 bits without a sign
 pub fours_at : (x y : ℤ) → is_byte x ≡ false → fits_four x ≡ true → int_tag x ≡ int_tag y → bytes_cmp (int_contents x) (int_contents y) ≡ nat_cmp (cast_unsigned w32 x) (cast_unsigned w32 y)
 fours_at x y g h e = let p = four_bytes_at x y g h e in p.0 ∙ four_cmp x y h p.1
 
@@ -212,6 +223,7 @@ fours_at x y g h e = let p = four_bytes_at x y g h e in p.0 ∙ four_cmp x y h p
 pub both_four : (x y : ℤ) → is_byte x ≡ false → fits_four x ≡ true → int_tag x ≡ int_tag y → fits_four y ≡ true
 both_four x y g h e = (four_bytes_at x y g h e).1
 
+-- of integers with one tag, where four bytes don't hold the first, counts come first, then signs, digits lowest first
 pub bigs_at : (x y : ℤ) → is_byte x ≡ false → fits_four x ≡ false → int_tag x ≡ int_tag y → bytes_cmp (int_contents x) (int_contents y) ≡ bytes_cmp (length (magnitude (unsigned_abs x)) ∷ sign_of x ∷ magnitude (unsigned_abs x)) (length (magnitude (unsigned_abs y)) ∷ sign_of y ∷ magnitude (unsigned_abs y))
 unfolding int_contents
 bigs_at x y g h e = by (is_byte x) (fits_four x) (is_byte y) (fits_four y) g h e
@@ -241,6 +253,7 @@ four_above : (z : ℤ) → is_byte z ≡ false → fits_four z ≡ true → 256 
 four_above (pos n) g h = omega (arith, ltb-false n 256 g, ltb-true n (2 ^ 31) h)
 four_above (negsuc n) g h = omega (arith, ltb-true n (2 ^ 31) h)
 
+-- the order of two integers, by whether one byte holds each, and four with a sign
 abbrev two_at : Bool → Bool → Bool → Bool → ℤ → ℤ → Ordering
 two_at p q r s x y = ordering_then (nat_cmp (int_tag_at p q) (int_tag_at r s)) (bytes_cmp (int_at p q x) (int_at r s y))
 
@@ -254,6 +267,7 @@ two_is : (p q r s : Bool) (x y : ℤ) → is_byte x ≡ p → fits_four x ≡ q 
 unfolding int_contents
 two_is p q r s x y hp hq hr hs = cc
 
+-- integers that four bytes hold compare by their bits, without a sign, whatever their tags
 pub fours_order : (x y : ℤ) → fits_four x ≡ true → fits_four y ≡ true → order (int x) (int y) ≡ nat_cmp (cast_unsigned w32 x) (cast_unsigned w32 y)
 fours_order x y hx hy = two_is (is_byte x) true (is_byte y) true x y refl hx refl hy ∙ fours_by (is_byte x) (is_byte y) x y refl refl hx hy
 
@@ -264,6 +278,7 @@ no_byte z h = by (is_byte z) refl
     by true e = let f = byte_fits z e in absurd cc
     by false e = refl
 
+-- an integer that four bytes hold is before one that they don't hold
 pub four_first : (x y : ℤ) → fits_four x ≡ true → fits_four y ≡ false → order (int x) (int y) ≡ Less
 four_first x y hx hy = by (is_byte x) refl
   where
@@ -271,6 +286,7 @@ four_first x y hx hy = by (is_byte x) refl
     by true e = two_is true true false false x y e hx (no_byte y hy) hy
     by false e = two_is false true false false x y e hx (no_byte y hy) hy
 
+-- an integer that four bytes don't hold is behind one that they hold
 pub four_last : (x y : ℤ) → fits_four x ≡ false → fits_four y ≡ true → order (int x) (int y) ≡ Greater
 four_last x y hx hy = by (is_byte y) refl
   where
@@ -278,5 +294,6 @@ four_last x y hx hy = by (is_byte y) refl
     by true e = two_is false false true true x y (no_byte x hx) hx e hy
     by false e = two_is false false false true x y (no_byte x hx) hx e hy
 
+-- integers that four bytes don't hold compare by how many digits, their signs, and their digits, the lowest first
 pub bigs_order : (x y : ℤ) → fits_four x ≡ false → fits_four y ≡ false → order (int x) (int y) ≡ bytes_cmp (length (magnitude (unsigned_abs x)) ∷ sign_of x ∷ magnitude (unsigned_abs x)) (length (magnitude (unsigned_abs y)) ∷ sign_of y ∷ magnitude (unsigned_abs y))
 bigs_order x y hx hy = two_is false false false false x y (no_byte x hx) hx (no_byte y hy) hy

@@ -19,6 +19,7 @@ use Rattle.tab_txstore.specs.Overlays.{Overlay, touched}
 use Rattle.tab_txstore.specs.Stores.{Level, Levels}
 use Rattle.tab_txstore.specs.declared.levels.Saved.{Saved}
 
+-- what a saved level goes back to: its overlay, and the first of the updates, as many as there were
 abbrev pub level : List Change → Saved → Level
 level us x = record { overlay = x.overlay; updates = take x.updates us }
 
@@ -27,6 +28,7 @@ abbrev pub levels_onto : List Change → List Level → List Saved → List Leve
 levels_onto us done [] = done
 levels_onto us done (x ∷ xs) = levels_onto us (level us x ∷ done) xs
 
+-- the levels of the program: the overlay and the updates as they are, and the saved levels, outermost first
 abbrev pub levels_of : Overlay → List Change → List Saved → Levels
 levels_of v us xs = record { now = record { overlay = v; updates = us }; saved = levels_onto us [] xs }
 

@@ -22,9 +22,11 @@ use Rattle.tab_model.specs.Worlds.{Table}
 abbrev pub Touched : Type 0
 Touched = List (Term × PlainTerms)
 
+-- the touched keys of each table, by its name
 abbrev pub Overlay : Type 0
 Overlay = List (List ℕ × Touched)
 
+-- the touched keys, if there are any
 abbrev pub touched_in : Option Touched → Touched
 touched_in None = []
 touched_in (Some es) = es
@@ -33,6 +35,7 @@ touched_in (Some es) = es
 abbrev pub touched : Overlay → List ℕ → Touched
 touched v t = touched_in (lookup bytes_cmp t v)
 
+-- the records that the transaction left, or those that the lent table has
 abbrev pub or_lent : Option PlainTerms → Rows → Rows
 or_lent None rows = rows
 or_lent (Some ts) rows = terms_list ts
@@ -60,6 +63,7 @@ touch_key kind rows es c = insert_entry term_cmp (held (key_of_change c), plain_
 abbrev pub touch : Table → Overlay → Change → Overlay
 touch x v c = insert_entry bytes_cmp (x.def.name, touch_key x.def.kind x.rows (touched v x.def.name) c) v
 
+-- a change of a lent table, if there is one; nothing changes where there is none
 abbrev pub touch_in : Option Table → Overlay → Change → Overlay
 touch_in None v c = v
 touch_in (Some x) v c = touch x v c

@@ -10,9 +10,11 @@ use Rattle.tab_waitdie.specs.declared.ages.Answer.TheVariants.{Granted, Wait, Di
 use Rattle.tab_waitdie.specs.declared.ages.Retried.{Retried}
 use Rattle.tab_waitdie.specs.declared.ages.Retried.TheVariants as retried
 
+-- these hold, and these wait
 abbrev pub ages : List Owned → List Owned → Ages
 ages held queue = record { held = held; queue = queue }
 
+-- an answer of the program as the definitions speak of it
 abbrev pub answer_of : Answer → plain.Answer
 answer_of Granted = plain.Granted
 answer_of Wait = plain.Wait
@@ -25,11 +27,13 @@ answer_to WithOlder queued = Die
 answer_to held WithOlder = Die
 answer_to held queued = Wait
 
+-- a granted lock is placed among the held ones, a request that waits is queued last, one that dies changes nothing
 abbrev pub after_answer : Ages → Owned → Answer → Ages
 after_answer g r Granted = ages (placed r g.held) g.queue
 after_answer g r Wait = ages g.held (g.queue ++ r ∷ [])
 after_answer g r Die = g
 
+-- the queued request has its lock now
 abbrev pub is_granted : Retried → Bool
 is_granted retried.Granted = true
 is_granted retried.Wait = false

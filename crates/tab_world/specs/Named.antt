@@ -4,12 +4,15 @@ use Rattle.tab_map.specs.Entries.{Ascends}
 use Rattle.tab_model.specs.Worlds.{World, Table, name_of}
 use Rattle.tab_term.specs.Order.{bytes_cmp}
 
+-- a name and the table under it
 abbrev pub Entry : Type 0
 Entry = List ℕ × Table
 
+-- the tables of the entries, in their order
 abbrev pub world_of : List Entry → World
 world_of es = map (λ e. e.1) es
 
+-- each table is under its own name
 abbrev pub AllNamed : List Entry → Type 0
 AllNamed [] = Unit {0}
 AllNamed (e ∷ es) = (name_of e.1 ≡ e.0) × AllNamed es

@@ -6,6 +6,7 @@ use Rattle.tab_model.specs.Schemas.{schema_refusal, schema_effect}
 use Rattle.tab_world.specs.declared.schemas.Redefined.{Redefined}
 use Rattle.tab_world.specs.declared.schemas.Redefined.TheVariants.{Refused, Done}
 
+-- the command is refused with this reply, or it is not refused and leaves these tables
 abbrev pub Redefines : World → Schema → Redefined → Type 0
 Redefines w c (Refused r) = schema_refusal w c ≡ Some r
 Redefines w c (Done tables) = (schema_refusal w c ≡ None) × (tables ≡ schema_effect w c)
