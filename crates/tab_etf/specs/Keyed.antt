@@ -50,7 +50,7 @@ pub record AreRanked (ranks : List ℕ) : Type 0 where
   pub below : (k : ℕ) → k < length ranks → slice_index ranks k < length ranks
   pub distinct : (j k : ℕ) → j < length ranks → k < length ranks → slice_index ranks j ≡ slice_index ranks k → j ≡ k
 
--- the pairs in the order of these keys
+-- two zeros, where no pair has the number
 abbrev pub no_terms : Term × Term
 no_terms = (is.Int (pos 0), is.Int (pos 0))
 

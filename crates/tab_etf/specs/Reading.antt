@@ -20,7 +20,7 @@ abbrev pub ◌>>=◌ : {A B : Type 0} → Result A Stop → (A → Result B Stop
 (Ok x) >>= f = f x
 (Err e) >>= f = Err e
 
--- What a function returned, seen by view, is what reading gives, unless memory ran out.
+-- a fault is what reading stops with; where memory ran out it may give anything
 abbrev pub Fails : {Y : Type 0} → ReadError → Result Y Stop → Type 0
 Fails errors.Memory read = Unit {0}
 Fails (errors.At s) read = read ≡ Err s

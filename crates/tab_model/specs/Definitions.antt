@@ -189,7 +189,7 @@ with_indexes def ps = record { name = def.name; kind = def.kind; attributes = de
 abbrev pub index_fault : PlainTerm → Parsed
 index_fault x = Bad (pair (atom (codes "index")) x)
 
--- the position of each entry, up to the first that has none
+-- the first of these entries that names no position; None where each has one
 abbrev pub first_fault : TableDef → PlainTerms → Option PlainTerm
 first_fault def none = None
 first_fault def (one_more e es) = if is_some (position def e) then first_fault def es else Some e

@@ -17,10 +17,6 @@ before a b = is_lt (slice_cmp nat_cmp a b)
 abbrev pub less : PlainTerm → PlainTerm → Bool
 less a b = before (canon a) (canon b)
 
--- two names are equal, byte by byte
-abbrev pub same_name : List ℕ → List ℕ → Bool
-same_name a b = bytes_eq a b
-
 -- the name is in the list
 abbrev pub has_name : List (List ℕ) → List ℕ → Bool
 has_name names n = list_any (bytes_eq n) names

@@ -255,7 +255,6 @@ schema_now σ over c =
       entry = Some (Changed c over);
     }
 
--- the limit of tables
 -- the command makes no table, or there are fewer than the limit
 abbrev pub has_room : State → Schema → Bool
 has_room σ (Create t os) = nat_lt (length σ.tables) σ.limits.tables

@@ -94,7 +94,7 @@ pub record EndsLevel (σ : State) (n : ℕ) (t : Transaction) (x : Move) (r : Op
   pub greatest : τ.greatest ≡ σ.greatest
   pub limits : τ.limits ≡ σ.limits
 
--- no session but this one, and no request of it waits
+-- no other session is joined
 abbrev pub IsSeatOf : ℕ → List Seat → Type 0
 IsSeatOf n [] = Unit {0}
 IsSeatOf n (s ∷ []) = s.number ≡ n

@@ -23,7 +23,7 @@ use Rattle.tab_model.specs.Slices.{dump_of, slice_after}
 abbrev pub is_of : List ℕ → Change → Bool
 is_of t c = bytes_eq (table_of_change c) t
 
--- the changes that a log's commits made to a table, in order (this project's own rule: one for each update that survived)
+-- the changes that one entry made to a table, in order (this project's own rule: one for each update that survived)
 abbrev pub changes_in : List ℕ → Entry → List Change
 changes_in t (Committed n s age xs rs over) = filter (is_of t) (surviving xs rs)
 changes_in t (Changed c over) = []

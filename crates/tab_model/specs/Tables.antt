@@ -72,7 +72,7 @@ abbrev pub applied : Kind → Rows → List Change → Rows
 applied kind rows [] = rows
 applied kind rows (c ∷ cs) = applied kind (apply kind rows c) cs
 
--- any list of records in canonical order
+-- these records put one by one among those, which are in canonical order
 abbrev pub whole_onto : Rows → Rows → Rows
 whole_onto [] done = done
 whole_onto (r ∷ rs) done = whole_onto rs (insert r done)

@@ -24,10 +24,6 @@ abbrev pub find : World → List ℕ → Option Table
 find [] n = None
 find (t ∷ w) n = if bytes_eq (name_of t) n then Some t else find w n
 
--- whether a table of that name stands
-abbrev pub there : World → List ℕ → Bool
-there w n = is_some (find w n)
-
 -- in place of the table of that name, or where its name stands in order
 abbrev pub place : World → Table → World
 place [] t = t ∷ []

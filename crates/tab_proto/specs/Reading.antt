@@ -130,7 +130,7 @@ is_binary (Some binary.Subscribe) x y = is_watch x && is_dump y
 is_binary (Some binary.TableInfo) x y = is_atom x && is_item y
 is_binary (Some binary.Transaction) x y = is_parts_list x && is_retries y
 
--- a tuple of a word and its one to three arguments
+-- the one to three arguments of a call
 abbrev pub argument_terms : Arguments → PlainTerms
 argument_terms (One x) = one_more (term x) none
 argument_terms (Two x y) = one_more (term x) (one_more (term y) none)

@@ -219,10 +219,6 @@ four_bytes_at x y g h e = by (is_byte x) (fits_four x) (is_byte y) (fits_four y)
 pub fours_at : (x y : ℤ) → is_byte x ≡ false → fits_four x ≡ true → int_tag x ≡ int_tag y → bytes_cmp (int_contents x) (int_contents y) ≡ nat_cmp (cast_unsigned w32 x) (cast_unsigned w32 y)
 fours_at x y g h e = let p = four_bytes_at x y g h e in p.0 ∙ four_cmp x y h p.1
 
--- so does the other
-pub both_four : (x y : ℤ) → is_byte x ≡ false → fits_four x ≡ true → int_tag x ≡ int_tag y → fits_four y ≡ true
-both_four x y g h e = (four_bytes_at x y g h e).1
-
 -- of integers with one tag, where four bytes don't hold the first, counts come first, then signs, digits lowest first
 pub bigs_at : (x y : ℤ) → is_byte x ≡ false → fits_four x ≡ false → int_tag x ≡ int_tag y → bytes_cmp (int_contents x) (int_contents y) ≡ bytes_cmp (length (magnitude (unsigned_abs x)) ∷ sign_of x ∷ magnitude (unsigned_abs x)) (length (magnitude (unsigned_abs y)) ∷ sign_of y ∷ magnitude (unsigned_abs y))
 unfolding int_contents
