@@ -21,9 +21,20 @@ class Client:
     """A client of the server at a port, for any number of threads.
 
     It has at most `connections` connections, without those of `events` and mirrors: one for each thread that is in a transaction, others
-    wait. `timeout` is how many seconds a reply may take, a wait for a lock too; without it a client waits as long as it takes."""
+    wait. `timeout` is how many seconds a reply may take, a wait for a lock too; without it a client waits as long as it takes.
 
-    def __init__(self, port: int, host: str = "127.0.0.1", connections: int = 8, timeout: Optional[float] = None) -> None:
+    `lock_timeout` is how many seconds an operation of a transaction may wait for a lock: then its level is aborted, `LockTimeout` is raised,
+    and the connection goes on. The server has to run with `--abort-waits`; another ends the wait once the lock is there."""
+
+    def __init__(
+        self,
+        port: int,
+        host: str = "127.0.0.1",
+        connections: int = 8,
+        timeout: Optional[float] = None,
+        lock_timeout: Optional[float] = None,
+    ) -> None:
+        self._lock_timeout = lock_timeout
         self._connect: Callable[[], Connection] = lambda: Connection(host, port, timeout)
         self._pool = Pool(self._connect, connections)
         self._here = threading.local()
@@ -54,7 +65,7 @@ class Client:
     @contextlib.contextmanager
     def _new_session(self) -> Iterator[Session]:
         with self._lease() as connection:
-            self._here.session = session = Session(connection)
+            self._here.session = session = Session(connection, self._lock_timeout)
             try:
                 yield session
             finally:

@@ -9,7 +9,7 @@ import socket
 import struct
 import threading
 import time
-from typing import Any, Callable, Deque, List, Optional
+from typing import Any, Callable, Deque, Iterator, List, Optional, Tuple
 
 from .errors import Closed, NotConnected, NotServed, TimedOut, refusal
 from .events import Item, item_of
@@ -28,12 +28,21 @@ def result(reply: Any) -> Any:
     return reply
 
 
+def _frame(request: Term) -> bytes:
+    payload = encode(request)
+    if len(payload) > MOST_BYTES:
+        raise no_term(request, f"a request has at most {MOST_BYTES} bytes")
+    return struct.pack(">I", len(payload)) + payload
+
+
 class Connection:
     """A session of the server. One request is under way at a time: the next is sent behind the last one's reply, since what is
     sent ahead of a restart would be done in the restarted transaction, without what came before it."""
 
     def __init__(self, host: str, port: int, timeout: Optional[float]) -> None:
         self.timeout, self.buffer, self.closed = timeout, bytearray(), False
+        # How many requests were given up.
+        self.given_up = 0
         self.told: Deque[Item] = collections.deque()
         try:
             self.socket = socket.create_connection((host, port), OPENING_SECONDS)
@@ -54,23 +63,52 @@ class Connection:
 
     def ask(self, request: Term) -> Any:
         """The reply. Events that come before it are kept."""
-        payload = encode(request)
-        if len(payload) > MOST_BYTES:
-            raise no_term(request, f"a request has at most {MOST_BYTES} bytes")
+        frame = _frame(request)
+        with self._or_closed():
+            self._send(frame)
+            return self._reply()
+
+    def ask_for(self, request: Term, seconds: float) -> Tuple[bool, Any]:
+        """Whether a reply came within so many seconds, and the reply. Where none came the request is given up: an abort of its level
+        is asked, which ends its wait. Its own reply may have come before the abort's; else it is None."""
+        frame = _frame(request)
+        with self._or_closed():
+            self._send(frame)
+            term = self._next_reply(time.monotonic() + seconds)
+            if term is not None:
+                return True, term[1]
+            self.given_up += 1
+            reason = ("lock_timeout", self.given_up)
+            self._send(_frame(("abort", reason)))
+            reply = self._reply()
+            if reply == ("aborted", reason):
+                return False, None
+            self._reply()
+            return False, reply
+
+    @contextlib.contextmanager
+    def _or_closed(self) -> Iterator[None]:
+        """Where no reply was taken it may still come: no other request can be asked here."""
         try:
-            self._send(struct.pack(">I", len(payload)) + payload)
-            deadline = None if self.timeout is None else time.monotonic() + self.timeout
-            while True:
-                term = self._receive(deadline)
-                if term is None:
-                    raise TimedOut(f"no reply within {self.timeout} s")
-                if term[0] == "reply":
-                    return term[1]
-                self.told.append(item_of(term))
+            yield
         except BaseException:
-            # The reply may still come: no other request can be asked here.
             self.close()
             raise
+
+    def _reply(self) -> Any:
+        """The next reply, in time."""
+        term = self._next_reply(None if self.timeout is None else time.monotonic() + self.timeout)
+        if term is None:
+            raise TimedOut(f"no reply within {self.timeout} s")
+        return term[1]
+
+    def _next_reply(self, deadline: Optional[float]) -> Any:
+        """The term of the next reply, or None where it is not there by the deadline."""
+        while True:
+            term = self._receive(deadline)
+            if term is None or term[0] == "reply":
+                return term
+            self.told.append(item_of(term))
 
     def item(self, seconds: Optional[float] = None) -> Optional[Item]:
         """The next event or batch, or None where none came within so many seconds."""

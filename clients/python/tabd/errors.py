@@ -46,6 +46,10 @@ class NoMore(Aborted):
     """The transaction was restarted once more than its retries. Nothing of it stays."""
 
 
+class LockTimeout(Error):
+    """An operation waited for a lock for longer than the client's `lock_timeout`. Its level was aborted: nothing of it stays."""
+
+
 class Ended(Error):
     """The transaction was committed or aborted before."""
 

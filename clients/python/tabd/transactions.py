@@ -3,10 +3,10 @@
 from __future__ import annotations
 
 import contextlib
-from typing import TYPE_CHECKING, Any, Generic, Iterator, List, NoReturn, Optional, TypeVar, Union
+from typing import TYPE_CHECKING, Any, Generic, Iterator, List, NoReturn, Optional, Tuple, TypeVar, Union
 
 from .connection import Connection, result
-from .errors import Aborted, Closed, Ended, Error, NoMore, OutcomeUnknown, Restart, refusal
+from .errors import Aborted, Closed, Ended, Error, LockTimeout, NoMore, OutcomeUnknown, Restart, refusal
 from .terms import Record, Term
 
 if TYPE_CHECKING:
@@ -21,8 +21,8 @@ Done = TypeVar("Done")
 class Session:
     """A connection with a transaction open, and its levels from the first to the innermost."""
 
-    def __init__(self, connection: Connection) -> None:
-        self.connection = connection
+    def __init__(self, connection: Connection, lock_timeout: Optional[float] = None) -> None:
+        self.connection, self.lock_timeout = connection, lock_timeout
         self.levels: List[Transaction] = []
         # After a restart the server has the transaction open at its first level, empty, with the same age.
         self.restarted = False
@@ -142,7 +142,9 @@ class Transaction(Operations[List[Record], List[Any], None]):
 
     def _operate(self, operation: Term) -> Any:
         self.check()
-        reply = self._ask(operation)
+        in_time, reply = self._ask_for(operation)
+        if not in_time:
+            raise self._give_up(reply)
         if reply == "restart":
             raise self._session.restart()
         if isinstance(reply, tuple) and reply[0] == "aborted":
@@ -156,6 +158,28 @@ class Transaction(Operations[List[Record], List[Any], None]):
         except Closed as error:
             self._end_all(error)
             raise
+
+    def _ask_for(self, operation: Term) -> Tuple[bool, Any]:
+        """Whether the reply came in time, and the reply."""
+        seconds = self._session.lock_timeout
+        if seconds is None:
+            return True, self._ask(operation)
+        try:
+            return self._session.connection.ask_for(operation, seconds)
+        except Closed as error:
+            self._end_all(error)
+            raise
+
+    def _give_up(self, reply: Any) -> Exception:
+        """An abort was asked behind the operation, which may have got this reply before: it has ended one level more than the reply did."""
+        error = LockTimeout(f"no lock within {self._session.lock_timeout} s")
+        if reply == "restart":
+            self._end_all(error)
+            return error
+        self._end(error)
+        if isinstance(reply, tuple) and reply[0] == "aborted" and self._session.levels:
+            self._session.levels[-1]._end(error)
+        return error
 
     def _end(self, fault: Exception) -> Exception:
         self._session.levels.pop()

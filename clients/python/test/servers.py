@@ -50,6 +50,13 @@ class Server:
         self.kill()
 
 
+class Replies:
+    """In place of one reply: none, or several."""
+
+    def __init__(self, *replies: Any) -> None:
+        self.replies = replies
+
+
 class Script:
     """A server of one connection. Each step is a request that has to come, and its reply; None in its place ends the connection."""
 
@@ -92,7 +99,8 @@ class Script:
             raise ValueError(f"something was sent behind {wanted!r}, before its reply")
         if reply is None:
             raise ConnectionAbortedError("as the script says")
-        connection.sendall(frame(("reply", reply)))
+        for one in reply.replies if isinstance(reply, Replies) else [reply]:
+            connection.sendall(frame(("reply", one)))
 
     def end(self) -> Optional[str]:
         """What differed, once the client has closed its connection."""

@@ -6,7 +6,7 @@ import socket
 import unittest
 from typing import Any, Callable, Tuple
 
-from servers import Script
+from servers import Replies, Script
 
 import tabd
 
@@ -14,6 +14,15 @@ OK, ATOMIC = "ok", ("atomic", "ok")
 BEGIN = ("begin", ("tid", 7))
 COMMIT = ("commit", ("atomic", 1))
 ABORT = (("abort", "client"), ("aborted", "client"))
+# What waits, and the abort that ends the first wait of a connection.
+WAIT = (("read", "t", 1), Replies())
+REASON = ("lock_timeout", 1)
+GIVEN_UP = (("abort", REASON), ("aborted", REASON))
+
+
+def given_up_behind(*replies: Any) -> Tuple[Any, Any]:
+    """The abort comes behind what the operation was told."""
+    return (("abort", REASON), Replies(*replies))
 
 
 def write(key: int) -> Tuple[Any, ...]:
@@ -172,6 +181,55 @@ class Scripts(unittest.TestCase):
             with self.assertRaises(tabd.OutcomeUnknown):
                 ask(tabd.Client(script.port))
             self.assertEqual(script.end(), "as the script says")
+
+    def hasty(self, do: Callable[[tabd.Client], Any], *steps: Tuple[Any, Any]) -> Any:
+        """With a client that waits for no lock for long."""
+        script = Script(*steps)
+        with tabd.Client(script.port, lock_timeout=0.1) as client:
+            try:
+                return do(client)
+            finally:
+                client.close()
+                self.assertIsNone(script.end())
+
+    def given_up(self, *steps: Tuple[Any, Any], levels: int = 1) -> None:
+        """A read in so many levels is given up, which ends all of them, and the connection goes on."""
+
+        def read(t: tabd.Transaction, more: int) -> None:
+            if more == 0:
+                t.read("t", 1)
+            else:
+                with t.transaction() as inner:
+                    read(inner, more - 1)
+
+        def do(client: tabd.Client) -> None:
+            with self.assertRaises(tabd.LockTimeout):
+                client.run(lambda t: read(t, levels - 1))
+            client.run(lambda t: None)
+
+        self.hasty(do, *[BEGIN] * levels, WAIT, *steps, BEGIN, COMMIT)
+
+    def test_a_wait_is_given_up(self) -> None:
+        self.given_up(GIVEN_UP)
+
+    def test_the_lock_comes_first(self) -> None:
+        self.given_up(given_up_behind([("t", 1, 1)], ("aborted", REASON)))
+
+    def test_a_failure_comes_first(self) -> None:
+        self.given_up(given_up_behind(("aborted", ("no_exists", "t")), ("error", "no_transaction")))
+        self.given_up(given_up_behind(("aborted", ("no_exists", "t")), ("aborted", REASON)), levels=2)
+
+    def test_a_restart_comes_first(self) -> None:
+        self.given_up(given_up_behind("restart", ("aborted", REASON)), levels=2)
+
+    def test_an_inner_wait_is_given_up(self) -> None:
+        def function(t: tabd.Transaction) -> None:
+            with self.assertRaises(tabd.LockTimeout):
+                with t.transaction() as inner:
+                    inner.read("t", 1)
+            t.write(("t", 1, 1))
+
+        self.hasty(lambda client: client.run(function), BEGIN, BEGIN, WAIT, GIVEN_UP, (write(1), OK), COMMIT)
 
     def test_no_server(self) -> None:
         with socket.socket() as held:

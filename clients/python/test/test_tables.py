@@ -216,6 +216,36 @@ class Tables(unittest.TestCase):
         thread.join()
         patient.close()
 
+    def test_a_lock_that_takes_too_long(self) -> None:
+        server = Server("--abort-waits")
+        self.addCleanup(server.kill)
+        client, hasty = tabd.Client(server.port), tabd.Client(server.port, lock_timeout=0.3, connections=1)
+        self.addCleanup(client.close)
+        self.addCleanup(hasty.close)
+        client.create_table("t")
+        inside, leave = threading.Event(), threading.Event()
+
+        def younger() -> None:
+            with client.transaction() as t:
+                t.write(("t", 1, 1))
+                inside.set()
+                leave.wait(10)
+
+        thread = threading.Thread(target=younger)
+        began = time.monotonic()
+        with hasty.transaction() as t:
+            thread.start()
+            inside.wait(10)
+            with self.assertRaises(tabd.LockTimeout):
+                with t.transaction() as inner:
+                    inner.write(("t", 2, 2))
+                    inner.read("t", 1)
+            t.write(("t", 3, 3))
+        self.assertLess(time.monotonic() - began, 5)
+        leave.set()
+        thread.join()
+        self.assertEqual(hasty.run(lambda t: [t.read("t", key) for key in (1, 2, 3)]), [[("t", 1, 1)], [], [("t", 3, 3)]])
+
 
 if __name__ == "__main__":
     unittest.main()
