@@ -33,7 +33,8 @@ pub struct Streams {
     reader: TcpStream,
     writer: TcpStream,
     stream: TcpStream,
-    settings: Settings,
+    delivery: Delivery,
+    aborts: bool,
 }
 
 impl Streams {
@@ -48,7 +49,8 @@ impl Streams {
             reader: stream.try_clone()?,
             writer: stream.try_clone()?,
             stream,
-            settings,
+            delivery: settings.delivery,
+            aborts: settings.aborts,
         })
     }
 }
@@ -60,13 +62,14 @@ impl Connection {
             reader,
             writer,
             stream,
-            settings,
+            delivery,
+            aborts,
         } = streams;
         let connection = Connection {
             sink: FrameSink::new(writer),
             watch: Watch::new(),
-            delivery: settings.delivery,
-            aborts: settings.aborts,
+            delivery,
+            aborts,
             stream,
         };
         (connection, reader)

@@ -74,17 +74,23 @@ pub fn serve_session<H: House, R: Read, W: Write, G: Gate>(
         place: Place::new(),
         skips: false,
     };
-    let ending = match served.stream(reader) {
-        Ok(ending) => ending,
-        Err(_) => Ending::Over,
-    };
+    let ending = served.all(reader);
     shared.leave(house, seat);
-    served.levels.leave(gate);
     watch.stop(house);
     ending
 }
 
 impl<'a, H: House, W: Write, G: Gate> Served<'a, H, W, G> {
+    /// All requests, behind which no transaction is open.
+    fn all<R: Read>(&mut self, reader: &mut R) -> Ending {
+        let ending = match self.stream(reader) {
+            Ok(ending) => ending,
+            Err(_) => Ending::Over,
+        };
+        self.levels.leave(self.answers.counts());
+        ending
+    }
+
     fn stream<R: Read>(&mut self, reader: &mut R) -> Result<Ending, Unwritten> {
         let mut splitter = Splitter::new(self.alloc);
         let Ok(mut piece) = vec![in self.alloc; 0u8; PIECE] else {
@@ -215,19 +221,24 @@ impl<'a, H: House, W: Write, G: Gate> Served<'a, H, W, G> {
     }
 
     fn command(&mut self, command: Command, next: Option<&Frame>) -> Option<Told> {
-        let alloc = self.alloc;
         let behind = self.behind(next);
         let kind = Kind::of(&command);
         self.levels.ask(kind, self.answers.counts());
-        let mut seated = self.seated(behind);
-        let told = answer(&mut seated, alloc, command);
-        seated.give_back();
-        let aborted = seated.aborted;
+        let (told, aborted) = self.answered(command, behind);
         self.levels.tell(kind, told.reply(), self.answers.counts());
         if aborted && matches!(told.reply(), Reply::Waiting) {
             return None;
         }
         Some(told)
+    }
+
+    /// A command's reply, and whether an abort has ended its wait.
+    fn answered(&mut self, command: Command, behind: Behind) -> (Told, bool) {
+        let alloc = self.alloc;
+        let mut seated = self.seated(behind);
+        let told = answer(&mut seated, alloc, command);
+        seated.give_back();
+        (told, seated.aborted)
     }
 
     /// What ends the wait of a request behind which this frame has come.

@@ -182,6 +182,7 @@ fn serve_on<H: House + Threads + Send + Sync, G: Gate + Notes + Paged + Sync>(
         return End::Stopped(Ended::NoMemory);
     };
     let shared = Shared::new(book);
+    let closing = Closing::new();
     match &listeners.pages {
         Some(pages) => beside_pages(
             &house,
@@ -191,6 +192,7 @@ fn serve_on<H: House + Threads + Send + Sync, G: Gate + Notes + Paged + Sync>(
             &shared,
             service,
             gate,
+            &closing,
         ),
         None => serve_clients(&house, alloc, &listeners.clients, &shared, service, gate),
     }
@@ -204,10 +206,10 @@ fn beside_pages<H: House + Threads + Send + Sync, G: Gate + Notes + Paged + Sync
     shared: &Shared<H>,
     service: Service,
     gate: &G,
+    closing: &Closing,
 ) -> End {
-    let closing = Closing::new();
     thread::scope(thread::scope_env(), house, |scope| {
-        let started = scope.spawn(|| serve_pages(house, alloc, pages, shared, gate, &closing));
+        let started = scope.spawn(move || serve_pages(house, alloc, pages, shared, gate, closing));
         if started.is_err() {
             return End::Stopped(Ended::NoMemory);
         }
