@@ -5,7 +5,7 @@
     history.py PROGRAM wrong [NAME ..]      shorter ones, with each wrong server of standin.py between, which has to be found
 
 Six clients make random transactions on few keys of a set and a bag: reads, writes, looks at whole tables, nested levels,
-failing operations, requests that are sent ahead, one-shots; some vanish, with or without their commit. Others watch, at both
+failing operations, requests that are sent ahead, one-shots; some give up what waits, by an abort; some vanish, with or without their commit. Others watch, at both
 levels, with dumps and without: two recorders who read at once, and some who read late, leave off, begin anew or vanish. Then
 judge.py looks for a run of these transactions alone that explains all that was told. What the clients ask is made up by the
 seed; when they ask it is not. One line tells what each round had, and one each fault; the last line is `N passed, M failed`, and
@@ -26,7 +26,7 @@ HERE = os.path.dirname(os.path.abspath(__file__))
 sys.path.insert(0, os.path.join(HERE, "..", "examples"))
 from connection import PATIENCE, Connection  # noqa: E402
 from frames import frame, read  # noqa: E402
-from judge import Attempt, Differs, Judge, OneShot, Undecided  # noqa: E402
+from judge import Attempt, Differs, Judge, OneShot, Undecided, is_operation  # noqa: E402
 from model import KINDS, OPTIONS  # noqa: E402
 from standin import WRONG, Wrong  # noqa: E402
 
@@ -98,7 +98,7 @@ class Writer:
 
     def __init__(self, game, number, connection=None):
         self.game, self.chance, self.connection = game, Chance(game.seed, number), connection or Connection(game.port)
-        self.attempt, self.depth = None, 0
+        self.attempt, self.depth, self.given_up = None, 0, 0
 
     def ask(self, what):
         sent = now()
@@ -157,9 +157,40 @@ class Writer:
             if self.chance.random() < 0.004 and self.game.may_vanish():
                 return self.vanish()
             move = self.move(left)
+            if is_operation(move) and self.game.gives_up and self.chance.random() < 0.05:
+                going = self.give_up(move)
+                continue
             told = self.ask(move)
             left = self.chance.randrange(1, 7) if told[0] == "restart" else left - 1
             going = self.note(move, *told)
+
+    def give_up(self, move):
+        """An operation, and an abort behind it at once or where no reply has come soon: where the operation waits it is told nothing. Whether
+        the transaction goes on."""
+        self.given_up += 1
+        abort, sent, soon = ("abort", self.given_up), now(), self.chance.choice([0, 0.0005, 0.01, 0.03])
+        self.connection.send(move)
+        if soon and select.select([self.connection.socket], [], [], soon)[0]:
+            return self.note(move, self.reply(), sent, now())
+        asked = now()
+        self.connection.send(abort)
+        reply = self.reply()
+        if reply == ("aborted", self.given_up):
+            self.attempt.given_up.append((move, sent))
+            self.game.given_up += 1
+            return self.note(abort, reply, asked, now())
+        going, reply = self.note(move, reply, sent, now()), self.reply()
+        if going:
+            return self.note(abort, reply, asked, now())
+        if reply != ("error", "no_transaction"):
+            raise Differs(f"{abort} was told {reply} outside")
+        return False
+
+    def reply(self):
+        term = self.connection.receive()
+        if term[0] != "reply":
+            raise Differs(f"a client that watches nothing was told {term}")
+        return term[1]
 
     def vanish(self):
         """It asks for something yet, or for its commits, and is gone."""
@@ -302,8 +333,8 @@ class Watcher:
 class Game:
     """One round: a server, its clients, and their logs."""
 
-    def __init__(self, port, seed, seconds):
-        self.port, self.seed = port, seed
+    def __init__(self, port, seed, seconds, gives_up):
+        self.port, self.seed, self.gives_up, self.given_up = port, seed, gives_up, 0
         self.attempts, self.shots, self.watchers, self.failed = [], [], [], []
         self.vanishing, self.lock, self.over = VANISHING, threading.Lock(), threading.Event()
         self.first = Connection(port)
@@ -371,7 +402,7 @@ class Game:
         events = sum(len(watcher.frames) for watcher in self.watchers)
         ends = {end: sum(it.end == end for it in self.attempts) for end in ("commit", "restart", "aborted", "vanished", "maybe")}
         overflows = sum(term[0] == "mnesia_overflow" for watcher in self.watchers for term, _ in watcher.frames)
-        return f"{ends}, {len(self.shots)} one-shots, {events} events, {overflows} overflows"
+        return f"{ends}, {self.given_up} given up, {len(self.shots)} one-shots, {events} events, {overflows} overflows"
 
 
 def shown(fault):
@@ -380,7 +411,7 @@ def shown(fault):
 
 def serve(program, seed):
     """Every other one has a journal that is always full."""
-    words = ["serve", "--port", "0", "--connections", str(CONNECTIONS), "--outbox", str(OUTBOX), "--journal", str([16, 1024][seed % 2])]
+    words = ["serve", "--port", "0", "--connections", str(CONNECTIONS), "--outbox", str(OUTBOX), "--journal", str([16, 1024][seed % 2]), "--abort-waits"]
     server = subprocess.Popen([program, *words], stdout=subprocess.PIPE, stderr=subprocess.PIPE, text=True)
     return server, int(server.stdout.readline().rsplit(":", 1)[1])
 
@@ -399,13 +430,14 @@ def fill(port, server):
     return [] if (server.returncode, err) == (0, "") else [f"the server ended with {server.returncode}, {err}"]
 
 
-def round_faults(program, seed, seconds, between=lambda port: port, ends=True):
+def round_faults(program, seed, seconds, between=None):
+    """Of a server behind another one that is wrong nothing is given up: that one counts on a reply to each request."""
     server, port = serve(program, seed)
     try:
-        game = Game(between(port), seed, seconds)
+        game = Game(between(port) if between else port, seed, seconds, between is None)
         faults = game.faults()
         print(f"seed {seed}: {game.told()}")
-        return faults or (fill(port, server) if ends else [])
+        return faults or ([] if between else fill(port, server))
     except (Differs, OSError, ValueError) as error:
         return [f"{type(error).__name__} {error}"]
     finally:
@@ -437,7 +469,7 @@ def wrong_ones(program, names):
         between = lambda port, wrong=wrong: wrong(port).listener.getsockname()[1]
         for seed in range(1, 1 + TRIES if wrong is not Wrong else 2):
             try:
-                faults = faults or round_faults(program, seed, seconds, between, False)
+                faults = faults or round_faults(program, seed, seconds, between)
             except Undecided:
                 continue
         print(f"{wrong.__name__}: {shown(faults[0])[:200] if faults else 'nothing'}")

@@ -31,6 +31,8 @@ class Attempt:
         # How it ended, when that was asked for and when it was told; the operation that died or was never answered.
         self.end, self.sent, self.got, self.last = None, math.inf, math.inf, None
         self.number = None
+        # Operations whose wait an abort has ended, and when they were asked.
+        self.given_up = []
 
     def ended(self, end, sent, got, number=None, last=None):
         self.end, self.sent, self.got, self.number, self.last = end, sent, got, number, last
@@ -60,6 +62,8 @@ class Attempt:
         for move, _, sent, _ in self.steps + ([self.last] if self.last else []):
             if is_operation(move):
                 yield lock_of(move), sent, until
+        for move, sent in self.given_up:
+            yield lock_of(move), sent, until
 
 
 class OneShot:
