@@ -365,6 +365,8 @@ class Game:
             except (Differs, OSError, ValueError, TypeError, IndexError) as error:
                 self.failed.append(f"{type(client).__name__}: {type(error).__name__} {error}")
                 self.over.set()
+                # What it holds would keep the last commit from its end.
+                client.connection.close()
 
         threads = [threading.Thread(target=run, args=(client,), daemon=True) for client in clients]
         for thread in threads:
