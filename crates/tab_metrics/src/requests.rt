@@ -1,5 +1,9 @@
 //! What is asked over HTTP.
 
+ghost use Rattle.httparse.specs.Grammar.{HasNoRequest};
+ghost use Rattle.std.specs.Prelude.{MatchOption};
+ghost use Rattle.tab_metrics.specs.Heads.{IsAskedIn};
+
 use httparse::Status;
 use httparse::spans::{EMPTY_HEADER_SPAN, parse_request};
 use std::io::Read;
@@ -45,7 +49,9 @@ pub fn read_request<R: Read>(reader: &mut R) -> Option<Request> {
 }
 
 /// What these bytes ask, once they are a whole head.
-fn request_in(head: &[u8]) -> Option<Request> {
+fn request_in(head: &[u8]) -> Option<Request>
+    ensures { MatchOption result (HasNoRequest head.now) (IsAskedIn head.now) }
+{
     let mut headers = [EMPTY_HEADER_SPAN; HEADERS];
     match parse_request(head, &mut headers) {
         Ok(Status::Partial) => None,
