@@ -188,7 +188,7 @@ fn is_record(held: &Term) -> bool
     let Term::Tuple(parts) = held else {
         return false;
     };
-    matches!(parts.as_slice(), [Term::Atom(_), _, _, ..])
+    matches!(parts.as_slice(), [Term::Atom(..), _, _, ..])
 }
 
 /// `{tid, Age}`, of any age from 1 on.

@@ -21,7 +21,6 @@ pub struct TableDef {
 
 /// An operation of a transaction (Mnesia Reference Manual, the functions of these names). A record or pattern carries its
 /// table as its first element.
-#[derive(Drop)]
 pub enum Operation {
     Read(Atom, Term),
     ReadForWrite(Atom, Term),
@@ -36,7 +35,6 @@ pub enum Operation {
 }
 
 /// A step of a transaction: an operation, a child's begin, a child's commit, an abort of the innermost level.
-#[derive(Drop)]
 pub enum Move {
     Do(Operation),
     Open,
@@ -74,7 +72,6 @@ pub enum Level {
 }
 
 /// An update: a write of a record, a deletion of a key, a deletion of a record.
-#[derive(Drop)]
 pub enum Change {
     Write(Term),
     Delete(Atom, Term),
@@ -99,7 +96,6 @@ pub enum Ending {
 
 /// An item of an outbox: a begin mark (with the table's records where a dump was asked for), the events of one commit, an
 /// end mark.
-#[derive(Drop)]
 pub enum Item {
     Began(Atom, Level, Option<Terms>),
     Batch(u64, SharedTerms),
@@ -108,7 +104,6 @@ pub enum Item {
 
 /// A schema command (Mnesia Reference Manual, `create_table/2`, `delete_table/1`, `add_table_index/2`,
 /// `del_table_index/2`).
-#[derive(Drop)]
 pub enum Schema {
     Create(Atom, Terms),
     Remove(Atom),
@@ -126,7 +121,6 @@ pub enum InfoItem {
 }
 
 /// A part of a one-shot: an inner transaction stands between Open and Close.
-#[derive(Drop)]
 pub enum Part {
     Do(Operation),
     Abort(Term),
@@ -167,7 +161,6 @@ pub enum TableInfo {
 }
 
 /// A reply for every row of the formats.
-#[derive(Drop)]
 pub enum Reply {
     BadTerm,
     BadCommand,
@@ -243,4 +236,111 @@ pub enum Entry {
     },
     /// The session and the table.
     Unsubscribed(u64, Atom),
+}
+
+// A derived drop would be taken apart, variant by variant, at each exit of each function that holds one of these.
+impl Drop for Operation {
+    fn drop(self) {
+        match self {
+            Operation::Read(name, key)
+            | Operation::ReadForWrite(name, key)
+            | Operation::Delete(name, key) => drop((name, key)),
+            Operation::Write(row) | Operation::DeleteObject(row) | Operation::MatchObject(row) => {
+                drop(row);
+            }
+            Operation::IndexRead(name, value, attribute) => drop((name, value, attribute)),
+            Operation::AllKeys(name)
+            | Operation::ReadLockTable(name)
+            | Operation::WriteLockTable(name) => drop(name),
+        }
+    }
+}
+
+impl Drop for Move {
+    fn drop(self) {
+        match self {
+            Move::Do(operation) => drop(operation),
+            Move::Open | Move::Close | Move::Undo => {}
+        }
+    }
+}
+
+impl Drop for Change {
+    fn drop(self) {
+        match self {
+            Change::Write(row) | Change::DeleteObject(row) => drop(row),
+            Change::Delete(name, key) => drop((name, key)),
+        }
+    }
+}
+
+impl Drop for Item {
+    fn drop(self) {
+        match self {
+            Item::Began(table, _, records) => drop((table, records)),
+            Item::Batch(_, events) => drop(events),
+            Item::Ended(table, _) => drop(table),
+        }
+    }
+}
+
+impl Drop for Part {
+    fn drop(self) {
+        match self {
+            Part::Do(operation) => drop(operation),
+            Part::Abort(reason) => drop(reason),
+            Part::Open | Part::Close => {}
+        }
+    }
+}
+
+impl Drop for Reply {
+    fn drop(self) {
+        match self {
+            Reply::NoTable(name)
+            | Reply::AlreadyExists(name)
+            | Reply::Locked(name)
+            | Reply::SubNoTable(name)
+            | Reply::AlreadySubscribed(name)
+            | Reply::NotSubscribed(name) => drop(name),
+            Reply::BadType(name, term)
+            | Reply::NoIndex(name, term)
+            | Reply::BadDefinition(name, term) => drop((name, term)),
+            Reply::UserAbort(reason) => drop(reason),
+            Reply::AtomicTerms(terms) | Reply::Found(terms) => drop(terms),
+            Reply::Told(info) => drop(info),
+            Reply::Taken(item) => drop(item),
+            Reply::SystemLimit(_) | Reply::Tid(_) | Reply::Atomic(_) | Reply::Overflow(_) => {}
+            Reply::BadTerm
+            | Reply::BadCommand
+            | Reply::NoTransaction
+            | Reply::WaitingNow
+            | Reply::InTransaction
+            | Reply::NotWaiting
+            | Reply::BadSession
+            | Reply::OutboxFull
+            | Reply::OverflowUntold
+            | Reply::Waiting
+            | Reply::Restart
+            | Reply::Done
+            | Reply::AtomicOk
+            | Reply::NoMore
+            | Reply::NoWait
+            | Reply::SubscribedHere
+            | Reply::Empty
+            | Reply::NoMemory => {}
+        }
+    }
+}
+
+impl Drop for Schema {
+    fn drop(self) {
+        match self {
+            Schema::Create(name, options) => drop((name, options)),
+            Schema::Remove(name) => drop(name),
+            Schema::AddIndex(name, attribute) | Schema::DelIndex(name, attribute) => {
+                drop((name, attribute));
+            }
+        }
+    }
 }

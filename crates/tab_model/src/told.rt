@@ -54,14 +54,12 @@ impl Told {
     pub fn pair(alloc: Global, reply: Reply) -> Result<(Told, Told), AllocError>
         ensures { IfOk result (λ both. (both.0 ≡ reply) × (both.1 ≡ reply)) }
     {
-        match reply {
-            Reply::Done => Ok((Told::new(Reply::Done), Told::new(Reply::Done))),
-            reply => {
-                let one = Arc::new(alloc, reply)?;
-                let other = Arc::try_clone(&one)?;
-                Ok((Told::of_shared(one), Told::of_shared(other)))
-            }
+        if matches!(&reply, Reply::Done) {
+            return Ok((Told::new(Reply::Done), Told::new(Reply::Done)));
         }
+        let one = Arc::new(alloc, reply)?;
+        let other = Arc::try_clone(&one)?;
+        Ok((Told::of_shared(one), Told::of_shared(other)))
     }
 
     fn of_shared(reply: Arc<Reply, Global>) -> Told

@@ -3,7 +3,7 @@ use Rattle.std.specs.Prelude.{◌≡◌, ℕ, pos, List, ◌++◌, Bool, true, f
 use Rattle.std.specs.Str.{bytes_eq}
 use Rattle.std.specs.List.{list_all}
 use Rattle.tab_term.specs.View.{term}
-use Rattle.tab_term.specs.Data.{PlainTerm, int, atom, tuple, list, PlainTerms, none, one_more}
+use Rattle.tab_term.specs.Data.{PlainTerm, int, atom, tuple, list, PlainTerms, none, one_more, is_atom, is_list}
 use Rattle.tab_model.specs.declared.data.Operation.{Operation}
 use Rattle.tab_model.specs.declared.data.Command.{Command}
 use Rattle.tab_model.specs.declared.data.Part.{Part}
@@ -18,16 +18,6 @@ use Rattle.tab_proto.specs.declared.call.Arguments.TheVariants.{One, Two, Three}
 use Rattle.tab_proto.specs.declared.call.Call.{Call}
 use Rattle.tab_proto.specs.FirstWords.{unary_in, binary_in}
 use Rattle.tab_proto.specs.Commands.{term_of, operation_term, levels, with_first, is_nested, is_command, is_operation, is_part, is_row, is_attribute}
-
--- the term is an atom
-abbrev pub is_atom : PlainTerm → Bool
-is_atom (atom s) = true
-is_atom t = false
-
--- the term is a list
-abbrev pub is_list : PlainTerm → Bool
-is_list (list ts) = true
-is_list t = false
 
 -- the term is a tuple of two
 abbrev pub is_pair : PlainTerm → Bool

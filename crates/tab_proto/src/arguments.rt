@@ -1,10 +1,10 @@
 //! The arguments of a request, taken out of its term where they have the form that a command wants.
 
 ghost use Rattle.std.specs.Prelude.{◌≡◌, IfOk, OnErr, true, false};
-ghost use Rattle.tab_term.specs.Data.{atom, list, pair};
+ghost use Rattle.tab_term.specs.Data.{atom, list, pair, is_atom, is_list};
 ghost use Rattle.tab_term.specs.View.{term};
 ghost use Rattle.tab_proto.specs.Commands.{is_row as is_row_of, is_attribute as is_attribute_of};
-ghost use Rattle.tab_proto.specs.Reading.{is_atom, is_list, is_place};
+ghost use Rattle.tab_proto.specs.Reading.{is_place};
 
 use crate::call::pair_of;
 use crate::fault::NoCommand;
@@ -15,10 +15,7 @@ pub fn name_of(argument: Term) -> Result<Atom, NoCommand>
     ensures ok { IfOk result (λ a. term argument ≡ atom a) }
     ensures bad { OnErr result (is_atom (term argument) ≡ false) }
 {
-    match argument {
-        Term::Atom(name) => Ok(name),
-        _ => Err(NoCommand),
-    }
+    argument.into_atom().ok_or(NoCommand)
 }
 
 /// The elements of a list.
@@ -26,10 +23,7 @@ pub fn elements_of(argument: Term) -> Result<Terms, NoCommand>
     ensures ok { IfOk result (λ ts. term argument ≡ list ts) }
     ensures bad { OnErr result (is_list (term argument) ≡ false) }
 {
-    match argument {
-        Term::List(elements) => Ok(elements),
-        _ => Err(NoCommand),
-    }
+    argument.into_list().ok_or(NoCommand)
 }
 
 /// A record or a pattern: a tuple of arity 2 or more whose first element is an atom.
@@ -49,7 +43,7 @@ fn is_row(argument: &Term) -> bool
     let Term::Tuple(elements) = argument else {
         return false;
     };
-    matches!(elements.as_slice(), [Term::Atom(_), _, ..])
+    matches!(elements.as_slice(), [Term::Atom(..), _, ..])
 }
 
 /// An attribute: its name or its position.
@@ -57,7 +51,7 @@ pub fn attribute_of(argument: Term) -> Result<Term, NoCommand>
     ensures ok { IfOk result (λ t. (t ≡ argument) × (is_attribute_of (term argument) ≡ true)) }
     ensures bad { OnErr result (is_attribute_of (term argument) ≡ false) }
 {
-    if !matches!(argument, Term::Atom(_) | Term::Int(_)) {
+    if !matches!(argument, Term::Atom(..) | Term::Int(..)) {
         return Err(NoCommand);
     }
     Ok(argument)

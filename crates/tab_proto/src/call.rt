@@ -1,9 +1,9 @@
 //! A tuple that begins with a word, as the calls of the manuals do: the word, and the arguments behind it.
 
 ghost use Rattle.std.specs.Prelude.{◌≡◌, IfOk, OnErr, false};
-ghost use Rattle.tab_term.specs.Data.{atom, pair};
+ghost use Rattle.tab_term.specs.Data.{atom, pair, is_atom};
 ghost use Rattle.tab_term.specs.View.{term};
-ghost use Rattle.tab_proto.specs.Reading.{call_term, is_call_term, is_atom, is_pair};
+ghost use Rattle.tab_proto.specs.Reading.{call_term, is_call_term, is_pair};
 
 use crate::fault::NoCommand;
 use tab_term::{Atom, Term};
@@ -27,7 +27,7 @@ pub fn call_of(held: Term) -> Result<Call, NoCommand>
     ensures ok { IfOk result (λ call. term held ≡ call_term call) }
     ensures bad { OnErr result (is_call_term (term held) ≡ false) }
 {
-    let Term::Tuple(parts) = held else {
+    let Some(parts) = held.into_tuple() else {
         return Err(NoCommand);
     };
     let mut parts = parts.into_vec();
@@ -56,7 +56,7 @@ pub fn pair_of(held: Term) -> Result<(Term, Term), NoCommand>
     ensures ok { IfOk result (λ p. term held ≡ pair (term p.0) (term p.1)) }
     ensures bad { OnErr result (is_pair (term held) ≡ false) }
 {
-    let Term::Tuple(parts) = held else {
+    let Some(parts) = held.into_tuple() else {
         return Err(NoCommand);
     };
     let mut parts = parts.into_vec();
@@ -71,8 +71,8 @@ fn worded(word: Term, arguments: Arguments) -> Result<Call, NoCommand>
     ensures ok { IfOk result (λ call. (term word ≡ atom call.word) × (call.arguments ≡ arguments)) }
     ensures bad { OnErr result (is_atom (term word) ≡ false) }
 {
-    match word {
-        Term::Atom(word) => Ok(Call { word, arguments }),
-        _ => Err(NoCommand),
+    match word.into_atom() {
+        Some(word) => Ok(Call { word, arguments }),
+        None => Err(NoCommand),
     }
 }

@@ -1,12 +1,12 @@
 //! Commands from terms.
 
 ghost use Rattle.std.specs.Prelude.{◌≡◌, ◌≢◌, ◌&&◌, IfOk, OnErr, true, Err, nat_le, pos, codes, false};
-ghost use Rattle.tab_term.specs.Data.{int, atom, pair, triple};
+ghost use Rattle.tab_term.specs.Data.{int, atom, pair, triple, is_list};
 ghost use Rattle.tab_term.specs.View.{term};
 ghost use Rattle.tab_model.specs.declared.data.Command.{Command as CommandOf};
 ghost use Rattle.tab_proto.specs.Commands.{term_of, is_command, item_word, level_word, watch_term};
 ghost use Rattle.tab_proto.specs.FirstWords.{unary_in, binary_in};
-ghost use Rattle.tab_proto.specs.Reading.{is_command_term, is_one_word, is_unary, is_binary, is_watch, is_dump, is_level, is_item, is_retries, is_list, is_parts_list, is_one_shot_term, Spells, FailsOnlyIf};
+ghost use Rattle.tab_proto.specs.Reading.{is_command_term, is_one_word, is_unary, is_binary, is_watch, is_dump, is_level, is_item, is_retries, is_parts_list, is_one_shot_term, Spells, FailsOnlyIf};
 ghost use Rattle.tab_proto.specs.declared.fault.ProtoFault.TheVariants.{BadCommand};
 
 use crate::arguments::{attribute_of, elements_of, name_of};
@@ -171,9 +171,7 @@ fn one_shot(alloc: Global, members: Term, retries: &Term) -> Result<Command, Pro
     ensures ok { IfOk result (λ c. Spells c (triple (atom (codes "transaction")) (term members) (term retries.now))) }
     ensures fails { FailsOnlyIf ((is_parts_list (term members) && is_retries (term retries.now)) ≡ false) ((is_list (term members) && is_retries (term retries.now)) ≡ true) result }
 {
-    let Term::List(members) = members else {
-        return Err(ProtoFault::BadCommand);
-    };
+    let members = elements_of(members)?;
     let retries = retries_of(retries)?;
     let mut parts = Vec::new(alloc);
     push_parts(members, &mut parts)?;

@@ -7,6 +7,7 @@ ghost use Rattle.tab_proto.specs.FirstWords.{unary_text};
 ghost use Rattle.tab_proto.specs.Commands.{is_part};
 ghost use Rattle.tab_proto.specs.Reading.{is_unary_part, is_parts_list, is_part_term, are_parts, is_read_of, is_ternary, RefusesOnlyIf, SaysOperations, AddsParts};
 
+use crate::arguments::elements_of;
 use crate::call::{Arguments, Call, call_of};
 use crate::fault::ProtoFault;
 use crate::first_words::{Unary, unary_of};
@@ -62,9 +63,7 @@ fn push_inner(argument: Term, parts: &mut Vec<Part>) -> Result<(), ProtoFault>
     ensures ok { OnOk result (AddsParts parts.old.items parts.new.items (one_more (pair (atom (unary_text Unary.Transaction)) (term argument)) none)) }
     ensures bad { RefusesOnlyIf (is_parts_list (term argument) ≡ false) result }
 {
-    let Term::List(members) = argument else {
-        return Err(ProtoFault::BadCommand);
-    };
+    let members = elements_of(argument)?;
     push(Part::Open, parts)?;
     push_parts(members, parts)?;
     push(Part::Close, parts)

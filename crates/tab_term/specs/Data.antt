@@ -1,6 +1,6 @@
 -- What a term is (ERTS User's Guide, External Term Format): an integer, an atom as the UTF-8 bytes of its text, a tuple,
 -- a proper list, a binary, or a map.
-use Rattle.std.specs.Prelude.{ℕ, suc, max, ℤ, ◌+◌, List, [], ◌∷◌}
+use Rattle.std.specs.Prelude.{ℕ, suc, max, ℤ, ◌+◌, List, [], ◌∷◌, Bool, true, false}
 
 mutual
   -- a term; an atom is its text's bytes in UTF-8, and a map has its pairs in the order of its making
@@ -21,6 +21,21 @@ mutual
   pub data PlainPairs : Type 0 where
     no_pair : PlainPairs
     one_pair : PlainTerm → PlainTerm → PlainPairs → PlainPairs
+
+-- the term is an atom
+abbrev pub is_atom : PlainTerm → Bool
+is_atom (atom s) = true
+is_atom t = false
+
+-- the term is a tuple
+abbrev pub is_tuple : PlainTerm → Bool
+is_tuple (tuple ts) = true
+is_tuple t = false
+
+-- the term is a list
+abbrev pub is_list : PlainTerm → Bool
+is_list (list ts) = true
+is_list t = false
 
 -- tuples of two and of three
 abbrev pub pair : PlainTerm → PlainTerm → PlainTerm

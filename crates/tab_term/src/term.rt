@@ -1,5 +1,5 @@
-ghost use Rattle.std.specs.Prelude.{◌≡◌, min, length, IfOk};
-ghost use Rattle.tab_term.specs.Data.{depth, depths, pair_depths, count, pair_count};
+ghost use Rattle.std.specs.Prelude.{◌≡◌, min, length, IfOk, IfSome, IfNone, false};
+ghost use Rattle.tab_term.specs.Data.{atom, list, tuple, depth, depths, pair_depths, count, pair_count, is_atom, is_list, is_tuple};
 ghost use Rattle.tab_term.specs.View.{term, terms, pairs as pairs_of};
 
 use crate::atom::Atom;
@@ -14,7 +14,6 @@ pub mod pattern;
 
 /// A term of the external term format, but for floats, pids, ports, references, funs and improper lists.
 #[cycle(term)]
-#[derive(Drop)]
 pub enum Term {
     Int(i128),
     Atom(Atom),
@@ -24,6 +23,20 @@ pub enum Term {
     /// The pairs are to stand by their keys, ascending in the order of terms, and no key twice. Nothing here tests
     /// that: a map is compared, and written, as it was built.
     Map(Pairs),
+}
+
+// A derived drop would be taken apart, variant by variant, at each exit of each function that holds a term.
+impl Drop for Term {
+    #[cycle(term)]
+    fn drop(self) {
+        match self {
+            Term::Int(_) => {}
+            Term::Atom(name) => drop(name),
+            Term::Tuple(elements) | Term::List(elements) => drop(elements),
+            Term::Bin(bytes) => drop(bytes),
+            Term::Map(pairs) => drop(pairs),
+        }
+    }
 }
 
 /// The elements of a tuple or of a list.
@@ -95,6 +108,39 @@ impl Term {
             Term::Int(_) | Term::Atom(_) | Term::Bin(_) => 1,
             Term::Tuple(ts) | Term::List(ts) => ts.deepest().saturating_add(1),
             Term::Map(ps) => ps.deepest().saturating_add(1),
+        }
+    }
+
+    /// The name of an atom. Of any other term, which is dropped, None.
+    pub fn into_atom(self) -> Option<Atom>
+        ensures some { IfSome result (λ a. term self ≡ atom a) }
+        ensures none { IfNone result (is_atom (term self) ≡ false) }
+    {
+        match self {
+            Term::Atom(name) => Some(name),
+            _ => None,
+        }
+    }
+
+    /// The elements of a tuple. Of any other term, which is dropped, None.
+    pub fn into_tuple(self) -> Option<Terms>
+        ensures some { IfSome result (λ ts. term self ≡ tuple ts) }
+        ensures none { IfNone result (is_tuple (term self) ≡ false) }
+    {
+        match self {
+            Term::Tuple(elements) => Some(elements),
+            _ => None,
+        }
+    }
+
+    /// The elements of a list. Of any other term, which is dropped, None.
+    pub fn into_list(self) -> Option<Terms>
+        ensures some { IfSome result (λ ts. term self ≡ list ts) }
+        ensures none { IfNone result (is_list (term self) ≡ false) }
+    {
+        match self {
+            Term::List(elements) => Some(elements),
+            _ => None,
         }
     }
 

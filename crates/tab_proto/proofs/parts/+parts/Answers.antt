@@ -2,7 +2,6 @@ use Rattle.std.proofs.Common.{ap, sym, subst, arith, length}
 use Rattle.std.proofs.lemmas.Result.{err_from_is_err_and}
 use Rattle.std.specs.Prelude.{codes}
 use Rattle.tab_term.specs.Data.{atom, none, one_more, pair}
-use Rattle.tab_term.specs.View.{term}
 use Rattle.tab_proto.specs.Reading.{AddsParts}
 use Rattle.tab_proto.proofs.PartsLemmas.{adds_inner, on_ok, one_read, refuses_list}
 use Rattle.tab_proto.proofs.parts.+parts.Goals as goal
@@ -10,7 +9,7 @@ use Rattle.tab_proto.proofs.parts.+parts.Goals as goal
 pub push_inner-returns-clause-ok : goal.push_inner-returns-clause-ok
 push_inner-returns-clause-ok t c =
     on_ok _ _ _ (λ closed. subst (λ x. AddsParts c.args.parts.now.items c.push-2.new.parts.items (one_more (pair (atom (codes "transaction")) x) none))
-    (sym (ap term c.in-List.is))
+    (sym c.in_ok-members.ensures.ok)
     (adds_inner _ _ _ _ _ c.in_ok-push.ensures.ok c.in_ok-push_parts.ensures.ok closed)) c.push-2.ensures.ok
 
 pub push_parts-loop-member-preserved : goal.push_parts-loop-member-preserved
