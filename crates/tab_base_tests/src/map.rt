@@ -101,24 +101,32 @@ fn finds_around(rt: HostRuntime) -> Result<(), Fail> {
     Ok(())
 }
 
+/// A set with 3 in place of 1.
+fn set_changed(alloc: Global, set: &Set<u32>) -> Result<Set<u32>, AllocError> {
+    let mut changed = set.share()?;
+    changed.insert(alloc, 3)?;
+    changed.remove(alloc, &1)?;
+    Ok(changed)
+}
+
+/// The first two keys, and whether there are more.
+fn keys_of(set: &Set<u32>) -> (Option<u32>, Option<u32>, bool) {
+    let mut keys = set.iter();
+    let first = keys.next().copied();
+    let second = keys.next().copied();
+    (first, second, keys.next().is_some())
+}
+
 #[test]
 fn sets(rt: HostRuntime) -> Result<(), Fail> {
     let alloc = rt.alloc();
     let two = Set::new().inserted(alloc, 2u32)?.inserted(alloc, 1)?;
-    let left = two.removed(alloc, &1)?;
-    let mut changed = two.share()?;
-    changed.insert(alloc, 3)?;
-    changed.remove(alloc, &1)?;
-    for (key, before, after, wanted) in [
-        (1, true, false, false),
-        (2, true, true, true),
-        (3, false, false, true),
-    ] {
-        assert!(rt; two.contains(&key) == before && left.contains(&key) == after);
-        assert!(rt; changed.contains(&key) == wanted);
-    }
-    let mut keys = two.iter();
-    assert!(rt; keys.next() == Some(&1) && keys.next() == Some(&2) && keys.next().is_none());
+    let changed = set_changed(alloc, &two)?;
+    assert!(rt; keys_of(&two.removed(alloc, &1)?) == (Some(2), None, false));
+    assert!(rt; keys_of(&two) == (Some(1), Some(2), false));
+    assert!(rt; two.contains(&2) && !two.contains(&3));
+    assert!(rt; keys_of(&changed) == (Some(2), Some(3), false));
+    assert!(rt; changed.contains(&3) && !changed.contains(&1));
     Ok(())
 }
 

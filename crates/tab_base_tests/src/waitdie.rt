@@ -132,20 +132,35 @@ fn lock_of(alloc: Global, asked: &Asked) -> Result<Lock, AllocError> {
     })
 }
 
+/// Whether the age has the lock, and how it stands to the others' locks.
+fn standing(locks: &LockTable, age: u64, lock: &Lock) -> (bool, Conflict) {
+    (locks.covered(age, lock), locks.conflicts(age, lock))
+}
+
+fn make(locks: &mut LockTable, age: u64, lock: Lock, step: Step) -> Result<(), AllocError> {
+    match step {
+        Step::Ask => drop(lock),
+        Step::Hold => locks.hold(age, lock)?,
+        Step::Release => {
+            drop(lock);
+            locks.release_all(age);
+        }
+        Step::Unhold => {
+            drop(lock);
+            locks.unhold(age);
+        }
+    }
+    Ok(())
+}
+
 #[test]
 fn locks_are_held_and_gone(rt: HostRuntime) -> Result<(), Fail> {
     let alloc = rt.alloc();
     let mut locks = LockTable::new(alloc);
     for (number, (age, asked, covered, conflict, step)) in STEPS.iter().enumerate() {
-        let lock = lock_of(alloc, asked)?;
-        assert_eq!(rt; locks.covered(*age, &lock), *covered, "step {number}");
-        assert_eq!(rt; locks.conflicts(*age, &lock), *conflict, "step {number}");
-        match step {
-            Step::Ask => {}
-            Step::Hold => locks.hold(*age, lock)?,
-            Step::Release => locks.release_all(*age),
-            Step::Unhold => locks.unhold(*age),
-        }
+        let found = standing(&locks, *age, &lock_of(alloc, asked)?);
+        assert!(rt; found == (*covered, *conflict), "step {number}");
+        make(&mut locks, *age, lock_of(alloc, asked)?, *step)?;
     }
     assert!(rt; !locks.is_locked(&Atom::from_short_text(alloc, "u")?));
     Ok(())

@@ -13,8 +13,10 @@ use std::thread::Threads;
 use tab_book::{Book, Seat, Shared};
 use tab_journal::Journal;
 use tab_model::{Change, Command, Entry, Limits, Reply, Told};
+use tab_named::SeatInbox;
 use tab_names::{House, Naming, Opened};
 use tab_post::Line;
+use tab_world::World;
 
 const THREADS: usize = 4;
 
@@ -215,36 +217,70 @@ fn count<H: House + Threads + Send + Sync>(
     requires journal { 1 ≤ limits.journal }
 {
     let shared = Shared::new(Book::new(house, alloc, opened, limits, 64)?);
+    count_in(&house, alloc, &shared)
+}
+
+fn count_in<H: House + Threads + Send + Sync>(
+    house: &H,
+    alloc: Global,
+    shared: &Shared<H>,
+) -> Result<Counts, Fail> {
     let mut seats = Vec::new(alloc);
     let mut inboxes = Vec::new(alloc);
-    for _ in 0..THREADS {
-        let (seat, inbox) = shared.join(&house).map_err(|_| "join")?;
-        seats.push(seat)?;
-        inboxes.push(inbox)?;
-    }
+    join_all(house, shared, &mut seats, &mut inboxes)?;
     let first = *seats.first().ok_or("no seat")?;
-    shared.call(&house, &first, create(alloc)?)?;
-    shared.call(&house, &first, Command::Begin)?;
-    shared.call(&house, &first, write(alloc, 0)?)?;
-    shared.call(&house, &first, Command::Commit)?;
+    begin_at_0(house, alloc, shared, &first)?;
     let entered = AtomicU64::new(0);
-    run_threads(&house, alloc, &shared, &seats, &entered);
-    shared.call(&house, &first, Command::Begin)?;
-    let value = value_in(shared.call(&house, &first, read_for_write(alloc)?)?.reply());
-    let audit = shared.audit(&house)?;
-    let book = shared.book.lock(&house);
+    run_threads(house, alloc, shared, &seats, &entered);
+    shared.call(house, &first, Command::Begin)?;
+    let value = value_in(shared.call(house, &first, read_for_write(alloc)?)?.reply());
+    let audit = shared.audit(house)?;
+    let book = shared.book.lock(house);
     let journal = book.journal();
-    let change = Change::Write(record(alloc, 199)?);
-    let others = book.tables().updated(alloc, &[change])?;
     Ok(Counts {
         entries: journal.len(),
         base: journal.base().commits(),
         last: last_number(journal),
         value,
         audit,
-        other_audit: journal.audit(alloc, journal.base(), &others)?,
+        other_audit: is_history_of_199(alloc, journal, book.tables())?,
         entered: entered.load(Ordering::SeqCst),
     })
+}
+
+fn join_all<H: House>(
+    house: &H,
+    shared: &Shared<H>,
+    seats: &mut Vec<Seat>,
+    inboxes: &mut Vec<SeatInbox<H>>,
+) -> Result<(), Fail> {
+    for _ in 0..THREADS {
+        let (seat, inbox) = shared.join(house).map_err(|_| "join")?;
+        seats.push(seat)?;
+        inboxes.push(inbox)?;
+    }
+    Ok(())
+}
+
+/// The first commit makes the record, with 0.
+fn begin_at_0<H: House>(
+    house: &H,
+    alloc: Global,
+    shared: &Shared<H>,
+    seat: &Seat,
+) -> Result<(), AllocError> {
+    shared.call(house, seat, create(alloc)?)?;
+    shared.call(house, seat, Command::Begin)?;
+    shared.call(house, seat, write(alloc, 0)?)?;
+    shared.call(house, seat, Command::Commit)?;
+    Ok(())
+}
+
+/// Whether the journal ends in tables in which the record has 199.
+fn is_history_of_199(alloc: Global, journal: &Journal, tables: &World) -> Result<bool, AllocError> {
+    let change = Change::Write(record(alloc, 199)?);
+    let others = tables.updated(alloc, &[change])?;
+    journal.audit(alloc, journal.base(), &others)
 }
 
 fn count_named<J: Naming + Send + Sync, R: Threads + Wait + Copy + Send + Sync>(

@@ -77,12 +77,19 @@ fn fold<H: House>(house: H, alloc: Global, opened: Opened<Line>) -> Result<Optio
     let shared = Shared::new(Book::new(house, alloc, opened, limits, 2)?);
     let (seat, _inbox) = shared.join(&house).map_err(|_| "join")?;
     let mut book = shared.hold(&house);
-    book.step(seat.session(), Step::Do(create(alloc)?))?;
+    Ok(fold_in(&mut book, alloc, seat.session())?)
+}
+
+fn fold_in<H: House>(
+    book: &mut Book<H>,
+    alloc: Global,
+    session: u32,
+) -> Result<Option<u64>, AllocError> {
+    book.step(session, Step::Do(create(alloc)?))?;
     for number in 1..=100u64 {
-        let numbered = commit(&mut book, alloc, seat.session())?;
+        let numbered = commit(book, alloc, session)?;
         let right = is_right(alloc, book.journal(), number)?;
-        let audit = book.audit()?;
-        if numbered != number || !right || !audit {
+        if numbered != number || !right || !book.audit()? {
             return Ok(Some(number));
         }
     }

@@ -145,25 +145,36 @@ fn make_calls<H: House>(
     let (register, mut front) = opened.named::<H>();
     let (mut post, mut inbox) = NewMailbox::new(rt, alloc, 2)?.enter(&register, &mut front, rt);
     let (mut other, mut others) = NewMailbox::new(rt, alloc, 2)?.enter(&register, &mut front, rt);
-    for (line, (of_post, of_inbox, call)) in CALLS.iter().enumerate() {
-        let post = if *of_post == 0 { &mut post } else { &mut other };
-        let inbox = if *of_inbox == 0 {
-            &mut inbox
-        } else {
-            &mut others
-        };
-        if !is_right(alloc, post, inbox, call) {
-            return Ok(Some(line));
-        }
-    }
+    let differs = call_differs(alloc, &mut post, &mut other, &mut inbox, &mut others);
     drop(inbox);
     drop(other);
-    let is_gone = is_handed_back(&mut post, alloc, 6, false);
-    Ok(if is_gone && received(&mut others) == NONE {
-        None
-    } else {
+    let is_gone = is_handed_back(&mut post, alloc, 6, false) && received(&mut others) == NONE;
+    Ok(if differs.is_none() && !is_gone {
         Some(CALLS.len())
+    } else {
+        differs
     })
+}
+
+fn call_differs<H: House>(
+    alloc: Global,
+    post: &mut SeatPost<H>,
+    other: &mut SeatPost<H>,
+    inbox: &mut SeatInbox<H>,
+    others: &mut SeatInbox<H>,
+) -> Option<usize> {
+    for (line, (of_post, of_inbox, call)) in CALLS.iter().enumerate() {
+        let is_right = match (of_post, of_inbox) {
+            (0, 0) => is_right(alloc, post, inbox, call),
+            (0, _) => is_right(alloc, post, others, call),
+            (_, 0) => is_right(alloc, other, inbox, call),
+            _ => is_right(alloc, other, others, call),
+        };
+        if !is_right {
+            return Some(line);
+        }
+    }
+    None
 }
 
 fn make_named_calls<J: Naming, R: Wait + Copy>(

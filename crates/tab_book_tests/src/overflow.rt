@@ -127,20 +127,24 @@ fn overflow<H: House>(house: H, alloc: Global, opened: Opened<Line>) -> Result<b
     requires { opened ≡ H.book }
 {
     let shared = Shared::new(Book::new(house, alloc, opened, LIMITS, 2)?);
-    let (writer, mut others) = shared.join(&house).map_err(|_| "join")?;
-    let (reader, mut inbox) = shared.join(&house).map_err(|_| "join")?;
-    shared.call(&house, &writer, create(alloc)?)?;
+    overflow_in(&house, alloc, &shared)
+}
+
+fn overflow_in<H: House>(house: &H, alloc: Global, shared: &Shared<H>) -> Result<bool, Fail> {
+    let (writer, mut others) = shared.join(house).map_err(|_| "join")?;
+    let (reader, mut inbox) = shared.join(house).map_err(|_| "join")?;
+    shared.call(house, &writer, create(alloc)?)?;
     let mut right = true;
     for (numbers, items) in &ROUNDS {
-        right = watches(&house, alloc, &shared, &reader, &mut inbox)? && right;
-        right = commits(&house, alloc, &shared, &writer, numbers)? && right;
+        right = watches(house, alloc, shared, &reader, &mut inbox)? && right;
+        right = commits(house, alloc, shared, &writer, numbers)? && right;
         // An inbox of another session takes nothing.
-        right = shown(&house, &shared, &reader, &mut others) == ALL_TAKEN && right;
-        right = is_told(&house, alloc, &shared, &reader, &mut inbox, items)? && right;
+        right = shown(house, shared, &reader, &mut others) == ALL_TAKEN && right;
+        right = is_told(house, alloc, shared, &reader, &mut inbox, items)? && right;
     }
-    right = watches(&house, alloc, &shared, &reader, &mut inbox)? && right;
-    shared.leave(&house, &reader);
-    Ok(right && shown(&house, &shared, &reader, &mut inbox) == LEFT)
+    right = watches(house, alloc, shared, &reader, &mut inbox)? && right;
+    shared.leave(house, &reader);
+    Ok(right && shown(house, shared, &reader, &mut inbox) == LEFT)
 }
 
 fn overflow_named<J: Naming, R: Wait + Copy>(

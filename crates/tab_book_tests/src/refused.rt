@@ -120,29 +120,58 @@ fn differs<H: House>(house: H, alloc: Global, opened: Opened<Line>) -> Result<Op
         ..LIMITS
     };
     let book = Book::new(house, alloc, opened, limits, 3).map_err(|_| "no book")?;
-    let shared = Shared::new(book);
-    let (writer, _inbox) = join(&house, &shared).map_err(|_| "no writer")?;
-    let (watcher, mut inbox) = join(&house, &shared).map_err(|_| "no watcher")?;
+    differs_in(&house, alloc, &Shared::new(book))
+}
+
+fn differs_in<H: House>(
+    house: &H,
+    alloc: Global,
+    shared: &Shared<H>,
+) -> Result<Option<usize>, Fail> {
+    let (writer, _inbox) = join(house, shared).map_err(|_| "no writer")?;
+    let (watcher, mut inbox) = join(house, shared).map_err(|_| "no watcher")?;
+    let differs = match step_differs(house, alloc, shared, &writer, &watcher) {
+        None => shown_differs(house, shared, &watcher, &mut inbox),
+        differs => differs,
+    };
+    if differs.is_none() && !is_history(house, shared)? {
+        return Ok(Some(STEPS.len() + SHOWN.len()));
+    }
+    Ok(differs)
+}
+
+fn step_differs<H: House>(
+    house: &H,
+    alloc: Global,
+    shared: &Shared<H>,
+    writer: &Seat,
+    watcher: &Seat,
+) -> Option<usize> {
     for (place, (ask, wanted)) in STEPS.iter().enumerate() {
         let seat = if matches!(ask, Ask::Watch) {
-            &watcher
+            watcher
         } else {
-            &writer
+            writer
         };
-        if told(&house, alloc, &shared, seat, *ask) != Some(*wanted) {
-            return Ok(Some(place));
+        if told(house, alloc, shared, seat, *ask) != Some(*wanted) {
+            return Some(place);
         }
     }
+    None
+}
+
+fn shown_differs<H: House>(
+    house: &H,
+    shared: &Shared<H>,
+    watcher: &Seat,
+    inbox: &mut SeatInbox<H>,
+) -> Option<usize> {
     for (place, wanted) in SHOWN.iter().enumerate() {
-        if shown(&house, &shared, &watcher, &mut inbox) != *wanted {
-            return Ok(Some(STEPS.len() + place));
+        if shown(house, shared, watcher, inbox) != *wanted {
+            return Some(STEPS.len() + place);
         }
     }
-    Ok(if is_history(&house, &shared)? {
-        None
-    } else {
-        Some(STEPS.len() + SHOWN.len())
-    })
+    None
 }
 
 fn differs_named<J: Naming, R: Wait + Copy>(

@@ -89,14 +89,30 @@ fn make_steps<H: House>(
     requires { opened ≡ H.book }
 {
     let shared = Shared::new(Book::new(house, alloc, opened, LIMITS, 64)?);
-    let (first, _inbox) = shared.join(&house).map_err(|_| "join")?;
-    let (second, _inbox) = shared.join(&house).map_err(|_| "join")?;
-    let (third, _inbox) = shared.join(&house).map_err(|_| "join")?;
-    let seats = [first, second, third];
-    shared.call(&house, &first, create(alloc)?)?;
+    make_steps_in(&house, alloc, &shared)
+}
+
+fn make_steps_in<H: House>(
+    house: &H,
+    alloc: Global,
+    shared: &Shared<H>,
+) -> Result<Option<usize>, Fail> {
+    let (first, _inbox) = shared.join(house).map_err(|_| "join")?;
+    let (second, _inbox) = shared.join(house).map_err(|_| "join")?;
+    let (third, _inbox) = shared.join(house).map_err(|_| "join")?;
+    shared.call(house, &first, create(alloc)?)?;
+    step_differs(house, alloc, shared, &[first, second, third])
+}
+
+fn step_differs<H: House>(
+    house: &H,
+    alloc: Global,
+    shared: &Shared<H>,
+    seats: &[Seat],
+) -> Result<Option<usize>, Fail> {
     for (line, (of, ask, then)) in STEPS.iter().enumerate() {
         let seat = *seats.get(*of).ok_or("no seat")?;
-        if stepped(&house, alloc, &shared, &seat, *ask)? != *then {
+        if stepped(house, alloc, shared, &seat, *ask)? != *then {
             return Ok(Some(line));
         }
     }

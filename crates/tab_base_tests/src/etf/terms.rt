@@ -1,10 +1,11 @@
 //! Terms: their order, their copies, patterns and numbers, against tables from outside. A term stands as its payload.
 
+use std::alloc::Global;
 use std::test::Fail;
 use tab_etf::decode;
 use tab_fixtures::bytes;
 use tab_key::Abbreviate;
-use tab_term::{Atom, has_wildcard, matches};
+use tab_term::{Atom, Term, has_wildcard, matches};
 
 /// Terms, ascending by the bytes of their spellings, as a program in another language spelled and sorted them.
 static ASCENDING: [&str; 60] = [
@@ -120,7 +121,7 @@ fn terms_stand_in_the_order_of_their_spellings(rt: HostRuntime) -> Result<(), Fa
     let alloc = rt.alloc();
     let mut terms = Vec::new(alloc);
     for text in &ASCENDING {
-        terms.push(decode(alloc, &bytes(alloc, text)?)?)?;
+        terms.push(held(alloc, text)?)?;
     }
     for (i, a) in terms.iter().enumerate() {
         for (j, b) in terms.iter().enumerate() {
@@ -134,14 +135,17 @@ fn terms_stand_in_the_order_of_their_spellings(rt: HostRuntime) -> Result<(), Fa
     Ok(())
 }
 
+fn held(alloc: Global, text: &str) -> Result<Term, Fail> {
+    Ok(decode(alloc, &bytes(alloc, text)?)?)
+}
+
 #[test]
 fn patterns_match(rt: HostRuntime) -> Result<(), Fail> {
     let alloc = rt.alloc();
     for (pattern, subject, fits, wild) in &PATTERNS {
-        let held = decode(alloc, &bytes(alloc, pattern)?)?;
-        let subject = decode(alloc, &bytes(alloc, subject)?)?;
-        assert_eq!(rt; matches(&held, &subject), *fits, "{pattern}");
-        assert_eq!(rt; has_wildcard(&held), *wild, "{pattern}");
+        let found = matches(&held(alloc, pattern)?, &held(alloc, subject)?);
+        assert!(rt; found == *fits, "{pattern}");
+        assert!(rt; has_wildcard(&held(alloc, pattern)?) == *wild, "{pattern}");
     }
     Ok(())
 }
@@ -150,9 +154,8 @@ fn patterns_match(rt: HostRuntime) -> Result<(), Fail> {
 fn terms_have_depths_and_numbers(rt: HostRuntime) -> Result<(), Fail> {
     let alloc = rt.alloc();
     for (text, depth, number) in &NUMBERS {
-        let term = decode(alloc, &bytes(alloc, text)?)?;
-        assert_eq!(rt; term.depth(), *depth, "{text}");
-        assert_eq!(rt; term.abbreviated(), *number, "{text}");
+        assert!(rt; held(alloc, text)?.depth() == *depth, "{text}");
+        assert!(rt; held(alloc, text)?.abbreviated() == *number, "{text}");
     }
     let name = Atom::from_short_text(alloc, "person")?.try_clone(alloc)?;
     assert_eq!(rt; name.abbreviated(), 0x0070_6572_736f_6e00);
