@@ -30,14 +30,17 @@ pub record IsFlagOf (name : Text) (rows : List Row) (is : Bool) : Type 0 where
   pub given : one_of name rows ≡ Some (codes "true") → is ≡ true
   pub untrue : one_of name rows ≡ Some (codes "false") → is ≡ false
 
+-- whether the events of a commit are sent in one frame
 abbrev pub is_batches : Delivery → Bool
 is_batches Batches = true
 is_batches Events = false
 
+-- whether the log has a line for each start and end
 abbrev pub is_full : Log → Bool
 is_full Full = true
 is_full Brief = false
 
+-- how a server is to serve, by its options, with each one's range and default
 pub record IsServiceOf (rows : List Row) (s : Service) : Type 0 where
   pub port : IsNumberOf (codes "port") 0 65535 0 rows s.port
   pub connections : IsNumberOf (codes "connections") 1 64 1 rows s.sizes.connections
@@ -50,7 +53,7 @@ pub record IsServiceOf (rows : List Row) (s : Service) : Type 0 where
   pub metrics : MayBeNumberOf (codes "metrics") 0 65535 rows s.metrics
   pub aborts : IsFlagOf (codes "abort-waits") rows s.aborts
 
--- by the command that the words name, with its options; the parser refuses words that name none
+-- a run is what the words ask for: the command that they name, with its options; the parser refuses words that name none
 abbrev pub IsAskedBy : Option (Text × List Row) → Run → Type 0
 IsAskedBy None r = Unit {0}
 IsAskedBy (Some c) (Serve s) = (c.0 ≡ codes "serve") × IsServiceOf c.1 s

@@ -10,30 +10,38 @@ use Rattle.clap.specs.declared.builder.value_parser.ValueParser.TheVariants.{Sig
 abbrev pub number_rule : Text → ℕ → ℕ → Rule
 number_rule name least most = record (new_rule name) { long = Some name; action = Some Set; value_names = 1; parser = Some (Signed (pos least) (pos most)) }
 
+-- an option that is given or not
 abbrev pub flag_rule : Text → Rule
 flag_rule name = record (new_rule name) { long = Some name; action = Some SetTrue }
 
+-- the option has to be given
 abbrev pub required : Rule → Rule
 required r = record r { required = true }
 
+-- how many items an outbox holds
 abbrev pub outbox_rule : Rule
 outbox_rule = number_rule (codes "outbox") 1 65536
 
+-- a command with these options
 abbrev pub with_rules : App → List Rule → App
 with_rules a [] = a
 with_rules a (r ∷ rules) = with_rules (with_rule a r) rules
 
+-- `replay` with its option
 abbrev pub replay_line : App
 replay_line = with_rules (new_app (codes "replay")) (outbox_rule ∷ [])
 
+-- `serve` with its options, of which port and connections have to be given
 abbrev pub serve_line : App
 serve_line = with_rules (new_app (codes "serve"))
     (required (number_rule (codes "port") 0 65535) ∷ required (number_rule (codes "connections") 1 64) ∷ outbox_rule ∷ number_rule (codes "journal") 16 65536
     ∷ flag_rule (codes "forever") ∷ flag_rule (codes "batches") ∷ number_rule (codes "idle") 1 86400 ∷ flag_rule (codes "log") ∷ number_rule (codes "metrics") 0 65535 ∷ flag_rule (codes "abort-waits") ∷ [])
 
+-- the program with its version, which wants a command
 abbrev pub bare_line : App
 bare_line = record { top = record (new_app (codes "tabd")).top { has_version = true; subcommand_required = true }; subs = [] }
 
+-- the whole command line
 abbrev pub command_line : App
 command_line = with_subcommand (with_subcommand bare_line replay_line.top) serve_line.top
 

@@ -70,6 +70,7 @@ pub record Streams : Type 0 where
   pub input_faults : ℕ
   pub output_faults : ℕ
 
+-- the same by its four parts
 abbrev pub streams : Option (List ℕ) → Option (List ℕ) → ℕ → ℕ → Streams
 streams i o f g = record { input = i; output = o; input_faults = f; output_faults = g }
 

@@ -10,11 +10,14 @@ use Rattle.tabd.specs.declared.serving.Service.{Service}
 abbrev pub sessions_of : Service → ℕ
 sessions_of s = if s.forever then s.sizes.connections else 64
 
+-- the limits of a server's book; the words choose its sessions and its journal
 abbrev pub limits_of : Service → Limits
 limits_of s = record { sessions = sessions_of s; nesting = 16; operations = 1000; tables = 256; ages = 9223372036854775807; journal = s.sizes.journal }
 
+-- a book with no table, no session and an empty journal
 abbrev pub new_book : Limits → Running
 new_book limits = record { state = new limits; journal = record { base = empty; entries = []; limit = limits.journal } }
 
+-- the book that a server begins with
 abbrev pub book_of : Service → Running
 book_of s = new_book (limits_of s)

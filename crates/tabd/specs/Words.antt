@@ -4,13 +4,15 @@ use Rattle.tabd.specs.declared.serving.Sizes.{Sizes}
 use Rattle.tabd.specs.declared.words.Run.{Run}
 use Rattle.tabd.specs.declared.words.Run.TheVariants.{Replay, Serve}
 
+-- how many connections, items of an outbox and entries of the journal there may be
 abbrev pub AreSizes : Sizes → Type 0
 AreSizes s = (1 ≤ s.connections) × (s.connections ≤ 64) × (1 ≤ s.outbox) × (s.outbox ≤ 65536) × (16 ≤ s.journal) × (s.journal ≤ 65536)
 
--- seconds
+-- seconds, up to a day
 abbrev pub IsIdle : ℕ → Type 0
 IsIdle s = (1 ≤ s) × (s ≤ 86400)
 
+-- the numbers of a run are in their ranges
 abbrev pub AreInRange : Run → Type 0
 AreInRange (Replay outbox) = (1 ≤ outbox) × (outbox ≤ 65536)
 AreInRange (Serve s) = AreSizes s.sizes × IfSome s.idle IsIdle
