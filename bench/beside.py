@@ -170,8 +170,8 @@ def head():
     mnesia = version("erl", "-noshell", "-eval", vsn)
     redis = re.search(r"v=(\S+)", version("redis-server", "--version"))[1]
     return [
-        f"How often tabd's rate is that of Mnesia {mnesia} behind a server of the same frames, and of Redis {redis}, over sockets on one machine of",
-        f"{os.cpu_count()} cores, {time.strftime('%Y-%m-%d')}: the median of {ROUNDS} rounds, and the least and the greatest (`bench/beside.py`).",
+        f"tabd's rate divided by that of Mnesia {mnesia} behind a server of the same frames, and by that of Redis {redis}, over sockets on one machine of",
+        f"{os.cpu_count()} cores, {time.strftime('%Y-%m-%d')}. Each figure is the median of {ROUNDS} measurements, with the least and the greatest in brackets (`bench/beside.py`).",
         "",
         "| Load | Connections | tabd, rounds a second | times Mnesia's rate | times Redis's rate |",
         "|---|---|---|---|---|",
