@@ -9,4 +9,6 @@ mod map;
 #[cfg(test)]
 mod proto;
 #[cfg(test)]
+mod shared;
+#[cfg(test)]
 mod waitdie;

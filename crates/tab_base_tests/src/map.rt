@@ -46,8 +46,8 @@ fn is_same(map: &Map<u32, u32>, std_map: &BTreeMap<u32, u32>) -> bool {
     let mut entries = map.iter();
     for (key, value) in std_map {
         let entry = (*key, *value);
-        if entries.next() != Some(&entry)
-            || map.iter_from(key).next() != Some(&entry)
+        if entries.next().map(|entry| entry.pair()) != Some(&entry)
+            || map.iter_from(key).next().map(|entry| entry.pair()) != Some(&entry)
             || map.get(key) != Some(value)
         {
             return false;
@@ -88,12 +88,12 @@ fn finds_around(rt: HostRuntime) -> Result<(), Fail> {
     }
     for (key, from, above) in &AROUND {
         assert_eq!(rt;
-            map.first_from(key).map(|entry| entry.1),
+            map.first_from(key).map(|entry| entry.pair().1),
             *from,
             "from {key}"
         );
         assert_eq!(rt;
-            map.first_above(key).map(|entry| entry.1),
+            map.first_above(key).map(|entry| entry.pair().1),
             *above,
             "above {key}"
         );

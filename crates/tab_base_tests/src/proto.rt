@@ -6,6 +6,7 @@ use std::test::Fail;
 use tab_etf::{Counted, decode};
 use tab_model::{Command, Reply, Told};
 use tab_proto::{append_reply, command, term_of, write_reply};
+use tab_shared::SharedTerms;
 use tab_term::{Term, Terms};
 
 /// Payloads of every command.
@@ -86,7 +87,8 @@ fn replies_are_spelled(rt: HostRuntime) -> Result<(), Fail> {
     let alloc = rt.alloc();
     let mut records = Vec::new(alloc);
     records.push(Term::Int(3))?;
-    let (first, second) = Told::pair(alloc, Reply::Found(Terms::from_vec(records)))?;
+    let records = SharedTerms::from_terms(Terms::from_vec(records));
+    let (first, second) = Told::pair(alloc, Reply::Found(records))?;
     let mut frame = Vec::new(alloc);
     append_reply(Some(7), first.reply(), &mut frame)?;
     drop(first);

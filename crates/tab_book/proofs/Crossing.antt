@@ -1,13 +1,15 @@
 -- A book may go to another thread where its handle may. What it holds may: terms, and what is built of them.
 use denote.RattleType.{RattleType}
 use denote.Struct.Field.{row_field, u64-field}
-use denote.Param.Send.{IsSend, IsSync, plain_send, plain_sync, sendable}
+use denote.Param.Send.{IsSend, IsSync, plain_send, plain_sync, sendable, view_send}
 use denote.Param.SendFields.{as_row_send, as_row_sync, declared_send, declared_sync, variants_send, variants_sync}
 use Rattle.std.proofs.Crossing.{Vec-send, Vec-sync, Arc-send, Arc-sync, crosses, frees, send as heap_send}
 use Rattle.std.proofs.MapsCrossing.{BTreeMap-send}
 use Rattle.tab_map.proofs.Crossing.{Map-send, Map-sync}
 use Rattle.tab_term.proofs.atom.Atom.TheSendSync as atom_marks
-use Rattle.tab_term.proofs.Crossing.{Terms-send, Terms-sync, Term-send, Term-sync, SharedTerms-send, SharedTerms-sync}
+use Rattle.tab_shared.proofs.Crossing.{SharedTerms-send, SharedTerms-sync}
+use Rattle.tab_shared.specs.contracts.shared_terms.SharedTerms as shared_terms
+use Rattle.tab_term.proofs.Crossing.{Terms-send, Terms-sync, Term-send, Term-sync}
 use Rattle.tab_term.specs.contracts.atom.Atom as atom
 use Rattle.tab_term.specs.contracts.term.Terms as terms
 use Rattle.tab_model.specs.contracts.data.Operation as operation
@@ -54,7 +56,10 @@ use Rattle.std.specs.declared.clone.Clone as cloning
 use Rattle.tab_names.proofs.front.Front.TheSendSync as front_marks
 use Rattle.tab_names.proofs.register.Register.TheSendSync as register_marks
 use Rattle.tab_named.proofs.Crossing.{SeatPost-send}
+use Rattle.tab_named.specs.contracts.post.SeatPost as seat_post
+use Rattle.tab_named.specs.contracts.post.SeatPostPost.TheImpl as seat_posts
 use Rattle.tab_book.specs.contracts.book.Book as book
+use Rattle.tab_book.specs.contracts.book.Book.TheInside as inside
 use Rattle.tab_book.specs.contracts.shared.Shared as shared
 use Rattle.arrayvec.proofs.array_vec.ArrayVec.TheSendSync as array_marks
 use Rattle.circular_buffer.proofs.heap.HeapCircularBuffer.TheSendSync as buffer_marks
@@ -74,20 +79,20 @@ info-sync : IsSync info.the_row
 info-sync = search (parts, Terms-sync) depth 20
 
 item-send : IsSend item.the_row
-item-send = search (parts, Terms-send, SharedTerms-send) depth 20
+item-send = search (parts, SharedTerms-send) depth 20
 
 item-sync : IsSync item.the_row
-item-sync = search (parts, Terms-sync, SharedTerms-sync) depth 20
+item-sync = search (parts, SharedTerms-sync) depth 20
 
 reply-send : IsSend reply.the_row
 reply-send =
-    let a = as_row_send atom.the_field atom_marks.the_send in let ts = as_row_send (row_field terms.the_row) Terms-send in let n = as_row_send u64-field (plain_send _ _ _ _ _) in
-    variants_send reply.enum (tt, (tt, (tt, (tt, (tt, (tt, (tt, ((limit_marks.the_send, tt), (tt, ((a, tt), ((a, (Term-send, tt)), ((a, (Term-send, tt)), ((Term-send, tt), ((a, tt), ((a, tt), ((a, (Term-send, tt)), ((a, tt), ((a, tt), ((a, tt), (tt, (tt, (tt, (tt, (tt, ((n, tt), ((n, tt), (tt, ((ts, tt), (tt, (tt, ((ts, tt), (tt, ((info-send, tt), ((item-send, tt), ((n, tt), (tt, tt))))))))))))))))))))))))))))))))))))
+    let a = as_row_send atom.the_field atom_marks.the_send in let ts = as_row_send (row_field terms.the_row) Terms-send in let ss = as_row_send (row_field shared_terms.the_row) SharedTerms-send in let n = as_row_send u64-field (plain_send _ _ _ _ _) in
+    variants_send reply.enum (tt, (tt, (tt, (tt, (tt, (tt, (tt, ((limit_marks.the_send, tt), (tt, ((a, tt), ((a, (Term-send, tt)), ((a, (Term-send, tt)), ((Term-send, tt), ((a, tt), ((a, tt), ((a, (Term-send, tt)), ((a, tt), ((a, tt), ((a, tt), (tt, (tt, (tt, (tt, (tt, ((n, tt), ((n, tt), (tt, ((ts, tt), (tt, (tt, ((ss, tt), (tt, ((info-send, tt), ((item-send, tt), ((n, tt), (tt, tt))))))))))))))))))))))))))))))))))))
 
 reply-sync : IsSync reply.the_row
 reply-sync =
-    let a = as_row_sync atom.the_field atom_marks.the_sync in let ts = as_row_sync (row_field terms.the_row) Terms-sync in let n = as_row_sync u64-field (plain_sync _ _ _ _ _) in
-    variants_sync reply.enum (tt, (tt, (tt, (tt, (tt, (tt, (tt, ((limit_marks.the_sync, tt), (tt, ((a, tt), ((a, (Term-sync, tt)), ((a, (Term-sync, tt)), ((Term-sync, tt), ((a, tt), ((a, tt), ((a, (Term-sync, tt)), ((a, tt), ((a, tt), ((a, tt), (tt, (tt, (tt, (tt, (tt, ((n, tt), ((n, tt), (tt, ((ts, tt), (tt, (tt, ((ts, tt), (tt, ((info-sync, tt), ((item-sync, tt), ((n, tt), (tt, tt))))))))))))))))))))))))))))))))))))
+    let a = as_row_sync atom.the_field atom_marks.the_sync in let ts = as_row_sync (row_field terms.the_row) Terms-sync in let ss = as_row_sync (row_field shared_terms.the_row) SharedTerms-sync in let n = as_row_sync u64-field (plain_sync _ _ _ _ _) in
+    variants_sync reply.enum (tt, (tt, (tt, (tt, (tt, (tt, (tt, ((limit_marks.the_sync, tt), (tt, ((a, tt), ((a, (Term-sync, tt)), ((a, (Term-sync, tt)), ((Term-sync, tt), ((a, tt), ((a, tt), ((a, (Term-sync, tt)), ((a, tt), ((a, tt), ((a, tt), (tt, (tt, (tt, (tt, (tt, ((n, tt), ((n, tt), (tt, ((ts, tt), (tt, (tt, ((ss, tt), (tt, ((info-sync, tt), ((item-sync, tt), ((n, tt), (tt, tt))))))))))))))))))))))))))))))))))))
 
 told-send : IsSend told.the_row
 told-send = search (parts, reply-send, reply-sync) depth 20
@@ -192,7 +197,21 @@ module _ (P : RattleType) (g : Ghosts P.Denot) where
 
 module _ (H : RattleType) (names : naming.Ghosts H.Denot) (rooms : house.Ghosts H.Denot) (waits : waiting.Ghosts H.Denot) (clones : cloning.Ghosts H.Denot) where
   pub Book-send : IsSend H → IsSend (book.the_row H names rooms waits clones)
-  Book-send h = search (parts, core-send, SeatPost-send, journal-send, register_marks.the_send, front_marks.the_send) depth 30
+  Book-send h =
+      let posts = seat_posts.ghosts H rooms seat_posts.no_dict names seat_posts.no_dict waits seat_posts.no_dict clones seat_posts.no_dict in
+      view_send _ _ _ _ _ (declared_send (inside.the_type H names rooms waits clones) (
+        search parts,
+        (
+          search parts,
+          (
+            search parts,
+            (
+              search (parts, register_marks.the_send),
+              (search (parts, front_marks.the_send), (as_row_send (core.the_field (seat_post.the_row H names) posts) (core-send (seat_post.the_row H names) posts (SeatPost-send H names h)), (search (parts, journal-send) depth 20, tt))),
+            ),
+          ),
+        ),
+      ))
 
   pub Shared-sync : IsSend H → IsSync (shared.the_row H names rooms waits clones)
   Shared-sync h = search (parts, crosses, Book-send) depth 30

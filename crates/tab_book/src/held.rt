@@ -87,7 +87,7 @@ impl<'a, H: House> Held<'a, H> {
 
 fn records_of(reply: &Reply) -> usize {
     match reply {
-        Reply::Found(records) => records.as_slice().len(),
+        Reply::Found(records) => records.gathered(),
         _ => 0,
     }
 }

@@ -58,11 +58,21 @@ pub fn number_of(reply: &Reply) -> u64 {
 /// The value of the one record that a read found.
 pub fn value_in(reply: &Reply) -> Option<i128> {
     match reply {
-        Reply::Found(records) => match records.as_slice() {
-            [Term::Tuple(elements)] => match elements.as_slice() {
-                [_, _, Term::Int(value)] => Some(*value),
+        Reply::Found(records) => {
+            let mut records = records.iter();
+            match (records.next(), records.next()) {
+                (Some(record), None) => value_of(record),
                 _ => None,
-            },
+            }
+        }
+        _ => None,
+    }
+}
+
+fn value_of(record: &Term) -> Option<i128> {
+    match record {
+        Term::Tuple(elements) => match elements.as_slice() {
+            [_, _, Term::Int(value)] => Some(*value),
             _ => None,
         },
         _ => None,

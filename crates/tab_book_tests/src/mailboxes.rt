@@ -12,7 +12,7 @@ use tab_named::{NewMailbox, SeatInbox, SeatPost};
 use tab_names::{House, Naming, Opened};
 use tab_outbox::{Item, Mailbox, Met, Post, Refused};
 use tab_post::Line;
-use tab_term::SharedTerms;
+use tab_shared::SharedTerms;
 
 /// Items are batches without events, known by their commits.
 enum Call {

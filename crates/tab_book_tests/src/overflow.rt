@@ -12,6 +12,7 @@ use tab_model::{Command, Item, Reply};
 use tab_named::SeatInbox;
 use tab_names::{House, Naming, Opened};
 use tab_post::Line;
+use tab_shared::SharedTerms;
 
 /// What is shown at an inbox, as a number: a batch of one event is 100 and its commit, an overflow 200 and its commit.
 fn shown_as(drained: &Drained) -> u64 {
@@ -26,9 +27,14 @@ fn shown_as(drained: &Drained) -> u64 {
 fn number_in(item: &Item) -> u64 {
     match item {
         Item::Began(..) => BEGAN,
-        Item::Batch(commit, events) if events.as_slice().len() == 1 => commit.saturating_add(100),
+        Item::Batch(commit, events) if is_one(events) => commit.saturating_add(100),
         _ => 0,
     }
+}
+
+fn is_one(events: &SharedTerms) -> bool {
+    let mut events = events.iter();
+    events.next().is_some() && events.next().is_none()
 }
 
 pub const ALL_TAKEN: u64 = 1;

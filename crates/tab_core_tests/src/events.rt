@@ -4,6 +4,7 @@ use tab_etf::decode;
 use tab_events::{Event, Level, Mirror, Mirrored, change_of, shape};
 use tab_fixtures::atom;
 use tab_rows::Kind;
+use tab_shared::SharedTerms;
 use tab_term::{Term, Terms};
 
 /// Events at their levels: an update of the record `{t,1,a}`, or of the key 1, where `{t,1,b}` stood before; the
@@ -41,7 +42,7 @@ static OLD: &[u8] = b"\x83h\x03w\x01ta\x01w\x01b";
 fn is_shaped(
     alloc: Global,
     told: &Term,
-    old: Terms,
+    old: SharedTerms,
     level: Level,
 ) -> Result<Option<bool>, AllocError> {
     let tab = atom(alloc, "t")?;
@@ -67,7 +68,8 @@ fn events_are_read_back(rt: HostRuntime) {
         let old = decode(alloc, OLD).expect(&rt, "a term");
         let mut records = Vec::new(alloc);
         records.push(old).expect(&rt, "memory");
-        let found = is_shaped(alloc, &told, Terms::from_vec(records), *level);
+        let records = SharedTerms::from_terms(Terms::from_vec(records));
+        let found = is_shaped(alloc, &told, records, *level);
         assert!(rt; found == Ok(Some(true)), "event {number}");
     }
 }

@@ -3,6 +3,7 @@ use std::alloc::{AllocError, Global};
 use tab_fixtures::atom;
 use tab_journal::Journal;
 use tab_model::{Entry, Level, Move, Moves, Numbers, Operation, Replies, Reply, Schema, Told};
+use tab_shared::SharedTerms;
 use tab_term::{Term, Terms};
 
 /// A move of session 1 in table t, whose records are `{t, 1, V}`.
@@ -88,10 +89,10 @@ fn move_of(alloc: Global, made: &Made) -> Result<Move, AllocError> {
     })
 }
 
-fn found(alloc: Global, value: i128) -> Result<Terms, AllocError> {
+fn found(alloc: Global, value: i128) -> Result<SharedTerms, AllocError> {
     let mut records = Vec::with_capacity(alloc, 1)?;
     records.push_reserved(record(alloc, value)?);
-    Ok(Terms::from_vec(records))
+    Ok(SharedTerms::from_terms(Terms::from_vec(records)))
 }
 
 fn told_of(alloc: Global, made: &Made) -> Result<Option<Told>, AllocError> {

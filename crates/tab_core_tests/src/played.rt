@@ -8,7 +8,8 @@ use std::alloc::{AllocError, Global};
 use tab_fixtures::atom;
 use tab_model::{Command, Limit, Reply, Told};
 use tab_oneshot::Steps;
-use tab_term::{Term, Terms};
+use tab_shared::SharedTerms;
+use tab_term::Term;
 
 /// Each answer is one letter; where they end, it answers `BadTerm`.
 #[derive(Drop)]
@@ -81,7 +82,7 @@ fn reply_of(alloc: Global, letter: u8) -> Reply
     match letter {
         b'T' => Reply::Tid(1),
         b'k' => Reply::Done,
-        b'f' => Reply::Found(Terms::from_vec(Vec::new(alloc))),
+        b'f' => Reply::Found(SharedTerms::from_vec(Vec::new(alloc))),
         b'n' => table(alloc),
         b'u' => Reply::UserAbort(Term::Int(9)),
         b'j' => Reply::AtomicOk,

@@ -1,15 +1,19 @@
 -- The canonical spelling of a term that is given by its parts.
-use Rattle.std.proofs.Common.{◌≡◌, ℕ, ◌+◌, List, [], ◌∷◌, ◌++◌, length, refl, sym, ap, ◌∙◌, arith, length-append, Option, Some, None}
+use Rattle.std.proofs.Common.{◌≡◌, ◌≤◌, ℕ, ◌+◌, List, [], ◌∷◌, ◌++◌, length, refl, sym, ap, ◌∙◌, arith, length-append, Option, Some, None}
 use Rattle.std.proofs.lemmas.List.{append-nil}
 use Rattle.tab_term.specs.Data.{PlainTerm, tuple, none, one_more, pair, triple}
 use Rattle.tab_term.specs.Canon.{canon}
 use Rattle.tab_etf.proofs.CanonLemmas as is
 use Rattle.tab_etf.specs.declared.outline.Leaf.{Leaf}
+use Rattle.tab_etf.specs.declared.outline.Leaf.TheVariants as leaf
+use Rattle.tab_etf.specs.declared.outline.Body.{Body}
+use Rattle.tab_etf.specs.declared.outline.Body.TheVariants as body
 use Rattle.tab_etf.specs.declared.outline.Outline.{Outline}
 use Rattle.tab_etf.specs.declared.writer.Writer.{Writer}
 use Rattle.tab_etf.specs.Writing.{Writes}
+use Rattle.tab_etf.proofs.SharedElements.{list_fits}
 use Rattle.tab_etf.proofs.WritingLemmas.{writes_as, writes_then}
-use Rattle.tab_etf.specs.Outlines.{leaf_term, body_term, outline_term, under, head_canon}
+use Rattle.tab_etf.specs.Outlines.{leaf_term, body_term, outline_term, under, head_canon, OfHead, OfBody, OfOutline, IsShort, IsShortOutline, IsWritable}
 
 pub pair_canon : (a b : PlainTerm) → canon (pair a b) ≡ (104 ∷ 2 ∷ []) ++ (canon a ++ canon b)
 unfolding canon
@@ -59,3 +63,34 @@ module _ {W : Type 0} {contents : W → Option (List ℕ)} {faults : W → ℕ} 
 
   pub writes_outline : {a b c d : Writer W} (o : Outline) → Writes contents faults a b (head_canon o.first) → Writes contents faults b c (head_canon o.second) → Writes contents faults c d (canon (body_term o.body)) → Writes contents faults a d (canon (outline_term o))
   writes_outline o p q r = writes_as (writes_then p (writes_then q r)) (sym (outline_canon o))
+
+-- ---- what is not too long
+
+fits_leaf : (l : Leaf) → IsShort l → length (canon (leaf_term l)) ≤ 4294967295 → IsWritable l
+fits_leaf (leaf.Word text) s h = s
+fits_leaf (leaf.Number n) s h = tt
+fits_leaf (leaf.Held t) s h = tt
+fits_leaf (leaf.List ts) s h = tt
+fits_leaf (leaf.SharedList ts) s h = list_fits ts.now h
+
+fits_head : (o : Option Leaf) → OfHead IsShort o → length (head_canon o) ≤ 4294967295 → OfHead IsWritable o
+fits_head None s h = tt
+fits_head (Some l) s h = fits_leaf l s (omega (arith, h))
+
+fits_body : (b : Body) → OfBody IsShort b → length (canon (body_term b)) ≤ 4294967295 → OfBody IsWritable b
+fits_body (body.One a) s h = fits_leaf a s h
+fits_body (body.Two a b) s h =
+    let e = pair_length (leaf_term a) (leaf_term b) in
+    (fits_leaf a s.0 (omega (arith, e, h)), fits_leaf b s.1 (omega (arith, e, h)))
+fits_body (body.Three a b c) s h =
+    let e = triple_length (leaf_term a) (leaf_term b) (leaf_term c) in
+    (fits_leaf a s.0 (omega (arith, e, h)), fits_leaf b s.1 (omega (arith, e, h)), fits_leaf c s.2 (omega (arith, e, h)))
+fits_body (body.Four a b c d) s h =
+    let e = four_length (leaf_term a) (leaf_term b) (leaf_term c) (leaf_term d) in
+    (fits_leaf a s.0 (omega (arith, e, h)), fits_leaf b s.1 (omega (arith, e, h)), fits_leaf c s.2 (omega (arith, e, h)), fits_leaf d s.3 (omega (arith, e, h)))
+
+-- what is written of an outline that is not too long has counts that fit
+pub outline_fits : (o : Outline) → IsShortOutline o → length (canon (outline_term o)) ≤ 4294967295 → OfOutline IsWritable o
+outline_fits o s h =
+    let e = outline_length o in
+    (fits_head o.first s.0 (omega (arith, e, h)), fits_head o.second s.1 (omega (arith, e, h)), fits_body o.body s.2 (omega (arith, e, h)))

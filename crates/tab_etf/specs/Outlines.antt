@@ -1,7 +1,7 @@
 -- Terms that are given by their parts: an atom's text, a number, a term, the elements of a list; a tuple of two to four of
 -- these; and pairs around it.
 use Rattle.std.specs.Prelude.{ℕ, pos, ◌<◌, ◌^◌, List, [], ◌∷◌, Option, Some, None, length}
-use Rattle.tab_term.specs.Data.{PlainTerm, int, atom, tuple, list, none, one_more, pair, triple}
+use Rattle.tab_term.specs.Data.{PlainTerm, int, atom, tuple, list, none, one_more, count, pair, triple}
 use Rattle.tab_term.specs.Canon.{canon}
 use Rattle.tab_term.specs.View.{term}
 use Rattle.tab_etf.specs.declared.outline.Leaf.{Leaf}
@@ -39,23 +39,33 @@ abbrev pub head_canon : Option Leaf → List ℕ
 head_canon None = []
 head_canon (Some l) = 104 ∷ 2 ∷ canon (leaf_term l)
 
+-- the condition holds of the part, where there is one
+abbrev pub OfHead : (Leaf → Type 0) → Option Leaf → Type 0
+OfHead P None = Unit {0}
+OfHead P (Some l) = P l
+
+-- the condition holds of each of the parts
+abbrev pub OfBody : (Leaf → Type 0) → Body → Type 0
+OfBody P (body.One a) = P a
+OfBody P (body.Two a b) = P a × P b
+OfBody P (body.Three a b c) = P a × P b × P c
+OfBody P (body.Four a b c d) = P a × P b × P c × P d
+
+-- the condition holds of each part of the outline
+abbrev pub OfOutline : (Leaf → Type 0) → Outline → Type 0
+OfOutline P o = OfHead P o.first × OfHead P o.second × OfBody P o.body
+
 -- an atom's text has a length of two bytes
 abbrev pub IsShort : Leaf → Type 0
 IsShort (leaf.Word text) = length text.now < 2 ^ 16
 IsShort l = Unit {0}
 
--- each atom among the parts has a text of less than 65,536 bytes
-abbrev pub IsShortBody : Body → Type 0
-IsShortBody (body.One a) = IsShort a
-IsShortBody (body.Two a b) = IsShort a × IsShort b
-IsShortBody (body.Three a b c) = IsShort a × IsShort b × IsShort c
-IsShortBody (body.Four a b c d) = IsShort a × IsShort b × IsShort c × IsShort d
-
--- where there is a part and it is an atom, its text has less than 65,536 bytes
-abbrev pub IsShortHead : Option Leaf → Type 0
-IsShortHead None = Unit {0}
-IsShortHead (Some l) = IsShort l
-
 -- each atom of the outline has a text of less than 65,536 bytes
 abbrev pub IsShortOutline : Outline → Type 0
-IsShortOutline o = IsShortHead o.first × IsShortHead o.second × IsShortBody o.body
+IsShortOutline o = OfOutline IsShort o
+
+-- an atom's text has a length of two bytes, and a list that is shared has a count of eight
+abbrev pub IsWritable : Leaf → Type 0
+IsWritable (leaf.Word text) = length text.now < 2 ^ 16
+IsWritable (leaf.SharedList ts) = count ts.now < 2 ^ 64
+IsWritable l = Unit {0}

@@ -6,7 +6,7 @@ ghost use Rattle.std.specs.Io.KnownBytes.{Appends, Keeps};
 ghost use Rattle.tab_term.specs.Canon.{canon};
 ghost use Rattle.tab_term.specs.View.{term};
 ghost use Rattle.tab_etf.specs.Frames.{frame};
-ghost use Rattle.tab_etf.specs.Outlines.{outline_term, IsShortOutline};
+ghost use Rattle.tab_etf.specs.Outlines.{outline_term, OfOutline, IsShortOutline, IsWritable};
 ghost use Rattle.tab_etf.specs.Writing.{IsUnwritten};
 
 use crate::counted::Counted;
@@ -43,6 +43,7 @@ impl From<AllocError> for EncodeFault {
 fn held(value: &Term) -> Outline<'_>
     ensures term { outline_term result ≡ term value.now }
     ensures short { IsShortOutline result }
+    ensures fits { OfOutline IsWritable result }
 {
     Outline {
         first: None,
@@ -53,7 +54,7 @@ fn held(value: &Term) -> Outline<'_>
 
 /// Writes these bytes and the spelling behind them; where that fails, a beginning of them.
 fn spell<W: Target>(device: &mut W, head: &[u8], outline: &Outline) -> Result<(), Broken>
-    requires { IsShortOutline outline.now }
+    requires { OfOutline IsWritable outline.now }
     ensures ok { OnOk result (Appends (W.contents device.old) (W.contents device.new) (head.now ++ canon (outline_term outline.now))) }
     ensures same { OnOk result (W.faults device.new ≡ W.faults device.old) }
     ensures part { OnErr result ((n : ℕ) × Appends (W.contents device.old) (W.contents device.new) (take n (head.now ++ canon (outline_term outline.now)))) }
@@ -105,7 +106,7 @@ pub fn write_outline<W: Target>(device: &mut W, outline: &Outline) -> Result<(),
 
 /// Adds bytes and the spelling behind them, so many bytes together. On an error the bytes are as before.
 fn append(outline: &Outline, head: &[u8], len: usize, out: &mut Vec<u8>) -> Result<(), AllocError>
-    requires { IsShortOutline outline.now }
+    requires { OfOutline IsWritable outline.now }
     ensures ok { OnOk result (out.new.items ≡ out.old.items ++ (head.now ++ canon (outline_term outline.now))) }
     ensures err { OnErr result (out.new.items ≡ out.old.items) }
 {

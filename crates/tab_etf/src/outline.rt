@@ -1,8 +1,8 @@
 //! Terms that are given by their parts, and are written without being built.
 
-ghost use Rattle.std.specs.Prelude.{◌≡◌, ◌<◌, ◌≤◌, ◌∷◌, min, length, MatchOption};
+ghost use Rattle.std.specs.Prelude.{◌≡◌, ◌<◌, ◌≤◌, ◌∷◌, min, length, MatchOption, IfSome};
 ghost use Rattle.tab_term.specs.Canon.{canon};
-ghost use Rattle.tab_etf.specs.Outlines.{leaf_term, body_term, outline_term, head_canon, IsShort, IsShortBody, IsShortHead, IsShortOutline};
+ghost use Rattle.tab_etf.specs.Outlines.{leaf_term, body_term, outline_term, head_canon, OfHead, OfBody, OfOutline, IsShort, IsShortOutline, IsWritable};
 ghost use Rattle.tab_etf.specs.Writing.{Writes};
 
 use crate::device::Target;
@@ -10,8 +10,9 @@ use crate::measuring::{LONGEST, atom_len, int_len, list_len, spelled_len};
 use crate::shared::{put_shared, shared_len};
 use crate::spelling::{put, put_atom, put_int, put_list};
 use crate::writer::Writer;
+use tab_shared::SharedTerms;
 use tab_term::spelling::SMALL_TUPLE_EXT;
-use tab_term::{SharedTerms, Term, Terms};
+use tab_term::{Term, Terms};
 
 /// A part of a term.
 #[derive(Clone, Copy)]
@@ -45,7 +46,7 @@ pub struct Outline<'a> {
 
 #[tactic(auto, unfolding(tab_term::specs::Canon::canon))]
 fn put_leaf<W: Target>(writer: &mut Writer<W>, leaf: &Leaf)
-    requires { IsShort leaf.now }
+    requires { IsWritable leaf.now }
     ensures { Writes W.contents W.faults writer.old writer.new (canon (leaf_term leaf.now)) }
 {
     match leaf {
@@ -59,7 +60,7 @@ fn put_leaf<W: Target>(writer: &mut Writer<W>, leaf: &Leaf)
 
 #[tactic(auto, using(crate::proofs::WritingLemmas::writes_then, crate::proofs::WritingLemmas::writes_none))]
 fn put_head<W: Target>(writer: &mut Writer<W>, head: &Option<Leaf>)
-    requires { IsShortHead head.now }
+    requires { OfHead IsWritable head.now }
     ensures { Writes W.contents W.faults writer.old writer.new (head_canon head.now) }
 {
     if let Some(leaf) = head {
@@ -70,7 +71,7 @@ fn put_head<W: Target>(writer: &mut Writer<W>, head: &Option<Leaf>)
 
 #[tactic(auto, using(crate::proofs::OutlinesLemmas::writes_pair, crate::proofs::OutlinesLemmas::writes_triple, crate::proofs::OutlinesLemmas::writes_four))]
 fn put_body<W: Target>(writer: &mut Writer<W>, body: &Body)
-    requires { IsShortBody body.now }
+    requires { OfBody IsWritable body.now }
     ensures { Writes W.contents W.faults writer.old writer.new (canon (body_term body.now)) }
 {
     match body {
@@ -99,7 +100,7 @@ fn put_body<W: Target>(writer: &mut Writer<W>, body: &Body)
 /// Writes the canonical spelling.
 #[tactic(auto, using(crate::proofs::OutlinesLemmas::writes_outline))]
 pub fn put_outline<W: Target>(writer: &mut Writer<W>, outline: &Outline)
-    requires { IsShortOutline outline.now }
+    requires { OfOutline IsWritable outline.now }
     ensures { Writes W.contents W.faults writer.old writer.new (canon (outline_term outline.now)) }
 {
     put_head(writer, &outline.first);
@@ -122,7 +123,7 @@ fn leaf_len(leaf: &Leaf) -> u64
 }
 
 fn head_len(head: &Option<Leaf>) -> u64
-    requires { IsShortHead head.now }
+    requires { OfHead IsShort head.now }
     ensures { result ≡ min (length (head_canon head.now)) u64.MAX }
 {
     match head {
@@ -133,7 +134,7 @@ fn head_len(head: &Option<Leaf>) -> u64
 
 #[tactic(auto, using(crate::proofs::OutlinesLemmas::pair_length, crate::proofs::OutlinesLemmas::triple_length, crate::proofs::OutlinesLemmas::four_length))]
 fn body_len(body: &Body) -> u64
-    requires { IsShortBody body.now }
+    requires { OfBody IsShort body.now }
     ensures { result ≡ min (length (canon (body_term body.now))) u64.MAX }
 {
     match body {
@@ -157,7 +158,8 @@ fn body_len(body: &Body) -> u64
 #[tactic(auto, using(crate::proofs::OutlinesLemmas::outline_length))]
 pub fn outline_len(outline: &Outline) -> Option<u64>
     requires { IsShortOutline outline.now }
-    ensures { MatchOption result (4294967295 < length (131 ∷ canon (outline_term outline.now))) (λ n. (n ≡ length (131 ∷ canon (outline_term outline.now))) × (n ≤ 4294967295)) }
+    ensures len { MatchOption result (4294967295 < length (131 ∷ canon (outline_term outline.now))) (λ n. (n ≡ length (131 ∷ canon (outline_term outline.now))) × (n ≤ 4294967295)) }
+    ensures fits { IfSome result (λ _. OfOutline IsWritable outline.now) }
 {
     let len = head_len(&outline.first)
         .saturating_add(head_len(&outline.second))

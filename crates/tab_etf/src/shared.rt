@@ -3,81 +3,113 @@
 ghost use Rattle.std.specs.Prelude.{◌≡◌, ◌<◌, ◌^◌, ◌++◌, ◌∷◌, length, min, true};
 ghost use Rattle.std.specs.Int.{w16, to_be_bytes};
 ghost use Rattle.tab_term.specs.Canon.{all_bytes, bytes_of, canon, canons, list_tag, list_contents};
-ghost use Rattle.tab_term.specs.Data.{list, plain_terms};
+ghost use Rattle.tab_term.specs.Data.{count, list};
 ghost use Rattle.tab_etf.specs.Writing.{Writes};
 
 use crate::device::Target;
 use crate::measuring::{field_len, spelled_len};
 use crate::spelling::{byte_in, put, put_tagged};
 use crate::writer::Writer;
-use tab_term::spelling::{LIST_EXT, NIL_EXT, STRING_EXT, shared_list_tag};
-use tab_term::{SharedTerm, SharedTerms};
+use tab_shared::SharedTerms;
+use tab_term::spelling::{LIST_EXT, NIL_EXT, STRING_EXT, is_byte_term};
 
-fn put_bytes<W: Target>(writer: &mut Writer<W>, ts: &[SharedTerm])
-    requires { all_bytes (plain_terms ts.now) ≡ true }
-    ensures { Writes W.contents W.faults writer.old writer.new (bytes_of (plain_terms ts.now)) }
+/// What is written of a list before its elements.
+#[derive(Clone, Copy)]
+struct Head {
+    tag: u8,
+    /// How many elements there are; `usize::MAX` stands for more.
+    len: usize,
+}
+
+fn are_bytes(ts: &SharedTerms) -> bool
+    ensures { result ≡ all_bytes ts.now }
 {
-    for t in ts {
-        writer.put_byte(byte_in(t.as_term()));
+    for t in ts.iter() {
+        if !is_byte_term(t) {
+            return false;
+        }
+    }
+    true
+}
+
+fn head_of(ts: &SharedTerms) -> Head
+    ensures tag { result.tag ≡ list_tag ts.now }
+    ensures len { result.len ≡ min (count ts.now) usize.MAX }
+{
+    let len = ts.count();
+    let tag = if len == 0 {
+        NIL_EXT
+    } else if len < 0x1_0000 && are_bytes(ts) {
+        STRING_EXT
+    } else {
+        LIST_EXT
+    };
+    Head { tag, len }
+}
+
+fn put_bytes<W: Target>(writer: &mut Writer<W>, ts: &SharedTerms)
+    requires { all_bytes ts.now ≡ true }
+    ensures { Writes W.contents W.faults writer.old writer.new (bytes_of ts.now) }
+{
+    for t in ts.iter() {
+        writer.put_byte(byte_in(t));
     }
 }
 
 #[tactic(auto, using(crate::proofs::WritingLemmas::writes_then))]
-fn put_string<W: Target>(writer: &mut Writer<W>, ts: &[SharedTerm])
-    requires bytes { all_bytes (plain_terms ts.now) ≡ true }
-    requires short { length ts.now < 2 ^ 16 }
-    ensures { Writes W.contents W.faults writer.old writer.new (107 ∷ to_be_bytes w16 (length ts.now) ++ bytes_of (plain_terms ts.now)) }
+fn put_string<W: Target>(writer: &mut Writer<W>, ts: &SharedTerms, len: u16)
+    requires { all_bytes ts.now ≡ true }
+    ensures { Writes W.contents W.faults writer.old writer.new (107 ∷ to_be_bytes w16 len ++ bytes_of ts.now) }
 {
     writer.put(&[STRING_EXT]);
-    writer.put(&(ts.len() as u16).to_be_bytes());
+    writer.put(&len.to_be_bytes());
     put_bytes(writer, ts);
 }
 
-fn put_all<W: Target>(writer: &mut Writer<W>, ts: &[SharedTerm])
-    ensures { Writes W.contents W.faults writer.old writer.new (canons (plain_terms ts.now)) }
+fn put_all<W: Target>(writer: &mut Writer<W>, ts: &SharedTerms)
+    ensures { Writes W.contents W.faults writer.old writer.new (canons ts.now) }
 {
-    for t in ts {
-        put(writer, t.as_term());
+    for t in ts.iter() {
+        put(writer, t);
     }
 }
 
 /// Writes the list, as `put_list` writes one whose elements are its own.
-#[tactic(auto, using(crate::proofs::WritingLemmas::writes_then))]
 pub fn put_shared<W: Target>(writer: &mut Writer<W>, ts: &SharedTerms)
+    requires { count ts.now < 2 ^ 64 }
     ensures { Writes W.contents W.faults writer.old writer.new (list_tag ts.now ∷ list_contents ts.now (canons ts.now)) }
 {
-    let items = ts.as_slice();
-    match shared_list_tag(ts) {
+    let head = head_of(ts);
+    match head.tag {
         NIL_EXT => writer.put(&[NIL_EXT]),
-        STRING_EXT => put_string(writer, items),
+        STRING_EXT => put_string(writer, ts, head.len as u16),
         _ => {
-            put_tagged(writer, LIST_EXT, items.len());
-            put_all(writer, items);
+            put_tagged(writer, LIST_EXT, head.len);
+            put_all(writer, ts);
             writer.put(&[NIL_EXT]);
         }
     }
 }
 
-#[tactic(auto, using(crate::proofs::SharedElements::canons_more, crate::proofs::Lengths::none_length))]
-fn all_len(ts: &[SharedTerm]) -> u64
-    ensures { result ≡ min (length (canons (plain_terms ts.now))) u64.MAX }
+fn all_len(ts: &SharedTerms) -> u64
+    ensures { result ≡ min (length (canons ts.now)) u64.MAX }
 {
     let mut sum: u64 = 0;
-    for t in ts {
-        sum = sum.saturating_add(spelled_len(t.as_term()));
+    for t in ts.iter() {
+        sum = sum.saturating_add(spelled_len(t));
     }
     sum
 }
 
 /// How long the canonical spelling of the list is; `u64::MAX` stands for more.
-#[tactic(auto, using(crate::proofs::Lengths::empty_length, crate::proofs::Lengths::bytes_length, crate::proofs::Lengths::others_length))]
+#[tactic(auto, using(crate::proofs::Lengths::empty_length, crate::proofs::Lengths::bytes_length))]
 pub fn shared_len(ts: &SharedTerms) -> u64
     ensures { result ≡ min (length (canon (list ts.now))) u64.MAX }
 {
-    let items = ts.as_slice();
-    match shared_list_tag(ts) {
+    let head = head_of(ts);
+    match head.tag {
         NIL_EXT => 1,
-        STRING_EXT => items.len() as u64 + 3,
-        _ => all_len(items).saturating_add(field_len(items.len()) + 2),
+        STRING_EXT => head.len as u64 + 3,
+        _ => all_len(ts).saturating_add(field_len(head.len) + 2),
     }
 }

@@ -56,7 +56,7 @@ fn told_with_old(alloc: Global, text: &str, what: Term, event: &Event) -> Result
     requires { length text.now ≤ 255 }
     ensures { IfOk result (λ t. term t ≡ five_of (atom text.now) (atom event.now.tab) (term what) (list event.now.old) (tid_of event.now.age)) }
 {
-    let old = Term::List(event.old.try_clone(alloc)?);
+    let old = Term::List(event.old.to_terms(alloc)?);
     five(
         alloc,
         word(alloc, text)?,

@@ -1,14 +1,15 @@
 -- Records that a loop copies, or leaves out, one after another.
-use Rattle.std.proofs.Common.{◌≡◌, ℕ, ◌+◌, ◌<◌, List, [], ◌∷◌, ◌++◌, Bool, true, false, length, take, drop, get_or, refl, sym, ap, ◌∙◌}
+use Rattle.std.proofs.Common.{◌≡◌, ℕ, ◌+◌, ◌<◌, append_assoc, List, [], ◌∷◌, ◌++◌, Bool, true, false, length, take, drop, get_or, refl, sym, ap, ◌∙◌}
 use Rattle.std.specs.Prelude.{if◌then◌else◌}
 use Rattle.std.specs.List.{filter}
 use Rattle.std.proofs.lemmas.List.{at_drop_more, take_more}
 use Rattle.tab_term.specs.declared.term.Term.{Term}
 use Rattle.tab_term.specs.View.{term, terms}
 use Rattle.tab_term.specs.Data.{PlainTerm, PlainTerms}
+use Rattle.tab_shared.specs.ByKey.{record_at}
+use Rattle.tab_shared.proofs.ListsLemmas.{term_at}
 use Rattle.tab_model.specs.Names.{plain_terms, terms_list}
 use Rattle.tab_model.specs.Tables.{Rows}
-use Rattle.tab_rows.proofs.Cells.{plain-list}
 
 abbrev pub list_of : List Term → Rows
 list_of ts = terms_list (terms ts)
@@ -16,9 +17,6 @@ list_of ts = terms_list (terms ts)
 pub round : (xs : Rows) → terms_list (plain_terms xs) ≡ xs
 round [] = refl
 round (x ∷ xs) = ap (λ ys. x ∷ ys) (round xs)
-
-pub all_copied : (copies : List Term) (all : Rows) (found : PlainTerms) → found ≡ terms copies → list_of copies ≡ all → found ≡ plain_terms all
-all_copied copies all found p h = p ∙ sym (plain-list (terms copies)) ∙ ap plain_terms h
 
 -- the records up to the next
 pub one_taken : (records : List Term) (i : ℕ) (item : Term) → i < length records → item ≡ get_or records i item → list_of (take (i + 1) records) ≡ list_of (take i records) ++ term item ∷ []
@@ -53,3 +51,21 @@ module _ (test : PlainTerm → Bool) where
       → list_of copies ++ filter test (list_of (drop i records)) ≡ all → list_of copies ++ filter test (list_of (drop (i + 1) records)) ≡ all
   left_out records copies i item all h is k before =
       ap (λ z. list_of copies ++ z) (sym (next records i item false h is k)) ∙ before
+
+-- ---- records that are shared, one after another
+
+pub record_is : (records : List Term) (i : ℕ) (item : Term) (ts : PlainTerms) (x : PlainTerm) → i < length records → item ≡ get_or records i item → terms records ≡ ts → x ≡ record_at ts i → x ≡ term item
+record_is records i item ts x h is e p = p ∙ ap (λ us. record_at us i) (sym e) ∙ sym (term_at records i item _ h is)
+
+module _ (test : PlainTerm → Bool) where
+  pub picked : (records : List Term) (found new : Rows) (i : ℕ) (item : Term) (x : PlainTerm) (all : Rows) → i < length records → item ≡ get_or records i item → test (term item) ≡ true → new ≡ found ++ x ∷ [] → x ≡ term item
+      → found ++ filter test (list_of (drop i records)) ≡ all → new ++ filter test (list_of (drop (i + 1) records)) ≡ all
+  picked records found new i item x all h is k p q before =
+      ap (λ z. z ++ filter test (list_of (drop (i + 1) records))) p
+      ∙ append_assoc found (x ∷ []) (filter test (list_of (drop (i + 1) records)))
+      ∙ ap (λ y. found ++ y ∷ filter test (list_of (drop (i + 1) records))) q
+      ∙ ap (λ z. found ++ z) (sym (next test records i item true h is k)) ∙ before
+
+  pub passed_over : (records : List Term) (found : Rows) (i : ℕ) (item : Term) (all : Rows) → i < length records → item ≡ get_or records i item → test (term item) ≡ false
+      → found ++ filter test (list_of (drop i records)) ≡ all → found ++ filter test (list_of (drop (i + 1) records)) ≡ all
+  passed_over records found i item all h is k before = ap (λ z. found ++ z) (sym (next test records i item false h is k)) ∙ before

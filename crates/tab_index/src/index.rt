@@ -13,11 +13,13 @@ ghost use Rattle.tab_map.specs.Entries.{lookup, Ascends};
 ghost use Rattle.tab_index.specs.IndexOf.{keys_in, IsIndexOf, IsWith, IsWithout, has_value};
 
 use crate::element::{Nothing, element, key};
+use crate::matching::push_with_value;
 use std::alloc::{AllocError, Global};
 use tab_map::{Map, Set};
 use tab_model::{Change, Kind};
 use tab_rows::Rows;
-use tab_term::{Term, Terms};
+use tab_shared::SharedTerms;
+use tab_term::Term;
 
 /// An index at a position: each value with the keys of the records that have it there.
 pub struct Index {
@@ -117,8 +119,8 @@ impl Index {
         ensures index { IfOk result (λ index. IsIndexOf rows.now.1 index.position index.keys) }
     {
         let mut index = Index::new(position);
-        for (_, records) in rows.walk() {
-            index.add_all(alloc, records.as_slice())?;
+        for entry in rows.walk() {
+            index.add_all(alloc, entry.pair().1.as_slice())?;
         }
         Ok(index)
     }
@@ -225,39 +227,21 @@ impl Index {
         }
     }
 
-    /// Copies of the records that have the value: by keys, and of each key in the order of their insertion.
-    pub fn read(&self, alloc: Global, rows: &Rows, value: &Term) -> Result<Terms, AllocError>
+    /// The records that have the value, shared with the table: by keys, and of each key in the order of their insertion.
+    pub fn read(&self, alloc: Global, rows: &Rows, value: &Term) -> Result<SharedTerms, AllocError>
         requires index { IsIndexOf rows.now.1 self.now.position self.now.keys }
         requires ordered { is_ordered rows.now.1 ≡ true }
         ensures { IfOk result (λ found. found ≡ plain_terms (index_read rows.now.1 self.now.position (term value.now))) }
     {
         let mut found = Vec::new(alloc);
         let Some(keys) = self.keys.get(value) else {
-            return Ok(Terms::from_vec(found));
+            return Ok(SharedTerms::from_picked(found));
         };
         for key in keys.iter() {
-            self.append(alloc, &mut found, rows.at(key), value)?;
-        }
-        Ok(Terms::from_vec(found))
-    }
-
-    // Appends copies of those records that have the value.
-    fn append(
-        &self,
-        alloc: Global,
-        found: &mut Vec<Term>,
-        records: &[Term],
-        value: &Term,
-    ) -> Result<(), AllocError>
-        ensures { OnOk result (terms_list (terms found.new.items) ≡ terms_list (terms found.old.items) ++ index_read (terms_list (terms records.now)) self.now.position (term value.now)) }
-    {
-        let nothing = Nothing::new(alloc);
-        for row in records {
-            if element(row, self.position, &nothing) != value {
-                continue;
+            if let Some(entry) = rows.entry(key) {
+                push_with_value(alloc, &mut found, entry, self.position, value)?;
             }
-            found.push(row.try_clone(alloc)?)?;
         }
-        Ok(())
+        Ok(SharedTerms::from_picked(found))
     }
 }

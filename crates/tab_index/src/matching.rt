@@ -1,29 +1,34 @@
-//! The records that fit a pattern.
+//! The records that fit a pattern, or have a value.
 
 ghost use Rattle.std.specs.Prelude.{◌≡◌, ◌++◌, OnOk, IfOk, option_map};
 ghost use Rattle.std.specs.Option.{option_copied};
-ghost use Rattle.tab_term.specs.View.{term, terms};
+ghost use Rattle.tab_term.specs.View.{term};
 ghost use Rattle.tab_model.specs.Names.{plain_terms, terms_list};
-ghost use Rattle.tab_model.specs.WholeTables.{match_object as match_object_in};
+ghost use Rattle.tab_model.specs.WholeTables.{match_object as match_object_in, index_read};
 ghost use Rattle.tab_index.specs.BoundKey.{bound_key as bound_key_of};
 
+use crate::element::{Nothing, element};
 use std::alloc::{AllocError, Global};
+use tab_map::Entry;
 use tab_rows::Rows;
+use tab_shared::{SharedRecord, SharedTerms};
 use tab_term::{Term, Terms, has_wildcard, matches};
 
-/// Copies of the records that fit the pattern. Where it has a key without a wildcard, no other key is looked at.
-pub fn match_object(alloc: Global, rows: &Rows, pattern: &Term) -> Result<Terms, AllocError>
+/// The records that fit the pattern, shared with the table. Where it has a key without a wildcard, no other key is looked at.
+pub fn match_object(alloc: Global, rows: &Rows, pattern: &Term) -> Result<SharedTerms, AllocError>
     ensures { IfOk result (λ found. found ≡ plain_terms (match_object_in rows.now.1 (term pattern.now))) }
 {
     let mut found = Vec::new(alloc);
     if let Some(key) = bound_key(pattern) {
-        append(alloc, &mut found, rows.at(key), pattern)?;
-        return Ok(Terms::from_vec(found));
+        if let Some(entry) = rows.entry(key) {
+            push_matches(alloc, &mut found, entry, pattern)?;
+        }
+        return Ok(SharedTerms::from_picked(found));
     }
-    for (_, records) in rows.walk() {
-        append(alloc, &mut found, records.as_slice(), pattern)?;
+    for entry in rows.walk() {
+        push_matches(alloc, &mut found, entry, pattern)?;
     }
-    Ok(Terms::from_vec(found))
+    Ok(SharedTerms::from_picked(found))
 }
 
 /// The key of the pattern, where no `'_'` stands in it: what fits the pattern has that key.
@@ -39,20 +44,40 @@ pub fn bound_key(pattern: &Term) -> Option<&Term>
     }
 }
 
-// Appends copies of those records that fit the pattern.
-fn append(
+/// Puts those records of a key's entry behind these that fit the pattern.
+pub fn push_matches(
     alloc: Global,
-    found: &mut Vec<Term>,
-    records: &[Term],
+    found: &mut Vec<SharedRecord>,
+    entry: &Entry<Term, Terms>,
     pattern: &Term,
 ) -> Result<(), AllocError>
-    ensures { OnOk result (terms_list (terms found.new.items) ≡ terms_list (terms found.old.items) ++ match_object_in (terms_list (terms records.now)) (term pattern.now)) }
+    ensures { OnOk result (found.new.items ≡ found.old.items ++ match_object_in (terms_list entry.now.1) (term pattern.now)) }
 {
-    for row in records {
-        if !matches(pattern, row) {
+    for (place, record) in entry.pair().1.as_slice().iter().enumerate() {
+        if !matches(pattern, record) {
             continue;
         }
-        found.push(row.try_clone(alloc)?)?;
+        found.push(SharedRecord::new(alloc, entry, place)?)?;
+    }
+    Ok(())
+}
+
+/// Puts those records of a key's entry behind these that have the value at the position.
+pub fn push_with_value(
+    alloc: Global,
+    found: &mut Vec<SharedRecord>,
+    entry: &Entry<Term, Terms>,
+    position: u64,
+    value: &Term,
+) -> Result<(), AllocError>
+    ensures { OnOk result (found.new.items ≡ found.old.items ++ index_read (terms_list entry.now.1) position (term value.now)) }
+{
+    let nothing = Nothing::new(alloc);
+    for (place, record) in entry.pair().1.as_slice().iter().enumerate() {
+        if element(record, position, &nothing) != value {
+            continue;
+        }
+        found.push(SharedRecord::new(alloc, entry, place)?)?;
     }
     Ok(())
 }

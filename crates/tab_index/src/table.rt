@@ -1,4 +1,4 @@
-ghost use Rattle.std.specs.Prelude.{◌≡◌, [], IfOk, IfSome, OnOk, OnErr, is_some, true, if◌then◌else◌, Some, None, length, map};
+ghost use Rattle.std.specs.Prelude.{◌≡◌, [], IfOk, IfSome, MatchOption, OnOk, OnErr, is_some, true, if◌then◌else◌, Some, None, length, map};
 ghost use Rattle.std.specs.List.{All};
 ghost use Rattle.std.specs.Option.{option_copied};
 ghost use Rattle.tab_term.specs.View.{term, terms};
@@ -18,10 +18,11 @@ use std::alloc::{AllocError, Global};
 use std::marker::Model;
 use std::slice;
 use std::sync::Arc;
-use tab_map::{Iter, Set};
+use tab_map::{Entry, Iter, Map, Set};
 use tab_model::{Change, TableDef};
 use tab_rows::Rows;
 use tab_schema::with_positions;
+use tab_shared::SharedTerms;
 use tab_term::{Term, Terms};
 
 /// A table: its definition, which its versions share, its records, and their indexes.
@@ -105,11 +106,26 @@ impl IndexedTable {
         self.rows.walk()
     }
 
-    /// Copies of the keys, each once, in their order.
-    pub fn keys(&self, alloc: Global) -> Result<Terms, AllocError>
+    /// The keys, each once, in their order. All is shared with the table, and no memory taken.
+    pub fn keys(&self) -> Result<SharedTerms, AllocError>
         ensures { IfOk result (λ keys. keys ≡ plain_terms (keys_of_rows self.now.rows)) }
     {
-        self.rows.keys(alloc)
+        self.rows.keys()
+    }
+
+    /// The keys, each with its records in the order of their insertion, as a map that shares all with the table.
+    pub fn by_key(&self) -> Result<Map<Term, Terms>, AllocError>
+        ensures records { IfOk result (λ map. joined map ≡ self.now.rows) }
+        ensures order { IfOk result IsInOrder }
+    {
+        self.rows.by_key()
+    }
+
+    /// The key with its records, in the order of their insertion. None where it has none.
+    pub fn entry(&self, key: &Term) -> Option<&Entry<Term, Terms>>
+        ensures { MatchOption result (at self.now.rows (term key.now) ≡ []) (λ e. e.now.1 ≡ plain_terms (at self.now.rows (term key.now))) }
+    {
+        self.rows.entry(key)
     }
 
     /// The records of the key, in the order of their insertion, without memory.
@@ -119,21 +135,21 @@ impl IndexedTable {
         self.rows.at(key)
     }
 
-    /// Copies of the records of the key, in the order of their insertion.
-    pub fn read(&self, alloc: Global, key: &Term) -> Result<Terms, AllocError>
+    /// The records of the key, in the order of their insertion: they are shared with the table, and no memory taken.
+    pub fn read(&self, alloc: Global, key: &Term) -> Result<SharedTerms, AllocError>
         ensures { IfOk result (λ records. records ≡ plain_terms (at self.now.rows (term key.now))) }
     {
         self.rows.read(alloc, key)
     }
 
-    /// Copies of the records that have the value at the position, by keys, and of each key in the order of their
-    /// insertion. None where the position has no index.
+    /// The records that have the value at the position, shared with the table: by keys, and of each key in the order of
+    /// their insertion. None where the position has no index.
     pub fn index_read(
         &self,
         alloc: Global,
         position: u64,
         value: &Term,
-    ) -> Result<Option<Terms>, AllocError>
+    ) -> Result<Option<SharedTerms>, AllocError>
         ensures { IfOk result (λ found. found ≡ (if has_number self.now.def.indexes position then Some (plain_terms (index_read_in self.now.rows position (term value.now))) else None)) }
     {
         match self.index_at(position) {
@@ -166,9 +182,9 @@ impl IndexedTable {
         None
     }
 
-    /// Copies of the records that fit the pattern, by keys, and of each key in the order of their insertion. Where no
-    /// `'_'` stands in the pattern's key, no other key is looked at.
-    pub fn match_object(&self, alloc: Global, pattern: &Term) -> Result<Terms, AllocError>
+    /// The records that fit the pattern, shared with the table: by keys, and of each key in the order of their insertion.
+    /// Where no `'_'` stands in the pattern's key, no other key is looked at.
+    pub fn match_object(&self, alloc: Global, pattern: &Term) -> Result<SharedTerms, AllocError>
         ensures { IfOk result (λ found. found ≡ plain_terms (match_object_in self.now.rows (term pattern.now))) }
     {
         matching::match_object(alloc, &self.rows, pattern)

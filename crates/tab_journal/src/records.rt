@@ -47,10 +47,7 @@ impl<'a> Records<'a> {
         ensures { MatchOption result ((self.old ≡ []) × (self.new ≡ [])) (λ row. self.old ≡ term row.now ∷ self.new) }
     {
         while self.left.is_empty() {
-            let Some((_, records)) = self.walk.next() else {
-                return None;
-            };
-            self.left = records.as_slice();
+            self.left = self.walk.next()?.pair().1.as_slice();
         }
         let (first, rest) = self.left.split_first()?;
         self.left = rest;

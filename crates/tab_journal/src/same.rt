@@ -3,27 +3,26 @@
 ghost use Rattle.std.specs.Prelude.{◌≡◌, ◌&&◌};
 ghost use Rattle.std.specs.Str.{bytes_eq};
 ghost use Rattle.tab_term.specs.Same.{all_same};
-ghost use Rattle.tab_term.specs.View.{terms};
 ghost use Rattle.tab_journal.specs.Audits.{is_done as is_done_of, is_found as is_found_of, is_no_table as is_no_table_of, is_bad_type as is_bad_type_of, is_no_index as is_no_index_of, is_answer as is_answer_of, is_tid as is_tid_of, is_atomic_ok as is_atomic_ok_of, same_def, same_kind, same_names, same_numbers, same_rows, same_table, same_tables};
 
 use crate::records::Records;
 use tab_index::IndexedTable;
 use tab_model::{Kind, Reply, TableDef, Told};
+use tab_shared::SharedTerms;
 use tab_term::{Atom, Term};
 use tab_world::World;
 
-fn are_same(ones: &[Term], others: &[Term]) -> bool
-    ensures { result ≡ all_same (terms ones.now) (terms others.now) }
+fn are_same(ones: &SharedTerms, others: &SharedTerms) -> bool
+    ensures { result ≡ all_same ones.now others.now }
 {
-    if ones.len() != others.len() {
-        return false;
-    }
-    for (place, one) in ones.iter().enumerate() {
-        if *one != others[place] {
-            return false;
+    let mut left = others.iter();
+    for one in ones.iter() {
+        match left.next() {
+            Some(other) if *one == *other => {}
+            _ => return false,
         }
     }
-    true
+    left.next().is_none()
 }
 
 fn is_done(told: &Reply) -> bool
@@ -32,11 +31,11 @@ fn is_done(told: &Reply) -> bool
     matches!(told, Reply::Done)
 }
 
-fn is_found(records: &[Term], told: &Reply) -> bool
-    ensures { result ≡ is_found_of (terms records.now) told.now }
+fn is_found(records: &SharedTerms, told: &Reply) -> bool
+    ensures { result ≡ is_found_of records.now told.now }
 {
     match told {
-        Reply::Found(others) => are_same(records, others.as_slice()),
+        Reply::Found(others) => are_same(records, others),
         _ => false,
     }
 }
@@ -74,7 +73,7 @@ pub fn is_answer(answer: &Reply, told: &Reply) -> bool
 {
     match answer {
         Reply::Done => is_done(told),
-        Reply::Found(records) => is_found(records.as_slice(), told),
+        Reply::Found(records) => is_found(records, told),
         Reply::NoTable(name) => is_no_table(name, told),
         Reply::BadType(name, row) => is_bad_type(name, row, told),
         Reply::NoIndex(name, attribute) => is_no_index(name, attribute, told),
@@ -201,9 +200,9 @@ pub fn are_same_tables(ones: &World, others: &World) -> bool
     ensures { result ≡ same_tables ones.now others.now }
 {
     let mut left = others.tables();
-    for (_, one) in ones.tables() {
+    for one in ones.tables() {
         match left.next() {
-            Some((_, other)) if is_same_table(one, other) => {}
+            Some(other) if is_same_table(&one.pair().1, &other.pair().1) => {}
             _ => return false,
         }
     }

@@ -11,10 +11,10 @@ use Rattle.tab_map.specs.contracts.Map as Map
 use Rattle.tab_map.specs.contracts.entry.Entry as Entry
 
 module _ (K V : RattleType) (a : key.Ghosts K.Denot) (o : ord.Ghosts K.Denot) (e : eq.Ghosts K.Denot) (p : partial.Ghosts K.Denot) where
-  Entry-send : IsSend K → IsSync K → IsSend V → IsSync V → IsSend (Entry.the_row K V a o e p)
+  pub Entry-send : IsSend K → IsSync K → IsSend V → IsSync V → IsSend (Entry.the_row K V a o e p)
   Entry-send sk yk sv yv = search (Arc-send, sendable) depth 20
 
-  Entry-sync : IsSend K → IsSync K → IsSend V → IsSync V → IsSync (Entry.the_row K V a o e p)
+  pub Entry-sync : IsSend K → IsSync K → IsSend V → IsSync V → IsSync (Entry.the_row K V a o e p)
   Entry-sync sk yk sv yv = search (Arc-sync, sendable) depth 20
 
   pub Map-send : IsSend K → IsSync K → IsSend V → IsSync V → IsSend (Map.the_row K V a o e p)

@@ -9,7 +9,7 @@ use tab_key::Abbreviate;
 /// stands in no row, so none are behind it.
 #[derive(Drop)]
 pub struct Ahead<'a, K: Abbreviate, V> {
-    pub next: Option<&'a (K, V)>,
+    pub next: Option<&'a Entry<K, V>>,
     pub row: &'a [Entry<K, V>],
 }
 
@@ -24,7 +24,7 @@ impl<'a, K: Abbreviate + Drop, V: Drop> Ahead<'a, K, V> {
                 row: items,
             },
             [next, row @ ..] => Ahead {
-                next: Some(next.pair()),
+                next: Some(next),
                 row,
             },
         }
@@ -35,7 +35,7 @@ impl<'a, K: Abbreviate + Drop, V: Drop> Ahead<'a, K, V> {
         ensures { (after : List (K × V)) → AreAhead result (entry.now ∷ after) }
     {
         Ahead {
-            next: Some(entry.pair()),
+            next: Some(entry),
             row: &[],
         }
     }

@@ -38,7 +38,7 @@ impl<K: Abbreviate + Drop, V: Drop> Entry<K, V> {
     }
 
     /// The same entry. It allocates nothing: the error is a count of owners that is full, at 2^63.
-    pub(crate) fn try_clone(&self) -> Result<Entry<K, V>, AllocError>
+    pub fn try_clone(&self) -> Result<Entry<K, V>, AllocError>
         ensures { IfOk result (λ e. e ≡ self.now) }
     {
         Ok(Entry {

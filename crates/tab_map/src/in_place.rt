@@ -19,7 +19,15 @@ impl<K: Abbreviate + Drop, V: Drop> Map<K, V> {
         ensures ok { OnOk result (self.new ≡ insert_entry K.cmp (key, value) self.old) }
         ensures err { OnErr result (self.new ≡ self.old) }
     {
-        self.replace(alloc, key, value)?;
+        self.insert_entry(alloc, Entry::new(alloc, (key, value))?)
+    }
+
+    /// Puts this entry, which another map may hold too, in place of the entry at its key, or as a new one.
+    pub fn insert_entry(&mut self, alloc: Global, entry: Entry<K, V>) -> Result<(), AllocError>
+        ensures ok { OnOk result (self.new ≡ insert_entry K.cmp entry self.old) }
+        ensures err { OnErr result (self.new ≡ self.old) }
+    {
+        self.replace_entry(alloc, entry)?;
         Ok(())
     }
 
@@ -34,7 +42,19 @@ impl<K: Abbreviate + Drop, V: Drop> Map<K, V> {
         ensures replaced { IfOk result (λ o. option_map (λ e. e.1) o ≡ lookup K.cmp key self.old) }
         ensures err { OnErr result (self.new ≡ self.old) }
     {
-        let entry = Entry::new(alloc, (key, value))?;
+        self.replace_entry(alloc, Entry::new(alloc, (key, value))?)
+    }
+
+    // Puts the entry at its place, and a node over the root where that is too long then.
+    fn replace_entry(
+        &mut self,
+        alloc: Global,
+        entry: Entry<K, V>,
+    ) -> Result<Option<Entry<K, V>>, AllocError>
+        ensures ok { OnOk result (self.new ≡ insert_entry K.cmp entry self.old) }
+        ensures replaced { IfOk result (λ o. option_map (λ e. e.1) o ≡ lookup K.cmp entry.0 self.old) }
+        ensures err { OnErr result (self.new ≡ self.old) }
+    {
         let replaced = self.put(alloc, entry)?;
         self.grow(alloc);
         Ok(replaced)

@@ -6,7 +6,7 @@ ghost use Rattle.tab_map.specs.Entries.{Ascends, entries_from};
 
 use crate::Map;
 use crate::ahead::Ahead;
-use crate::entry::Sought;
+use crate::entry::{Entry, Sought};
 use std::iter::FusedIterator;
 use std::marker::Model;
 use tab_key::Abbreviate;
@@ -63,7 +63,7 @@ impl<K: Abbreviate + Drop, V: Drop> Map<K, V> {
 
 impl<'a, K: Abbreviate + Drop, V: Drop> Iter<'a, K, V> {
     /// The entry that comes next. It stays the next one.
-    pub fn peek(&self) -> Option<&'a (K, V)>
+    pub fn peek(&self) -> Option<&'a Entry<K, V>>
         ensures { option_copied result ≡ slice_get self.now 0 }
     {
         self.ahead.next
@@ -81,16 +81,16 @@ impl<'a, K: Abbreviate + Drop, V: Drop> Iter<'a, K, V> {
 }
 
 impl<'a, K: Abbreviate + Drop, V: Drop> Iterator for Iter<'a, K, V> {
-    type Item = &'a (K, V);
+    type Item = &'a Entry<K, V>;
 
     ghost next_gives = { YieldsFirstRef (λ left. left) };
 
     ghost remaining = { item_count (λ left. left) };
 
-    fn next(&mut self) -> Option<&'a (K, V)> {
+    fn next(&mut self) -> Option<&'a Entry<K, V>> {
         let entry = self.ahead.next?;
         self.ahead = match self.ahead.row {
-            [] => self.map.next_above(&Sought::new(&entry.0)),
+            [] => self.map.next_above(&entry.sought()),
             row => Ahead::in_row(row),
         };
         Some(entry)

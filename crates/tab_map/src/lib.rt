@@ -10,7 +10,7 @@
 #![tactic(auto)]
 
 ghost use Rattle.std.specs.Prelude.{◌≡◌, ◌↔◌, ◌≤◌, [], ◌∷◌, ◌++◌, IfOk, MatchOption, IsTrue, length, slice_get, is_some};
-ghost use Rattle.std.specs.Option.{option_copied};
+ghost use Rattle.std.specs.Option.{option_copied, option_map};
 ghost use Rattle.tab_map.specs.Entries.{Ascends, lookup, insert_entry, remove_entry, entries_from, entries_above};
 ghost use Rattle.tab_map.specs.Ahead.{AreAhead};
 
@@ -197,18 +197,29 @@ impl<K: Abbreviate + Drop, V: Drop> Map<K, V> {
         ensures value { option_copied result ≡ lookup K.cmp key.now self.now }
         ensures ascends { Ascends K.cmp self.now }
     {
+        match self.get_entry(key) {
+            Some(entry) => Some(&entry.pair().1),
+            None => None,
+        }
+    }
+
+    /// The entry at the key.
+    pub fn get_entry(&self, key: &K) -> Option<&Entry<K, V>>
+        ensures value { option_map (λ e. e.1) (option_copied result) ≡ lookup K.cmp key.now self.now }
+        ensures ascends { Ascends K.cmp self.now }
+    {
         self.find(&Sought::new(key))
     }
 
-    fn find(&self, sought: &Sought<K>) -> Option<&V>
-        ensures value { option_copied result ≡ lookup K.cmp sought.now self.now }
+    fn find(&self, sought: &Sought<K>) -> Option<&Entry<K, V>>
+        ensures value { option_map (λ e. e.1) (option_copied result) ≡ lookup K.cmp sought.now self.now }
         ensures ascends { Ascends K.cmp self.now }
     {
         match &self.root {
             Tree::Empty => None,
             Tree::Leaf(items) => row::get(items.as_slice(), sought),
             Tree::Node(node) => match branches::place(&node.branches, sought) {
-                Ok(n) => Some(&node.branches[n].entry.pair().1),
+                Ok(n) => Some(&node.branches[n].entry),
                 Err(n) => match node.branches.get(n) {
                     Some(branch) => branch.below.find(sought),
                     None => node.last.find(sought),
@@ -225,7 +236,7 @@ impl<K: Abbreviate + Drop, V: Drop> Map<K, V> {
     }
 
     /// The entry with the least key.
-    pub fn first(&self) -> Option<&(K, V)>
+    pub fn first(&self) -> Option<&Entry<K, V>>
         ensures entry { option_copied result ≡ slice_get self.now 0 }
         ensures ascends { Ascends K.cmp self.now }
     {
@@ -248,7 +259,7 @@ impl<K: Abbreviate + Drop, V: Drop> Map<K, V> {
     }
 
     /// The entry with the least key that is the given key or above it.
-    pub fn first_from(&self, key: &K) -> Option<&(K, V)>
+    pub fn first_from(&self, key: &K) -> Option<&Entry<K, V>>
         ensures entry { option_copied result ≡ slice_get (entries_from K.cmp key.now self.now) 0 }
         ensures ascends { Ascends K.cmp self.now }
     {
@@ -273,7 +284,7 @@ impl<K: Abbreviate + Drop, V: Drop> Map<K, V> {
     }
 
     /// The entry with the least key above the given key.
-    pub fn first_above(&self, key: &K) -> Option<&(K, V)>
+    pub fn first_above(&self, key: &K) -> Option<&Entry<K, V>>
         ensures entry { option_copied result ≡ slice_get (entries_above K.cmp key.now self.now) 0 }
         ensures ascends { Ascends K.cmp self.now }
     {

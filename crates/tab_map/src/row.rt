@@ -36,16 +36,16 @@ fn place<K: Abbreviate + Drop, V: Drop>(
     )
 }
 
-/// The value at the key.
+/// The entry at the key.
 pub fn get<'a, K: Abbreviate + Drop, V: Drop>(
     items: &'a [Entry<K, V>],
     sought: &Sought<K>,
-) -> Option<&'a V>
+) -> Option<&'a Entry<K, V>>
     requires { Ascends K.cmp items.now }
-    ensures { option_copied result ≡ lookup K.cmp sought.now items.now }
+    ensures { option_map (λ e. e.1) (option_copied result) ≡ lookup K.cmp sought.now items.now }
 {
     match place(items, sought) {
-        Ok(n) => Some(&items[n].pair().1),
+        Ok(n) => Some(&items[n]),
         Err(_) => None,
     }
 }

@@ -125,7 +125,7 @@ impl<'a, K: Abbreviate + Drop> Iterator for Keys<'a, K> {
 
     fn next(&mut self) -> Option<&'a K> {
         let entry = self.entries.next()?;
-        Some(&entry.0)
+        Some(&entry.pair().0)
     }
 }
 

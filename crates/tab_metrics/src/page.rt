@@ -26,9 +26,11 @@ impl Holdings {
             records: 0,
             entries: book.journal().len() as u64,
         };
-        for (_name, table) in book.tables().tables() {
+        for entry in book.tables().tables() {
             holdings.tables = holdings.tables.saturating_add(1);
-            holdings.records = holdings.records.saturating_add(table.size() as u64);
+            holdings.records = holdings
+                .records
+                .saturating_add(entry.pair().1.size() as u64);
         }
         holdings
     }

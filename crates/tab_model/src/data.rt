@@ -1,6 +1,7 @@
 //! Data that code and definitions share. Ages, numbers of sessions and commits, and positions are from 1 on.
 use crate::lists::{Atoms, Moves, Numbers, Parts, Replies};
-use tab_term::{Atom, SharedTerms, Term, Terms};
+use tab_shared::SharedTerms;
+use tab_term::{Atom, Term, Terms};
 
 /// The type of a table: a set keeps one record for each key, a bag several different ones (Mnesia Reference Manual,
 /// `create_table/2`).
@@ -83,7 +84,7 @@ pub enum Change {
 pub struct Event {
     pub tab: Atom,
     pub change: Change,
-    pub old: Terms,
+    pub old: SharedTerms,
     pub age: u64,
 }
 
@@ -97,7 +98,7 @@ pub enum Ending {
 /// An item of an outbox: a begin mark (with the table's records where a dump was asked for), the events of one commit, an
 /// end mark.
 pub enum Item {
-    Began(Atom, Level, Option<Terms>),
+    Began(Atom, Level, Option<SharedTerms>),
     Batch(u64, SharedTerms),
     Ended(Atom, Ending),
 }
@@ -192,7 +193,7 @@ pub enum Reply {
     AtomicTerms(Terms),
     NoMore,
     NoWait,
-    Found(Terms),
+    Found(SharedTerms),
     SubscribedHere,
     Told(TableInfo),
     Taken(Item),
@@ -307,7 +308,8 @@ impl Drop for Reply {
             | Reply::NoIndex(name, term)
             | Reply::BadDefinition(name, term) => drop((name, term)),
             Reply::UserAbort(reason) => drop(reason),
-            Reply::AtomicTerms(terms) | Reply::Found(terms) => drop(terms),
+            Reply::AtomicTerms(terms) => drop(terms),
+            Reply::Found(terms) => drop(terms),
             Reply::Told(info) => drop(info),
             Reply::Taken(item) => drop(item),
             Reply::SystemLimit(_) | Reply::Tid(_) | Reply::Atomic(_) | Reply::Overflow(_) => {}

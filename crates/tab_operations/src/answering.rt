@@ -10,7 +10,8 @@ use std::alloc::{AllocError, Global};
 use tab_index::IndexedTable;
 use tab_model::{Operation, Reply};
 use tab_schema::{fits, has_index, position};
-use tab_term::{Atom, Term, Terms};
+use tab_shared::SharedTerms;
+use tab_term::{Atom, Term};
 use tab_txstore::TxStore;
 
 /// What an operation answers.
@@ -18,7 +19,7 @@ use tab_txstore::TxStore;
 pub enum Answer {
     Done,
     /// Records or keys.
-    Found(Terms),
+    Found(SharedTerms),
     NoTable(Atom),
     BadType(Atom, Term),
     NoIndex(Atom, Term),

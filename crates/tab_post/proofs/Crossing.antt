@@ -7,10 +7,9 @@ use denote.Param.SendFields.{as_row_send, declared_send, variants_send}
 use Rattle.std.proofs.alloc.Global.TheSendSync as global_marks
 use Rattle.std.below.std_heap.proofs.GlobalAllocator.TheSendSync as heap_marks
 use Rattle.tab_term.proofs.atom.Atom.TheSendSync as atom_marks
-use Rattle.tab_term.proofs.Crossing.{Terms-send, SharedTerms-send}
+use Rattle.tab_shared.proofs.Crossing.{SharedTerms-send}
 use Rattle.tab_term.specs.contracts.atom.Atom as atom
-use Rattle.tab_term.specs.contracts.term.Terms as terms
-use Rattle.tab_term.specs.contracts.shared.SharedTerms as shared_terms
+use Rattle.tab_shared.specs.contracts.shared_terms.SharedTerms as shared_terms
 use Rattle.tab_model.specs.contracts.data.Item as item
 use Rattle.tab_post.specs.contracts.post.ChannelPost as post
 use Rattle.tab_post.specs.contracts.rule.Hand as hand
@@ -37,7 +36,7 @@ atom_field = as_row_send atom.the_field atom_marks.the_send
 item_send : IsSend item.the_row
 item_send =
     variants_send item.enum (
-      (atom_field, (level_marks.the_send, (option_marks.the_send terms.the_row Terms-send, tt))),
+      (atom_field, (level_marks.the_send, (option_marks.the_send shared_terms.the_row SharedTerms-send, tt))),
       (
         (as_row_send u64-field (plain_send _ _ _ _ _), (events_field, tt)),
         ((atom_field, (ending_marks.the_send, tt)), tt),

@@ -3,7 +3,6 @@
 ghost use Rattle.std.specs.Prelude.{◌≡◌, ◌++◌, ◌∷◌, OnOk};
 ghost use Rattle.tab_model.specs.declared.data.Reply.TheVariants as told;
 ghost use Rattle.tab_term.specs.Canon.{canon};
-ghost use Rattle.tab_term.specs.Data.{plain_terms};
 ghost use Rattle.tab_etf.specs.Frames.{frame};
 ghost use Rattle.tab_proto.specs.Events.{event_frames, item_frames, sent_frames};
 ghost use Rattle.tab_proto.specs.Replies.{reply_term};
@@ -11,7 +10,7 @@ ghost use Rattle.tab_proto.specs.Replies.{reply_term};
 use crate::replying::{item_outline, outline_of};
 use tab_etf::{EncodeFault, append_frame, append_outline};
 use tab_model::{Item, Reply};
-use tab_term::SharedTerm;
+use tab_shared::SharedTerms;
 
 /// How a commit's events are sent.
 #[derive(Clone, Copy, Debug, PartialEq, Eq)]
@@ -37,16 +36,16 @@ fn append_apart(item: &Item, out: &mut Vec<u8>) -> Result<(), EncodeFault>
     ensures { OnOk result (out.new.items ≡ out.old.items ++ item_frames item.now) }
 {
     match item {
-        Item::Batch(_, events) => append_events(events.as_slice(), out),
+        Item::Batch(_, events) => append_events(events, out),
         mark => append_outline(&item_outline(mark), out),
     }
 }
 
-fn append_events(events: &[SharedTerm], out: &mut Vec<u8>) -> Result<(), EncodeFault>
-    ensures { OnOk result (out.new.items ≡ out.old.items ++ event_frames (plain_terms events.now)) }
+fn append_events(events: &SharedTerms, out: &mut Vec<u8>) -> Result<(), EncodeFault>
+    ensures { OnOk result (out.new.items ≡ out.old.items ++ event_frames events.now) }
 {
-    for event in events {
-        append_frame(event.as_term(), out)?;
+    for event in events.iter() {
+        append_frame(event, out)?;
     }
     Ok(())
 }

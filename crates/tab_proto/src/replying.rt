@@ -15,7 +15,8 @@ use tab_etf::{
     Body, EncodeFault, FrameFault, Leaf, Outline, Target, append_outline, write_outline,
 };
 use tab_model::{Ending, Item, Kind, Level, Limit, Reply, TableInfo};
-use tab_term::{Atom, Term, Terms};
+use tab_shared::SharedTerms;
+use tab_term::{Atom, Term};
 
 /// Writes the frame of `{Session, Reply}`, or of `{reply, Reply}` where no session is named.
 ///
@@ -76,7 +77,7 @@ pub(crate) fn outline_of(reply: &Reply) -> Outline<'_>
         Reply::AlreadySubscribed(table) => told_in("error", "already_subscribed", named(table)),
         Reply::NotSubscribed(table) => told_in("error", "not_subscribed", named(table)),
         Reply::AtomicTerms(replies) => worded("atomic", Leaf::List(replies)),
-        Reply::Found(rows) => alone(Leaf::List(rows)),
+        Reply::Found(rows) => alone(Leaf::SharedList(rows)),
         Reply::Told(info) => info_outline(info),
         Reply::Taken(item) => item_outline(item),
         Reply::SystemLimit(limit) => {
@@ -254,7 +255,7 @@ pub(crate) fn item_outline(item: &Item) -> Outline<'_>
 }
 
 /// `{mnesia_table_begin, Tab, Level, Records}`.
-fn dump_outline<'a>(table: &'a Atom, level: Level, records: &'a Terms) -> Outline<'a>
+fn dump_outline<'a>(table: &'a Atom, level: Level, records: &'a SharedTerms) -> Outline<'a>
     ensures { IsOutlineOf result (item_term_of (Item.Began table.now level (Some records.now))) }
 {
     Outline {
@@ -264,7 +265,7 @@ fn dump_outline<'a>(table: &'a Atom, level: Level, records: &'a Terms) -> Outlin
             Leaf::Word("mnesia_table_begin"),
             named(table),
             Leaf::Word(level_word(level)),
-            Leaf::List(records),
+            Leaf::SharedList(records),
         ),
     }
 }

@@ -18,7 +18,7 @@ pub fn told_term(alloc: Global, reply: &Reply) -> Result<Term, AllocError>
 {
     match reply {
         Reply::Done => word(alloc, "ok"),
-        Reply::Found(rows) => Ok(Term::List(rows.try_clone(alloc)?)),
+        Reply::Found(rows) => Ok(Term::List(rows.to_terms(alloc)?)),
         Reply::UserAbort(reason) => worded(alloc, "aborted", reason.try_clone(alloc)?),
         Reply::NoTable(table) => {
             let fault = word(alloc, "no_exists")?;

@@ -1,6 +1,8 @@
 -- What stands at each key of records kept by key, and after a change.
 use Rattle.std.proofs.Common.{◌≡◌, List, [], ◌∷◌, ◌++◌, Bool, true, false, ◌&&◌, ◌||◌, refl, sym, ap, ap₂, ◌∙◌, subst, Option, Some, None, Ordering, Less, Equal, Greater, append-nil, nat_cmp}
-use Rattle.std.specs.Prelude.{if◌then◌else◌}
+use Rattle.std.specs.Prelude.{if◌then◌else◌, MatchOption}
+use Rattle.std.specs.Option.{option_copied, option_map}
+use denote.Ref.{Bor}
 use Rattle.std.specs.List.{filter, list_all, list_any}
 use Rattle.std.specs.Ordering.{match_ordering, is_lt}
 use Rattle.std.specs.Cmp.Lexicographic.{slice_cmp}
@@ -215,8 +217,10 @@ plain-list (Rattle.tab_term.specs.Data.one_more t ts) = ap (Rattle.tab_term.spec
 pub at_found : (es : List Entry) (q : Term) (ts : PlainTerms) → IsInOrder es → Some ts ≡ lookup term_cmp q es → ts ≡ plain_terms (at (joined es) (term q))
 at_found es q ts o h = sym (plain-list ts) ∙ ap plain_terms (ap found_in h ∙ sym (at-joined es q o.ascends o.keyed))
 
-pub at_missing : (es : List Entry) (q : Term) → IsInOrder es → None ≡ lookup term_cmp q es → Rattle.tab_term.specs.Data.none ≡ plain_terms (at (joined es) (term q))
-at_missing es q o h = ap plain_terms (ap found_in h ∙ sym (at-joined es q o.ascends o.keyed))
+pub at_entry : (es : List Entry) (q : Term) (o : Option (Bor Entry)) → IsInOrder es → option_map (λ e. e.1) (option_copied o) ≡ lookup term_cmp q es
+    → MatchOption o (at (joined es) (term q) ≡ []) (λ e. e.now.1 ≡ plain_terms (at (joined es) (term q)))
+at_entry es q None o h = at-joined es q o.ascends o.keyed ∙ ap found_in (sym h)
+at_entry es q (Some e) o h = at_found es q e.now.1 o h
 
 order_insert : (k : Term) (ts : PlainTerms) (es : List Entry) → IsInOrder es → IsKeyed (k, ts) → IsInOrder (insert_entry term_cmp (k, ts) es)
 order_insert k ts es o h = record { ascends = ascends_insert term_total (k, ts) es o.ascends; keyed = keyed_insert (k, ts) es h o.keyed }

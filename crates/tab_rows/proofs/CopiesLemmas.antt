@@ -1,16 +1,14 @@
 -- Terms that a loop copies one after another.
-use Rattle.std.proofs.Common.{◌≡◌, ℕ, ◌+◌, ◌<◌, List, [], ◌∷◌, ◌++◌, Bool, true, false, not, length, drop, get_or, refl, sym, ap, ◌∙◌, append-nil}
+use Rattle.std.proofs.Common.{◌≡◌, ℕ, ◌+◌, ◌<◌, List, [], ◌∷◌, ◌++◌, Bool, true, false, not, length, drop, get_or, refl, sym, ap, ◌∙◌}
 use Rattle.std.specs.Prelude.{if◌then◌else◌}
 use Rattle.std.proofs.lemmas.List.{at_drop_more}
 use Rattle.tab_term.specs.declared.term.Term.{Term}
 use Rattle.tab_term.specs.View.{term, terms}
 use Rattle.tab_term.specs.Data.{PlainTerm, PlainTerms}
 use Rattle.tab_term.specs.Same.{same}
-use Rattle.tab_model.specs.Names.{plain_terms, terms_list}
+use Rattle.tab_model.specs.Names.{terms_list}
 use Rattle.tab_model.specs.Tables.{Rows, delete_object}
-use Rattle.tab_rows.specs.Joined.{Entry, followed_by}
-use Rattle.tab_rows.proofs.Cells.{plain-list}
-use Rattle.tab_rows.proofs.KeysLemmas.{entry_keys}
+use Rattle.tab_rows.specs.Joined.{followed_by}
 
 -- one more after them
 pub terms_snoc : (ts : List Term) (t : Term) → terms (ts ++ t ∷ []) ≡ followed_by (terms ts) (term t)
@@ -24,15 +22,6 @@ copied_before copies new copy t rest p q = ap (λ z. terms_list (terms z) ++ res
     moved : (ts : List Term) → terms_list (terms (ts ++ copy ∷ [])) ++ rest ≡ terms_list (terms ts) ++ (term copy ∷ rest)
     moved [] = refl
     moved (u ∷ ts) = ap (λ z. term u ∷ z) (moved ts)
-
--- a key
-pub next_key : (copies new : List Term) (copy : Term) (e : Entry) (left after : List Entry) (all : Rows) → new ≡ copies ++ copy ∷ [] → copy ≡ e.0 → left ≡ e ∷ after → terms_list (terms copies) ++ entry_keys left ≡ all
-    → terms_list (terms new) ++ entry_keys after ≡ all
-next_key copies new copy e left after all p q r h = copied_before copies new copy e.0 (entry_keys after) p q ∙ ap (λ z. terms_list (terms copies) ++ entry_keys z) (sym r) ∙ h
-
-pub all_keys : (copies : List Term) (left : List Entry) (all : Rows) (keys : PlainTerms) → keys ≡ terms copies → left ≡ [] → terms_list (terms copies) ++ entry_keys left ≡ all → keys ≡ plain_terms all
-all_keys copies left all keys p q h =
-    p ∙ sym (plain-list (terms copies)) ∙ ap plain_terms (sym (append-nil (terms_list (terms copies))) ∙ ap (λ z. terms_list (terms copies) ++ entry_keys z) (sym q) ∙ h)
 
 -- a record that may be the one to be left out
 record_is : (records : List Term) (i : ℕ) (item : Term) (r : PlainTerm) (kept : Bool) → i < length records → item ≡ get_or records i item → not (same r (term item)) ≡ kept

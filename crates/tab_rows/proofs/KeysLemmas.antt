@@ -5,18 +5,19 @@ use Rattle.std.specs.List.{filter, list_all}
 use Rattle.std.proofs.lemmas.Bool.{and_parts}
 use Rattle.tab_term.specs.declared.term.Term.{Term}
 use Rattle.tab_term.specs.View.{term}
-use Rattle.tab_term.specs.Data.{PlainTerm}
+use Rattle.tab_term.specs.Data.{PlainTerm, PlainTerms, none, one_more}
 use Rattle.tab_term.specs.Order.{term_cmp}
 use Rattle.tab_term.specs.Same.{same}
 use Rattle.tab_map.specs.Entries.{AllAbove, Ascends}
 use Rattle.tab_model.specs.Names.{terms_list}
 use Rattle.tab_model.specs.Tables.{Rows, key, has_key, keys}
 use Rattle.tab_model.proofs.TableLaws.{same_true, same_refl}
+use Rattle.tab_shared.specs.ByKey.{is_filled, filled_keys}
 use Rattle.tab_rows.specs.Joined.{Entry, joined, AllKeyed}
 use Rattle.tab_rows.proofs.Cells.{unequal}
 
 -- the keys of the map's entries
-abbrev pub entry_keys : List Entry → Rows
+abbrev entry_keys : List Entry → Rows
 entry_keys es = map (λ e. term e.0) es
 
 -- the keys that are not k
@@ -52,8 +53,20 @@ keys_part k (x ∷ xs) ys f h n =
     let p = and_parts (has_key k x) (list_all (has_key k) xs) h in
     ap (λ j. j ∷ but j (keys (xs ++ ys))) (same_true (key x) k p.0) ∙ ap (λ z. k ∷ z) (but_key k xs ys p.1 n)
 
-pub keys-joined : (es : List Entry) → Ascends term_cmp es → AllKeyed es → keys (joined es) ≡ entry_keys es
+keys-joined : (es : List Entry) → Ascends term_cmp es → AllKeyed es → keys (joined es) ≡ entry_keys es
 keys-joined [] s k = refl
 keys-joined (e ∷ es) s k =
     let rest = keys-joined es s.1 k.1 in
     keys_part (term e.0) (terms_list e.1) (joined es) k.0.filled k.0.keyed (ap (but (term e.0)) rest ∙ none_but e.0 es s.0 ∙ sym rest) ∙ ap (λ z. term e.0 ∷ z) rest
+
+-- each key has records
+filled-keyed : (es : List Entry) → AllKeyed es → entry_keys es ≡ filled_keys es
+filled-keyed [] k = refl
+filled-keyed (e ∷ es) k = cases (filled-keyed es k.1) e.1 refl
+  where
+    cases : entry_keys es ≡ filled_keys es → (ts : PlainTerms) → e.1 ≡ ts → term e.0 ∷ entry_keys es ≡ (if is_filled ts then term e.0 ∷ filled_keys es else filled_keys es)
+    cases ih none h = absurd (k.0.filled (ap terms_list h))
+    cases ih (one_more t ts) h = ap (λ ks. term e.0 ∷ ks) ih
+
+pub keys-filled : (es : List Entry) → Ascends term_cmp es → AllKeyed es → keys (joined es) ≡ filled_keys es
+keys-filled es s k = keys-joined es s k ∙ filled-keyed es k

@@ -1,22 +1,13 @@
 -- Records as a map keeps them: by key, each key's records in the order of insertion.
 use Rattle.std.specs.Prelude.{◌≡◌, ◌≢◌, ℕ, List, [], ◌∷◌, ◌++◌, true, length}
 use Rattle.std.specs.List.{list_all}
-use Rattle.tab_term.specs.declared.term.Term.{Term}
 use Rattle.tab_term.specs.View.{term}
 use Rattle.tab_term.specs.Data.{PlainTerm, PlainTerms}
 use Rattle.tab_map.specs.Entries.{Ascends}
 use Rattle.tab_model.specs.Names.{plain_terms, terms_list}
-use Rattle.tab_model.specs.Tables.{Rows, has_key}
+use Rattle.tab_model.specs.Tables.{has_key}
 use Rattle.tab_term.specs.Order.{term_cmp}
-
--- a key with its records
-abbrev pub Entry : Type 0
-Entry = Term × PlainTerms
-
--- the records of all keys, one key after another
-abbrev pub joined : List Entry → Rows
-joined [] = []
-joined (e ∷ es) = terms_list e.1 ++ joined es
+pub use Rattle.tab_shared.specs.ByKey.{Entry, joined}
 
 -- a key has records, and they have that key
 pub record IsKeyed (e : Entry) : Type 0 where

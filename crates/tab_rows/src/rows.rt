@@ -1,4 +1,4 @@
-ghost use Rattle.std.specs.Prelude.{◌≡◌, ◌≤◌, ◌+◌, [], ◌∷◌, ◌++◌, IfOk, OnOk, OnErr, length};
+ghost use Rattle.std.specs.Prelude.{◌≡◌, ◌≤◌, ◌+◌, [], ◌∷◌, ◌++◌, IfOk, OnOk, OnErr, MatchOption, length};
 ghost use Rattle.std.specs.List.{list_any};
 ghost use Rattle.tab_model.specs.declared.data.Kind.TheVariants as Kind;
 ghost use Rattle.tab_term.specs.Same.{same};
@@ -12,8 +12,9 @@ ghost use Rattle.tab_rows.specs.Joined.{joined, IsInOrder};
 use crate::append::Append;
 use std::alloc::{AllocError, Global};
 use std::marker::Model;
-use tab_map::{Iter, Map};
+use tab_map::{Entry, Iter, Map};
 use tab_model::Kind;
+use tab_shared::SharedTerms;
 use tab_term::{Term, Terms};
 
 /// The records of one table.
@@ -98,23 +99,34 @@ impl Rows {
         self.records.iter()
     }
 
-    /// Copies of the keys, each once, in their order.
-    pub fn keys(&self, alloc: Global) -> Result<Terms, AllocError>
+    /// The keys, each once, in their order. All is shared with this, and no memory taken.
+    pub fn keys(&self) -> Result<SharedTerms, AllocError>
         ensures { IfOk result (λ keys. keys ≡ plain_terms (keys_of_rows self.now.1)) }
     {
-        let mut keys = Vec::new(alloc);
-        for (key, _) in self.walk() {
-            keys.push(key.try_clone(alloc)?)?;
-        }
-        Ok(Terms::from_vec(keys))
+        Ok(SharedTerms::from_keys(self.records.share()?))
+    }
+
+    /// The keys, each with its records in the order of their insertion, as a map that shares all with this.
+    pub fn by_key(&self) -> Result<Map<Term, Terms>, AllocError>
+        ensures records { IfOk result (λ map. joined map ≡ self.now.1) }
+        ensures order { IfOk result IsInOrder }
+    {
+        self.records.share()
+    }
+
+    /// The key with its records, in the order of their insertion. None where it has none.
+    pub fn entry(&self, key: &Term) -> Option<&Entry<Term, Terms>>
+        ensures { MatchOption result (at self.now.1 (term key.now) ≡ []) (λ e. e.now.1 ≡ plain_terms (at self.now.1 (term key.now))) }
+    {
+        self.records.get_entry(key)
     }
 
     /// The records of the key, in the order of their insertion, without memory.
     pub fn at(&self, key: &Term) -> &[Term]
         ensures { terms result.now ≡ plain_terms (at self.now.1 (term key.now)) }
     {
-        match self.records.get(key) {
-            Some(records) => records.as_slice(),
+        match self.entry(key) {
+            Some(entry) => entry.pair().1.as_slice(),
             None => &[],
         }
     }
@@ -126,11 +138,14 @@ impl Rows {
         self.at(key).len()
     }
 
-    /// Copies of the records of the key, in the order of their insertion.
-    pub fn read(&self, alloc: Global, key: &Term) -> Result<Terms, AllocError>
+    /// The records of the key, in the order of their insertion: they are shared with this, and no memory taken.
+    pub fn read(&self, alloc: Global, key: &Term) -> Result<SharedTerms, AllocError>
         ensures { IfOk result (λ records. records ≡ plain_terms (at self.now.1 (term key.now))) }
     {
-        copies(alloc, self.at(key))
+        match self.entry(key) {
+            Some(entry) => Ok(SharedTerms::from_entry(entry.try_clone()?)),
+            None => Ok(SharedTerms::from_terms(Terms::from_vec(Vec::new(alloc)))),
+        }
     }
 
     /// Writes a record. In a set it takes the place of its key's records; in a bag it comes after them, and where an

@@ -44,21 +44,18 @@ impl From<EncodeFault> for Unwritten {
 
 /// Whether a reply is longer than what is kept before it is written. Only what holds records can be much longer than a request.
 fn is_long(reply: &Reply) -> bool {
+    let mut len = 0;
     match reply {
-        Reply::Found(terms) | Reply::AtomicTerms(terms) => are_long(terms.as_slice()),
+        Reply::Found(terms) => terms.iter().any(|term| reaches(&mut len, term)),
+        Reply::AtomicTerms(terms) => terms.as_slice().iter().any(|term| reaches(&mut len, term)),
         _ => false,
     }
 }
 
-fn are_long(terms: &[Term]) -> bool {
-    let mut len: u64 = 0;
-    for term in terms {
-        len = len.saturating_add(encoded_len(term).unwrap_or(u64::MAX));
-        if len > KEPT as u64 {
-            return true;
-        }
-    }
-    false
+/// Whether a length is more than what is kept once this term is added to it.
+fn reaches(len: &mut u64, term: &Term) -> bool {
+    *len = len.saturating_add(encoded_len(term).unwrap_or(u64::MAX));
+    *len > KEPT as u64
 }
 
 impl<'a, W: Write, G: Gate> Answers<'a, W, G> {

@@ -19,7 +19,8 @@ use std::marker::Model;
 use tab_events::{Item, Level};
 use tab_model::Ending;
 use tab_outbox::{Mailbox, Met, Post};
-use tab_term::{Atom, SharedTerms, Terms};
+use tab_shared::SharedTerms;
+use tab_term::Atom;
 
 /// A session's seat.
 #[derive(Drop)]
@@ -103,7 +104,7 @@ impl<P: Post + Drop> Seat<P> {
         alloc: Global,
         table: Atom,
         level: Level,
-        dump: Option<Terms>,
+        dump: Option<SharedTerms>,
     ) -> Result<Marked, AllocError>
         ensures ok { IfOk result (λ m. self.new ≡ marked m (record { table = table; level = level } ∷ self.old.watching) (Item.Began table level dump) self.old) }
         ensures decided { IfOk result (λ m. IfSome self.old.outbox.capacity (λ c. is_full m ≡ nat_le c (length self.old.outbox.items))) }

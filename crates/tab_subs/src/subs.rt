@@ -19,7 +19,8 @@ use std::marker::Model;
 use tab_events::{Event, Level};
 use tab_model::Numbers;
 use tab_outbox::{Mailbox, Met, Post};
-use tab_term::{Atom, Terms};
+use tab_shared::SharedTerms;
+use tab_term::Atom;
 
 /// The joined sessions, in the order of their numbers.
 #[derive(Drop)]
@@ -99,7 +100,7 @@ impl<P: Post + Drop> Subs<P> {
         session: u64,
         table: Atom,
         level: Level,
-        dump: Option<Terms>,
+        dump: Option<SharedTerms>,
     ) -> Result<Option<Marked>, AllocError>
         ensures ok { IfOk result (λ m. Marks self.old (at self.old session) (λ s. record { table = table; level = level } ∷ s.watching) (Item.Began table level dump) m self.new) }
         ensures err { OnErr result (self.new ≡ self.old) }

@@ -15,7 +15,6 @@ use Rattle.tab_term.specs.contracts.term.Terms as terms
 use Rattle.tab_term.specs.contracts.term.Pairs as pairs
 use Rattle.tab_term.specs.contracts.term.Term as term
 use Rattle.tab_term.specs.contracts.shared.SharedTerm as shared_term
-use Rattle.tab_term.specs.contracts.shared.SharedTerms as shared_terms
 
 pair_send : (R : RattleType) → IsSend R → IsSend (Tuple (R ∷ R ∷ []))
 pair_send R s = declared_send (tuple_type (R ∷ R ∷ [])) (as_row_send (row_field R) s, (as_row_send (row_field R) s, tt))
@@ -85,14 +84,8 @@ Term-sync =
     Pairs-sync
     )
 
-SharedTerm-send : IsSend shared_term.the_row
+pub SharedTerm-send : IsSend shared_term.the_row
 SharedTerm-send = search (sendable, Arc-send, declared_send, as_row_send, Term-send, Term-sync) depth 20
 
-SharedTerm-sync : IsSync shared_term.the_row
+pub SharedTerm-sync : IsSync shared_term.the_row
 SharedTerm-sync = search (sendable, Arc-sync, declared_sync, as_row_sync, Term-send, Term-sync) depth 20
-
-pub SharedTerms-send : IsSend shared_terms.the_row
-SharedTerms-send = search (sendable, Vec-send, declared_send, as_row_send, SharedTerm-send) depth 20
-
-pub SharedTerms-sync : IsSync shared_terms.the_row
-SharedTerms-sync = search (sendable, Vec-sync, declared_sync, as_row_sync, SharedTerm-sync) depth 20

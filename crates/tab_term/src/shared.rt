@@ -1,7 +1,6 @@
-//! Terms that stand once for all who hold them.
+//! A term that stands once for all who hold it.
 
-ghost use Rattle.std.specs.Prelude.{◌≡◌, length, IfOk};
-ghost use Rattle.tab_term.specs.Data.{plain_terms, count};
+ghost use Rattle.std.specs.Prelude.{◌≡◌, IfOk};
 ghost use Rattle.tab_term.specs.View.{term as term_of};
 
 use crate::term::Term;
@@ -52,40 +51,5 @@ impl SharedTerm {
         ensures { term_of result.now ≡ self.now }
     {
         &self.held
-    }
-}
-
-/// The elements of a list, each shared by itself.
-#[derive(Drop)]
-pub struct SharedTerms {
-    items: Vec<SharedTerm>,
-}
-
-impl Model for SharedTerms {
-    ghost use Rattle.tab_term.specs.Data.{PlainTerms, plain_terms};
-    ghost use Rattle.tab_term.specs.Code.{terms_code};
-
-    ghost Value = { PlainTerms };
-
-    ghost coded = { terms_code };
-
-    ghost view = { λ a. plain_terms a.items.items };
-}
-
-impl SharedTerms {
-    /// These elements, without taking memory.
-    pub fn from_vec(items: Vec<SharedTerm>) -> SharedTerms
-        ensures { result ≡ plain_terms items.items }
-    {
-        SharedTerms { items }
-    }
-
-    /// The terms, in their order.
-    #[tactic(auto, using(crate::proofs::Lists::count_plain))]
-    pub fn as_slice(&self) -> &[SharedTerm]
-        ensures items { plain_terms result.now ≡ self.now }
-        ensures len { length result.now ≡ count self.now }
-    {
-        self.items.as_slice()
     }
 }

@@ -6,7 +6,6 @@ ghost use Rattle.tab_term.specs.Canon.{tag as tag_of, int_tag as int_tag_of, lis
 ghost use Rattle.tab_term.specs.Data.{plain_terms};
 ghost use Rattle.tab_term.specs.View.{term, terms};
 
-use crate::shared::{SharedTerm, SharedTerms};
 use crate::term::{Term, Terms};
 
 // The tags, by their names in the External Term Format.
@@ -143,31 +142,6 @@ pub fn list_tag(ts: &Terms) -> u8
     if items.is_empty() {
         NIL_EXT
     } else if items.len() < 0x1_0000 && are_bytes(items) {
-        STRING_EXT
-    } else {
-        LIST_EXT
-    }
-}
-
-fn are_shared_bytes(ts: &[SharedTerm]) -> bool
-    ensures { result ≡ all_bytes (plain_terms ts.now) }
-{
-    for t in ts {
-        if !is_byte_term(t.as_term()) {
-            return false;
-        }
-    }
-    true
-}
-
-/// The tag of a list of these elements, as `list_tag` gives that of a list whose elements are its own.
-pub fn shared_list_tag(ts: &SharedTerms) -> u8
-    ensures { result ≡ list_tag_of ts.now }
-{
-    let items = ts.as_slice();
-    if items.is_empty() {
-        NIL_EXT
-    } else if items.len() < 0x1_0000 && are_shared_bytes(items) {
         STRING_EXT
     } else {
         LIST_EXT

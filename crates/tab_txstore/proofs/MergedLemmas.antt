@@ -85,6 +85,49 @@ own_below e x xs es h s t =
 pub own_alone : (x : Term × PlainTerms) (xs : Touched) → Ascends term_cmp (x ∷ xs) → merged (x ∷ xs) [] ≡ x ∷ merged xs []
 own_alone x xs s = insert_first x (merged xs []) (above_merged x.0 xs [] s.0 tt)
 
+-- ---- touched keys put among the table's, the first of them first
+
+put_twice : (x y : Term × PlainTerms) (es : Touched) → term_cmp x.0 y.0 ≡ Less → insert_entry term_cmp y (insert_entry term_cmp x es) ≡ insert_entry term_cmp x (insert_entry term_cmp y es)
+put_twice x y [] h =
+    ap (λ o. match_ordering o (y ∷ x ∷ []) (y ∷ []) (x ∷ y ∷ [])) (term_total.antisymm y.0 x.0 ∙ ap ordering_reverse h)
+    ∙ sym (ap (λ o. match_ordering o (x ∷ y ∷ []) (x ∷ []) (y ∷ x ∷ [])) h)
+put_twice x y (e ∷ es) h = cases (put_twice x y es h) (term_cmp x.0 e.0) refl (term_cmp y.0 e.0) refl
+  where
+    above : term_cmp y.0 x.0 ≡ Greater
+    above = term_total.antisymm y.0 x.0 ∙ ap ordering_reverse h
+
+    passes : (b : Ordering) → term_cmp y.0 e.0 ≡ b → term_cmp e.0 y.0 ≡ Less → b ≡ Greater
+    passes b l low = sym l ∙ term_total.antisymm y.0 e.0 ∙ ap ordering_reverse low
+
+    first : (b : Ordering) → term_cmp y.0 e.0 ≡ b → insert_entry term_cmp y (x ∷ e ∷ es) ≡ x ∷ match_ordering b (y ∷ e ∷ es) (y ∷ es) (e ∷ insert_entry term_cmp y es)
+    first b l = ap (λ o. match_ordering o (y ∷ x ∷ e ∷ es) (y ∷ e ∷ es) (x ∷ insert_entry term_cmp y (e ∷ es))) above ∙ ap (λ o. x ∷ match_ordering o (y ∷ e ∷ es) (y ∷ es) (e ∷ insert_entry term_cmp y es)) l
+
+    cases : insert_entry term_cmp y (insert_entry term_cmp x es) ≡ insert_entry term_cmp x (insert_entry term_cmp y es) → (a : Ordering) → term_cmp x.0 e.0 ≡ a → (b : Ordering) → term_cmp y.0 e.0 ≡ b
+        → insert_entry term_cmp y (match_ordering a (x ∷ e ∷ es) (x ∷ es) (e ∷ insert_entry term_cmp x es)) ≡ insert_entry term_cmp x (match_ordering b (y ∷ e ∷ es) (y ∷ es) (e ∷ insert_entry term_cmp y es))
+    cases ih Less k Less l = first Less l ∙ sym (ap (λ o. match_ordering o (x ∷ y ∷ e ∷ es) (x ∷ e ∷ es) (y ∷ insert_entry term_cmp x (e ∷ es))) h)
+    cases ih Less k Equal l = first Equal l ∙ sym (ap (λ o. match_ordering o (x ∷ y ∷ es) (x ∷ es) (y ∷ insert_entry term_cmp x es)) h)
+    cases ih Less k Greater l = first Greater l ∙ sym (ap (λ o. match_ordering o (x ∷ e ∷ insert_entry term_cmp y es) (x ∷ insert_entry term_cmp y es) (e ∷ insert_entry term_cmp x (insert_entry term_cmp y es))) k)
+    cases ih Equal k Less l = let n : Less ≡ Greater = passes Less l (sym (term_total.congr x.0 e.0 y.0 k) ∙ h) in cc
+    cases ih Equal k Equal l = let n : Equal ≡ Greater = passes Equal l (sym (term_total.congr x.0 e.0 y.0 k) ∙ h) in cc
+    cases ih Equal k Greater l =
+        ap (λ o. match_ordering o (y ∷ x ∷ es) (y ∷ es) (x ∷ insert_entry term_cmp y es)) above
+        ∙ sym (ap (λ o. match_ordering o (x ∷ e ∷ insert_entry term_cmp y es) (x ∷ insert_entry term_cmp y es) (e ∷ insert_entry term_cmp x (insert_entry term_cmp y es))) k)
+    cases ih Greater k Less l = let n : Less ≡ Greater = passes Less l (term_total.trans e.0 x.0 y.0 (above_below term_total x.0 e.0 k) h) in cc
+    cases ih Greater k Equal l = let n : Equal ≡ Greater = passes Equal l (term_total.trans e.0 x.0 y.0 (above_below term_total x.0 e.0 k) h) in cc
+    cases ih Greater k Greater l =
+        ap (λ o. match_ordering o (y ∷ e ∷ insert_entry term_cmp x es) (y ∷ insert_entry term_cmp x es) (e ∷ insert_entry term_cmp y (insert_entry term_cmp x es))) l
+        ∙ ap (λ z. e ∷ z) ih
+        ∙ sym (ap (λ o. match_ordering o (x ∷ e ∷ insert_entry term_cmp y es) (x ∷ insert_entry term_cmp y es) (e ∷ insert_entry term_cmp x (insert_entry term_cmp y es))) k)
+
+merged_put : (x : Term × PlainTerms) (xs es : Touched) → AllAbove term_cmp x.0 xs → merged xs (insert_entry term_cmp x es) ≡ insert_entry term_cmp x (merged xs es)
+merged_put x [] es a = refl
+merged_put x (y ∷ ys) es a = ap (insert_entry term_cmp y) (merged_put x ys es a.1) ∙ put_twice x y (merged ys es) a.0
+
+pub put_step : (x : Term × PlainTerms) (left after all new whole : Touched) → left ≡ x ∷ after → Ascends term_cmp left → new ≡ insert_entry term_cmp x all → merged left all ≡ whole → (merged after new ≡ whole) × Ascends term_cmp after
+put_step x left after all new whole is s n before =
+    let both : Ascends term_cmp (x ∷ after) = subst (Ascends term_cmp) is s in
+    (ap (merged after) n ∙ merged_put x after all both.0 ∙ sym (ap (λ z. merged z all) is) ∙ before, both.1)
+
 -- ---- it is the table as the transaction sees it
 
 none_each : {V : Type 0} (n : Option V) (b : Ordering) → n ≡ match_ordering b n n n

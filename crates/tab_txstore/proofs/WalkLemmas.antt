@@ -1,23 +1,16 @@
 -- A step of the merged walk.
-use Rattle.std.proofs.Common.{◌≡◌, List, [], ◌∷◌, ◌++◌, true, append-nil, subst, refl, sym, ap, ap₂, ◌∙◌, Option, Some, None, Less, Equal, Greater, slice_get}
-use Rattle.std.specs.Prelude.{MatchOption, if◌then◌else◌}
+use Rattle.std.proofs.Common.{◌≡◌, [], ◌∷◌, refl, sym, ap, ap₂, ◌∙◌, Option, Some, None, Less, Equal, Greater, slice_get}
+use Rattle.std.specs.Prelude.{MatchOption}
 use Rattle.std.specs.Iterator.{MakesProgress, item_count}
 use Rattle.tab_term.specs.declared.term.Term.{Term}
-use Rattle.tab_term.specs.Data.{PlainTerm, PlainTerms}
-use Rattle.tab_term.specs.View.{term, terms}
-use Rattle.tab_model.specs.Names.{plain_terms, terms_list}
-use Rattle.tab_model.specs.Tables.{Rows}
-use Rattle.tab_model.specs.Tables.{keys as keys_of}
-use Rattle.tab_rows.specs.Joined.{joined, IsInOrder}
-use Rattle.tab_rows.proofs.Cells.{plain-list}
-use Rattle.tab_txstore.proofs.LeftLemmas.{list_push}
+use Rattle.tab_term.specs.Data.{PlainTerms}
 use Rattle.tab_term.specs.Order.{term_cmp}
 use Rattle.tab_map.specs.Entries.{Ascends}
 use Rattle.tab_map.proofs.EntriesLeftLemmas.{fewer}
 use denote.Ref.{Bor}
 use Rattle.tab_txstore.specs.Overlays.{Touched}
-use Rattle.tab_txstore.specs.Merged.{merged, is_filled, filled_keys, IsSeen}
-use Rattle.tab_txstore.proofs.MergedLemmas.{lent_below, both_equal, own_below, own_alone, keys_seen}
+use Rattle.tab_txstore.specs.Merged.{merged}
+use Rattle.tab_txstore.proofs.MergedLemmas.{lent_below, both_equal, own_below, own_alone}
 
 abbrev pub Gives : Touched → Option (Bor (Term × PlainTerms)) → Touched → Type 0
 Gives s r t = MatchOption r ((s ≡ []) × (t ≡ [])) (λ x. s ≡ x.now ∷ t)
@@ -72,23 +65,3 @@ equal (y ∷ own) (d ∷ lent) own' lent' (Some o) None e x h k c s f g = let z 
 equal (y ∷ own) (d ∷ lent) own' lent' (Some o) (Some p) e x h k c s f g =
     both_equal d y own lent (ap₂ (λ (a b : Term × PlainTerms). term_cmp a.0 b.0) (same_first d e lent h) (same_first y x own k) ∙ c) s
     ∙ ap (λ z. y ∷ merged own z) (ap tail_of f) ∙ ap (on_tail (λ z. merged z lent')) g
-
--- ---- the keys
-
-pub key_step : (keys all : List Term) (before after : Touched) (e : Term × PlainTerms) (k : Term) → before ≡ e ∷ after → true ≡ is_filled e.1 → all ≡ keys ++ k ∷ [] → k ≡ e.0
-    → terms_list (terms all) ++ filled_keys after ≡ terms_list (terms keys) ++ filled_keys before
-key_step keys all before after e k h f a s =
-    ap (λ z. terms_list (terms z) ++ filled_keys after) a ∙ ap (λ z. z ++ filled_keys after) (list_push keys k) ∙ once (terms_list (terms keys)) (term k) (filled_keys after)
-    ∙ ap (λ z. terms_list (terms keys) ++ term z ∷ filled_keys after) s
-    ∙ ap (λ b. terms_list (terms keys) ++ (if b then term e.0 ∷ filled_keys after else filled_keys after)) f
-    ∙ sym (ap (λ z. terms_list (terms keys) ++ filled_keys z) h)
-  where
-    once : (xs : Rows) (x : PlainTerm) (ys : Rows) → (xs ++ x ∷ []) ++ ys ≡ xs ++ x ∷ ys
-    once [] x ys = refl
-    once (z ∷ xs) x ys = ap (λ zs. z ∷ zs) (once xs x ys)
-
-pub keys_end : (keys : List Term) (left whole : Touched) (xs es : Touched) (rows seen : Rows) → left ≡ [] → terms_list (terms keys) ++ filled_keys left ≡ filled_keys whole → whole ≡ merged xs es
-    → joined es ≡ rows → IsInOrder es → Ascends term_cmp xs → IsSeen xs rows seen → terms keys ≡ plain_terms (keys_of seen)
-keys_end keys left whole xs es rows seen e inv w j o s h =
-    sym (plain-list (terms keys))
-    ∙ ap plain_terms (sym (append-nil (terms_list (terms keys))) ∙ sym (ap (λ z. terms_list (terms keys) ++ filled_keys z) e) ∙ inv ∙ ap filled_keys w ∙ keys_seen xs es seen s o (subst (λ (rs : Rows). IsSeen xs rs seen) (sym j) h))

@@ -1,8 +1,8 @@
 //! What a transaction left at the keys that it touched, level by level.
-ghost use Rattle.std.specs.Prelude.{◌≡◌, ◌<◌, [], ◌∷◌, ◌++◌, OnOk, OnErr, Some, length, vec_len, vec_capacity};
+ghost use Rattle.std.specs.Prelude.{◌≡◌, ◌<◌, [], ◌∷◌, ◌++◌, IfOk, MatchOption, OnOk, OnErr, Some, length, vec_len, vec_capacity};
 ghost use Rattle.std.specs.Option.{option_copied};
 ghost use Rattle.tab_term.specs.Order.{bytes_cmp, term_cmp};
-ghost use Rattle.tab_term.specs.View.{term, terms};
+ghost use Rattle.tab_term.specs.View.{term};
 ghost use Rattle.tab_map.specs.Entries.{Ascends, lookup};
 ghost use Rattle.tab_rows.specs.Joined.{IsInOrder, joined as joined_rows};
 ghost use Rattle.tab_model.specs.Names.{plain_terms};
@@ -12,12 +12,12 @@ ghost use Rattle.tab_txstore.specs.Overlays.{Touched, touched, seen_at};
 ghost use Rattle.tab_txstore.specs.Stores.{no_levels, nested, joined, ended, changed, levels_next};
 
 use crate::change::{change_of, is_failure};
-use crate::merged::Merged;
-use crate::touching::{seen, touch};
+use crate::merged::{Merged, put_all};
+use crate::touching::{seen_entry, touch};
 use std::alloc::{AllocError, Global};
 use std::marker::Model;
 use tab_index::IndexedTable;
-use tab_map::Map;
+use tab_map::{Entry, Map};
 use tab_model::{Change, Operation, Reply};
 use tab_term::{Atom, Term, Terms};
 
@@ -104,11 +104,15 @@ impl Levels {
         updates
     }
 
-    /// What stands at a key of a lent table, without memory.
-    pub fn seen<'a>(&'a self, lent: &'a IndexedTable, key: &Term) -> &'a [Term]
-        ensures { terms result.now ≡ plain_terms (seen_at (touched self.now.now.overlay lent.now.def.name) lent.now.rows (term key.now)) }
+    /// A key of a lent table with what stands there. None where nothing does, and neither did the transaction touch it.
+    pub fn seen_entry<'a>(
+        &'a self,
+        lent: &'a IndexedTable,
+        key: &Term,
+    ) -> Option<&'a Entry<Term, Terms>>
+        ensures { MatchOption result (seen_at (touched self.now.now.overlay lent.now.def.name) lent.now.rows (term key.now) ≡ []) (λ e. e.now.1 ≡ plain_terms (seen_at (touched self.now.now.overlay lent.now.def.name) lent.now.rows (term key.now))) }
     {
-        seen(&self.overlay, lent, key)
+        seen_entry(&self.overlay, lent, key)
     }
 
     /// The touched keys of a table, each with what stands there. None where no key of it was touched.
@@ -127,6 +131,18 @@ impl Levels {
             Some(keys) => Merged::new(keys.iter(), walk),
             None => Merged::new(walk.end(), walk),
         }
+    }
+
+    /// A lent table's records by key with the touched keys among them, as a map that shares its entries with both. A key
+    /// whose records were taken out is there, with none.
+    pub fn by_key(&self, alloc: Global, lent: &IndexedTable) -> Result<Map<Term, Terms>, AllocError>
+        ensures { IfOk result (λ all. (es : Touched) × (joined_rows es ≡ lent.now.rows) × IsInOrder es × Ascends term_cmp (touched self.now.now.overlay lent.now.def.name) × (all ≡ merged_of (touched self.now.now.overlay lent.now.def.name) es)) }
+    {
+        let mut all = lent.by_key()?;
+        if let Some(own) = self.touched(lent) {
+            put_all(alloc, &mut all, own)?;
+        }
+        Ok(all)
     }
 
     /// An operation that was made over its lent table, with its reply: its change, or where it failed the end of its level.

@@ -1,4 +1,4 @@
-ghost use Rattle.std.specs.Prelude.{◌≡◌, ◌<◌, ◌≤◌, ◌+◌, [], ◌∷◌, ◌++◌, IfOk, OnOk, OnErr, Some, None, true, length, vec_len, vec_capacity};
+ghost use Rattle.std.specs.Prelude.{◌≡◌, ◌<◌, ◌≤◌, ◌+◌, [], ◌∷◌, ◌++◌, IfOk, MatchOption, OnOk, OnErr, Some, None, true, length, vec_len, vec_capacity};
 ghost use Rattle.std.specs.Option.{option_copied};
 ghost use Rattle.tab_term.specs.View.{term, terms};
 ghost use Rattle.tab_model.specs.Names.{plain_terms};
@@ -13,13 +13,12 @@ ghost use Rattle.tab_txstore.specs.Merged.{merged as merged_of};
 ghost use Rattle.tab_txstore.specs.Overlays.{Touched, touched, seen_at};
 ghost use Rattle.tab_txstore.specs.Stores.{no_store, store_next};
 
-use crate::left::copies;
 use crate::levels::Levels;
 use crate::merged::Merged;
 use std::alloc::{AllocError, Global};
 use std::marker::Model;
 use tab_index::IndexedTable;
-use tab_map::Map;
+use tab_map::{Entry, Map};
 use tab_model::{Change, Move, Moves, Operation, Replies, Reply, Told};
 use tab_term::{Term, Terms};
 
@@ -247,11 +246,15 @@ impl TxStore {
         }
     }
 
-    /// What stands at a key of a lent table for the transaction, without memory.
-    pub fn seen<'a>(&'a self, lent: &'a IndexedTable, key: &Term) -> &'a [Term]
-        ensures { terms result.now ≡ plain_terms (seen_at (touched self.now.levels.now.overlay lent.now.def.name) lent.now.rows (term key.now)) }
+    // A key of a lent table with what stands there for the transaction. None where nothing does, and it wasn't touched.
+    pub(crate) fn seen_entry<'a>(
+        &'a self,
+        lent: &'a IndexedTable,
+        key: &Term,
+    ) -> Option<&'a Entry<Term, Terms>>
+        ensures { MatchOption result (seen_at (touched self.now.levels.now.overlay lent.now.def.name) lent.now.rows (term key.now) ≡ []) (λ e. e.now.1 ≡ plain_terms (seen_at (touched self.now.levels.now.overlay lent.now.def.name) lent.now.rows (term key.now))) }
     {
-        self.levels.seen(lent, key)
+        self.levels.seen_entry(lent, key)
     }
 
     // A lent table's walk with the touched keys among it, without memory.
@@ -261,23 +264,22 @@ impl TxStore {
         self.levels.merged(lent)
     }
 
+    // A lent table's records by key with the touched keys among them.
+    pub(crate) fn by_key(
+        &self,
+        alloc: Global,
+        lent: &IndexedTable,
+    ) -> Result<Map<Term, Terms>, AllocError>
+        ensures { IfOk result (λ all. (es : Touched) × (joined_rows es ≡ lent.now.rows) × IsInOrder es × Ascends term_cmp (touched self.now.levels.now.overlay lent.now.def.name) × (all ≡ merged_of (touched self.now.levels.now.overlay lent.now.def.name) es)) }
+    {
+        self.levels.by_key(alloc, lent)
+    }
+
     // The touched keys of the table, each with what stands there. None where no key of it was touched.
     pub(crate) fn touched(&self, lent: &IndexedTable) -> Option<&Map<Term, Terms>>
         ensures { option_copied result ≡ lookup bytes_cmp lent.now.def.name self.now.levels.now.overlay }
     {
         self.levels.touched(lent)
-    }
-
-    /// Copies of what stands at a key of a lent table for the transaction.
-    pub fn view_read(
-        &self,
-        alloc: Global,
-        lent: &IndexedTable,
-        key: &Term,
-    ) -> Result<Terms, AllocError>
-        ensures { IfOk result (λ records. records ≡ plain_terms (seen_at (touched self.now.levels.now.overlay lent.now.def.name) lent.now.rows (term key.now))) }
-    {
-        Ok(Terms::from_vec(copies(alloc, self.seen(lent, key))?))
     }
 }
 

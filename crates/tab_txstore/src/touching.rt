@@ -1,5 +1,5 @@
 //! Changes of an overlay, in place where no saved level shares it.
-ghost use Rattle.std.specs.Prelude.{◌≡◌, IfOk, IfSome, IsSome, OnOk, OnErr};
+ghost use Rattle.std.specs.Prelude.{◌≡◌, [], IfOk, IfSome, IsSome, MatchOption, OnOk, OnErr};
 ghost use Rattle.tab_term.specs.Order.{bytes_cmp, term_cmp};
 ghost use Rattle.std.specs.Option.{option_copied};
 ghost use Rattle.tab_term.specs.View.{term, terms};
@@ -14,7 +14,7 @@ use crate::change::key_of;
 use crate::left::{left, only};
 use std::alloc::{AllocError, Global};
 use tab_index::IndexedTable;
-use tab_map::{Map, Revise};
+use tab_map::{Entry, Map, Revise};
 use tab_model::{Change, Kind};
 use tab_rows::{Append, contains};
 use tab_term::{Atom, Term, Terms};
@@ -67,20 +67,34 @@ impl Revise<Map<Term, Terms>> for AppendAt {
     }
 }
 
-/// What stands at a key of a lent table, without memory.
-pub fn seen<'a>(
+/// A key of a lent table with what stands there. None where nothing does, and neither did the transaction touch it.
+pub fn seen_entry<'a>(
+    overlay: &'a Map<Atom, Map<Term, Terms>>,
+    lent: &'a IndexedTable,
+    key: &Term,
+) -> Option<&'a Entry<Term, Terms>>
+    ensures { MatchOption result (seen_at (touched overlay.now lent.now.def.name) lent.now.rows (term key.now) ≡ []) (λ e. e.now.1 ≡ plain_terms (seen_at (touched overlay.now lent.now.def.name) lent.now.rows (term key.now))) }
+{
+    match overlay.get(&lent.def().name) {
+        Some(keys) => match keys.get_entry(key) {
+            Some(entry) => Some(entry),
+            None => lent.entry(key),
+        },
+        None => lent.entry(key),
+    }
+}
+
+// What stands at a key of a lent table, without memory.
+fn seen<'a>(
     overlay: &'a Map<Atom, Map<Term, Terms>>,
     lent: &'a IndexedTable,
     key: &Term,
 ) -> &'a [Term]
     ensures { terms result.now ≡ plain_terms (seen_at (touched overlay.now lent.now.def.name) lent.now.rows (term key.now)) }
 {
-    match overlay.get(&lent.def().name) {
-        Some(keys) => match keys.get(key) {
-            Some(records) => records.as_slice(),
-            None => lent.at(key),
-        },
-        None => lent.at(key),
+    match seen_entry(overlay, lent, key) {
+        Some(entry) => entry.pair().1.as_slice(),
+        None => &[],
     }
 }
 

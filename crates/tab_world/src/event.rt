@@ -14,6 +14,7 @@ use std::alloc::{AllocError, Global};
 use tab_index::IndexedTable;
 use tab_model::{Change, Event};
 use tab_rows::copy_of_key;
+use tab_shared::SharedTerms;
 use tab_term::{Atom, Term, Terms};
 
 impl Changing {
@@ -41,12 +42,12 @@ impl Changing {
         })
     }
 
-    fn records(&self, alloc: Global, name: &Atom, key: &Term) -> Result<Terms, AllocError>
+    fn records(&self, alloc: Global, name: &Atom, key: &Term) -> Result<SharedTerms, AllocError>
         ensures { IfOk result (λ records. records ≡ plain_terms (cell self.now name.now (term key.now))) }
     {
         match self.table(name) {
             Some(table) => table.read(alloc, key),
-            None => Ok(Terms::from_vec(Vec::new(alloc))),
+            None => Ok(SharedTerms::from_terms(Terms::from_vec(Vec::new(alloc)))),
         }
     }
 

@@ -1,10 +1,10 @@
-use Rattle.std.proofs.Common.{◌≡◌, sym, ap, ◌∙◌}
+use Rattle.std.proofs.Common.{sym, ap, ◌∙◌}
 use Rattle.std.specs.Option.{option_copied}
-use Rattle.tab_term.specs.Data.{atom}
-use Rattle.tab_term.specs.View.{term}
+use Rattle.tab_model.specs.Names.{plain_terms}
 use Rattle.tab_core.proofs.Dumps.{dumped}
 use Rattle.tab_core.proofs.dump.dump_of.Goals as goal
 
 pub returns : goal.returns
-returns c = dumped c.args.tables.now c.args.name.now c.args.dump c.in-Some.table.now (term (Rattle.tab_term.specs.declared.term.Term.TheVariants.Atom c.in_ok-from_short_text.field-0)) c.in_ok-match_object.field-0
-    c.if-not-dump.false (sym c.table.ensures ∙ ap option_copied c.in-Some.is) (ap atom c.in_ok-from_short_text.ensures) c.in_ok-match_object.ensures
+returns c =
+    dumped c.args.tables.now c.args.name.now c.args.dump c.in-Some.table.now c.from_records.result c.if-not-dump.false (sym c.table.ensures ∙ ap option_copied c.in-Some.is)
+    (c.from_records.ensures ∙ ap plain_terms c.in_ok-by_key.ensures.records)

@@ -1,14 +1,15 @@
-use Rattle.std.proofs.Common.{ap, sym}
-use Rattle.tab_term.specs.Canon.{canon}
-use Rattle.tab_etf.proofs.WritingLemmas.{writes_as, writes_then, writes_none}
-use Rattle.tab_etf.proofs.Elements.{no_canons}
-use Rattle.tab_etf.proofs.SharedElements.{canons_next}
+use Rattle.std.proofs.Common.{ap, ◌∙◌}
+use Rattle.tab_term.specs.Canon.{canons}
+use Rattle.tab_term.specs.Data.{plain_terms}
+use Rattle.tab_term.specs.View.{term}
+use Rattle.tab_etf.proofs.SharedElements.{but_all, but_less, but_none, canons_first, canons_end}
 use Rattle.tab_etf.proofs.shared.put_all.Goals as goal
 
 pub loop-t-init : goal.loop-t-init
-loop-t-init g c = writes_as (writes_none _) no_canons
+loop-t-init g c = but_all _ (ap (λ ts. canons (plain_terms ts)) c.into_iter-t-iterator.ensures.into_iter_gives ∙ ap canons c.iter-t-items.ensures)
 
 pub loop-t-preserved : goal.loop-t-preserved
-loop-t-preserved g c =
-    writes_as (writes_then c.loop-t.invariant (writes_as c.put.ensures (ap canon c.as_term.ensures)))
-    (sym (canons_next c.args.ts.now c.loop-t.t-index c.t-item.result c.loop-t-test.true c.t-item.is))
+loop-t-preserved g c = but_less c.loop-t.invariant c.put.ensures (canons_first c.loop-t.t-iterator c.next.new.self (term c.in-Some.t.now) c.in-Some.ensures.steps)
+
+pub returns : goal.returns
+returns g c = but_none c.loop-t.invariant (canons_end c.loop-t.t-iterator c.in-None.ensures.steps.0)

@@ -12,7 +12,7 @@ returns-in-Ok-clause-value g t c =
     let root = is_root g.K.Ord.cmp c.self.view_is c.self.invariant c.in-Node.is in
     let found = rw (c.deref-in-Node-2.ensures.value, c.deref-in-Node.ensures) at c.in-Ok.ensures.found in
     let at = rw c.deref-in-Ok.ensures at c.index.ensures in
-    ap (λ z. Some z.1) c.pair.ensures ∙ found_lookup g.met.K.Ord.total c.args.sought.now root c.in-Ok.n c.index.result.now found at
+    found_lookup g.met.K.Ord.total c.args.sought.now root c.in-Ok.n c.index.result.now found at
 
 pub returns-in-Some-clause-value : goal.returns-in-Some-clause-value
 returns-in-Some-clause-value g t c =

@@ -1,4 +1,4 @@
-use Rattle.std.proofs.Common.{sym, ap, ◌∙◌, ◌++◌, ◌∷◌, []}
+use Rattle.std.proofs.Common.{ap, ◌∙◌}
 use Rattle.tab_term.specs.View.{term, terms}
 use Rattle.tab_rows.specs.Joined.{followed_by}
 use Rattle.tab_rows.proofs.CopiesLemmas.{terms_snoc}

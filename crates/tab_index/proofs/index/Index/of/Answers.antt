@@ -4,14 +4,14 @@ use Rattle.tab_rows.specs.Joined.{joined}
 use Rattle.tab_index.proofs.CopiesLemmas.{list_of}
 use Rattle.tab_index.proofs.index.Index.of.Goals as goal
 
-pub loop-records-preserved : goal.loop-records-preserved
-loop-records-preserved c =
-    let was = c.loop-records.invariant in
+pub loop-entry-preserved : goal.loop-entry-preserved
+loop-entry-preserved c =
+    let was = c.loop-entry.invariant in
     let here = list_of c.as_slice.result.now in
     let after = c.next.new.self in
     record {
       position = c.add_all.ensures.position ∙ was.position;
       before = was.before ++ here;
-      all = append_assoc was.before here (joined after) ∙ ap (λ z. was.before ++ (terms_list z ++ joined after)) c.as_slice.ensures.items ∙ ap (λ z. was.before ++ joined z) (sym c.in-Some.ensures.steps) ∙ was.all;
+      all = append_assoc was.before here (joined after) ∙ ap (λ z. was.before ++ (terms_list z ++ joined after)) (c.as_slice.ensures.items ∙ ap (λ e. e.1) c.pair.ensures) ∙ ap (λ z. was.before ++ joined z) (sym c.in-Some.ensures.steps) ∙ was.all;
       index = c.in_ok-add_all.ensures.ok was.before was.index;
     }

@@ -1,10 +1,9 @@
 use Rattle.std.proofs.Common.{◌≡◌, ◌++◌}
 use Rattle.tab_term.specs.View.{term}
 use Rattle.tab_rows.specs.Joined.{joined}
-use Rattle.tab_index.proofs.CopiesLemmas.{list_of}
 use Rattle.tab_index.proofs.ReadLemmas.{answers}
 use Rattle.tab_index.proofs.index.Index.read.Given as goal
 
--- the copies so far, and the records of the keys that are left
+-- the records so far, and those of the keys that are left
 abbrev pub invariant-loop-key : goal.invariant-loop-key
-invariant-loop-key l = list_of l.found.items ++ joined (answers l.rows.1 l.self.position (term l.value) l.key-iterator) ≡ joined (answers l.rows.1 l.self.position (term l.value) l.initial.key-iterator)
+invariant-loop-key l = l.found.items ++ joined (answers l.rows.1 l.self.position (term l.value) l.key-iterator) ≡ joined (answers l.rows.1 l.self.position (term l.value) l.initial.key-iterator)

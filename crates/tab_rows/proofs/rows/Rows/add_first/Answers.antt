@@ -1,6 +1,5 @@
-use Rattle.std.proofs.Common.{◌≡◌, ◌+◌, ◌-◌, ◌∷◌, [], length, ap, sym, ◌∙◌, subst, arith}
+use Rattle.std.proofs.Common.{length, ap, sym, ◌∙◌, subst, arith}
 use Rattle.tab_term.specs.View.{term}
-use Rattle.tab_model.specs.Names.{terms_list}
 use Rattle.tab_model.specs.Tables.{at, put}
 use Rattle.tab_rows.specs.Joined.{joined, IsKept}
 use Rattle.tab_rows.proofs.Cells.{Writes, put_first}

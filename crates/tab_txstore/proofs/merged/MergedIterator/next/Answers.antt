@@ -1,5 +1,6 @@
-use Rattle.std.proofs.Common.{ap, sym, ◌∙◌, subst}
+use Rattle.std.proofs.Common.{ap, ap₂, sym, ◌∙◌, subst}
 use Rattle.std.specs.Option.{option_copied}
+use Rattle.tab_term.specs.Order.{term_cmp}
 use Rattle.tab_txstore.specs.Overlays.{Touched}
 use Rattle.tab_txstore.specs.Merged.{merged}
 use Rattle.tab_txstore.proofs.WalkLemmas.{Gives, progress, none_first, alone, rest_alone, less, greater, equal}
@@ -25,7 +26,7 @@ pub returns-in-Less-clause-steps : goal.returns-in-Less-clause-steps
 returns-in-Less-clause-steps c =
     subst (λ (z : Touched). Gives z c.next-in-Less.result (merged c.self.inside.own c.next-in-Less.new.self)) c.self.view_is
     (less c.self.inside.own c.self.inside.lent c.next-in-Less.new.self c.next-in-Less.result c.in-Some.lent.now c.in-Some-peek.own.now
-    (sym c.peek.ensures ∙ ap option_copied c.in-Some.is) (sym c.peek-2.ensures ∙ ap option_copied c.in-Some-peek.is) (sym c.cmp.ensures ∙ c.in-Less.is) c.self.invariant.0 c.next-in-Less.ensures.steps)
+    (sym c.peek.ensures ∙ ap option_copied c.in-Some.is) (sym c.peek-2.ensures ∙ ap option_copied c.in-Some-peek.is) (ap₂ (λ a b. term_cmp a.0 b.0) (sym c.pair.ensures) (sym c.pair-2.ensures) ∙ sym c.cmp.ensures ∙ c.in-Less.is) c.self.invariant.0 c.next-in-Less.ensures.steps)
 
 pub returns-in-Less-clause-goes : goal.returns-in-Less-clause-goes
 returns-in-Less-clause-goes c = progress (λ z. Unit {0}) (λ z. tt) c.args.self.now c.next-in-Less.result (merged c.self.inside.own c.next-in-Less.new.self) (returns-in-Less-clause-steps c)
@@ -34,7 +35,7 @@ pub returns-in-Equal-clause-steps : goal.returns-in-Equal-clause-steps
 returns-in-Equal-clause-steps c =
     subst (λ (z : Touched). Gives z c.next-in-Equal.result (merged c.next-in-Equal.new.self c.next-replaced.new.self)) c.self.view_is
     (equal c.self.inside.own c.self.inside.lent c.next-in-Equal.new.self c.next-replaced.new.self c.next-replaced.result c.next-in-Equal.result c.in-Some.lent.now c.in-Some-peek.own.now
-    (sym c.peek.ensures ∙ ap option_copied c.in-Some.is) (sym c.peek-2.ensures ∙ ap option_copied c.in-Some-peek.is) (sym c.cmp.ensures ∙ c.in-Equal.is) c.self.invariant.0 c.next-replaced.ensures.steps c.next-in-Equal.ensures.steps)
+    (sym c.peek.ensures ∙ ap option_copied c.in-Some.is) (sym c.peek-2.ensures ∙ ap option_copied c.in-Some-peek.is) (ap₂ (λ a b. term_cmp a.0 b.0) (sym c.pair.ensures) (sym c.pair-2.ensures) ∙ sym c.cmp.ensures ∙ c.in-Equal.is) c.self.invariant.0 c.next-replaced.ensures.steps c.next-in-Equal.ensures.steps)
 
 pub returns-in-Equal-clause-goes : goal.returns-in-Equal-clause-goes
 returns-in-Equal-clause-goes c = progress (λ z. Unit {0}) (λ z. tt) c.args.self.now c.next-in-Equal.result (merged c.next-in-Equal.new.self c.next-replaced.new.self) (returns-in-Equal-clause-steps c)
@@ -43,7 +44,7 @@ pub returns-in-Greater-clause-steps : goal.returns-in-Greater-clause-steps
 returns-in-Greater-clause-steps c =
     subst (λ (z : Touched). Gives z c.next-in-Greater.result (merged c.next-in-Greater.new.self c.self.inside.lent)) c.self.view_is
     (greater c.self.inside.own c.self.inside.lent c.next-in-Greater.new.self c.next-in-Greater.result c.in-Some.lent.now c.in-Some-peek.own.now
-    (sym c.peek.ensures ∙ ap option_copied c.in-Some.is) (sym c.peek-2.ensures ∙ ap option_copied c.in-Some-peek.is) (sym c.cmp.ensures ∙ c.in-Greater.is) c.self.invariant.0 c.self.invariant.1 c.next-in-Greater.ensures.steps)
+    (sym c.peek.ensures ∙ ap option_copied c.in-Some.is) (sym c.peek-2.ensures ∙ ap option_copied c.in-Some-peek.is) (ap₂ (λ a b. term_cmp a.0 b.0) (sym c.pair.ensures) (sym c.pair-2.ensures) ∙ sym c.cmp.ensures ∙ c.in-Greater.is) c.self.invariant.0 c.self.invariant.1 c.next-in-Greater.ensures.steps)
 
 pub returns-in-Greater-clause-goes : goal.returns-in-Greater-clause-goes
 returns-in-Greater-clause-goes c = progress (λ z. Unit {0}) (λ z. tt) c.args.self.now c.next-in-Greater.result (merged c.next-in-Greater.new.self c.self.inside.lent) (returns-in-Greater-clause-steps c)

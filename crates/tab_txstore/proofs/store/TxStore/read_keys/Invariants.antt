@@ -1,6 +1,5 @@
 use Rattle.std.proofs.Common.{◌≡◌, ◌++◌}
-use Rattle.tab_term.specs.View.{term, terms}
-use Rattle.tab_model.specs.Names.{terms_list}
+use Rattle.tab_term.specs.View.{term}
 use Rattle.tab_model.specs.Tables.{Rows}
 use Rattle.tab_rows.specs.Joined.{joined}
 use Rattle.tab_index.proofs.ReadLemmas.{answers}
@@ -11,4 +10,4 @@ use Rattle.tab_txstore.proofs.store.TxStore.read_keys.Given as goal
 -- the records found so far, and those of the keys that are left
 abbrev pub invariant-loop-key : goal.invariant-loop-key
 invariant-loop-key l = (seen : Rows) → IsSeen (touched l.self.levels.now.overlay l.lent.def.name) l.lent.rows seen
-    → terms_list (terms l.found.items) ++ joined (answers seen l.position (term l.value) l.key-iterator) ≡ joined (answers seen l.position (term l.value) l.initial.key-iterator)
+    → l.found.items ++ joined (answers seen l.position (term l.value) l.key-iterator) ≡ joined (answers seen l.position (term l.value) l.initial.key-iterator)

@@ -1,0 +1,20 @@
+-- Lists of terms may cross threads and be shared by them, as what they hold may.
+use denote.Param.Send.{IsSend, IsSync, sendable}
+use denote.Param.SendFields.{as_row_send, as_row_sync, declared_send, declared_sync}
+use Rattle.std.proofs.Crossing.{Vec-send, Vec-sync}
+use Rattle.tab_map.proofs.Crossing.{Entry-send, Entry-sync, Map-send, Map-sync}
+use Rattle.tab_term.proofs.Crossing.{Term-send, Term-sync, Terms-send, Terms-sync, SharedTerm-send, SharedTerm-sync}
+use Rattle.tab_shared.specs.contracts.record.SharedRecord as shared_record
+use Rattle.tab_shared.specs.contracts.shared_terms.SharedTerms as shared_terms
+
+SharedRecord-send : IsSend shared_record.the_row
+SharedRecord-send = search (sendable, Entry-send, declared_send, as_row_send, Term-send, Term-sync, Terms-send, Terms-sync, SharedTerm-send) depth 20
+
+SharedRecord-sync : IsSync shared_record.the_row
+SharedRecord-sync = search (sendable, Entry-sync, declared_sync, as_row_sync, Term-send, Term-sync, Terms-send, Terms-sync, SharedTerm-sync) depth 20
+
+pub SharedTerms-send : IsSend shared_terms.the_row
+SharedTerms-send = search (sendable, Vec-send, Entry-send, Map-send, declared_send, as_row_send, Term-send, Term-sync, Terms-send, Terms-sync, SharedTerm-send, SharedRecord-send) depth 20
+
+pub SharedTerms-sync : IsSync shared_terms.the_row
+SharedTerms-sync = search (sendable, Vec-sync, Entry-sync, Map-sync, declared_sync, as_row_sync, Term-send, Term-sync, Terms-send, Terms-sync, SharedTerm-sync, SharedRecord-sync) depth 20

@@ -1,0 +1,2 @@
+pub mod ListsLemmas
+pub mod Crossing

@@ -1,0 +1,3 @@
+pub mod ByKey
+pub mod Records
+pub mod Lists

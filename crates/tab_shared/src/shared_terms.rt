@@ -1,0 +1,195 @@
+//! A list of terms, in the form in which whoever made it had them.
+
+ghost use Rattle.std.specs.Prelude.{◌≡◌, ◌≤◌, IfOk, length, min};
+ghost use Rattle.tab_term.specs.Data.{plain_terms, count};
+ghost use Rattle.tab_shared.specs.ByKey.{filled_keys, joined};
+
+use crate::iter::Iter;
+use crate::record::SharedRecord;
+use std::alloc::{AllocError, Global};
+use std::marker::Model;
+use tab_map::{Entry, Map};
+use tab_term::{SharedTerm, Term, Terms};
+
+/// A list of terms that others may hold too. It can be read, and not taken apart.
+pub struct SharedTerms {
+    form: Form,
+}
+
+/// Who else holds the terms.
+pub enum Form {
+    /// No one.
+    Own(Terms),
+    /// Each has a count of its own.
+    Each(Vec<SharedTerm>),
+    /// The table that has these records at some keys.
+    Picked(Vec<SharedRecord>),
+    /// The table that has these records at one key.
+    Entry(Entry<Term, Terms>),
+    /// The table that has these keys, those at which records stand.
+    Keys(Map<Term, Terms>),
+    /// The table that has these records.
+    Records(Map<Term, Terms>),
+}
+
+// A derived drop would be taken apart, variant by variant, at each exit of each function that holds a list.
+impl Drop for Form {
+    fn drop(self) {
+        match self {
+            Form::Own(terms) => drop(terms),
+            Form::Each(terms) => drop(terms),
+            Form::Picked(records) => drop(records),
+            Form::Entry(entry) => drop(entry),
+            Form::Keys(map) | Form::Records(map) => drop(map),
+        }
+    }
+}
+
+impl Drop for SharedTerms {
+    fn drop(self) {
+        let SharedTerms { form } = self;
+        drop(form);
+    }
+}
+
+impl Model for SharedTerms {
+    ghost use Rattle.tab_term.specs.Data.{PlainTerms};
+    ghost use Rattle.tab_term.specs.Code.{terms_code};
+
+    ghost Value = { PlainTerms };
+
+    ghost coded = { terms_code };
+
+    ghost use Rattle.tab_shared.specs.Lists.{listed};
+
+    ghost view = { λ a. listed a.form };
+}
+
+impl SharedTerms {
+    /// These terms, which no one else holds. Takes no memory.
+    pub fn from_terms(terms: Terms) -> SharedTerms
+        ensures { result ≡ terms }
+    {
+        SharedTerms {
+            form: Form::Own(terms),
+        }
+    }
+
+    /// These terms, each of which others may hold. Takes no memory.
+    pub fn from_vec(terms: Vec<SharedTerm>) -> SharedTerms
+        ensures { result ≡ plain_terms terms.items }
+    {
+        SharedTerms {
+            form: Form::Each(terms),
+        }
+    }
+
+    /// These records, each of which a table may hold. Takes no memory.
+    pub fn from_picked(records: Vec<SharedRecord>) -> SharedTerms
+        ensures { result ≡ plain_terms records.items }
+    {
+        SharedTerms {
+            form: Form::Picked(records),
+        }
+    }
+
+    /// The records of a key, which a table may hold. Takes no memory.
+    pub fn from_entry(entry: Entry<Term, Terms>) -> SharedTerms
+        ensures { result ≡ entry.1 }
+    {
+        SharedTerms {
+            form: Form::Entry(entry),
+        }
+    }
+
+    /// The keys at which records stand, which a table may hold. Takes no memory.
+    pub fn from_keys(records: Map<Term, Terms>) -> SharedTerms
+        ensures { result ≡ plain_terms (filled_keys records) }
+    {
+        SharedTerms {
+            form: Form::Keys(records),
+        }
+    }
+
+    /// The records of all keys, which a table may hold. Takes no memory.
+    pub fn from_records(records: Map<Term, Terms>) -> SharedTerms
+        ensures { result ≡ plain_terms (joined records) }
+    {
+        SharedTerms {
+            form: Form::Records(records),
+        }
+    }
+
+    /// The terms, in their order.
+    pub fn iter(&self) -> Iter<'_>
+        ensures { plain_terms result ≡ self.now }
+    {
+        match &self.form {
+            Form::Own(terms) => Iter::over(terms.as_slice()),
+            Form::Each(terms) => Iter::over_each(terms.as_slice()),
+            Form::Picked(records) => Iter::over_picked(records.as_slice()),
+            Form::Entry(entry) => Iter::over(entry.pair().1.as_slice()),
+            Form::Keys(map) => Iter::over_keys(map.iter()),
+            Form::Records(map) => Iter::over_records(map.iter()),
+        }
+    }
+
+    /// How many terms there are; `usize::MAX` stands for more. Where a map has them, its entries are counted.
+    pub fn count(&self) -> usize
+        ensures { result ≡ min (count self.now) usize.MAX }
+    {
+        match &self.form {
+            Form::Own(terms) => terms.as_slice().len(),
+            Form::Each(terms) => terms.len(),
+            Form::Picked(records) => records.len(),
+            Form::Entry(entry) => entry.pair().1.as_slice().len(),
+            Form::Keys(map) => count_keys(map),
+            Form::Records(map) => count_records(map),
+        }
+    }
+
+    /// How many of the terms were put into the list one by one: none of those that it has by an entry or by a map.
+    pub fn gathered(&self) -> usize
+        ensures { result ≤ count self.now }
+    {
+        match &self.form {
+            Form::Own(terms) => terms.as_slice().len(),
+            Form::Each(terms) => terms.len(),
+            Form::Picked(records) => records.len(),
+            Form::Entry(_) | Form::Keys(_) | Form::Records(_) => 0,
+        }
+    }
+
+    /// The same terms, in memory of their own.
+    pub fn to_terms(&self, alloc: Global) -> Result<Terms, AllocError>
+        ensures { IfOk result (λ copy. copy ≡ self.now) }
+    {
+        let mut copies = Vec::new(alloc);
+        for term in self.iter() {
+            copies.push(term.try_clone(alloc)?)?;
+        }
+        Ok(Terms::from_vec(copies))
+    }
+}
+
+fn count_keys(map: &Map<Term, Terms>) -> usize
+    ensures { result ≡ min (length (filled_keys map.now)) usize.MAX }
+{
+    let mut keys: usize = 0;
+    for entry in map.iter() {
+        if !entry.pair().1.as_slice().is_empty() {
+            keys = keys.saturating_add(1);
+        }
+    }
+    keys
+}
+
+fn count_records(map: &Map<Term, Terms>) -> usize
+    ensures { result ≡ min (length (joined map.now)) usize.MAX }
+{
+    let mut records: usize = 0;
+    for entry in map.iter() {
+        records = records.saturating_add(entry.pair().1.as_slice().len());
+    }
+    records
+}
