@@ -1,0 +1,257 @@
+#!/usr/bin/env python3
+"""Runs `tabd serve` of the built program, and looks at the memory that it holds for what its clients were told.
+
+    memory.py PROGRAM
+
+What is read is shared with the table: what the journal's entries were told, and what waits in an outbox, takes little beside the table, and is
+given back when the last of them lets it go. bench/memory.py measures more of it. Each case has a server of its own. One line tells each case
+that differs; the last line is `N passed, M failed`, and the status 1 where one failed.
+"""
+
+import os
+import sys
+import threading
+import time
+
+from forever import Server
+from server import ATOMIC, CREATE, HERE_OK, OK, Differs, frame, same, script, serve, write
+from frames import take
+
+# The entries of the journal where no word says how many.
+JOURNAL = 1_024
+# What ends with a reply is given back after so many seconds at most.
+SETTLED = 0.3
+# A server serves so many seconds at most.
+LONGEST = 100
+MEGABYTE = 1_000_000
+ALL_KEYS, ALL_RECORDS = ("all_keys", "t"), ("match_object", ("t", "_", "_"))
+WATCHED = ("table", "t", "detailed")
+DUMP, NO_MORE = ("subscribe", WATCHED, "dump"), ("unsubscribe", WATCHED)
+
+
+class Held(Server):
+    """With the journal that a server has, or one that the words say."""
+
+    # What a case has found besides.
+    remark = ""
+
+    def __init__(self, program, *words):
+        self.process, self.port = serve(program, 64, ["--forever", *words])
+        self.limit = threading.Timer(LONGEST, self.process.kill)
+
+    def kilobytes(self, name="VmRSS"):
+        time.sleep(SETTLED)
+        with open(f"/proc/{self.process.pid}/status", encoding="ascii") as file:
+            return next(int(line.split()[1]) for line in file if line.startswith(name))
+
+
+def size_of(reply):
+    return len(frame(("reply", reply))) - 4
+
+
+def payload(client):
+    """The next frame's, not taken apart."""
+    return take(client.stream, int.from_bytes(take(client.stream, 4), "big"))
+
+
+def ask_long(client, request, size):
+    """Of the reply it is looked only whether it has so many bytes."""
+    client.send(request)
+    if len(found := payload(client)) != size:
+        raise Differs(f"{str(request)[:80]}: {len(found)} bytes in place of {size}, {found[:80]}")
+
+
+def transaction(client, requests, size):
+    """One that is committed, whose replies have so many bytes each."""
+    same("begin", client.ask("begin")[0], "tid")
+    for request in requests:
+        ask_long(client, request, size)
+    same("commit", client.ask("commit")[0], "atomic")
+
+
+def commit_nothing(client, count=JOURNAL):
+    """So many commits that tell nothing: of the journal's entries the oldest go."""
+    client.socket.sendall(frame(("transaction", [], 0)) * count)
+    wanted = frame(("reply", ("atomic", []))) * count
+    same("commits of nothing", take(client.stream, len(wanted)) == wanted, True)
+
+
+def fill(client, record, count, each):
+    """Writes the records of so many keys, so many in a one-shot."""
+    for first in range(0, count, each):
+        keys = range(first, min(first + each, count))
+        size = size_of(("atomic", [OK] * len(keys)))
+        ask_long(client, ("transaction", [("write", record(key)) for key in keys], 0), size)
+
+
+def small_record(key):
+    return ("t", key, key)
+
+
+def long_record(size):
+    return lambda key: ("t", key, bytes([key % 256]) * size)
+
+
+def table(record, count, each=10, options=()):
+    """Makes one of these records, of which few are in the journal at once: what it forgets would be room for what is measured."""
+
+    def make(client):
+        script((client, ("create_table", record(0)[0], list(options)), ATOMIC))
+        fill(client, record, count, each)
+
+    return make
+
+
+def long_reads(transactions, reads):
+    """Transactions that read one record so often, of which the journal tells."""
+
+    def hold(server, client):
+        [record] = client.ask(("transaction", [("read", "t", 0)], 0))[1][0]
+        for _ in range(transactions):
+            transaction(client, [("read", "t", 0)] * reads, size_of([record]))
+        commit_nothing(client, JOURNAL - transactions - 10)
+        return server.kilobytes()
+
+    return hold
+
+
+def whole_reads(request, answer, count, writes=False):
+    """Transactions that each ask for all of the table; where each writes before, a record of its own."""
+    size = size_of(answer)
+
+    def hold(server, client):
+        for turn in range(count):
+            # As long as the one that it takes the place of.
+            key = 1_000 + turn * 7_919 % (len(answer) - 1_000)
+            same("begin", client.ask("begin")[0], "tid")
+            if writes:
+                script((client, write(key, key + 1), OK))
+            ask_long(client, request, size)
+            same("commit", client.ask("commit")[0], "atomic")
+        return server.kilobytes()
+
+    return hold
+
+
+def queue(mirror, client, requests):
+    """Sends them in one piece, so that no reply has to be read before the next is asked, and waits until all are done."""
+    mirror.socket.sendall(b"".join(map(frame, [*requests, ("create_table", "done", [])])))
+    while client.ask(("table_info", "done", "size")) != 0:
+        time.sleep(0.01)
+    script((client, ("delete_table", "done"), ATOMIC))
+
+
+def begin_mark(records):
+    return ("mnesia_table_begin", "t", "detailed", records)
+
+
+def dumps(count, records):
+    """A session that takes nothing subscribes with a dump and ends that, so often."""
+    size = len(frame(begin_mark(records))) - 4
+
+    def hold(server, client):
+        mirror = server.connect()
+        queue(mirror, client, [DUMP, NO_MORE] * count)
+        held = server.kilobytes()
+        # A reply and a mark for each subscription and for its end, and the reply to what stands behind them.
+        found = [len(payload(mirror)) for _ in range(4 * count + 1)]
+        same("dumps", found.count(size), count)
+        return held
+
+    return hold
+
+
+def measured(server, make, hold):
+    """The kilobytes that it holds with a table alone, and with what one client makes it hold."""
+    client = server.connect()
+    make(client)
+    commit_nothing(client)
+    return server.kilobytes(), hold(server, client)
+
+
+def within(bound, make, hold):
+    """It holds so many kilobytes more at most."""
+
+    def case(server):
+        alone, held = measured(server, make, hold)
+        if held - alone > bound:
+            raise Differs(f"{held - alone} kB more, {bound} at most")
+
+    return case
+
+
+# More dumps of a record of a megabyte than a connection's buffers take up.
+QUEUED = 16
+ROUNDS, FIRST_ROUNDS, GROWTH = 40, 10, 8_000
+
+
+def let_go(server):
+    """What a table, the journal and an outbox hold is given back with the last of them, whichever of the two that is."""
+    client, reader, mirror = (server.connect() for _ in range(3))
+    script((client, CREATE, ATOMIC))
+    for number in range(ROUNDS):
+        one_round(client, reader, mirror, ("t", 1, bytes([number]) * MEGABYTE), number % 2)
+        if number + 1 == FIRST_ROUNDS:
+            before = server.kilobytes()
+    growth = server.kilobytes() - before
+    if growth > GROWTH:
+        raise Differs(f"{growth} kB more than after {FIRST_ROUNDS} rounds, {GROWTH} at most")
+
+
+def one_round(client, reader, mirror, record, outbox_first):
+    """A record is written, read, dumped, and told as the old record of an event; then the table has it no more."""
+    read = ("read", "t", 1)
+    script((client, ("transaction", [("write", record)], 0), ("atomic", [OK])))
+    transaction(reader, [read] * 10, size_of([record]))
+    ask_long(reader, ("transaction", [read, ALL_RECORDS], 0), size_of(("atomic", [[record]] * 2)))
+    # The last subscription goes on.
+    queue(mirror, client, ([DUMP, NO_MORE] * QUEUED)[:-1])
+    script((client, ("transaction", [write(1, "short")], 0), ("atomic", [OK])))
+    if outbox_first:
+        empty_outbox(mirror, record)
+    commit_nothing(client)
+    if not outbox_first:
+        empty_outbox(mirror, record)
+
+
+def empty_outbox(mirror, record):
+    told = [mirror.receive() for _ in range(4 * QUEUED)]
+    same("dumps", told.count(begin_mark([record])), QUEUED)
+    same("old records", [term[1][3] for term in told if term[0] == "mnesia_table_event"] == [[record]], True)
+    script((mirror, NO_MORE, HERE_OK))
+    same("end mark", mirror.event(), ("mnesia_table_end", "t", "unsubscribed"))
+
+
+# A name, and a bound in kilobytes: a server that copies what it tells holds more than 150,000 in each.
+CASES = [
+    ("reads of a long record", within(30_000, table(long_record(MEGABYTE), 1), long_reads(1, 200))),
+    ("all keys", within(30_000, table(small_record, 20_000), whole_reads(ALL_KEYS, list(range(20_000)), 300))),
+    ("all keys behind a write", within(30_000, table(small_record, 20_000), whole_reads(ALL_KEYS, list(range(20_000)), 300, True))),
+    ("dumps in an outbox", within(30_000, table(long_record(100_000), 50), dumps(32, [long_record(100_000)(key) for key in range(50)]))),
+    ("the last lets go", let_go),
+]
+
+
+def fault(program, name, case):
+    try:
+        with Held(program) as server:
+            case(server)
+            same("what it said", server.ended(), "")
+        return None
+    except (Differs, OSError, ValueError, KeyError, TypeError) as error:
+        return f"{name}: {type(error).__name__} {error}"
+
+
+def main():
+    if len(sys.argv) != 2:
+        sys.exit(__doc__)
+    program = os.path.abspath(sys.argv[1])
+    faults = [found for case in CASES if (found := fault(program, *case))]
+    for line in faults:
+        print(line)
+    print(f"{len(CASES) - len(faults)} passed, {len(faults)} failed")
+    sys.exit(1 if faults else 0)
+
+
+if __name__ == "__main__":
+    main()

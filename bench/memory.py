@@ -1,0 +1,161 @@
+#!/usr/bin/env python3
+"""What one client can make `tabd serve` hold in memory, with Python's standard library alone.
+
+    memory.py PROGRAM            as memory.py crates/tabd/out/tabd
+
+Each row has a server of its own, with a table whose making the journal has forgotten. Its figures are kilobytes of the server's memory (VmRSS):
+with the table alone, with what the row names, and what that is more. The C library keeps some of what is freed, and gives it out again first, so
+that less than some ten megabytes more say little. A server that copies what it tells takes up to 3.3 GB. Other work on the machine moves how long
+a read waited, and no other figure.
+"""
+
+import os
+import sys
+import time
+
+HERE = os.path.dirname(os.path.abspath(__file__))
+sys.path.insert(0, os.path.join(HERE, "..", ".ci"))
+from memory import (  # noqa: E402
+    ALL_KEYS,
+    ALL_RECORDS,
+    MEGABYTE,
+    WATCHED,
+    Held,
+    ask_long,
+    commit_nothing,
+    dumps,
+    fill,
+    long_reads,
+    long_record,
+    measured,
+    payload,
+    size_of,
+    small_record,
+    table,
+    whole_reads,
+)
+from server import HERE_OK, OK, same, script, side_by_side  # noqa: E402
+from frames import spell  # noqa: E402
+
+RECORDS, TRANSACTIONS, SCANS, DUMPS, READERS = 100_000, 1_024, 64, 32, 12
+# Records of the key of a bag, and the writes of a one-shot there.
+BAGGED, WRITES = 6_000, 899
+# A one-shot that tells much takes so many seconds at most.
+PATIENCE = 60
+
+
+def idle_readers(count, answer):
+    """So many connections that have each read all of the table, at once."""
+    size = size_of(answer)
+
+    def read_all(reader):
+        same("begin", reader.ask("begin")[0], "tid")
+        ask_long(reader, ALL_RECORDS, size)
+        # An abort, since the journal holds what a commit was told.
+        script((reader, ("abort", "read"), ("aborted", "read")))
+
+    def hold(server, _):
+        readers = [server.connect() for _ in range(count)]
+        side_by_side([(read_all, (reader,)) for reader in readers])
+        return server.kilobytes()
+
+    return hold
+
+
+def bag_record(number):
+    """All are of one key, and as long as each other."""
+    return ("t", 0, 1_000 + number)
+
+
+def follow(mirror):
+    """The events of the one-shot, each of which has one record more than the one before."""
+    sizes = [len(payload(mirror)) for _ in range(WRITES)]
+    same("their growth", {after - before for before, after in zip(sizes, sizes[1:])}, {len(spell(bag_record(0)))})
+
+
+def one_shot(server, client):
+    """Writes to a key of many records, told to a mirror that reads, while another reads at another key."""
+    mirror, other = server.connect(), server.connect()
+    for connection in (client, mirror, other):
+        connection.socket.settimeout(PATIENCE)
+    script((mirror, ("subscribe", WATCHED), HERE_OK))
+    same("begin mark", mirror.event(), ("mnesia_table_begin", "t", "detailed"))
+    writes = [("write", bag_record(BAGGED + number)) for number in range(WRITES)]
+    waited, done = [], []
+
+    def until_done(work, *given):
+        work(*given)
+        done.append(work)
+
+    def read():
+        while len(done) < 2:
+            begun = time.monotonic()
+            script((other, ("transaction", [("read", "t", 1)], 0), ("atomic", [[]])))
+            waited.append(time.monotonic() - begun)
+
+    begin_peak(server)
+    asked = (client, ("transaction", writes, 0), ("atomic", [OK] * WRITES))
+    side_by_side([(read, ()), (until_done, (follow, mirror)), (until_done, (script, asked))])
+    server.remark = f"peak {server.kilobytes('VmHWM')} kB; another's read waited {max(waited) * 1000:.0f} ms, beside other work"
+    return server.kilobytes()
+
+
+def begin_peak(server):
+    """The peak is that of what comes from here on."""
+    with open(f"/proc/{server.process.pid}/clear_refs", "w", encoding="ascii") as file:
+        file.write("5")
+
+
+def person(key):
+    return ("person", key, bytes(40))
+
+
+def persons(count):
+    """Rows of a table, and how many bytes each of them takes."""
+
+    def hold(server, client):
+        before = server.kilobytes()
+        fill(client, person, count, 500)
+        commit_nothing(client)
+        held = server.kilobytes()
+        server.remark = f"{(held - before) * 1024 / count:.0f} bytes a row"
+        return held
+
+    return hold
+
+
+def of_long(size, count, hold, times):
+    """A table of long records, and what holds all of them so often."""
+    record = long_record(size)
+    return table(record, count, 1 if count < 100 else 10), hold(times, [record(key) for key in range(count)])
+
+
+def rows():
+    """What, the server's further words, how the table is made, and what is held with it."""
+    small, keys, records = table(small_record, RECORDS), list(range(RECORDS)), [small_record(key) for key in range(RECORDS)]
+    bag = table(bag_record, BAGGED, options=[("type", "bag")])
+    yield "6 transactions of 500 reads of a record of 1 MB", [], table(long_record(MEGABYTE), 1), long_reads(6, 500)
+    for what, request, answer, count in (("all_keys", ALL_KEYS, keys, TRANSACTIONS), ("match_object", ALL_RECORDS, records, SCANS)):
+        for writes in (False, True):
+            yield f"{count} transactions of {'a write and ' * writes}{what}, {RECORDS} records", [], small, whole_reads(request, answer, count, writes)
+    for size, count in ((100_000, 300), (1_000, 30_000)):
+        yield f"{DUMPS} dumps of 30 MB in an outbox, {count} records", [], *of_long(size, count, dumps, DUMPS)
+    for size, count in ((500_000, 40), (100, 170_000)):
+        yield f"{READERS} connections that have read 20 MB, {count} records", [], *of_long(size, count, idle_readers, READERS)
+    yield f"a one-shot of {WRITES} writes to a key of {BAGGED} records, told in detail", [], bag, one_shot
+    for count in (100_000, 1_000_000):
+        yield f"{count} rows of 40 bytes", ["--journal", "16"], table(person, 0), persons(count)
+
+
+def main():
+    if len(sys.argv) != 2:
+        sys.exit(__doc__)
+    print("what | the table alone | held with it | more")
+    for what, words, make, hold in rows():
+        with Held(os.path.abspath(sys.argv[1]), *words) as server:
+            alone, held = measured(server, make, hold)
+        remark = f" ({server.remark})" if server.remark else ""
+        print(f"{what}{remark} | {alone} | {held} | {held - alone}", flush=True)
+
+
+main()
