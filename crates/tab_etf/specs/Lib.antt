@@ -9,4 +9,5 @@ pub mod Streams
 pub mod Feeding
 pub mod Fronts
 pub mod Arrivals
+pub mod Measures
 pub mod Outlines

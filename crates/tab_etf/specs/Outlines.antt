@@ -4,6 +4,7 @@ use Rattle.std.specs.Prelude.{ℕ, pos, ◌<◌, ◌^◌, List, [], ◌∷◌, O
 use Rattle.tab_term.specs.Data.{PlainTerm, int, atom, tuple, list, none, one_more, count, pair, triple}
 use Rattle.tab_term.specs.Canon.{canon}
 use Rattle.tab_term.specs.View.{term}
+use Rattle.tab_etf.specs.Measures.{IsMeasure}
 use Rattle.tab_etf.specs.declared.outline.Leaf.{Leaf}
 use Rattle.tab_etf.specs.declared.outline.Leaf.TheVariants as leaf
 use Rattle.tab_etf.specs.declared.outline.Body.{Body}
@@ -16,7 +17,7 @@ leaf_term (leaf.Word text) = atom text.now
 leaf_term (leaf.Number n) = int (pos n)
 leaf_term (leaf.Held t) = term t.now
 leaf_term (leaf.List ts) = list ts.now
-leaf_term (leaf.SharedList ts) = list ts.now
+leaf_term (leaf.SharedList ts m) = list ts.now
 
 -- the one part by itself, or the tuple of two to four parts
 abbrev pub body_term : Body → PlainTerm
@@ -55,17 +56,18 @@ OfBody P (body.Four a b c d) = P a × P b × P c × P d
 abbrev pub OfOutline : (Leaf → Type 0) → Outline → Type 0
 OfOutline P o = OfHead P o.first × OfHead P o.second × OfBody P o.body
 
--- an atom's text has a length of two bytes
+-- an atom's text has a length of two bytes, and a list that is shared stands with its measure
 abbrev pub IsShort : Leaf → Type 0
 IsShort (leaf.Word text) = length text.now < 2 ^ 16
+IsShort (leaf.SharedList ts m) = IsMeasure m ts.now
 IsShort l = Unit {0}
 
--- each atom of the outline has a text of less than 65,536 bytes
+-- each atom of the outline has a text of less than 65,536 bytes, and each shared list its measure
 abbrev pub IsShortOutline : Outline → Type 0
 IsShortOutline o = OfOutline IsShort o
 
--- an atom's text has a length of two bytes, and a list that is shared has a count of eight
+-- an atom's text has a length of two bytes, and a list that is shared its measure, and a count of eight
 abbrev pub IsWritable : Leaf → Type 0
 IsWritable (leaf.Word text) = length text.now < 2 ^ 16
-IsWritable (leaf.SharedList ts) = count ts.now < 2 ^ 64
+IsWritable (leaf.SharedList ts m) = IsMeasure m ts.now × (count ts.now < 2 ^ 64)
 IsWritable l = Unit {0}

@@ -2,12 +2,13 @@
 
 ghost use Rattle.std.specs.Prelude.{◌≡◌, ◌<◌, ◌≤◌, ◌∷◌, min, length, MatchOption, IfSome};
 ghost use Rattle.tab_term.specs.Canon.{canon};
+ghost use Rattle.tab_term.specs.Data.{list};
 ghost use Rattle.tab_etf.specs.Outlines.{leaf_term, body_term, outline_term, head_canon, OfHead, OfBody, OfOutline, IsShort, IsShortOutline, IsWritable};
 ghost use Rattle.tab_etf.specs.Writing.{Writes};
 
 use crate::device::Target;
 use crate::measuring::{LONGEST, atom_len, int_len, list_len, spelled_len};
-use crate::shared::{put_shared, shared_len};
+use crate::shared::{Measure, measure_of, put_shared, shared_len};
 use crate::spelling::{put, put_atom, put_int, put_list};
 use crate::writer::Writer;
 use tab_shared::SharedTerms;
@@ -23,8 +24,18 @@ pub enum Leaf<'a> {
     Held(&'a Term),
     /// A list of these elements.
     List(&'a Terms),
-    /// A list of these elements.
-    SharedList(&'a SharedTerms),
+    /// A list of these elements, with its measure.
+    SharedList(&'a SharedTerms, Measure),
+}
+
+impl<'a> Leaf<'a> {
+    /// A list of these elements, which are measured once.
+    pub fn shared(elements: &'a SharedTerms) -> Leaf<'a>
+        ensures term { leaf_term result ≡ list elements.now }
+        ensures short { IsShort result }
+    {
+        Leaf::SharedList(elements, measure_of(elements))
+    }
 }
 
 /// One part alone, or a tuple of parts.
@@ -54,7 +65,7 @@ fn put_leaf<W: Target>(writer: &mut Writer<W>, leaf: &Leaf)
         Leaf::Number(number) => put_int(writer, i128::from(*number)),
         Leaf::Held(held) => put(writer, held),
         Leaf::List(elements) => put_list(writer, elements),
-        Leaf::SharedList(elements) => put_shared(writer, elements),
+        Leaf::SharedList(elements, measure) => put_shared(writer, elements, *measure),
     }
 }
 
@@ -118,7 +129,7 @@ fn leaf_len(leaf: &Leaf) -> u64
         Leaf::Number(number) => int_len(i128::from(*number)),
         Leaf::Held(held) => spelled_len(held),
         Leaf::List(elements) => list_len(elements),
-        Leaf::SharedList(elements) => shared_len(elements),
+        Leaf::SharedList(elements, measure) => shared_len(elements, *measure),
     }
 }
 

@@ -4,6 +4,7 @@ ghost use Rattle.std.specs.Prelude.{◌≡◌, ◌<◌, ◌^◌, ◌++◌, ◌�
 ghost use Rattle.std.specs.Int.{w16, to_be_bytes};
 ghost use Rattle.tab_term.specs.Canon.{all_bytes, bytes_of, canon, canons, list_tag, list_contents};
 ghost use Rattle.tab_term.specs.Data.{count, list};
+ghost use Rattle.tab_etf.specs.Measures.{IsMeasure};
 ghost use Rattle.tab_etf.specs.Writing.{Writes};
 
 use crate::device::Target;
@@ -13,38 +14,38 @@ use crate::writer::Writer;
 use tab_shared::SharedTerms;
 use tab_term::spelling::{LIST_EXT, NIL_EXT, STRING_EXT, is_byte_term};
 
-/// What is written of a list before its elements.
+/// What is written of a list before its elements, and how long they are.
 #[derive(Clone, Copy)]
-struct Head {
-    tag: u8,
+pub struct Measure {
+    pub tag: u8,
     /// How many elements there are; `usize::MAX` stands for more.
-    len: usize,
+    pub count: usize,
+    /// How many bytes they take; `u64::MAX` stands for more.
+    pub len: u64,
 }
 
-fn are_bytes(ts: &SharedTerms) -> bool
-    ensures { result ≡ all_bytes ts.now }
-{
-    for t in ts.iter() {
-        if !is_byte_term(t) {
-            return false;
-        }
-    }
-    true
-}
-
-fn head_of(ts: &SharedTerms) -> Head
+/// Goes over the list once, which has neither a count of its elements nor their lengths.
+pub fn measure_of(ts: &SharedTerms) -> Measure
     ensures tag { result.tag ≡ list_tag ts.now }
-    ensures len { result.len ≡ min (count ts.now) usize.MAX }
+    ensures count { result.count ≡ min (count ts.now) usize.MAX }
+    ensures len { result.len ≡ min (length (canons ts.now)) u64.MAX }
 {
-    let len = ts.count();
-    let tag = if len == 0 {
+    let mut count: usize = 0;
+    let mut len: u64 = 0;
+    let mut bytes = true;
+    for t in ts.iter() {
+        count = count.saturating_add(1);
+        len = len.saturating_add(spelled_len(t));
+        bytes &= is_byte_term(t);
+    }
+    let tag = if count == 0 {
         NIL_EXT
-    } else if len < 0x1_0000 && are_bytes(ts) {
+    } else if count < 0x1_0000 && bytes {
         STRING_EXT
     } else {
         LIST_EXT
     };
-    Head { tag, len }
+    Measure { tag, count, len }
 }
 
 fn put_bytes<W: Target>(writer: &mut Writer<W>, ts: &SharedTerms)
@@ -75,41 +76,31 @@ fn put_all<W: Target>(writer: &mut Writer<W>, ts: &SharedTerms)
 }
 
 /// Writes the list, as `put_list` writes one whose elements are its own.
-pub fn put_shared<W: Target>(writer: &mut Writer<W>, ts: &SharedTerms)
-    requires { count ts.now < 2 ^ 64 }
+pub fn put_shared<W: Target>(writer: &mut Writer<W>, ts: &SharedTerms, measure: Measure)
+    requires measure { IsMeasure measure ts.now }
+    requires fits { count ts.now < 2 ^ 64 }
     ensures { Writes W.contents W.faults writer.old writer.new (list_tag ts.now ∷ list_contents ts.now (canons ts.now)) }
 {
-    let head = head_of(ts);
-    match head.tag {
+    match measure.tag {
         NIL_EXT => writer.put(&[NIL_EXT]),
-        STRING_EXT => put_string(writer, ts, head.len as u16),
+        STRING_EXT => put_string(writer, ts, measure.count as u16),
         _ => {
-            put_tagged(writer, LIST_EXT, head.len);
+            put_tagged(writer, LIST_EXT, measure.count);
             put_all(writer, ts);
             writer.put(&[NIL_EXT]);
         }
     }
 }
 
-fn all_len(ts: &SharedTerms) -> u64
-    ensures { result ≡ min (length (canons ts.now)) u64.MAX }
-{
-    let mut sum: u64 = 0;
-    for t in ts.iter() {
-        sum = sum.saturating_add(spelled_len(t));
-    }
-    sum
-}
-
-/// How long the canonical spelling of the list is; `u64::MAX` stands for more.
+/// How long the canonical spelling of a list with this measure is; `u64::MAX` stands for more.
 #[tactic(auto, using(crate::proofs::Lengths::empty_length, crate::proofs::Lengths::bytes_length))]
-pub fn shared_len(ts: &SharedTerms) -> u64
+pub fn shared_len(ts: &SharedTerms, measure: Measure) -> u64
+    requires { IsMeasure measure ts.now }
     ensures { result ≡ min (length (canon (list ts.now))) u64.MAX }
 {
-    let head = head_of(ts);
-    match head.tag {
+    match measure.tag {
         NIL_EXT => 1,
-        STRING_EXT => head.len as u64 + 3,
-        _ => all_len(ts).saturating_add(field_len(head.len) + 2),
+        STRING_EXT => measure.count as u64 + 3,
+        _ => measure.len.saturating_add(field_len(measure.count) + 2),
     }
 }

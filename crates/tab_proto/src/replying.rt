@@ -77,7 +77,7 @@ pub(crate) fn outline_of(reply: &Reply) -> Outline<'_>
         Reply::AlreadySubscribed(table) => told_in("error", "already_subscribed", named(table)),
         Reply::NotSubscribed(table) => told_in("error", "not_subscribed", named(table)),
         Reply::AtomicTerms(replies) => worded("atomic", Leaf::List(replies)),
-        Reply::Found(rows) => alone(Leaf::SharedList(rows)),
+        Reply::Found(rows) => alone(Leaf::shared(rows)),
         Reply::Told(info) => info_outline(info),
         Reply::Taken(item) => item_outline(item),
         Reply::SystemLimit(limit) => {
@@ -242,7 +242,7 @@ pub(crate) fn item_outline(item: &Item) -> Outline<'_>
         }
         Item::Began(table, level, Some(records)) => dump_outline(table, *level, records),
         Item::Batch(commits, events) => {
-            told_of("batch", Leaf::Number(*commits), Leaf::SharedList(events))
+            told_of("batch", Leaf::Number(*commits), Leaf::shared(events))
         }
         Item::Ended(table, ending) => {
             told_of(
@@ -265,7 +265,7 @@ fn dump_outline<'a>(table: &'a Atom, level: Level, records: &'a SharedTerms) -> 
             Leaf::Word("mnesia_table_begin"),
             named(table),
             Leaf::Word(level_word(level)),
-            Leaf::SharedList(records),
+            Leaf::shared(records),
         ),
     }
 }

@@ -7,17 +7,17 @@ use Rattle.tab_etf.proofs.CanonLemmas.{list_none, list_bytes, list_short, list_o
 use Rattle.tab_etf.proofs.shared.put_shared.Goals as goal
 
 pub returns-in-106 : goal.returns-in-106
-returns-in-106 g c = writes_as c.put.ensures (sym (list_none c.args.ts.now (sym c.head_of-head.ensures.tag ∙ c.in-106.is)))
+returns-in-106 g c = writes_as c.put.ensures (sym (list_none c.args.ts.now (sym c.requires.measure.tag ∙ c.in-106.is)))
 
 pub returns-in-107 : goal.returns-in-107
 returns-in-107 g c =
-    let tag = sym c.head_of-head.ensures.tag ∙ c.in-107.is in
+    let tag = sym c.requires.measure.tag ∙ c.in-107.is in
     writes_as c.put_string.ensures
-    (ap (λ n. 107 ∷ to_be_bytes w16 n ++ bytes_of c.args.ts.now) (omega (arith, c.head_of-head.ensures.len, list_short c.args.ts.now tag))
+    (ap (λ n. 107 ∷ to_be_bytes w16 n ++ bytes_of c.args.ts.now) (omega (arith, c.requires.measure.count, list_short c.args.ts.now tag))
     ∙ sym (list_bytes c.args.ts.now tag))
 
 pub returns-in_default : goal.returns-in_default
 returns-in_default g c =
-    let len : c.head_of-head.result.len ≡ count c.args.ts.now = omega (arith, c.head_of-head.ensures.len, c.requires) in
+    let len : c.args.measure.count ≡ count c.args.ts.now = omega (arith, c.requires.measure.count, c.requires.fits) in
     writes_as (writes_then (writes_then c.put_tagged.ensures c.put_all.ensures) c.put-in_default.ensures)
     (ap (λ n. (108 ∷ length_field n) ++ canons c.args.ts.now ++ 106 ∷ []) len ∙ sym (list_others c.args.ts.now (search rules) (search rules)))

@@ -4,5 +4,5 @@ use Rattle.tab_etf.proofs.shared.shared_len.Goals as goal
 
 pub returns-in_default : goal.returns-in_default
 returns-in_default c =
-    let others = others_length c.args.ts.now c.head_of-head.result.len c.head_of-head.ensures.len (search rules) (search rules) in
-    omega (arith, others, c.all_len.ensures, c.field_len.ensures.value, c.saturating_add.ensures)
+    let others = others_length c.args.ts.now c.args.measure.count c.requires.count (search rules) (search rules) in
+    omega (arith, others, c.requires.len, c.field_len.ensures.value, c.saturating_add.ensures)
