@@ -12,9 +12,11 @@ failed.
 import random
 import select
 import statistics
+import threading
 import time
 
 from server import ATOMIC, CREATE, OK, Differs, main, same, script, side_by_side, waits, write
+from frames import take
 
 READ = ("read", "t", 1)
 WREAD = ("wread", ("t", 1))
@@ -25,6 +27,8 @@ LATE = 2.0
 AT_ONCE, ROUNDS = 0.005, 15
 # So long the mixed load is run.
 SECONDS = 2.0
+# A table of so many keys, all of which a one-shot asks for so many times.
+KEYS, ASKED = 30_000, 50
 
 
 def one_shot(*parts, retries=0):
@@ -218,6 +222,29 @@ def a_one_shot_is_patient(holder, other):
     received_after(other, ("atomic", [OK, OK]))
 
 
+def long_answers(asker, other):
+    """A one-shot that is told much lets others in between its answers: another's read waits at most a quarter of it."""
+    script((asker, CREATE, ATOMIC))
+    for first in range(0, KEYS, 1_000):
+        script((asker, one_shot(*(write(key, 0) for key in range(first, first + 1_000))), ("atomic", [OK] * 1_000)))
+
+    def ask_all():
+        asker.send(one_shot(*[("all_keys", "t")] * ASKED))
+        take(asker.stream, int.from_bytes(take(asker.stream, 4), "big"))
+
+    def read_on():
+        time.sleep(0.02)
+        while whole.is_alive():
+            waited.append(timed(other.ask, one_shot(READ))[1])
+
+    waited, took = [], []
+    whole = threading.Thread(target=lambda: took.append(timed(ask_all)[1]))
+    whole.start()
+    read_on()
+    whole.join()
+    between("another's read", 0, max(waited), took[0] / 4)
+
+
 def raises(*connections):
     """Sixteen raise one record, each after a read for a write; how often they are restarted."""
     each, restarts = 25, []
@@ -294,6 +321,7 @@ CASES = [
     ("one vanishes", 3, [], one_vanishes),
     ("opposite orders", 2, [], opposite_orders),
     ("a one-shot is patient", 2, [], a_one_shot_is_patient),
+    ("long answers", 2, [], long_answers),
     ("sixteen raise", 16, [], raises),
     ("mixed load", 16, [], mixed),
 ]

@@ -85,9 +85,10 @@ impl<'a, H: House> Held<'a, H> {
     }
 }
 
+/// Shared ones count too: a one-shot copies what it is told while the book is held.
 fn records_of(reply: &Reply) -> usize {
     match reply {
-        Reply::Found(records) => records.gathered(),
+        Reply::Found(records) => records.count_up_to(RECORDS),
         _ => 0,
     }
 }

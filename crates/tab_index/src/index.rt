@@ -227,7 +227,8 @@ impl Index {
         }
     }
 
-    /// The records that have the value, shared with the table: by keys, and of each key in the order of their insertion.
+    /// The records that have the value: by keys, and of each key in the order of their insertion. One that is the only record
+    /// of its key is shared with the table, and each other copied.
     pub fn read(&self, alloc: Global, rows: &Rows, value: &Term) -> Result<SharedTerms, AllocError>
         requires index { IsIndexOf rows.now.1 self.now.position self.now.keys }
         requires ordered { is_ordered rows.now.1 ≡ true }

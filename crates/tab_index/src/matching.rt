@@ -14,7 +14,8 @@ use tab_rows::Rows;
 use tab_shared::{SharedRecord, SharedTerms};
 use tab_term::{Term, Terms, has_wildcard, matches};
 
-/// The records that fit the pattern, shared with the table. Where it has a key without a wildcard, no other key is looked at.
+/// The records that fit the pattern. One that is the only record of its key is shared with the table, and each other copied.
+/// Where the pattern has a key without a wildcard, no other key is looked at.
 pub fn match_object(alloc: Global, rows: &Rows, pattern: &Term) -> Result<SharedTerms, AllocError>
     ensures { IfOk result (λ found. found ≡ plain_terms (match_object_in rows.now.1 (term pattern.now))) }
 {

@@ -13,6 +13,7 @@ use Rattle.tab_term.specs.declared.term.Term.{Term}
 use Rattle.tab_term.specs.View.{term}
 use Rattle.tab_term.specs.Canon.{canon}
 use Rattle.tab_term.specs.Data.{PlainTerm, PlainTerms}
+pub use Rattle.tab_shared.proofs.ListsLemmas.{plain-list}
 use Rattle.tab_term.specs.OrderLaws.{canon_same}
 use Rattle.tab_term.specs.Same.{same, same-Decides}
 use Rattle.tab_map.specs.Entries.{lookup, insert_entry, remove_entry, AllAbove, Ascends}
@@ -209,10 +210,6 @@ joined-remove kind es c k kc s a is =
     inside q Greater = refl
 
 -- ---- what the functions meet
-
-pub plain-list : (ts : PlainTerms) → plain_terms (terms_list ts) ≡ ts
-plain-list Rattle.tab_term.specs.Data.none = refl
-plain-list (Rattle.tab_term.specs.Data.one_more t ts) = ap (Rattle.tab_term.specs.Data.one_more t) (plain-list ts)
 
 pub at_found : (es : List Entry) (q : Term) (ts : PlainTerms) → IsInOrder es → Some ts ≡ lookup term_cmp q es → ts ≡ plain_terms (at (joined es) (term q))
 at_found es q ts o h = sym (plain-list ts) ∙ ap plain_terms (ap found_in h ∙ sym (at-joined es q o.ascends o.keyed))

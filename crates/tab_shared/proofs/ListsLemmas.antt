@@ -1,13 +1,8 @@
 -- Lists of terms that are shared.
-use Rattle.std.proofs.Common.{◌≡◌, ◌<◌, ℕ, zero, suc, get_or, arith, List, [], ◌∷◌, ◌++◌, length, ◌+◌, length-append, append-nil, append_assoc, refl, sym, ap, ◌∙◌}
+use Rattle.std.proofs.Common.{◌≡◌, ◌<◌, ℕ, zero, suc, get_or, arith, List, [], ◌∷◌, ◌++◌, length, append-nil, append_assoc, refl, sym, ap, ◌∙◌}
 use Rattle.tab_term.specs.declared.term.Term.{Term}
-use Rattle.tab_term.specs.Data.{PlainTerm, PlainTerms, none, one_more, plain_terms, terms_list, count}
+use Rattle.tab_term.specs.Data.{PlainTerm, PlainTerms, none, one_more, plain_terms, terms_list}
 use Rattle.tab_term.specs.View.{term, terms}
-use Rattle.tab_shared.specs.ByKey.{Entry, joined}
-
-pub count_plain : (ts : List PlainTerm) → count (plain_terms ts) ≡ length ts
-count_plain [] = refl
-count_plain (t ∷ ts) = ap suc (count_plain ts)
 
 pub plain-list : (ts : PlainTerms) → plain_terms (terms_list ts) ≡ ts
 plain-list none = refl
@@ -17,7 +12,7 @@ pub list-plain : (ts : List PlainTerm) → terms_list (plain_terms ts) ≡ ts
 list-plain [] = refl
 list-plain (t ∷ ts) = ap (λ us. t ∷ us) (list-plain ts)
 
-list_push : (ts : List Term) (t : Term) → terms_list (terms (ts ++ t ∷ [])) ≡ terms_list (terms ts) ++ term t ∷ []
+pub list_push : (ts : List Term) (t : Term) → terms_list (terms (ts ++ t ∷ [])) ≡ terms_list (terms ts) ++ term t ∷ []
 list_push [] t = refl
 list_push (u ∷ us) t = ap (λ ts. term u ∷ ts) (list_push us t)
 
@@ -38,12 +33,3 @@ pub term_at : (ts : List Term) (n : ℕ) (t : Term) (d : PlainTerm) → n < leng
 term_at [] n t d h e = absurd (omega (arith, h))
 term_at (u ∷ us) zero t d h e = ap term e
 term_at (u ∷ us) (suc n) t d h e = term_at us n t d (omega (arith, h)) e
-
--- ---- how many they are
-
-count_list : (ts : PlainTerms) → length (terms_list ts) ≡ count ts
-count_list none = refl
-count_list (one_more t ts) = ap suc (count_list ts)
-
-pub joined_first : (before after : List Entry) (e : Entry) → before ≡ e ∷ after → length (joined before) ≡ count e.1 + length (joined after)
-joined_first before after e h = ap (λ es. length (joined es)) h ∙ length-append (terms_list e.1) (joined after) ∙ ap (λ n. n + length (joined after)) (count_list e.1)

@@ -1,6 +1,6 @@
 //! A list of terms, in the form in which whoever made it had them.
 
-ghost use Rattle.std.specs.Prelude.{◌≡◌, ◌≤◌, IfOk, length, min};
+ghost use Rattle.std.specs.Prelude.{◌≡◌, IfOk, min};
 ghost use Rattle.tab_term.specs.Data.{plain_terms, count};
 ghost use Rattle.tab_shared.specs.ByKey.{filled_keys, joined};
 
@@ -134,30 +134,18 @@ impl SharedTerms {
         }
     }
 
-    /// How many terms there are; `usize::MAX` stands for more. Where a map has them, its entries are counted.
-    pub fn count(&self) -> usize
-        ensures { result ≡ min (count self.now) usize.MAX }
+    /// How many terms there are, counted up to this number: more are not looked at.
+    pub fn count_up_to(&self, most: usize) -> usize
+        ensures { result ≡ min (count self.now) most }
     {
-        match &self.form {
-            Form::Own(terms) => terms.as_slice().len(),
-            Form::Each(terms) => terms.len(),
-            Form::Picked(records) => records.len(),
-            Form::Entry(entry) => entry.pair().1.as_slice().len(),
-            Form::Keys(map) => count_keys(map),
-            Form::Records(map) => count_records(map),
+        let mut counted = 0;
+        for _term in self.iter() {
+            if counted == most {
+                return most;
+            }
+            counted += 1;
         }
-    }
-
-    /// How many of the terms were put into the list one by one: none of those that it has by an entry or by a map.
-    pub fn gathered(&self) -> usize
-        ensures { result ≤ count self.now }
-    {
-        match &self.form {
-            Form::Own(terms) => terms.as_slice().len(),
-            Form::Each(terms) => terms.len(),
-            Form::Picked(records) => records.len(),
-            Form::Entry(_) | Form::Keys(_) | Form::Records(_) => 0,
-        }
+        counted
     }
 
     /// The same terms, in memory of their own.
@@ -170,26 +158,4 @@ impl SharedTerms {
         }
         Ok(Terms::from_vec(copies))
     }
-}
-
-fn count_keys(map: &Map<Term, Terms>) -> usize
-    ensures { result ≡ min (length (filled_keys map.now)) usize.MAX }
-{
-    let mut keys: usize = 0;
-    for entry in map.iter() {
-        if !entry.pair().1.as_slice().is_empty() {
-            keys = keys.saturating_add(1);
-        }
-    }
-    keys
-}
-
-fn count_records(map: &Map<Term, Terms>) -> usize
-    ensures { result ≡ min (length (joined map.now)) usize.MAX }
-{
-    let mut records: usize = 0;
-    for entry in map.iter() {
-        records = records.saturating_add(entry.pair().1.as_slice().len());
-    }
-    records
 }

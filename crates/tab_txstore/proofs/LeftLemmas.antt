@@ -16,16 +16,12 @@ use Rattle.tab_model.specs.Operations.{key_of_change}
 use Rattle.tab_model.specs.Worlds.{Table}
 use Rattle.tab_model.specs.Shapes.{held}
 use Rattle.tab_model.proofs.ShapeLaws.{held_term}
-use Rattle.tab_rows.proofs.Cells.{plain-list}
+use Rattle.tab_shared.proofs.ListsLemmas.{plain-list, list_push}
 use Rattle.tab_txstore.specs.Overlays.{Touched, Overlay, touched_in, touched, or_lent, seen_at, left, with_row, touch}
 
 terms_push : (ts : List Term) (t : Term) → terms (ts ++ t ∷ []) ≡ plain_terms (terms_list (terms ts) ++ term t ∷ [])
 terms_push [] t = refl
 terms_push (u ∷ ts) t = ap (Rattle.tab_term.specs.Data.one_more (term u)) (terms_push ts t)
-
-pub list_push : (ts : List Term) (t : Term) → terms_list (terms (ts ++ t ∷ [])) ≡ terms_list (terms ts) ++ term t ∷ []
-list_push [] t = refl
-list_push (u ∷ ts) t = ap (λ us. term u ∷ us) (list_push ts t)
 
 pub kept_row : (ts copy : List Term) (r : PlainTerm) → terms copy ≡ terms ts → true ≡ list_any (same r) (terms_list (terms ts)) → terms copy ≡ plain_terms (with_row (terms_list (terms ts)) r)
 kept_row ts copy r h e = h ∙ sym (plain-list (terms ts)) ∙ ap (λ b. plain_terms (if b then terms_list (terms ts) else terms_list (terms ts) ++ r ∷ [])) e

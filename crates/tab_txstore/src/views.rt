@@ -44,8 +44,9 @@ impl TxStore {
         Ok(SharedTerms::from_keys(self.by_key(alloc, lent)?))
     }
 
-    /// The records that fit the pattern, of a lent table as the transaction sees it, in their order. They are shared with
-    /// the table, or with the transaction. Where no `'_'` stands in the pattern's key, no other key is looked at.
+    /// The records that fit the pattern, of a lent table as the transaction sees it, in their order. One that is the only
+    /// record of its key is shared with the table, or with the transaction, and each other copied. Where no `'_'` stands in
+    /// the pattern's key, no other key is looked at.
     pub fn view_match(
         &self,
         alloc: Global,
@@ -67,9 +68,9 @@ impl TxStore {
         Ok(SharedTerms::from_picked(found))
     }
 
-    /// The records that have the value at the position, of a lent table as the transaction sees it, in their order. They are
-    /// shared with the table, or with the transaction. Only keys that the index has with the value, and touched keys, are
-    /// looked at; where the position has no index the table is walked.
+    /// The records that have the value at the position, of a lent table as the transaction sees it, in their order. One that
+    /// is the only record of its key is shared with the table, or with the transaction, and each other copied. Only keys that
+    /// the index has with the value, and touched keys, are looked at; where the position has no index the table is walked.
     pub fn view_index(
         &self,
         alloc: Global,
