@@ -1,15 +1,15 @@
 -- Lists of terms, one after another.
-use Rattle.std.proofs.Common.{◌≡◌, ◌≢◌, ◌*◌, zero, suc, ◌≤◌, ◌&&◌, ℕ, ◌+◌, ◌<◌, true, false, drop, arith, List, [], ◌∷◌, ◌++◌, length, take, get_or, ap, ap₂, sym, ◌∙◌, refl}
-use Rattle.std.proofs.lemmas.List.{take_more, at_drop_more, at_drop_all, length-append}
+use Rattle.std.proofs.Common.{◌≡◌, ◌≢◌, ◌*◌, zero, suc, ◌≤◌, ◌&&◌, ℕ, ◌+◌, ◌<◌, Bool, true, false, drop, arith, List, [], ◌∷◌, ◌++◌, length, take, get_or, ap, ap₂, sym, ◌∙◌, refl}
+use Rattle.std.proofs.lemmas.List.{take_all, take_more, at_drop_more, at_drop_all, length-append}
 use Rattle.tab_term.specs.declared.term.Term.{Term}
 use Rattle.std.specs.Str.{IsUtf8, chars}
 use Rattle.std.proofs.Math.Utf8.{encode, encodes}
 use Rattle.std.proofs.lemmas.Str.{length-encode, len_utf8_bounds, encodes-chars}
-use Rattle.tab_term.specs.Data.{PlainTerm, PlainTerms, none, one_more, PlainPairs, no_pair, one_pair, plain_terms, count, pair_count, weight, nodes, pair_nodes}
+use Rattle.tab_term.specs.Data.{PlainTerm, PlainTerms, none, one_more, PlainPairs, no_pair, one_pair, count, pair_count, weight, nodes, pair_nodes}
 use Rattle.tab_term.specs.Same.{same, all_same, pairs_same}
 use Rattle.tab_term.specs.View.{term, terms, pairs}
 use Rattle.tab_term.specs.Pattern.{matches, all_match}
-use Rattle.std.proofs.Math.Bool.{and-false}
+use Rattle.std.proofs.Math.Bool.{and-false, and-true}
 
 abbrev pub push : PlainTerms → PlainTerm → PlainTerms
 push none t = one_more t none
@@ -42,16 +42,49 @@ next_same xs ys i x y hx hy ex ey =
     ∙ at_drop_more (λ vs. all_same (terms (get_or xs i x ∷ drop (i + 1) xs)) (terms vs)) ys i y hy
     ∙ ap₂ (λ u v. same (term u) (term v) && all_same (terms (drop (i + 1) xs)) (terms (drop (i + 1) ys))) (sym ex) (sym ey)
 
+-- ---- and from its end
+
+both_taken : (xs ys : List Term) (n : ℕ) (x y : Term) → n < length xs → n < length ys → x ≡ get_or xs n x → y ≡ get_or ys n y
+    → all_same (terms (take (suc n) xs)) (terms (take (suc n) ys)) ≡ (all_same (terms (take n xs)) (terms (take n ys)) && same (term x) (term y))
+both_taken [] ys n x y hx hy ex ey = absurd (omega (arith, hx))
+both_taken (u ∷ us) [] n x y hx hy ex ey = absurd (omega (arith, hy))
+both_taken (u ∷ us) (v ∷ vs) zero x y hx hy ex ey = and-true (same (term u) (term v)) ∙ ap₂ (λ a b. same (term a) (term b)) (sym ex) (sym ey)
+both_taken (u ∷ us) (v ∷ vs) (suc n) x y hx hy ex ey =
+    ap (λ b. same (term u) (term v) && b) (both_taken us vs n x y (omega (arith, hx)) (omega (arith, hy)) ex ey)
+    ∙ grouped (same (term u) (term v)) (all_same (terms (take n us)) (terms (take n vs))) (same (term x) (term y))
+  where
+    grouped : (a b c : Bool) → (a && (b && c)) ≡ ((a && b) && c)
+    grouped true b c = refl
+    grouped false b c = refl
+
+-- of the elements that are left, the last ones, and those before them
+last_same : (xs ys : List Term) (i n : ℕ) (x y : Term) → i ≡ suc n → i ≤ length xs → length xs ≡ length ys → x ≡ get_or xs n x → y ≡ get_or ys n y
+    → all_same (terms (take i xs)) (terms (take i ys)) ≡ (all_same (terms (take n xs)) (terms (take n ys)) && same (term x) (term y))
+last_same xs ys i n x y more within e ex ey =
+    ap (λ m. all_same (terms (take m xs)) (terms (take m ys))) more ∙ both_taken xs ys n x y (omega (arith, more, within)) (omega (arith, more, within, e)) ex ey
+
+pub last_equal : (xs ys : List Term) (i n : ℕ) (x y : Term) → i ≡ suc n → i ≤ length xs → length xs ≡ length ys → x ≡ get_or xs n x → y ≡ get_or ys n y → same (term x) (term y) ≡ true
+    → all_same (terms (take i xs)) (terms (take i ys)) ≡ all_same (terms (take n xs)) (terms (take n ys))
+last_equal xs ys i n x y more within e ex ey h =
+    last_same xs ys i n x y more within e ex ey ∙ ap (λ b. all_same (terms (take n xs)) (terms (take n ys)) && b) h ∙ and-true (all_same (terms (take n xs)) (terms (take n ys)))
+
+pub last_differ : (xs ys : List Term) (i n : ℕ) (x y : Term) → i ≡ suc n → i ≤ length xs → length xs ≡ length ys → x ≡ get_or xs n x → y ≡ get_or ys n y → same (term x) (term y) ≡ false
+    → all_same (terms (take i xs)) (terms (take i ys)) ≡ false
+last_differ xs ys i n x y more within e ex ey h =
+    last_same xs ys i n x y more within e ex ey ∙ ap (λ b. all_same (terms (take n xs)) (terms (take n ys)) && b) h ∙ and-false (all_same (terms (take n xs)) (terms (take n ys)))
+
+pub all_taken : (xs ys : List Term) → length xs ≡ length ys → all_same (terms (take (length xs) xs)) (terms (take (length xs) ys)) ≡ all_same (terms xs) (terms ys)
+all_taken xs ys e = ap₂ (λ us vs. all_same (terms us) (terms vs)) (take_all (length xs) xs (omega arith)) (take_all (length xs) ys (omega (arith, e)))
+
+pub none_taken : (xs ys : List Term) (i : ℕ) → i ≡ 0 → all_same (terms (take i xs)) (terms (take i ys)) ≡ true
+none_taken xs ys i e = ap (λ n. all_same (terms (take n xs)) (terms (take n ys))) e
+
 pub all_past : (xs ys : List Term) (i : ℕ) → length xs ≤ i → length ys ≤ i → all_same (terms (drop i xs)) (terms (drop i ys)) ≡ true
 all_past xs ys i hx hy = at_drop_all (λ us. all_same (terms us) (terms (drop i ys))) xs i hx ∙ at_drop_all (λ vs. all_same none (terms vs)) ys i hy
 
 pub count_terms : (ts : List Term) → count (terms ts) ≡ length ts
 count_terms [] = refl
 count_terms (t ∷ ts) = ap suc (count_terms ts)
-
-pub count_plain : (ts : List PlainTerm) → count (plain_terms ts) ≡ length ts
-count_plain [] = refl
-count_plain (t ∷ ts) = ap suc (count_plain ts)
 
 -- a member weighs no more than all
 pub weight_at : (ts : List Term) (i : ℕ) (t : Term) → i < length ts → t ≡ get_or ts i t → weight (term t) ≤ nodes (terms ts)

@@ -53,8 +53,9 @@ fn are_same(xs: &Terms, ys: &Terms) -> bool
     if xs.len() != ys.len() {
         return false;
     }
-    for (i, x) in xs.iter().enumerate() {
-        if !is_same(x, &ys[i]) {
+    // Records of one table, and of one key, are the same in front.
+    for i in (0..xs.len()).rev() {
+        if !is_same(&xs[i], &ys[i]) {
             return false;
         }
     }
