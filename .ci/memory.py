@@ -222,19 +222,32 @@ def empty_outbox(mirror, record):
     same("end mark", mirror.event(), ("mnesia_table_end", "t", "unsubscribed"))
 
 
-# A name, and a bound in kilobytes: a server that copies what it tells holds more than 150,000 in each.
+def rows(count):
+    """A table of so many, which the tables that the journal starts from have too."""
+
+    def hold(server, client):
+        fill(client, small_record, count, 500)
+        commit_nothing(client)
+        return server.kilobytes()
+
+    return hold
+
+
+# A name, a bound in kilobytes, and further words of the server: one that copies what it tells holds more than 150,000 in each, and
+# one whose journal copies its rows more than 70,000.
 CASES = [
     ("reads of a long record", within(30_000, table(long_record(MEGABYTE), 1), long_reads(1, 200))),
     ("all keys", within(30_000, table(small_record, 20_000), whole_reads(ALL_KEYS, list(range(20_000)), 300))),
     ("all keys behind a write", within(30_000, table(small_record, 20_000), whole_reads(ALL_KEYS, list(range(20_000)), 300, True))),
+    ("rows of a server", within(58_000, table(small_record, 1), rows(100_000)), "--journal", "16"),
     ("dumps in an outbox", within(30_000, table(long_record(100_000), 50), dumps(32, [long_record(100_000)(key) for key in range(50)]))),
     ("the last lets go", let_go),
 ]
 
 
-def fault(program, name, case):
+def fault(program, name, case, *words):
     try:
-        with Held(program) as server:
+        with Held(program, *words) as server:
             case(server)
             same("what it said", server.ended(), "")
         return None

@@ -174,8 +174,12 @@ fn put_one(alloc: Global, store: &mut Store, put: &Put) -> Result<(), AllocError
                 map.insert(put.key.try_clone(alloc)?, record.try_clone(alloc)?)?;
             }
         }
-        Store::Table(table) => table.change(alloc, &put.write)?,
-        Store::TableVersions(table) => *table = table.updated(alloc, slice::from_ref(&put.write))?,
+        Store::Table(table) => table.change(alloc, &put.write, None)?,
+        Store::TableVersions(table) => *table = table.updated(
+            alloc,
+            slice::from_ref(&put.write),
+            None,
+        )?,
     }
     Ok(())
 }

@@ -112,7 +112,8 @@ impl<H: House> Book<H> {
         ensures err { OnErr result (self.new ≡ self.old) }
     {
         let joined = self.oldest_joined();
-        self.journal.fold_oldest(self.alloc, joined)
+        self.journal
+            .fold_oldest(self.alloc, joined, self.core.tables())
     }
 
     /// Of the oldest entry, where it is a subscription, whether its session is still joined.

@@ -16,7 +16,7 @@ use tab_model::{Change, Command, Entry, Limits, Reply, Told};
 use tab_named::SeatInbox;
 use tab_names::{House, Naming, Opened};
 use tab_post::Line;
-use tab_world::World;
+use tab_world::{Lender, World};
 
 const THREADS: usize = 4;
 
@@ -279,7 +279,7 @@ fn begin_at_0<H: House>(
 /// Whether the journal ends in tables in which the record has 199.
 fn is_history_of_199(alloc: Global, journal: &Journal, tables: &World) -> Result<bool, AllocError> {
     let change = Change::Write(record(alloc, 199)?);
-    let others = tables.updated(alloc, &[change])?;
+    let others = tables.updated(alloc, &[change], &Lender::None)?;
     journal.audit(alloc, journal.base(), &others)
 }
 

@@ -203,7 +203,7 @@ fn changed_tables<P: Post + Drop>(
             change,
             nameless,
         )?;
-        changing = changing.changed(alloc, change, nameless)?;
+        changing = changing.changed(alloc, change, nameless, &ending.lender)?;
     }
     let tables = changing.into_world(alloc)?;
     Ok(Updated { tables, events })

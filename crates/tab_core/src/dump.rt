@@ -24,5 +24,5 @@ pub fn dump_of(
     let Some(table) = tables.table(name) else {
         return Ok(Some(SharedTerms::from_terms(Terms::from_vec(Vec::new(alloc)))));
     };
-    Ok(Some(SharedTerms::from_records(table.by_key()?)))
+    Ok(Some(SharedTerms::from_records(table.records().share()?)))
 }

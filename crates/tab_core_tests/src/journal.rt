@@ -148,11 +148,12 @@ fn filled(alloc: Global, moves: &[Made]) -> Result<Journal, AllocError> {
     Ok(journal)
 }
 
-/// Folds all entries, of which session 7 is joined.
-fn fold(alloc: Global, journal: &mut Journal) -> Result<(), AllocError> {
+/// Folds all entries, of which session 7 is joined, with the tables of another journal's base.
+fn fold(alloc: Global, journal: &mut Journal, other: &Journal) -> Result<(), AllocError> {
+    let tables = other.base().tables();
     for _entry in 0..3u32 {
         if !journal.is_empty() {
-            journal.fold_oldest(alloc, true)?;
+            journal.fold_oldest(alloc, true, tables)?;
         }
     }
     Ok(())
@@ -189,13 +190,16 @@ fn is_right(
     let journal = filled(alloc, moves)?;
     let mut folded = filled(alloc, moves)?;
     let is_full = folded.full() && folded.len() == 3 && folded.entry(2).is_some();
-    fold(alloc, &mut folded)?;
+    fold(alloc, &mut folded, &journal)?;
+    let mut lent = filled(alloc, moves)?;
+    fold(alloc, &mut lent, &folded)?;
     let wanted = base_of(alloc, &folded)? == (1, 1, value);
+    let is_same = base_of(alloc, &lent)? == (1, 1, value);
     folded.forget(7);
     let is_forgotten = base_of(alloc, &folded)? == (1, 0, value);
     let found = journal.audit(alloc, journal.base(), folded.base().tables())?;
     let without = journal.audit(alloc, journal.base(), journal.base().tables())?;
-    Ok(is_full && wanted && is_forgotten && found == audit && !without)
+    Ok(is_full && wanted && is_same && is_forgotten && found == audit && !without)
 }
 
 #[test]

@@ -13,7 +13,7 @@ pub fn apply(alloc: Global, rows: &mut Rows, change: &Change) -> Result<(), Allo
     ensures err { OnErr result (rows.new ≡ rows.old) }
 {
     match change {
-        Change::Write(row) => rows.put(alloc, row.try_clone(alloc)?),
+        Change::Write(row) => rows.put(alloc, row, None),
         Change::Delete(_, key) => rows.delete(alloc, key),
         Change::DeleteObject(row) => rows.delete_object(alloc, row),
     }

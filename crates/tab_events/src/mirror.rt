@@ -112,7 +112,7 @@ fn rows_of(alloc: Global, kind: Kind, records: &[Term]) -> Result<Rows, AllocErr
 {
     let mut rows = Rows::new(kind);
     for row in records {
-        rows.put(alloc, row.try_clone(alloc)?)?;
+        rows.put(alloc, row, None)?;
     }
     Ok(rows)
 }

@@ -113,12 +113,12 @@ impl IndexedTable {
         self.rows.keys()
     }
 
-    /// The keys, each with its records in the order of their insertion, as a map that shares all with the table.
-    pub fn by_key(&self) -> Result<Map<Term, Terms>, AllocError>
-        ensures records { IfOk result (λ map. joined map ≡ self.now.rows) }
-        ensures order { IfOk result IsInOrder }
+    /// The keys, each with its records in the order of their insertion.
+    pub fn records(&self) -> &Map<Term, Terms>
+        ensures records { joined result.now ≡ self.now.rows }
+        ensures order { IsInOrder result.now }
     {
-        self.rows.by_key()
+        self.rows.records()
     }
 
     /// The key with its records, in the order of their insertion. None where it has none.
@@ -142,8 +142,8 @@ impl IndexedTable {
         self.rows.read(alloc, key)
     }
 
-    /// The records that have the value at the position, shared with the table: by keys, and of each key in the order of
-    /// their insertion. None where the position has no index.
+    /// The records that have the value at the position: by keys, and of each key in the order of their insertion. One that is
+    /// the only record of its key is shared with the table, and each other copied. None where the position has no index.
     pub fn index_read(
         &self,
         alloc: Global,
@@ -182,8 +182,9 @@ impl IndexedTable {
         None
     }
 
-    /// The records that fit the pattern, shared with the table: by keys, and of each key in the order of their insertion.
-    /// Where no `'_'` stands in the pattern's key, no other key is looked at.
+    /// The records that fit the pattern: by keys, and of each key in the order of their insertion. One that is the only
+    /// record of its key is shared with the table, and each other copied. Where no `'_'` stands in the pattern's key, no
+    /// other key is looked at.
     pub fn match_object(&self, alloc: Global, pattern: &Term) -> Result<SharedTerms, AllocError>
         ensures { IfOk result (λ found. found ≡ plain_terms (match_object_in self.now.rows (term pattern.now))) }
     {
@@ -224,15 +225,27 @@ impl IndexedTable {
         })
     }
 
-    /// The table after the changes, in turn. This one stays as it was, and shares what did not change.
-    pub fn updated(&self, alloc: Global, changes: &[Change]) -> Result<IndexedTable, AllocError>
+    /// The table after the changes, in turn. This one stays as it was, and shares what did not change. Where another table
+    /// lends its records, one that is written and is the only one of its key in both is shared, in place of a copy.
+    pub fn updated(
+        &self,
+        alloc: Global,
+        changes: &[Change],
+        lent: Option<&Map<Term, Terms>>,
+    ) -> Result<IndexedTable, AllocError>
         ensures { IfOk result (λ table. table ≡ with_rows self.now (applied_in self.now.def.kind self.now.rows changes.now)) }
     {
-        self.share(alloc)?.applied(alloc, changes)
+        self.share(alloc)?.applied(alloc, changes, lent)
     }
 
-    /// The table after the changes, in turn, in place where nothing is shared. An error drops the table.
-    pub fn applied(self, alloc: Global, changes: &[Change]) -> Result<IndexedTable, AllocError>
+    /// The table after the changes, in turn, in place where nothing is shared; records are lent as to `updated`. An error
+    /// drops the table.
+    pub fn applied(
+        self,
+        alloc: Global,
+        changes: &[Change],
+        lent: Option<&Map<Term, Terms>>,
+    ) -> Result<IndexedTable, AllocError>
         ensures { IfOk result (λ table. table ≡ with_rows self (applied_in self.def.kind self.rows changes.now)) }
     {
         let IndexedTable {
@@ -242,22 +255,27 @@ impl IndexedTable {
         } = self;
         for change in changes {
             change_indexes(alloc, &mut indexes, &rows, change)?;
-            change_rows(alloc, &mut rows, change)?;
+            change_rows(alloc, &mut rows, change, lent)?;
         }
         Ok(IndexedTable { def, rows, indexes })
     }
 
     /// Makes a change. A table without indexes is changed in place where nothing is shared; one with indexes gives way to
-    /// its next version, since its parts can't change at once.
-    pub fn change(&mut self, alloc: Global, change: &Change) -> Result<(), AllocError>
+    /// its next version, since its parts can't change at once. Records are lent as to `updated`.
+    pub fn change(
+        &mut self,
+        alloc: Global,
+        change: &Change,
+        lent: Option<&Map<Term, Terms>>,
+    ) -> Result<(), AllocError>
         ensures ok { OnOk result (self.new ≡ with_rows self.old (apply_in self.old.def.kind self.old.rows change.now)) }
         ensures err { OnErr result (self.new ≡ self.old) }
     {
         if self.indexes.is_empty() {
-            change_rows(alloc, &mut self.rows, change)?;
+            change_rows(alloc, &mut self.rows, change, lent)?;
             return Ok(());
         }
-        *self = self.updated(alloc, slice::from_ref(change))?;
+        *self = self.updated(alloc, slice::from_ref(change), lent)?;
         Ok(())
     }
 }
@@ -279,12 +297,17 @@ fn change_indexes(
     Ok(())
 }
 
-fn change_rows(alloc: Global, rows: &mut Rows, change: &Change) -> Result<(), AllocError>
+fn change_rows(
+    alloc: Global,
+    rows: &mut Rows,
+    change: &Change,
+    lent: Option<&Map<Term, Terms>>,
+) -> Result<(), AllocError>
     ensures ok { OnOk result (rows.new ≡ (rows.old.0, apply_in rows.old.0 rows.old.1 change.now)) }
     ensures err { OnErr result (rows.new ≡ rows.old) }
 {
     match change {
-        Change::Write(row) => rows.put(alloc, row.try_clone(alloc)?),
+        Change::Write(row) => rows.put(alloc, row, lent),
         Change::Delete(_, key) => rows.delete(alloc, key),
         Change::DeleteObject(row) => rows.delete_object(alloc, row),
     }

@@ -11,7 +11,7 @@ use crate::survivors::surviving;
 use std::alloc::{AllocError, Global};
 use std::marker::Model;
 use tab_model::{Entry, Schema};
-use tab_world::{Redefined, World, redefine};
+use tab_world::{Lender, Redefined, World, redefine};
 
 /// The tables, the last commit's number, and the joined sessions' subscriptions, as they were before the first entry.
 #[derive(Drop)]
@@ -71,12 +71,14 @@ impl Base {
         self.subscriptions.as_slice()
     }
 
-    /// Takes an entry in. Of one that subscribes it is said whether its session is still joined.
+    /// Takes an entry in. Of one that subscribes it is said whether its session is still joined. Records that stand in these
+    /// tables as the entry wrote them are shared with them.
     pub(crate) fn fold(
         &mut self,
         alloc: Global,
         joined: bool,
         entry: &Entry,
+        tables: &World,
     ) -> Result<(), AllocError>
         ensures ok { OnOk result (self.new ≡ folded joined self.old entry.now) }
         ensures err { OnErr result (self.new ≡ self.old) }
@@ -90,7 +92,8 @@ impl Base {
                 ..
             } => {
                 let changes = surviving(alloc, moves.items.as_slice(), told.items.as_slice())?;
-                self.tables.update(alloc, changes.as_slice())?;
+                let lender = Lender::Tables(tables);
+                self.tables.update(alloc, changes.as_slice(), &lender)?;
                 keep(&mut self.subscriptions, overflowed.items.as_slice(), None);
                 self.commits = *number;
             }

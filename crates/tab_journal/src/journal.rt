@@ -99,13 +99,19 @@ impl Journal {
     }
 
     /// Folds the oldest entry into the base. Of one that subscribes the caller says whether its session is still joined.
-    pub fn fold_oldest(&mut self, alloc: Global, joined: bool) -> Result<(), AllocError>
+    /// Records that stand in these tables as the entry wrote them are shared with them, in place of a copy.
+    pub fn fold_oldest(
+        &mut self,
+        alloc: Global,
+        joined: bool,
+        tables: &World,
+    ) -> Result<(), AllocError>
         requires { 0 < length self.old.entries }
         ensures ok { OnOk result (self.new ≡ fold_oldest_of joined self.old) }
         ensures err { OnErr result (self.new ≡ self.old) }
     {
         if let Some(entry) = self.entries.front() {
-            self.base.fold(alloc, joined, entry)?;
+            self.base.fold(alloc, joined, entry, tables)?;
         }
         drop(self.entries.pop_front());
         Ok(())

@@ -17,7 +17,7 @@ use std::slice;
 use tab_model::{Move, Operation, Reply, Told};
 use tab_operations::{Pending, perform};
 use tab_txstore::{TxStore, is_failure};
-use tab_world::World;
+use tab_world::{Lender, World};
 
 /// A transaction in its midst, on whole versions of the tables, which share what does not change.
 struct Midst {
@@ -223,7 +223,7 @@ fn effect(alloc: Global, tables: &World, operation: &Operation) -> Result<World,
     ensures { IfOk result (λ after. after ≡ effect_of tables.now operation.now) }
 {
     match change_of(alloc, operation)? {
-        Some(change) => tables.updated(alloc, slice::from_ref(&change)),
+        Some(change) => tables.updated(alloc, slice::from_ref(&change), &Lender::None),
         None => tables.share(),
     }
 }

@@ -14,13 +14,14 @@ use crate::levels::finish;
 use crate::machine::Machine;
 use crate::step::Stepped;
 use tab_model::Change;
-use tab_world::World;
+use tab_world::{Lender, World};
 
-/// A transaction that its commit would end: its age, and its updates in order.
+/// A transaction that its commit would end: its age, its updates in order, and the records that it lends to the tables.
 #[derive(Clone, Copy)]
 pub struct Ending<'a> {
     pub age: u64,
     pub updates: &'a [Change],
+    pub lender: Lender<'a>,
 }
 
 impl Machine {
@@ -54,6 +55,7 @@ impl Machine {
         Some(Ending {
             age: transaction.age,
             updates: transaction.store.updates(),
+            lender: Lender::Overlay(transaction.store.overlay()),
         })
     }
 

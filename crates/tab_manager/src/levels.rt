@@ -16,11 +16,11 @@ use crate::operating::end_if;
 use crate::seat::{Seat, Transaction};
 use crate::step::Stepped;
 use std::alloc::{AllocError, Global};
-use tab_model::{Change, Entry, Limit, Limits, Numbers, Reply, Told};
+use tab_model::{Entry, Limit, Limits, Numbers, Reply, Told};
 use tab_term::Term;
 use tab_txstore::{Finished, TxStore};
 use tab_waitdie::Ages;
-use tab_world::World;
+use tab_world::{Lender, World};
 
 impl Machine {
     /// Level 1 with the next age, or a child level.
@@ -82,7 +82,7 @@ impl Machine {
             join_level(&mut self.seats[place]);
             return Ok(Stepped::without_entry(Reply::AtomicOk));
         }
-        commit_to(self.alloc, &mut self.world, transaction.store.updates())?;
+        commit_to(self.alloc, &mut self.world, &transaction.store)?;
         self.commits += 1;
         let finished = finish(
             self.alloc,
@@ -148,16 +148,18 @@ fn join_level(seat: &mut Seat)
     }
 }
 
-/// The tables with a transaction's updates. Where there are none it takes no memory.
-fn commit_to(alloc: Global, world: &mut World, updates: &[Change]) -> Result<(), AllocError>
-    ensures ok { OnOk result (world.new ≡ change_all world.old updates.now) }
-    ensures free { updates.now ≡ [] → IsOk result }
+/// The tables with a transaction's updates, which share the records that it has already. Where there are none it takes no
+/// memory.
+fn commit_to(alloc: Global, world: &mut World, store: &TxStore) -> Result<(), AllocError>
+    ensures ok { OnOk result (world.new ≡ change_all world.old store.now.levels.now.updates) }
+    ensures free { store.now.levels.now.updates ≡ [] → IsOk result }
     ensures err { OnErr result (world.new ≡ world.old) }
 {
+    let updates = store.updates();
     if updates.is_empty() {
         return Ok(());
     }
-    world.update(alloc, updates)
+    world.update(alloc, updates, &Lender::Overlay(store.overlay()))
 }
 
 /// An open transaction is over, and leaves the log its entry.

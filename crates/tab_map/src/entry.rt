@@ -27,7 +27,8 @@ impl<K: Abbreviate, V> Model for Entry<K, V> {
 }
 
 impl<K: Abbreviate + Drop, V: Drop> Entry<K, V> {
-    pub(crate) fn new(alloc: Global, pair: (K, V)) -> Result<Entry<K, V>, AllocError>
+    /// A key and its value, which no map holds yet.
+    pub fn new(alloc: Global, pair: (K, V)) -> Result<Entry<K, V>, AllocError>
         ensures { IfOk result (λ e. e ≡ pair) }
     {
         let abbreviation = pair.0.abbreviated();

@@ -31,22 +31,8 @@ impl<K: Abbreviate + Drop, V: Drop> Map<K, V> {
         Ok(())
     }
 
-    /// Puts this value at the key as `insert` does, and hands back the entry that stood there.
-    pub fn replace(
-        &mut self,
-        alloc: Global,
-        key: K,
-        value: V,
-    ) -> Result<Option<Entry<K, V>>, AllocError>
-        ensures ok { OnOk result (self.new ≡ insert_entry K.cmp (key, value) self.old) }
-        ensures replaced { IfOk result (λ o. option_map (λ e. e.1) o ≡ lookup K.cmp key self.old) }
-        ensures err { OnErr result (self.new ≡ self.old) }
-    {
-        self.replace_entry(alloc, Entry::new(alloc, (key, value))?)
-    }
-
-    // Puts the entry at its place, and a node over the root where that is too long then.
-    fn replace_entry(
+    /// Puts this entry as `insert_entry` does, and hands back the one that stood at its key.
+    pub fn replace_entry(
         &mut self,
         alloc: Global,
         entry: Entry<K, V>,
@@ -56,6 +42,7 @@ impl<K: Abbreviate + Drop, V: Drop> Map<K, V> {
         ensures err { OnErr result (self.new ≡ self.old) }
     {
         let replaced = self.put(alloc, entry)?;
+        // The root may be too long then.
         self.grow(alloc);
         Ok(replaced)
     }

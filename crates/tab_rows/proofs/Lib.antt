@@ -3,3 +3,4 @@ pub mod Cells
 pub mod SizeLemmas
 pub mod KeysLemmas
 pub mod CopiesLemmas
+pub mod EntriesLemmas

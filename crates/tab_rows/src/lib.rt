@@ -6,8 +6,10 @@
 #![tactic(auto)]
 
 mod append;
+mod entries;
 mod rows;
 
 pub use append::Append;
-pub use rows::{Rows, contains, copy_of_key};
+pub use entries::copy_of_key;
+pub use rows::{Rows, contains};
 pub use tab_model::Kind;

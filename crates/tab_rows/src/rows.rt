@@ -10,6 +10,7 @@ ghost use Rattle.tab_model.specs.Tables.{at, key as key_of_row, put as put_in, d
 ghost use Rattle.tab_rows.specs.Joined.{joined, IsInOrder};
 
 use crate::append::Append;
+use crate::entries::{copy_of_key, entry_of};
 use std::alloc::{AllocError, Global};
 use std::marker::Model;
 use tab_map::{Entry, Iter, Map};
@@ -106,12 +107,12 @@ impl Rows {
         Ok(SharedTerms::from_keys(self.records.share()?))
     }
 
-    /// The keys, each with its records in the order of their insertion, as a map that shares all with this.
-    pub fn by_key(&self) -> Result<Map<Term, Terms>, AllocError>
-        ensures records { IfOk result (λ map. joined map ≡ self.now.1) }
-        ensures order { IfOk result IsInOrder }
+    /// The keys, each with its records in the order of their insertion.
+    pub fn records(&self) -> &Map<Term, Terms>
+        ensures records { joined result.now ≡ self.now.1 }
+        ensures order { IsInOrder result.now }
     {
-        self.records.share()
+        &self.records
     }
 
     /// The key with its records, in the order of their insertion. None where it has none.
@@ -149,59 +150,78 @@ impl Rows {
     }
 
     /// Writes a record. In a set it takes the place of its key's records; in a bag it comes after them, and where an
-    /// equal record is there already, nothing moves.
-    pub fn put(&mut self, alloc: Global, row: Term) -> Result<(), AllocError>
-        ensures ok { OnOk result (self.new ≡ (self.old.0, put_in self.old.0 self.old.1 (term row))) }
+    /// equal record is there already, nothing moves. Where another table lends its records, and this one is the only one of
+    /// its key in both, the entry is shared in place of a copy.
+    pub fn put(
+        &mut self,
+        alloc: Global,
+        row: &Term,
+        lent: Option<&Map<Term, Terms>>,
+    ) -> Result<(), AllocError>
+        ensures ok { OnOk result (self.new ≡ (self.old.0, put_in self.old.0 self.old.1 (term row.now))) }
         ensures err { OnErr result (self.new ≡ self.old) }
     {
-        let key = copy_of_key(alloc, &row)?;
         match self.kind {
-            Kind::Set => self.set(alloc, key, row),
-            Kind::Bag => self.add(alloc, key, row),
+            Kind::Set => self.set(alloc, row, lent),
+            Kind::Bag => self.add(alloc, row, lent),
         }
     }
 
-    fn set(&mut self, alloc: Global, key: Term, row: Term) -> Result<(), AllocError>
-        requires keyed { term key ≡ key_of_row (term row) }
+    fn set(
+        &mut self,
+        alloc: Global,
+        row: &Term,
+        lent: Option<&Map<Term, Terms>>,
+    ) -> Result<(), AllocError>
         requires kind { self.old.0 ≡ Kind.Set }
-        ensures ok { OnOk result (self.new ≡ (self.old.0, put_in self.old.0 self.old.1 (term row))) }
+        ensures ok { OnOk result (self.new ≡ (self.old.0, put_in self.old.0 self.old.1 (term row.now))) }
         ensures err { OnErr result (self.new ≡ self.old) }
     {
         let size = one_more(self.size)?;
-        let records = only(alloc, row)?;
-        let before = replace(&mut self.records, alloc, key, records)?;
+        let entry = entry_of(alloc, row, lent)?;
+        let before = replace(&mut self.records, alloc, entry)?;
         self.size = size - before;
         Ok(())
     }
 
-    fn add(&mut self, alloc: Global, key: Term, row: Term) -> Result<(), AllocError>
-        requires keyed { term key ≡ key_of_row (term row) }
+    fn add(
+        &mut self,
+        alloc: Global,
+        row: &Term,
+        lent: Option<&Map<Term, Terms>>,
+    ) -> Result<(), AllocError>
         requires kind { self.old.0 ≡ Kind.Bag }
-        ensures ok { OnOk result (self.new ≡ (self.old.0, put_in self.old.0 self.old.1 (term row))) }
+        ensures ok { OnOk result (self.new ≡ (self.old.0, put_in self.old.0 self.old.1 (term row.now))) }
         ensures err { OnErr result (self.new ≡ self.old) }
     {
+        let key = copy_of_key(alloc, row)?;
         let Some(records) = self.records.get(&key) else {
-            return self.add_first(alloc, key, row);
+            return self.add_first(alloc, row, lent);
         };
-        if contains(records.as_slice(), &row) {
+        if contains(records.as_slice(), row) {
             return Ok(());
         }
         let size = one_more(self.size)?;
-        self.records.revise(alloc, key, Append { row })?;
+        let copy = row.try_clone(alloc)?;
+        self.records.revise(alloc, key, Append { row: copy })?;
         self.size = size;
         Ok(())
     }
 
-    fn add_first(&mut self, alloc: Global, key: Term, row: Term) -> Result<(), AllocError>
-        requires keyed { term key ≡ key_of_row (term row) }
+    fn add_first(
+        &mut self,
+        alloc: Global,
+        row: &Term,
+        lent: Option<&Map<Term, Terms>>,
+    ) -> Result<(), AllocError>
         requires kind { self.old.0 ≡ Kind.Bag }
-        requires absent { at self.old.1 (term key) ≡ [] }
-        ensures ok { OnOk result (self.new ≡ (self.old.0, put_in self.old.0 self.old.1 (term row))) }
+        requires absent { at self.old.1 (key_of_row (term row.now)) ≡ [] }
+        ensures ok { OnOk result (self.new ≡ (self.old.0, put_in self.old.0 self.old.1 (term row.now))) }
         ensures err { OnErr result (self.new ≡ self.old) }
     {
         let size = one_more(self.size)?;
-        let records = only(alloc, row)?;
-        self.records.insert(alloc, key, records)?;
+        let entry = entry_of(alloc, row, lent)?;
+        self.records.insert_entry(alloc, entry)?;
         self.size = size;
         Ok(())
     }
@@ -236,20 +256,19 @@ impl Rows {
     }
 }
 
-// Puts these records at the key, and tells how many stood there: one search for both.
+// Puts the entry at its key, and tells how many records stood there: one search for both.
 fn replace(
     by_key: &mut Map<Term, Terms>,
     alloc: Global,
-    key: Term,
-    records: Terms,
+    entry: Entry<Term, Terms>,
 ) -> Result<usize, AllocError>
     requires { IsInOrder by_key.old }
-    ensures ok { OnOk result (by_key.new ≡ insert_entry term_cmp (key, records) by_key.old) }
-    ensures count { IfOk result (λ n. n ≡ length (at (joined by_key.old) (term key))) }
+    ensures ok { OnOk result (by_key.new ≡ insert_entry term_cmp entry by_key.old) }
+    ensures count { IfOk result (λ n. n ≡ length (at (joined by_key.old) (term entry.0))) }
     ensures within { IfOk result (λ n. n ≤ length (joined by_key.old)) }
     ensures err { OnErr result (by_key.new ≡ by_key.old) }
 {
-    match by_key.replace(alloc, key, records)? {
+    match by_key.replace_entry(alloc, entry)? {
         Some(entry) => Ok(entry.pair().1.as_slice().len()),
         None => Ok(0),
     }
@@ -274,14 +293,6 @@ pub fn contains(records: &[Term], row: &Term) -> bool
     false
 }
 
-fn only(alloc: Global, row: Term) -> Result<Terms, AllocError>
-    ensures { IfOk result (λ records. terms_list records ≡ term row ∷ []) }
-{
-    let mut records = Vec::with_capacity(alloc, 1)?;
-    records.push_reserved(row);
-    Ok(Terms::from_vec(records))
-}
-
 fn copies_but(alloc: Global, records: &[Term], row: &Term) -> Result<Terms, AllocError>
     ensures { IfOk result (λ left. terms_list left ≡ delete_object_in (terms_list (terms records.now)) (term row.now)) }
 {
@@ -292,19 +303,6 @@ fn copies_but(alloc: Global, records: &[Term], row: &Term) -> Result<Terms, Allo
         }
     }
     Ok(Terms::from_vec(left))
-}
-
-/// A copy of the record's key, its second element. Where it has none, the empty list.
-pub fn copy_of_key(alloc: Global, row: &Term) -> Result<Term, AllocError>
-    ensures { IfOk result (λ k. term k ≡ key_of_row (term row.now)) }
-{
-    match row {
-        Term::Tuple(elements) => match elements.as_slice() {
-            [_, key, ..] => key.try_clone(alloc),
-            _ => Ok(Term::List(Terms::from_vec(Vec::new(alloc)))),
-        },
-        _ => Ok(Term::List(Terms::from_vec(Vec::new(alloc)))),
-    }
 }
 
 /// The same records once more.

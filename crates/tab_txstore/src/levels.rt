@@ -115,6 +115,13 @@ impl Levels {
         seen_entry(&self.overlay, lent, key)
     }
 
+    /// What stands at the touched keys, by table.
+    pub fn overlay(&self) -> &Map<Atom, Map<Term, Terms>>
+        ensures { result.now ≡ self.now.now.overlay }
+    {
+        &self.overlay
+    }
+
     /// The touched keys of a table, each with what stands there. None where no key of it was touched.
     pub fn touched(&self, lent: &IndexedTable) -> Option<&Map<Term, Terms>>
         ensures { option_copied result ≡ lookup bytes_cmp lent.now.def.name self.now.now.overlay }
@@ -138,7 +145,7 @@ impl Levels {
     pub fn by_key(&self, alloc: Global, lent: &IndexedTable) -> Result<Map<Term, Terms>, AllocError>
         ensures { IfOk result (λ all. (es : Touched) × (joined_rows es ≡ lent.now.rows) × IsInOrder es × Ascends term_cmp (touched self.now.now.overlay lent.now.def.name) × (all ≡ merged_of (touched self.now.now.overlay lent.now.def.name) es)) }
     {
-        let mut all = lent.by_key()?;
+        let mut all = lent.records().share()?;
         if let Some(own) = self.touched(lent) {
             put_all(alloc, &mut all, own)?;
         }

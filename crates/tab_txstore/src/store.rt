@@ -20,7 +20,7 @@ use std::marker::Model;
 use tab_index::IndexedTable;
 use tab_map::{Entry, Map};
 use tab_model::{Change, Move, Moves, Operation, Replies, Reply, Told};
-use tab_term::{Term, Terms};
+use tab_term::{Atom, Term, Terms};
 
 /// What a transaction did, what it was told, and what it left at the keys that it touched.
 pub struct TxStore {
@@ -225,6 +225,13 @@ impl TxStore {
         ensures { result.now ≡ self.now.levels.now.updates }
     {
         self.levels.updates()
+    }
+
+    /// What stands at the touched keys, by table.
+    pub fn overlay(&self) -> &Map<Atom, Map<Term, Terms>>
+        ensures { result.now ≡ self.now.levels.now.overlay }
+    {
+        self.levels.overlay()
     }
 
     /// All by a move, for the log's entry and the commit.

@@ -6,23 +6,26 @@ ghost use Rattle.tab_model.specs.Worlds.{with_rows};
 use std::alloc::{AllocError, Global};
 use std::slice;
 use tab_index::IndexedTable;
-use tab_map::Revise;
+use tab_map::{Map, Revise};
 use tab_model::Change;
+use tab_term::{Term, Terms};
 
 /// What a change makes of its table.
 #[derive(Drop)]
 pub struct Altered<'a> {
     pub change: &'a Change,
+    /// Records of the table that are lent.
+    pub lent: Option<&'a Map<Term, Terms>>,
 }
 
 impl<'a> Revise<IndexedTable> for Altered<'a> {
     ghost becomes = { λ a table. with_rows table (apply table.def.kind table.rows a.change.now) };
 
     fn revise(self, alloc: Global, table: &mut IndexedTable) -> Result<(), AllocError> {
-        table.change(alloc, self.change)
+        table.change(alloc, self.change, self.lent)
     }
 
     fn revised(self, alloc: Global, table: &IndexedTable) -> Result<IndexedTable, AllocError> {
-        table.updated(alloc, slice::from_ref(self.change))
+        table.updated(alloc, slice::from_ref(self.change), self.lent)
     }
 }

@@ -3,6 +3,7 @@
 ghost use Rattle.std.specs.Prelude.{◌≡◌, [], IfOk};
 ghost use Rattle.tab_model.specs.Operations.{table_of_change as table_of, change_world};
 
+use crate::lender::Lender;
 use crate::tags::table_of_change;
 use crate::world::World;
 use std::alloc::{AllocError, Global};
@@ -46,6 +47,7 @@ impl Changing {
         alloc: Global,
         change: &Change,
         nameless: &Atom,
+        lender: &Lender<'_>,
     ) -> Result<Changing, AllocError>
         requires { nameless.now ≡ [] }
         ensures { IfOk result (λ next. next ≡ change_world self change.now) }
@@ -53,16 +55,17 @@ impl Changing {
         let Changing { world, newer } = self;
         let name = table_of_change(change, nameless);
         let Some(table) = newer else {
-            return Changing::started(alloc, world, name, change);
+            return Changing::started(alloc, world, name, change, lender);
         };
         if table.def().name == *name {
-            let table = table.applied(alloc, slice::from_ref(change))?;
+            let lent = lender.records(name);
+            let table = table.applied(alloc, slice::from_ref(change), lent)?;
             return Ok(Changing {
                 world,
                 newer: Some(table),
             });
         }
-        Changing::started(alloc, world.with(alloc, table)?, name, change)
+        Changing::started(alloc, world.with(alloc, table)?, name, change, lender)
     }
 
     // The tables after a change of this one, whose new version shares what does not change.
@@ -71,12 +74,16 @@ impl Changing {
         world: World,
         name: &Atom,
         change: &Change,
+        lender: &Lender<'_>,
     ) -> Result<Changing, AllocError>
         requires { name.now ≡ table_of change.now }
         ensures { IfOk result (λ next. next ≡ change_world world change.now) }
     {
         let newer = match world.table(name) {
-            Some(table) => Some(table.updated(alloc, slice::from_ref(change))?),
+            Some(table) => {
+                let lent = lender.records(name);
+                Some(table.updated(alloc, slice::from_ref(change), lent)?)
+            }
             None => None,
         };
         Ok(Changing { world, newer })

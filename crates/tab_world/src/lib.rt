@@ -8,11 +8,13 @@
 mod altered;
 mod changing;
 mod event;
+mod lender;
 mod schemas;
 mod tags;
 mod world;
 
 pub use changing::Changing;
+pub use lender::Lender;
 pub use schemas::{Redefined, redefine, table_info};
 pub use tags::{table_of_change, tag};
 pub use world::World;

@@ -7,6 +7,7 @@ ghost use Rattle.tab_world.specs.Named.{world_of};
 
 use crate::altered::Altered;
 use crate::changing::Changing;
+use crate::lender::Lender;
 use crate::tags::table_of_change;
 use std::alloc::{AllocError, Global};
 use std::marker::Model;
@@ -89,37 +90,53 @@ impl World {
 
     /// The tables after the changes, in turn. These stay as they were, and share with the new ones all that did not change.
     /// Of changes of one table that follow one another only the first makes a new version of it.
-    pub fn updated(&self, alloc: Global, changes: &[Change]) -> Result<World, AllocError>
+    pub fn updated(
+        &self,
+        alloc: Global,
+        changes: &[Change],
+        lender: &Lender<'_>,
+    ) -> Result<World, AllocError>
         ensures { IfOk result (λ world. world ≡ change_all self.now changes.now) }
     {
         let nameless = Atom::from_short_text(alloc, "")?;
         let mut changing = Changing::new(self.share()?);
         for change in changes {
-            changing = changing.changed(alloc, change, &nameless)?;
+            changing = changing.changed(alloc, change, &nameless, lender)?;
         }
         changing.into_world(alloc)
     }
 
     /// Makes the changes, in turn. Only one of a table without indexes is made in place: the tables of several stay until
     /// memory for all of them is there.
-    pub fn update(&mut self, alloc: Global, changes: &[Change]) -> Result<(), AllocError>
+    pub fn update(
+        &mut self,
+        alloc: Global,
+        changes: &[Change],
+        lender: &Lender<'_>,
+    ) -> Result<(), AllocError>
         ensures ok { OnOk result (self.new ≡ change_all self.old changes.now) }
         ensures err { OnErr result (self.new ≡ self.old) }
     {
         match changes {
-            [change] => self.change(alloc, change)?,
-            _ => *self = self.updated(alloc, changes)?,
+            [change] => self.change(alloc, change, lender)?,
+            _ => *self = self.updated(alloc, changes, lender)?,
         }
         Ok(())
     }
 
-    fn change(&mut self, alloc: Global, change: &Change) -> Result<(), AllocError>
+    fn change(
+        &mut self,
+        alloc: Global,
+        change: &Change,
+        lender: &Lender<'_>,
+    ) -> Result<(), AllocError>
         ensures ok { OnOk result (self.new ≡ change_world self.old change.now) }
         ensures err { OnErr result (self.new ≡ self.old) }
     {
         let nameless = Atom::from_short_text(alloc, "")?;
         let name = table_of_change(change, &nameless).try_clone(alloc)?;
-        self.by_name.revise(alloc, name, Altered { change })?;
+        let lent = lender.records(&name);
+        self.by_name.revise(alloc, name, Altered { change, lent })?;
         Ok(())
     }
 

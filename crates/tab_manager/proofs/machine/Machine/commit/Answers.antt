@@ -39,7 +39,7 @@ returns-in_err-commit_to-clause-free c =
     let i = c.args.place in
     let t = c.in-Some.transaction in
     let open_t = keep.found m n i c.requires.there c.deref.result.now c.index-deref-place.result c.deref.ensures.0 c.in-Some.is in
-    λ empty. absurd (answering.not_refused _ _ c.in_err-commit_to.was (c.commit_to.ensures.free (c.updates.ensures ∙ answering.no_updates m n i c.requires.kept c.requires.there t open_t empty)))
+    λ empty. absurd (answering.not_refused _ _ c.in_err-commit_to.was (c.commit_to.ensures.free (answering.no_updates m n i c.requires.kept c.requires.there t open_t empty)))
 
 pub overflow_add-self : goal.overflow_add-self
 overflow_add-self c =
@@ -62,7 +62,7 @@ returns c =
     let all = answering.commit_exit m n i c.requires.kept c.requires.there t open_t c.requires.idle (answering.zero_is _ (omega (arith, c.if-depth-gt0.false, c.depth.ensures)))
     (get_or c.deref_mut-2.result.now i c.index-deref_mut-place-2.result) c.finish-finished.new.seat c.finish-finished.result
     (record m { world = c.commit_to.new.world; seats = with_items m.seats (set c.deref_mut-2.result.now i c.finish-finished.new.seat); ages = c.finish-finished.new.ages; commits = m.commits + 1 })
-    same c.finish-finished.ensures.seat c.finish-finished.ensures.told (c.in_ok-commit_to.ensures.ok ∙ ap (Rattle.tab_model.specs.Events.change_all m.world) c.updates.ensures) (refilled m.seats.items _ i c.finish-finished.new.seat c.deref_mut-2.ensures.value) refl refl refl refl refl c.finish-finished.ensures.ages in
+    same c.finish-finished.ensures.seat c.finish-finished.ensures.told c.in_ok-commit_to.ensures.ok (refilled m.seats.items _ i c.finish-finished.new.seat c.deref_mut-2.ensures.value) refl refl refl refl refl c.finish-finished.ensures.ages in
     record { ok = all.0; free = λ h. refl; told = λ h. refl; err = tt; kept = all.1 }
 
 pub returns-in_err-commit_to-clause-told : goal.returns-in_err-commit_to-clause-told

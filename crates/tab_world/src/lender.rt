@@ -1,0 +1,28 @@
+//! Records that tables may share, in place of copies.
+
+use crate::world::World;
+use tab_map::Map;
+use tab_term::{Atom, Term, Terms};
+
+/// Who lends records to tables that are written to. A record that is written is shared with it where it is the only one of
+/// its key in both; nothing else is taken from it.
+#[derive(Clone, Copy)]
+pub enum Lender<'a> {
+    /// Nobody.
+    None,
+    /// Other tables.
+    Tables(&'a World),
+    /// A transaction, with what stands at the keys that it touched.
+    Overlay(&'a Map<Atom, Map<Term, Terms>>),
+}
+
+impl<'a> Lender<'a> {
+    /// The records of a table, by key.
+    pub(crate) fn records(&self, name: &Atom) -> Option<&'a Map<Term, Terms>> {
+        match self {
+            Lender::None => None,
+            Lender::Tables(tables) => Some(tables.table(name)?.records()),
+            Lender::Overlay(overlay) => overlay.get(name),
+        }
+    }
+}
