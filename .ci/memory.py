@@ -161,6 +161,21 @@ def dumps(count, records):
     return hold
 
 
+def old_records(record, count):
+    """All of a table's records are deleted in a one-shot, and told to a session that takes nothing."""
+
+    def hold(server, client):
+        mirror = server.connect()
+        script((mirror, ("subscribe", WATCHED), HERE_OK))
+        same("begin mark", mirror.event(), ("mnesia_table_begin", "t", "detailed"))
+        script((client, ("transaction", [("delete", ("t", key)) for key in range(count)], 0), ("atomic", [OK] * count)))
+        held = server.kilobytes()
+        same("old records", [mirror.event()[1][3] for _ in range(count)] == [[record(key)] for key in range(count)], True)
+        return held
+
+    return hold
+
+
 def measured(server, make, hold):
     """The kilobytes that it holds with a table alone, and with what one client makes it hold."""
     client = server.connect()
@@ -222,6 +237,24 @@ def empty_outbox(mirror, record):
     same("end mark", mirror.event(), ("mnesia_table_end", "t", "unsubscribed"))
 
 
+def begin_peak(server):
+    """The peak is that of what comes from here on."""
+    with open(f"/proc/{server.process.pid}/clear_refs", "w", encoding="ascii") as file:
+        file.write("5")
+
+
+def answers(count, answer):
+    """At its peak, a one-shot that asks for all keys so often, half of it in a child."""
+    asked, size = [ALL_KEYS] * (count // 2), size_of(("atomic", [answer] * (count // 2) + [("atomic", [answer] * (count // 2))]))
+
+    def hold(server, client):
+        begin_peak(server)
+        ask_long(client, ("transaction", [*asked, ("transaction", asked)], 0), size)
+        return server.kilobytes("VmHWM")
+
+    return hold
+
+
 def rows(count):
     """A table of so many, which the tables that the journal starts from have too."""
 
@@ -233,14 +266,19 @@ def rows(count):
     return hold
 
 
-# A name, a bound in kilobytes, and further words of the server: one that copies what it tells holds more than 150,000 in each, and
-# one whose journal copies its rows more than 70,000.
+# Thirty megabytes.
+LONG, MANY = long_record(100_000), 300
+# A name, a bound in kilobytes, and further words of the server: one that copies what it tells holds more than 150,000 in each, one
+# that builds an item before it sends it some 30,000 in each that is on its way, and one whose journal copies its rows more than 70,000.
 CASES = [
     ("reads of a long record", within(30_000, table(long_record(MEGABYTE), 1), long_reads(1, 200))),
     ("all keys", within(30_000, table(small_record, 20_000), whole_reads(ALL_KEYS, list(range(20_000)), 300))),
     ("all keys behind a write", within(30_000, table(small_record, 20_000), whole_reads(ALL_KEYS, list(range(20_000)), 300, True))),
+    ("a one-shot's answers", within(30_000, table(small_record, 20_000), answers(300, list(range(20_000))))),
     ("rows of a server", within(58_000, table(small_record, 1), rows(100_000)), "--journal", "16"),
     ("dumps in an outbox", within(30_000, table(long_record(100_000), 50), dumps(32, [long_record(100_000)(key) for key in range(50)]))),
+    ("a dump on its way", within(8_000, table(LONG, MANY), dumps(1, list(map(LONG, range(MANY)))))),
+    ("old records on their way", within(8_000, table(LONG, MANY), old_records(LONG, MANY))),
     ("the last lets go", let_go),
 ]
 

@@ -116,16 +116,19 @@ def waits_and_restarts(server):
 
 
 def bytes_are_counted(server):
-    """As the clients have them: of requests, of replies short and long, and of events."""
+    """As the clients have them: of requests, and of replies and items, short and long."""
     first, mirror = server.connect(), server.connect()
     script((first, CREATE, ATOMIC), (mirror, watch(), HERE_OK))
     for key in range(4):
         script((first, ("transaction", [write(key, b"v" * 50_000)], 0), ("atomic", [OK])))
-    script((first, "begin", ("tid", 5)), (first, ("all_keys", "t"), [0, 1, 2, 3]))
-    same("the records", len(first.ask(("match_object", ("t", "_", "_")))), 4)
-    for _ in range(5):
-        mirror.event()
-    server.has(read_bytes_total=first.sent + mirror.sent, written_bytes_total=first.received + mirror.received, items_sent_total=5)
+    script((first, ("transaction", [write(key, b"v" * 50_000) for key in (4, 5)], 0), ("atomic", [OK, OK])))
+    script((mirror, ("unsubscribe", ("table", "t", "simple")), HERE_OK), (mirror, watch("dump"), HERE_OK))
+    script((first, "begin", ("tid", 6)), (first, ("all_keys", "t"), [0, 1, 2, 3, 4, 5]))
+    same("the records", len(first.ask(("match_object", ("t", "_", "_")))), 6)
+    # Two marks, six events of five commits, and a mark with the records.
+    told = [mirror.event() for _ in range(9)]
+    same("the dump", len(told[-1][3]), 6)
+    server.has(read_bytes_total=first.sent + mirror.sent, written_bytes_total=first.received + mirror.received, items_sent_total=8)
 
 
 def overflows(server):

@@ -262,7 +262,7 @@ class Case:
 class Watched:
     """The second commits what the first watches, behind what it committed before: the first is told each event once, or is closed."""
 
-    count = 6
+    count, value = 6, b"v" * 3000
 
     def __init__(self, name, before=(), *words):
         self.name, self.before, self.words, self.number = name, before, words, len(before) + 1
@@ -276,7 +276,7 @@ class Watched:
             script(*((second, create, ATOMIC) for create in CREATES), (first, watch(), HERE_OK))
             same("begin mark", first.event(), MARK)
             script(*((second, request, reply) for _, request, reply in self.before), (second, "begin", ("tid", self.number)))
-            script(*((second, write(key, b"v" * 3000), OK) for key in range(self.count)))
+            script(*((second, write(key, self.value), OK) for key in range(self.count)))
             server.refuse(nth)
             try:
                 told = asked(second, "commit")
@@ -304,7 +304,7 @@ class Watched:
         same("a commit", told, ("atomic", self.number))
         for key in range(self.count):
             try:
-                same("event", received(first), event(key, b"v" * 3000, self.number))
+                same("event", received(first), event(key, self.value, self.number))
             except Closed:
                 return "were closed for an event"
         return "had its reply"
@@ -313,6 +313,12 @@ class Watched:
         """Nothing stands between what the first was told and the event of what is committed next."""
         script((second, ("transaction", [write("next", 0)], 0), ("atomic", [OK])))
         same("the next event", received(first), event("next", 0, self.number + 1))
+
+
+class WatchedLong(Watched):
+    """The events are longer together than what is kept before it is sent."""
+
+    value = b"v" * 15_000
 
 
 class Joins:
@@ -412,6 +418,7 @@ CASES = [
     Case("a one-shot whose child aborts", [], ("transaction", [write(1, "a"), INNER], 2), ("atomic", [OK, ("aborted", "why")])),
     Case("a one-shot that gives up", HELD, ("transaction", [write(1, "a"), INNER, ("read", "w", 1)], 0), ("aborted", "nomore")),
     Watched("a commit that is watched"),
+    WatchedLong("a long commit that is watched"),
     Watched("a commit that is watched and folds", FULL, "--journal", "16"),
     Joins("a connection"),
     Joins("a connection of a server without an end", "--forever"),

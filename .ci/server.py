@@ -313,6 +313,43 @@ def beside_long_replies(reader, writer):
     same("a one-shot's", reader.ask(("transaction", [all_rows] * 2, 0)) == ("atomic", [rows] * 2), True)
 
 
+def by_events(number, events):
+    return events
+
+
+def by_commits(number, events):
+    return [("batch", number, events)]
+
+
+def long_items(sent):
+    """A dump, and commits with long old records, come whole, in order with short commits. All are made before the dump is read, which has
+    no end before that, so they are there at once behind it."""
+
+    def changed(number, changes):
+        return sent(number, [("mnesia_table_event", ("write", "t", ("t", key, 0), old, ("tid", number))) for key, old in changes])
+
+    def case(mirror, writer):
+        rows, detailed = [("t", key, bytes([key]) * 1_000_000) for key in range(16)], ("table", "t", "detailed")
+        script((writer, CREATE, ATOMIC), *((writer, ("transaction", [("write", row)], 0), ("atomic", [OK])) for row in rows))
+        mirror.send(("subscribe", detailed, "dump"))
+        same("it is told", bool(select.select([mirror.socket], [], [], 10)[0]), True)
+        items = [("mnesia_table_begin", "t", "detailed", rows)]
+        for number, keys in enumerate(([16], [17], [0, 1, 2], [18], [3], [4, 19], [20]), len(rows) + 1):
+            script((writer, ("transaction", [write(key, 0) for key in keys], 0), ("atomic", [OK] * len(keys))))
+            items += changed(number, [(key, rows[key : key + 1]) for key in keys])
+        mirror.send(("unsubscribe", detailed))
+        items.append(("mnesia_table_end", "t", "unsubscribed"))
+        replies = []
+        while len(replies) < 2:
+            term = mirror.receive()
+            (replies if term[0] == "reply" else mirror.events).append(term)
+        same("replies", replies, [("reply", HERE_OK)] * 2)
+        for line, item in enumerate(items):
+            same(f"item {line}", mirror.event() == item, True)
+
+    return case
+
+
 # A commit that writes the key of its number, which is its age too, as it is sent.
 def alone(number, value):
     return event(number, value, number)
@@ -467,6 +504,8 @@ CASES = [
     ("an outbox of three items", 2, ["--outbox", "3"], filled(3)),
     ("an outbox that no word sets", 2, [], filled(64)),
     ("beside long replies", 2, ["--outbox", "1024"], beside_long_replies),
+    ("long items", 2, [], long_items(by_events)),
+    ("long items in batches", 2, ["--batches"], long_items(by_commits)),
     ("batches", 3, ["--batches"], batches),
     ("four move amounts", 5, ["--batches", "--outbox", "1024"], moved),
 ]

@@ -1,13 +1,13 @@
-//! Tests of tab_proto: commands as payloads of the external term format, and of tab_model's copies. The built program's streams show
-//! requests and replies.
+//! Tests of tab_proto: commands as payloads of the external term format, items as frames, and of tab_model's copies. The built
+//! program's streams show requests and replies.
 
 use std::alloc::{AllocError, Global};
 use std::test::Fail;
 use tab_etf::{Counted, decode};
-use tab_model::{Command, Reply, Told};
-use tab_proto::{append_reply, command, term_of, write_reply};
+use tab_model::{Command, Ending, Item, Level, Reply, Told};
+use tab_proto::{Delivery, append_item, append_reply, command, term_of, write_item, write_reply};
 use tab_shared::SharedTerms;
-use tab_term::{Term, Terms};
+use tab_term::{Atom, Term, Terms};
 
 /// Payloads of every command.
 static COMMANDS: [&[u8]; 22] = [
@@ -49,6 +49,22 @@ static NO_COMMANDS: [&[u8]; 9] = [
     b"\x83h\x03w\x0bunsubscribeh\x03w\x05tablew\x01tw\x06simplew\x04dump",
 ];
 
+/// The frames of an item by its events, and whole.
+static SENT: [(&[u8], &[u8]); 3] = [
+    (
+        b"\0\0\0\x21\x83h\x03w\x10mnesia_table_endw\x01tw\x07deleted",
+        b"\0\0\0\x21\x83h\x03w\x10mnesia_table_endw\x01tw\x07deleted",
+    ),
+    (
+        b"\0\0\0\x27\x83h\x04w\x12mnesia_table_beginw\x01tw\x06simplek\0\x02\x03\x04",
+        b"\0\0\0\x27\x83h\x04w\x12mnesia_table_beginw\x01tw\x06simplek\0\x02\x03\x04",
+    ),
+    (
+        b"\0\0\0\x03\x83a\x03\0\0\0\x03\x83a\x04",
+        b"\0\0\0\x11\x83h\x03w\x05batcha\x07k\0\x02\x03\x04",
+    ),
+];
+
 fn copied(alloc: Global, command: &Command) -> Result<Term, AllocError> {
     match command {
         Command::Do(operation) => {
@@ -77,6 +93,46 @@ fn commands_are_read_and_told(rt: HostRuntime) -> Result<(), Fail> {
     for (line, payload) in NO_COMMANDS.iter().enumerate() {
         let held = decode(alloc, payload)?;
         assert!(rt; told_again(alloc, &held).is_none(), "line {line}");
+    }
+    Ok(())
+}
+
+/// An end mark, a begin mark with a dump, or a batch: the last two hold 3 and 4.
+fn item_of(alloc: Global, number: usize) -> Result<Item, AllocError> {
+    let mut terms = Vec::new(alloc);
+    terms.push(Term::Int(3))?;
+    terms.push(Term::Int(4))?;
+    let terms = SharedTerms::from_terms(Terms::from_vec(terms));
+    let table = Atom::from_short_text(alloc, "t")?;
+    Ok(match number {
+        0 => Item::Ended(table, Ending::Deleted),
+        1 => Item::Began(table, Level::Simple, Some(terms)),
+        _ => Item::Batch(7, terms),
+    })
+}
+
+/// Whether these frames are added to bytes, and are written to a device.
+fn is_sent(alloc: Global, item: &Item, delivery: Delivery, frames: &[u8]) -> Result<bool, Fail> {
+    let mut added = Vec::new(alloc);
+    append_item(item, delivery, &mut added)?;
+    let mut device = Counted::new(Vec::new(alloc));
+    write_item(&mut device, item, delivery)?;
+    Ok(added.as_slice() == frames && device.into_inner().as_slice() == frames)
+}
+
+#[test]
+fn items_are_sent(rt: HostRuntime) -> Result<(), Fail> {
+    let alloc = rt.alloc();
+    for (line, (by_events, whole)) in SENT.iter().enumerate() {
+        let item = item_of(alloc, line)?;
+        assert!(rt;
+            is_sent(alloc, &item, Delivery::Events, by_events)?,
+            "line {line}, by events"
+        );
+        assert!(rt;
+            is_sent(alloc, &item, Delivery::Batches, whole)?,
+            "line {line}, whole"
+        );
     }
     Ok(())
 }

@@ -147,7 +147,8 @@ fn copy_gives(alloc: Global, list: &SharedTerms, wanted: &[i128]) -> Result<bool
     Ok(gives(&SharedTerms::from_terms(copy), wanted))
 }
 
-/// Whether a list gives these before the map changes, then and without it; and what one gives that is made when it has changed.
+/// Whether a list gives these before the map changes, then and without it, to the second of two who
+/// hold it when the first is gone; and what one gives that is made when it has changed.
 fn is_right(
     alloc: Global,
     form: &Form,
@@ -155,14 +156,15 @@ fn is_right(
     after: &[i128],
 ) -> Result<bool, AllocError> {
     let mut map = map_before(alloc)?;
-    let list = list_of(alloc, &map, form)?;
+    let (list, other) = list_of(alloc, &map, form)?.pair(alloc)?;
     let is_made = copy_gives(alloc, &list, before)?;
     let is_given = gives(&list, before);
+    drop(list);
     change(alloc, &mut map)?;
-    let is_kept = gives(&list, before);
+    let is_kept = gives(&other, before);
     let is_new = gives(&list_of(alloc, &map, form)?, after);
     drop(map);
-    Ok(is_made && is_given && is_kept && is_new && gives(&list, before))
+    Ok(is_made && is_given && is_kept && is_new && gives(&other, before))
 }
 
 #[test]

@@ -7,11 +7,11 @@ use Rattle.std.proofs.Crossing.{Vec-send, Vec-sync, Arc-send, Arc-sync, crosses,
 use Rattle.std.proofs.MapsCrossing.{BTreeMap-send}
 use Rattle.tab_map.proofs.Crossing.{Map-send, Map-sync}
 use Rattle.tab_term.proofs.atom.Atom.TheSendSync as atom_marks
-use Rattle.tab_shared.proofs.Crossing.{SharedTerms-send, SharedTerms-sync}
+use Rattle.tab_shared.proofs.Crossing.{SharedTerms-send, SharedTerms-sync, Answers-send, Answers-sync}
+use Rattle.tab_shared.specs.contracts.answers.Answers as answers
 use Rattle.tab_shared.specs.contracts.shared_terms.SharedTerms as shared_terms
 use Rattle.tab_term.proofs.Crossing.{Terms-send, Terms-sync, Term-send, Term-sync}
 use Rattle.tab_term.specs.contracts.atom.Atom as atom
-use Rattle.tab_term.specs.contracts.term.Terms as terms
 use Rattle.tab_model.specs.contracts.data.Operation as operation
 use Rattle.tab_model.specs.contracts.data.Reply as reply
 use Rattle.tab_model.specs.contracts.data.Entry as entry
@@ -86,13 +86,13 @@ item-sync = search (parts, SharedTerms-sync) depth 20
 
 reply-send : IsSend reply.the_row
 reply-send =
-    let a = as_row_send atom.the_field atom_marks.the_send in let ts = as_row_send (row_field terms.the_row) Terms-send in let ss = as_row_send (row_field shared_terms.the_row) SharedTerms-send in let n = as_row_send u64-field (plain_send _ _ _ _ _) in
-    variants_send reply.enum (tt, (tt, (tt, (tt, (tt, (tt, (tt, ((limit_marks.the_send, tt), (tt, ((a, tt), ((a, (Term-send, tt)), ((a, (Term-send, tt)), ((Term-send, tt), ((a, tt), ((a, tt), ((a, (Term-send, tt)), ((a, tt), ((a, tt), ((a, tt), (tt, (tt, (tt, (tt, (tt, ((n, tt), ((n, tt), (tt, ((ts, tt), (tt, (tt, ((ss, tt), (tt, ((info-send, tt), ((item-send, tt), ((n, tt), (tt, tt))))))))))))))))))))))))))))))))))))
+    let a = as_row_send atom.the_field atom_marks.the_send in let xs = as_row_send (row_field answers.the_row) Answers-send in let ss = as_row_send (row_field shared_terms.the_row) SharedTerms-send in let n = as_row_send u64-field (plain_send _ _ _ _ _) in
+    variants_send reply.enum (tt, (tt, (tt, (tt, (tt, (tt, (tt, ((limit_marks.the_send, tt), (tt, ((a, tt), ((a, (Term-send, tt)), ((a, (Term-send, tt)), ((Term-send, tt), ((a, tt), ((a, tt), ((a, (Term-send, tt)), ((a, tt), ((a, tt), ((a, tt), (tt, (tt, (tt, (tt, (tt, ((n, tt), ((n, tt), (tt, ((xs, tt), (tt, (tt, ((ss, tt), (tt, ((info-send, tt), ((item-send, tt), ((n, tt), (tt, tt))))))))))))))))))))))))))))))))))))
 
 reply-sync : IsSync reply.the_row
 reply-sync =
-    let a = as_row_sync atom.the_field atom_marks.the_sync in let ts = as_row_sync (row_field terms.the_row) Terms-sync in let ss = as_row_sync (row_field shared_terms.the_row) SharedTerms-sync in let n = as_row_sync u64-field (plain_sync _ _ _ _ _) in
-    variants_sync reply.enum (tt, (tt, (tt, (tt, (tt, (tt, (tt, ((limit_marks.the_sync, tt), (tt, ((a, tt), ((a, (Term-sync, tt)), ((a, (Term-sync, tt)), ((Term-sync, tt), ((a, tt), ((a, tt), ((a, (Term-sync, tt)), ((a, tt), ((a, tt), ((a, tt), (tt, (tt, (tt, (tt, (tt, ((n, tt), ((n, tt), (tt, ((ts, tt), (tt, (tt, ((ss, tt), (tt, ((info-sync, tt), ((item-sync, tt), ((n, tt), (tt, tt))))))))))))))))))))))))))))))))))))
+    let a = as_row_sync atom.the_field atom_marks.the_sync in let xs = as_row_sync (row_field answers.the_row) Answers-sync in let ss = as_row_sync (row_field shared_terms.the_row) SharedTerms-sync in let n = as_row_sync u64-field (plain_sync _ _ _ _ _) in
+    variants_sync reply.enum (tt, (tt, (tt, (tt, (tt, (tt, (tt, ((limit_marks.the_sync, tt), (tt, ((a, tt), ((a, (Term-sync, tt)), ((a, (Term-sync, tt)), ((Term-sync, tt), ((a, tt), ((a, tt), ((a, (Term-sync, tt)), ((a, tt), ((a, tt), ((a, tt), (tt, (tt, (tt, (tt, (tt, ((n, tt), ((n, tt), (tt, ((xs, tt), (tt, (tt, ((ss, tt), (tt, ((info-sync, tt), ((item-sync, tt), ((n, tt), (tt, tt))))))))))))))))))))))))))))))))))))
 
 told-send : IsSend told.the_row
 told-send = search (parts, reply-send, reply-sync) depth 20

@@ -85,7 +85,7 @@ impl<'a, H: House> Held<'a, H> {
     }
 }
 
-/// Shared ones count too: a one-shot copies what it is told while the book is held.
+/// What was found says how long it was looked for while the book was held.
 fn records_of(reply: &Reply) -> usize {
     match reply {
         Reply::Found(records) => records.count_up_to(RECORDS),

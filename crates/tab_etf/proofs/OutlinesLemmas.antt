@@ -72,6 +72,7 @@ fits_leaf (leaf.Number n) s h = tt
 fits_leaf (leaf.Held t) s h = tt
 fits_leaf (leaf.List ts) s h = tt
 fits_leaf (leaf.SharedList ts m) s h = (s, list_fits ts.now h)
+fits_leaf (leaf.Answers ts n) s h = h
 
 fits_head : (o : Option Leaf) → OfHead IsShort o → length (head_canon o) ≤ 4294967295 → OfHead IsWritable o
 fits_head None s h = tt

@@ -46,7 +46,7 @@ canon_some (list ts) = omega arith
 canon_some (bin b) = omega arith
 canon_some (map ps) = omega arith
 
-count_canons : (ts : PlainTerms) → count ts ≤ length (canons ts)
+pub count_canons : (ts : PlainTerms) → count ts ≤ length (canons ts)
 unfolding canon
 count_canons none = omega arith
 count_canons (one_more t ts) = omega (arith, canon_some t, count_canons ts, length-append (canon t) (canons ts))

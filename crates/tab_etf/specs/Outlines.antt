@@ -1,6 +1,6 @@
 -- Terms that are given by their parts: an atom's text, a number, a term, the elements of a list; a tuple of two to four of
 -- these; and pairs around it.
-use Rattle.std.specs.Prelude.{ℕ, pos, ◌<◌, ◌^◌, List, [], ◌∷◌, Option, Some, None, length}
+use Rattle.std.specs.Prelude.{◌≡◌, ℕ, pos, ◌<◌, ◌≤◌, ◌-◌, ◌^◌, min, List, [], ◌∷◌, Option, Some, None, length}
 use Rattle.tab_term.specs.Data.{PlainTerm, int, atom, tuple, list, none, one_more, count, pair, triple}
 use Rattle.tab_term.specs.Canon.{canon}
 use Rattle.tab_term.specs.View.{term}
@@ -18,6 +18,7 @@ leaf_term (leaf.Number n) = int (pos n)
 leaf_term (leaf.Held t) = term t.now
 leaf_term (leaf.List ts) = list ts.now
 leaf_term (leaf.SharedList ts m) = list ts.now
+leaf_term (leaf.Answers ts n) = list ts.now
 
 -- the one part by itself, or the tuple of two to four parts
 abbrev pub body_term : Body → PlainTerm
@@ -56,18 +57,20 @@ OfBody P (body.Four a b c d) = P a × P b × P c × P d
 abbrev pub OfOutline : (Leaf → Type 0) → Outline → Type 0
 OfOutline P o = OfHead P o.first × OfHead P o.second × OfBody P o.body
 
--- an atom's text has a length of two bytes, and a list that is shared stands with its measure
+-- an atom's text has a length of two bytes, a list that is shared stands with its measure, and answers with their length
 abbrev pub IsShort : Leaf → Type 0
 IsShort (leaf.Word text) = length text.now < 2 ^ 16
 IsShort (leaf.SharedList ts m) = IsMeasure m ts.now
+IsShort (leaf.Answers ts n) = n ≡ min (length (canon (list ts.now))) (2 ^ 64 - 1)
 IsShort l = Unit {0}
 
--- each atom of the outline has a text of less than 65,536 bytes, and each shared list its measure
+-- each atom of the outline has a text of less than 65,536 bytes, and each shared list and all answers their measure
 abbrev pub IsShortOutline : Outline → Type 0
 IsShortOutline o = OfOutline IsShort o
 
--- an atom's text has a length of two bytes, and a list that is shared its measure, and a count of eight
+-- an atom's text has a length of two bytes, a list that is shared its measure and a count of eight, and answers fit a payload
 abbrev pub IsWritable : Leaf → Type 0
 IsWritable (leaf.Word text) = length text.now < 2 ^ 16
 IsWritable (leaf.SharedList ts m) = IsMeasure m ts.now × (count ts.now < 2 ^ 64)
+IsWritable (leaf.Answers ts n) = length (canon (list ts.now)) ≤ 4294967295
 IsWritable l = Unit {0}

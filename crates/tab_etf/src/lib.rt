@@ -1,6 +1,7 @@
 //! The external term format over packets with a length of four bytes: terms as bytes, and bytes as terms.
 #![tactic(auto)]
 
+mod answers;
 mod counted;
 mod decoding;
 mod device;
@@ -17,6 +18,7 @@ mod spelling;
 mod splitting;
 mod writer;
 
+pub use answers::are_within;
 pub use counted::Counted;
 pub use decoding::{decode, spellings_are_apart};
 pub use device::{Broken, Source, Target, give_all};

@@ -6,12 +6,13 @@ ghost use Rattle.tab_term.specs.Data.{list};
 ghost use Rattle.tab_etf.specs.Outlines.{leaf_term, body_term, outline_term, head_canon, OfHead, OfBody, OfOutline, IsShort, IsShortOutline, IsWritable};
 ghost use Rattle.tab_etf.specs.Writing.{Writes};
 
+use crate::answers::{answers_len, put_answers};
 use crate::device::Target;
 use crate::measuring::{LONGEST, atom_len, int_len, list_len, spelled_len};
 use crate::shared::{Measure, measure_of, put_shared, shared_len};
 use crate::spelling::{put, put_atom, put_int, put_list};
 use crate::writer::Writer;
-use tab_shared::SharedTerms;
+use tab_shared::{Answers, SharedTerms};
 use tab_term::spelling::SMALL_TUPLE_EXT;
 use tab_term::{Term, Terms};
 
@@ -26,6 +27,8 @@ pub enum Leaf<'a> {
     List(&'a Terms),
     /// A list of these elements, with its measure.
     SharedList(&'a SharedTerms, Measure),
+    /// The list of these answers, with how many bytes it takes.
+    Answers(&'a Answers, u64),
 }
 
 impl<'a> Leaf<'a> {
@@ -35,6 +38,14 @@ impl<'a> Leaf<'a> {
         ensures short { IsShort result }
     {
         Leaf::SharedList(elements, measure_of(elements))
+    }
+
+    /// The list of these answers, which are measured once.
+    pub fn answers(answers: &'a Answers) -> Leaf<'a>
+        ensures term { leaf_term result ≡ list answers.now }
+        ensures short { IsShort result }
+    {
+        Leaf::Answers(answers, answers_len(answers))
     }
 }
 
@@ -66,6 +77,7 @@ fn put_leaf<W: Target>(writer: &mut Writer<W>, leaf: &Leaf)
         Leaf::Held(held) => put(writer, held),
         Leaf::List(elements) => put_list(writer, elements),
         Leaf::SharedList(elements, measure) => put_shared(writer, elements, *measure),
+        Leaf::Answers(answers, _) => put_answers(writer, answers),
     }
 }
 
@@ -130,6 +142,7 @@ fn leaf_len(leaf: &Leaf) -> u64
         Leaf::Held(held) => spelled_len(held),
         Leaf::List(elements) => list_len(elements),
         Leaf::SharedList(elements, measure) => shared_len(elements, *measure),
+        Leaf::Answers(_, len) => *len,
     }
 }
 

@@ -1,6 +1,10 @@
 //! Data that code and definitions share. Ages, numbers of sessions and commits, and positions are from 1 on.
+ghost use Rattle.std.specs.Prelude.{◌≡◌, MatchResult, false};
+ghost use Rattle.tab_model.specs.declared.data.Reply.TheVariants as reply;
+ghost use Rattle.tab_model.specs.Shared.{is_found};
+
 use crate::lists::{Atoms, Moves, Numbers, Parts, Replies};
-use tab_shared::SharedTerms;
+use tab_shared::{Answers, SharedTerms};
 use tab_term::{Atom, Term, Terms};
 
 /// The type of a table: a set keeps one record for each key, a bag several different ones (Mnesia Reference Manual,
@@ -190,7 +194,7 @@ pub enum Reply {
     Tid(u64),
     Atomic(u64),
     AtomicOk,
-    AtomicTerms(Terms),
+    AtomicTerms(Answers),
     NoMore,
     NoWait,
     Found(SharedTerms),
@@ -199,6 +203,18 @@ pub enum Reply {
     Taken(Item),
     Overflow(u64),
     Empty,
+}
+
+impl Reply {
+    /// The list of a reply that found one. Any other reply is given back.
+    pub(crate) fn into_found(self) -> Result<SharedTerms, Reply>
+        ensures { MatchResult result (λ rows. self ≡ reply.Found rows) (λ other. (other ≡ self) × (is_found self ≡ false)) }
+    {
+        match self {
+            Reply::Found(rows) => Ok(rows),
+            reply => Err(reply),
+        }
+    }
 }
 
 /// A command of a session. A subscription may ask for a dump; a one-shot carries how many restarts it may make.
@@ -308,7 +324,7 @@ impl Drop for Reply {
             | Reply::NoIndex(name, term)
             | Reply::BadDefinition(name, term) => drop((name, term)),
             Reply::UserAbort(reason) => drop(reason),
-            Reply::AtomicTerms(terms) => drop(terms),
+            Reply::AtomicTerms(answers) => drop(answers),
             Reply::Found(terms) => drop(terms),
             Reply::Told(info) => drop(info),
             Reply::Taken(item) => drop(item),

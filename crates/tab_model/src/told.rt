@@ -1,13 +1,17 @@
 //! A reply that stands once for all who hold it.
 
-ghost use Rattle.std.specs.Prelude.{◌≡◌, IfOk};
+ghost use Rattle.std.specs.Prelude.{◌≡◌, IfOk, MatchResult, false};
+ghost use Rattle.tab_model.specs.declared.data.Reply.TheVariants as reply;
+ghost use Rattle.tab_model.specs.Shared.{is_found};
 
 use crate::data::Reply;
 use std::alloc::{AllocError, Global};
 use std::marker::Model;
 use std::sync::Arc;
+use tab_shared::SharedTerms;
 
-/// A reply, alone or shared. It can be read, and not taken out, since others may read it too.
+/// A reply, alone or shared. It can be read, and nothing but a list be taken out, since others may
+/// read it too.
 pub struct Told {
     owned: Owned,
 }
@@ -27,9 +31,11 @@ impl Model for Told {
 
     ghost coded = { Prim.hlevel (codes, terms_code, pairs_code) };
 
-    ghost use Rattle.tab_model.specs.Shared.{reply_in};
+    ghost use Rattle.tab_model.specs.Shared.{reply_in, IsOwned};
 
     ghost view = { λ a. reply_in a.owned };
+
+    ghost invariant = { λ a. IsOwned a.owned };
 }
 
 // A derived Drop would be taken apart, variant by variant, at each exit of each caller.
@@ -51,18 +57,28 @@ impl Told {
     }
 
     /// The same reply twice: the parts that it has stand once, and go with the last of the two. `Done` takes no memory.
+    /// A list is shared by itself, so that each of the two can hand it on.
     pub fn pair(alloc: Global, reply: Reply) -> Result<(Told, Told), AllocError>
         ensures { IfOk result (λ both. (both.0 ≡ reply) × (both.1 ≡ reply)) }
     {
         if matches!(&reply, Reply::Done) {
             return Ok((Told::new(Reply::Done), Told::new(Reply::Done)));
         }
-        let one = Arc::new(alloc, reply)?;
-        let other = Arc::try_clone(&one)?;
-        Ok((Told::of_shared(one), Told::of_shared(other)))
+        match reply.into_found() {
+            Ok(rows) => {
+                let (one, other) = rows.pair(alloc)?;
+                Ok((Told::new(Reply::Found(one)), Told::new(Reply::Found(other))))
+            }
+            Err(reply) => {
+                let one = Arc::new(alloc, reply)?;
+                let other = Arc::try_clone(&one)?;
+                Ok((Told::of_shared(one), Told::of_shared(other)))
+            }
+        }
     }
 
     fn of_shared(reply: Arc<Reply, Global>) -> Told
+        requires { is_found reply.value ≡ false }
         ensures { result ≡ reply.value }
     {
         Told {
@@ -77,6 +93,17 @@ impl Told {
         match &self.owned {
             Owned::Own(reply) => reply,
             Owned::Shared(reply) => reply,
+        }
+    }
+
+    /// The list of a reply that found one, without a copy. Any other reply is given back.
+    pub fn into_found(self) -> Result<SharedTerms, Told>
+        ensures { MatchResult result (λ rows. self ≡ reply.Found rows) (λ told. (told ≡ self) × (is_found self ≡ false)) }
+    {
+        let Told { owned } = self;
+        match owned {
+            Owned::Own(reply) => reply.into_found().map_err(Told::new),
+            Owned::Shared(reply) => Err(Told::of_shared(reply)),
         }
     }
 }

@@ -1,10 +1,8 @@
 -- Answers, one after another.
-use Rattle.std.proofs.Common.{◌≡◌, List, [], ◌∷◌, ◌++◌, refl, ap}
-use Rattle.tab_term.specs.Data.{one_more}
-use Rattle.tab_term.specs.View.{term, terms}
-use Rattle.tab_term.specs.declared.term.Term.{Term}
+use Rattle.std.proofs.Common.{◌≡◌, [], ◌∷◌, ◌++◌, refl, ap}
+use Rattle.tab_term.specs.Data.{PlainTerm, PlainTerms, none, one_more, plain_terms, terms_list}
 use Rattle.tab_oneshot.specs.Attempts.{with_last}
 
-pub terms_with_last : (ts : List Term) (t : Term) → terms (ts ++ t ∷ []) ≡ with_last (terms ts) (term t)
-terms_with_last [] t = refl
-terms_with_last (u ∷ us) t = ap (one_more (term u)) (terms_with_last us t)
+pub one_more_last : (ts : PlainTerms) (t : PlainTerm) → plain_terms (terms_list ts ++ t ∷ []) ≡ with_last ts t
+one_more_last none t = refl
+one_more_last (one_more u us) t = ap (one_more u) (one_more_last us t)

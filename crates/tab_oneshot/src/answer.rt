@@ -1,15 +1,10 @@
 //! Answers, and what they say of the levels.
 
-ghost use Rattle.std.specs.Prelude.{◌≡◌, true, IfOk};
-ghost use Rattle.tab_term.specs.View.{term};
+ghost use Rattle.std.specs.Prelude.{◌≡◌};
 ghost use Rattle.tab_model.specs.declared.data.Reply.TheVariants as reply;
-ghost use Rattle.tab_proto.specs.Replies.{is_told, reply_term};
 ghost use Rattle.tab_oneshot.specs.Attempts.{sort_of};
 
-use std::alloc::{AllocError, Global};
 use tab_model::{Reply, Told};
-use tab_proto::told_term;
-use tab_term::Term;
 
 /// What an answer says of the levels.
 #[derive(Clone, Copy)]
@@ -78,13 +73,5 @@ impl Answer {
             Reply::NoMemory | Reply::SystemLimit(_) => Sort::Refused,
             _ => Sort::Other,
         }
-    }
-
-    /// Its term, as it stands among a transaction's answers.
-    pub fn term(&self, alloc: Global) -> Result<Term, AllocError>
-        requires { is_told self.now.reply ≡ true }
-        ensures { IfOk result (λ t. term t ≡ reply_term self.now.reply) }
-    {
-        told_term(alloc, self.reply.reply())
     }
 }

@@ -2,82 +2,19 @@
 
 ghost use Rattle.std.specs.Prelude.{◌≡◌, ◌∷◌, [], OnOk, OnErr, length, suc};
 ghost use Rattle.tab_term.specs.Data.{none};
-ghost use Rattle.tab_term.specs.View.{term};
-ghost use Rattle.tab_oneshot.specs.Attempts.{told, with_last, innermost};
+ghost use Rattle.tab_shared.specs.Answers.{answer_term};
+ghost use Rattle.tab_oneshot.specs.Attempts.{told, innermost};
 ghost use Rattle.tab_oneshot.specs.Parts.{Leaves};
 
 use std::alloc::{AllocError, Global};
 use std::marker::Model;
 use std::mem;
-use tab_term::{Term, Terms};
-
-/// The answers of one level.
-pub struct Level {
-    items: Vec<Term>,
-}
-
-impl Model for Level {
-    ghost use Rattle.tab_term.specs.Code.{terms_code};
-    ghost use Rattle.tab_term.specs.Data.{PlainTerms};
-    ghost use Rattle.tab_term.specs.View.{terms};
-
-    ghost Value = { PlainTerms };
-
-    ghost coded = { Prim.hlevel terms_code };
-
-    ghost view = { λ a. terms a.items.items };
-}
-
-impl Drop for Level {
-    fn drop(self) {
-        let Level { items } = self;
-        drop(items);
-    }
-}
-
-impl Level {
-    fn new(alloc: Global) -> Level
-        ensures { result ≡ none }
-    {
-        Level {
-            items: Vec::new(alloc),
-        }
-    }
-
-    /// The place of one answer more.
-    fn reserve(&mut self) -> Result<(), AllocError>
-        ensures { self.new ≡ self.old }
-    {
-        self.items.reserve(1)?;
-        Ok(())
-    }
-
-    #[tactic(auto, using(crate::proofs::Telling::terms_with_last))]
-    fn put(&mut self, answer: Term) -> Result<(), AllocError>
-        ensures { OnOk result (self.new ≡ with_last self.old (term answer)) }
-    {
-        self.items.push(answer)?;
-        Ok(())
-    }
-
-    fn clear(&mut self)
-        ensures { self.new ≡ none }
-    {
-        self.items.clear();
-    }
-
-    fn into_terms(self) -> Terms
-        ensures { result ≡ self }
-    {
-        let Level { items } = self;
-        Terms::from_vec(items)
-    }
-}
+use tab_shared::{Answer, Answers};
 
 /// The answers in the open levels: one level is always open. Contracts see them innermost first.
 pub struct Levels {
-    inner: Level,
-    outer: Vec<Level>,
+    inner: Answers,
+    outer: Vec<Answers>,
 }
 
 impl Model for Levels {
@@ -107,7 +44,7 @@ impl Levels {
         ensures { result ≡ none ∷ [] }
     {
         Levels {
-            inner: Level::new(alloc),
+            inner: Answers::new(alloc),
             outer: Vec::new(alloc),
         }
     }
@@ -138,10 +75,11 @@ impl Levels {
     }
 
     /// One answer more, of the innermost level.
-    pub fn put(&mut self, answer: Term) -> Result<(), AllocError>
-        ensures { OnOk result (self.new ≡ told (term answer) self.old) }
+    #[tactic(auto, using(crate::proofs::Telling::one_more_last))]
+    pub fn put(&mut self, answer: Answer) -> Result<(), AllocError>
+        ensures { OnOk result (self.new ≡ told (answer_term answer) self.old) }
     {
-        self.inner.put(answer)
+        self.inner.push(answer)
     }
 
     /// A level more, with the place of its own answer in the level around it.
@@ -151,25 +89,25 @@ impl Levels {
     {
         self.inner.reserve()?;
         self.outer.reserve(1)?;
-        let around = mem::replace(&mut self.inner, Level::new(alloc));
+        let around = mem::replace(&mut self.inner, Answers::new(alloc));
         self.outer.push_reserved(around);
         Ok(())
     }
 
     /// The answers of the innermost, which is no more; None where only level 1 is open.
-    pub fn leave(&mut self) -> Option<Terms>
+    pub fn leave(&mut self) -> Option<Answers>
         ensures { Leaves self.old result self.new }
     {
         match self.outer.pop() {
-            Some(around) => Some(mem::replace(&mut self.inner, around).into_terms()),
+            Some(around) => Some(mem::replace(&mut self.inner, around)),
             None => None,
         }
     }
 
     /// The answers of the innermost.
-    pub fn take(&mut self, alloc: Global) -> Terms
+    pub fn take(&mut self, alloc: Global) -> Answers
         ensures { result ≡ innermost self.old }
     {
-        mem::replace(&mut self.inner, Level::new(alloc)).into_terms()
+        mem::replace(&mut self.inner, Answers::new(alloc))
     }
 }

@@ -17,20 +17,21 @@ use crate::steps::Steps;
 use crate::turn::Turn;
 use std::alloc::{AllocError, Global};
 use tab_model::{Command, Operation, Part, Reply, Told};
-use tab_proto::atomic_term;
-use tab_term::{Term, Terms};
+use tab_proto::answer_of;
+use tab_shared::Answers;
+use tab_term::Term;
 
-fn put_answer(alloc: Global, answer: &Answer, levels: &mut Levels) -> Result<(), AllocError>
-    requires { is_told answer.now.reply ≡ true }
-    ensures { OnOk result (levels.new ≡ told (reply_term answer.now.reply) levels.old) }
+fn put_answer(alloc: Global, answer: Answer, levels: &mut Levels) -> Result<(), AllocError>
+    requires { is_told answer.reply ≡ true }
+    ensures { OnOk result (levels.new ≡ told (reply_term answer.reply) levels.old) }
 {
-    levels.put(answer.term(alloc)?)
+    levels.put(answer_of(alloc, answer.into_reply())?)
 }
 
-fn put_inner(alloc: Global, inner: Terms, levels: &mut Levels) -> Result<(), AllocError>
+fn put_inner(inner: Answers, levels: &mut Levels) -> Result<(), AllocError>
     ensures { OnOk result (levels.new ≡ told (reply_term (reply.AtomicTerms inner)) levels.old) }
 {
-    levels.put(atomic_term(alloc, inner)?)
+    levels.put(tab_shared::Answer::Atomic(inner))
 }
 
 /// An operation's answer stands in its level.
@@ -39,7 +40,7 @@ fn tell<S: Steps>(steps: &mut S, alloc: Global, answer: Answer, levels: &mut Lev
     ensures { (more : List Call) × S.shows steps.old more steps.new × Puts 0 answer.reply levels.old more (turn_of result levels.new) }
 {
     let around = levels.around();
-    match put_answer(alloc, &answer, levels) {
+    match put_answer(alloc, answer, levels) {
         Ok(()) => Turn::GoOn,
         Err(_) => stop(steps, around, Answer::no_memory()),
     }
@@ -65,7 +66,7 @@ fn tell_behind<S: Steps>(steps: &mut S, alloc: Global, answer: Answer, levels: &
     ensures { (more : List Call) × S.shows steps.old more steps.new × Puts 1 answer.reply levels.old more (turn_of result levels.new) }
 {
     let around = levels.around();
-    match put_answer(alloc, &answer, levels) {
+    match put_answer(alloc, answer, levels) {
         Ok(()) => Turn::Skip,
         Err(_) => stop(steps, around, Answer::no_memory()),
     }
@@ -176,14 +177,14 @@ fn begin<S: Steps>(steps: &mut S, alloc: Global, levels: &mut Levels) -> Turn
 }
 
 /// The answers of a committed child stand in the level around it.
-fn join<S: Steps>(steps: &mut S, alloc: Global, answer: Answer, levels: &mut Levels) -> Turn
+fn join<S: Steps>(steps: &mut S, answer: Answer, levels: &mut Levels) -> Turn
     ensures { (more : List Call) × S.shows steps.old more steps.new × Joins answer.reply levels.old more (turn_of result levels.new) }
 {
     match levels.leave() {
         None => Turn::Over(answer.into_reply()),
         Some(inner) => {
             let around = levels.around();
-            match put_inner(alloc, inner, levels) {
+            match put_inner(inner, levels) {
                 Ok(()) => Turn::GoOn,
                 Err(_) => stop(steps, around, Answer::no_memory()),
             }
@@ -191,12 +192,12 @@ fn join<S: Steps>(steps: &mut S, alloc: Global, answer: Answer, levels: &mut Lev
     }
 }
 
-fn commit<S: Steps>(steps: &mut S, alloc: Global, levels: &mut Levels) -> Turn
+fn commit<S: Steps>(steps: &mut S, levels: &mut Levels) -> Turn
     ensures { (more : List Call) × S.shows steps.old more steps.new × Serves part.Close levels.old more (turn_of result levels.new) }
 {
     let answer = ask(steps, Command::Commit);
     match answer.sort() {
-        Sort::Joined => join(steps, alloc, answer, levels),
+        Sort::Joined => join(steps, answer, levels),
         Sort::Refused => stop(steps, levels.around(), answer),
         _ => Turn::Over(answer.into_reply()),
     }
@@ -210,6 +211,6 @@ pub fn serve<S: Steps>(steps: &mut S, alloc: Global, part: &Part, levels: &mut L
         Part::Do(operation) => operate(steps, alloc, operation, levels),
         Part::Abort(reason) => abort(steps, alloc, reason, levels),
         Part::Open => begin(steps, alloc, levels),
-        Part::Close => commit(steps, alloc, levels),
+        Part::Close => commit(steps, levels),
     }
 }

@@ -1,14 +1,17 @@
 //! Items as a connection reads them.
 
-ghost use Rattle.std.specs.Prelude.{◌≡◌, ◌++◌, ◌∷◌, OnOk};
+ghost use Rattle.std.specs.Prelude.{◌≡◌, ◌++◌, ◌∷◌, OnOk, IfErr};
+ghost use Rattle.std.specs.Io.KnownBytes.{Appends};
 ghost use Rattle.tab_model.specs.declared.data.Reply.TheVariants as told;
 ghost use Rattle.tab_term.specs.Canon.{canon};
 ghost use Rattle.tab_etf.specs.Frames.{frame};
-ghost use Rattle.tab_proto.specs.Events.{event_frames, item_frames, sent_frames};
-ghost use Rattle.tab_proto.specs.Replies.{reply_term};
+ghost use Rattle.tab_proto.specs.Events.{event_frames, item_frames, sent_frames, IsUnsent};
+ghost use Rattle.tab_proto.specs.Replies.{item_term, reply_term};
 
 use crate::replying::{item_outline, outline_of};
-use tab_etf::{EncodeFault, append_frame, append_outline};
+use tab_etf::{
+    EncodeFault, FrameFault, Target, append_frame, append_outline, write_frame, write_outline,
+};
 use tab_model::{Item, Reply};
 use tab_shared::SharedTerms;
 
@@ -48,6 +51,57 @@ fn append_events(events: &SharedTerms, out: &mut Vec<u8>) -> Result<(), EncodeFa
         append_frame(event, out)?;
     }
     Ok(())
+}
+
+/// Writes the frames that `append_item` adds, one after another, and builds none.
+///
+/// It takes no memory. At `Device` a beginning of them is written; at `FrameTooLong` those before the
+/// one that is too long.
+pub fn write_item<W: Target>(
+    device: &mut W,
+    item: &Item,
+    delivery: Delivery,
+) -> Result<(), FrameFault>
+    ensures ok { OnOk result (Appends (W.contents device.old) (W.contents device.new) (sent_frames delivery item.now)) }
+    ensures same { OnOk result (W.faults device.new ≡ W.faults device.old) }
+    ensures err { IfErr result (λ e. IsUnsent e (sent_frames delivery item.now) (W.contents device.old) (W.contents device.new) (W.faults device.old) (W.faults device.new)) }
+{
+    match delivery {
+        Delivery::Events => write_apart(device, item),
+        Delivery::Batches => write_whole(device, item),
+    }
+}
+
+/// Writes of a batch a frame for each of its events, in order, else that of its mark.
+fn write_apart<W: Target>(device: &mut W, item: &Item) -> Result<(), FrameFault>
+    ensures ok { OnOk result (Appends (W.contents device.old) (W.contents device.new) (item_frames item.now)) }
+    ensures same { OnOk result (W.faults device.new ≡ W.faults device.old) }
+    ensures err { IfErr result (λ e. IsUnsent e (item_frames item.now) (W.contents device.old) (W.contents device.new) (W.faults device.old) (W.faults device.new)) }
+{
+    match item {
+        Item::Batch(_, events) => write_events(device, events),
+        mark => write_whole(device, mark),
+    }
+}
+
+fn write_events<W: Target>(device: &mut W, events: &SharedTerms) -> Result<(), FrameFault>
+    ensures ok { OnOk result (Appends (W.contents device.old) (W.contents device.new) (event_frames events.now)) }
+    ensures same { OnOk result (W.faults device.new ≡ W.faults device.old) }
+    ensures err { IfErr result (λ e. IsUnsent e (event_frames events.now) (W.contents device.old) (W.contents device.new) (W.faults device.old) (W.faults device.new)) }
+{
+    for event in events.iter() {
+        write_frame(device, event)?;
+    }
+    Ok(())
+}
+
+/// Writes the one frame of an item that is told whole.
+fn write_whole<W: Target>(device: &mut W, item: &Item) -> Result<(), FrameFault>
+    ensures ok { OnOk result (Appends (W.contents device.old) (W.contents device.new) (frame (131 ∷ canon (item_term item.now)))) }
+    ensures same { OnOk result (W.faults device.new ≡ W.faults device.old) }
+    ensures err { IfErr result (λ e. IsUnsent e (frame (131 ∷ canon (item_term item.now))) (W.contents device.old) (W.contents device.new) (W.faults device.old) (W.faults device.new)) }
+{
+    write_outline(device, &item_outline(item))
 }
 
 /// Adds the frame of `{mnesia_overflow, N}`.

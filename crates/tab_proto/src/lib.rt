@@ -21,10 +21,10 @@ mod telling;
 
 pub use command_terms::term_of;
 pub use commands::{command, read_command};
-pub use events::{Delivery, append_item, append_overflow};
+pub use events::{Delivery, append_item, append_overflow, write_item};
 pub use fault::ProtoFault;
 pub use laws::requests_are_apart;
 pub use replying::{append_reply, write_reply};
 pub use request::Request;
 pub use requests::{read_request, session_of};
-pub use telling::{atomic_term, told_term};
+pub use telling::answer_of;

@@ -76,7 +76,7 @@ pub(crate) fn outline_of(reply: &Reply) -> Outline<'_>
         Reply::SubNoTable(table) => told_in("error", "no_exists", named(table)),
         Reply::AlreadySubscribed(table) => told_in("error", "already_subscribed", named(table)),
         Reply::NotSubscribed(table) => told_in("error", "not_subscribed", named(table)),
-        Reply::AtomicTerms(replies) => worded("atomic", Leaf::List(replies)),
+        Reply::AtomicTerms(answers) => worded("atomic", Leaf::answers(answers)),
         Reply::Found(rows) => alone(Leaf::shared(rows)),
         Reply::Told(info) => info_outline(info),
         Reply::Taken(item) => item_outline(item),

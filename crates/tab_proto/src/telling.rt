@@ -1,49 +1,51 @@
-//! The answers of a transaction's members, as terms.
+//! The answers of a transaction's members.
 
-ghost use Rattle.std.specs.Prelude.{◌≡◌, IfOk, true};
-ghost use Rattle.tab_model.specs.declared.data.Reply.TheVariants as reply;
-ghost use Rattle.tab_term.specs.Data.{atom, pair as pair_of, triple as triple_of};
-ghost use Rattle.tab_term.specs.View.{term};
+ghost use Rattle.std.specs.Prelude.{◌≡◌, IfOk, true, false};
+ghost use Rattle.tab_model.specs.Shared.{is_found};
+ghost use Rattle.tab_shared.specs.Answers.{answer_term};
 ghost use Rattle.tab_proto.specs.Replies.{reply_term, is_told};
 
-use crate::building::{name, pair, triple, word, worded};
+use crate::building::{name, pair, triple, word};
 use std::alloc::{AllocError, Global};
-use tab_model::Reply;
-use tab_term::{Term, Terms};
+use tab_model::{Reply, Told};
+use tab_shared::Answer;
 
-/// The term of an answer to an operation or to an abort.
-pub fn told_term(alloc: Global, reply: &Reply) -> Result<Term, AllocError>
-    requires { is_told reply.now ≡ true }
-    ensures { IfOk result (λ t. term t ≡ reply_term reply.now) }
+/// The answer that a reply to an operation or to an abort is. A list is handed on as it stands:
+/// memory is taken for the reason of an abort alone.
+pub fn answer_of(alloc: Global, told: Told) -> Result<Answer, AllocError>
+    requires { is_told told ≡ true }
+    ensures { IfOk result (λ a. answer_term a ≡ reply_term told) }
+{
+    match told.into_found() {
+        Ok(rows) => Ok(Answer::Found(rows)),
+        Err(other) => answer_without_rows(alloc, other.reply()),
+    }
+}
+
+fn answer_without_rows(alloc: Global, reply: &Reply) -> Result<Answer, AllocError>
+    requires told { is_told reply.now ≡ true }
+    requires rows { is_found reply.now ≡ false }
+    ensures { IfOk result (λ a. answer_term a ≡ reply_term reply.now) }
 {
     match reply {
-        Reply::Done => word(alloc, "ok"),
-        Reply::Found(rows) => Ok(Term::List(rows.to_terms(alloc)?)),
-        Reply::UserAbort(reason) => worded(alloc, "aborted", reason.try_clone(alloc)?),
+        Reply::Done => Ok(Answer::Done),
+        Reply::UserAbort(reason) => Ok(Answer::Aborted(reason.try_clone(alloc)?)),
         Reply::NoTable(table) => {
             let fault = word(alloc, "no_exists")?;
-            let fault = pair(alloc, fault, name(alloc, table)?)?;
-            worded(alloc, "aborted", fault)
+            Ok(Answer::Aborted(pair(alloc, fault, name(alloc, table)?)?))
         }
         Reply::BadType(table, row) => {
             let fault = word(alloc, "bad_type")?;
             let table = name(alloc, table)?;
-            let fault = triple(alloc, fault, table, row.try_clone(alloc)?)?;
-            worded(alloc, "aborted", fault)
+            let row = row.try_clone(alloc)?;
+            Ok(Answer::Aborted(triple(alloc, fault, table, row)?))
         }
         Reply::NoIndex(table, attribute) => {
             let fault = word(alloc, "no_index")?;
             let table = name(alloc, table)?;
-            let fault = triple(alloc, fault, table, attribute.try_clone(alloc)?)?;
-            worded(alloc, "aborted", fault)
+            let attribute = attribute.try_clone(alloc)?;
+            Ok(Answer::Aborted(triple(alloc, fault, table, attribute)?))
         }
         _ => unreachable!(),
     }
-}
-
-/// The term of a committed transaction's answers.
-pub fn atomic_term(alloc: Global, replies: Terms) -> Result<Term, AllocError>
-    ensures { IfOk result (λ t. term t ≡ reply_term (reply.AtomicTerms replies)) }
-{
-    worded(alloc, "atomic", Term::List(replies))
 }

@@ -4,15 +4,14 @@ ghost use Rattle.std.specs.Prelude.{◌≡◌, OnOk};
 
 use crate::gate::{Count, Gate};
 use crate::kept::{KEPT, empty};
-use crate::pieces::Pieces;
+use crate::pieces::{reaches, send_pieces};
 use std::alloc::Global;
 use std::io::Write;
 use std::sync::Wait;
-use tab_etf::{Broken, Counted, EncodeFault, Target, encoded_len};
+use tab_etf::{Broken, EncodeFault, FrameFault, are_within};
 use tab_model::Reply;
 use tab_proto::{append_reply, write_reply};
 use tab_sink::FrameSink;
-use tab_term::Term;
 
 /// Replies of a session, in order: requests that came in one piece are answered in one write.
 #[derive(Drop)]
@@ -26,7 +25,7 @@ pub struct Answers<'a, W: Write, G: Gate> {
     written: u64,
 }
 
-/// Why a session ends before its stream: a write failed, or a reply can't be written.
+/// Why a session ends before its stream: a write failed, or a reply or an item can't be written.
 #[derive(Clone, Copy, Debug, PartialEq, Eq)]
 pub struct Unwritten;
 
@@ -42,20 +41,20 @@ impl From<EncodeFault> for Unwritten {
     }
 }
 
+impl From<FrameFault> for Unwritten {
+    fn from(_: FrameFault) -> Unwritten {
+        Unwritten
+    }
+}
+
 /// Whether a reply is longer than what is kept before it is written. Only what holds records can be much longer than a request.
 fn is_long(reply: &Reply) -> bool {
     let mut len = 0;
     match reply {
         Reply::Found(terms) => terms.iter().any(|term| reaches(&mut len, term)),
-        Reply::AtomicTerms(terms) => terms.as_slice().iter().any(|term| reaches(&mut len, term)),
+        Reply::AtomicTerms(answers) => !are_within(answers, KEPT as u64),
         _ => false,
     }
-}
-
-/// Whether a length is more than what is kept once this term is added to it.
-fn reaches(len: &mut u64, term: &Term) -> bool {
-    *len = len.saturating_add(encoded_len(term).unwrap_or(u64::MAX));
-    *len > KEPT as u64
 }
 
 impl<'a, W: Write, G: Gate> Answers<'a, W, G> {
@@ -101,19 +100,12 @@ impl<'a, W: Write, G: Gate> Answers<'a, W, G> {
         Ok(())
     }
 
-    /// Sends a reply behind those that are kept, piece by piece: whole it would take as much room as it is long, which the C
-    /// library would not give back.
+    /// Sends a reply behind those that are kept, piece by piece.
     fn send_long<R: Wait>(&mut self, rt: &R, reply: &Reply) -> Result<(), Unwritten> {
-        self.frames.reserve(2 * KEPT).map_err(|_| Unwritten)?;
-        let mut sink = self.sink.hold(rt);
-        let mut pieces = Counted::new(Pieces {
-            sink: &mut sink,
-            kept: &mut self.frames,
-            written: 0,
-        });
-        write_reply(&mut pieces, None, reply).map_err(|_| Unwritten)?;
-        pieces.flush()?;
-        self.gate.count(Count::Written, pieces.into_inner().written);
+        let written = send_pieces(rt, self.sink, &mut self.frames, |pieces| {
+            write_reply(pieces, None, reply)
+        })?;
+        self.gate.count(Count::Written, written);
         Ok(())
     }
 

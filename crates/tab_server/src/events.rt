@@ -3,13 +3,14 @@
 use crate::answers::Unwritten;
 use crate::gate::{Count, Note, Notes};
 use crate::kept::{KEPT, empty};
+use crate::pieces::{reaches, send_pieces};
 use std::alloc::Global;
 use std::io::Write;
 use tab_book::{Drained, Seat, Shared};
 use tab_model::Item;
 use tab_named::SeatInbox;
 use tab_names::House;
-use tab_proto::{Delivery, append_item, append_overflow};
+use tab_proto::{Delivery, append_item, append_overflow, write_item};
 use tab_sink::FrameSink;
 
 /// Sends what comes into the inbox, in order, until the session has left and nothing is left, or a write fails, or no
@@ -41,6 +42,18 @@ pub fn event_loop<H: House, W: Write, N: Notes>(
         if events.send_from(&item).is_err() {
             return;
         }
+    }
+}
+
+/// Whether an item is longer than what is kept before it is sent. Only what holds records or events
+/// can be long.
+fn is_long(item: &Item) -> bool {
+    let mut len = 0;
+    match item {
+        Item::Began(_, _, Some(terms)) | Item::Batch(_, terms) => {
+            terms.iter().any(|term| reaches(&mut len, term))
+        }
+        _ => false,
     }
 }
 
@@ -95,11 +108,25 @@ impl<'a, H: House, W: Write, N: Notes> Events<'a, H, W, N> {
 
     /// Keeps an item, until some are sent at once.
     fn keep(&mut self, item: &Item) -> Result<(), Unwritten> {
-        append_item(item, self.delivery, &mut self.frames)?;
+        if is_long(item) {
+            self.send_long(item)?;
+        } else {
+            append_item(item, self.delivery, &mut self.frames)?;
+        }
         self.notes.count(Count::Items, 1);
         if self.frames.len() >= KEPT {
             self.send()?;
         }
+        Ok(())
+    }
+
+    /// Sends an item behind those that are kept, piece by piece.
+    fn send_long(&mut self, item: &Item) -> Result<(), Unwritten> {
+        let delivery = self.delivery;
+        let written = send_pieces(self.house, self.sink, &mut self.frames, |pieces| {
+            write_item(pieces, item, delivery)
+        })?;
+        self.notes.count(Count::Written, written);
         Ok(())
     }
 

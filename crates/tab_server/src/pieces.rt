@@ -1,16 +1,51 @@
-//! A frame that goes to a sink piece by piece.
+//! What is too long to be kept whole, and goes to a sink piece by piece.
 
-use crate::kept::KEPT;
+use crate::kept::{KEPT, empty};
 use std::io::{self, ErrorKind, Write};
-use tab_sink::Sink;
+use std::sync::Wait;
+use tab_etf::{Counted, FrameFault, Target, encoded_len};
+use tab_sink::{FrameSink, Sink};
+use tab_term::Term;
+
+/// Whether a length is more than what is kept once this term is added to it.
+pub fn reaches(len: &mut u64, term: &Term) -> bool {
+    *len = len.saturating_add(encoded_len(term).unwrap_or(u64::MAX));
+    *len > KEPT as u64
+}
+
+/// Sends what is written to the pieces, behind what is kept: whole it would take as much room as it
+/// is long, which the C library would not give back. Tells how many bytes both were.
+pub fn send_pieces<R: Wait, W: Write, F>(
+    rt: &R,
+    sink: &FrameSink<W>,
+    kept: &mut Vec<u8>,
+    write: F,
+) -> Result<u64, FrameFault>
+where
+    F: FnOnce(&mut Counted<Pieces<'_, W>>) -> Result<(), FrameFault>,
+    requires { F.IsAlwaysCallable write }
+{
+    kept.reserve(2 * KEPT)?;
+    let mut sink = sink.hold(rt);
+    let mut pieces = Counted::new(Pieces {
+        sink: &mut sink,
+        kept: &mut *kept,
+        written: 0,
+    });
+    write(&mut pieces)?;
+    pieces.flush()?;
+    let written = pieces.into_inner().written;
+    empty(kept);
+    Ok(written)
+}
 
 /// A sink that is held, and what waits to be put in it.
 #[derive(Drop)]
 pub struct Pieces<'a, W: Write> {
-    pub sink: &'a mut Sink<W>,
-    pub kept: &'a mut Vec<u8>,
+    sink: &'a mut Sink<W>,
+    kept: &'a mut Vec<u8>,
     /// So many bytes were put in it.
-    pub written: u64,
+    written: u64,
 }
 
 impl<'a, W: Write> Write for Pieces<'a, W> {

@@ -1,2 +1,3 @@
 pub mod ListsLemmas
+pub mod AnswersLemmas
 pub mod Crossing

@@ -1,3 +1,5 @@
 pub mod ByKey
 pub mod Records
 pub mod Lists
+pub mod Answers
+pub mod AnswersFall

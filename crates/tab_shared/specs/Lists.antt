@@ -5,6 +5,8 @@ use Rattle.tab_shared.specs.declared.iter.Rest.{Rest}
 use Rattle.tab_shared.specs.declared.iter.Rest.TheVariants as rest
 use Rattle.tab_shared.specs.declared.shared_terms.Form.{Form}
 use Rattle.tab_shared.specs.declared.shared_terms.Form.TheVariants as form
+use Rattle.tab_shared.specs.declared.shared_terms.Owned.{Owned}
+use Rattle.tab_shared.specs.declared.shared_terms.Owned.TheVariants as owned
 use Rattle.tab_shared.specs.ByKey.{joined, filled_keys}
 
 -- the terms of a list, in whatever form it holds them
@@ -15,6 +17,11 @@ listed (form.Picked ts) = plain_terms ts.items
 listed (form.Entry e) = e.1
 listed (form.Keys es) = plain_terms (filled_keys es)
 listed (form.Records es) = plain_terms (joined es)
+
+-- the terms of a list, be it held by one or by several
+abbrev pub owned_list : Owned → PlainTerms
+owned_list (owned.Alone f) = listed f
+owned_list (owned.Shared f) = listed f.value
 
 -- the terms that a walk has not come to
 abbrev pub rest_of : Rest → List PlainTerm

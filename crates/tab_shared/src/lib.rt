@@ -5,10 +5,12 @@
 
 #![tactic(auto)]
 
+mod answers;
 mod iter;
 mod record;
 mod shared_terms;
 
+pub use answers::{Answer, Answers};
 pub use iter::Iter;
 pub use record::SharedRecord;
 pub use shared_terms::SharedTerms;

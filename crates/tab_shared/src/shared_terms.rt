@@ -3,17 +3,28 @@
 ghost use Rattle.std.specs.Prelude.{◌≡◌, IfOk, min};
 ghost use Rattle.tab_term.specs.Data.{plain_terms, count};
 ghost use Rattle.tab_shared.specs.ByKey.{filled_keys, joined};
+ghost use Rattle.tab_shared.specs.Lists.{listed, owned_list};
 
 use crate::iter::Iter;
 use crate::record::SharedRecord;
 use std::alloc::{AllocError, Global};
 use std::marker::Model;
+use std::sync::Arc;
 use tab_map::{Entry, Map};
 use tab_term::{SharedTerm, Term, Terms};
 
 /// A list of terms that others may hold too. It can be read, and not taken apart.
 pub struct SharedTerms {
-    form: Form,
+    owned: Owned,
+}
+
+/// Who holds the list itself.
+#[derive(Drop)]
+pub enum Owned {
+    /// One.
+    Alone(Form),
+    /// Several, by a count of them.
+    Shared(Arc<Form, Global>),
 }
 
 /// Who else holds the terms.
@@ -47,8 +58,8 @@ impl Drop for Form {
 
 impl Drop for SharedTerms {
     fn drop(self) {
-        let SharedTerms { form } = self;
-        drop(form);
+        let SharedTerms { owned } = self;
+        drop(owned);
     }
 }
 
@@ -60,71 +71,94 @@ impl Model for SharedTerms {
 
     ghost coded = { terms_code };
 
-    ghost use Rattle.tab_shared.specs.Lists.{listed};
+    ghost use Rattle.tab_shared.specs.Lists.{owned_list};
 
-    ghost view = { λ a. listed a.form };
+    ghost view = { λ a. owned_list a.owned };
 }
 
 impl SharedTerms {
+    fn of_form(form: Form) -> SharedTerms
+        ensures { result ≡ listed form }
+    {
+        SharedTerms {
+            owned: Owned::Alone(form),
+        }
+    }
+
+    fn of_shared(form: Arc<Form, Global>) -> SharedTerms
+        ensures { result ≡ listed form.value }
+    {
+        SharedTerms {
+            owned: Owned::Shared(form),
+        }
+    }
+
+    /// The same list twice: what it holds stands once, and goes with the last of the two.
+    pub fn pair(self, alloc: Global) -> Result<(SharedTerms, SharedTerms), AllocError>
+        ensures { IfOk result (λ both. (both.0 ≡ self) × (both.1 ≡ self)) }
+    {
+        let SharedTerms { owned } = self;
+        let one = shared(alloc, owned)?;
+        let other = Arc::try_clone(&one)?;
+        Ok((SharedTerms::of_shared(one), SharedTerms::of_shared(other)))
+    }
+
+    fn form(&self) -> &Form
+        ensures { listed result.now ≡ self.now }
+    {
+        match &self.owned {
+            Owned::Alone(form) => form,
+            Owned::Shared(form) => form,
+        }
+    }
+
     /// These terms, which no one else holds. Takes no memory.
     pub fn from_terms(terms: Terms) -> SharedTerms
         ensures { result ≡ terms }
     {
-        SharedTerms {
-            form: Form::Own(terms),
-        }
+        SharedTerms::of_form(Form::Own(terms))
     }
 
     /// These terms, each of which others may hold. Takes no memory.
     pub fn from_vec(terms: Vec<SharedTerm>) -> SharedTerms
         ensures { result ≡ plain_terms terms.items }
     {
-        SharedTerms {
-            form: Form::Each(terms),
-        }
+        SharedTerms::of_form(Form::Each(terms))
     }
 
     /// These records, each of which a table may hold. Takes no memory.
     pub fn from_picked(records: Vec<SharedRecord>) -> SharedTerms
         ensures { result ≡ plain_terms records.items }
     {
-        SharedTerms {
-            form: Form::Picked(records),
-        }
+        SharedTerms::of_form(Form::Picked(records))
     }
 
     /// The records of a key, which a table may hold. Takes no memory.
     pub fn from_entry(entry: Entry<Term, Terms>) -> SharedTerms
         ensures { result ≡ entry.1 }
     {
-        SharedTerms {
-            form: Form::Entry(entry),
-        }
+        SharedTerms::of_form(Form::Entry(entry))
     }
 
     /// The keys at which records stand, which a table may hold. Takes no memory.
     pub fn from_keys(records: Map<Term, Terms>) -> SharedTerms
         ensures { result ≡ plain_terms (filled_keys records) }
     {
-        SharedTerms {
-            form: Form::Keys(records),
-        }
+        SharedTerms::of_form(Form::Keys(records))
     }
 
     /// The records of all keys, which a table may hold. Takes no memory.
     pub fn from_records(records: Map<Term, Terms>) -> SharedTerms
         ensures { result ≡ plain_terms (joined records) }
     {
-        SharedTerms {
-            form: Form::Records(records),
-        }
+        SharedTerms::of_form(Form::Records(records))
     }
 
     /// The terms, in their order.
     pub fn iter(&self) -> Iter<'_>
         ensures { plain_terms result ≡ self.now }
     {
-        match &self.form {
+        match self.form() {
             Form::Own(terms) => Iter::over(terms.as_slice()),
             Form::Each(terms) => Iter::over_each(terms.as_slice()),
             Form::Picked(records) => Iter::over_picked(records.as_slice()),
@@ -157,5 +191,15 @@ impl SharedTerms {
             copies.push(term.try_clone(alloc)?)?;
         }
         Ok(Terms::from_vec(copies))
+    }
+}
+
+/// The list, behind a count of those who hold it.
+fn shared(alloc: Global, owned: Owned) -> Result<Arc<Form, Global>, AllocError>
+    ensures { IfOk result (λ form. listed form.value ≡ owned_list owned) }
+{
+    match owned {
+        Owned::Alone(form) => Ok(Arc::new(alloc, form)?),
+        Owned::Shared(form) => Ok(form),
     }
 }

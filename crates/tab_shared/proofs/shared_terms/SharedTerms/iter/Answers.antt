@@ -5,7 +5,7 @@ use Rattle.tab_shared.proofs.ListsLemmas.{plain-list}
 use Rattle.tab_shared.proofs.shared_terms.SharedTerms.iter.Goals as goal
 
 pub returns-in-Own : goal.returns-in-Own
-returns-in-Own c = ap plain_terms c.over.ensures ∙ plain-list _ ∙ c.as_slice.ensures.items ∙ sym (ap listed c.in-Own.is) ∙ c.self.view_is
+returns-in-Own c = ap plain_terms c.over.ensures ∙ plain-list _ ∙ c.as_slice.ensures.items ∙ sym (ap listed c.in-Own.is) ∙ c.form.ensures
 
 pub returns-in-Entry : goal.returns-in-Entry
-returns-in-Entry c = ap plain_terms c.over-in-Entry.ensures ∙ plain-list _ ∙ c.as_slice-in-Entry.ensures.items ∙ ap (λ e. e.1) c.pair.ensures ∙ sym (ap listed c.in-Entry.is) ∙ c.self.view_is
+returns-in-Entry c = ap plain_terms c.over-in-Entry.ensures ∙ plain-list _ ∙ c.as_slice-in-Entry.ensures.items ∙ ap (λ e. e.1) c.pair.ensures ∙ sym (ap listed c.in-Entry.is) ∙ c.form.ensures

@@ -1,0 +1,182 @@
+//! The answers of a transaction: how they are written, and how long that is.
+
+ghost use Rattle.std.specs.Prelude.{◌≡◌, ◌≤◌, ◌+◌, ◌++◌, ◌∷◌, length, min, true, IfSome};
+ghost use Rattle.tab_term.specs.Canon.{canon, canons};
+ghost use Rattle.tab_term.specs.Data.{atom, list};
+ghost use Rattle.tab_shared.specs.Answers.{answer_term, answers as terms_of};
+ghost use Rattle.tab_etf.specs.Writing.{Writes};
+
+use crate::device::Target;
+use crate::measuring::{atom_len, field_len, spelled_len};
+use crate::shared::{measure_of, put_shared, shared_len};
+use crate::spelling::{put, put_atom, put_tagged};
+use crate::writer::Writer;
+use tab_shared::{Answer, Answers, SharedTerms};
+use tab_term::spelling::{LIST_EXT, NIL_EXT, SMALL_TUPLE_EXT};
+
+// ---- how long they are
+
+/// How many bytes stand before the value of `{Word, Value}`.
+fn word_len(word: &str) -> u64
+    requires { length word.now ≤ 255 }
+    ensures value { result ≡ 2 + length (canon (atom word.now)) }
+    ensures small { result ≤ 259 }
+{
+    atom_len(word.len()) + 2
+}
+
+/// How many bytes the list of the answers takes; `u64::MAX` stands for more.
+#[cycle(len)]
+pub fn answers_len(answers: &Answers) -> u64
+    ensures { result ≡ min (length (canon (list answers.now))) u64.MAX }
+{
+    let items = answers.as_slice();
+    if items.is_empty() {
+        return 1;
+    }
+    all_len(items).saturating_add(field_len(items.len()) + 2)
+}
+
+#[cycle(len)]
+fn answer_len(answer: &Answer) -> u64
+    ensures { result ≡ min (length (canon (answer_term answer.now))) u64.MAX }
+{
+    match answer {
+        Answer::Done => atom_len("ok".len()),
+        Answer::Found(rows) => shared_len(rows, measure_of(rows)),
+        Answer::Aborted(reason) => spelled_len(reason).saturating_add(word_len("aborted")),
+        Answer::Atomic(inner) => answers_len(inner).saturating_add(word_len("atomic")),
+    }
+}
+
+#[cycle(len)]
+fn all_len(items: &[Answer]) -> u64
+    ensures { result ≡ min (length (canons (terms_of items.now))) u64.MAX }
+{
+    let mut sum: u64 = 0;
+    for answer in items {
+        sum = sum.saturating_add(answer_len(answer));
+    }
+    sum
+}
+
+// ---- whether they are long
+
+/// What a list has besides its elements at the most: its tag, its count, and its tail.
+const AROUND: u64 = 14;
+
+/// Whether the list of the answers takes no more bytes than these. It stops where it may take more,
+/// and may say so of one that takes fewer: a list counts with all of its elements and fourteen
+/// bytes besides, also one that is written as a string.
+pub fn are_within(answers: &Answers, most: u64) -> bool
+    requires { most ≤ 4294967295 }
+    ensures { result ≡ true → length (canon (list answers.now)) ≤ most }
+{
+    behind_answers(answers, most).is_some()
+}
+
+// Each of these gives what is left of a room behind what it looks at, or None where that may take
+// more.
+
+#[cycle(room)]
+fn behind_answers(answers: &Answers, room: u64) -> Option<u64>
+    requires { room ≤ 4294967295 }
+    ensures { IfSome result (λ left. length (canon (list answers.now)) + left ≤ room) }
+{
+    behind_all(answers.as_slice(), room.checked_sub(AROUND)?)
+}
+
+#[cycle(room)]
+fn behind_answer(answer: &Answer, room: u64) -> Option<u64>
+    requires { room ≤ 4294967295 }
+    ensures { IfSome result (λ left. length (canon (answer_term answer.now)) + left ≤ room) }
+{
+    match answer {
+        Answer::Done => room.checked_sub(atom_len("ok".len())),
+        Answer::Found(rows) => behind_rows(rows, room.checked_sub(AROUND)?),
+        Answer::Aborted(reason) => room
+            .checked_sub(word_len("aborted"))?
+            .checked_sub(spelled_len(reason)),
+        Answer::Atomic(inner) => behind_answers(inner, room.checked_sub(word_len("atomic"))?),
+    }
+}
+
+#[cycle(room)]
+fn behind_all(items: &[Answer], room: u64) -> Option<u64>
+    requires { room ≤ 4294967295 }
+    ensures { IfSome result (λ left. length (canons (terms_of items.now)) + left ≤ room) }
+{
+    let mut left = room;
+    for answer in items {
+        left = behind_answer(answer, left)?;
+    }
+    Some(left)
+}
+
+fn behind_rows(rows: &SharedTerms, room: u64) -> Option<u64>
+    requires { room ≤ 4294967295 }
+    ensures { IfSome result (λ left. length (canons rows.now) + left ≤ room) }
+{
+    let mut left = room;
+    for row in rows.iter() {
+        left = left.checked_sub(spelled_len(row))?;
+    }
+    Some(left)
+}
+
+// ---- how they are written
+
+/// What stands before the value of `{Word, Value}`.
+#[tactic(auto, using(crate::proofs::WritingLemmas::writes_then))]
+fn put_word<W: Target>(writer: &mut Writer<W>, word: &str)
+    requires { length word.now ≤ 255 }
+    ensures { Writes W.contents W.faults writer.old writer.new (104 ∷ 2 ∷ canon (atom word.now)) }
+{
+    writer.put(&[SMALL_TUPLE_EXT, 2]);
+    put_atom(writer, word);
+}
+
+/// Writes the list of the answers. None of them is an integer, so it is never a string.
+#[cycle(put)]
+pub fn put_answers<W: Target>(writer: &mut Writer<W>, answers: &Answers)
+    requires { length (canon (list answers.now)) ≤ 4294967295 }
+    ensures { Writes W.contents W.faults writer.old writer.new (canon (list answers.now)) }
+{
+    let items = answers.as_slice();
+    if items.is_empty() {
+        writer.put(&[NIL_EXT]);
+        return;
+    }
+    put_tagged(writer, LIST_EXT, items.len());
+    put_all(writer, items);
+    writer.put(&[NIL_EXT]);
+}
+
+#[cycle(put)]
+fn put_answer<W: Target>(writer: &mut Writer<W>, answer: &Answer)
+    requires { length (canon (answer_term answer.now)) ≤ 4294967295 }
+    ensures { Writes W.contents W.faults writer.old writer.new (canon (answer_term answer.now)) }
+{
+    match answer {
+        Answer::Done => put_atom(writer, "ok"),
+        Answer::Found(rows) => put_shared(writer, rows, measure_of(rows)),
+        Answer::Aborted(reason) => {
+            put_word(writer, "aborted");
+            put(writer, reason);
+        }
+        Answer::Atomic(inner) => {
+            put_word(writer, "atomic");
+            put_answers(writer, inner);
+        }
+    }
+}
+
+#[cycle(put)]
+fn put_all<W: Target>(writer: &mut Writer<W>, items: &[Answer])
+    requires { length (canons (terms_of items.now)) ≤ 4294967295 }
+    ensures { Writes W.contents W.faults writer.old writer.new (canons (terms_of items.now)) }
+{
+    for answer in items {
+        put_answer(writer, answer);
+    }
+}
