@@ -274,6 +274,7 @@ CASES = [
     ("reads of a long record", within(30_000, table(long_record(MEGABYTE), 1), long_reads(1, 200))),
     ("all keys", within(30_000, table(small_record, 20_000), whole_reads(ALL_KEYS, list(range(20_000)), 300))),
     ("all keys behind a write", within(30_000, table(small_record, 20_000), whole_reads(ALL_KEYS, list(range(20_000)), 300, True))),
+    ("match_object of all", within(30_000, table(small_record, 20_000), whole_reads(ALL_RECORDS, list(map(small_record, range(20_000))), 100))),
     ("a one-shot's answers", within(30_000, table(small_record, 20_000), answers(300, list(range(20_000))))),
     ("rows of a server", within(58_000, table(small_record, 1), rows(100_000)), "--journal", "16"),
     ("dumps in an outbox", within(30_000, table(long_record(100_000), 50), dumps(32, [long_record(100_000)(key) for key in range(50)]))),

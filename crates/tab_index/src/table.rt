@@ -182,9 +182,9 @@ impl IndexedTable {
         None
     }
 
-    /// The records that fit the pattern: by keys, and of each key in the order of their insertion. One that is the only
-    /// record of its key is shared with the table, and each other copied. Where no `'_'` stands in the pattern's key, no
-    /// other key is looked at.
+    /// The records that fit the pattern: by keys, and of each key in the order of their insertion. Where all do, they are
+    /// shared with the table; else one that is the only record of its key is shared, and each other copied. Where no `'_'`
+    /// stands in the pattern's key, no other key is looked at.
     pub fn match_object(&self, alloc: Global, pattern: &Term) -> Result<SharedTerms, AllocError>
         ensures { IfOk result (λ found. found ≡ plain_terms (match_object_in self.now.rows (term pattern.now))) }
     {

@@ -34,9 +34,9 @@ use Rattle.tab_model.proofs.ShapeLaws.{term_held}
 use Rattle.tab_term.specs.Order.{term_cmp}
 use Rattle.tab_term.proofs.Total.{term_total}
 
-filter_none : (p : PlainTerm → Bool) (xs : Rows) → list_all (λ x. p x) xs ≡ true → filter p xs ≡ xs
-filter_none p [] h = refl
-filter_none p (x ∷ xs) h = let q = and_parts (p x) (list_all p xs) h in ap (λ b. if b then x ∷ filter p xs else filter p xs) q.0 ∙ ap (λ ys. x ∷ ys) (filter_none p xs q.1)
+pub filter_all : (p : PlainTerm → Bool) (xs : Rows) → list_all (λ x. p x) xs ≡ true → filter p xs ≡ xs
+filter_all p [] h = refl
+filter_all p (x ∷ xs) h = let q = and_parts (p x) (list_all p xs) h in ap (λ b. if b then x ∷ filter p xs else filter p xs) q.0 ∙ ap (λ ys. x ∷ ys) (filter_all p xs q.1)
 
 -- records of one key, seen at another
 at_other : (k q : PlainTerm) (xs : Rows) → same k q ≡ false → list_all (has_key k) xs ≡ true → at xs q ≡ []
@@ -46,7 +46,7 @@ at_other k q (x ∷ xs) d h =
     ap (λ b. if b then x ∷ at xs q else at xs q) (ap (λ j. same j q) (same_true (key x) k p.0) ∙ d) ∙ at_other k q xs d p.1
 
 at_same : (k q : PlainTerm) (xs : Rows) → same k q ≡ true → list_all (has_key k) xs ≡ true → at xs q ≡ xs
-at_same k q xs e h = ap (λ j. at xs j) (sym (same_true k q e)) ∙ filter_none (has_key k) xs h
+at_same k q xs e h = ap (λ j. at xs j) (sym (same_true k q e)) ∙ filter_all (has_key k) xs h
 
 -- two keys, compared
 less_is : (a b : Term) → term_cmp a b ≡ Less → less (term a) (term b) ≡ true

@@ -42,42 +42,45 @@ next_same xs ys i x y hx hy ex ey =
     ∙ at_drop_more (λ vs. all_same (terms (get_or xs i x ∷ drop (i + 1) xs)) (terms vs)) ys i y hy
     ∙ ap₂ (λ u v. same (term u) (term v) && all_same (terms (drop (i + 1) xs)) (terms (drop (i + 1) ys))) (sym ex) (sym ey)
 
--- ---- and from its end
+-- ---- and from its end, of a test of each two elements
 
-both_taken : (xs ys : List Term) (n : ℕ) (x y : Term) → n < length xs → n < length ys → x ≡ get_or xs n x → y ≡ get_or ys n y
-    → all_same (terms (take (suc n) xs)) (terms (take (suc n) ys)) ≡ (all_same (terms (take n xs)) (terms (take n ys)) && same (term x) (term y))
-both_taken [] ys n x y hx hy ex ey = absurd (omega (arith, hx))
-both_taken (u ∷ us) [] n x y hx hy ex ey = absurd (omega (arith, hy))
-both_taken (u ∷ us) (v ∷ vs) zero x y hx hy ex ey = and-true (same (term u) (term v)) ∙ ap₂ (λ a b. same (term a) (term b)) (sym ex) (sym ey)
-both_taken (u ∷ us) (v ∷ vs) (suc n) x y hx hy ex ey =
-    ap (λ b. same (term u) (term v) && b) (both_taken us vs n x y (omega (arith, hx)) (omega (arith, hy)) ex ey)
-    ∙ grouped (same (term u) (term v)) (all_same (terms (take n us)) (terms (take n vs))) (same (term x) (term y))
-  where
-    grouped : (a b c : Bool) → (a && (b && c)) ≡ ((a && b) && c)
-    grouped true b c = refl
-    grouped false b c = refl
+module _ (test : PlainTerm → PlainTerm → Bool) (all : PlainTerms → PlainTerms → Bool) (nothing : all none none ≡ true) (one_each : (x y : PlainTerm) (xs ys : PlainTerms) → all (one_more x xs) (one_more y ys) ≡ (test x y && all xs ys)) where
+  grouped : (a b c : Bool) → (a && (b && c)) ≡ ((a && b) && c)
+  grouped true b c = refl
+  grouped false b c = refl
 
--- of the elements that are left, the last ones, and those before them
-last_same : (xs ys : List Term) (i n : ℕ) (x y : Term) → i ≡ suc n → i ≤ length xs → length xs ≡ length ys → x ≡ get_or xs n x → y ≡ get_or ys n y
-    → all_same (terms (take i xs)) (terms (take i ys)) ≡ (all_same (terms (take n xs)) (terms (take n ys)) && same (term x) (term y))
-last_same xs ys i n x y more within e ex ey =
-    ap (λ m. all_same (terms (take m xs)) (terms (take m ys))) more ∙ both_taken xs ys n x y (omega (arith, more, within)) (omega (arith, more, within, e)) ex ey
+  both_taken : (xs ys : List Term) (n : ℕ) (x y : Term) → n < length xs → n < length ys → x ≡ get_or xs n x → y ≡ get_or ys n y
+      → all (terms (take (suc n) xs)) (terms (take (suc n) ys)) ≡ (all (terms (take n xs)) (terms (take n ys)) && test (term x) (term y))
+  both_taken [] ys n x y hx hy ex ey = absurd (omega (arith, hx))
+  both_taken (u ∷ us) [] n x y hx hy ex ey = absurd (omega (arith, hy))
+  both_taken (u ∷ us) (v ∷ vs) zero x y hx hy ex ey =
+      one_each (term u) (term v) none none ∙ ap (λ b. test (term u) (term v) && b) nothing ∙ and-true (test (term u) (term v))
+      ∙ ap₂ (λ a b. test (term a) (term b)) (sym ex) (sym ey) ∙ ap (λ b. b && test (term x) (term y)) (sym nothing)
+  both_taken (u ∷ us) (v ∷ vs) (suc n) x y hx hy ex ey =
+      one_each (term u) (term v) (terms (take (suc n) us)) (terms (take (suc n) vs))
+      ∙ ap (λ b. test (term u) (term v) && b) (both_taken us vs n x y (omega (arith, hx)) (omega (arith, hy)) ex ey)
+      ∙ grouped (test (term u) (term v)) (all (terms (take n us)) (terms (take n vs))) (test (term x) (term y))
+      ∙ ap (λ b. b && test (term x) (term y)) (sym (one_each (term u) (term v) (terms (take n us)) (terms (take n vs))))
 
-pub last_equal : (xs ys : List Term) (i n : ℕ) (x y : Term) → i ≡ suc n → i ≤ length xs → length xs ≡ length ys → x ≡ get_or xs n x → y ≡ get_or ys n y → same (term x) (term y) ≡ true
-    → all_same (terms (take i xs)) (terms (take i ys)) ≡ all_same (terms (take n xs)) (terms (take n ys))
-last_equal xs ys i n x y more within e ex ey h =
-    last_same xs ys i n x y more within e ex ey ∙ ap (λ b. all_same (terms (take n xs)) (terms (take n ys)) && b) h ∙ and-true (all_same (terms (take n xs)) (terms (take n ys)))
+  last_of_both : (xs ys : List Term) (i n : ℕ) (x y : Term) (b : Bool) → i ≡ suc n → i ≤ length xs → length xs ≡ length ys → x ≡ get_or xs n x → y ≡ get_or ys n y → test (term x) (term y) ≡ b
+      → all (terms (take i xs)) (terms (take i ys)) ≡ (all (terms (take n xs)) (terms (take n ys)) && b)
+  last_of_both xs ys i n x y b more within e ex ey h =
+      ap (λ m. all (terms (take m xs)) (terms (take m ys))) more ∙ both_taken xs ys n x y (omega (arith, more, within)) (omega (arith, more, within, e)) ex ey
+      ∙ ap (λ b. all (terms (take n xs)) (terms (take n ys)) && b) h
 
-pub last_differ : (xs ys : List Term) (i n : ℕ) (x y : Term) → i ≡ suc n → i ≤ length xs → length xs ≡ length ys → x ≡ get_or xs n x → y ≡ get_or ys n y → same (term x) (term y) ≡ false
-    → all_same (terms (take i xs)) (terms (take i ys)) ≡ false
-last_differ xs ys i n x y more within e ex ey h =
-    last_same xs ys i n x y more within e ex ey ∙ ap (λ b. all_same (terms (take n xs)) (terms (take n ys)) && b) h ∙ and-false (all_same (terms (take n xs)) (terms (take n ys)))
+  pub last_pass : (xs ys : List Term) (i n : ℕ) (x y : Term) → i ≡ suc n → i ≤ length xs → length xs ≡ length ys → x ≡ get_or xs n x → y ≡ get_or ys n y → test (term x) (term y) ≡ true
+      → all (terms (take i xs)) (terms (take i ys)) ≡ all (terms (take n xs)) (terms (take n ys))
+  last_pass xs ys i n x y more within e ex ey h = last_of_both xs ys i n x y true more within e ex ey h ∙ and-true (all (terms (take n xs)) (terms (take n ys)))
 
-pub all_taken : (xs ys : List Term) → length xs ≡ length ys → all_same (terms (take (length xs) xs)) (terms (take (length xs) ys)) ≡ all_same (terms xs) (terms ys)
-all_taken xs ys e = ap₂ (λ us vs. all_same (terms us) (terms vs)) (take_all (length xs) xs (omega arith)) (take_all (length xs) ys (omega (arith, e)))
+  pub last_fail : (xs ys : List Term) (i n : ℕ) (x y : Term) → i ≡ suc n → i ≤ length xs → length xs ≡ length ys → x ≡ get_or xs n x → y ≡ get_or ys n y → test (term x) (term y) ≡ false
+      → all (terms (take i xs)) (terms (take i ys)) ≡ false
+  last_fail xs ys i n x y more within e ex ey h = last_of_both xs ys i n x y false more within e ex ey h ∙ and-false (all (terms (take n xs)) (terms (take n ys)))
 
-pub none_taken : (xs ys : List Term) (i : ℕ) → i ≡ 0 → all_same (terms (take i xs)) (terms (take i ys)) ≡ true
-none_taken xs ys i e = ap (λ n. all_same (terms (take n xs)) (terms (take n ys))) e
+  pub all_taken : (xs ys : List Term) → length xs ≡ length ys → all (terms (take (length xs) xs)) (terms (take (length xs) ys)) ≡ all (terms xs) (terms ys)
+  all_taken xs ys e = ap₂ (λ us vs. all (terms us) (terms vs)) (take_all (length xs) xs (omega arith)) (take_all (length xs) ys (omega (arith, e)))
+
+  pub none_taken : (xs ys : List Term) (i : ℕ) → i ≡ 0 → all (terms (take i xs)) (terms (take i ys)) ≡ true
+  none_taken xs ys i e = ap (λ n. all (terms (take n xs)) (terms (take n ys))) e ∙ nothing
 
 pub all_past : (xs ys : List Term) (i : ℕ) → length xs ≤ i → length ys ≤ i → all_same (terms (drop i xs)) (terms (drop i ys)) ≡ true
 all_past xs ys i hx hy = at_drop_all (λ us. all_same (terms us) (terms (drop i ys))) xs i hx ∙ at_drop_all (λ vs. all_same none (terms vs)) ys i hy

@@ -1,7 +1,10 @@
 -- The records that match, along the merged walk.
 use Rattle.std.proofs.Common.{◌≡◌, [], ◌∷◌, ◌++◌, Bool, true, false, append-nil, append_assoc, subst, refl, sym, ap, ◌∙◌}
 use Rattle.std.specs.Prelude.{if◌then◌else◌}
+use Rattle.std.specs.List.{list_all}
+use Rattle.std.proofs.lemmas.Bool.{and_left}
 use Rattle.std.proofs.lemmas.List.Elements.{filter-append}
+use Rattle.std.proofs.lemmas.List.Folds.{list_all-append}
 use Rattle.tab_term.specs.declared.term.Term.{Term}
 use Rattle.tab_term.specs.Data.{PlainTerm, PlainTerms}
 use Rattle.tab_term.specs.Order.{term_cmp}
@@ -36,11 +39,21 @@ joined_filled (e ∷ es) = cases (joined_filled es) (is_filled e.1) refl
     cases ih true h = ap (λ z. terms_list e.1 ++ z) ih
     cases ih false h = ih ∙ sym (ap (λ z. z ++ joined es) (not_filled e.1 h))
 
+-- a walk with the touched keys among it has what the transaction sees
+pub whole_seen : (whole xs es : Touched) (rows seen : Rows) → whole ≡ merged xs es → joined es ≡ rows → IsInOrder es → Ascends term_cmp xs → IsSeen xs rows seen → joined whole ≡ seen
+whole_seen whole xs es rows seen w j o s h =
+    ap joined w ∙ sym (joined_filled (merged xs es)) ∙ (seen_merged xs es seen s o (subst (λ (rs : Rows). IsSeen xs rs seen) (sym j) h)).0
+
 pub match_end : (found : Rows) (left whole : Touched) (xs es : Touched) (rows seen : Rows) (p : PlainTerm) → left ≡ [] → found ++ match_object (joined left) p ≡ match_object (joined whole) p → whole ≡ merged xs es
     → joined es ≡ rows → IsInOrder es → Ascends term_cmp xs → IsSeen xs rows seen → found ≡ match_object seen p
 match_end found left whole xs es rows seen p e inv w j o s h =
-    sym (append-nil found) ∙ sym (ap (λ z. found ++ match_object (joined z) p) e) ∙ inv ∙ ap (λ z. match_object (joined z) p) w
-    ∙ ap (λ z. match_object z p) (sym (joined_filled (merged xs es)) ∙ (seen_merged xs es seen s o (subst (λ (rs : Rows). IsSeen xs rs seen) (sym j) h)).0)
+    sym (append-nil found) ∙ sym (ap (λ z. found ++ match_object (joined z) p) e) ∙ inv ∙ ap (λ z. match_object z p) (whole_seen whole xs es rows seen w j o s h)
+
+-- a record of the entry that is come to does not fit
+pub one_differs : (before after whole : Touched) (e : Term × PlainTerms) (p : PlainTerm) → before ≡ e ∷ after → list_all (matches p) (terms_list e.1) ≡ false → list_all (matches p) (joined before) ≡ list_all (matches p) (joined whole)
+    → list_all (matches p) (joined whole) ≡ false
+one_differs before after whole e p h f inv =
+    sym inv ∙ ap (λ es. list_all (matches p) (joined es)) h ∙ list_all-append (matches p) (terms_list e.1) (joined after) ∙ and_left (list_all (matches p) (terms_list e.1)) (list_all (matches p) (joined after)) f
 
 -- a pattern whose answers all have one key
 pub match_at : (found : Rows) (xs : Touched) (rows seen : Rows) (p k : PlainTerm) → found ≡ match_object (seen_at xs rows k) p → bound_key p ≡ Some k → IsSeen xs rows seen → found ≡ match_object seen p
@@ -59,5 +72,4 @@ value_entry found new before after e n v h a =
 pub value_end : (found : Rows) (left whole : Touched) (xs es : Touched) (rows seen : Rows) (n : ℕ) (v : PlainTerm) → left ≡ [] → found ++ index_read (joined left) n v ≡ index_read (joined whole) n v → whole ≡ merged xs es
     → joined es ≡ rows → IsInOrder es → Ascends term_cmp xs → IsSeen xs rows seen → found ≡ index_read seen n v
 value_end found left whole xs es rows seen n v e inv w j o s h =
-    sym (append-nil found) ∙ sym (ap (λ z. found ++ index_read (joined z) n v) e) ∙ inv ∙ ap (λ z. index_read (joined z) n v) w
-    ∙ ap (λ z. index_read z n v) (sym (joined_filled (merged xs es)) ∙ (seen_merged xs es seen s o (subst (λ (rs : Rows). IsSeen xs rs seen) (sym j) h)).0)
+    sym (append-nil found) ∙ sym (ap (λ z. found ++ index_read (joined z) n v) e) ∙ inv ∙ ap (λ z. index_read z n v) (whole_seen whole xs es rows seen w j o s h)

@@ -4,7 +4,9 @@
 //! answers from that list. The laws say that it is the table's, after the transaction's moves.
 
 ghost use Rattle.std.specs.Prelude.{◌≡◌, IfOk, List};
+ghost use Rattle.std.specs.List.{list_all};
 ghost use Rattle.tab_term.specs.Data.{PlainTerm};
+ghost use Rattle.tab_term.specs.Pattern.{matches};
 ghost use Rattle.tab_term.specs.View.{term};
 ghost use Rattle.tab_model.specs.Names.{plain_terms};
 ghost use Rattle.tab_model.specs.Tables.{keys as keys_of_rows};
@@ -14,7 +16,7 @@ ghost use Rattle.tab_txstore.specs.Overlays.{touched, seen_at};
 
 use crate::TxStore;
 use std::alloc::{AllocError, Global};
-use tab_index::{IndexedTable, bound_key, push_matches, push_with_value};
+use tab_index::{IndexedTable, bound_key, fits, push_matches, push_with_value};
 use tab_map::Set;
 use tab_shared::SharedTerms;
 use tab_term::{Term, Terms};
@@ -44,9 +46,9 @@ impl TxStore {
         Ok(SharedTerms::from_keys(self.by_key(alloc, lent)?))
     }
 
-    /// The records that fit the pattern, of a lent table as the transaction sees it, in their order. One that is the only
-    /// record of its key is shared with the table, or with the transaction, and each other copied. Where no `'_'` stands in
-    /// the pattern's key, no other key is looked at.
+    /// The records that fit the pattern, of a lent table as the transaction sees it, in their order. Where all do, all but what
+    /// it touched is shared with the table; else a record that is the only one of its key is shared with the table, or with
+    /// the transaction, and each other copied. Where no `'_'` stands in the pattern's key, no other key is looked at.
     pub fn view_match(
         &self,
         alloc: Global,
@@ -62,10 +64,24 @@ impl TxStore {
             }
             return Ok(SharedTerms::from_picked(found));
         }
+        if self.all_fit(lent, pattern) {
+            return Ok(SharedTerms::from_records(self.by_key(alloc, lent)?));
+        }
         for entry in self.merged(lent) {
             push_matches(alloc, &mut found, entry, pattern)?;
         }
         Ok(SharedTerms::from_picked(found))
+    }
+
+    fn all_fit(&self, lent: &IndexedTable, pattern: &Term) -> bool
+        ensures { (seen : List PlainTerm) → IsSeen (touched self.now.levels.now.overlay lent.now.def.name) lent.now.rows seen → result ≡ list_all (matches (term pattern.now)) seen }
+    {
+        for entry in self.merged(lent) {
+            if !fits(entry, pattern) {
+                return false;
+            }
+        }
+        true
     }
 
     /// The records that have the value at the position, of a lent table as the transaction sees it, in their order. One that

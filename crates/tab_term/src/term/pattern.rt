@@ -35,8 +35,9 @@ fn all_match(patterns: &Terms, subjects: &Terms) -> bool
     if patterns.len() != subjects.len() {
         return false;
     }
-    for (i, pattern) in patterns.iter().enumerate() {
-        if !matches(pattern, &subjects[i]) {
+    // Records of one table are the same in front, and so are its patterns.
+    for i in (0..patterns.len()).rev() {
+        if !matches(&patterns[i], &subjects[i]) {
             return false;
         }
     }

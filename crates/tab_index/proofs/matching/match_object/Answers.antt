@@ -1,10 +1,13 @@
 use Rattle.std.proofs.Common.{◌≡◌, ◌++◌, sym, ap, ◌∙◌}
 use Rattle.std.specs.Option.{option_copied}
 use Rattle.std.specs.Prelude.{option_map}
+use Rattle.tab_term.specs.Pattern.{matches}
 use Rattle.tab_term.specs.View.{term}
 use Rattle.tab_model.specs.Names.{plain_terms, terms_list}
 use Rattle.tab_model.specs.Tables.{at}
 use Rattle.tab_model.specs.WholeTables.{match_object}
+use Rattle.tab_rows.specs.Joined.{joined}
+use Rattle.tab_rows.proofs.Cells.{filter_all}
 use Rattle.tab_index.proofs.CopiesLemmas.{round}
 use Rattle.tab_index.proofs.BoundKeyLemmas.{at_bound_key}
 use Rattle.tab_index.proofs.matching.match_object.Goals.{in-Some-entry+in_ok-push_matches, in_default-entry}
@@ -24,3 +27,9 @@ returns-in-Some c =
       | in_default-entry w ↦ ap (λ v. v.items) w.found-is ∙ c.new-found.ensures.items ∙ ap (λ z. match_object z p) (sym w.in_default-entry.ensures)
     ] in
     c.from_picked.ensures ∙ ap plain_terms (here ∙ at_bound_key p k rows bound)
+
+pub returns-then-all_fit : goal.returns-then-all_fit
+returns-then-all_fit c =
+    c.from_records.ensures
+    ∙ ap (λ es. plain_terms (joined es)) c.in_ok-share.ensures
+    ∙ ap plain_terms (c.records.ensures.records ∙ sym (filter_all (matches (term c.args.pattern.now)) c.args.rows.now.1 (sym c.all_fit.ensures ∙ c.if-all_fit.true)))

@@ -1,12 +1,14 @@
 use Rattle.std.proofs.Common.{◌≡◌, ◌++◌, sym, ap, ◌∙◌}
 use Rattle.std.specs.Option.{option_copied}
 use Rattle.std.specs.Prelude.{option_map}
+use Rattle.tab_term.specs.Pattern.{matches}
 use Rattle.tab_term.specs.View.{term}
 use Rattle.tab_model.specs.Names.{plain_terms, terms_list}
 use Rattle.tab_model.specs.WholeTables.{match_object}
 use Rattle.tab_index.proofs.CopiesLemmas.{round}
 use Rattle.tab_txstore.specs.Overlays.{touched, seen_at}
-use Rattle.tab_txstore.proofs.MatchLemmas.{match_end, match_at}
+use Rattle.tab_rows.proofs.Cells.{filter_all}
+use Rattle.tab_txstore.proofs.MatchLemmas.{match_end, match_at, whole_seen}
 use Rattle.tab_txstore.proofs.store.TxStore.view_match.Goals.{in-Some-seen_entry+in_ok-push_matches, in_default-seen_entry}
 use Rattle.tab_txstore.proofs.store.TxStore.view_match.Goals as goal
 
@@ -18,6 +20,12 @@ returns c seen h =
     match_end c.loop-entry.found.items c.loop-entry.entry-iterator c.into_iter-entry-iterator.result (touched c.args.self.now.levels.now.overlay c.args.lent.now.def.name) m.0 c.args.lent.now.rows seen (term c.args.pattern.now)
     c.in-None.ensures.steps.0 c.loop-entry.invariant (c.into_iter-entry-iterator.ensures.into_iter_gives ∙ m.4) m.1 m.2 m.3 h
     )
+
+pub returns-then-all_fit : goal.returns-then-all_fit
+returns-then-all_fit c seen h =
+    let m = c.in_ok-by_key.ensures in
+    let all = whole_seen c.in_ok-by_key.field-0 (touched c.args.self.now.levels.now.overlay c.args.lent.now.def.name) m.0 c.args.lent.now.rows seen m.4 m.1 m.2 m.3 h in
+    c.from_records.ensures ∙ ap plain_terms (all ∙ sym (filter_all (matches (term c.args.pattern.now)) seen (sym (c.all_fit.ensures seen h) ∙ c.if-all_fit.true)))
 
 pub returns-in-Some : goal.returns-in-Some
 returns-in-Some c seen h =

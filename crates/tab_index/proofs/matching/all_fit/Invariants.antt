@@ -1,0 +1,10 @@
+use Rattle.std.proofs.Common.{◌≡◌}
+use Rattle.std.specs.List.{list_all}
+use Rattle.tab_term.specs.Pattern.{matches}
+use Rattle.tab_term.specs.View.{term}
+use Rattle.tab_rows.specs.Joined.{joined}
+use Rattle.tab_index.proofs.matching.all_fit.Given as goal
+
+-- those that are left all fit, just where all do
+abbrev pub invariant-loop-entry : goal.invariant-loop-entry
+invariant-loop-entry l = list_all (matches (term l.pattern)) (joined l.entry-iterator) ≡ list_all (matches (term l.pattern)) l.rows.1
