@@ -21,7 +21,9 @@ from memory import (  # noqa: E402
     MEGABYTE,
     WATCHED,
     Held,
+    answers,
     ask_long,
+    begin_peak,
     commit_nothing,
     dumps,
     fill,
@@ -37,7 +39,7 @@ from memory import (  # noqa: E402
 from server import HERE_OK, OK, same, script, side_by_side  # noqa: E402
 from frames import spell  # noqa: E402
 
-RECORDS, TRANSACTIONS, SCANS, DUMPS, READERS = 100_000, 1_024, 64, 32, 12
+RECORDS, TRANSACTIONS, SCANS, DUMPS, READERS, ASKED = 100_000, 1_024, 64, 32, 12, 100
 # Records of the key of a bag, and the writes of a one-shot there.
 BAGGED, WRITES = 6_000, 899
 # A one-shot that tells much takes so many seconds at most.
@@ -100,12 +102,6 @@ def one_shot(server, client):
     return server.kilobytes()
 
 
-def begin_peak(server):
-    """The peak is that of what comes from here on."""
-    with open(f"/proc/{server.process.pid}/clear_refs", "w", encoding="ascii") as file:
-        file.write("5")
-
-
 def person(key):
     return ("person", key, bytes(40))
 
@@ -138,6 +134,7 @@ def rows():
     for what, request, answer, count in (("all_keys", ALL_KEYS, keys, TRANSACTIONS), ("match_object", ALL_RECORDS, records, SCANS)):
         for writes in (False, True):
             yield f"{count} transactions of {'a write and ' * writes}{what}, {RECORDS} records", [], small, whole_reads(request, answer, count, writes)
+    yield f"a one-shot of {ASKED} all_keys, {RECORDS} records, at its peak", [], small, answers(ASKED, keys)
     for size, count in ((100_000, 300), (1_000, 30_000)):
         yield f"{DUMPS} dumps of 30 MB in an outbox, {count} records", [], *of_long(size, count, dumps, DUMPS)
     for size, count in ((500_000, 40), (100, 170_000)):
