@@ -189,7 +189,7 @@ fn has(store: &Store, key: &Term) -> bool {
         Store::Numbers(map) => map.get(key).is_some(),
         Store::Map(map) | Store::MapVersions(map) => map.get(key).is_some(),
         Store::Records(map) => map.get(key).is_some(),
-        Store::Table(table) | Store::TableVersions(table) => !table.at(key).is_empty(),
+        Store::Table(table) | Store::TableVersions(table) => table.at(key).next().is_some(),
     }
 }
 

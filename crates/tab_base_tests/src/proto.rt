@@ -4,9 +4,9 @@
 use std::alloc::{AllocError, Global};
 use std::test::Fail;
 use tab_etf::{Counted, decode};
+use tab_lists::{EventTerm, EventTerms, SharedEvent, SharedTerms, Tag};
 use tab_model::{Command, Ending, Item, Level, Reply, Told};
 use tab_proto::{Delivery, append_item, append_reply, command, term_of, write_item, write_reply};
-use tab_shared::SharedTerms;
 use tab_term::{Atom, Term, Terms};
 
 /// Payloads of every command.
@@ -60,8 +60,8 @@ static SENT: [(&[u8], &[u8]); 3] = [
         b"\0\0\0\x27\x83h\x04w\x12mnesia_table_beginw\x01tw\x06simplek\0\x02\x03\x04",
     ),
     (
-        b"\0\0\0\x03\x83a\x03\0\0\0\x03\x83a\x04",
-        b"\0\0\0\x11\x83h\x03w\x05batcha\x07k\0\x02\x03\x04",
+        b"\0\0\0\x33\x83h\x02w\x12mnesia_table_eventh\x03w\x05writeh\x03w\x01ta\x01w\x01ah\x02w\x03tida\x01\0\0\0\x39\x83h\x02w\x12mnesia_table_eventh\x05w\x06deletew\x01th\x02w\x01ta\x01k\0\x02\x03\x04h\x02w\x03tida\x02",
+        b"\0\0\0\x7c\x83h\x03w\x05batcha\x07l\0\0\0\x02h\x02w\x12mnesia_table_eventh\x03w\x05writeh\x03w\x01ta\x01w\x01ah\x02w\x03tida\x01h\x02w\x12mnesia_table_eventh\x05w\x06deletew\x01th\x02w\x01ta\x01k\0\x02\x03\x04h\x02w\x03tida\x02j",
     ),
 ];
 
@@ -97,8 +97,21 @@ fn commands_are_read_and_told(rt: HostRuntime) -> Result<(), Fail> {
     Ok(())
 }
 
+/// The write of a record as a simple event, and the deletion of its key as a detailed one.
+fn batch_of(alloc: Global, old: SharedTerms) -> Result<Item, Fail> {
+    let record = decode(alloc, b"\x83h\x03w\x01ta\x01w\x01a")?;
+    let place = decode(alloc, b"\x83h\x02w\x01ta\x01")?;
+    let table = Atom::from_short_text(alloc, "t")?;
+    let write = EventTerm::simple(Tag::Write, record, 1);
+    let deletion = EventTerm::detailed(Tag::Delete, table, place, old, 2);
+    let mut events = EventTerms::new(alloc);
+    events.push(SharedEvent::new(alloc, write)?)?;
+    events.push(SharedEvent::new(alloc, deletion)?)?;
+    Ok(Item::Batch(7, events))
+}
+
 /// An end mark, a begin mark with a dump, or a batch: the last two hold 3 and 4.
-fn item_of(alloc: Global, number: usize) -> Result<Item, AllocError> {
+fn item_of(alloc: Global, number: usize) -> Result<Item, Fail> {
     let mut terms = Vec::new(alloc);
     terms.push(Term::Int(3))?;
     terms.push(Term::Int(4))?;
@@ -107,7 +120,7 @@ fn item_of(alloc: Global, number: usize) -> Result<Item, AllocError> {
     Ok(match number {
         0 => Item::Ended(table, Ending::Deleted),
         1 => Item::Began(table, Level::Simple, Some(terms)),
-        _ => Item::Batch(7, terms),
+        _ => batch_of(alloc, terms)?,
     })
 }
 

@@ -1,16 +1,16 @@
-//! Tests of tab_shared: a list of each form gives its terms, and stays as it was when the map that it was made of changes. And
+//! Tests of tab_lists: a list of each form gives its terms, and stays as it was when the map that it was made of changes. And
 //! of tab_map, whose maps share an entry.
 
 use std::alloc::{AllocError, Global};
 use std::test::Fail;
+use tab_lists::{SharedRecord, SharedTerms};
 use tab_map::{Entry, Map};
-use tab_shared::{SharedRecord, SharedTerms};
-use tab_term::{SharedTerm, Term, Terms};
+use tab_records::Records;
+use tab_term::{Term, Terms};
 
 /// How a list is made. Its terms are numbers.
 enum Form {
     Own(&'static [i128]),
-    Each(&'static [i128]),
     /// The records at these keys and places, where they stand.
     Picked(&'static [(i128, usize)]),
     Entry(i128),
@@ -25,9 +25,8 @@ static BEFORE: [(i128, &[i128]); 2] = [(1, &[11, 12]), (3, &[31])];
 static CHANGES: [(i128, &[i128]); 2] = [(1, &[19]), (2, &[21, 22])];
 
 /// Lists with what they give, and what one gives that is made when the map has changed.
-static LISTS: [(Form, &[i128], &[i128]); 9] = [
+static LISTS: [(Form, &[i128], &[i128]); 8] = [
     (Form::Own(&[3, 1, 2]), &[3, 1, 2], &[3, 1, 2]),
-    (Form::Each(&[3, 1]), &[3, 1], &[3, 1]),
     (
         Form::Picked(&[(1, 1), (3, 0), (1, 0)]),
         &[12, 31, 11],
@@ -49,73 +48,96 @@ fn numbers(alloc: Global, all: &[i128]) -> Result<Terms, AllocError> {
     Ok(Terms::from_vec(terms))
 }
 
+/// Records of these numbers, one after another. One alone stands by itself.
+fn records_of(alloc: Global, all: &[i128]) -> Result<Records, AllocError> {
+    let [first, rest @ ..] = all else {
+        return Ok(Records::new());
+    };
+    let mut records = Records::only(Term::Int(*first));
+    for number in rest {
+        records.insert(alloc, Term::Int(*number))?;
+    }
+    Ok(records)
+}
+
 fn insert_all(
     alloc: Global,
-    map: &mut Map<Term, Terms>,
+    map: &mut Map<Term, Records>,
     entries: &[(i128, &[i128])],
 ) -> Result<(), AllocError> {
     for (key, records) in entries {
-        map.insert(alloc, Term::Int(*key), numbers(alloc, records)?)?;
+        map.insert(alloc, Term::Int(*key), records_of(alloc, records)?)?;
     }
     Ok(())
 }
 
-fn map_before(alloc: Global) -> Result<Map<Term, Terms>, AllocError> {
+fn map_before(alloc: Global) -> Result<Map<Term, Records>, AllocError> {
     let mut map = Map::new();
     for key in 1..100u32 {
-        map.insert(alloc, Term::Int(i128::from(key)), numbers(alloc, &[])?)?;
+        map.insert(alloc, Term::Int(i128::from(key)), Records::new())?;
     }
     insert_all(alloc, &mut map, &BEFORE)?;
     Ok(map)
 }
 
-fn change(alloc: Global, map: &mut Map<Term, Terms>) -> Result<(), AllocError> {
+/// Key 1 loses its first record and gets one more, in place, before it is inserted anew.
+fn revise(alloc: Global, map: &mut Map<Term, Records>) -> Result<(), AllocError> {
+    let Some(records) = map.get(&Term::Int(1)) else {
+        return Ok(());
+    };
+    let mut left = records.without(alloc, &Term::Int(11))?;
+    left.insert(alloc, Term::Int(17))?;
+    map.insert(alloc, Term::Int(1), left)
+}
+
+fn change(alloc: Global, map: &mut Map<Term, Records>) -> Result<(), AllocError> {
+    revise(alloc, map)?;
     insert_all(alloc, map, &CHANGES)?;
     map.remove(alloc, &Term::Int(3))
 }
 
-fn each(alloc: Global, all: &[i128]) -> Result<SharedTerms, AllocError> {
-    let mut terms = Vec::new(alloc);
-    for number in all {
-        terms.push(SharedTerm::new(alloc, Term::Int(*number))?)?;
-    }
-    Ok(SharedTerms::from_vec(terms))
-}
-
 fn push_record(
-    alloc: Global,
     records: &mut Vec<SharedRecord>,
-    entry: &Entry<Term, Terms>,
+    entry: &Entry<Term, Records>,
     place: usize,
 ) -> Result<(), AllocError> {
-    if place < entry.pair().1.as_slice().len() {
-        records.push(SharedRecord::new(alloc, entry, place)?)?;
-    }
+    let record = match entry.pair().1.by_number() {
+        Some(records) => match records.iter().nth(place) {
+            Some(entry) => SharedRecord::numbered(&entry.pair().1)?,
+            None => return Ok(()),
+        },
+        None if place == 0 => SharedRecord::first(entry)?,
+        None => return Ok(()),
+    };
+    records.push(record)?;
     Ok(())
 }
 
 fn picked(
     alloc: Global,
-    map: &Map<Term, Terms>,
+    map: &Map<Term, Records>,
     places: &[(i128, usize)],
 ) -> Result<SharedTerms, AllocError> {
     let mut records = Vec::new(alloc);
     for (key, place) in places {
         if let Some(entry) = map.get_entry(&Term::Int(*key)) {
-            push_record(alloc, &mut records, entry, *place)?;
+            push_record(&mut records, entry, *place)?;
         }
     }
     Ok(SharedTerms::from_picked(records))
 }
 
-fn list_of(alloc: Global, map: &Map<Term, Terms>, form: &Form) -> Result<SharedTerms, AllocError> {
+fn list_of(
+    alloc: Global,
+    map: &Map<Term, Records>,
+    form: &Form,
+) -> Result<SharedTerms, AllocError> {
     match form {
         Form::Own(all) => Ok(SharedTerms::from_terms(numbers(alloc, all)?)),
-        Form::Each(all) => each(alloc, all),
         Form::Picked(places) => picked(alloc, map, places),
         Form::Entry(key) => match map.get_entry(&Term::Int(*key)) {
             Some(entry) => Ok(SharedTerms::from_entry(entry.try_clone()?)),
-            None => each(alloc, &[]),
+            None => Ok(SharedTerms::from_terms(numbers(alloc, &[])?)),
         },
         Form::Keys => Ok(SharedTerms::from_keys(map.share()?)),
         Form::Records => Ok(SharedTerms::from_records(map.share()?)),
@@ -142,9 +164,11 @@ fn gives(list: &SharedTerms, wanted: &[i128]) -> bool {
     terms.next().is_none()
 }
 
+/// Whether the same list gives these once more, and in memory of its own.
 fn copy_gives(alloc: Global, list: &SharedTerms, wanted: &[i128]) -> Result<bool, AllocError> {
+    let same = list.try_clone(alloc)?;
     let copy = list.to_terms(alloc)?;
-    Ok(gives(&SharedTerms::from_terms(copy), wanted))
+    Ok(gives(&same, wanted) && gives(&SharedTerms::from_terms(copy), wanted))
 }
 
 /// Whether a list gives these before the map changes, then and without it, to the second of two who
@@ -162,7 +186,7 @@ fn is_right(
     drop(list);
     change(alloc, &mut map)?;
     let is_kept = gives(&other, before);
-    let is_new = gives(&list_of(alloc, &map, form)?, after);
+    let is_new = copy_gives(alloc, &list_of(alloc, &map, form)?, after)?;
     drop(map);
     Ok(is_made && is_given && is_kept && is_new && gives(&other, before))
 }
@@ -178,8 +202,8 @@ fn lists_stay_as_they_were(rt: HostRuntime) {
 /// Puts the entries of keys 1 and 3 into another map.
 fn lend(
     alloc: Global,
-    map: &Map<Term, Terms>,
-    other: &mut Map<Term, Terms>,
+    map: &Map<Term, Records>,
+    other: &mut Map<Term, Records>,
 ) -> Result<(), AllocError> {
     for key in [1, 3] {
         if let Some(entry) = map.get_entry(&Term::Int(key)) {
@@ -189,7 +213,7 @@ fn lend(
     Ok(())
 }
 
-fn has(map: &Map<Term, Terms>, wanted: &[i128]) -> Result<bool, AllocError> {
+fn has(map: &Map<Term, Records>, wanted: &[i128]) -> Result<bool, AllocError> {
     Ok(gives(&SharedTerms::from_records(map.share()?), wanted))
 }
 

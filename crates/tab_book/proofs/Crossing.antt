@@ -7,9 +7,10 @@ use Rattle.std.proofs.Crossing.{Vec-send, Vec-sync, Arc-send, Arc-sync, crosses,
 use Rattle.std.proofs.MapsCrossing.{BTreeMap-send}
 use Rattle.tab_map.proofs.Crossing.{Map-send, Map-sync}
 use Rattle.tab_term.proofs.atom.Atom.TheSendSync as atom_marks
-use Rattle.tab_shared.proofs.Crossing.{SharedTerms-send, SharedTerms-sync, Answers-send, Answers-sync}
-use Rattle.tab_shared.specs.contracts.answers.Answers as answers
-use Rattle.tab_shared.specs.contracts.shared_terms.SharedTerms as shared_terms
+use Rattle.tab_records.proofs.Crossing.{Records-send, Records-sync}
+use Rattle.tab_lists.proofs.Crossing.{SharedTerms-send, SharedTerms-sync, Answers-send, Answers-sync, EventTerms-send, EventTerms-sync}
+use Rattle.tab_lists.specs.contracts.answers.Answers as answers
+use Rattle.tab_lists.specs.contracts.shared_terms.SharedTerms as shared_terms
 use Rattle.tab_term.proofs.Crossing.{Terms-send, Terms-sync, Term-send, Term-sync}
 use Rattle.tab_term.specs.contracts.atom.Atom as atom
 use Rattle.tab_model.specs.contracts.data.Operation as operation
@@ -79,10 +80,10 @@ info-sync : IsSync info.the_row
 info-sync = search (parts, Terms-sync) depth 20
 
 item-send : IsSend item.the_row
-item-send = search (parts, SharedTerms-send) depth 20
+item-send = search (parts, SharedTerms-send, EventTerms-send) depth 20
 
 item-sync : IsSync item.the_row
-item-sync = search (parts, SharedTerms-sync) depth 20
+item-sync = search (parts, SharedTerms-sync, EventTerms-sync) depth 20
 
 reply-send : IsSend reply.the_row
 reply-send =
@@ -113,10 +114,10 @@ entry-send : IsSend entry.the_row
 entry-send = search (parts, moves-send, replies-send, schema-send, numbers_marks.the_send, level_marks.the_send) depth 30
 
 rows-send : IsSend rows.the_row
-rows-send = search (parts, Term-send, Term-sync, Terms-send, Terms-sync) depth 30
+rows-send = search (parts, Term-send, Term-sync, Records-send, Records-sync) depth 30
 
 rows-sync : IsSync rows.the_row
-rows-sync = search (parts, Term-send, Term-sync, Terms-send, Terms-sync) depth 30
+rows-sync = search (parts, Term-send, Term-sync, Records-send, Records-sync) depth 30
 
 index-send : IsSend index.the_row
 index-send = search (parts, Term-send, Term-sync) depth 30
@@ -137,7 +138,7 @@ change-send : IsSend change.the_row
 change-send = search (parts, Term-send) depth 20
 
 overlay-send : IsSend levels.the_row
-overlay-send = search (parts, change-send, Term-send, Term-sync, Terms-send, Terms-sync) depth 30
+overlay-send = search (parts, change-send, Term-send, Term-sync, Records-send, Records-sync) depth 30
 
 store-send : IsSend store.the_row
 store-send = search (parts, move-send, told-send, overlay-send) depth 30

@@ -25,7 +25,10 @@ fn commit<H: House>(book: &mut Book<H>, alloc: Global, session: u32) -> Result<u
 /// Whether the base has the table, without a record or with one, and this commit.
 fn is_base(alloc: Global, base: &Base, commits: u64, records: usize) -> Result<bool, AllocError> {
     let found = match base.tables().table(&name(alloc)?) {
-        Some(table) => Some(table.at(&Term::Int(1)).len()),
+        Some(table) => match table.entry(&Term::Int(1)) {
+            Some(entry) => Some(entry.pair().1.len()),
+            None => Some(0),
+        },
         None => None,
     };
     Ok(base.commits() == commits && found == Some(records))

@@ -8,11 +8,11 @@ use std::process::Abort;
 use std::sync::Wait;
 use std::test::*;
 use std::thread::{Threads, join};
+use tab_lists::EventTerms;
 use tab_named::{NewMailbox, SeatInbox, SeatPost};
 use tab_names::{House, Naming, Opened};
 use tab_outbox::{Item, Mailbox, Met, Post, Refused};
 use tab_post::Line;
-use tab_shared::SharedTerms;
 
 /// Items are batches without events, known by their commits.
 enum Call {
@@ -69,7 +69,7 @@ static CALLS: [(usize, usize, Call); 31] = [
 const NONE: u64 = 1_000_000;
 
 fn batch(alloc: Global, commit: u64) -> Item {
-    Item::Batch(commit, SharedTerms::from_vec(Vec::new(alloc)))
+    Item::Batch(commit, EventTerms::new(alloc))
 }
 
 fn number_of(item: &Item) -> u64 {

@@ -8,11 +8,11 @@ use std::marker::{Brand, PhantomData};
 use std::sync::Wait;
 use std::test::*;
 use tab_book::{Book, Drained, Seat, Shared};
+use tab_lists::EventTerms;
 use tab_model::{Command, Item, Reply};
 use tab_named::SeatInbox;
 use tab_names::{House, Naming, Opened};
 use tab_post::Line;
-use tab_shared::SharedTerms;
 
 /// What is shown at an inbox, as a number: a batch of one event is 100 and its commit, an overflow 200 and its commit.
 fn shown_as(drained: &Drained) -> u64 {
@@ -32,9 +32,8 @@ fn number_in(item: &Item) -> u64 {
     }
 }
 
-fn is_one(events: &SharedTerms) -> bool {
-    let mut events = events.iter();
-    events.next().is_some() && events.next().is_none()
+fn is_one(events: &EventTerms) -> bool {
+    events.as_slice().len() == 1
 }
 
 pub const ALL_TAKEN: u64 = 1;

@@ -4,7 +4,7 @@ ghost use Rattle.std.specs.Prelude.{◌≡◌, IfOk};
 ghost use Rattle.tab_model.specs.Slices.{dump_of as dump_in};
 
 use std::alloc::{AllocError, Global};
-use tab_shared::SharedTerms;
+use tab_lists::SharedTerms;
 use tab_term::{Atom, Terms};
 use tab_world::World;
 

@@ -1,10 +1,10 @@
 //! Events read back and shaped again, and what a mirror makes of what it is told.
-use std::alloc::{AllocError, Global};
-use tab_etf::decode;
+use std::alloc::Global;
+use tab_etf::{Body, EncodeFault, Leaf, Outline, append_frame, append_outline, decode};
 use tab_events::{Event, Level, Mirror, Mirrored, change_of, shape};
 use tab_fixtures::atom;
+use tab_lists::{EventTerm, SharedTerms};
 use tab_rows::Kind;
-use tab_shared::SharedTerms;
 use tab_term::{Term, Terms};
 
 /// Events at their levels: an update of the record `{t,1,a}`, or of the key 1, where `{t,1,b}` stood before; the
@@ -38,13 +38,27 @@ static EVENTS: [(&[u8], Level); 6] = [
 
 static OLD: &[u8] = b"\x83h\x03w\x01ta\x01w\x01b";
 
+/// Whether an event is written as this term is.
+fn is_written(alloc: Global, event: &EventTerm, told: &Term) -> Result<bool, EncodeFault> {
+    let outline = Outline {
+        first: None,
+        second: None,
+        body: Body::One(Leaf::event(event)),
+    };
+    let mut written = Vec::new(alloc);
+    append_outline(&outline, &mut written)?;
+    let mut wanted = Vec::new(alloc);
+    append_frame(told, &mut wanted)?;
+    Ok(written.as_slice() == wanted.as_slice())
+}
+
 /// Whether the term's change is shaped as that term again; None where it has no change.
 fn is_shaped(
     alloc: Global,
     told: &Term,
     old: SharedTerms,
     level: Level,
-) -> Result<Option<bool>, AllocError> {
+) -> Result<Option<bool>, EncodeFault> {
     let tab = atom(alloc, "t")?;
     match change_of(alloc, told)? {
         Some(change) => {
@@ -54,7 +68,8 @@ fn is_shaped(
                 old,
                 age: 1,
             };
-            Ok(Some(shape(alloc, &event, level)? == *told))
+            let shaped = shape(alloc, &event, level)?;
+            Ok(Some(is_written(alloc, &shaped, told)?))
         }
         None => Ok(None),
     }
@@ -138,7 +153,7 @@ fn keys(mirror: &Mirror) -> Option<u32> {
     let rows = mirror.rows()?;
     let mut all = 0u32;
     for key in 1..4u32 {
-        if !rows.at(&Term::Int(i128::from(key))).is_empty() {
+        if rows.at(&Term::Int(i128::from(key))).next().is_some() {
             all = all.saturating_mul(10).saturating_add(key);
         }
     }

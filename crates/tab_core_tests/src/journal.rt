@@ -2,8 +2,9 @@
 use std::alloc::{AllocError, Global};
 use tab_fixtures::atom;
 use tab_journal::Journal;
+use tab_lists::SharedTerms;
 use tab_model::{Entry, Level, Move, Moves, Numbers, Operation, Replies, Reply, Schema, Told};
-use tab_shared::SharedTerms;
+use tab_records::Iter;
 use tab_term::{Term, Terms};
 
 /// A move of session 1 in table t, whose records are `{t, 1, V}`.
@@ -159,12 +160,17 @@ fn fold(alloc: Global, journal: &mut Journal, other: &Journal) -> Result<(), All
     Ok(())
 }
 
-fn value_in(records: &[Term]) -> Option<i128> {
-    match records {
-        [Term::Tuple(row)] => match row.as_slice() {
-            [_, _, Term::Int(value)] => Some(*value),
-            _ => None,
-        },
+/// The value of the only record.
+fn value_in(mut records: Iter<'_>) -> Option<i128> {
+    let row = records.next()?;
+    if records.next().is_some() {
+        return None;
+    }
+    let Term::Tuple(row) = row else {
+        return None;
+    };
+    match row.as_slice() {
+        [_, _, Term::Int(value)] => Some(*value),
         _ => None,
     }
 }

@@ -6,10 +6,10 @@ ghost use Rattle.tab_model.specs.declared.data.Reply.TheVariants as reply;
 
 use std::alloc::{AllocError, Global};
 use tab_fixtures::atom;
+use tab_lists::SharedTerms;
 use tab_model::{Command, Limit, Reply, Told};
 use tab_oneshot::Steps;
-use tab_shared::SharedTerms;
-use tab_term::Term;
+use tab_term::{Term, Terms};
 
 /// Each answer is one letter; where they end, it answers `BadTerm`.
 #[derive(Drop)]
@@ -82,7 +82,7 @@ fn reply_of(alloc: Global, letter: u8) -> Reply
     match letter {
         b'T' => Reply::Tid(1),
         b'k' => Reply::Done,
-        b'f' => Reply::Found(SharedTerms::from_vec(Vec::new(alloc))),
+        b'f' => Reply::Found(SharedTerms::from_terms(Terms::from_vec(Vec::new(alloc)))),
         b'n' => table(alloc),
         b'u' => Reply::UserAbort(Term::Int(9)),
         b'j' => Reply::AtomicOk,

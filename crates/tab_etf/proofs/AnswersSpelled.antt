@@ -6,9 +6,9 @@ use Rattle.std.proofs.lemmas.Bool.{cases_lt, eqb-true, eqb-false, ne_eqb}
 use Rattle.std.proofs.lemmas.List.{take_more}
 use Rattle.tab_term.specs.Canon.{list_tag, length_field, canon, canons}
 use Rattle.tab_term.specs.Data.{PlainTerms, none, list, count}
-use Rattle.tab_shared.specs.declared.answers.Answer.{Answer}
-use Rattle.tab_shared.specs.Answers.{answer_term, answers}
-use Rattle.tab_shared.proofs.AnswersLemmas.{no_bytes}
+use Rattle.tab_lists.specs.declared.answers.Answer.{Answer}
+use Rattle.tab_lists.specs.Answers.{answer_term, answers}
+use Rattle.tab_lists.proofs.AnswersLemmas.{no_bytes}
 use Rattle.tab_etf.proofs.CanonLemmas.{list_none, list_others}
 use Rattle.tab_etf.proofs.Lengths as Lengths
 use Rattle.tab_etf.proofs.SharedElements.{count_canons}

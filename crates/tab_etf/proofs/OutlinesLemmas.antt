@@ -3,6 +3,7 @@ use Rattle.std.proofs.Common.{◌≡◌, ◌≤◌, ℕ, ◌+◌, List, [], ◌�
 use Rattle.std.proofs.lemmas.List.{append-nil}
 use Rattle.tab_term.specs.Data.{PlainTerm, tuple, none, one_more, pair, triple}
 use Rattle.tab_term.specs.Canon.{canon}
+use Rattle.tab_lists.specs.EventTerms.{five}
 use Rattle.tab_etf.proofs.CanonLemmas as is
 use Rattle.tab_etf.specs.declared.outline.Leaf.{Leaf}
 use Rattle.tab_etf.specs.declared.outline.Leaf.TheVariants as leaf
@@ -30,6 +31,10 @@ pub four_canon : (a b c d : PlainTerm) → canon (four a b c d) ≡ (104 ∷ 4 �
 unfolding canon
 four_canon a b c d = ap (λ (h : List ℕ). h ++ (canon a ++ (canon b ++ (canon c ++ (canon d ++ []))))) (is.tuple_short 4 (omega arith)) ∙ ap (λ (x : List ℕ). 104 ∷ 4 ∷ (canon a ++ (canon b ++ (canon c ++ x)))) (append-nil (canon d))
 
+pub five_canon : (a b c d e : PlainTerm) → canon (five a b c d e) ≡ (104 ∷ 5 ∷ []) ++ (canon a ++ (canon b ++ (canon c ++ (canon d ++ canon e))))
+unfolding canon
+five_canon a b c d e = ap (λ (h : List ℕ). h ++ (canon a ++ (canon b ++ (canon c ++ (canon d ++ (canon e ++ [])))))) (is.tuple_short 5 (omega arith)) ∙ ap (λ (x : List ℕ). 104 ∷ 5 ∷ (canon a ++ (canon b ++ (canon c ++ (canon d ++ x))))) (append-nil (canon e))
+
 pub under_canon : (o : Option Leaf) (t : PlainTerm) → canon (under o t) ≡ head_canon o ++ canon t
 under_canon None t = refl
 under_canon (Some l) t = pair_canon (leaf_term l) t
@@ -46,6 +51,17 @@ triple_length a b c = omega (arith, ap length (triple_canon a b c), length-appen
 pub four_length : (a b c d : PlainTerm) → length (canon (four a b c d)) ≡ 2 + length (canon a) + length (canon b) + length (canon c) + length (canon d)
 four_length a b c d = omega (arith, ap length (four_canon a b c d), length-append (canon a) (canon b ++ (canon c ++ canon d)), length-append (canon b) (canon c ++ canon d), length-append (canon c) (canon d))
 
+pub five_length : (a b c d e : PlainTerm) → length (canon (five a b c d e)) ≡ 2 + length (canon a) + length (canon b) + length (canon c) + length (canon d) + length (canon e)
+five_length a b c d e =
+    omega (
+      arith,
+      ap length (five_canon a b c d e),
+      length-append (canon a) (canon b ++ (canon c ++ (canon d ++ canon e))),
+      length-append (canon b) (canon c ++ (canon d ++ canon e)),
+      length-append (canon c) (canon d ++ canon e),
+      length-append (canon d) (canon e),
+    )
+
 pub outline_length : (o : Outline) → length (canon (outline_term o)) ≡ length (head_canon o.first) + length (head_canon o.second) + length (canon (body_term o.body))
 outline_length o = omega (arith, ap length (outline_canon o), length-append (head_canon o.first) (head_canon o.second ++ canon (body_term o.body)), length-append (head_canon o.second) (canon (body_term o.body)))
 
@@ -61,6 +77,9 @@ module _ {W : Type 0} {contents : W → Option (List ℕ)} {faults : W → ℕ} 
   pub writes_four : {a b c d e f : Writer W} (s t u v : PlainTerm) → Writes contents faults a b (104 ∷ 4 ∷ []) → Writes contents faults b c (canon s) → Writes contents faults c d (canon t) → Writes contents faults d e (canon u) → Writes contents faults e f (canon v) → Writes contents faults a f (canon (four s t u v))
   writes_four s t u v p q r w x = writes_as (writes_then p (writes_then q (writes_then r (writes_then w x)))) (sym (four_canon s t u v))
 
+  pub writes_five : {a b c d e f g : Writer W} (s t u v w : PlainTerm) → Writes contents faults a b (104 ∷ 5 ∷ []) → Writes contents faults b c (canon s) → Writes contents faults c d (canon t) → Writes contents faults d e (canon u) → Writes contents faults e f (canon v) → Writes contents faults f g (canon w) → Writes contents faults a g (canon (five s t u v w))
+  writes_five s t u v w p q r x y z = writes_as (writes_then p (writes_then q (writes_then r (writes_then x (writes_then y z))))) (sym (five_canon s t u v w))
+
   pub writes_outline : {a b c d : Writer W} (o : Outline) → Writes contents faults a b (head_canon o.first) → Writes contents faults b c (head_canon o.second) → Writes contents faults c d (canon (body_term o.body)) → Writes contents faults a d (canon (outline_term o))
   writes_outline o p q r = writes_as (writes_then p (writes_then q r)) (sym (outline_canon o))
 
@@ -73,6 +92,8 @@ fits_leaf (leaf.Held t) s h = tt
 fits_leaf (leaf.List ts) s h = tt
 fits_leaf (leaf.SharedList ts m) s h = (s, list_fits ts.now h)
 fits_leaf (leaf.Answers ts n) s h = h
+fits_leaf (leaf.Event e n) s h = h
+fits_leaf (leaf.Events es n) s h = h
 
 fits_head : (o : Option Leaf) → OfHead IsShort o → length (head_canon o) ≤ 4294967295 → OfHead IsWritable o
 fits_head None s h = tt

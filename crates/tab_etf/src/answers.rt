@@ -3,7 +3,7 @@
 ghost use Rattle.std.specs.Prelude.{◌≡◌, ◌≤◌, ◌+◌, ◌++◌, ◌∷◌, length, min, true, IfSome};
 ghost use Rattle.tab_term.specs.Canon.{canon, canons};
 ghost use Rattle.tab_term.specs.Data.{atom, list};
-ghost use Rattle.tab_shared.specs.Answers.{answer_term, answers as terms_of};
+ghost use Rattle.tab_lists.specs.Answers.{answer_term, answers as terms_of};
 ghost use Rattle.tab_etf.specs.Writing.{Writes};
 
 use crate::device::Target;
@@ -11,13 +11,13 @@ use crate::measuring::{atom_len, field_len, spelled_len};
 use crate::shared::{measure_of, put_shared, shared_len};
 use crate::spelling::{put, put_atom, put_tagged};
 use crate::writer::Writer;
-use tab_shared::{Answer, Answers, SharedTerms};
+use tab_lists::{Answer, Answers, SharedTerms};
 use tab_term::spelling::{LIST_EXT, NIL_EXT, SMALL_TUPLE_EXT};
 
 // ---- how long they are
 
 /// How many bytes stand before the value of `{Word, Value}`.
-fn word_len(word: &str) -> u64
+pub(crate) fn word_len(word: &str) -> u64
     requires { length word.now ≤ 255 }
     ensures value { result ≡ 2 + length (canon (atom word.now)) }
     ensures small { result ≤ 259 }
@@ -128,7 +128,7 @@ fn behind_rows(rows: &SharedTerms, room: u64) -> Option<u64>
 
 /// What stands before the value of `{Word, Value}`.
 #[tactic(auto, using(crate::proofs::WritingLemmas::writes_then))]
-fn put_word<W: Target>(writer: &mut Writer<W>, word: &str)
+pub(crate) fn put_word<W: Target>(writer: &mut Writer<W>, word: &str)
     requires { length word.now ≤ 255 }
     ensures { Writes W.contents W.faults writer.old writer.new (104 ∷ 2 ∷ canon (atom word.now)) }
 {

@@ -3,16 +3,18 @@
 ghost use Rattle.std.specs.Prelude.{◌≡◌, ◌<◌, ◌≤◌, ◌∷◌, min, length, MatchOption, IfSome};
 ghost use Rattle.tab_term.specs.Canon.{canon};
 ghost use Rattle.tab_term.specs.Data.{list};
+ghost use Rattle.tab_lists.specs.EventTerms.{event_term};
 ghost use Rattle.tab_etf.specs.Outlines.{leaf_term, body_term, outline_term, head_canon, OfHead, OfBody, OfOutline, IsShort, IsShortOutline, IsWritable};
 ghost use Rattle.tab_etf.specs.Writing.{Writes};
 
 use crate::answers::{answers_len, put_answers};
 use crate::device::Target;
+use crate::events::{event_len, events_len, put_event, put_events};
 use crate::measuring::{LONGEST, atom_len, int_len, list_len, spelled_len};
 use crate::shared::{Measure, measure_of, put_shared, shared_len};
 use crate::spelling::{put, put_atom, put_int, put_list};
 use crate::writer::Writer;
-use tab_shared::{Answers, SharedTerms};
+use tab_lists::{Answers, EventTerm, EventTerms, SharedTerms};
 use tab_term::spelling::SMALL_TUPLE_EXT;
 use tab_term::{Term, Terms};
 
@@ -29,6 +31,10 @@ pub enum Leaf<'a> {
     SharedList(&'a SharedTerms, Measure),
     /// The list of these answers, with how many bytes it takes.
     Answers(&'a Answers, u64),
+    /// An event, with how many bytes it takes.
+    Event(&'a EventTerm, u64),
+    /// The list of these events, with how many bytes it takes.
+    Events(&'a EventTerms, u64),
 }
 
 impl<'a> Leaf<'a> {
@@ -46,6 +52,22 @@ impl<'a> Leaf<'a> {
         ensures short { IsShort result }
     {
         Leaf::Answers(answers, answers_len(answers))
+    }
+
+    /// An event, which is measured once.
+    pub fn event(event: &'a EventTerm) -> Leaf<'a>
+        ensures term { leaf_term result ≡ event_term event.now }
+        ensures short { IsShort result }
+    {
+        Leaf::Event(event, event_len(event))
+    }
+
+    /// The list of these events, which are measured once.
+    pub fn events(events: &'a EventTerms) -> Leaf<'a>
+        ensures term { leaf_term result ≡ list events.now }
+        ensures short { IsShort result }
+    {
+        Leaf::Events(events, events_len(events))
     }
 }
 
@@ -78,6 +100,8 @@ fn put_leaf<W: Target>(writer: &mut Writer<W>, leaf: &Leaf)
         Leaf::List(elements) => put_list(writer, elements),
         Leaf::SharedList(elements, measure) => put_shared(writer, elements, *measure),
         Leaf::Answers(answers, _) => put_answers(writer, answers),
+        Leaf::Event(event, _) => put_event(writer, event),
+        Leaf::Events(events, _) => put_events(writer, events),
     }
 }
 
@@ -142,7 +166,7 @@ fn leaf_len(leaf: &Leaf) -> u64
         Leaf::Held(held) => spelled_len(held),
         Leaf::List(elements) => list_len(elements),
         Leaf::SharedList(elements, measure) => shared_len(elements, *measure),
-        Leaf::Answers(_, len) => *len,
+        Leaf::Answers(_, len) | Leaf::Event(_, len) | Leaf::Events(_, len) => *len,
     }
 }
 

@@ -11,7 +11,7 @@ use crate::device::Target;
 use crate::measuring::{field_len, spelled_len};
 use crate::spelling::{byte_in, put, put_tagged};
 use crate::writer::Writer;
-use tab_shared::SharedTerms;
+use tab_lists::SharedTerms;
 use tab_term::spelling::{LIST_EXT, NIL_EXT, STRING_EXT, is_byte_term};
 
 /// What is written of a list before its elements, and how long they are.

@@ -6,7 +6,6 @@
 #![tactic(auto)]
 
 mod applying;
-mod building;
 mod marks;
 mod mirror;
 mod mirrored;

@@ -13,7 +13,7 @@ use Rattle.tab_map.specs.Entries.{lookup, insert_entry, remove_entry, AllAbove, 
 use Rattle.tab_map.specs.KeyList.{keys, contains_key, insert_key, remove_key, AllKeysAbove, KeysAscend}
 use Rattle.tab_map.proofs.KeyListLemmas.{keys_lookup, keys_insert, keys_remove}
 use Rattle.tab_model.specs.Shapes.{held}
-use Rattle.tab_rows.proofs.LookUps.{lookup_insert, lookup_remove}
+use Rattle.tab_records.proofs.LookUps.{lookup_insert, lookup_remove}
 use Rattle.tab_index.specs.IndexOf.{Entry, keys_in, has_pair, IsFilled, IsWith, IsWithout}
 
 -- ---- terms

@@ -1,9 +1,8 @@
 -- What an index is of, after a change of the records.
-use Rattle.std.proofs.Common.{◌≡◌, ℕ, ◌+◌, ◌<◌, ◌≤◌, length, drop, get_or, List, [], ◌∷◌, ◌++◌, Bool, true, false, not, ◌&&◌, ◌||◌, refl, sym, ap, ap₂, ◌∙◌, map}
+use Rattle.std.proofs.Common.{◌≡◌, ℕ, List, [], ◌∷◌, ◌++◌, Bool, true, false, not, ◌&&◌, ◌||◌, refl, sym, ap, ap₂, ◌∙◌, map}
 use Rattle.std.specs.Prelude.{if◌then◌else◌}
 use Rattle.std.specs.Cmp.{IsEquivalence}
 use Rattle.std.specs.List.{list_any}
-use Rattle.std.proofs.lemmas.List.{at_drop_more, at_drop_all}
 use Rattle.std.proofs.lemmas.List.Elements.{filter-append}
 use Rattle.std.proofs.lemmas.List.Folds.{list_any-append}
 use Rattle.tab_term.specs.declared.term.Term.{Term}
@@ -16,7 +15,6 @@ use Rattle.tab_model.specs.declared.data.Kind.TheVariants.{Set, Bag}
 use Rattle.tab_model.specs.declared.data.Change.TheVariants as change
 use Rattle.tab_model.proofs.TableLaws.{same_true, at-del, at-put-set, at-put-bag}
 use Rattle.tab_model.proofs.ChangeLaws.{any_at, change_at_key}
-use Rattle.tab_index.proofs.CopiesLemmas.{list_of}
 use Rattle.tab_index.specs.IndexOf.{Entry, has_pair, has_value, is_pair, IsFilled, IsIndexOf, IsWith, IsWithout}
 
 same_sym : (a b : PlainTerm) → same a b ≡ same b a
@@ -162,13 +160,12 @@ abbrev pub unless : ℕ → Rows → Term → Term → Term → Bool → Bool
 unless p ts k v j b = not (same (term j) (term k) && any_has p (term v) ts) && b
 
 -- one record of those is done
-pub one_gone : (p : ℕ) (records : List Term) (i : ℕ) (item k : Term) (es fs : List Entry) (v j : Term) (b : Bool) → i < length records → item ≡ get_or records i item → IsWithout es fs (element p (term item)) (term k)
-    → unless p (list_of (drop i records)) k v j (has_pair es v j) ≡ b → unless p (list_of (drop (i + 1) records)) k v j (has_pair fs v j) ≡ b
-one_gone p records i item k es fs v j b h is w before =
-    ap (unless p (list_of (drop (i + 1) records)) k v j) (w.pairs v j ∙ ap (λ c. not (c && same (term j) (term k)) && has_pair es v j) (same_sym (term v) (element p (term item))))
-    ∙ merge (same (term j) (term k)) (same (element p (term item)) (term v)) (any_has p (term v) (list_of (drop (i + 1) records))) (has_pair es v j)
-    ∙ ap (λ t. unless p (list_of (t ∷ drop (i + 1) records)) k v j (has_pair es v j)) is
-    ∙ sym (at_drop_more (λ us. unless p (list_of us) k v j (has_pair es v j)) records i item h) ∙ before
+pub one_gone : (p : ℕ) (left after : Rows) (x : PlainTerm) (k : Term) (es fs : List Entry) (v j : Term) (b : Bool) → left ≡ x ∷ after → IsWithout es fs (element p x) (term k)
+    → unless p left k v j (has_pair es v j) ≡ b → unless p after k v j (has_pair fs v j) ≡ b
+one_gone p left after x k es fs v j b is w before =
+    ap (unless p after k v j) (w.pairs v j ∙ ap (λ c. not (c && same (term j) (term k)) && has_pair es v j) (same_sym (term v) (element p x)))
+    ∙ merge (same (term j) (term k)) (same (element p x) (term v)) (any_has p (term v) after) (has_pair es v j)
+    ∙ ap (λ ts. unless p ts k v j (has_pair es v j)) (sym is) ∙ before
   where
     merge : (c e r d : Bool) → (not (c && r) && (not (e && c) && d)) ≡ (not (c && (e || r)) && d)
     merge true true true d = refl
@@ -179,8 +176,8 @@ one_gone p records i item k es fs v j b h is w before =
     merge false false r d = refl
 
 -- all of those are done
-pub none_else : (p : ℕ) (records : List Term) (i : ℕ) (k : Term) (v j : Term) (b : Bool) → length records ≤ i → b ≡ unless p (list_of (drop i records)) k v j b
-none_else p records i k v j b h = flat (same (term j) (term k)) ∙ sym (at_drop_all (λ us. unless p (list_of us) k v j b) records i h)
+pub none_else : (p : ℕ) (left : Rows) (k : Term) (v j : Term) (b : Bool) → left ≡ [] → b ≡ unless p left k v j b
+none_else p left k v j b h = flat (same (term j) (term k)) ∙ ap (λ ts. unless p ts k v j b) (sym h)
   where
     flat : (c : Bool) → b ≡ (not (c && false) && b)
     flat true = refl

@@ -15,10 +15,11 @@ ghost use Rattle.tab_index.specs.IndexOf.{keys_in, IsIndexOf, IsWith, IsWithout,
 use crate::element::{Nothing, element, key};
 use crate::matching::push_with_value;
 use std::alloc::{AllocError, Global};
+use tab_lists::SharedTerms;
 use tab_map::{Map, Set};
 use tab_model::{Change, Kind};
+use tab_records::Iter;
 use tab_rows::Rows;
-use tab_shared::SharedTerms;
 use tab_term::Term;
 
 /// An index at a position: each value with the keys of the records that have it there.
@@ -120,15 +121,15 @@ impl Index {
     {
         let mut index = Index::new(position);
         for entry in rows.walk() {
-            index.add_all(alloc, entry.pair().1.as_slice())?;
+            index.add_all(alloc, entry.pair().1.iter())?;
         }
         Ok(index)
     }
 
     // Adds what each of these records has at the position.
-    fn add_all(&mut self, alloc: Global, records: &[Term]) -> Result<(), AllocError>
+    fn add_all(&mut self, alloc: Global, records: Iter<'_>) -> Result<(), AllocError>
         ensures position { self.new.position ≡ self.old.position }
-        ensures ok { OnOk result ((rows : RowsOf) → IsIndexOf rows self.old.position self.old.keys → IsIndexOf (rows ++ terms_list (terms records.now)) self.new.position self.new.keys) }
+        ensures ok { OnOk result ((rows : RowsOf) → IsIndexOf rows self.old.position self.old.keys → IsIndexOf (rows ++ records.entry) self.new.position self.new.keys) }
     {
         for row in records {
             self.add(alloc, row)?;
@@ -170,12 +171,15 @@ impl Index {
     }
 
     // Whether there is one record, and it has the value.
-    fn has_only(&self, records: &[Term], value: &Term, nothing: &Nothing) -> bool
-        ensures { IsTrue result → map (element_of self.now.position) (terms_list (terms records.now)) ≡ term value.now ∷ [] }
+    fn has_only(&self, mut records: Iter<'_>, value: &Term, nothing: &Nothing) -> bool
+        ensures { IsTrue result → map (element_of self.now.position) records.entry ≡ term value.now ∷ [] }
     {
-        match records {
-            [only] => element(only, self.position, nothing) == value,
-            _ => false,
+        let Some(first) = records.next() else {
+            return false;
+        };
+        match records.next() {
+            Some(_) => false,
+            None => element(first, self.position, nothing) == value,
         }
     }
 
@@ -196,8 +200,8 @@ impl Index {
     }
 
     // Whether a record that isn't this one has the value.
-    fn has_another(&self, records: &[Term], row: &Term, value: &Term, nothing: &Nothing) -> bool
-        ensures { result ≡ list_any (has_value self.now.position (term value.now)) (delete_object_in (terms_list (terms records.now)) (term row.now)) }
+    fn has_another(&self, records: Iter<'_>, row: &Term, value: &Term, nothing: &Nothing) -> bool
+        ensures { result ≡ list_any (has_value self.now.position (term value.now)) (delete_object_in records.entry (term row.now)) }
     {
         for other in records {
             if row == other {
@@ -227,8 +231,8 @@ impl Index {
         }
     }
 
-    /// The records that have the value: by keys, and of each key in the order of their insertion. One that is the only record
-    /// of its key is shared with the table, and each other copied.
+    /// The records that have the value: by keys, and of each key in the order of their insertion. They are shared with the
+    /// table.
     pub fn read(&self, alloc: Global, rows: &Rows, value: &Term) -> Result<SharedTerms, AllocError>
         requires index { IsIndexOf rows.now.1 self.now.position self.now.keys }
         requires ordered { is_ordered rows.now.1 ≡ true }

@@ -18,12 +18,13 @@ use std::alloc::{AllocError, Global};
 use std::marker::Model;
 use std::slice;
 use std::sync::Arc;
+use tab_lists::SharedTerms;
 use tab_map::{Entry, Iter, Map, Set};
 use tab_model::{Change, TableDef};
+use tab_records::Records;
 use tab_rows::Rows;
 use tab_schema::with_positions;
-use tab_shared::SharedTerms;
-use tab_term::{Term, Terms};
+use tab_term::Term;
 
 /// A table: its definition, which its versions share, its records, and their indexes.
 pub struct IndexedTable {
@@ -99,7 +100,7 @@ impl IndexedTable {
     }
 
     /// The keys in their order, each with its records in the order of their insertion.
-    pub fn walk<'a>(&'a self) -> Iter<'a, Term, Terms>
+    pub fn walk<'a>(&'a self) -> Iter<'a, Term, Records>
         ensures records { joined result ≡ self.now.rows }
         ensures order { IsInOrder result }
     {
@@ -114,7 +115,7 @@ impl IndexedTable {
     }
 
     /// The keys, each with its records in the order of their insertion.
-    pub fn records(&self) -> &Map<Term, Terms>
+    pub fn records(&self) -> &Map<Term, Records>
         ensures records { joined result.now ≡ self.now.rows }
         ensures order { IsInOrder result.now }
     {
@@ -122,15 +123,15 @@ impl IndexedTable {
     }
 
     /// The key with its records, in the order of their insertion. None where it has none.
-    pub fn entry(&self, key: &Term) -> Option<&Entry<Term, Terms>>
+    pub fn entry(&self, key: &Term) -> Option<&Entry<Term, Records>>
         ensures { MatchOption result (at self.now.rows (term key.now) ≡ []) (λ e. e.now.1 ≡ plain_terms (at self.now.rows (term key.now))) }
     {
         self.rows.entry(key)
     }
 
     /// The records of the key, in the order of their insertion, without memory.
-    pub fn at(&self, key: &Term) -> &[Term]
-        ensures { terms result.now ≡ plain_terms (at self.now.rows (term key.now)) }
+    pub fn at(&self, key: &Term) -> tab_records::Iter<'_>
+        ensures { result ≡ at self.now.rows (term key.now) }
     {
         self.rows.at(key)
     }
@@ -142,8 +143,8 @@ impl IndexedTable {
         self.rows.read(alloc, key)
     }
 
-    /// The records that have the value at the position: by keys, and of each key in the order of their insertion. One that is
-    /// the only record of its key is shared with the table, and each other copied. None where the position has no index.
+    /// The records that have the value at the position: by keys, and of each key in the order of their insertion. They are shared
+    /// with the table. None where the position has no index.
     pub fn index_read(
         &self,
         alloc: Global,
@@ -182,9 +183,8 @@ impl IndexedTable {
         None
     }
 
-    /// The records that fit the pattern: by keys, and of each key in the order of their insertion. Where all do, they are
-    /// shared with the table; else one that is the only record of its key is shared, and each other copied. Where no `'_'`
-    /// stands in the pattern's key, no other key is looked at.
+    /// The records that fit the pattern: by keys, and of each key in the order of their insertion. They are shared with the
+    /// table. Where no `'_'` stands in the pattern's key, no other key is looked at.
     pub fn match_object(&self, alloc: Global, pattern: &Term) -> Result<SharedTerms, AllocError>
         ensures { IfOk result (λ found. found ≡ plain_terms (match_object_in self.now.rows (term pattern.now))) }
     {
@@ -231,7 +231,7 @@ impl IndexedTable {
         &self,
         alloc: Global,
         changes: &[Change],
-        lent: Option<&Map<Term, Terms>>,
+        lent: Option<&Map<Term, Records>>,
     ) -> Result<IndexedTable, AllocError>
         ensures { IfOk result (λ table. table ≡ with_rows self.now (applied_in self.now.def.kind self.now.rows changes.now)) }
     {
@@ -244,7 +244,7 @@ impl IndexedTable {
         self,
         alloc: Global,
         changes: &[Change],
-        lent: Option<&Map<Term, Terms>>,
+        lent: Option<&Map<Term, Records>>,
     ) -> Result<IndexedTable, AllocError>
         ensures { IfOk result (λ table. table ≡ with_rows self (applied_in self.def.kind self.rows changes.now)) }
     {
@@ -266,7 +266,7 @@ impl IndexedTable {
         &mut self,
         alloc: Global,
         change: &Change,
-        lent: Option<&Map<Term, Terms>>,
+        lent: Option<&Map<Term, Records>>,
     ) -> Result<(), AllocError>
         ensures ok { OnOk result (self.new ≡ with_rows self.old (apply_in self.old.def.kind self.old.rows change.now)) }
         ensures err { OnErr result (self.new ≡ self.old) }
@@ -301,7 +301,7 @@ fn change_rows(
     alloc: Global,
     rows: &mut Rows,
     change: &Change,
-    lent: Option<&Map<Term, Terms>>,
+    lent: Option<&Map<Term, Records>>,
 ) -> Result<(), AllocError>
     ensures ok { OnOk result (rows.new ≡ (rows.old.0, apply_in rows.old.0 rows.old.1 change.now)) }
     ensures err { OnErr result (rows.new ≡ rows.old) }

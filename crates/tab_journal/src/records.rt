@@ -6,22 +6,20 @@ ghost use Rattle.tab_term.specs.View.{term};
 use std::marker::Model;
 use tab_index::IndexedTable;
 use tab_map::Iter;
-use tab_term::{Term, Terms};
+use tab_term::Term;
 
 /// A table's records in the order of their keys, seen as the list of those that are left.
 #[derive(Drop)]
 pub struct Records<'a> {
-    walk: Iter<'a, Term, Terms>,
+    walk: Iter<'a, Term, tab_records::Records>,
     // What is left of the key that was come to last.
-    left: &'a [Term],
+    left: tab_records::Iter<'a>,
 }
 
 impl<'a> Model for Records<'a> {
     ghost use Rattle.std.specs.Prelude.{◌++◌};
     ghost use Rattle.std.specs.Coded.{codes};
     ghost use Rattle.tab_term.specs.Code.{term_code, terms_code, pairs_code};
-    ghost use Rattle.tab_term.specs.View.{terms};
-    ghost use Rattle.tab_model.specs.Names.{terms_list};
     ghost use Rattle.tab_model.specs.Tables.{Rows};
     ghost use Rattle.tab_rows.specs.Joined.{joined};
 
@@ -29,7 +27,7 @@ impl<'a> Model for Records<'a> {
 
     ghost coded = { Prim.hlevel (codes, term_code, terms_code, pairs_code) };
 
-    ghost view = { λ a. terms_list (terms a.left.now) ++ joined a.walk };
+    ghost view = { λ a. a.left ++ joined a.walk };
 }
 
 impl<'a> Records<'a> {
@@ -38,7 +36,7 @@ impl<'a> Records<'a> {
     {
         Records {
             walk: table.walk(),
-            left: &[],
+            left: tab_records::Iter::over(&[]),
         }
     }
 
@@ -46,11 +44,11 @@ impl<'a> Records<'a> {
     pub fn take(&mut self) -> Option<&'a Term>
         ensures { MatchOption result ((self.old ≡ []) × (self.new ≡ [])) (λ row. self.old ≡ term row.now ∷ self.new) }
     {
-        while self.left.is_empty() {
-            self.left = self.walk.next()?.pair().1.as_slice();
+        loop {
+            if let Some(first) = self.left.next() {
+                return Some(first);
+            }
+            self.left = self.walk.next()?.pair().1.iter();
         }
-        let (first, rest) = self.left.split_first()?;
-        self.left = rest;
-        Some(first)
     }
 }

@@ -7,8 +7,8 @@ ghost use Rattle.tab_journal.specs.Audits.{is_done as is_done_of, is_found as is
 
 use crate::records::Records;
 use tab_index::IndexedTable;
+use tab_lists::SharedTerms;
 use tab_model::{Kind, Reply, TableDef, Told};
-use tab_shared::SharedTerms;
 use tab_term::{Atom, Term};
 use tab_world::World;
 

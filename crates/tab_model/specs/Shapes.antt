@@ -12,6 +12,7 @@ use Rattle.tab_model.specs.declared.data.Change.{Change}
 use Rattle.tab_model.specs.declared.data.Change.TheVariants as change
 use Rattle.tab_model.specs.declared.data.Event.{Event}
 use Rattle.tab_model.specs.Operations.{table_of_change}
+pub use Rattle.tab_lists.specs.EventTerms.{tid, five}
 
 -- the value of the program that a term is
 abbrev pub held : PlainTerm → Term
@@ -21,14 +22,6 @@ held (tuple ts) = is.Tuple ts
 held (list ts) = is.List ts
 held (bin b) = is.Bin b
 held (map ps) = is.Map ps
-
--- the activity id
-abbrev pub tid : ℕ → PlainTerm
-tid age = pair (atom (codes "tid")) (int (pos age))
-
--- a tuple of five elements
-abbrev pub five : PlainTerm → PlainTerm → PlainTerm → PlainTerm → PlainTerm → PlainTerm
-five a b c d e = tuple (one_more a (one_more b (one_more c (one_more d (one_more e none)))))
 
 -- the simple terms
 abbrev pub simple : Change → ℕ → PlainTerm

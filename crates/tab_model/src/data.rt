@@ -4,7 +4,7 @@ ghost use Rattle.tab_model.specs.declared.data.Reply.TheVariants as reply;
 ghost use Rattle.tab_model.specs.Shared.{is_found};
 
 use crate::lists::{Atoms, Moves, Numbers, Parts, Replies};
-use tab_shared::{Answers, SharedTerms};
+use tab_lists::{Answers, EventTerms, SharedTerms};
 use tab_term::{Atom, Term, Terms};
 
 /// The type of a table: a set keeps one record for each key, a bag several different ones (Mnesia Reference Manual,
@@ -103,7 +103,7 @@ pub enum Ending {
 /// end mark.
 pub enum Item {
     Began(Atom, Level, Option<SharedTerms>),
-    Batch(u64, SharedTerms),
+    Batch(u64, EventTerms),
     Ended(Atom, Ending),
 }
 

@@ -8,7 +8,7 @@ use crate::data::Reply;
 use std::alloc::{AllocError, Global};
 use std::marker::Model;
 use std::sync::Arc;
-use tab_shared::SharedTerms;
+use tab_lists::SharedTerms;
 
 /// A reply, alone or shared. It can be read, and nothing but a list be taken out, since others may
 /// read it too.

@@ -2,14 +2,14 @@
 
 ghost use Rattle.std.specs.Prelude.{◌≡◌, ◌∷◌, [], OnOk, OnErr, length, suc};
 ghost use Rattle.tab_term.specs.Data.{none};
-ghost use Rattle.tab_shared.specs.Answers.{answer_term};
+ghost use Rattle.tab_lists.specs.Answers.{answer_term};
 ghost use Rattle.tab_oneshot.specs.Attempts.{told, innermost};
 ghost use Rattle.tab_oneshot.specs.Parts.{Leaves};
 
 use std::alloc::{AllocError, Global};
 use std::marker::Model;
 use std::mem;
-use tab_shared::{Answer, Answers};
+use tab_lists::{Answer, Answers};
 
 /// The answers in the open levels: one level is always open. Contracts see them innermost first.
 pub struct Levels {

@@ -16,9 +16,9 @@ use crate::levels::Levels;
 use crate::steps::Steps;
 use crate::turn::Turn;
 use std::alloc::{AllocError, Global};
+use tab_lists::Answers;
 use tab_model::{Command, Operation, Part, Reply, Told};
 use tab_proto::answer_of;
-use tab_shared::Answers;
 use tab_term::Term;
 
 fn put_answer(alloc: Global, answer: Answer, levels: &mut Levels) -> Result<(), AllocError>
@@ -31,7 +31,7 @@ fn put_answer(alloc: Global, answer: Answer, levels: &mut Levels) -> Result<(), 
 fn put_inner(inner: Answers, levels: &mut Levels) -> Result<(), AllocError>
     ensures { OnOk result (levels.new ≡ told (reply_term (reply.AtomicTerms inner)) levels.old) }
 {
-    levels.put(tab_shared::Answer::Atomic(inner))
+    levels.put(tab_lists::Answer::Atomic(inner))
 }
 
 /// An operation's answer stands in its level.

@@ -8,9 +8,9 @@ ghost use Rattle.tab_operations.specs.Answers.{Answers, replied, reply_of};
 
 use std::alloc::{AllocError, Global};
 use tab_index::IndexedTable;
+use tab_lists::SharedTerms;
 use tab_model::{Operation, Reply};
 use tab_schema::{fits, has_index, position};
-use tab_shared::SharedTerms;
 use tab_term::{Atom, Term};
 use tab_txstore::TxStore;
 

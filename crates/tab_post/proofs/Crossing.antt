@@ -7,9 +7,10 @@ use denote.Param.SendFields.{as_row_send, declared_send, variants_send}
 use Rattle.std.proofs.alloc.Global.TheSendSync as global_marks
 use Rattle.std.below.std_heap.proofs.GlobalAllocator.TheSendSync as heap_marks
 use Rattle.tab_term.proofs.atom.Atom.TheSendSync as atom_marks
-use Rattle.tab_shared.proofs.Crossing.{SharedTerms-send}
+use Rattle.tab_lists.proofs.Crossing.{EventTerms-send, SharedTerms-send}
 use Rattle.tab_term.specs.contracts.atom.Atom as atom
-use Rattle.tab_shared.specs.contracts.shared_terms.SharedTerms as shared_terms
+use Rattle.tab_lists.specs.contracts.events.EventTerms as event_terms
+use Rattle.tab_lists.specs.contracts.shared_terms.SharedTerms as shared_terms
 use Rattle.tab_model.specs.contracts.data.Item as item
 use Rattle.tab_post.specs.contracts.post.ChannelPost as post
 use Rattle.tab_post.specs.contracts.rule.Hand as hand
@@ -27,8 +28,8 @@ use Rattle.tab_model.proofs.data.Level.TheSendSync as level_marks
 use Rattle.tab_model.proofs.data.Ending.TheSendSync as ending_marks
 use Rattle.std.proofs.option.Option.TheSendSync as option_marks
 
-events_field : IsSend (as_row (row_field shared_terms.the_row))
-events_field = as_row_send (row_field shared_terms.the_row) SharedTerms-send
+events_field : IsSend (as_row (row_field event_terms.the_row))
+events_field = as_row_send (row_field event_terms.the_row) EventTerms-send
 
 atom_field : IsSend (as_row atom.the_field)
 atom_field = as_row_send atom.the_field atom_marks.the_send

@@ -1,17 +1,24 @@
 -- Frames that are written one after another.
-use Rattle.std.proofs.Common.{◌≡◌, ℕ, ◌+◌, ◌^◌, ◌-◌, min, List, [], ◌∷◌, ◌++◌, length, take, Option, refl, sym, ap, ◌∙◌, append_assoc, arith, subst}
+use Rattle.std.proofs.Common.{◌≡◌, ℕ, suc, ◌+◌, ◌^◌, ◌-◌, ◌<◌, min, List, [], ◌∷◌, ◌++◌, length, take, drop, get_or, add-one, Option, refl, sym, ap, ◌∙◌, append_assoc, arith, subst}
 use Rattle.std.specs.Prelude.{Result, Ok, Err, IfErr}
 use Rattle.std.specs.Io.KnownBytes.{Appends}
 use Rattle.std.proofs.lemmas.List.{append-nil, take_min, take-append-le}
-use Rattle.std.proofs.Math.Seq.{take-append-add}
+use Rattle.std.proofs.Math.Seq.{drop-cons, take-append-add}
 use Rattle.tab_term.specs.Canon.{canon}
 use Rattle.tab_term.specs.Data.{PlainTerm, PlainTerms, one_more}
+use Rattle.tab_lists.specs.declared.events.EventTerm.{EventTerm}
+use Rattle.tab_lists.specs.EventTerms.{event_term, event_terms}
 use Rattle.tab_etf.specs.Frames.{frame}
 use Rattle.tab_etf.specs.Writing.{IsUnwritten}
 use Rattle.tab_etf.specs.declared.framing.FrameFault.{FrameFault}
 use Rattle.tab_etf.specs.declared.framing.FrameFault.TheVariants.{FrameTooLong, CutOff, Device, NoMemory}
 use Rattle.tab_etf.proofs.KnownBytesLemmas.{Appends-none, Appends-then}
 use Rattle.tab_proto.specs.Events.{event_frames, IsUnsent}
+
+-- the first of the events that are left
+pub events_first : (es : List EventTerm) (i : ℕ) (e : EventTerm) → i < length es → e ≡ get_or es i e → event_terms (drop i es) ≡ one_more (event_term e) (event_terms (drop (i + 1) es))
+events_first es i e lt is =
+    ap event_terms (drop-cons es i e lt ∙ ap (λ x. x ∷ drop (suc i) es) (sym is)) ∙ ap (λ n. one_more (event_term e) (event_terms (drop n es))) (sym (add-one i))
 
 -- frames of which the first are written, and the rest comes next
 pub record Sending (all rest : List ℕ) (old new : Option (List ℕ)) (faults faults' : ℕ) : Type 0 where

@@ -4,16 +4,17 @@ ghost use Rattle.std.specs.Prelude.{◌≡◌, ◌++◌, ◌∷◌, OnOk, IfErr}
 ghost use Rattle.std.specs.Io.KnownBytes.{Appends};
 ghost use Rattle.tab_model.specs.declared.data.Reply.TheVariants as told;
 ghost use Rattle.tab_term.specs.Canon.{canon};
+ghost use Rattle.tab_lists.specs.EventTerms.{event_term};
 ghost use Rattle.tab_etf.specs.Frames.{frame};
 ghost use Rattle.tab_proto.specs.Events.{event_frames, item_frames, sent_frames, IsUnsent};
-ghost use Rattle.tab_proto.specs.Replies.{item_term, reply_term};
+ghost use Rattle.tab_proto.specs.Replies.{item_term, reply_term, IsOutlineOf};
 
 use crate::replying::{item_outline, outline_of};
 use tab_etf::{
-    EncodeFault, FrameFault, Target, append_frame, append_outline, write_frame, write_outline,
+    Body, EncodeFault, FrameFault, Leaf, Outline, Target, append_outline, write_outline,
 };
+use tab_lists::{EventTerm, EventTerms};
 use tab_model::{Item, Reply};
-use tab_shared::SharedTerms;
 
 /// How a commit's events are sent.
 #[derive(Clone, Copy, Debug, PartialEq, Eq)]
@@ -44,13 +45,24 @@ fn append_apart(item: &Item, out: &mut Vec<u8>) -> Result<(), EncodeFault>
     }
 }
 
-fn append_events(events: &SharedTerms, out: &mut Vec<u8>) -> Result<(), EncodeFault>
+fn append_events(events: &EventTerms, out: &mut Vec<u8>) -> Result<(), EncodeFault>
     ensures { OnOk result (out.new.items ≡ out.old.items ++ event_frames events.now) }
 {
-    for event in events.iter() {
-        append_frame(event, out)?;
+    for event in events.as_slice() {
+        append_outline(&event_outline(event.event()), out)?;
     }
     Ok(())
+}
+
+/// An event alone.
+fn event_outline(event: &EventTerm) -> Outline<'_>
+    ensures { IsOutlineOf result (event_term event.now) }
+{
+    Outline {
+        first: None,
+        second: None,
+        body: Body::One(Leaf::event(event)),
+    }
 }
 
 /// Writes the frames that `append_item` adds, one after another, and builds none.
@@ -84,13 +96,13 @@ fn write_apart<W: Target>(device: &mut W, item: &Item) -> Result<(), FrameFault>
     }
 }
 
-fn write_events<W: Target>(device: &mut W, events: &SharedTerms) -> Result<(), FrameFault>
+fn write_events<W: Target>(device: &mut W, events: &EventTerms) -> Result<(), FrameFault>
     ensures ok { OnOk result (Appends (W.contents device.old) (W.contents device.new) (event_frames events.now)) }
     ensures same { OnOk result (W.faults device.new ≡ W.faults device.old) }
     ensures err { IfErr result (λ e. IsUnsent e (event_frames events.now) (W.contents device.old) (W.contents device.new) (W.faults device.old) (W.faults device.new)) }
 {
-    for event in events.iter() {
-        write_frame(device, event)?;
+    for event in events.as_slice() {
+        write_outline(device, &event_outline(event.event()))?;
     }
     Ok(())
 }

@@ -14,8 +14,8 @@ ghost use Rattle.tab_proto.specs.Replies.{reply_term as reply_term_of, item_term
 use tab_etf::{
     Body, EncodeFault, FrameFault, Leaf, Outline, Target, append_outline, write_outline,
 };
+use tab_lists::SharedTerms;
 use tab_model::{Ending, Item, Kind, Level, Limit, Reply, TableInfo};
-use tab_shared::SharedTerms;
 use tab_term::{Atom, Term};
 
 /// Writes the frame of `{Session, Reply}`, or of `{reply, Reply}` where no session is named.
@@ -242,7 +242,7 @@ pub(crate) fn item_outline(item: &Item) -> Outline<'_>
         }
         Item::Began(table, level, Some(records)) => dump_outline(table, *level, records),
         Item::Batch(commits, events) => {
-            told_of("batch", Leaf::Number(*commits), Leaf::shared(events))
+            told_of("batch", Leaf::Number(*commits), Leaf::events(events))
         }
         Item::Ended(table, ending) => {
             told_of(

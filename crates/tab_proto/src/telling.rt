@@ -2,13 +2,13 @@
 
 ghost use Rattle.std.specs.Prelude.{◌≡◌, IfOk, true, false};
 ghost use Rattle.tab_model.specs.Shared.{is_found};
-ghost use Rattle.tab_shared.specs.Answers.{answer_term};
+ghost use Rattle.tab_lists.specs.Answers.{answer_term};
 ghost use Rattle.tab_proto.specs.Replies.{reply_term, is_told};
 
 use crate::building::{name, pair, triple, word};
 use std::alloc::{AllocError, Global};
+use tab_lists::Answer;
 use tab_model::{Reply, Told};
-use tab_shared::Answer;
 
 /// The answer that a reply to an operation or to an abort is. A list is handed on as it stands:
 /// memory is taken for the reason of an abort alone.

@@ -13,7 +13,7 @@ use Rattle.tab_term.specs.declared.term.Term.{Term}
 use Rattle.tab_term.specs.View.{term}
 use Rattle.tab_term.specs.Canon.{canon}
 use Rattle.tab_term.specs.Data.{PlainTerm, PlainTerms}
-pub use Rattle.tab_shared.proofs.ListsLemmas.{plain-list}
+pub use Rattle.tab_lists.proofs.ListsLemmas.{plain-list}
 use Rattle.tab_term.specs.OrderLaws.{canon_same}
 use Rattle.tab_term.specs.Same.{same, same-Decides}
 use Rattle.tab_map.specs.Entries.{lookup, insert_entry, remove_entry, AllAbove, Ascends}
@@ -29,7 +29,7 @@ use Rattle.tab_model.specs.declared.data.Change.{Change}
 use Rattle.tab_model.proofs.TableLaws.{same_true, same_refl, same_lists}
 use Rattle.tab_model.proofs.ChangeLaws.{at-apply, ordered-apply, none_left, at_end, any_at}
 use Rattle.tab_rows.specs.Joined.{Entry, joined, IsKeyed, AllKeyed, IsInOrder, followed_by}
-use Rattle.tab_rows.proofs.LookUps.{lookup_above, lookup_insert, lookup_remove}
+use Rattle.tab_records.proofs.LookUps.{lookup_above, lookup_insert, lookup_remove}
 use Rattle.tab_model.proofs.ShapeLaws.{term_held}
 use Rattle.tab_term.specs.Order.{term_cmp}
 use Rattle.tab_term.proofs.Total.{term_total}
@@ -90,9 +90,9 @@ at-joined (e ∷ es) q s k = filter-append (has_key (term q)) (terms_list e.1) (
   where
     cases : at (joined es) (term q) ≡ found_in (lookup term_cmp q es) → (c : Ordering) → term_cmp q e.0 ≡ c → at (terms_list e.1) (term q) ++ at (joined es) (term q) ≡ found_in (match_ordering c None (Some e.1) (lookup term_cmp q es))
     cases ih Less h = ap₂ (λ xs ys. xs ++ ys) (at_other (term e.0) (term q) (terms_list e.1) (unequal_from q e.0 Less h (λ g. cc)) k.0.keyed)
-        (at_above q es (Rattle.tab_rows.proofs.LookUps.below_all term_total q e.0 es h s.0) k.1)
+        (at_above q es (Rattle.tab_records.proofs.LookUps.below_all term_total q e.0 es h s.0) k.1)
     cases ih Equal h = ap₂ (λ xs ys. xs ++ ys) (at_same (term e.0) (term q) (terms_list e.1) (ap (same (term e.0)) (same_true (term q) (term e.0) (equal_same q e.0 h)) ∙ same_refl (term e.0)) k.0.keyed)
-        (at_above q es (Rattle.tab_rows.proofs.LookUps.at_all term_total q e.0 es h s.0) k.1) ∙ append-nil (terms_list e.1)
+        (at_above q es (Rattle.tab_records.proofs.LookUps.at_all term_total q e.0 es h s.0) k.1) ∙ append-nil (terms_list e.1)
     cases ih Greater h = ap₂ (λ xs ys. xs ++ ys) (at_other (term e.0) (term q) (terms_list e.1) (unequal_from q e.0 Greater h (λ g. cc)) k.0.keyed) ih
 
 -- ---- they stand in canonical order

@@ -1,11 +1,10 @@
--- A slice of one record.
-use Rattle.std.proofs.Common.{◌≡◌, ◌≤◌, ◌<◌, List, [], ◌∷◌, length, get_or, refl, sym, ap, ◌∙◌, arith}
-use Rattle.tab_term.specs.declared.term.Term.{Term}
-use Rattle.tab_term.specs.Data.{PlainTerms}
-use Rattle.tab_term.specs.View.{term, terms}
+-- Records of which there is one.
+use Rattle.std.proofs.Common.{◌≡◌, List, [], ◌∷◌, refl, sym, ap, ◌∙◌, arith}
+use Rattle.tab_term.specs.Data.{PlainTerm, PlainTerms, none, one_more, count}
 use Rattle.tab_model.specs.Names.{terms_list}
+use Rattle.tab_records.specs.Forms.{first_of}
 
-pub one_record : (ts : List Term) (us : PlainTerms) (x : Term) → 1 ≤ length ts → length ts < 2 → x ≡ get_or ts 0 x → terms ts ≡ us → terms_list us ≡ term x ∷ []
-one_record [] us x least most is h = absurd (omega (arith, least))
-one_record (t ∷ []) us x least most is h = ap terms_list (sym h) ∙ ap (λ y. term y ∷ []) (sym is)
-one_record (t ∷ u ∷ ts) us x least most is h = absurd (omega (arith, most))
+pub only_first : (ts : PlainTerms) (x : PlainTerm) → first_of ts ≡ x ∷ [] → count ts ≡ 1 → terms_list ts ≡ x ∷ []
+only_first none x h one = absurd (omega (arith, one))
+only_first (one_more t none) x h one = h
+only_first (one_more t (one_more u us)) x h one = absurd (omega (arith, one))

@@ -12,7 +12,7 @@ use Rattle.tab_map.specs.Entries.{AllAbove, Ascends}
 use Rattle.tab_model.specs.Names.{terms_list}
 use Rattle.tab_model.specs.Tables.{Rows, key, has_key, keys}
 use Rattle.tab_model.proofs.TableLaws.{same_true, same_refl}
-use Rattle.tab_shared.specs.ByKey.{is_filled, filled_keys}
+use Rattle.tab_lists.specs.ByKey.{is_filled, filled_keys}
 use Rattle.tab_rows.specs.Joined.{Entry, joined, AllKeyed}
 use Rattle.tab_rows.proofs.Cells.{unequal}
 

@@ -4,8 +4,8 @@ use Rattle.std.specs.Prelude.{if◌then◌else◌}
 use Rattle.std.specs.List.{filter}
 use Rattle.std.specs.Ordering.{match_ordering}
 use Rattle.tab_term.specs.declared.term.Term.{Term}
-use Rattle.tab_term.specs.View.{term, terms}
-use Rattle.tab_term.specs.Data.{PlainTerm, PlainTerms}
+use Rattle.tab_term.specs.View.{term}
+use Rattle.tab_term.specs.Data.{PlainTerm, PlainTerms, none, one_more, count}
 use Rattle.tab_term.specs.Order.{term_cmp}
 use Rattle.tab_term.specs.Same.{same}
 use Rattle.tab_map.specs.Entries.{lookup, insert_entry, remove_entry}
@@ -14,24 +14,16 @@ use Rattle.tab_model.specs.Tables.{Rows, has_key, at, delete_object}
 use Rattle.tab_rows.specs.Joined.{Entry, joined, IsKept}
 use Rattle.tab_rows.proofs.Cells.{found_in, at-joined}
 
-pub length-terms : (ts : List Term) → length (terms_list (terms ts)) ≡ length ts
-length-terms [] = refl
-length-terms (t ∷ ts) = ap suc (length-terms ts)
+pub count-list : (ts : PlainTerms) → count ts ≡ length (terms_list ts)
+count-list none = refl
+count-list (one_more t ts) = ap suc (count-list ts)
 
-length-plain : (xs : Rows) → length (terms_list (plain_terms xs)) ≡ length xs
-length-plain [] = refl
-length-plain (x ∷ xs) = ap suc (length-plain xs)
+pub count-none : (ts : PlainTerms) → terms_list ts ≡ [] → count ts ≡ 0
+count-none ts e = count-list ts ∙ ap length e
 
-pub none_shown : (ts : List Term) (us : PlainTerms) → terms ts ≡ us → length ts ≡ 0 → terms_list us ≡ []
-none_shown [] us e h = ap terms_list (sym e)
-none_shown (t ∷ ts) us e h = absurd (omega (arith, h))
-
-pub length_of_shown : (ts : List Term) (us : PlainTerms) → terms ts ≡ us → length ts ≡ length (terms_list us)
-length_of_shown ts us e = sym (length-terms ts) ∙ ap (λ z. length (terms_list z)) e
-
--- a slice that shows records has as many items
-pub length_shown : (ts : List Term) (xs : Rows) → terms ts ≡ plain_terms xs → length ts ≡ length xs
-length_shown ts xs e = sym (length-terms ts) ∙ ap (λ z. length (terms_list z)) e ∙ length-plain xs
+pub none_counted : (ts : PlainTerms) → count ts ≡ 0 → terms_list ts ≡ []
+none_counted none e = refl
+none_counted (one_more t ts) e = absurd (omega (arith, e))
 
 some_of : (p : PlainTerm → Bool) (rows : Rows) → length (filter p rows) ≤ length rows
 some_of p [] = omega arith

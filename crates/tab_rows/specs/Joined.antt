@@ -7,7 +7,7 @@ use Rattle.tab_map.specs.Entries.{Ascends}
 use Rattle.tab_model.specs.Names.{plain_terms, terms_list}
 use Rattle.tab_model.specs.Tables.{has_key, key}
 use Rattle.tab_term.specs.Order.{term_cmp}
-pub use Rattle.tab_shared.specs.ByKey.{Entry, joined}
+pub use Rattle.tab_lists.specs.ByKey.{Entry, joined}
 
 -- a key has records, and they have that key
 pub record IsKeyed (e : Entry) : Type 0 where

@@ -1,48 +1,29 @@
-//! One more record of a key, in place where no other table holds the key's records.
-ghost use Rattle.std.specs.Prelude.{◌≡◌, [], ◌∷◌, ◌++◌, IfOk, OnOk, OnErr};
-ghost use Rattle.tab_term.specs.View.{term, terms};
-ghost use Rattle.tab_model.specs.Names.{plain_terms, terms_list};
-ghost use Rattle.tab_rows.specs.Joined.{followed_by};
+//! One more record of a key, unless an equal one is there, in place where no other table holds the key's records.
+ghost use Rattle.std.specs.Prelude.{◌≡◌};
+ghost use Rattle.tab_term.specs.View.{term};
+ghost use Rattle.tab_records.specs.Forms.{with_one};
 
-use crate::rows::copies;
 use std::alloc::{AllocError, Global};
-use std::mem;
 use tab_map::Revise;
-use tab_term::{Term, Terms};
+use tab_records::Records;
+use tab_term::Term;
 
-/// Puts a record after the others of its key.
+/// Puts a record after the others of its key, unless an equal one is among them.
 #[derive(Drop)]
 pub struct Append {
     pub row: Term,
 }
 
-impl Revise<Terms> for Append {
-    ghost becomes = { λ a records. followed_by records (term a.row) };
+impl Revise<Records> for Append {
+    ghost becomes = { λ a records. with_one records (term a.row) };
 
-    fn revise(self, alloc: Global, records: &mut Terms) -> Result<(), AllocError> {
-        push(alloc, records, self.row)
+    fn revise(self, alloc: Global, records: &mut Records) -> Result<(), AllocError> {
+        records.insert(alloc, self.row)
     }
 
-    fn revised(self, alloc: Global, records: &Terms) -> Result<Terms, AllocError> {
-        copies_and(alloc, records.as_slice(), self.row)
+    fn revised(self, alloc: Global, records: &Records) -> Result<Records, AllocError> {
+        let mut all = records.try_clone(alloc)?;
+        all.insert(alloc, self.row)?;
+        Ok(all)
     }
-}
-
-fn push(alloc: Global, records: &mut Terms, row: Term) -> Result<(), AllocError>
-    ensures ok { OnOk result (records.new ≡ followed_by records.old (term row)) }
-    ensures err { OnErr result (records.new ≡ records.old) }
-{
-    let mut items = mem::replace(records, Terms::from_vec(Vec::new(alloc))).into_vec();
-    let pushed = items.push(row);
-    *records = Terms::from_vec(items);
-    pushed?;
-    Ok(())
-}
-
-fn copies_and(alloc: Global, records: &[Term], row: Term) -> Result<Terms, AllocError>
-    ensures { IfOk result (λ all. all ≡ followed_by (terms records.now) (term row)) }
-{
-    let mut all = copies(alloc, records)?.into_vec();
-    all.push(row)?;
-    Ok(Terms::from_vec(all))
 }

@@ -1,6 +1,6 @@
 //! A record as the only one of its key.
 
-ghost use Rattle.std.specs.Prelude.{◌≡◌, [], ◌∷◌, IfOk, IfSome, MatchOption};
+ghost use Rattle.std.specs.Prelude.{◌≡◌, [], ◌∷◌, IfOk, IfSome, true};
 ghost use Rattle.std.specs.Option.{option_copied};
 ghost use Rattle.tab_term.specs.View.{term};
 ghost use Rattle.tab_model.specs.Names.{terms_list};
@@ -9,6 +9,7 @@ ghost use Rattle.tab_rows.specs.Joined.{IsOnly};
 
 use std::alloc::{AllocError, Global};
 use tab_map::{Entry, Map};
+use tab_records::Records;
 use tab_term::{Term, Terms};
 
 /// The record's key, its second element.
@@ -34,33 +35,35 @@ pub fn copy_of_key(alloc: Global, row: &Term) -> Result<Term, AllocError>
     }
 }
 
-fn only(alloc: Global, row: Term) -> Result<Terms, AllocError>
-    ensures { IfOk result (λ records. terms_list records ≡ term row ∷ []) }
+// Whether this is the one record among these.
+fn is_only(records: &Records, row: &Term) -> bool
+    ensures { result ≡ true → terms_list records.now ≡ term row.now ∷ [] }
 {
-    let mut records = Vec::with_capacity(alloc, 1)?;
-    records.push_reserved(row);
-    Ok(Terms::from_vec(records))
+    match records.first() {
+        Some(first) => records.len() == 1 && first == row,
+        None => false,
+    }
 }
 
 // The entry that has just this record.
-fn entry_with<'a>(records: &'a Map<Term, Terms>, row: &Term) -> Option<&'a Entry<Term, Terms>>
+fn entry_with<'a>(records: &'a Map<Term, Records>, row: &Term) -> Option<&'a Entry<Term, Records>>
     ensures { IfSome (option_copied result) (IsOnly (term row.now)) }
 {
     let key = key_in(row)?;
     let entry = records.get_entry(key)?;
     let (own, records) = entry.pair();
-    match records.as_slice() {
-        [only] if only == row && own == key => Some(entry),
-        _ => None,
+    if is_only(records, row) && own == key {
+        return Some(entry);
     }
+    None
 }
 
 /// The record as the only one of its key, in the entry that is lent where there is one, or in one of its own.
 pub fn entry_of(
     alloc: Global,
     row: &Term,
-    lent: Option<&Map<Term, Terms>>,
-) -> Result<Entry<Term, Terms>, AllocError>
+    lent: Option<&Map<Term, Records>>,
+) -> Result<Entry<Term, Records>, AllocError>
     ensures { IfOk result (IsOnly (term row.now)) }
 {
     if let Some(records) = lent {
@@ -69,6 +72,5 @@ pub fn entry_of(
         }
     }
     let key = copy_of_key(alloc, row)?;
-    let records = only(alloc, row.try_clone(alloc)?)?;
-    Entry::new(alloc, (key, records))
+    Entry::new(alloc, (key, Records::only(row.try_clone(alloc)?)))
 }

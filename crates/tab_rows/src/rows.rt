@@ -13,15 +13,16 @@ use crate::append::Append;
 use crate::entries::{copy_of_key, entry_of};
 use std::alloc::{AllocError, Global};
 use std::marker::Model;
+use tab_lists::SharedTerms;
 use tab_map::{Entry, Iter, Map};
 use tab_model::Kind;
-use tab_shared::SharedTerms;
+use tab_records::Records;
 use tab_term::{Term, Terms};
 
 /// The records of one table.
 pub struct Rows {
     kind: Kind,
-    records: Map<Term, Terms>,
+    records: Map<Term, Records>,
     // Of all keys together.
     size: usize,
 }
@@ -93,7 +94,7 @@ impl Rows {
     }
 
     /// The keys in their order, each with its records in the order of their insertion.
-    pub fn walk<'a>(&'a self) -> Iter<'a, Term, Terms>
+    pub fn walk<'a>(&'a self) -> Iter<'a, Term, Records>
         ensures records { joined result ≡ self.now.1 }
         ensures order { IsInOrder result }
     {
@@ -108,7 +109,7 @@ impl Rows {
     }
 
     /// The keys, each with its records in the order of their insertion.
-    pub fn records(&self) -> &Map<Term, Terms>
+    pub fn records(&self) -> &Map<Term, Records>
         ensures records { joined result.now ≡ self.now.1 }
         ensures order { IsInOrder result.now }
     {
@@ -116,19 +117,19 @@ impl Rows {
     }
 
     /// The key with its records, in the order of their insertion. None where it has none.
-    pub fn entry(&self, key: &Term) -> Option<&Entry<Term, Terms>>
+    pub fn entry(&self, key: &Term) -> Option<&Entry<Term, Records>>
         ensures { MatchOption result (at self.now.1 (term key.now) ≡ []) (λ e. e.now.1 ≡ plain_terms (at self.now.1 (term key.now))) }
     {
         self.records.get_entry(key)
     }
 
     /// The records of the key, in the order of their insertion, without memory.
-    pub fn at(&self, key: &Term) -> &[Term]
-        ensures { terms result.now ≡ plain_terms (at self.now.1 (term key.now)) }
+    pub fn at(&self, key: &Term) -> tab_records::Iter<'_>
+        ensures { result ≡ at self.now.1 (term key.now) }
     {
         match self.entry(key) {
-            Some(entry) => entry.pair().1.as_slice(),
-            None => &[],
+            Some(entry) => entry.pair().1.iter(),
+            None => tab_records::Iter::over(&[]),
         }
     }
 
@@ -136,7 +137,20 @@ impl Rows {
         ensures count { result ≡ length (at self.now.1 (term key.now)) }
         ensures within { result ≤ length self.now.1 }
     {
-        self.at(key).len()
+        match self.entry(key) {
+            Some(entry) => entry.pair().1.len(),
+            None => 0,
+        }
+    }
+
+    // The records of the key but those that are equal to this one.
+    fn others_at(&self, alloc: Global, key: &Term, row: &Term) -> Result<Records, AllocError>
+        ensures { IfOk result (λ left. left ≡ plain_terms (delete_object_in (at self.now.1 (term key.now)) (term row.now))) }
+    {
+        match self.entry(key) {
+            Some(entry) => entry.pair().1.without(alloc, row),
+            None => Ok(Records::new()),
+        }
     }
 
     /// The records of the key, in the order of their insertion: they are shared with this, and no memory taken.
@@ -156,7 +170,7 @@ impl Rows {
         &mut self,
         alloc: Global,
         row: &Term,
-        lent: Option<&Map<Term, Terms>>,
+        lent: Option<&Map<Term, Records>>,
     ) -> Result<(), AllocError>
         ensures ok { OnOk result (self.new ≡ (self.old.0, put_in self.old.0 self.old.1 (term row.now))) }
         ensures err { OnErr result (self.new ≡ self.old) }
@@ -171,7 +185,7 @@ impl Rows {
         &mut self,
         alloc: Global,
         row: &Term,
-        lent: Option<&Map<Term, Terms>>,
+        lent: Option<&Map<Term, Records>>,
     ) -> Result<(), AllocError>
         requires kind { self.old.0 ≡ Kind.Set }
         ensures ok { OnOk result (self.new ≡ (self.old.0, put_in self.old.0 self.old.1 (term row.now))) }
@@ -188,7 +202,7 @@ impl Rows {
         &mut self,
         alloc: Global,
         row: &Term,
-        lent: Option<&Map<Term, Terms>>,
+        lent: Option<&Map<Term, Records>>,
     ) -> Result<(), AllocError>
         requires kind { self.old.0 ≡ Kind.Bag }
         ensures ok { OnOk result (self.new ≡ (self.old.0, put_in self.old.0 self.old.1 (term row.now))) }
@@ -198,7 +212,7 @@ impl Rows {
         let Some(records) = self.records.get(&key) else {
             return self.add_first(alloc, row, lent);
         };
-        if contains(records.as_slice(), row) {
+        if records.contains(row) {
             return Ok(());
         }
         let size = one_more(self.size)?;
@@ -212,7 +226,7 @@ impl Rows {
         &mut self,
         alloc: Global,
         row: &Term,
-        lent: Option<&Map<Term, Terms>>,
+        lent: Option<&Map<Term, Records>>,
     ) -> Result<(), AllocError>
         requires kind { self.old.0 ≡ Kind.Bag }
         requires absent { at self.old.1 (key_of_row (term row.now)) ≡ [] }
@@ -243,9 +257,9 @@ impl Rows {
         ensures err { OnErr result (self.new ≡ self.old) }
     {
         let key = copy_of_key(alloc, row)?;
-        let left = copies_but(alloc, self.at(&key), row)?;
-        let size = self.size - self.count_at(&key) + left.as_slice().len();
-        if left.as_slice().is_empty() {
+        let left = self.others_at(alloc, &key, row)?;
+        let size = self.size - self.count_at(&key) + left.len();
+        if left.len() == 0 {
             self.records.remove(alloc, &key)?;
             self.size = size;
             return Ok(());
@@ -258,9 +272,9 @@ impl Rows {
 
 // Puts the entry at its key, and tells how many records stood there: one search for both.
 fn replace(
-    by_key: &mut Map<Term, Terms>,
+    by_key: &mut Map<Term, Records>,
     alloc: Global,
-    entry: Entry<Term, Terms>,
+    entry: Entry<Term, Records>,
 ) -> Result<usize, AllocError>
     requires { IsInOrder by_key.old }
     ensures ok { OnOk result (by_key.new ≡ insert_entry term_cmp entry by_key.old) }
@@ -269,7 +283,7 @@ fn replace(
     ensures err { OnErr result (by_key.new ≡ by_key.old) }
 {
     match by_key.replace_entry(alloc, entry)? {
-        Some(entry) => Ok(entry.pair().1.as_slice().len()),
+        Some(entry) => Ok(entry.pair().1.len()),
         None => Ok(0),
     }
 }
@@ -279,39 +293,4 @@ fn one_more(size: usize) -> Result<usize, AllocError>
     ensures { IfOk result (λ more. more ≡ size + 1) }
 {
     size.checked_add(1).ok_or(AllocError)
-}
-
-/// Whether an equal record is among these.
-pub fn contains(records: &[Term], row: &Term) -> bool
-    ensures { result ≡ list_any (same (term row.now)) (terms_list (terms records.now)) }
-{
-    for other in records {
-        if row == other {
-            return true;
-        }
-    }
-    false
-}
-
-fn copies_but(alloc: Global, records: &[Term], row: &Term) -> Result<Terms, AllocError>
-    ensures { IfOk result (λ left. terms_list left ≡ delete_object_in (terms_list (terms records.now)) (term row.now)) }
-{
-    let mut left = Vec::with_capacity(alloc, records.len())?;
-    for other in records {
-        if row != other {
-            left.push(other.try_clone(alloc)?)?;
-        }
-    }
-    Ok(Terms::from_vec(left))
-}
-
-/// The same records once more.
-pub fn copies(alloc: Global, records: &[Term]) -> Result<Terms, AllocError>
-    ensures { IfOk result (λ copy. copy ≡ terms records.now) }
-{
-    let mut copies = Vec::with_capacity(alloc, records.len())?;
-    for row in records {
-        copies.push(row.try_clone(alloc)?)?;
-    }
-    Ok(Terms::from_vec(copies))
 }

@@ -3,10 +3,11 @@
 use crate::answers::Unwritten;
 use crate::gate::{Count, Note, Notes};
 use crate::kept::{KEPT, empty};
-use crate::pieces::{reaches, send_pieces};
+use crate::pieces::{passes, reaches, send_pieces};
 use std::alloc::Global;
 use std::io::Write;
 use tab_book::{Drained, Seat, Shared};
+use tab_etf::event_len;
 use tab_model::Item;
 use tab_named::SeatInbox;
 use tab_names::House;
@@ -50,8 +51,12 @@ pub fn event_loop<H: House, W: Write, N: Notes>(
 fn is_long(item: &Item) -> bool {
     let mut len = 0;
     match item {
-        Item::Began(_, _, Some(terms)) | Item::Batch(_, terms) => {
-            terms.iter().any(|term| reaches(&mut len, term))
+        Item::Began(_, _, Some(terms)) => { terms.iter().any(|term| reaches(&mut len, term)) }
+        Item::Batch(_, events) => {
+            events
+                .as_slice()
+                .iter()
+                .any(|event| passes(&mut len, event_len(event.event())))
         }
         _ => false,
     }

@@ -9,7 +9,12 @@ use tab_term::Term;
 
 /// Whether a length is more than what is kept once this term is added to it.
 pub fn reaches(len: &mut u64, term: &Term) -> bool {
-    *len = len.saturating_add(encoded_len(term).unwrap_or(u64::MAX));
+    passes(len, encoded_len(term).unwrap_or(u64::MAX))
+}
+
+/// Whether a length is more than what is kept once so many bytes are added to it.
+pub fn passes(len: &mut u64, more: u64) -> bool {
+    *len = len.saturating_add(more);
     *len > KEPT as u64
 }
 

@@ -3,7 +3,7 @@ use Rattle.std.proofs.Common.{◌≡◌, ◌≢◌, ◌+◌, ℕ, zero, suc, ◌
 use Rattle.std.specs.Prelude.{Option, Some, filter_map}
 use Rattle.std.proofs.lemmas.List.{append_assoc, append-nil}
 use Rattle.std.proofs.Math.Seq.{drop-cons}
-use Rattle.tab_term.specs.Data.{PlainTerm, PlainTerms}
+use Rattle.tab_term.specs.Data.{PlainTerm, PlainTerms, none, one_more, count, terms_list}
 use Rattle.tab_model.specs.declared.data.Event.{Event}
 use Rattle.tab_model.specs.declared.data.Item.TheVariants.{Batch}
 use Rattle.tab_model.specs.Names.{plain_terms}
@@ -41,6 +41,16 @@ pub batch_told : (n : ℕ) (f : Event → Option PlainTerm) (es : List Event) (i
 batch_told n f es i ts x le some e told =
     ap (λ z. Batch n z ∷ []) e ∙ sym (batch_of n ts some)
     ∙ ap (as_batch n) (sym (append-nil ts) ∙ ap (λ z. ts ++ filter_map f z) (sym (all_dropped es i le)) ∙ told)
+
+-- no event was told
+pub none_told : (n : ℕ) (f : Event → Option PlainTerm) (es : List Event) (i : ℕ) (ts : List PlainTerm) → length es ≤ i → length ts ≡ 0
+    → ts ++ filter_map f (drop i es) ≡ filter_map f es → [] ≡ as_batch n (filter_map f es)
+none_told n f es i [] le empty told = ap (as_batch n) (ap (filter_map f) (sym (all_dropped es i le)) ∙ told)
+none_told n f es i (t ∷ ts) le empty told = absurd (omega (arith, empty))
+
+pub count-list : (ts : PlainTerms) → count ts ≡ length (terms_list ts)
+count-list none = refl
+count-list (one_more t ts) = ap suc (count-list ts)
 
 -- all that was to be made of a list, at the end
 pub all_made : {X Y : Type 0} (f : List X → List Y) (made : List Y) (xs : List X) (i : ℕ) → f [] ≡ [] → length xs ≤ i → made ++ f (drop i xs) ≡ f xs → made ≡ f xs

@@ -17,9 +17,9 @@ use crate::watched::{Watched, forget, level_of};
 use std::alloc::{AllocError, Global};
 use std::marker::Model;
 use tab_events::{Item, Level};
+use tab_lists::{EventTerms, SharedTerms};
 use tab_model::Ending;
 use tab_outbox::{Mailbox, Met, Post};
-use tab_shared::SharedTerms;
 use tab_term::Atom;
 
 /// A session's seat.
@@ -163,17 +163,17 @@ impl<P: Post + Drop> Seat<P> {
         ensures item { IfOk result (λ item. option_to_list item ≡ batch_for (level_in self.now.watching) commit events.old.items) }
         ensures events { OnOk result (events.new.items ≡ events.old.items) }
     {
-        let mut told = Vec::new(alloc);
+        let mut told = EventTerms::new(alloc);
         for event in events.iter_mut() {
             let Some(level) = self.level(event.table()) else {
                 continue;
             };
-            told.push(event.term(alloc, level)?)?;
+            told.push(event.told(alloc, level)?)?;
         }
         if told.is_empty() {
             return Ok(None);
         }
-        Ok(Some(Item::Batch(commit, SharedTerms::from_vec(told))))
+        Ok(Some(Item::Batch(commit, told)))
     }
 
     /// The mark of a table's deletion, where the session watches it.

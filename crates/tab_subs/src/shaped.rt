@@ -1,19 +1,21 @@
 //! Events, each shaped at most once a level.
 
 ghost use Rattle.std.specs.Prelude.{◌≡◌, IfOk, IfSome};
+ghost use Rattle.tab_lists.specs.EventTerms.{event_term};
 ghost use Rattle.tab_model.specs.Shapes.{shape as shape_of};
 
 use std::alloc::{AllocError, Global};
 use std::marker::Model;
 use tab_events::{Event, Level, shape};
-use tab_term::{Atom, SharedTerm};
+use tab_lists::SharedEvent;
+use tab_term::Atom;
 
-/// An event with the terms that it has got so far, one a level, for all who are told it.
+/// An event as it was shaped so far, once a level, for all who are told it.
 #[derive(Drop)]
 pub struct Shaped<'a> {
     event: &'a Event,
-    simple: Option<SharedTerm>,
-    detailed: Option<SharedTerm>,
+    simple: Option<SharedEvent>,
+    detailed: Option<SharedEvent>,
 }
 
 impl<'a> Model for Shaped<'a> {
@@ -23,6 +25,7 @@ impl<'a> Model for Shaped<'a> {
     ghost use Rattle.tab_model.specs.declared.data.Event.{Event};
     ghost use Rattle.tab_model.specs.declared.data.Level.TheVariants.{Simple, Detailed};
     ghost use Rattle.tab_model.specs.Shapes.{shape};
+    ghost use Rattle.tab_lists.specs.EventTerms.{event_term};
 
     ghost Value = { Event };
 
@@ -30,7 +33,7 @@ impl<'a> Model for Shaped<'a> {
 
     ghost view = { λ a. a.event.now };
 
-    ghost invariant = { λ a. IfSome a.simple (λ t. t ≡ shape Simple a.event.now) × IfSome a.detailed (λ t. t ≡ shape Detailed a.event.now) };
+    ghost invariant = { λ a. IfSome a.simple (λ e. event_term e ≡ shape Simple a.event.now) × IfSome a.detailed (λ e. event_term e ≡ shape Detailed a.event.now) };
 }
 
 impl<'a> Shaped<'a> {
@@ -52,10 +55,10 @@ impl<'a> Shaped<'a> {
         &self.event.tab
     }
 
-    /// The event's term at the level, which stands once for all who are given it.
-    pub fn term(&mut self, alloc: Global, level: Level) -> Result<SharedTerm, AllocError>
+    /// The event as it is told at the level, which stands once for all who are given it.
+    pub fn told(&mut self, alloc: Global, level: Level) -> Result<SharedEvent, AllocError>
         ensures same { self.new ≡ self.old }
-        ensures term { IfOk result (λ t. t ≡ shape_of level self.old) }
+        ensures told { IfOk result (λ e. event_term e ≡ shape_of level self.old) }
     {
         match level {
             Level::Simple => share_of(alloc, self.event, level, &mut self.simple),
@@ -69,17 +72,17 @@ fn share_of(
     alloc: Global,
     event: &Event,
     level: Level,
-    kept: &mut Option<SharedTerm>,
-) -> Result<SharedTerm, AllocError>
-    requires { IfSome kept.old (λ t. t ≡ shape_of level event.now) }
-    ensures kept { IfSome kept.new (λ t. t ≡ shape_of level event.now) }
-    ensures term { IfOk result (λ t. t ≡ shape_of level event.now) }
+    kept: &mut Option<SharedEvent>,
+) -> Result<SharedEvent, AllocError>
+    requires { IfSome kept.old (λ e. event_term e ≡ shape_of level event.now) }
+    ensures kept { IfSome kept.new (λ e. event_term e ≡ shape_of level event.now) }
+    ensures told { IfOk result (λ e. event_term e ≡ shape_of level event.now) }
 {
-    if let Some(term) = kept {
-        return term.try_clone();
+    if let Some(told) = kept {
+        return told.try_clone();
     }
-    let term = SharedTerm::new(alloc, shape(alloc, event, level)?)?;
-    let share = term.try_clone()?;
-    *kept = Some(term);
+    let told = SharedEvent::new(alloc, shape(alloc, event, level)?)?;
+    let share = told.try_clone()?;
+    *kept = Some(told);
     Ok(share)
 }

@@ -17,9 +17,9 @@ use std::alloc::{AllocError, Global};
 use std::collections::VecDeque;
 use std::marker::Model;
 use tab_events::{Event, Level};
+use tab_lists::SharedTerms;
 use tab_model::Numbers;
 use tab_outbox::{Mailbox, Met, Post};
-use tab_shared::SharedTerms;
 use tab_term::Atom;
 
 /// The joined sessions, in the order of their numbers.

@@ -14,7 +14,6 @@ use Rattle.tab_term.specs.contracts.bytes.Bytes as bytes
 use Rattle.tab_term.specs.contracts.term.Terms as terms
 use Rattle.tab_term.specs.contracts.term.Pairs as pairs
 use Rattle.tab_term.specs.contracts.term.Term as term
-use Rattle.tab_term.specs.contracts.shared.SharedTerm as shared_term
 
 pair_send : (R : RattleType) → IsSend R → IsSend (Tuple (R ∷ R ∷ []))
 pair_send R s = declared_send (tuple_type (R ∷ R ∷ [])) (as_row_send (row_field R) s, (as_row_send (row_field R) s, tt))
@@ -83,9 +82,3 @@ Term-sync =
     (as_row_sync bytes.the_field bytes_marks.the_sync)
     Pairs-sync
     )
-
-pub SharedTerm-send : IsSend shared_term.the_row
-SharedTerm-send = search (sendable, Arc-send, declared_send, as_row_send, Term-send, Term-sync) depth 20
-
-pub SharedTerm-sync : IsSync shared_term.the_row
-SharedTerm-sync = search (sendable, Arc-sync, declared_sync, as_row_sync, Term-send, Term-sync) depth 20

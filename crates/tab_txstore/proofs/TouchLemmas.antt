@@ -16,7 +16,7 @@ use Rattle.tab_term.specs.View.{term}
 use Rattle.tab_term.proofs.Total.{term_total}
 use Rattle.tab_map.specs.Entries.{lookup, insert_entry, Ascends}
 use Rattle.tab_map.proofs.AscendsLemmas.{ascends_insert}
-use Rattle.tab_rows.proofs.LookUps.{lookup_insert}
+use Rattle.tab_records.proofs.LookUps.{lookup_insert}
 use Rattle.tab_model.specs.declared.data.Change.{Change}
 use Rattle.tab_model.specs.declared.data.Change.TheVariants as change
 use Rattle.tab_model.specs.declared.data.Kind.{Kind}

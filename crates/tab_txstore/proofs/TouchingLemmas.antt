@@ -6,7 +6,7 @@ use Rattle.tab_term.specs.declared.term.Term.{Term}
 use Rattle.tab_term.specs.Data.{PlainTerms}
 use Rattle.tab_term.specs.View.{term}
 use Rattle.tab_term.specs.Order.{bytes_cmp, term_cmp}
-use Rattle.tab_rows.specs.Joined.{followed_by}
+use Rattle.tab_records.specs.Forms.{with_one}
 use Rattle.tab_model.specs.declared.data.Change.{Change}
 use Rattle.tab_model.specs.declared.data.Kind.{Kind}
 use Rattle.tab_model.specs.Names.{plain_terms, terms_list}
@@ -47,18 +47,19 @@ pub appends_there : (x : Table) (v : Overlay) (k : Term) (c : Change) (r : Term)
 appends_there x v k c r name n a = ap (λ m. is_some (lookup bytes_cmp m v)) n ∙ some_table x.def.name v k a.records a.there
 
 pub appended_touch : (x : Table) (v : Overlay) (k : Term) (c : Change) (r row : Term) (name : List ℕ) (v' : Overlay) → name ≡ x.def.name → term k ≡ key_of_change c → row ≡ r → Appends x v k c r
-    → v' ≡ insert_entry bytes_cmp (name, revised_at term_cmp (λ records. followed_by records (term row)) k (touched v name)) v → v' ≡ touch x v c
+    → v' ≡ insert_entry bytes_cmp (name, revised_at term_cmp (λ records. with_one records (term row)) k (touched v name)) v → v' ≡ touch x v c
 appended_touch x v k c r row name v' n kc rr a vs =
-    vs ∙ ap (λ m. insert_entry bytes_cmp (m, revised_at term_cmp (λ records. followed_by records (term row)) k (touched v m)) v) n
-    ∙ ap (λ es. insert_entry bytes_cmp (x.def.name, es) v) (ap (revised_as term_cmp (λ records. followed_by records (term row)) k (touched v x.def.name)) a.there
+    vs ∙ ap (λ m. insert_entry bytes_cmp (m, revised_at term_cmp (λ records. with_one records (term row)) k (touched v m)) v) n
+    ∙ ap (λ es. insert_entry bytes_cmp (x.def.name, es) v) (ap (revised_as term_cmp (λ records. with_one records (term row)) k (touched v x.def.name)) a.there
     ∙ ap (λ ts. insert_entry term_cmp (k, ts) (touched v x.def.name)) after
     ∙ ap (λ q. insert_entry term_cmp (q, plain_terms (left x.def.kind (seen_at (touched v x.def.name) x.rows (key_of_change c)) c)) (touched v x.def.name)) (sym (held_term k) ∙ ap held kc))
   where
     seen_is : seen_at (touched v x.def.name) x.rows (key_of_change c) ≡ terms_list a.records
     seen_is = ap (λ q. seen_at (touched v x.def.name) x.rows q) (sym kc) ∙ ap (λ q. or_lent (lookup term_cmp q (touched v x.def.name)) (at x.rows (term k))) (held_term k) ∙ ap (λ o. or_lent o (at x.rows (term k))) a.there
 
-    after : followed_by a.records (term row) ≡ plain_terms (left x.def.kind (seen_at (touched v x.def.name) x.rows (key_of_change c)) c)
-    after = ap (λ z. followed_by a.records (term z)) rr
+    after : with_one a.records (term row) ≡ plain_terms (left x.def.kind (seen_at (touched v x.def.name) x.rows (key_of_change c)) c)
+    after = ap (λ z. with_one a.records (term z)) rr
+        ∙ ap (λ b. if b then a.records else plain_terms (terms_list a.records ++ term r ∷ [])) a.new
         ∙ ap (λ b. plain_terms (if b then terms_list a.records else terms_list a.records ++ term r ∷ [])) (sym a.new)
         ∙ ap (λ z. plain_terms (left Rattle.tab_model.specs.declared.data.Kind.TheVariants.Bag z (Rattle.tab_model.specs.declared.data.Change.TheVariants.Write r))) (sym seen_is)
         ∙ ap (λ z. plain_terms (left z (seen_at (touched v x.def.name) x.rows (key_of_change c)) (Rattle.tab_model.specs.declared.data.Change.TheVariants.Write r))) (sym a.kind)

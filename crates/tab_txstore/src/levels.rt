@@ -19,11 +19,12 @@ use std::marker::Model;
 use tab_index::IndexedTable;
 use tab_map::{Entry, Map};
 use tab_model::{Change, Operation, Reply};
-use tab_term::{Atom, Term, Terms};
+use tab_records::Records;
+use tab_term::{Atom, Term};
 
 /// The innermost level as it is, with what each open level goes back to.
 pub struct Levels {
-    overlay: Map<Atom, Map<Term, Terms>>,
+    overlay: Map<Atom, Map<Term, Records>>,
     // Of all levels together, in order.
     updates: Vec<Change>,
     // Outermost first.
@@ -33,7 +34,7 @@ pub struct Levels {
 /// What an open level goes back to: an overlay, which shares its nodes with the later ones, and how many updates there were.
 #[derive(Drop)]
 pub struct Saved {
-    overlay: Map<Atom, Map<Term, Terms>>,
+    overlay: Map<Atom, Map<Term, Records>>,
     updates: usize,
 }
 
@@ -109,21 +110,21 @@ impl Levels {
         &'a self,
         lent: &'a IndexedTable,
         key: &Term,
-    ) -> Option<&'a Entry<Term, Terms>>
+    ) -> Option<&'a Entry<Term, Records>>
         ensures { MatchOption result (seen_at (touched self.now.now.overlay lent.now.def.name) lent.now.rows (term key.now) ≡ []) (λ e. e.now.1 ≡ plain_terms (seen_at (touched self.now.now.overlay lent.now.def.name) lent.now.rows (term key.now))) }
     {
         seen_entry(&self.overlay, lent, key)
     }
 
     /// What stands at the touched keys, by table.
-    pub fn overlay(&self) -> &Map<Atom, Map<Term, Terms>>
+    pub fn overlay(&self) -> &Map<Atom, Map<Term, Records>>
         ensures { result.now ≡ self.now.now.overlay }
     {
         &self.overlay
     }
 
     /// The touched keys of a table, each with what stands there. None where no key of it was touched.
-    pub fn touched(&self, lent: &IndexedTable) -> Option<&Map<Term, Terms>>
+    pub fn touched(&self, lent: &IndexedTable) -> Option<&Map<Term, Records>>
         ensures { option_copied result ≡ lookup bytes_cmp lent.now.def.name self.now.now.overlay }
     {
         self.overlay.get(&lent.def().name)
@@ -142,7 +143,11 @@ impl Levels {
 
     /// A lent table's records by key with the touched keys among them, as a map that shares its entries with both. A key
     /// whose records were taken out is there, with none.
-    pub fn by_key(&self, alloc: Global, lent: &IndexedTable) -> Result<Map<Term, Terms>, AllocError>
+    pub fn by_key(
+        &self,
+        alloc: Global,
+        lent: &IndexedTable,
+    ) -> Result<Map<Term, Records>, AllocError>
         ensures { IfOk result (λ all. (es : Touched) × (joined_rows es ≡ lent.now.rows) × IsInOrder es × Ascends term_cmp (touched self.now.now.overlay lent.now.def.name) × (all ≡ merged_of (touched self.now.now.overlay lent.now.def.name) es)) }
     {
         let mut all = lent.records().share()?;

@@ -20,7 +20,8 @@ use std::marker::Model;
 use tab_index::IndexedTable;
 use tab_map::{Entry, Map};
 use tab_model::{Change, Move, Moves, Operation, Replies, Reply, Told};
-use tab_term::{Atom, Term, Terms};
+use tab_records::Records;
+use tab_term::{Atom, Term};
 
 /// What a transaction did, what it was told, and what it left at the keys that it touched.
 pub struct TxStore {
@@ -228,7 +229,7 @@ impl TxStore {
     }
 
     /// What stands at the touched keys, by table.
-    pub fn overlay(&self) -> &Map<Atom, Map<Term, Terms>>
+    pub fn overlay(&self) -> &Map<Atom, Map<Term, Records>>
         ensures { result.now ≡ self.now.levels.now.overlay }
     {
         self.levels.overlay()
@@ -258,7 +259,7 @@ impl TxStore {
         &'a self,
         lent: &'a IndexedTable,
         key: &Term,
-    ) -> Option<&'a Entry<Term, Terms>>
+    ) -> Option<&'a Entry<Term, Records>>
         ensures { MatchOption result (seen_at (touched self.now.levels.now.overlay lent.now.def.name) lent.now.rows (term key.now) ≡ []) (λ e. e.now.1 ≡ plain_terms (seen_at (touched self.now.levels.now.overlay lent.now.def.name) lent.now.rows (term key.now))) }
     {
         self.levels.seen_entry(lent, key)
@@ -276,14 +277,14 @@ impl TxStore {
         &self,
         alloc: Global,
         lent: &IndexedTable,
-    ) -> Result<Map<Term, Terms>, AllocError>
+    ) -> Result<Map<Term, Records>, AllocError>
         ensures { IfOk result (λ all. (es : Touched) × (joined_rows es ≡ lent.now.rows) × IsInOrder es × Ascends term_cmp (touched self.now.levels.now.overlay lent.now.def.name) × (all ≡ merged_of (touched self.now.levels.now.overlay lent.now.def.name) es)) }
     {
         self.levels.by_key(alloc, lent)
     }
 
     // The touched keys of the table, each with what stands there. None where no key of it was touched.
-    pub(crate) fn touched(&self, lent: &IndexedTable) -> Option<&Map<Term, Terms>>
+    pub(crate) fn touched(&self, lent: &IndexedTable) -> Option<&Map<Term, Records>>
         ensures { option_copied result ≡ lookup bytes_cmp lent.now.def.name self.now.levels.now.overlay }
     {
         self.levels.touched(lent)

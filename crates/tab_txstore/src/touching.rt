@@ -6,38 +6,39 @@ ghost use Rattle.tab_term.specs.View.{term, terms};
 ghost use Rattle.tab_model.specs.Names.{plain_terms, terms_list};
 ghost use Rattle.tab_map.specs.Entries.{lookup, insert_entry};
 ghost use Rattle.tab_map.specs.Revised.{revised_at};
-ghost use Rattle.tab_rows.specs.Joined.{followed_by};
+ghost use Rattle.tab_records.specs.Forms.{with_one};
 ghost use Rattle.tab_txstore.specs.Overlays.{touched, left as left_of, seen_at, touch as touch_of};
 ghost use Rattle.tab_txstore.specs.Kept.{Appends};
 
 use crate::change::key_of;
-use crate::left::{left, only};
+use crate::left::left;
 use std::alloc::{AllocError, Global};
 use tab_index::IndexedTable;
 use tab_map::{Entry, Map, Revise};
 use tab_model::{Change, Kind};
-use tab_rows::{Append, contains};
-use tab_term::{Atom, Term, Terms};
+use tab_records::Records;
+use tab_rows::Append;
+use tab_term::{Atom, Term};
 
 /// Records that come to stand at a key.
 #[derive(Drop)]
 struct PutAt {
     key: Term,
-    records: Terms,
+    records: Records,
 }
 
-impl Revise<Map<Term, Terms>> for PutAt {
+impl Revise<Map<Term, Records>> for PutAt {
     ghost becomes = { λ a keys. insert_entry term_cmp (a.key, a.records) keys };
 
-    fn revise(self, alloc: Global, keys: &mut Map<Term, Terms>) -> Result<(), AllocError> {
+    fn revise(self, alloc: Global, keys: &mut Map<Term, Records>) -> Result<(), AllocError> {
         keys.insert(alloc, self.key, self.records)
     }
 
     fn revised(
         self,
         alloc: Global,
-        keys: &Map<Term, Terms>,
-    ) -> Result<Map<Term, Terms>, AllocError> {
+        keys: &Map<Term, Records>,
+    ) -> Result<Map<Term, Records>, AllocError> {
         keys.inserted(alloc, self.key, self.records)
     }
 }
@@ -49,18 +50,18 @@ struct AppendAt {
     row: Term,
 }
 
-impl Revise<Map<Term, Terms>> for AppendAt {
-    ghost becomes = { λ a keys. revised_at term_cmp (λ records. followed_by records (term a.row)) a.key keys };
+impl Revise<Map<Term, Records>> for AppendAt {
+    ghost becomes = { λ a keys. revised_at term_cmp (λ records. with_one records (term a.row)) a.key keys };
 
-    fn revise(self, alloc: Global, keys: &mut Map<Term, Terms>) -> Result<(), AllocError> {
+    fn revise(self, alloc: Global, keys: &mut Map<Term, Records>) -> Result<(), AllocError> {
         keys.revise(alloc, self.key, Append { row: self.row })
     }
 
     fn revised(
         self,
         alloc: Global,
-        keys: &Map<Term, Terms>,
-    ) -> Result<Map<Term, Terms>, AllocError> {
+        keys: &Map<Term, Records>,
+    ) -> Result<Map<Term, Records>, AllocError> {
         let mut keys = keys.share()?;
         keys.revise(alloc, self.key, Append { row: self.row })?;
         Ok(keys)
@@ -69,10 +70,10 @@ impl Revise<Map<Term, Terms>> for AppendAt {
 
 /// A key of a lent table with what stands there. None where nothing does, and neither did the transaction touch it.
 pub fn seen_entry<'a>(
-    overlay: &'a Map<Atom, Map<Term, Terms>>,
+    overlay: &'a Map<Atom, Map<Term, Records>>,
     lent: &'a IndexedTable,
     key: &Term,
-) -> Option<&'a Entry<Term, Terms>>
+) -> Option<&'a Entry<Term, Records>>
     ensures { MatchOption result (seen_at (touched overlay.now lent.now.def.name) lent.now.rows (term key.now) ≡ []) (λ e. e.now.1 ≡ plain_terms (seen_at (touched overlay.now lent.now.def.name) lent.now.rows (term key.now))) }
 {
     match overlay.get(&lent.def().name) {
@@ -84,23 +85,9 @@ pub fn seen_entry<'a>(
     }
 }
 
-// What stands at a key of a lent table, without memory.
-fn seen<'a>(
-    overlay: &'a Map<Atom, Map<Term, Terms>>,
-    lent: &'a IndexedTable,
-    key: &Term,
-) -> &'a [Term]
-    ensures { terms result.now ≡ plain_terms (seen_at (touched overlay.now lent.now.def.name) lent.now.rows (term key.now)) }
-{
-    match seen_entry(overlay, lent, key) {
-        Some(entry) => entry.pair().1.as_slice(),
-        None => &[],
-    }
-}
-
 /// Makes a change over a lent table.
 pub fn touch(
-    overlay: &mut Map<Atom, Map<Term, Terms>>,
+    overlay: &mut Map<Atom, Map<Term, Records>>,
     alloc: Global,
     lent: &IndexedTable,
     change: &Change,
@@ -122,24 +109,27 @@ pub fn touch(
 
 // What a change leaves at its key. A write to a set takes the place of what stands there, so that it isn't looked for.
 fn left_at(
-    overlay: &Map<Atom, Map<Term, Terms>>,
+    overlay: &Map<Atom, Map<Term, Records>>,
     alloc: Global,
     lent: &IndexedTable,
     key: &Term,
     change: &Change,
-) -> Result<Terms, AllocError>
+) -> Result<Records, AllocError>
     ensures { IfOk result (λ after. after ≡ plain_terms (left_of lent.now.def.kind (terms_list (plain_terms (seen_at (touched overlay.now lent.now.def.name) lent.now.rows (term key.now)))) change.now)) }
 {
     let kind = lent.def().kind;
     if let (Kind::Set, Change::Write(row)) = (kind, change) {
-        return only(alloc, row);
+        return Ok(Records::only(row.try_clone(alloc)?));
     }
-    left(alloc, kind, seen(overlay, lent, key), change)
+    match seen_entry(overlay, lent, key) {
+        Some(entry) => left(alloc, kind, &entry.pair().1, change),
+        None => left(alloc, kind, &Records::new(), change),
+    }
 }
 
 // The record of a write that a bag puts after others, which were touched before.
 fn appended<'a>(
-    overlay: &Map<Atom, Map<Term, Terms>>,
+    overlay: &Map<Atom, Map<Term, Records>>,
     lent: &IndexedTable,
     key: &Term,
     change: &'a Change,
@@ -153,7 +143,7 @@ fn appended<'a>(
         Kind::Set => None,
         Kind::Bag => {
             let records = overlay.get(&lent.def().name)?.get(key)?;
-            if contains(records.as_slice(), row) {
+            if records.contains(row) {
                 return None;
             }
             Some(row)
@@ -163,11 +153,11 @@ fn appended<'a>(
 
 // Puts the records at the key of the table.
 fn put(
-    overlay: &mut Map<Atom, Map<Term, Terms>>,
+    overlay: &mut Map<Atom, Map<Term, Records>>,
     alloc: Global,
     table: Atom,
     key: Term,
-    records: Terms,
+    records: Records,
 ) -> Result<(), AllocError>
     ensures ok { OnOk result (overlay.new ≡ insert_entry bytes_cmp (table, insert_entry term_cmp (key, records) (touched overlay.old table)) overlay.old) }
     ensures err { OnErr result (overlay.new ≡ overlay.old) }
@@ -184,14 +174,14 @@ fn put(
 
 // Puts the record after those that stand at the key of the table, which was touched before.
 fn append(
-    overlay: &mut Map<Atom, Map<Term, Terms>>,
+    overlay: &mut Map<Atom, Map<Term, Records>>,
     alloc: Global,
     table: Atom,
     key: Term,
     row: Term,
 ) -> Result<(), AllocError>
     requires { IsSome (lookup bytes_cmp table overlay.old) }
-    ensures ok { OnOk result (overlay.new ≡ insert_entry bytes_cmp (table, revised_at term_cmp (λ records. followed_by records (term row)) key (touched overlay.old table)) overlay.old) }
+    ensures ok { OnOk result (overlay.new ≡ insert_entry bytes_cmp (table, revised_at term_cmp (λ records. with_one records (term row)) key (touched overlay.old table)) overlay.old) }
     ensures err { OnErr result (overlay.new ≡ overlay.old) }
 {
     overlay.revise(alloc, table, AppendAt { key, row })

@@ -17,8 +17,8 @@ ghost use Rattle.tab_txstore.specs.Overlays.{touched, seen_at};
 use crate::TxStore;
 use std::alloc::{AllocError, Global};
 use tab_index::{IndexedTable, bound_key, fits, push_matches, push_with_value};
+use tab_lists::SharedTerms;
 use tab_map::Set;
-use tab_shared::SharedTerms;
 use tab_term::{Term, Terms};
 
 impl TxStore {
@@ -46,9 +46,8 @@ impl TxStore {
         Ok(SharedTerms::from_keys(self.by_key(alloc, lent)?))
     }
 
-    /// The records that fit the pattern, of a lent table as the transaction sees it, in their order. Where all do, all but what
-    /// it touched is shared with the table; else a record that is the only one of its key is shared with the table, or with
-    /// the transaction, and each other copied. Where no `'_'` stands in the pattern's key, no other key is looked at.
+    /// The records that fit the pattern, of a lent table as the transaction sees it, in their order. They are shared with the
+    /// table, or with the transaction. Where no `'_'` stands in the pattern's key, no other key is looked at.
     pub fn view_match(
         &self,
         alloc: Global,
@@ -60,7 +59,7 @@ impl TxStore {
         let mut found = Vec::new(alloc);
         if let Some(key) = bound_key(pattern) {
             if let Some(entry) = self.seen_entry(lent, key) {
-                push_matches(alloc, &mut found, entry, pattern)?;
+                push_matches(&mut found, entry, pattern)?;
             }
             return Ok(SharedTerms::from_picked(found));
         }
@@ -68,7 +67,7 @@ impl TxStore {
             return Ok(SharedTerms::from_records(self.by_key(alloc, lent)?));
         }
         for entry in self.merged(lent) {
-            push_matches(alloc, &mut found, entry, pattern)?;
+            push_matches(&mut found, entry, pattern)?;
         }
         Ok(SharedTerms::from_picked(found))
     }
@@ -84,9 +83,9 @@ impl TxStore {
         true
     }
 
-    /// The records that have the value at the position, of a lent table as the transaction sees it, in their order. One that
-    /// is the only record of its key is shared with the table, or with the transaction, and each other copied. Only keys that
-    /// the index has with the value, and touched keys, are looked at; where the position has no index the table is walked.
+    /// The records that have the value at the position, of a lent table as the transaction sees it, in their order. They are
+    /// shared with the table, or with the transaction. Only keys that the index has with the value, and touched keys, are
+    /// looked at; where the position has no index the table is walked.
     pub fn view_index(
         &self,
         alloc: Global,

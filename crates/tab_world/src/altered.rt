@@ -8,14 +8,15 @@ use std::slice;
 use tab_index::IndexedTable;
 use tab_map::{Map, Revise};
 use tab_model::Change;
-use tab_term::{Term, Terms};
+use tab_records::Records;
+use tab_term::Term;
 
 /// What a change makes of its table.
 #[derive(Drop)]
 pub struct Altered<'a> {
     pub change: &'a Change,
     /// Records of the table that are lent.
-    pub lent: Option<&'a Map<Term, Terms>>,
+    pub lent: Option<&'a Map<Term, Records>>,
 }
 
 impl<'a> Revise<IndexedTable> for Altered<'a> {

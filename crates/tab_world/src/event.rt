@@ -12,9 +12,9 @@ use crate::changing::Changing;
 use crate::tags::table_of_change;
 use std::alloc::{AllocError, Global};
 use tab_index::IndexedTable;
+use tab_lists::SharedTerms;
 use tab_model::{Change, Event};
 use tab_rows::copy_of_key;
-use tab_shared::SharedTerms;
 use tab_term::{Atom, Term, Terms};
 
 impl Changing {

@@ -2,7 +2,8 @@
 
 use crate::world::World;
 use tab_map::Map;
-use tab_term::{Atom, Term, Terms};
+use tab_records::Records;
+use tab_term::{Atom, Term};
 
 /// Who lends records to tables that are written to. A record that is written is shared with it where it is the only one of
 /// its key in both; nothing else is taken from it.
@@ -13,12 +14,12 @@ pub enum Lender<'a> {
     /// Other tables.
     Tables(&'a World),
     /// A transaction, with what stands at the keys that it touched.
-    Overlay(&'a Map<Atom, Map<Term, Terms>>),
+    Overlay(&'a Map<Atom, Map<Term, Records>>),
 }
 
 impl<'a> Lender<'a> {
     /// The records of a table, by key.
-    pub(crate) fn records(&self, name: &Atom) -> Option<&'a Map<Term, Terms>> {
+    pub(crate) fn records(&self, name: &Atom) -> Option<&'a Map<Term, Records>> {
         match self {
             Lender::None => None,
             Lender::Tables(tables) => Some(tables.table(name)?.records()),

@@ -4,7 +4,7 @@ use std::alloc::{AllocError, Global};
 use std::test::Fail;
 use tab_etf::{Body, Leaf, Outline, append_frame, append_outline, are_within, decode};
 use tab_fixtures::bytes;
-use tab_shared::{Answer, Answers, SharedTerms};
+use tab_lists::{Answer, Answers, SharedTerms};
 use tab_term::{Term, Terms};
 
 /// An answer in few words. Its terms are numbers.

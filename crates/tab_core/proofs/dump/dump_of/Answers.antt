@@ -1,7 +1,7 @@
 use Rattle.std.proofs.Common.{sym, ap, ◌∙◌}
 use Rattle.std.specs.Option.{option_copied}
 use Rattle.tab_model.specs.Names.{plain_terms}
-use Rattle.tab_shared.specs.ByKey.{joined}
+use Rattle.tab_lists.specs.ByKey.{joined}
 use Rattle.tab_core.proofs.Dumps.{dumped}
 use Rattle.tab_core.proofs.dump.dump_of.Goals as goal
 

@@ -2,7 +2,7 @@ use Rattle.std.proofs.Common.{arith, ap, sym, codes, length, ◌∙◌}
 use Rattle.tab_term.specs.Canon.{canon, length_field}
 use Rattle.tab_term.specs.Data.{atom, list}
 use Rattle.tab_term.specs.View.{term}
-use Rattle.tab_shared.proofs.AnswersLemmas.{answer_weight_at, count_answers}
+use Rattle.tab_lists.proofs.AnswersLemmas.{answer_weight_at, count_answers}
 use Rattle.tab_etf.proofs.Lengths.{atom_length, none_length}
 use Rattle.tab_etf.proofs.OutlinesLemmas.{pair_length}
 use Rattle.tab_etf.proofs.AnswersSpelled.{answers_more, none_in, none_spelled, some_in, some_length}

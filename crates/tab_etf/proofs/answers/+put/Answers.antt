@@ -2,8 +2,8 @@ use Rattle.std.proofs.Common.{arith, ap, sym, codes, length, ◌∙◌, ◌∷�
 use Rattle.tab_term.specs.Canon.{canon, canons, length_field}
 use Rattle.tab_term.specs.Data.{atom, list, nodes}
 use Rattle.tab_term.specs.View.{term}
-use Rattle.tab_shared.specs.Answers.{answers}
-use Rattle.tab_shared.proofs.AnswersLemmas.{answer_weight_at, count_answers}
+use Rattle.tab_lists.specs.Answers.{answers}
+use Rattle.tab_lists.proofs.AnswersLemmas.{answer_weight_at, count_answers}
 use Rattle.tab_etf.proofs.Elements.{no_canons}
 use Rattle.tab_etf.proofs.OutlinesLemmas.{pair_canon, pair_length}
 use Rattle.tab_etf.proofs.SharedElements.{list_fits}

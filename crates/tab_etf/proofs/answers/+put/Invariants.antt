@@ -1,7 +1,7 @@
 use Rattle.std.proofs.Common.{◌*◌, ◌+◌, take}
 use Rattle.tab_term.specs.Data.{weight, nodes}
 use Rattle.tab_term.specs.Canon.{canons}
-use Rattle.tab_shared.specs.Answers.{answer_term, answers}
+use Rattle.tab_lists.specs.Answers.{answer_term, answers}
 use Rattle.tab_etf.specs.Writing.{Writes}
 use Rattle.tab_etf.proofs.answers.+put.Given as goal
 

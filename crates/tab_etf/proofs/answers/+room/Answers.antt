@@ -2,8 +2,8 @@ use Rattle.std.proofs.Common.{arith, ap, codes, length}
 use Rattle.tab_term.specs.Canon.{canon, canons}
 use Rattle.tab_term.specs.Data.{atom, list, pair}
 use Rattle.tab_term.specs.View.{term}
-use Rattle.tab_shared.specs.Answers.{answers}
-use Rattle.tab_shared.proofs.AnswersLemmas.{answer_weight_at}
+use Rattle.tab_lists.specs.Answers.{answers}
+use Rattle.tab_lists.proofs.AnswersLemmas.{answer_weight_at}
 use Rattle.tab_etf.proofs.Elements.{no_canons}
 use Rattle.tab_etf.proofs.Lengths.{atom_length}
 use Rattle.tab_etf.proofs.OutlinesLemmas.{pair_length}

@@ -1,7 +1,7 @@
 use Rattle.std.proofs.Common.{◌*◌, ◌+◌, ◌≤◌, take, length}
 use Rattle.tab_term.specs.Data.{weight, nodes}
 use Rattle.tab_term.specs.Canon.{canons}
-use Rattle.tab_shared.specs.Answers.{answer_term, answers}
+use Rattle.tab_lists.specs.Answers.{answer_term, answers}
 use Rattle.tab_etf.proofs.answers.+room.Given as goal
 
 abbrev pub decreases-behind_answers : goal.decreases-behind_answers

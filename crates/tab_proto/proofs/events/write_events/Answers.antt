@@ -1,15 +1,24 @@
-use Rattle.std.proofs.Common.{rules, ◌≡◌}
-use Rattle.tab_term.specs.Data.{plain_terms, one_more}
-use Rattle.tab_term.specs.View.{term}
-use Rattle.tab_proto.proofs.EventsLemmas.{sending_event, unsent_event}
+use Rattle.std.proofs.Common.{rules, ◌+◌, ap, sym, drop, ◌∙◌}
+use Rattle.tab_term.specs.Data.{one_more}
+use Rattle.tab_lists.specs.EventTerms.{event_term, event_terms}
+use Rattle.tab_etf.specs.Outlines.{outline_term}
+use Rattle.tab_proto.proofs.EventsLemmas.{events_first, sending_event, unsent_event}
 use Rattle.tab_proto.proofs.events.write_events.Goals as goal
 
 pub loop-event-preserved : goal.loop-event-preserved
 loop-event-preserved g c =
-    let step : plain_terms c.loop-event.event-iterator ≡ one_more (term c.in-Some.event.now) (plain_terms c.next.new.self) = search rules in
-    sending_event _ _ _ _ _ _ _ _ _ _ step c.loop-event.invariant c.in_ok-write_frame.ensures.ok c.in_ok-write_frame.ensures.same
+    let items = c.as_slice-event-items.result.now in
+    let i = c.loop-event.event-index in
+    let rest = event_terms (drop (i + 1) items) in
+    let told = c.event_outline.ensures.is ∙ ap event_term c.event.ensures in
+    let step = events_first items i c.event-item.result c.loop-event-test.true c.event-item.is ∙ ap (λ t. one_more t rest) (sym told) in
+    sending_event _ (outline_term c.event_outline.result) (event_terms (drop i items)) rest _ _ _ _ _ _ step c.loop-event.invariant c.in_ok-write_outline.ensures.ok c.in_ok-write_outline.ensures.same
 
-pub returns-in_err-write_frame-clause-err : goal.returns-in_err-write_frame-clause-err
-returns-in_err-write_frame-clause-err g c =
-    let step : plain_terms c.loop-event.event-iterator ≡ one_more (term c.in-Some.event.now) (plain_terms c.next.new.self) = search rules in
-    unsent_event _ c.in_err-write_frame.field-0.0 _ _ _ _ _ _ _ _ _ _ (search rules) step c.loop-event.invariant c.in_err-write_frame.ensures.err
+pub returns-in_err-write_outline-clause-err : goal.returns-in_err-write_outline-clause-err
+returns-in_err-write_outline-clause-err g c =
+    let items = c.as_slice-event-items.result.now in
+    let i = c.loop-event.event-index in
+    let rest = event_terms (drop (i + 1) items) in
+    let told = c.event_outline.ensures.is ∙ ap event_term c.event.ensures in
+    let step = events_first items i c.event-item.result c.loop-event-test.true c.event-item.is ∙ ap (λ t. one_more t rest) (sym told) in
+    unsent_event _ c.in_err-write_outline.field-0.0 _ (outline_term c.event_outline.result) (event_terms (drop i items)) rest _ _ _ _ _ _ (search rules) step c.loop-event.invariant c.in_err-write_outline.ensures.err

@@ -1,16 +1,18 @@
 use Rattle.std.proofs.Common.{sym, ap, subst, ◌∙◌, ◌≤◌, length}
 use Rattle.std.specs.Option.{option_map}
+use Rattle.tab_term.specs.Data.{count}
 use Rattle.tab_term.specs.View.{term}
+use Rattle.tab_records.proofs.NumbersLemmas.{count-plain}
 use Rattle.tab_rows.specs.Joined.{joined}
 use Rattle.tab_rows.proofs.Cells.{at_found, at-joined, found_in}
-use Rattle.tab_rows.proofs.SizeLemmas.{length_shown, at_within}
+use Rattle.tab_rows.proofs.SizeLemmas.{at_within}
 use Rattle.tab_rows.proofs.rows.replace.Goals as goal
 
 pub returns-in-Some-clause-count : goal.returns-in-Some-clause-count
 returns-in-Some-clause-count c =
     let found = sym (ap (option_map (λ e. e.1)) c.in-Some.is) ∙ c.in_ok-entry.ensures.replaced in
-    let records = c.as_slice.ensures.items ∙ ap (λ e. e.1) c.pair.ensures ∙ at_found c.args.by_key.now c.args.entry.0 c.in-Some.entry.1 c.requires found in
-    length_shown c.as_slice.result.now _ records
+    let records = ap (λ e. e.1) c.pair.ensures ∙ at_found c.args.by_key.now c.args.entry.0 c.in-Some.entry.1 c.requires found in
+    c.len.ensures ∙ ap count records ∙ count-plain _
 
 pub returns-in-None-clause-count : goal.returns-in-None-clause-count
 returns-in-None-clause-count c =

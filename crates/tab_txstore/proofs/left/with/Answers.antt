@@ -1,12 +1,24 @@
-use Rattle.tab_txstore.proofs.LeftLemmas.{kept_row, new_row}
-use Rattle.std.proofs.Common.{ap, sym, ◌∙◌, ◌++◌, ◌∷◌, []}
+use Rattle.std.proofs.Common.{◌≡◌, ap, sym, ◌∙◌, ◌++◌, ◌∷◌, [], Bool, true, false, refl}
+use Rattle.std.specs.Prelude.{if◌then◌else◌}
+use Rattle.tab_term.specs.Data.{PlainTerm, PlainTerms}
 use Rattle.tab_term.specs.View.{term}
+use Rattle.tab_model.specs.Names.{plain_terms, terms_list}
+use Rattle.tab_lists.proofs.ListsLemmas.{plain-list}
+use Rattle.tab_records.specs.Forms.{with_one}
 use Rattle.tab_txstore.proofs.left.with.Goals as goal
 
+either : (ts : PlainTerms) (r : PlainTerm) (b : Bool) → (if b then ts else plain_terms (terms_list ts ++ r ∷ [])) ≡ plain_terms (if b then terms_list ts else terms_list ts ++ r ∷ [])
+either ts r true = sym (plain-list ts)
+either ts r false = refl
+
 pub returns-then-contains : goal.returns-then-contains
-returns-then-contains c = c.from_vec.ensures ∙ kept_row c.args.records.now c.in_ok-all.all.items (term c.args.row.now) c.in_ok-all.ensures (sym c.if-contains.true ∙ c.contains.ensures)
+returns-then-contains c =
+    c.in_ok-all.ensures ∙ sym (plain-list _)
+    ∙ ap (λ b. plain_terms (if b then terms_list c.args.records.now else terms_list c.args.records.now ++ term c.args.row.now ∷ [])) (sym c.if-contains.true ∙ c.contains.ensures)
 
 pub returns : goal.returns
 returns c =
-    c.from_vec-2.ensures
-    ∙ new_row c.args.records.now c.in_ok-all.all.items c.push.new.self.items c.args.row.now c.in_ok-all.ensures (sym c.if-contains.false ∙ c.contains.ensures) (c.in_ok-push.ensures.items ∙ ap (λ x. c.in_ok-all.all.items ++ x ∷ []) c.in_ok-try_clone.ensures)
+    c.in_ok-insert.ensures.ok
+    ∙ ap (λ ts. with_one ts (term c.in_ok-try_clone.field-0)) c.in_ok-all.ensures
+    ∙ ap (λ t. with_one c.args.records.now (term t)) c.in_ok-try_clone.ensures
+    ∙ either c.args.records.now (term c.args.row.now) _

@@ -1,11 +1,7 @@
 use Rattle.std.proofs.Common.{sym, ap, ◌∙◌}
-use Rattle.std.specs.List.{list_any}
 use Rattle.tab_term.specs.Order.{bytes_cmp, term_cmp}
-use Rattle.tab_term.specs.Same.{same}
-use Rattle.tab_term.specs.View.{term}
 use Rattle.tab_map.specs.Entries.{lookup}
 use Rattle.tab_model.specs.declared.data.TableDef.{TableDef}
-use Rattle.tab_model.specs.Names.{terms_list}
 use Rattle.tab_txstore.specs.Overlays.{touched_in}
 use Rattle.tab_txstore.proofs.touching.appended.Goals as goal
 
@@ -18,5 +14,5 @@ returns-else-contains c =
       kind = ap (λ (d : TableDef). d.kind) (sym c.def.ensures) ∙ c.in-Bag.is;
       records = c.in_ok-records-in-Bag.records.now;
       there = ap (λ o. lookup term_cmp c.args.key.now (touched_in o)) (sym table) ∙ sym c.in_ok-records-in-Bag.ensures.value;
-      new = ap (λ ts. list_any (same (term c.in-Write.row)) (terms_list ts)) (sym c.as_slice.ensures.items) ∙ sym c.contains.ensures ∙ c.if-contains.false;
+      new = sym c.contains.ensures ∙ c.if-contains.false;
     }

@@ -1,10 +1,8 @@
 use Rattle.std.proofs.Common.{sym, ap, ◌∙◌, subst}
 use Rattle.tab_term.specs.View.{term}
-use Rattle.tab_model.specs.Names.{terms_list}
-use Rattle.tab_model.specs.Tables.{at, delete}
+use Rattle.tab_model.specs.Tables.{delete}
 use Rattle.tab_model.specs.WholeTables.{element}
 use Rattle.tab_index.specs.IndexOf.{IsWithout, IsIndexOf, has_pair}
-use Rattle.tab_index.proofs.CopiesLemmas.{list_of, round}
 use Rattle.tab_index.proofs.RowsLemmas.{one_gone, none_else, all_gone}
 use Rattle.tab_index.proofs.index.Index.forget.Goals as goal
 
@@ -14,11 +12,12 @@ loop-row-preserved c =
     let k = c.args.key.now in
     let es = c.loop-row.self.keys in
     let fs = c.take.new.self.keys in
-    let value = c.element.ensures ∙ ap (λ q. element q (term c.row-item.result)) c.loop-row.invariant.position in
+    let x = term c.in-Some.row.now in
+    let value = c.element.ensures ∙ ap (λ q. element q x) c.loop-row.invariant.position in
     let less = subst (λ x. IsWithout es fs x (term k)) value c.in_ok-take.ensures.ok in
     record {
       position = c.take.ensures.position ∙ c.loop-row.invariant.position;
-      pairs = λ v j. one_gone p c.at-row-items.result.now c.loop-row.row-index c.row-item.result k es fs v j _ c.loop-row-test.true c.row-item.is less (c.loop-row.invariant.pairs v j);
+      pairs = λ v j. one_gone p c.loop-row.row-iterator c.next.new.self x k es fs v j _ c.in-Some.ensures.steps less (c.loop-row.invariant.pairs v j);
       filled = less.filled c.loop-row.invariant.filled;
     }
 
@@ -29,7 +28,6 @@ returns-clause-ok c =
     let rows = c.args.rows.now.1 in
     let es = c.args.self.now.keys in
     let fs = c.loop-row.self.keys in
-    let items = c.at-row-items.result.now in
     subst (λ q. IsIndexOf (delete rows (term k)) q fs) (sym c.loop-row.invariant.position)
-    (all_gone p rows (list_of items) k es fs (ap terms_list c.at-row-items.ensures ∙ round (at rows (term k))) c.requires c.loop-row.invariant.filled
-    (λ v j. none_else p items c.loop-row.row-index k v j (has_pair fs v j) c.loop-row-test.false ∙ c.loop-row.invariant.pairs v j))
+    (all_gone p rows c.into_iter-row-iterator.result k es fs (c.into_iter-row-iterator.ensures.into_iter_gives ∙ c.at-row-items.ensures) c.requires c.loop-row.invariant.filled
+    (λ v j. none_else p c.loop-row.row-iterator k v j (has_pair fs v j) c.in-None.ensures.steps.0 ∙ c.loop-row.invariant.pairs v j))

@@ -1,12 +1,10 @@
 use Rattle.std.proofs.Common.{◌∷◌, [], map, sym, ap, ◌∙◌, subst}
 use Rattle.std.proofs.lemmas.Result.{on_ok_weaker}
 use Rattle.tab_term.specs.View.{term}
-use Rattle.tab_model.specs.Names.{terms_list}
 use Rattle.tab_model.specs.Tables.{at, put, delete}
 use Rattle.tab_model.specs.WholeTables.{element}
 use Rattle.tab_model.specs.declared.data.Kind.TheVariants.{Set}
 use Rattle.tab_index.specs.IndexOf.{IsIndexOf}
-use Rattle.tab_index.proofs.CopiesLemmas.{round}
 use Rattle.tab_index.proofs.RowsLemmas.{put_over, put_to_set}
 use Rattle.tab_index.proofs.index.Index.replace.Goals as goal
 
@@ -15,7 +13,7 @@ returns-then-has_only-clause-ok c =
     let p = c.args.self.now.position in
     let rows = c.args.rows.now.1 in
     let r = term c.args.row.now in
-    let cells = ap terms_list c.at.ensures ∙ round (at rows (term c.key-key.result.now)) ∙ ap (at rows) c.key-key.ensures in
+    let cells = c.at.ensures ∙ ap (at rows) c.key-key.ensures in
     let only = ap (map (element p)) (sym cells) ∙ c.has_only.ensures c.if-has_only.true ∙ ap (λ x. x ∷ []) c.element.ensures in
     put_over p rows r c.args.self.now.keys c.requires.ordered only c.requires.index
 

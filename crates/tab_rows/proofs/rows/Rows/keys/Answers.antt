@@ -1,5 +1,5 @@
 use Rattle.std.proofs.Common.{ap, sym, ◌∙◌}
-use Rattle.tab_shared.specs.ByKey.{filled_keys}
+use Rattle.tab_lists.specs.ByKey.{filled_keys}
 use Rattle.tab_model.specs.Names.{plain_terms}
 use Rattle.tab_model.specs.Tables.{keys}
 use Rattle.tab_rows.proofs.KeysLemmas.{keys-filled}

@@ -1,0 +1,4 @@
+pub mod ListsLemmas
+pub mod AnswersLemmas
+pub mod EventsLemmas
+pub mod Crossing

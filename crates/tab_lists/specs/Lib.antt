@@ -1,0 +1,6 @@
+pub mod ByKey
+pub mod Records
+pub mod Lists
+pub mod Answers
+pub mod AnswersFall
+pub mod EventTerms

@@ -1,0 +1,3 @@
+pub mod LookUps
+pub mod NumbersLemmas
+pub mod Crossing

@@ -1,0 +1,8 @@
+use Rattle.std.proofs.Common.{sym, ap, ◌∙◌}
+use Rattle.tab_term.specs.Data.{terms_list}
+use Rattle.tab_records.specs.Forms.{records_of}
+use Rattle.tab_records.proofs.NumbersLemmas.{list-plain}
+use Rattle.tab_records.proofs.records.Records.iter.Goals as goal
+
+pub returns-in-Many : goal.returns-in-Many
+returns-in-Many c = c.over_numbered.ensures ∙ c.by_number.ensures ∙ sym (list-plain _) ∙ ap terms_list (sym (ap records_of c.in-Many.is) ∙ c.self.view_is)

@@ -1,3 +1,0 @@
-pub mod ListsLemmas
-pub mod AnswersLemmas
-pub mod Crossing

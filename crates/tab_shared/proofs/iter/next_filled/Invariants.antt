@@ -1,9 +1,0 @@
-use Rattle.std.proofs.Common.{◌≡◌, ◌≤◌, length}
-use Rattle.tab_shared.specs.ByKey.{filled_keys}
-use Rattle.tab_shared.proofs.iter.next_filled.Given as goal
-
-abbrev pub invariant-loop-entry : goal.invariant-loop-entry
-invariant-loop-entry l = (filled_keys l.entries ≡ filled_keys l.initial.entries) × (length l.entries ≤ length l.initial.entries)
-
-abbrev pub decreases-loop-entry : goal.decreases-loop-entry
-decreases-loop-entry l = length l.entries

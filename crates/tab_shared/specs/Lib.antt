@@ -1,5 +1,0 @@
-pub mod ByKey
-pub mod Records
-pub mod Lists
-pub mod Answers
-pub mod AnswersFall
