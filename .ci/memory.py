@@ -255,6 +255,31 @@ def answers(count, answer):
     return hold
 
 
+def bag_record(number):
+    """All are of one key, and as long as each other."""
+    return ("t", 0, 1_000 + number)
+
+
+def bag_writes(records, count):
+    """At its peak, so many writes of a one-shot to a key of so many records, told to a session that takes nothing."""
+    written = [bag_record(records + number) for number in range(count)]
+
+    def hold(server, client):
+        mirror = server.connect()
+        script((mirror, ("subscribe", WATCHED), HERE_OK))
+        same("begin mark", mirror.event(), ("mnesia_table_begin", "t", "detailed"))
+        begin_peak(server)
+        script((client, ("transaction", [("write", record) for record in written], 0), ("atomic", [OK] * count)))
+        held = server.kilobytes("VmHWM")
+        for place, record in enumerate(written):
+            tag, name, what, old, _ = mirror.event()[1]
+            same("a write", (tag, name, what), ("write", "t", record))
+            same("the records before it", old == [bag_record(number) for number in range(records + place)], True)
+        return held
+
+    return hold
+
+
 def rows(count):
     """A table of so many, which the tables that the journal starts from have too."""
 
@@ -280,6 +305,7 @@ CASES = [
     ("dumps in an outbox", within(30_000, table(long_record(100_000), 50), dumps(32, [long_record(100_000)(key) for key in range(50)]))),
     ("a dump on its way", within(8_000, table(LONG, MANY), dumps(1, list(map(LONG, range(MANY)))))),
     ("old records on their way", within(8_000, table(LONG, MANY), old_records(LONG, MANY))),
+    ("writes to a bag's key", within(30_000, table(bag_record, 3_000, options=[("type", "bag")]), bag_writes(3_000, 100))),
     ("the last lets go", let_go),
 ]
 

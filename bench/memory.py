@@ -23,6 +23,7 @@ from memory import (  # noqa: E402
     Held,
     answers,
     ask_long,
+    bag_record,
     begin_peak,
     commit_nothing,
     dumps,
@@ -64,11 +65,6 @@ def idle_readers(count, answer):
     return hold
 
 
-def bag_record(number):
-    """All are of one key, and as long as each other."""
-    return ("t", 0, 1_000 + number)
-
-
 def follow(mirror):
     """The events of the one-shot, each of which has one record more than the one before."""
     sizes = [len(payload(mirror)) for _ in range(WRITES)]
@@ -106,12 +102,17 @@ def person(key):
     return ("person", key, bytes(40))
 
 
-def persons(count):
+def of_ten(number):
+    """One of ten of its key, as long as each other."""
+    return ("person", number // 10, number.to_bytes(40, "big"))
+
+
+def persons(record, count):
     """Rows of a table, and how many bytes each of them takes."""
 
     def hold(server, client):
         before = server.kilobytes()
-        fill(client, person, count, 500)
+        fill(client, record, count, 500)
         commit_nothing(client)
         held = server.kilobytes()
         server.remark = f"{(held - before) * 1024 / count:.0f} bytes a row"
@@ -141,7 +142,9 @@ def rows():
         yield f"{READERS} connections that have read 20 MB, {count} records", [], *of_long(size, count, idle_readers, READERS)
     yield f"a one-shot of {WRITES} writes to a key of {BAGGED} records, told in detail", [], bag, one_shot
     for count in (100_000, 1_000_000):
-        yield f"{count} rows of 40 bytes", ["--journal", "16"], table(person, 0), persons(count)
+        yield f"{count} rows of 40 bytes", ["--journal", "16"], table(person, 0), persons(person, count)
+    bag = table(of_ten, 0, options=[("type", "bag")])
+    yield "100000 rows of 40 bytes, ten at each key of a bag", ["--journal", "16"], bag, persons(of_ten, 100_000)
 
 
 def main():
