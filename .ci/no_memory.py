@@ -21,7 +21,7 @@ CRATES = os.path.join(HERE, "..", "crates")
 LIST = os.path.join(HERE, "no_memory.tsv")
 
 # Crates that the program doesn't stand on.
-OTHERS = re.compile(r"_tests$|^tab_fixtures$|^bench$")
+OTHERS = re.compile(r"_tests$|^tab_test_tools$|^bench$")
 # As a value: not as a type's parameter, a parameter's type or a variant's declaration.
 VALUE = re.compile(r"(?<!: )\bAllocError\b(?!>)|\bAllocFailed\b(?!<)|::NoMemory\b|\bno_memory\(\)|\bReadError::Memory\b")
 # Lines in which the words are no values.

@@ -187,7 +187,7 @@ class Run:
 
 
 def is_no_memory(told, wanted):
-    """Told under the session that the wanted reply has, or under 0."""
+    """SharedReply under the session that the wanted reply has, or under 0."""
     session, reply = read(io.BytesIO(told[5:]))
     return reply == NO_MEMORY and session in (0, read(io.BytesIO(wanted[5:]))[0])
 

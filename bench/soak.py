@@ -25,7 +25,7 @@ LINE = 30.0
 COUNTED = ("commits_total", "aborts_total", "given_up_total")
 
 
-class Told(dict):
+class SharedReply(dict):
     """What the clients were told, by the metric that counts it."""
 
     def __init__(self):
@@ -115,7 +115,7 @@ def soak(program, seconds):
         first = server.connect()
         script((first, CREATE, ATOMIC))
         first.close()
-        told, begun = Told(), time.monotonic()
+        told, begun = SharedReply(), time.monotonic()
         end = begun + seconds
         jobs = [(come_and_go, (server, told, seed, end)) for seed in range(CLIENTS)]
         jobs += [(follow, (server, end, 0)), (follow, (server, end, 0)), (follow, (server, end, 0.05)), (lines, (server, told, begun, end))]

@@ -5,7 +5,7 @@ use std::alloc::{AllocError, Global};
 use std::test::Fail;
 use tab_etf::{Counted, decode};
 use tab_lists::{EventTerm, EventTerms, SharedEvent, SharedTerms, Tag};
-use tab_model::{Command, Ending, Item, Level, Reply, Told};
+use tab_model::{Command, Ending, Item, Level, Reply, SharedReply};
 use tab_proto::{Delivery, append_item, append_reply, command, term_of, write_item, write_reply};
 use tab_term::{Atom, Term, Terms};
 
@@ -157,7 +157,7 @@ fn replies_are_spelled(rt: HostRuntime) -> Result<(), Fail> {
     let mut records = Vec::new(alloc);
     records.push(Term::Int(3))?;
     let records = SharedTerms::from_terms(Terms::from_vec(records));
-    let (first, second) = Told::pair(alloc, Reply::Found(records))?;
+    let (first, second) = SharedReply::pair(alloc, Reply::Found(records))?;
     let mut frame = Vec::new(alloc);
     append_reply(Some(7), first.reply(), &mut frame)?;
     drop(first);

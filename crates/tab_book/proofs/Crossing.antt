@@ -16,7 +16,7 @@ use Rattle.tab_term.specs.contracts.atom.Atom as atom
 use Rattle.tab_model.specs.contracts.data.Operation as operation
 use Rattle.tab_model.specs.contracts.data.Reply as reply
 use Rattle.tab_model.specs.contracts.data.Entry as entry
-use Rattle.tab_model.specs.contracts.told.Told as told
+use Rattle.tab_model.specs.contracts.shared_reply.SharedReply as told
 use Rattle.tab_model.specs.contracts.data.Item as item
 use Rattle.tab_model.specs.contracts.data.TableInfo as info
 use Rattle.tab_model.specs.contracts.data.Change as change
@@ -32,7 +32,7 @@ use Rattle.tab_model.proofs.data.TableDef.TheSendSync as definition_marks
 use Rattle.tab_index.specs.contracts.index.Index as index
 use Rattle.tab_rows.specs.contracts.rows.Rows as rows
 use Rattle.tab_index.specs.contracts.table.IndexedTable as table
-use Rattle.tab_world.specs.contracts.world.World as world
+use Rattle.tab_tables.specs.contracts.catalog.Catalog as catalog
 use Rattle.tab_txstore.specs.contracts.levels.Levels as levels
 use Rattle.tab_txstore.specs.contracts.store.TxStore as store
 use Rattle.tab_locks.specs.contracts.lock_table.LockTable as locks
@@ -43,22 +43,22 @@ use Rattle.tab_locks.proofs.holders.Holders.TheSendSync as holders_marks
 use Rattle.tab_waitdie.specs.contracts.ages.Ages as ages
 use Rattle.tab_manager.specs.contracts.Manager as manager
 use Rattle.tab_manager.specs.contracts.machine.Machine as machine
-use Rattle.tab_manager.specs.contracts.seat.Seat as seat
-use Rattle.tab_manager.specs.contracts.seat.Transaction as transaction
+use Rattle.tab_manager.specs.contracts.session.Seat as seat
+use Rattle.tab_manager.specs.contracts.session.Transaction as transaction
 use Rattle.tab_manager.specs.contracts.queue.Request as request
 use Rattle.tab_journal.specs.contracts.base.Base as base
 use Rattle.tab_outbox.specs.declared.post.Post.{Ghosts}
 use Rattle.tab_subs.proofs.subs.Subs.TheSendSync as subs_marks
 use Rattle.tab_core.specs.contracts.Core as core
 use Rattle.tab_names.specs.declared.naming.Naming as naming
-use Rattle.tab_names.specs.declared.naming.House as house
+use Rattle.tab_names.specs.declared.naming.Host as host
 use Rattle.std.specs.declared.sync.Wait as waiting
 use Rattle.std.specs.declared.clone.Clone as cloning
-use Rattle.tab_names.proofs.front.Front.TheSendSync as front_marks
+use Rattle.tab_names.proofs.prefix.Prefix.TheSendSync as prefix_marks
 use Rattle.tab_names.proofs.register.Register.TheSendSync as register_marks
 use Rattle.tab_named.proofs.Crossing.{SeatPost-send}
 use Rattle.tab_named.specs.contracts.post.SeatPost as seat_post
-use Rattle.tab_named.specs.contracts.post.SeatPostPost.TheImpl as seat_posts
+use Rattle.tab_named.specs.contracts.post.SeatPostPost.TheImpl as session_posts
 use Rattle.tab_book.specs.contracts.book.Book as book
 use Rattle.tab_book.specs.contracts.book.Book.TheInside as inside
 use Rattle.tab_book.specs.contracts.shared.Shared as shared
@@ -131,8 +131,8 @@ table-send = search (parts, rows-send, index-send, definition_marks.the_send, de
 table-sync : IsSync table.the_row
 table-sync = search (parts, rows-sync, index-sync, definition_marks.the_send, definition_marks.the_sync) depth 30
 
-world-send : IsSend world.the_row
-world-send = search (parts, table-send, table-sync) depth 30
+catalog-send : IsSend catalog.the_row
+catalog-send = search (parts, table-send, table-sync) depth 30
 
 change-send : IsSend change.the_row
 change-send = search (parts, Term-send) depth 20
@@ -175,7 +175,7 @@ machine-send =
     declared_send machine.the_type (
       search parts,
       (
-        search (parts, world-send),
+        search (parts, catalog-send),
         (
           search (parts, array_marks.the_send, seat-send) depth 20,
           (search (parts, ages-send), (search (parts, request-send) depth 20, (search parts, (search parts, (search parts, (search (parts, limits_marks.the_send), tt)))))),
@@ -187,7 +187,7 @@ manager-send : IsSend manager.the_row
 manager-send = search (parts, machine-send) depth 20
 
 base-send : IsSend base.the_row
-base-send = search (parts, world-send, subscription_marks.the_send) depth 30
+base-send = search (parts, catalog-send, subscription_marks.the_send) depth 30
 
 journal-send : IsSend journal.the_row
 journal-send = search (parts, base-send, entry-send, buffer_marks.the_send, frees, heap_send) depth 40
@@ -196,10 +196,10 @@ module _ (P : RattleType) (g : Ghosts P.Denot) where
   core-send : IsSend P → IsSend (core.the_row P g)
   core-send p = search (parts, manager-send, subs_marks.the_send) depth 30
 
-module _ (H : RattleType) (names : naming.Ghosts H.Denot) (rooms : house.Ghosts H.Denot) (waits : waiting.Ghosts H.Denot) (clones : cloning.Ghosts H.Denot) where
+module _ (H : RattleType) (names : naming.Ghosts H.Denot) (rooms : host.Ghosts H.Denot) (waits : waiting.Ghosts H.Denot) (clones : cloning.Ghosts H.Denot) where
   pub Book-send : IsSend H → IsSend (book.the_row H names rooms waits clones)
   Book-send h =
-      let posts = seat_posts.ghosts H rooms seat_posts.no_dict names seat_posts.no_dict waits seat_posts.no_dict clones seat_posts.no_dict in
+      let posts = session_posts.ghosts H rooms session_posts.no_dict names session_posts.no_dict waits session_posts.no_dict clones session_posts.no_dict in
       view_send _ _ _ _ _ (declared_send (inside.the_type H names rooms waits clones) (
         search parts,
         (
@@ -208,7 +208,7 @@ module _ (H : RattleType) (names : naming.Ghosts H.Denot) (rooms : house.Ghosts 
             search parts,
             (
               search (parts, register_marks.the_send),
-              (search (parts, front_marks.the_send), (as_row_send (core.the_field (seat_post.the_row H names) posts) (core-send (seat_post.the_row H names) posts (SeatPost-send H names h)), (search (parts, journal-send) depth 20, tt))),
+              (search (parts, prefix_marks.the_send), (as_row_send (core.the_field (seat_post.the_row H names) posts) (core-send (seat_post.the_row H names) posts (SeatPost-send H names h)), (search (parts, journal-send) depth 20, tt))),
             ),
           ),
         ),

@@ -3,9 +3,9 @@ use Rattle.std.proofs.Common.{◌≡◌, ℕ, List, [], refl, sym, ap, ◌∙◌
 use Rattle.std.specs.Prelude.{option_map}
 use Rattle.tab_model.specs.declared.data.Item.{Item}
 use Rattle.tab_model.specs.declared.data.Reply.TheVariants as reply
-use Rattle.tab_model.specs.State.{Outbox, Seat, State, seat_at}
+use Rattle.tab_model.specs.State.{Outbox, Session, State, session_at}
 use Rattle.tab_model.specs.Standing.{AreChannels}
-use Rattle.tab_model.specs.Outcome.{Take, Outcome, outcome, by_seat, give, takable}
+use Rattle.tab_model.specs.Outcome.{Take, Outcome, outcome, step_of, give, items_to_take}
 use Rattle.tab_model.proofs.PostsStay.{IsChannel, found_has}
 use Rattle.tab_outbox.specs.declared.mailbox.Met.{Met}
 use Rattle.tab_outbox.specs.declared.mailbox.Met.TheVariants as met
@@ -17,54 +17,54 @@ use Rattle.tab_book.specs.Running.{Running}
 use Rattle.tab_book.specs.Inboxes.{Drains, TellsOverflow}
 
 abbrev boxes : Running → ℕ → Option Outbox
-boxes b n = option_map (λ (s : Seat). s.outbox) (seat_at b.state.seats n)
+boxes b n = option_map (λ (s : Session). s.outbox) (session_at b.state.sessions n)
 
 module _ (b : Running) (n mailbox : ℕ) (before after : List Item) where
   pub left : Meets (boxes b n) mailbox before None after → Drains b n mailbox before Left after b
-  left h = by (seat_at b.state.seats n) refl h
+  left h = by (session_at b.state.sessions n) refl h
     where
-      by : (o : Option Seat) → seat_at b.state.seats n ≡ o → Meets (option_map (λ (s : Seat). s.outbox) o) mailbox before None after → Drains b n mailbox before Left after b
+      by : (o : Option Session) → session_at b.state.sessions n ≡ o → Meets (option_map (λ (s : Session). s.outbox) o) mailbox before None after → Drains b n mailbox before Left after b
       by None e h = (e, h, refl)
       by (Some s) e h = absurd h
 
   pub going : (x : Item) → Meets (boxes b n) mailbox before (Some (met.Going x)) after → Drains b n mailbox before (Going x) after b
-  going x h = by (seat_at b.state.seats n) refl h
+  going x h = by (session_at b.state.sessions n) refl h
     where
-      by : (o : Option Seat) → seat_at b.state.seats n ≡ o → Meets (option_map (λ (s : Seat). s.outbox) o) mailbox before (Some (met.Going x)) after → Drains b n mailbox before (Going x) after b
+      by : (o : Option Session) → session_at b.state.sessions n ≡ o → Meets (option_map (λ (s : Session). s.outbox) o) mailbox before (Some (met.Going x)) after → Drains b n mailbox before (Going x) after b
       by None e h = absurd h
       by (Some s) e h = (s, record { there = e; own = h.0 }, h.1.0, h.1.1, refl)
 
   pub apart : Meets (boxes b n) mailbox before (Some met.Apart) after → Drains b n mailbox before AllTaken after b
-  apart h = by (seat_at b.state.seats n) refl h
+  apart h = by (session_at b.state.sessions n) refl h
     where
-      by : (o : Option Seat) → seat_at b.state.seats n ≡ o → Meets (option_map (λ (s : Seat). s.outbox) o) mailbox before (Some met.Apart) after → Drains b n mailbox before AllTaken after b
+      by : (o : Option Session) → session_at b.state.sessions n ≡ o → Meets (option_map (λ (s : Session). s.outbox) o) mailbox before (Some met.Apart) after → Drains b n mailbox before AllTaken after b
       by None e h = absurd h
       by (Some s) e h = (s, e, h.1, refl, λ own. absurd (h.0 own))
 
   -- where all is taken the session is joined
-  pub taken_there : Meets (boxes b n) mailbox before (Some met.All) after → (s : Seat) × (seat_at b.state.seats n ≡ Some s)
-  taken_there h = by (seat_at b.state.seats n) refl h
+  pub taken_there : Meets (boxes b n) mailbox before (Some met.All) after → (s : Session) × (session_at b.state.sessions n ≡ Some s)
+  taken_there h = by (session_at b.state.sessions n) refl h
     where
-      by : (o : Option Seat) → seat_at b.state.seats n ≡ o → Meets (option_map (λ (s : Seat). s.outbox) o) mailbox before (Some met.All) after → (s : Seat) × (seat_at b.state.seats n ≡ Some s)
+      by : (o : Option Session) → session_at b.state.sessions n ≡ o → Meets (option_map (λ (s : Session). s.outbox) o) mailbox before (Some met.All) after → (s : Session) × (session_at b.state.sessions n ≡ Some s)
       by None e h = absurd h
       by (Some s) e h = (s, e)
 
   pub all : (r : Drained) (new : Running) → Meets (boxes b n) mailbox before (Some met.All) after
-      → (s : Seat) × (seat_at b.state.seats n ≡ Some s) × TellsOverflow b n s.overflow r new → Drains b n mailbox before r after new
-  all r new h (s, here, tells) = by s.overflow refl tells (subst (λ o. Meets (option_map (λ (x : Seat). x.outbox) o) mailbox before (Some met.All) after) here h)
+      → (s : Session) × (session_at b.state.sessions n ≡ Some s) × TellsOverflow b n s.overflow r new → Drains b n mailbox before r after new
+  all r new h (s, here, tells) = by s.overflow refl tells (subst (λ o. Meets (option_map (λ (x : Session). x.outbox) o) mailbox before (Some met.All) after) here h)
     where
       by : (o : Option ℕ) → s.overflow ≡ o → TellsOverflow b n o r new → Meets (Some s.outbox) mailbox before (Some met.All) after → Drains b n mailbox before r after new
       by None e t m = subst (λ (x : Drained). Drains b n mailbox before x after new) (sym t.0) (s, here, m.1.0, t.1, λ own. (m.1.1, e))
       by (Some c) e t m = subst (λ (x : Drained). Drains b n mailbox before x after new) (sym t.0) (s, record { there = here; own = m.0 }, m.1.0, m.1.1, e, t.1)
 
 -- a Take of a session with a channel
-pub takes : (σ : State) (over : List ℕ) (n : ℕ) (s : Seat) → seat_at σ.seats n ≡ Some s → AreChannels σ → outcome σ over n Take ≡ give σ s [] s.overflow
+pub takes : (σ : State) (over : List ℕ) (n : ℕ) (s : Session) → session_at σ.sessions n ≡ Some s → AreChannels σ → outcome σ over n Take ≡ give σ s [] s.overflow
 unfolding outcome
-takes σ over n s here channels = ap (by_seat σ over n Take) here ∙ ap (λ c. give σ s (takable s.outbox c) s.overflow) (found_has IsChannel σ.seats n s channels here)
+takes σ over n s here channels = ap (step_of σ over n Take) here ∙ ap (λ c. give σ s (items_to_take s.outbox c) s.overflow) (found_has IsChannel σ.sessions n s channels here)
 
 -- ---- what a Take then tells
 
-module _ (σ : State) (j : Kept) (over : List ℕ) (n : ℕ) (s : Seat) (here : seat_at σ.seats n ≡ Some s) (channels : AreChannels σ) (o : Outcome) (is : outcome σ over n Take ≡ o) where
+module _ (σ : State) (j : Kept) (over : List ℕ) (n : ℕ) (s : Session) (here : session_at σ.sessions n ≡ Some s) (channels : AreChannels σ) (o : Outcome) (is : outcome σ over n Take ≡ o) where
   abbrev now : Running
   now = record { state = σ; journal = j }
 
@@ -74,7 +74,7 @@ module _ (σ : State) (j : Kept) (over : List ℕ) (n : ℕ) (s : Seat) (here : 
   same_state : o.state ≡ (outcome σ [] n Take).state
   same_state = ap (λ (x : Outcome). x.state) (given ∙ sym (takes σ [] n s here channels))
 
-  pub tells : (c : ℕ) → o.reply ≡ reply.Overflow c → (s : Seat) × (seat_at σ.seats n ≡ Some s) × TellsOverflow now n s.overflow (Overflow c) (record { state = o.state; journal = j })
+  pub tells : (c : ℕ) → o.reply ≡ reply.Overflow c → (s : Session) × (session_at σ.sessions n ≡ Some s) × TellsOverflow now n s.overflow (Overflow c) (record { state = o.state; journal = j })
   tells c r = (s, here, by s.overflow (ap (λ (x : Outcome). x.reply) (sym given) ∙ r))
     where
       by : (l : Option ℕ) → (give σ s [] l).reply ≡ reply.Overflow c → TellsOverflow now n l (Overflow c) (record { state = o.state; journal = j })
@@ -84,7 +84,7 @@ module _ (σ : State) (j : Kept) (over : List ℕ) (n : ℕ) (s : Seat) (here : 
           one : reply.Overflow c ≡ reply.Overflow m → c ≡ m
           one q = cc
 
-  pub tells_none : ((c : ℕ) → o.reply ≡ reply.Overflow c → ⊥) → (s : Seat) × (seat_at σ.seats n ≡ Some s) × TellsOverflow now n s.overflow AllTaken (record { state = o.state; journal = j })
+  pub tells_none : ((c : ℕ) → o.reply ≡ reply.Overflow c → ⊥) → (s : Session) × (session_at σ.sessions n ≡ Some s) × TellsOverflow now n s.overflow AllTaken (record { state = o.state; journal = j })
   tells_none not = (s, here, by s.overflow (ap (λ (x : Outcome). x.reply) given) (ap (λ (x : Outcome). x.state) given))
     where
       by : (l : Option ℕ) → o.reply ≡ (give σ s [] l).reply → o.state ≡ (give σ s [] l).state → TellsOverflow now n l AllTaken (record { state = o.state; journal = j })
@@ -94,7 +94,7 @@ module _ (σ : State) (j : Kept) (over : List ℕ) (n : ℕ) (s : Seat) (here : 
 -- ---- as the call says it
 
 module _ (b : Running) (n mailbox : ℕ) (before after : List Item) (r : Option Met) (x : Met) (is : r ≡ Some x) where
-  pub taken_there_at : x ≡ met.All → Meets (boxes b n) mailbox before r after → (s : Seat) × (seat_at b.state.seats n ≡ Some s)
+  pub taken_there_at : x ≡ met.All → Meets (boxes b n) mailbox before r after → (s : Session) × (session_at b.state.sessions n ≡ Some s)
   taken_there_at e h = taken_there b n mailbox before after (subst (λ (o : Option Met). Meets (boxes b n) mailbox before o after) (is ∙ ap Some e) h)
 
   pub apart_at : x ≡ met.Apart → Meets (boxes b n) mailbox before r after → Drains b n mailbox before AllTaken after b

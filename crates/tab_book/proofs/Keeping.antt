@@ -10,23 +10,23 @@ use Rattle.tab_model.specs.declared.data.Entry.{Entry}
 use Rattle.tab_model.specs.declared.data.Limits.{Limits}
 use Rattle.tab_model.specs.declared.data.Reply.TheVariants as reply
 use Rattle.tab_model.specs.History.{empty, slice_since_after}
-use Rattle.tab_model.specs.Standing.{JoinsChannel, MayStand, Stands, is_joined, still_joined, may_enter}
-use Rattle.tab_model.specs.State.{Outbox, Seat, State, new, seat_at, IsSound}
+use Rattle.tab_model.specs.Standing.{JoinsChannel, MayFollow, FollowsLog, is_joined, still_joined, may_enter}
+use Rattle.tab_model.specs.State.{Outbox, Session, State, new, session_at, IsSound}
 use Rattle.tab_model.specs.Reached.{IsRising}
-use Rattle.tab_model.specs.Outcome.{Ask, Join, Leave, Retry, Take, DoCommand, Outcome, outcome, nothing, join, by_seat}
+use Rattle.tab_model.specs.Outcome.{Ask, Join, Leave, Retry, Take, DoCommand, Outcome, outcome, step_without_entry, join, step_of}
 use Rattle.tab_model.specs.Run.{Allowed, entries}
-use Rattle.tab_model.proofs.Entering.{enters_none, seat_never}
+use Rattle.tab_model.proofs.Entering.{enters_none, session_never}
 use Rattle.tab_model.proofs.PostsStay.{JoinsAs, stays, found_has, post_stays}
 use Rattle.tab_model.proofs.Schedules.{new_sound}
 use Rattle.tab_model.proofs.ReachedWaits.{new_rising, step_rising}
-use Rattle.tab_model.proofs.StandingLemmas.{new_stands, step_stands, fold_stands, forget_stands, history_of, commits_are, sent_is, watched_is, sent_grows, left_away}
+use Rattle.tab_model.proofs.StandingLemmas.{new_follows, step_follows, fold_follows, forget_follows, history_of, commits_are, sent_is, watched_is, sent_grows, left_away}
 use Rattle.tab_journal.specs.Journals.{Kept, fold_oldest, forget}
 use Rattle.tab_core.specs.Runs.{takes_no_memory}
 use Rattle.tab_named.specs.Ends.{empty_outbox}
 use Rattle.tab_book.specs.declared.step.Step.{Step}
 use Rattle.tab_book.specs.declared.step.Step.TheVariants as step
 use Rattle.tab_book.specs.Running.{IsRunning, HavePlaces, Holds}
-use Rattle.tab_book.specs.Steps.{is_full, oldest_joined, folded, with_room, with_entries, leaves, has_room, with_seat, StepsFrom, KeepsPosts, ask_of, is_never_refused}
+use Rattle.tab_book.specs.Steps.{is_full, oldest_joined, folded, with_room, with_entries, leaves, has_room, with_session, StepsFrom, KeepsPosts, ask_of, is_never_refused}
 
 pub new_holds : (outbox seen : ℕ) (limits : Limits) (n : ℕ) → 1 ≤ outbox → 1 ≤ n → Holds outbox seen (new limits) (record { base = empty; entries = []; limit = n })
 new_holds outbox seen limits n room limit = record {
@@ -37,7 +37,7 @@ new_holds outbox seen limits n room limit = record {
   rising = new_rising limits;
   places = tt;
   past = [];
-  stands = new_stands limits;
+  stands = new_follows limits;
 }
 
 pub running : (outbox seen : ℕ) (σ : State) (j : Kept) → Holds outbox seen σ j → IsRunning (record { state = σ; journal = j })
@@ -57,7 +57,7 @@ module _ (outbox seen : ℕ) (σ : State) where
   fold_holds j k = by j.entries refl
     where
       by : (es : List Entry) → j.entries ≡ es → Holds outbox seen σ (Rattle.tab_journal.specs.Journals.without_oldest (oldest_joined σ es) j.base es j.limit)
-      by [] e = record { room = k.room; limit = k.limit; within = let w = k.within in omega arith; sound = k.sound; rising = k.rising; places = k.places; past = k.past; stands = subst (λ (es : List Entry). Stands k.past j.base es σ) e k.stands }
+      by [] e = record { room = k.room; limit = k.limit; within = let w = k.within in omega arith; sound = k.sound; rising = k.rising; places = k.places; past = k.past; stands = subst (λ (es : List Entry). FollowsLog k.past j.base es σ) e k.stands }
       by (x ∷ es) e = record {
         room = k.room;
         limit = k.limit;
@@ -66,7 +66,7 @@ module _ (outbox seen : ℕ) (σ : State) where
         rising = k.rising;
         places = k.places;
         past = k.past ++ x ∷ [];
-        stands = fold_stands k.past j.base x es σ (subst (λ (ys : List Entry). Stands k.past j.base ys σ) e k.stands);
+        stands = fold_follows k.past j.base x es σ (subst (λ (ys : List Entry). FollowsLog k.past j.base ys σ) e k.stands);
       }
         where
           shorter : (y : Entry) (ys : List Entry) → length (y ∷ ys) ≤ j.limit → length ys ≤ j.limit
@@ -141,8 +141,8 @@ at_most_one None = inl refl
 at_most_one (Some e) = inr refl
 
 module _ (outbox seen : ℕ) (σ : State) (j : Kept) (k : Holds outbox seen σ j) (over : List ℕ) (n : ℕ) (a : Ask) (o : Outcome) (is : outcome σ over n a ≡ o) where
-  pub next_stands : JoinsBook seen a → Stands k.past j.base (j.entries ++ entries o.entry) o.state
-  next_stands joins = subst (λ (x : Outcome). Stands k.past j.base (j.entries ++ entries x.entry) x.state) is (step_stands k.past j.base j.entries σ over n a k.sound (joins_channel seen a joins) k.stands)
+  pub next_stands : JoinsBook seen a → FollowsLog k.past j.base (j.entries ++ entries o.entry) o.state
+  next_stands joins = subst (λ (x : Outcome). FollowsLog k.past j.base (j.entries ++ entries x.entry) x.state) is (step_follows k.past j.base j.entries σ over n a k.sound (joins_channel seen a joins) k.stands)
 
   pub step_holds : JoinsBook seen a → IsSound o.state → (entries o.entry ≢ [] → length j.entries < j.limit) → Holds outbox seen o.state (with_entries j (entries o.entry))
   step_holds joins sound room = record {
@@ -156,15 +156,15 @@ module _ (outbox seen : ℕ) (σ : State) (j : Kept) (k : Holds outbox seen σ j
     stands = next_stands joins;
   }
 
-  pub step_sent : JoinsBook seen a → (m : ℕ) (s x : Seat) → seat_at σ.seats m ≡ Some s → seat_at o.state.seats m ≡ Some x → x.outbox.items ≡ s.outbox.items ++ slice_since_after j.base m j.entries (entries o.entry)
+  pub step_sent : JoinsBook seen a → (m : ℕ) (s x : Session) → session_at σ.sessions m ≡ Some s → session_at o.state.sessions m ≡ Some x → x.outbox.items ≡ s.outbox.items ++ slice_since_after j.base m j.entries (entries o.entry)
   step_sent joins m s x g h = sent_grows k.past j.base j.entries σ k.stands m s g (entries o.entry) o.state x (next_stands joins) h
 
   pub step_posts : KeepsPosts σ o.state
-  step_posts m s x g h = post_stays σ k.sound over n a m s x g (ap (λ (y : Outcome). seat_at y.state.seats m) is ∙ h)
+  step_posts m s x g h = post_stays σ k.sound over n a m s x g (ap (λ (y : Outcome). session_at y.state.sessions m) is ∙ h)
 
 -- ---- who leaves is forgotten
 
-pub forget_holds : (outbox seen : ℕ) (σ : State) (j : Kept) (n : ℕ) → (MayStand σ n → ⊥) → Holds outbox seen σ j → Holds outbox seen σ (forget j n)
+pub forget_holds : (outbox seen : ℕ) (σ : State) (j : Kept) (n : ℕ) → (MayFollow σ n → ⊥) → Holds outbox seen σ j → Holds outbox seen σ (forget j n)
 forget_holds outbox seen σ j n gone k = record {
   room = k.room;
   limit = k.limit;
@@ -173,11 +173,11 @@ forget_holds outbox seen σ j n gone k = record {
   rising = k.rising;
   places = k.places;
   past = k.past;
-  stands = forget_stands k.past j.base j.entries σ n gone k.stands;
+  stands = forget_follows k.past j.base j.entries σ n gone k.stands;
 }
 
-pub leaver_gone : (σ : State) (over : List ℕ) (n : ℕ) (o : Outcome) → IsSound σ → is_joined σ n ≡ true → outcome σ over n Leave ≡ o → MayStand o.state n → ⊥
-leaver_gone σ over n o sound joined is may = left_away σ over n sound joined (subst (λ (x : Outcome). MayStand x.state n) (sym is) may)
+pub leaver_gone : (σ : State) (over : List ℕ) (n : ℕ) (o : Outcome) → IsSound σ → is_joined σ n ≡ true → outcome σ over n Leave ≡ o → MayFollow o.state n → ⊥
+leaver_gone σ over n o sound joined is may = left_away σ over n sound joined (subst (λ (x : Outcome). MayFollow x.state n) (sym is) may)
 
 -- ---- a journal with room
 
@@ -199,9 +199,9 @@ nothing_entered false c h = refl
 pub never_refused : (σ : State) (n : ℕ) (j : Kept) (s : Step) → is_never_refused s ≡ true → (takes_no_memory σ n (ask_of s) ≡ true) × ((is_full j && may_enter σ n (ask_of s)) ≡ false)
 never_refused σ n j step.Leave h = (refl, nothing_entered (is_full j) (may_enter σ n Leave) refl)
 never_refused σ n j step.Retry h = cc
-never_refused σ n j (step.Do (command.Abort r)) h = (refl, nothing_entered (is_full j) (may_enter σ n (DoCommand (command.Abort r))) (seat_never σ n (DoCommand (command.Abort r)) by))
+never_refused σ n j (step.Do (command.Abort r)) h = (refl, nothing_entered (is_full j) (may_enter σ n (DoCommand (command.Abort r))) (session_never σ n (DoCommand (command.Abort r)) by))
   where
-    by : (b : Bool) → Rattle.tab_model.specs.Standing.may_enter_seat σ n (DoCommand (command.Abort r)) b ≡ false
+    by : (b : Bool) → Rattle.tab_model.specs.Standing.may_enter_session σ n (DoCommand (command.Abort r)) b ≡ false
     by true = refl
     by false = refl
 never_refused σ n j (step.Do (command.Schema c)) h = cc
@@ -228,7 +228,7 @@ fold_kept (Err e) outbox seen σ j now joined k is ok err = subst (Holds outbox 
 -- a Take gives no entry
 pub take_holds : (outbox seen : ℕ) (σ : State) (j : Kept) → Holds outbox seen σ j → (over : List ℕ) (n : ℕ) (o : Outcome) → outcome σ over n Take ≡ o → IsSound o.state → Holds outbox seen o.state j
 take_holds outbox seen σ j k over n o is sound =
-    let none : entries o.entry ≡ [] = ap (λ (x : Outcome). entries x.entry) (sym is) ∙ ap entries (enters_none σ over n Take (seat_never σ n Take (λ b. refl))) in
+    let none : entries o.entry ≡ [] = ap (λ (x : Outcome). entries x.entry) (sym is) ∙ ap entries (enters_none σ over n Take (session_never σ n Take (λ b. refl))) in
     subst (Holds outbox seen o.state) (ap (with_entries j) none ∙ (λ i. record j { entries = append-nil j.entries i }))
     (step_holds outbox seen σ j k over n Take o is tt sound (λ some. absurd (some none)))
 
@@ -242,10 +242,10 @@ module _ (outbox seen : ℕ) (σ : State) (j : Kept) (k : Holds outbox seen σ j
       by : (b : Bool) → b ≡ leaves σ n a → Holds outbox seen o.state entered → now ≡ (if b then forget entered n else entered) → Holds outbox seen o.state now
       by true l h f = subst (Holds outbox seen o.state) (sym f) (forget_holds outbox seen o.state entered n (gone l) h)
         where
-          gone : true ≡ leaves σ n a → MayStand o.state n → ⊥
+          gone : true ≡ leaves σ n a → MayFollow o.state n → ⊥
           gone l = of_leave a is l
             where
-              of_leave : (a : Ask) → outcome σ over n a ≡ o → true ≡ leaves σ n a → MayStand o.state n → ⊥
+              of_leave : (a : Ask) → outcome σ over n a ≡ o → true ≡ leaves σ n a → MayFollow o.state n → ⊥
               of_leave Leave q l = leaver_gone σ over n o k.sound (sym l) q
               of_leave (Join b) q l = cc
               of_leave Retry q l = cc
@@ -272,20 +272,20 @@ own_ask seen step.Retry = tt
 
 -- ---- the next number joins
 
-pub joins_made : (σ : State) (over : List ℕ) (n : ℕ) (b : Outbox) → IsSound σ → has_room σ ≡ true → n ≡ σ.greatest + 1 → outcome σ over n (Join b) ≡ nothing (with_seat σ n b) reply.Done
+pub joins_made : (σ : State) (over : List ℕ) (n : ℕ) (b : Outbox) → IsSound σ → has_room σ ≡ true → n ≡ σ.greatest + 1 → outcome σ over n (Join b) ≡ step_without_entry (with_session σ n b) reply.Done
 unfolding outcome
-joins_made σ over n b sound room is = by (seat_at σ.seats n) refl
+joins_made σ over n b sound room is = by (session_at σ.sessions n) refl
   where
     above : nat_lt σ.greatest n ≡ true
     above = grind (arith, nat_tests)
 
-    by : (o : Option Seat) → seat_at σ.seats n ≡ o → by_seat σ over n (Join b) o ≡ nothing (with_seat σ n b) reply.Done
-    by None e = λ i. join σ n b (above i) ((and_parts (nat_lt σ.greatest (2 ^ 32 - 1)) (nat_lt (length σ.seats) σ.limits.sessions) room).1 i)
+    by : (o : Option Session) → session_at σ.sessions n ≡ o → step_of σ over n (Join b) o ≡ step_without_entry (with_session σ n b) reply.Done
+    by None e = λ i. join σ n b (above i) ((and_parts (nat_lt σ.greatest (2 ^ 32 - 1)) (nat_lt (length σ.sessions) σ.limits.sessions) room).1 i)
     by (Some s) e = let le = sound.joined n s e in absurd (omega (arith, le, is))
 
 pub join_holds : (outbox seen : ℕ) (σ : State) (j : Kept) → Holds outbox seen σ j → (over : List ℕ) (n : ℕ) (b : Outbox) (o : Outcome) → outcome σ over n (Join b) ≡ o → JoinsBook seen (Join b) → IsSound o.state → Holds outbox seen o.state j
 join_holds outbox seen σ j k over n b o is new sound =
-    let none : entries o.entry ≡ [] = ap (λ (x : Outcome). entries x.entry) (sym is) ∙ ap entries (enters_none σ over n (Join b) (seat_never σ n (Join b) (λ c. refl))) in
+    let none : entries o.entry ≡ [] = ap (λ (x : Outcome). entries x.entry) (sym is) ∙ ap entries (enters_none σ over n (Join b) (session_never σ n (Join b) (λ c. refl))) in
     subst (Holds outbox seen o.state) (ap (with_entries j) none ∙ (λ i. record j { entries = append-nil j.entries i }))
     (step_holds outbox seen σ j k over n (Join b) o is new sound (λ some. absurd (some none)))
 
@@ -295,28 +295,28 @@ new_post seen b m is within = ((ap (λ (x : Outbox). x.capacity) is, ap (λ (x :
 
 -- more of the register is seen
 pub holds_more : (outbox seen more : ℕ) (σ : State) (j : Kept) → seen ≤ more → Holds outbox seen σ j → Holds outbox more σ j
-holds_more outbox seen more σ j le k = record { room = k.room; limit = k.limit; within = k.within; sound = k.sound; rising = k.rising; places = by σ.seats k.places; past = k.past; stands = k.stands }
+holds_more outbox seen more σ j le k = record { room = k.room; limit = k.limit; within = k.within; sound = k.sound; rising = k.rising; places = by σ.sessions k.places; past = k.past; stands = k.stands }
   where
     one : (m : Option ℕ) → IfSome m (λ place. place < seen) → IfSome m (λ place. place < more)
     one None h = h
     one (Some place) h = omega (arith, h, le)
 
-    by : (ss : List Seat) → AllByRecursion (λ (s : Seat). IfSome s.outbox.mailbox (λ place. place < seen)) ss → AllByRecursion (λ (s : Seat). IfSome s.outbox.mailbox (λ place. place < more)) ss
+    by : (ss : List Session) → AllByRecursion (λ (s : Session). IfSome s.outbox.mailbox (λ place. place < seen)) ss → AllByRecursion (λ (s : Session). IfSome s.outbox.mailbox (λ place. place < more)) ss
     by [] h = tt
     by (s ∷ ss) h = (one s.outbox.mailbox h.0, by ss h.1)
 
-pub unseen : (seen : ℕ) (σ : State) (m : ℕ) → HavePlaces seen σ → seen ≤ m → (n : ℕ) (s : Seat) → seat_at σ.seats n ≡ Some s → s.outbox.mailbox ≢ Some m
-unseen seen σ m places le n s here same = let h = subst (λ (x : Option ℕ). IfSome x (λ place. place < seen)) same (found_has (HasPlace seen) σ.seats n s places here) in absurd (omega (arith, h, le))
+pub unseen : (seen : ℕ) (σ : State) (m : ℕ) → HavePlaces seen σ → seen ≤ m → (n : ℕ) (s : Session) → session_at σ.sessions n ≡ Some s → s.outbox.mailbox ≢ Some m
+unseen seen σ m places le n s here same = let h = subst (λ (x : Option ℕ). IfSome x (λ place. place < seen)) same (found_has (HasPlace seen) σ.sessions n s places here) in absurd (omega (arith, h, le))
 
-pub join_posts : (σ : State) (n : ℕ) (b : Outbox) → IsSound σ → has_room σ ≡ true → n ≡ σ.greatest + 1 → KeepsPosts σ (with_seat σ n b)
-join_posts σ n b sound room is m s x g h = post_stays σ sound [] n (Join b) m s x g (ap (λ (o : Outcome). seat_at o.state.seats m) (joins_made σ [] n b sound room is) ∙ h)
+pub join_posts : (σ : State) (n : ℕ) (b : Outbox) → IsSound σ → has_room σ ≡ true → n ≡ σ.greatest + 1 → KeepsPosts σ (with_session σ n b)
+join_posts σ n b sound room is m s x g h = post_stays σ sound [] n (Join b) m s x g (ap (λ (o : Outcome). session_at o.state.sessions m) (joins_made σ [] n b sound room is) ∙ h)
 
 pub keeps_own : (σ : State) → KeepsPosts σ σ
 keeps_own σ m s r g h = (cc, cc)
 
 -- the next number has joined with a mailbox whose place was not seen before
 pub joined_holds : (outbox seen more : ℕ) (σ τ : State) (j : Kept) → Holds outbox seen σ j → has_room σ ≡ true → (n : ℕ) → n ≡ σ.greatest + 1 → (b : Outbox) (m : ℕ) → b ≡ empty_outbox m → seen ≤ m → m < more
-    → τ ≡ with_seat σ n b → IsSound τ → Holds outbox more τ j
+    → τ ≡ with_session σ n b → IsSound τ → Holds outbox more τ j
 joined_holds outbox seen more σ τ j k room n is b m new le within made sound =
     subst (λ (x : State). Holds outbox more x j) (sym made)
-    (join_holds outbox more σ j (holds_more outbox seen more σ j (omega (arith, le, within)) k) [] n b (nothing (with_seat σ n b) reply.Done) (joins_made σ [] n b k.sound room is) (new_post more b m new within) (subst IsSound made sound))
+    (join_holds outbox more σ j (holds_more outbox seen more σ j (omega (arith, le, within)) k) [] n b (step_without_entry (with_session σ n b) reply.Done) (joins_made σ [] n b k.sound room is) (new_post more b m new within) (subst IsSound made sound))

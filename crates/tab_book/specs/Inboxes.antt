@@ -1,7 +1,7 @@
 -- What an inbox takes of a session's post, and what is shown when nothing is left (this project's own).
 use Rattle.std.specs.Prelude.{◌≡◌, ℕ, List, [], ◌∷◌, ◌++◌, Option, Some, None}
 use Rattle.tab_model.specs.declared.data.Item.{Item}
-use Rattle.tab_model.specs.State.{Seat, seat_at}
+use Rattle.tab_model.specs.State.{Session, session_at}
 use Rattle.tab_model.specs.Outcome.{Take, outcome}
 use Rattle.tab_outbox.specs.Mailboxes.{StartsWith}
 use Rattle.tab_book.specs.declared.step.Drained.{Drained}
@@ -9,21 +9,21 @@ use Rattle.tab_book.specs.declared.step.Drained.TheVariants.{Going, AllTaken, Ov
 use Rattle.tab_book.specs.Running.{Running}
 
 -- the session is joined, with the post of that mailbox
-pub record IsOwn (b : Running) (n mailbox : ℕ) (s : Seat) : Type 0 where
-  pub there : seat_at b.state.seats n ≡ Some s
+pub record IsOwn (b : Running) (n mailbox : ℕ) (s : Session) : Type 0 where
+  pub there : session_at b.state.sessions n ≡ Some s
   pub own : s.outbox.mailbox ≡ Some mailbox
 
 -- by an inbox of that mailbox, which had taken the one list and then the other. What an own inbox has taken is a beginning of
 -- what was sent, and all of it where nothing is left; an overflow is then told once
 abbrev pub Drains : Running → ℕ → ℕ → List Item → Drained → List Item → Running → Type 0
 Drains old n mailbox before (Going x) after new =
-    (s : Seat) × IsOwn old n mailbox s × (after ≡ before ++ x ∷ []) × StartsWith s.outbox.items after × (new ≡ old)
+    (s : Session) × IsOwn old n mailbox s × (after ≡ before ++ x ∷ []) × StartsWith s.outbox.items after × (new ≡ old)
 Drains old n mailbox before AllTaken after new =
-    (s : Seat) × (seat_at old.state.seats n ≡ Some s) × (after ≡ before) × (new ≡ old) × (s.outbox.mailbox ≡ Some mailbox → (after ≡ s.outbox.items) × (s.overflow ≡ None))
+    (s : Session) × (session_at old.state.sessions n ≡ Some s) × (after ≡ before) × (new ≡ old) × (s.outbox.mailbox ≡ Some mailbox → (after ≡ s.outbox.items) × (s.overflow ≡ None))
 Drains old n mailbox before (Overflow c) after new =
-    (s : Seat) × IsOwn old n mailbox s × (after ≡ before) × (after ≡ s.outbox.items) × (s.overflow ≡ Some c)
+    (s : Session) × IsOwn old n mailbox s × (after ≡ before) × (after ≡ s.outbox.items) × (s.overflow ≡ Some c)
     × (new ≡ record { state = (outcome old.state [] n Take).state; journal = old.journal })
-Drains old n mailbox before Left after new = (seat_at old.state.seats n ≡ None) × (after ≡ before) × (new ≡ old)
+Drains old n mailbox before Left after new = (session_at old.state.sessions n ≡ None) × (after ≡ before) × (new ≡ old)
 
 -- what is known after the lock was let go: an item that is given was taken, and no other answer takes one
 abbrev pub TakesIt : List Item → Drained → List Item → Type 0

@@ -3,7 +3,7 @@ use Rattle.std.specs.Prelude.{◌≡◌, ◌⊎◌, ℕ, List, [], ◌∷◌, �
 use Rattle.tab_model.specs.Ages.{Owned}
 use Rattle.tab_model.specs.Locks.{needs}
 use Rattle.tab_model.specs.Outcome.{Ask, Join, Leave, Retry, Take, DoCommand}
-use Rattle.tab_model.specs.State.{Queued, State, age_at, held_by, request_in, transaction_at}
+use Rattle.tab_model.specs.State.{Queued, State, age_at, locks_held_by, request_in, transaction_at}
 
 -- whether a session asks again for the lock that it waits for
 abbrev pub is_retry : Ask → Bool
@@ -15,7 +15,7 @@ is_retry (DoCommand c) = false
 
 -- a session's locks, each with the age of its transaction
 abbrev pub held_at : State → ℕ → List Owned
-held_at σ n = held_by (transaction_at σ n)
+held_at σ n = locks_held_by (transaction_at σ n)
 
 -- nothing is let go of: each session holds what it held, and its request is queued still, or its lock is held
 pub record LetsGoOfNothing (σ τ : State) : Type 0 where

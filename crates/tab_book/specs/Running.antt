@@ -1,13 +1,13 @@
 -- What holds of a book whenever it is seen: its journal replays to its tables, its transactions were told right, and each
--- session was sent what it is owed (this project's own).
+-- session was sent what it is due (this project's own).
 use Rattle.std.specs.Prelude.{◌≡◌, ◌≤◌, ◌<◌, ℕ, List, ◌++◌, Some, IfSome, length}
 use Rattle.std.specs.List.{AllByRecursion}
 use Rattle.tab_model.specs.declared.data.Entry.{Entry}
 use Rattle.tab_model.specs.declared.data.Item.{Item}
 use Rattle.tab_model.specs.Log.{commits_from}
 use Rattle.tab_model.specs.History.{in_force_since, slice_since, IsHistory}
-use Rattle.tab_model.specs.Standing.{Stands}
-use Rattle.tab_model.specs.State.{Seat, State, seat_at, level_in, IsSound}
+use Rattle.tab_model.specs.Standing.{FollowsLog}
+use Rattle.tab_model.specs.State.{Session, State, session_at, level_in, IsSound}
 use Rattle.tab_model.specs.Reached.{IsRising}
 use Rattle.tab_journal.specs.Journals.{Kept}
 
@@ -31,14 +31,14 @@ pub record IsRunning (b : Running) : Type 0 where
   pub sound : IsSound b.state
   -- ages rise along every wait, and each queued request is of its session's open transaction
   pub rising : IsRising b.state
-  -- the last that a joined session was sent is what it is owed since the base
-  pub sent : (n : ℕ) (s : Seat) → seat_at b.state.seats n ≡ Some s → EndsWith s.outbox.items (slice_since b.journal.base n b.journal.entries)
+  -- the last that a joined session was sent is what it is due since the base
+  pub sent : (n : ℕ) (s : Session) → session_at b.state.sessions n ≡ Some s → EndsWith s.outbox.items (slice_since b.journal.base n b.journal.entries)
   -- and it watches what is in force since the base
-  pub watching : (n : ℕ) (s : Seat) (t : List ℕ) → seat_at b.state.seats n ≡ Some s → level_in s.watching t ≡ in_force_since b.journal.base n b.journal.entries t
+  pub watching : (n : ℕ) (s : Session) (t : List ℕ) → session_at b.state.sessions n ≡ Some s → level_in s.watching t ≡ in_force_since b.journal.base n b.journal.entries t
 
 -- each session's mailbox has a place among the first of the register
 abbrev pub HavePlaces : ℕ → State → Type 0
-HavePlaces seen σ = AllByRecursion (λ (s : Seat). IfSome s.outbox.mailbox (λ place. place < seen)) σ.seats
+HavePlaces seen σ = AllByRecursion (λ (s : Session). IfSome s.outbox.mailbox (λ place. place < seen)) σ.sessions
 
 -- what a book's parts have to do with each other; seen is how much of the register was seen, past what was folded into the base
 pub record Holds (outbox seen : ℕ) (σ : State) (journal : Kept) : Type 0 where
@@ -49,4 +49,4 @@ pub record Holds (outbox seen : ℕ) (σ : State) (journal : Kept) : Type 0 wher
   pub rising : IsRising σ
   pub places : HavePlaces seen σ
   pub past : List Entry
-  pub stands : Stands past journal.base journal.entries σ
+  pub stands : FollowsLog past journal.base journal.entries σ

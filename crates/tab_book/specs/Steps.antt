@@ -6,7 +6,7 @@ use Rattle.tab_model.specs.declared.data.Item.{Item}
 use Rattle.tab_model.specs.declared.data.Reply.{Reply}
 use Rattle.tab_model.specs.History.{slice_since_after}
 use Rattle.tab_model.specs.Standing.{is_joined, still_joined, may_enter}
-use Rattle.tab_model.specs.State.{Outbox, Seat, State, seat_at}
+use Rattle.tab_model.specs.State.{Outbox, Session, State, session_at}
 use Rattle.tab_model.specs.Outcome.{Ask, Join, Leave, Retry, Take, DoCommand, fresh, is_abort, outcome}
 use Rattle.tab_model.specs.Run.{Allowed, entries}
 use Rattle.tab_journal.specs.Journals.{Kept, fold_oldest, forget}
@@ -70,7 +70,7 @@ pub record StepsFrom (σ : State) (journal : Kept) (n : ℕ) (a : Ask) (r : Repl
   pub core : outcome σ over n a ≡ record { state = new.state; reply = r; entry = entry }
   pub entered : new.journal ≡ forgetting σ n a (with_entries journal (entries entry))
   -- each session that stays was sent what the entry owes it
-  pub sent : (m : ℕ) (s x : Seat) → seat_at σ.seats m ≡ Some s → seat_at new.state.seats m ≡ Some x
+  pub sent : (m : ℕ) (s x : Session) → session_at σ.sessions m ≡ Some s → session_at new.state.sessions m ≡ Some x
       → x.outbox.items ≡ s.outbox.items ++ slice_since_after journal.base m journal.entries (entries entry)
 
 -- a step of a book that was made; the oldest entry was folded first where the journal had no room
@@ -84,26 +84,26 @@ pub record MayFold (old : Running) (n : ℕ) (a : Ask) (new : Running) : Type 0 
 
 -- a session that stays has the post that it had
 abbrev pub KeepsPosts : State → State → Type 0
-KeepsPosts σ τ = (m : ℕ) (s r : Seat) → seat_at σ.seats m ≡ Some s → seat_at τ.seats m ≡ Some r → (r.outbox.capacity ≡ s.outbox.capacity) × (r.outbox.mailbox ≡ s.outbox.mailbox)
+KeepsPosts σ τ = (m : ℕ) (s r : Session) → session_at σ.sessions m ≡ Some s → session_at τ.sessions m ≡ Some r → (r.outbox.capacity ≡ s.outbox.capacity) × (r.outbox.mailbox ≡ s.outbox.mailbox)
 
 -- ---- joining
 
 -- fewer are joined than the limit says, and a number is left
 abbrev pub has_room : State → Bool
-has_room σ = nat_lt σ.greatest (2 ^ 32 - 1) && nat_lt (length σ.seats) σ.limits.sessions
+has_room σ = nat_lt σ.greatest (2 ^ 32 - 1) && nat_lt (length σ.sessions) σ.limits.sessions
 
 -- the state with one more session, which has this post, and whose number is now the greatest
-abbrev pub with_seat : State → ℕ → Outbox → State
-with_seat σ n b = record σ { seats = σ.seats ++ fresh n b ∷ []; greatest = n }
+abbrev pub with_session : State → ℕ → Outbox → State
+with_session σ n b = record σ { sessions = σ.sessions ++ fresh n b ∷ []; greatest = n }
 
 -- the next number joins, whose post's other end is that of this mailbox, and nothing was taken there
 pub record Joins (old : Running) (session mailbox : ℕ) (taken : List Item) (new : Running) : Type 0 where
   pub room : has_room old.state ≡ true
   pub number : session ≡ old.state.greatest + 1
-  pub state : new.state ≡ with_seat old.state session (empty_outbox mailbox)
+  pub state : new.state ≡ with_session old.state session (empty_outbox mailbox)
   pub nothing_taken : taken ≡ []
   -- it is no mailbox of a session that sits
-  pub fresh : (n : ℕ) (s : Seat) → seat_at old.state.seats n ≡ Some s → s.outbox.mailbox ≢ Some mailbox
+  pub fresh : (n : ℕ) (s : Session) → session_at old.state.sessions n ≡ Some s → s.outbox.mailbox ≢ Some mailbox
   pub journal : new.journal ≡ old.journal
 
 -- a join that changed nothing: no room is left, or there is room and memory was refused

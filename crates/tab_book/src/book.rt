@@ -5,7 +5,7 @@ ghost use Rattle.tab_model.specs.History.{empty as empty_base};
 ghost use Rattle.tab_model.specs.State.{new as new_state, IsSound};
 ghost use Rattle.tab_named.specs.Ends.{as_outbox, mailbox_of, received};
 ghost use Rattle.tab_book.specs.Running.{IsRunning};
-ghost use Rattle.tab_book.specs.Steps.{Joins, Refuses, has_room as has_room_of, with_seat, KeepsPosts};
+ghost use Rattle.tab_book.specs.Steps.{Joins, Refuses, has_room as has_room_of, with_session, KeepsPosts};
 
 use crate::step::JoinFault;
 use arrayvec::ArrayVec;
@@ -15,23 +15,23 @@ use tab_core::{Core, Rest, SESSIONS, Step};
 use tab_journal::Journal;
 use tab_model::Limits;
 use tab_named::{NewMailbox, SeatInbox, SeatPost};
-use tab_names::{Front, House, Opened, Register};
-use tab_post::Line;
-use tab_world::World;
+use tab_names::{Host, Opened, Prefix, Register};
+use tab_post::Channel;
+use tab_tables::Catalog;
 
 /// A core whose sessions have mailboxes, and its journal.
 #[derive(Drop)]
-pub struct Book<H: House> {
-    house: H,
+pub struct Book<H: Host> {
+    host: H,
     pub(crate) alloc: Global,
     outbox: usize,
-    register: Register<Line, H>,
-    front: Front<Line, H>,
+    register: Register<Channel, H>,
+    prefix: Prefix<Channel, H>,
     pub(crate) core: Core<SeatPost<H>>,
     pub(crate) journal: Journal,
 }
 
-impl<H: House> Model for Book<H> {
+impl<H: Host> Model for Book<H> {
     ghost use Rattle.std.specs.Coded.{codes};
     ghost use Rattle.tab_term.specs.Code.{term_code, terms_code, pairs_code};
     ghost use Rattle.std.specs.Prelude.{length};
@@ -43,16 +43,16 @@ impl<H: House> Model for Book<H> {
 
     ghost view = { λ a. record { state = a.core; journal = a.journal } };
 
-    ghost invariant = { λ a. Holds a.outbox (length a.front) a.core a.journal };
+    ghost invariant = { λ a. Holds a.outbox (length a.prefix) a.core a.journal };
 }
 
-impl<H: House> Book<H> {
+impl<H: Host> Book<H> {
     /// No tables and no sessions. The journal has at most as many entries as the limits say, 1 at least, and each mailbox
     /// room for `outbox` items. It has 64 sessions at most.
     pub fn new(
-        house: H,
+        host: H,
         alloc: Global,
-        opened: Opened<Line>,
+        opened: Opened<Channel>,
         limits: Limits,
         outbox: usize,
     ) -> Result<Book<H>, AllocError>
@@ -62,21 +62,21 @@ impl<H: House> Book<H> {
         requires name { opened ≡ H.book }
         ensures { IfOk result (λ b. b ≡ record { state = new_state limits; journal = record { base = empty_base; entries = []; limit = limits.journal } }) }
     {
-        let (register, front) = opened.named::<H>();
+        let (register, prefix) = opened.named::<H>();
         let journal = Journal::with_limit(alloc, limits.journal as usize)?;
         Ok(Book {
-            house,
+            host,
             alloc,
             outbox,
             register,
-            front,
+            prefix,
             core: Core::new(alloc, limits),
             journal,
         })
     }
 
     /// The tables as they are committed.
-    pub fn tables(&self) -> &World
+    pub fn tables(&self) -> &Catalog
         ensures tables { result.now ≡ self.now.state.tables }
         ensures running { IsRunning self.now }
     {
@@ -109,7 +109,7 @@ impl<H: House> Book<H> {
             return Err(JoinFault::Limit);
         }
         let session = self.core.greatest() + 1;
-        let (post, inbox) = mailbox.enter(&self.register, &mut self.front, self.house);
+        let (post, inbox) = mailbox.enter(&self.register, &mut self.prefix, self.host);
         match seat(&mut self.core, session, post) {
             Ok(()) => Ok((session, inbox)),
             Err(_) => Err(JoinFault::NoMemory),
@@ -143,7 +143,7 @@ impl<H: House> Book<H> {
 }
 
 /// The session joins with this post.
-fn seat<H: House>(
+fn seat<H: Host>(
     core: &mut Core<SeatPost<H>>,
     session: u32,
     post: SeatPost<H>,
@@ -151,7 +151,7 @@ fn seat<H: House>(
     requires sound { IsSound core.old }
     requires room { has_room_of core.old ≡ true }
     requires number { session ≡ core.old.greatest + 1 }
-    ensures ok { OnOk result (core.new ≡ with_seat core.old session (as_outbox post)) }
+    ensures ok { OnOk result (core.new ≡ with_session core.old session (as_outbox post)) }
     ensures err { OnErr result (core.new ≡ core.old) }
     ensures sound { IsSound core.new }
 {

@@ -9,8 +9,8 @@ use crate::step::Step;
 use std::alloc::AllocError;
 use std::sync::MutexGuard;
 use tab_core::Rest;
-use tab_model::{Reply, Told};
-use tab_names::House;
+use tab_model::{Reply, SharedReply};
+use tab_names::Host;
 
 /// So many steps, and so many records that they were told, are made under one hold.
 const STEPS: usize = 1_000;
@@ -20,8 +20,8 @@ const RECORDS: usize = 1_000;
 /// A session's hold of a shared book, from a step on until it is given back. Steps under one hold stand together: no other
 /// session's step is between them. It gives itself back after a thousand steps or records, so that others are not kept long.
 #[derive(Drop)]
-pub struct Held<'a, H: House> {
-    house: &'a H,
+pub struct Held<'a, H: Host> {
+    host: &'a H,
     shared: &'a Shared<H>,
     book: Option<MutexGuard<'a, Book<H>>>,
     steps: usize,
@@ -30,11 +30,11 @@ pub struct Held<'a, H: House> {
     releases: bool,
 }
 
-impl<'a, H: House> Held<'a, H> {
+impl<'a, H: Host> Held<'a, H> {
     /// Nothing is held yet.
-    pub fn new(house: &'a H, shared: &'a Shared<H>) -> Held<'a, H> {
+    pub fn new(host: &'a H, shared: &'a Shared<H>) -> Held<'a, H> {
         Held {
-            house,
+            host,
             shared,
             book: None,
             steps: 0,
@@ -44,7 +44,7 @@ impl<'a, H: House> Held<'a, H> {
     }
 
     /// A step of the session; the book stays held.
-    pub fn step(&mut self, seat: &Seat, step: Step) -> Result<Told, AllocError>
+    pub fn step(&mut self, seat: &Seat, step: Step) -> Result<SharedReply, AllocError>
         ensures { is_never_refused step ≡ true → IsOk result }
     {
         if self.steps >= STEPS || self.records >= RECORDS {
@@ -52,7 +52,7 @@ impl<'a, H: House> Held<'a, H> {
         }
         let mut book = match self.book.take() {
             Some(book) => book,
-            None => self.shared.hold(self.house),
+            None => self.shared.hold(self.host),
         };
         let answered = book.step(seat.session(), step);
         self.book = Some(book);
@@ -69,7 +69,7 @@ impl<'a, H: House> Held<'a, H> {
     pub fn rest(&self, seat: &Seat) -> Rest {
         match &self.book {
             Some(book) => book.rest(seat.session()),
-            None => self.shared.hold(self.house).rest(seat.session()),
+            None => self.shared.hold(self.host).rest(seat.session()),
         }
     }
 

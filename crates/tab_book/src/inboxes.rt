@@ -1,7 +1,7 @@
 //! What is left at an inbox.
 
 ghost use Rattle.std.specs.Prelude.{◌≡◌, Some};
-ghost use Rattle.tab_model.specs.State.{Seat, seat_at};
+ghost use Rattle.tab_model.specs.State.{Session, session_at};
 ghost use Rattle.tab_named.specs.Ends.{mailbox_of, received};
 ghost use Rattle.tab_book.specs.Inboxes.{Drains, TellsOverflow};
 ghost use Rattle.tab_book.specs.Steps.{KeepsPosts};
@@ -11,10 +11,10 @@ use crate::step::Drained;
 use tab_core::Step;
 use tab_model::Reply;
 use tab_named::SeatInbox;
-use tab_names::House;
+use tab_names::Host;
 use tab_outbox::Met;
 
-impl<H: House> Book<H> {
+impl<H: Host> Book<H> {
     /// Takes one item more at the session's inbox, or shows that all is taken, with an overflow that was not told yet.
     pub fn drained(&mut self, session: u32, inbox: &mut SeatInbox<H>) -> Drained
         ensures drained { Drains self.old session (mailbox_of inbox.old) (received inbox.old) result (received inbox.new) self.new }
@@ -31,8 +31,8 @@ impl<H: House> Book<H> {
 
     /// Of a joined session of which all is taken: the overflow that it was not told yet.
     fn told_overflow(&mut self, session: u32) -> Drained
-        requires { (s : Seat) × (seat_at self.old.state.seats session ≡ Some s) }
-        ensures told { (s : Seat) × (seat_at self.old.state.seats session ≡ Some s) × TellsOverflow self.old session s.overflow result self.new }
+        requires { (s : Session) × (session_at self.old.state.sessions session ≡ Some s) }
+        ensures told { (s : Session) × (session_at self.old.state.sessions session ≡ Some s) × TellsOverflow self.old session s.overflow result self.new }
         ensures posts { KeepsPosts self.old.state self.new.state }
     {
         let Ok(stepped) = self.core.step(session, Step::Take) else {

@@ -17,9 +17,9 @@ use std::sync::{Mutex, MutexGuard};
 use std::thread;
 use std::time::Duration;
 use tab_core::Rest;
-use tab_model::{Command, Reply, Told};
+use tab_model::{Command, Reply, SharedReply};
 use tab_named::{NewMailbox, SeatInbox};
-use tab_names::House;
+use tab_names::Host;
 
 /// Names a session of a book that is shared. Contracts see it as the session's number.
 #[derive(Clone, Copy, Debug, PartialEq, Eq)]
@@ -58,7 +58,7 @@ const SLEEP: u64 = 1_000;
 /// A book under a lock, and where its sessions sleep. Who locks it and makes steps gives it back by `let_go`, so that those are
 /// woken that may go on; the calls here do.
 #[derive(Drop)]
-pub struct Shared<H: House> {
+pub struct Shared<H: Host> {
     pub book: Mutex<Book<H>>,
     bells: Bells,
     alloc: Global,
@@ -66,7 +66,7 @@ pub struct Shared<H: House> {
     ghost room: { 1 ≤ outbox },
 }
 
-impl<H: House> Shared<H> {
+impl<H: Host> Shared<H> {
     pub fn new(book: Book<H>) -> Shared<H> {
         let alloc = book.alloc;
         let outbox = book.outbox();
@@ -84,14 +84,14 @@ impl<H: House> Shared<H> {
     }
 
     /// The book, alone. It looks for a while before it sleeps.
-    pub fn hold(&self, house: &H) -> MutexGuard<'_, Book<H>> {
+    pub fn hold(&self, host: &H) -> MutexGuard<'_, Book<H>> {
         for _ in 0..TRIES {
             if let Some(book) = self.book.try_lock() {
                 return book;
             }
             thread::yield_now();
         }
-        self.book.lock(house)
+        self.book.lock(host)
     }
 
     /// The book is held no more. Where a step released something, those are woken that may go on since.
@@ -106,40 +106,40 @@ impl<H: House> Shared<H> {
 
     /// A session joins, with a mailbox of its own, whose receiving end is given out. The mailbox is made before the book is
     /// held, since it has room for all that it may hold.
-    pub fn join(&self, house: &H) -> Result<(Seat, SeatInbox<H>), JoinFault>
+    pub fn join(&self, host: &H) -> Result<(Seat, SeatInbox<H>), JoinFault>
         ensures number { IfOk result (λ r. 1 ≤ r.0) }
         ensures inbox { IfOk result (λ r. received r.1 ≡ []) }
     {
-        let Ok(mailbox) = NewMailbox::new(*house, self.alloc, self.outbox) else {
+        let Ok(mailbox) = NewMailbox::new(*host, self.alloc, self.outbox) else {
             return Err(JoinFault::NoMemory);
         };
-        let (session, inbox) = self.hold(house).join(mailbox)?;
+        let (session, inbox) = self.hold(host).join(mailbox)?;
         Ok((Seat { session }, inbox))
     }
 
     /// A command of the session. Where it has to wait for a lock it waits, and asks again after each release, until it is
     /// told otherwise. Where memory is refused while it asks again, the request stays queued, and an abort ends it.
-    pub fn call(&self, house: &H, seat: &Seat, command: Command) -> Result<Told, AllocError> {
-        let told = self.step(house, seat, command)?;
+    pub fn call(&self, host: &H, seat: &Seat, command: Command) -> Result<SharedReply, AllocError> {
+        let told = self.step(host, seat, command)?;
         if matches!(told.reply(), Reply::Waiting) {
-            return self.retry(house, seat);
+            return self.retry(host, seat);
         }
         Ok(told)
     }
 
     /// A command of the session, once: it is told `Waiting` where it has to wait for a lock.
-    pub fn step(&self, house: &H, seat: &Seat, command: Command) -> Result<Told, AllocError>
+    pub fn step(&self, host: &H, seat: &Seat, command: Command) -> Result<SharedReply, AllocError>
         ensures { is_abort command ≡ true → IsOk result }
     {
-        self.make(house, seat, Step::Do(command))
+        self.make(host, seat, Step::Do(command))
     }
 
     /// Asks for the lock that the session waits for, after each release once more, until it is told otherwise.
-    pub fn retry(&self, house: &H, seat: &Seat) -> Result<Told, AllocError>
+    pub fn retry(&self, host: &H, seat: &Seat) -> Result<SharedReply, AllocError>
         ensures { IfOk result (λ r. r ≢ reply.Waiting) }
     {
-        for _ in house.forever() {
-            if let Some(told) = self.retry_once(house, seat, SLEEP)? {
+        for _ in host.forever() {
+            if let Some(told) = self.retry_once(host, seat, SLEEP)? {
                 return Ok(told);
             }
         }
@@ -150,23 +150,23 @@ impl<H: House> Shared<H> {
     /// wait is over, of which `wake` tells.
     pub fn retry_until(
         &self,
-        house: &H,
+        host: &H,
         seat: &Seat,
         over: &AtomicBool,
-    ) -> Result<Option<Told>, AllocError>
+    ) -> Result<Option<SharedReply>, AllocError>
         ensures { IfOk result (λ told. IfSome told (λ r. r ≢ reply.Waiting)) }
     {
         let bell = self.bells.of(seat.session);
-        for _ in house.forever() {
+        for _ in host.forever() {
             let seen = bell.notifications();
             if over.load(Ordering::SeqCst) {
                 return Ok(None);
             }
-            let told = self.make(house, seat, Step::Retry)?;
+            let told = self.make(host, seat, Step::Retry)?;
             if !matches!(told.reply(), Reply::Waiting) {
                 return Ok(Some(told));
             }
-            bell.sleep(house, seen, Duration::from_millis(SLEEP));
+            bell.sleep(host, seen, Duration::from_millis(SLEEP));
         }
         unreachable!()
     }
@@ -178,11 +178,16 @@ impl<H: House> Shared<H> {
 
     /// Asks for the lock that the session waits for, and once more where it is woken or has slept for a nap, so many naps
     /// long. None where it still has to wait.
-    pub fn retry_for(&self, house: &H, seat: &Seat, naps: u32) -> Result<Option<Told>, AllocError>
+    pub fn retry_for(
+        &self,
+        host: &H,
+        seat: &Seat,
+        naps: u32,
+    ) -> Result<Option<SharedReply>, AllocError>
         ensures { IfOk result (λ told. IfSome told (λ r. r ≢ reply.Waiting)) }
     {
         for _ in 0..naps {
-            if let Some(told) = self.retry_once(house, seat, NAP)? {
+            if let Some(told) = self.retry_once(host, seat, NAP)? {
                 return Ok(Some(told));
             }
         }
@@ -191,65 +196,70 @@ impl<H: House> Shared<H> {
 
     /// Asks for the lock that the session waits for. Where it still has to wait, it sleeps until it is woken, at most so
     /// many milliseconds.
-    fn retry_once(&self, house: &H, seat: &Seat, at_most: u64) -> Result<Option<Told>, AllocError>
+    fn retry_once(
+        &self,
+        host: &H,
+        seat: &Seat,
+        at_most: u64,
+    ) -> Result<Option<SharedReply>, AllocError>
         ensures { IfOk result (λ told. IfSome told (λ r. r ≢ reply.Waiting)) }
     {
         let bell = self.bells.of(seat.session);
         let seen = bell.notifications();
-        let told = self.make(house, seat, Step::Retry)?;
+        let told = self.make(host, seat, Step::Retry)?;
         if !matches!(told.reply(), Reply::Waiting) {
             return Ok(Some(told));
         }
-        bell.sleep(house, seen, Duration::from_millis(at_most));
+        bell.sleep(host, seen, Duration::from_millis(at_most));
         Ok(None)
     }
 
     /// Who was restarted rests until its lock is free and it is the oldest that rests for it, so many naps long. It makes
     /// way for an older one for one nap in which the lock was free, and no longer: that one may have gone to sleep.
     /// False where it had better rest on.
-    pub fn rest(&self, house: &H, seat: &Seat, naps: u32) -> bool {
+    pub fn rest(&self, host: &H, seat: &Seat, naps: u32) -> bool {
         let bell = self.bells.of(seat.session);
         let mut behind = false;
         for _ in 0..naps {
             let seen = bell.notifications();
-            match self.rest_of(house, seat) {
+            match self.rest_of(host, seat) {
                 Rest::Over | Rest::Free => return true,
                 Rest::Behind if behind => return true,
                 Rest::Behind => behind = true,
                 Rest::Held => behind = false,
             }
-            bell.sleep(house, seen, Duration::from_millis(NAP));
+            bell.sleep(host, seen, Duration::from_millis(NAP));
             behind = behind && bell.notifications() == seen;
         }
-        matches!(self.rest_of(house, seat), Rest::Over | Rest::Free)
+        matches!(self.rest_of(host, seat), Rest::Over | Rest::Free)
     }
 
-    fn rest_of(&self, house: &H, seat: &Seat) -> Rest {
-        self.hold(house).rest(seat.session)
+    fn rest_of(&self, host: &H, seat: &Seat) -> Rest {
+        self.hold(host).rest(seat.session)
     }
 
     /// Takes one item more at the session's inbox, or shows that all is taken, under one hold of the lock.
-    pub fn drained(&self, house: &H, seat: &Seat, inbox: &mut SeatInbox<H>) -> Drained
+    pub fn drained(&self, host: &H, seat: &Seat, inbox: &mut SeatInbox<H>) -> Drained
         ensures { TakesIt (received inbox.old) result (received inbox.new) }
     {
-        self.hold(house).drained(seat.session, inbox)
+        self.hold(host).drained(seat.session, inbox)
     }
 
     /// The session's transaction ends, and its post is dropped.
-    pub fn leave(&self, house: &H, seat: &Seat) {
-        drop(self.make(house, seat, Step::Leave));
+    pub fn leave(&self, host: &H, seat: &Seat) {
+        drop(self.make(host, seat, Step::Leave));
     }
 
     /// Whether the journal replays from its base to the tables. The lock is held while it is run.
-    pub fn audit(&self, house: &H) -> Result<bool, AllocError> {
-        self.hold(house).audit()
+    pub fn audit(&self, host: &H) -> Result<bool, AllocError> {
+        self.hold(host).audit()
     }
 
     /// A step, after which those are woken that may go on since.
-    fn make(&self, house: &H, seat: &Seat, step: Step) -> Result<Told, AllocError>
+    fn make(&self, host: &H, seat: &Seat, step: Step) -> Result<SharedReply, AllocError>
         ensures { is_never_refused step ≡ true → IsOk result }
     {
-        let mut book = self.hold(house);
+        let mut book = self.hold(host);
         let answered = book.step(seat.session, step)?;
         self.let_go(book, answered.releases);
         Ok(answered.told)

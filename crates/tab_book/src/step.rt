@@ -1,6 +1,6 @@
 //! What a session asks of a book, and what it is given.
 
-use tab_model::{Command, Told};
+use tab_model::{Command, SharedReply};
 use tab_outbox::Item;
 
 /// What a session asks.
@@ -18,7 +18,7 @@ pub enum Step {
 /// may go on.
 #[derive(Drop)]
 pub struct Answered {
-    pub told: Told,
+    pub told: SharedReply,
     pub releases: bool,
 }
 

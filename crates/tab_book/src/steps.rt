@@ -14,8 +14,8 @@ use crate::step::{Answered, Step};
 use std::alloc::AllocError;
 use tab_core::{Step as CoreStep, Stepped};
 use tab_journal::Journal;
-use tab_model::{Command, Entry, Reply, Told};
-use tab_names::House;
+use tab_model::{Command, Entry, Reply, SharedReply};
+use tab_names::Host;
 
 /// What a session holds others up by: a transaction that is open, and a request that is queued.
 #[derive(Clone, Copy)]
@@ -24,7 +24,7 @@ struct Standing {
     waits: bool,
 }
 
-impl<H: House> Book<H> {
+impl<H: Host> Book<H> {
     /// One step of a session, with its entry put into the journal. Where the journal is full and the step may give an entry
     /// the oldest is folded into the base first, which takes memory; where that is refused, or the step's, nothing else
     /// changed.
@@ -42,7 +42,7 @@ impl<H: House> Book<H> {
         Ok(Answered { told, releases })
     }
 
-    fn told(&mut self, session: u32, step: Step) -> Result<Told, AllocError>
+    fn told(&mut self, session: u32, step: Step) -> Result<SharedReply, AllocError>
         ensures done { IfOk result (λ r. StepsTo self.old session (ask_of step) r self.new) }
         ensures free { takes_no_memory self.old.state session (ask_of step) ≡ true → (is_full self.old.journal && may_enter_of self.old.state session (ask_of step)) ≡ false → IsOk result }
         ensures err { OnErr result (MayFold self.old session (ask_of step) self.new) }
@@ -88,7 +88,7 @@ impl<H: House> Book<H> {
         ended || dropped || matches!(reply, Reply::Restart)
     }
 
-    fn make(&mut self, session: u32, step: Step) -> Result<Told, AllocError>
+    fn make(&mut self, session: u32, step: Step) -> Result<SharedReply, AllocError>
         requires room { may_enter_of self.old.state session (ask_of step) ≡ true → length self.old.journal.entries < self.old.journal.limit }
         ensures done { IfOk result (λ r. StepsFrom self.old.state self.old.journal session (ask_of step) r self.new) }
         ensures free { takes_no_memory self.old.state session (ask_of step) ≡ true → IsOk result }
@@ -170,7 +170,7 @@ fn core_step<P>(step: Step) -> CoreStep<P>
 }
 
 /// The reply, with the entry put into the journal.
-fn entered(journal: &mut Journal, stepped: Stepped) -> Told
+fn entered(journal: &mut Journal, stepped: Stepped) -> SharedReply
     requires { entries stepped.entry ≢ [] → length journal.old.entries < journal.old.limit }
     ensures reply { result ≡ stepped.reply }
     ensures journal { journal.new ≡ with_entries journal.old (entries stepped.entry) }

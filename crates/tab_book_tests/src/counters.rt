@@ -12,11 +12,11 @@ use std::thread;
 use std::thread::Threads;
 use tab_book::{Book, Seat, Shared};
 use tab_journal::Journal;
-use tab_model::{Change, Command, Entry, Limits, Reply, Told};
+use tab_model::{Change, Command, Entry, Limits, Reply, SharedReply};
 use tab_named::SeatInbox;
-use tab_names::{House, Naming, Opened};
-use tab_post::Line;
-use tab_world::{Lender, World};
+use tab_names::{Host, Naming, Opened};
+use tab_post::Channel;
+use tab_tables::{Catalog, Lender};
 
 const THREADS: usize = 4;
 
@@ -31,27 +31,27 @@ struct Raised {
 }
 
 /// A step, and where it has to wait the retries behind it.
-fn answered<H: House>(
-    house: &H,
+fn answered<H: Host>(
+    host: &H,
     shared: &Shared<H>,
     seat: &Seat,
     command: Command,
-) -> Result<Told, AllocError> {
-    let told = shared.step(house, seat, command)?;
+) -> Result<SharedReply, AllocError> {
+    let told = shared.step(host, seat, command)?;
     match told.reply() {
-        Reply::Waiting => shared.retry(house, seat),
+        Reply::Waiting => shared.retry(host, seat),
         _ => Ok(told),
     }
 }
 
 /// The value that is read for a write; None where the transaction is restarted.
-fn value_read<H: House>(
-    house: &H,
+fn value_read<H: Host>(
+    host: &H,
     alloc: Global,
     shared: &Shared<H>,
     seat: &Seat,
 ) -> Result<Option<i128>, AllocError> {
-    let found = answered(house, shared, seat, read_for_write(alloc)?)?;
+    let found = answered(host, shared, seat, read_for_write(alloc)?)?;
     Ok(value_in(found.reply()))
 }
 
@@ -63,16 +63,16 @@ fn is_done(reply: &Reply) -> bool {
 }
 
 /// One attempt to raise the record: the value that was read; None where it is to be made again.
-fn attempt<H: House>(
-    house: &H,
+fn attempt<H: Host>(
+    host: &H,
     alloc: Global,
     shared: &Shared<H>,
     seat: &Seat,
 ) -> Result<Option<i128>, AllocError> {
-    let Some(value) = value_read(house, alloc, shared, seat)? else {
+    let Some(value) = value_read(host, alloc, shared, seat)? else {
         return Ok(None);
     };
-    let told = answered(house, shared, seat, write(alloc, value.saturating_add(1))?)?;
+    let told = answered(host, shared, seat, write(alloc, value.saturating_add(1))?)?;
     Ok(if is_done(told.reply()) {
         Some(value)
     } else {
@@ -89,16 +89,16 @@ fn age_of(reply: &Reply) -> u64 {
 }
 
 /// A transaction is begun once, and made again until it commits.
-fn raise<H: House>(
-    house: &H,
+fn raise<H: Host>(
+    host: &H,
     alloc: Global,
     shared: &Shared<H>,
     seat: &Seat,
 ) -> Result<Raised, AllocError> {
-    let age = age_of(shared.step(house, seat, Command::Begin)?.reply());
-    for _ in house.forever() {
-        if let Some(value) = attempt(house, alloc, shared, seat)? {
-            let told = shared.step(house, seat, Command::Commit)?;
+    let age = age_of(shared.step(host, seat, Command::Begin)?.reply());
+    for _ in host.forever() {
+        if let Some(value) = attempt(host, alloc, shared, seat)? {
+            let told = shared.step(host, seat, Command::Commit)?;
             let commit = number_of(told.reply());
             return Ok(Raised { age, commit, value });
         }
@@ -135,8 +135,8 @@ fn is_commit(entry: &Entry, session: u64, raised: Raised) -> bool {
 }
 
 /// Whether the journal has such an entry, or has folded its commit away since.
-fn is_entered<H: House>(house: &H, shared: &Shared<H>, seat: &Seat, raised: Raised) -> bool {
-    let book = shared.book.lock(house);
+fn is_entered<H: Host>(host: &H, shared: &Shared<H>, seat: &Seat, raised: Raised) -> bool {
+    let book = shared.book.lock(host);
     let journal = book.journal();
     let is_folded = raised.commit <= journal.base().commits();
     let mut is_found = is_folded && is_next(raised);
@@ -148,16 +148,16 @@ fn is_entered<H: House>(house: &H, shared: &Shared<H>, seat: &Seat, raised: Rais
     is_found
 }
 
-fn raise_all<H: House>(
-    house: &H,
+fn raise_all<H: Host>(
+    host: &H,
     alloc: Global,
     shared: &Shared<H>,
     seat: &Seat,
     entered: &AtomicU64,
 ) {
     for _ in 0..EACH {
-        if let Ok(raised) = raise(house, alloc, shared, seat) {
-            if is_entered(house, shared, seat, raised) {
+        if let Ok(raised) = raise(host, alloc, shared, seat) {
+            if is_entered(host, shared, seat, raised) {
                 entered.fetch_add(1, Ordering::SeqCst);
             }
         }
@@ -165,18 +165,18 @@ fn raise_all<H: House>(
 }
 
 /// A thread for each seat. Counts the commits that their threads found entered.
-fn run_threads<H: House + Threads + Send + Sync>(
-    house: &H,
+fn run_threads<H: Host + Threads + Send + Sync>(
+    host: &H,
     alloc: Global,
     shared: &Shared<H>,
-    seats: &[Seat],
+    sessions: &[Seat],
     entered: &AtomicU64,
 ) {
-    thread::scope(thread::scope_env(), house, |scope| {
-        for seat in seats {
-            let started = scope.spawn(move || raise_all(house, alloc, shared, seat, entered));
+    thread::scope(thread::scope_env(), host, |scope| {
+        for seat in sessions {
+            let started = scope.spawn(move || raise_all(host, alloc, shared, seat, entered));
             if started.is_err() {
-                shared.leave(house, seat);
+                shared.leave(host, seat);
             }
         }
     });
@@ -206,36 +206,36 @@ fn last_number(journal: &Journal) -> u64 {
     }
 }
 
-fn count<H: House + Threads + Send + Sync>(
-    house: H,
+fn count<H: Host + Threads + Send + Sync>(
+    host: H,
     alloc: Global,
-    opened: Opened<Line>,
+    opened: Opened<Channel>,
     limits: Limits,
 ) -> Result<Counts, Fail>
     requires opened { opened ≡ H.book }
     requires sessions { limits.sessions ≤ 64 }
     requires journal { 1 ≤ limits.journal }
 {
-    let shared = Shared::new(Book::new(house, alloc, opened, limits, 64)?);
-    count_in(&house, alloc, &shared)
+    let shared = Shared::new(Book::new(host, alloc, opened, limits, 64)?);
+    count_in(&host, alloc, &shared)
 }
 
-fn count_in<H: House + Threads + Send + Sync>(
-    house: &H,
+fn count_in<H: Host + Threads + Send + Sync>(
+    host: &H,
     alloc: Global,
     shared: &Shared<H>,
 ) -> Result<Counts, Fail> {
-    let mut seats = Vec::new(alloc);
+    let mut sessions = Vec::new(alloc);
     let mut inboxes = Vec::new(alloc);
-    join_all(house, shared, &mut seats, &mut inboxes)?;
-    let first = *seats.first().ok_or("no seat")?;
-    begin_at_0(house, alloc, shared, &first)?;
+    join_all(host, shared, &mut sessions, &mut inboxes)?;
+    let first = *sessions.first().ok_or("no seat")?;
+    begin_at_0(host, alloc, shared, &first)?;
     let entered = AtomicU64::new(0);
-    run_threads(house, alloc, shared, &seats, &entered);
-    shared.call(house, &first, Command::Begin)?;
-    let value = value_in(shared.call(house, &first, read_for_write(alloc)?)?.reply());
-    let audit = shared.audit(house)?;
-    let book = shared.book.lock(house);
+    run_threads(host, alloc, shared, &sessions, &entered);
+    shared.call(host, &first, Command::Begin)?;
+    let value = value_in(shared.call(host, &first, read_for_write(alloc)?)?.reply());
+    let audit = shared.audit(host)?;
+    let book = shared.book.lock(host);
     let journal = book.journal();
     Ok(Counts {
         entries: journal.len(),
@@ -248,36 +248,40 @@ fn count_in<H: House + Threads + Send + Sync>(
     })
 }
 
-fn join_all<H: House>(
-    house: &H,
+fn join_all<H: Host>(
+    host: &H,
     shared: &Shared<H>,
-    seats: &mut Vec<Seat>,
+    sessions: &mut Vec<Seat>,
     inboxes: &mut Vec<SeatInbox<H>>,
 ) -> Result<(), Fail> {
     for _ in 0..THREADS {
-        let (seat, inbox) = shared.join(house).map_err(|_| "join")?;
-        seats.push(seat)?;
+        let (seat, inbox) = shared.join(host).map_err(|_| "join")?;
+        sessions.push(seat)?;
         inboxes.push(inbox)?;
     }
     Ok(())
 }
 
 /// The first commit makes the record, with 0.
-fn begin_at_0<H: House>(
-    house: &H,
+fn begin_at_0<H: Host>(
+    host: &H,
     alloc: Global,
     shared: &Shared<H>,
     seat: &Seat,
 ) -> Result<(), AllocError> {
-    shared.call(house, seat, create(alloc)?)?;
-    shared.call(house, seat, Command::Begin)?;
-    shared.call(house, seat, write(alloc, 0)?)?;
-    shared.call(house, seat, Command::Commit)?;
+    shared.call(host, seat, create(alloc)?)?;
+    shared.call(host, seat, Command::Begin)?;
+    shared.call(host, seat, write(alloc, 0)?)?;
+    shared.call(host, seat, Command::Commit)?;
     Ok(())
 }
 
 /// Whether the journal ends in tables in which the record has 199.
-fn is_history_of_199(alloc: Global, journal: &Journal, tables: &World) -> Result<bool, AllocError> {
+fn is_history_of_199(
+    alloc: Global,
+    journal: &Journal,
+    tables: &Catalog,
+) -> Result<bool, AllocError> {
     let change = Change::Write(record(alloc, 199)?);
     let others = tables.updated(alloc, &[change], &Lender::None)?;
     journal.audit(alloc, journal.base(), &others)
@@ -286,7 +290,7 @@ fn is_history_of_199(alloc: Global, journal: &Journal, tables: &World) -> Result
 fn count_named<J: Naming + Send + Sync, R: Threads + Wait + Copy + Send + Sync>(
     rt: R,
     alloc: Global,
-    opened: Opened<Line>,
+    opened: Opened<Channel>,
     limits: Limits,
 ) -> Result<Counts, Fail>
     requires opened { opened ≡ J.book }

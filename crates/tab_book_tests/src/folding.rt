@@ -10,12 +10,12 @@ use std::test::*;
 use tab_book::{Book, Shared, Step};
 use tab_journal::{Base, Journal};
 use tab_model::{Command, Entry, Limits};
-use tab_names::{House, Naming, Opened};
-use tab_post::Line;
+use tab_names::{Host, Naming, Opened};
+use tab_post::Channel;
 use tab_term::Term;
 
 /// A commit of one write: its number.
-fn commit<H: House>(book: &mut Book<H>, alloc: Global, session: u32) -> Result<u64, AllocError> {
+fn commit<H: Host>(book: &mut Book<H>, alloc: Global, session: u32) -> Result<u64, AllocError> {
     book.step(session, Step::Do(Command::Begin))?;
     book.step(session, Step::Do(write(alloc, 1)?))?;
     let answered = book.step(session, Step::Do(Command::Commit))?;
@@ -70,20 +70,20 @@ fn is_right(alloc: Global, journal: &Journal, number: u64) -> Result<bool, Alloc
 }
 
 /// The first commit behind which the journal differs, or is no history of the tables.
-fn fold<H: House>(house: H, alloc: Global, opened: Opened<Line>) -> Result<Option<u64>, Fail>
+fn fold<H: Host>(host: H, alloc: Global, opened: Opened<Channel>) -> Result<Option<u64>, Fail>
     requires { opened ≡ H.book }
 {
     let limits = Limits {
         journal: 16,
         ..LIMITS
     };
-    let shared = Shared::new(Book::new(house, alloc, opened, limits, 2)?);
-    let (seat, _inbox) = shared.join(&house).map_err(|_| "join")?;
-    let mut book = shared.hold(&house);
+    let shared = Shared::new(Book::new(host, alloc, opened, limits, 2)?);
+    let (seat, _inbox) = shared.join(&host).map_err(|_| "join")?;
+    let mut book = shared.hold(&host);
     Ok(fold_in(&mut book, alloc, seat.session())?)
 }
 
-fn fold_in<H: House>(
+fn fold_in<H: Host>(
     book: &mut Book<H>,
     alloc: Global,
     session: u32,
@@ -102,7 +102,7 @@ fn fold_in<H: House>(
 fn fold_named<J: Naming, R: Wait + Copy>(
     rt: R,
     alloc: Global,
-    opened: Opened<Line>,
+    opened: Opened<Channel>,
 ) -> Result<Option<u64>, Fail>
     requires { opened ≡ J.book }
 {

@@ -10,9 +10,9 @@ use std::test::*;
 use std::thread::{Threads, join};
 use tab_lists::EventTerms;
 use tab_named::{NewMailbox, SeatInbox, SeatPost};
-use tab_names::{House, Naming, Opened};
+use tab_names::{Host, Naming, Opened};
 use tab_outbox::{Item, Mailbox, Met, Post, Refused};
-use tab_post::Line;
+use tab_post::Channel;
 
 /// Items are batches without events, known by their commits.
 enum Call {
@@ -79,7 +79,7 @@ fn number_of(item: &Item) -> u64 {
     }
 }
 
-fn received<H: House>(inbox: &mut SeatInbox<H>) -> u64 {
+fn received<H: Host>(inbox: &mut SeatInbox<H>) -> u64 {
     match inbox.receive() {
         Some(item) => number_of(&item),
         None => NONE,
@@ -87,7 +87,7 @@ fn received<H: House>(inbox: &mut SeatInbox<H>) -> u64 {
 }
 
 /// The item that is handed back since the mailbox is full, or since nobody takes any more; None where it is put.
-fn put<H: House>(post: &mut SeatPost<H>, item: Item) -> Option<(bool, Item)> {
+fn put<H: Host>(post: &mut SeatPost<H>, item: Item) -> Option<(bool, Item)> {
     match post.put(item) {
         Ok(()) => None,
         Err(Refused::Full(back)) => Some((true, back)),
@@ -95,12 +95,7 @@ fn put<H: House>(post: &mut SeatPost<H>, item: Item) -> Option<(bool, Item)> {
     }
 }
 
-fn is_handed_back<H: House>(
-    post: &mut SeatPost<H>,
-    alloc: Global,
-    commit: u64,
-    full: bool,
-) -> bool {
+fn is_handed_back<H: Host>(post: &mut SeatPost<H>, alloc: Global, commit: u64, full: bool) -> bool {
     match put(post, batch(alloc, commit)) {
         Some((is_full, item)) => is_full == full && number_of(&item) == commit,
         None => false,
@@ -108,7 +103,7 @@ fn is_handed_back<H: House>(
 }
 
 /// What the two ends find: the item that was taken, or as many more than NONE as there are.
-fn met<H: House>(post: &mut SeatPost<H>, inbox: &mut SeatInbox<H>) -> u64 {
+fn met<H: Host>(post: &mut SeatPost<H>, inbox: &mut SeatInbox<H>) -> u64 {
     match post.meet(inbox) {
         Met::Going(item) => number_of(&item),
         Met::Apart => NONE + 1,
@@ -116,7 +111,7 @@ fn met<H: House>(post: &mut SeatPost<H>, inbox: &mut SeatInbox<H>) -> u64 {
     }
 }
 
-fn is_right<H: House>(
+fn is_right<H: Host>(
     alloc: Global,
     post: &mut SeatPost<H>,
     inbox: &mut SeatInbox<H>,
@@ -135,16 +130,16 @@ fn is_right<H: House>(
 }
 
 /// The first call that differs. In the end nothing more comes from a post that is gone, and nobody takes for an inbox that is.
-fn make_calls<H: House>(
+fn make_calls<H: Host>(
     rt: H,
     alloc: Global,
-    opened: Opened<Line>,
+    opened: Opened<Channel>,
 ) -> Result<Option<usize>, AllocError>
     requires { opened ≡ H.book }
 {
-    let (register, mut front) = opened.named::<H>();
-    let (mut post, mut inbox) = NewMailbox::new(rt, alloc, 2)?.enter(&register, &mut front, rt);
-    let (mut other, mut others) = NewMailbox::new(rt, alloc, 2)?.enter(&register, &mut front, rt);
+    let (register, mut prefix) = opened.named::<H>();
+    let (mut post, mut inbox) = NewMailbox::new(rt, alloc, 2)?.enter(&register, &mut prefix, rt);
+    let (mut other, mut others) = NewMailbox::new(rt, alloc, 2)?.enter(&register, &mut prefix, rt);
     let differs = call_differs(alloc, &mut post, &mut other, &mut inbox, &mut others);
     drop(inbox);
     drop(other);
@@ -156,7 +151,7 @@ fn make_calls<H: House>(
     })
 }
 
-fn call_differs<H: House>(
+fn call_differs<H: Host>(
     alloc: Global,
     post: &mut SeatPost<H>,
     other: &mut SeatPost<H>,
@@ -180,7 +175,7 @@ fn call_differs<H: House>(
 fn make_named_calls<J: Naming, R: Wait + Copy>(
     rt: R,
     alloc: Global,
-    opened: Opened<Line>,
+    opened: Opened<Channel>,
 ) -> Result<Option<usize>, AllocError>
     requires { opened ≡ J.book }
 {
@@ -196,7 +191,7 @@ fn two_mailboxes(rt: HostRuntime) {
 const COUNT: u64 = 1000;
 
 /// Puts all of them in order, and again what came back since the mailbox was full.
-fn put_all<H: House>(rt: H, alloc: Global, mut post: SeatPost<H>) -> SeatPost<H> {
+fn put_all<H: Host>(rt: H, alloc: Global, mut post: SeatPost<H>) -> SeatPost<H> {
     let mut next = 0;
     for _ in rt.forever() {
         if next >= COUNT {
@@ -210,22 +205,22 @@ fn put_all<H: House>(rt: H, alloc: Global, mut post: SeatPost<H>) -> SeatPost<H>
 }
 
 /// Waits for each of them in turn.
-fn receive_all<H: House + Abort>(rt: H, mut inbox: SeatInbox<H>) -> SeatInbox<H> {
+fn receive_all<H: Host + Abort>(rt: H, mut inbox: SeatInbox<H>) -> SeatInbox<H> {
     for commit in 0..COUNT {
         assert!(rt; received(&mut inbox) == commit, "item {commit}");
     }
     inbox
 }
 
-fn exchange<H: House + Threads + Abort + Send + Sync>(
+fn exchange<H: Host + Threads + Abort + Send + Sync>(
     rt: H,
     alloc: Global,
-    opened: Opened<Line>,
+    opened: Opened<Channel>,
 ) -> Result<(), AllocError>
     requires { opened ≡ H.book }
 {
-    let (register, mut front) = opened.named::<H>();
-    let (post, inbox) = NewMailbox::new(rt, alloc, 4)?.enter(&register, &mut front, rt);
+    let (register, mut prefix) = opened.named::<H>();
+    let (post, inbox) = NewMailbox::new(rt, alloc, 4)?.enter(&register, &mut prefix, rt);
     let (mut post, mut inbox) = join(
         &rt,
         move || put_all(rt, alloc, post),
@@ -238,7 +233,7 @@ fn exchange<H: House + Threads + Abort + Send + Sync>(
 fn exchange_named<J: Naming + Send + Sync, R: Wait + Threads + Abort + Copy + Send + Sync>(
     rt: R,
     alloc: Global,
-    opened: Opened<Line>,
+    opened: Opened<Channel>,
 ) -> Result<(), AllocError>
     requires { opened ≡ J.book }
 {

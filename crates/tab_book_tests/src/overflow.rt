@@ -11,8 +11,8 @@ use tab_book::{Book, Drained, Seat, Shared};
 use tab_lists::EventTerms;
 use tab_model::{Command, Item, Reply};
 use tab_named::SeatInbox;
-use tab_names::{House, Naming, Opened};
-use tab_post::Line;
+use tab_names::{Host, Naming, Opened};
+use tab_post::Channel;
 
 /// What is shown at an inbox, as a number: a batch of one event is 100 and its commit, an overflow 200 and its commit.
 fn shown_as(drained: &Drained) -> u64 {
@@ -62,42 +62,37 @@ fn is_untold(reply: &Reply) -> bool {
     }
 }
 
-fn commit<H: House>(
-    house: &H,
+fn commit<H: Host>(
+    host: &H,
     alloc: Global,
     shared: &Shared<H>,
     seat: &Seat,
 ) -> Result<u64, AllocError> {
-    shared.call(house, seat, Command::Begin)?;
-    shared.call(house, seat, write(alloc, 1)?)?;
-    let told = shared.call(house, seat, Command::Commit)?;
+    shared.call(host, seat, Command::Begin)?;
+    shared.call(host, seat, write(alloc, 1)?)?;
+    let told = shared.call(host, seat, Command::Commit)?;
     Ok(number_of(told.reply()))
 }
 
-pub fn shown<H: House>(
-    house: &H,
-    shared: &Shared<H>,
-    seat: &Seat,
-    inbox: &mut SeatInbox<H>,
-) -> u64 {
-    shown_as(&shared.drained(house, seat, inbox))
+pub fn shown<H: Host>(host: &H, shared: &Shared<H>, seat: &Seat, inbox: &mut SeatInbox<H>) -> u64 {
+    shown_as(&shared.drained(host, seat, inbox))
 }
 
 /// Whether the reader subscribes, and is shown its begin mark.
-fn watches<H: House>(
-    house: &H,
+fn watches<H: Host>(
+    host: &H,
     alloc: Global,
     shared: &Shared<H>,
     seat: &Seat,
     inbox: &mut SeatInbox<H>,
 ) -> Result<bool, AllocError> {
-    let told = shared.call(house, seat, subscribe(alloc)?)?;
-    Ok(is_here(told.reply()) && shown(house, shared, seat, inbox) == BEGAN)
+    let told = shared.call(host, seat, subscribe(alloc)?)?;
+    Ok(is_here(told.reply()) && shown(host, shared, seat, inbox) == BEGAN)
 }
 
 /// Whether the commits have these numbers.
-fn commits<H: House>(
-    house: &H,
+fn commits<H: Host>(
+    host: &H,
     alloc: Global,
     shared: &Shared<H>,
     seat: &Seat,
@@ -105,57 +100,57 @@ fn commits<H: House>(
 ) -> Result<bool, AllocError> {
     let mut right = true;
     for number in numbers {
-        right = commit(house, alloc, shared, seat)? == *number && right;
+        right = commit(host, alloc, shared, seat)? == *number && right;
     }
     Ok(right)
 }
 
 /// Whether the reader, which overflowed, is refused a subscription until it was shown all of these.
-fn is_told<H: House>(
-    house: &H,
+fn is_told<H: Host>(
+    host: &H,
     alloc: Global,
     shared: &Shared<H>,
     seat: &Seat,
     inbox: &mut SeatInbox<H>,
     items: &[u64],
 ) -> Result<bool, AllocError> {
-    let refused = shared.call(house, seat, subscribe(alloc)?)?;
+    let refused = shared.call(host, seat, subscribe(alloc)?)?;
     let mut right = is_untold(refused.reply());
     for wanted in items {
-        right = shown(house, shared, seat, inbox) == *wanted && right;
+        right = shown(host, shared, seat, inbox) == *wanted && right;
     }
     Ok(right)
 }
 
 /// Three commits while nobody takes from a mailbox of two items, twice.
-fn overflow<H: House>(house: H, alloc: Global, opened: Opened<Line>) -> Result<bool, Fail>
+fn overflow<H: Host>(host: H, alloc: Global, opened: Opened<Channel>) -> Result<bool, Fail>
     requires { opened ≡ H.book }
 {
-    let shared = Shared::new(Book::new(house, alloc, opened, LIMITS, 2)?);
-    overflow_in(&house, alloc, &shared)
+    let shared = Shared::new(Book::new(host, alloc, opened, LIMITS, 2)?);
+    overflow_in(&host, alloc, &shared)
 }
 
-fn overflow_in<H: House>(house: &H, alloc: Global, shared: &Shared<H>) -> Result<bool, Fail> {
-    let (writer, mut others) = shared.join(house).map_err(|_| "join")?;
-    let (reader, mut inbox) = shared.join(house).map_err(|_| "join")?;
-    shared.call(house, &writer, create(alloc)?)?;
+fn overflow_in<H: Host>(host: &H, alloc: Global, shared: &Shared<H>) -> Result<bool, Fail> {
+    let (writer, mut others) = shared.join(host).map_err(|_| "join")?;
+    let (reader, mut inbox) = shared.join(host).map_err(|_| "join")?;
+    shared.call(host, &writer, create(alloc)?)?;
     let mut right = true;
     for (numbers, items) in &ROUNDS {
-        right = watches(house, alloc, shared, &reader, &mut inbox)? && right;
-        right = commits(house, alloc, shared, &writer, numbers)? && right;
+        right = watches(host, alloc, shared, &reader, &mut inbox)? && right;
+        right = commits(host, alloc, shared, &writer, numbers)? && right;
         // An inbox of another session takes nothing.
-        right = shown(house, shared, &reader, &mut others) == ALL_TAKEN && right;
-        right = is_told(house, alloc, shared, &reader, &mut inbox, items)? && right;
+        right = shown(host, shared, &reader, &mut others) == ALL_TAKEN && right;
+        right = is_told(host, alloc, shared, &reader, &mut inbox, items)? && right;
     }
-    right = watches(house, alloc, shared, &reader, &mut inbox)? && right;
-    shared.leave(house, &reader);
-    Ok(right && shown(house, shared, &reader, &mut inbox) == LEFT)
+    right = watches(host, alloc, shared, &reader, &mut inbox)? && right;
+    shared.leave(host, &reader);
+    Ok(right && shown(host, shared, &reader, &mut inbox) == LEFT)
 }
 
 fn overflow_named<J: Naming, R: Wait + Copy>(
     rt: R,
     alloc: Global,
-    opened: Opened<Line>,
+    opened: Opened<Channel>,
 ) -> Result<bool, Fail>
     requires { opened ≡ J.book }
 {

@@ -12,8 +12,8 @@ use std::test::*;
 use tab_book::{Book, JoinFault, Seat, Shared};
 use tab_model::{Command, Limits, Reply};
 use tab_named::SeatInbox;
-use tab_names::{House, Naming, Opened};
-use tab_post::Line;
+use tab_names::{Host, Naming, Opened};
+use tab_post::Channel;
 
 /// Who asks, and what.
 #[derive(Clone, Copy)]
@@ -74,16 +74,16 @@ fn number(reply: &Reply) -> u64 {
     }
 }
 
-fn join<H: House>(house: &H, shared: &Shared<H>) -> Result<(Seat, SeatInbox<H>), JoinFault> {
-    match shared.join(house) {
-        Err(JoinFault::NoMemory) => shared.join(house),
+fn join<H: Host>(host: &H, shared: &Shared<H>) -> Result<(Seat, SeatInbox<H>), JoinFault> {
+    match shared.join(host) {
+        Err(JoinFault::NoMemory) => shared.join(host),
         joined => joined,
     }
 }
 
 /// What the step is told, which is made again where it finds no memory: one allocation alone is refused.
-fn told<H: House>(
-    house: &H,
+fn told<H: Host>(
+    host: &H,
     alloc: Global,
     shared: &Shared<H>,
     seat: &Seat,
@@ -93,7 +93,7 @@ fn told<H: House>(
         let Ok(command) = command(alloc, ask) else {
             continue;
         };
-        if let Ok(told) = shared.step(house, seat, command) {
+        if let Ok(told) = shared.step(host, seat, command) {
             return Some(number(told.reply()));
         }
     }
@@ -101,47 +101,43 @@ fn told<H: House>(
 }
 
 /// Whether the journal has its two last entries behind a base of the commits before, and is a history of the tables.
-fn is_history<H: House>(house: &H, shared: &Shared<H>) -> Result<bool, AllocError> {
-    let audit = match shared.audit(house) {
-        Err(_) => shared.audit(house)?,
+fn is_history<H: Host>(host: &H, shared: &Shared<H>) -> Result<bool, AllocError> {
+    let audit = match shared.audit(host) {
+        Err(_) => shared.audit(host)?,
         Ok(audit) => audit,
     };
-    let book = shared.hold(house);
+    let book = shared.hold(host);
     let journal = book.journal();
     Ok(audit && journal.len() == ENTRIES && journal.base().commits() == 1)
 }
 
 /// The first step that was told another thing, or of those that the watcher is shown, behind them; None where all is right.
-fn differs<H: House>(house: H, alloc: Global, opened: Opened<Line>) -> Result<Option<usize>, Fail>
+fn differs<H: Host>(host: H, alloc: Global, opened: Opened<Channel>) -> Result<Option<usize>, Fail>
     requires { opened ≡ H.book }
 {
     let limits = Limits {
         journal: ENTRIES as u64,
         ..LIMITS
     };
-    let book = Book::new(house, alloc, opened, limits, 3).map_err(|_| "no book")?;
-    differs_in(&house, alloc, &Shared::new(book))
+    let book = Book::new(host, alloc, opened, limits, 3).map_err(|_| "no book")?;
+    differs_in(&host, alloc, &Shared::new(book))
 }
 
-fn differs_in<H: House>(
-    house: &H,
-    alloc: Global,
-    shared: &Shared<H>,
-) -> Result<Option<usize>, Fail> {
-    let (writer, _inbox) = join(house, shared).map_err(|_| "no writer")?;
-    let (watcher, mut inbox) = join(house, shared).map_err(|_| "no watcher")?;
-    let differs = match step_differs(house, alloc, shared, &writer, &watcher) {
-        None => shown_differs(house, shared, &watcher, &mut inbox),
+fn differs_in<H: Host>(host: &H, alloc: Global, shared: &Shared<H>) -> Result<Option<usize>, Fail> {
+    let (writer, _inbox) = join(host, shared).map_err(|_| "no writer")?;
+    let (watcher, mut inbox) = join(host, shared).map_err(|_| "no watcher")?;
+    let differs = match step_differs(host, alloc, shared, &writer, &watcher) {
+        None => shown_differs(host, shared, &watcher, &mut inbox),
         differs => differs,
     };
-    if differs.is_none() && !is_history(house, shared)? {
+    if differs.is_none() && !is_history(host, shared)? {
         return Ok(Some(STEPS.len() + SHOWN.len()));
     }
     Ok(differs)
 }
 
-fn step_differs<H: House>(
-    house: &H,
+fn step_differs<H: Host>(
+    host: &H,
     alloc: Global,
     shared: &Shared<H>,
     writer: &Seat,
@@ -153,21 +149,21 @@ fn step_differs<H: House>(
         } else {
             writer
         };
-        if told(house, alloc, shared, seat, *ask) != Some(*wanted) {
+        if told(host, alloc, shared, seat, *ask) != Some(*wanted) {
             return Some(place);
         }
     }
     None
 }
 
-fn shown_differs<H: House>(
-    house: &H,
+fn shown_differs<H: Host>(
+    host: &H,
     shared: &Shared<H>,
     watcher: &Seat,
     inbox: &mut SeatInbox<H>,
 ) -> Option<usize> {
     for (place, wanted) in SHOWN.iter().enumerate() {
-        if shown(house, shared, watcher, inbox) != *wanted {
+        if shown(host, shared, watcher, inbox) != *wanted {
             return Some(STEPS.len() + place);
         }
     }
@@ -177,7 +173,7 @@ fn shown_differs<H: House>(
 fn differs_named<J: Naming, R: Wait + Copy>(
     rt: R,
     alloc: Global,
-    opened: Opened<Line>,
+    opened: Opened<Channel>,
 ) -> Result<Option<usize>, Fail>
     requires { opened ≡ J.book }
 {

@@ -9,8 +9,8 @@ use std::sync::Wait;
 use std::test::*;
 use tab_book::{Answered, Book, Seat, Shared, Step};
 use tab_model::{Command, Reply};
-use tab_names::{House, Naming, Opened};
-use tab_post::Line;
+use tab_names::{Host, Naming, Opened};
+use tab_post::Channel;
 use tab_term::Term;
 
 /// What a session asks.
@@ -65,15 +65,15 @@ fn then_of(answered: &Answered) -> Then {
     }
 }
 
-fn stepped<H: House>(
-    house: &H,
+fn stepped<H: Host>(
+    host: &H,
     alloc: Global,
     shared: &Shared<H>,
     seat: &Seat,
     ask: Ask,
 ) -> Result<Then, AllocError> {
     let step = step_of(alloc, ask)?;
-    let mut book = shared.hold(house);
+    let mut book = shared.hold(host);
     let answered = book.step(seat.session(), step)?;
     let then = then_of(&answered);
     shared.let_go(book, answered.releases);
@@ -81,38 +81,38 @@ fn stepped<H: House>(
 }
 
 /// The first step that differs.
-fn make_steps<H: House>(
-    house: H,
+fn make_steps<H: Host>(
+    host: H,
     alloc: Global,
-    opened: Opened<Line>,
+    opened: Opened<Channel>,
 ) -> Result<Option<usize>, Fail>
     requires { opened ≡ H.book }
 {
-    let shared = Shared::new(Book::new(house, alloc, opened, LIMITS, 64)?);
-    make_steps_in(&house, alloc, &shared)
+    let shared = Shared::new(Book::new(host, alloc, opened, LIMITS, 64)?);
+    make_steps_in(&host, alloc, &shared)
 }
 
-fn make_steps_in<H: House>(
-    house: &H,
+fn make_steps_in<H: Host>(
+    host: &H,
     alloc: Global,
     shared: &Shared<H>,
 ) -> Result<Option<usize>, Fail> {
-    let (first, _inbox) = shared.join(house).map_err(|_| "join")?;
-    let (second, _inbox) = shared.join(house).map_err(|_| "join")?;
-    let (third, _inbox) = shared.join(house).map_err(|_| "join")?;
-    shared.call(house, &first, create(alloc)?)?;
-    step_differs(house, alloc, shared, &[first, second, third])
+    let (first, _inbox) = shared.join(host).map_err(|_| "join")?;
+    let (second, _inbox) = shared.join(host).map_err(|_| "join")?;
+    let (third, _inbox) = shared.join(host).map_err(|_| "join")?;
+    shared.call(host, &first, create(alloc)?)?;
+    step_differs(host, alloc, shared, &[first, second, third])
 }
 
-fn step_differs<H: House>(
-    house: &H,
+fn step_differs<H: Host>(
+    host: &H,
     alloc: Global,
     shared: &Shared<H>,
-    seats: &[Seat],
+    sessions: &[Seat],
 ) -> Result<Option<usize>, Fail> {
     for (line, (of, ask, then)) in STEPS.iter().enumerate() {
-        let seat = *seats.get(*of).ok_or("no seat")?;
-        if stepped(house, alloc, shared, &seat, *ask)? != *then {
+        let seat = *sessions.get(*of).ok_or("no seat")?;
+        if stepped(host, alloc, shared, &seat, *ask)? != *then {
             return Ok(Some(line));
         }
     }
@@ -122,7 +122,7 @@ fn step_differs<H: House>(
 fn make_named_steps<J: Naming, R: Wait + Copy>(
     rt: R,
     alloc: Global,
-    opened: Opened<Line>,
+    opened: Opened<Channel>,
 ) -> Result<Option<usize>, Fail>
     requires { opened ≡ J.book }
 {

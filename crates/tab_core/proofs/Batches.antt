@@ -10,10 +10,10 @@ use Rattle.tab_model.specs.declared.data.Item.{Item}
 use Rattle.tab_model.specs.declared.data.Level.{Level}
 use Rattle.tab_model.specs.declared.data.Level.TheVariants.{Simple, Detailed}
 use Rattle.tab_model.specs.Events.{events, event_of, change_all}
-use Rattle.tab_model.specs.Operations.{table_of_change, change_world}
+use Rattle.tab_model.specs.Operations.{table_of_change, change_catalog}
 use Rattle.tab_model.specs.Slices.{batch_for, as_batch, shape_at}
 use Rattle.tab_model.specs.State.{level_in}
-use Rattle.tab_model.specs.Worlds.{World}
+use Rattle.tab_model.specs.Catalogs.{Catalog}
 use Rattle.tab_subs.specs.Subscribers.{Subscriber, higher, watched}
 use Rattle.tab_core.specs.Owing.{is_watched, are_watched}
 
@@ -51,15 +51,15 @@ pub batches_of_watched : (n : ℕ) (bs : List Subscriber) (es : List Event)
 batches_of_watched n bs es = same_batches n (is_watched bs) es bs (λ e g. by_nobody bs e.tab g)
 
 -- where no change is watched, no event is
-pub none_watched : (bs : List Subscriber) (w : World) (age : ℕ) (cs : List Change) → are_watched bs cs ≡ false → filter (is_watched bs) (events w age cs) ≡ []
+pub none_watched : (bs : List Subscriber) (w : Catalog) (age : ℕ) (cs : List Change) → are_watched bs cs ≡ false → filter (is_watched bs) (events w age cs) ≡ []
 none_watched bs w age [] h = refl
 none_watched bs w age (c ∷ cs) h =
     let p = or_parts (is_some (watched bs (table_of_change c))) (are_watched bs cs) h in
-    ap (λ b. if b then event_of w age c ∷ filter (is_watched bs) (events (change_world w c) age cs) else filter (is_watched bs) (events (change_world w c) age cs)) p.0
-    ∙ none_watched bs (change_world w c) age cs p.1
+    ap (λ b. if b then event_of w age c ∷ filter (is_watched bs) (events (change_catalog w c) age cs) else filter (is_watched bs) (events (change_catalog w c) age cs)) p.0
+    ∙ none_watched bs (change_catalog w c) age cs p.1
 
--- nor is any batch owed
-pub no_batches : (n : ℕ) (bs : List Subscriber) (w : World) (age : ℕ) (cs : List Change) → are_watched bs cs ≡ false → map (λ (b : Subscriber). batch_for (level_in b.watching) n (events w age cs)) bs ≡ map (λ (b : Subscriber). []) bs
+-- nor is any batch due
+pub no_batches : (n : ℕ) (bs : List Subscriber) (w : Catalog) (age : ℕ) (cs : List Change) → are_watched bs cs ≡ false → map (λ (b : Subscriber). batch_for (level_in b.watching) n (events w age cs)) bs ≡ map (λ (b : Subscriber). []) bs
 no_batches n bs w age cs h = sym (batches_of_watched n bs (events w age cs)) ∙ ap (λ es. map (λ (b : Subscriber). batch_for (level_in b.watching) n es) bs) (none_watched bs w age cs h)
 
 -- one event more is watched or not
@@ -71,18 +71,18 @@ events_go_on p old e es = by (p e)
     by false = ap (λ xs. xs ++ filter p es) (append-nil old)
 
 -- one pass over changes: what is still to be done of them makes of the tables and events so far those of all
-abbrev pub Passes : World → List Subscriber → ℕ → List Change → World → List Event → List Change → Type 0
+abbrev pub Passes : Catalog → List Subscriber → ℕ → List Change → Catalog → List Event → List Change → Type 0
 Passes w bs age cs now es rest = (change_all now rest ≡ change_all w cs) × (es ++ filter (is_watched bs) (events now age rest) ≡ filter (is_watched bs) (events w age cs))
 
-pub pass_starts : (w now : World) (bs : List Subscriber) (age : ℕ) (cs : List Change) (es : List Event) → now ≡ w → es ≡ [] → Passes w bs age cs now es cs
+pub pass_starts : (w now : Catalog) (bs : List Subscriber) (age : ℕ) (cs : List Change) (es : List Event) → now ≡ w → es ≡ [] → Passes w bs age cs now es cs
 pass_starts w now bs age cs es same none = (ap (λ v. change_all v cs) same, λ i. none i ++ filter (is_watched bs) (events (same i) age cs))
 
-pub pass_goes_on : (w now next : World) (bs : List Subscriber) (age : ℕ) (cs : List Change) (i : ℕ) (c : Change) (old new : List Event) → i < length cs → c ≡ get_or cs i c → next ≡ change_world now c → new ≡ old ++ filter (is_watched bs) (event_of now age c ∷ [])
+pub pass_goes_on : (w now next : Catalog) (bs : List Subscriber) (age : ℕ) (cs : List Change) (i : ℕ) (c : Change) (old new : List Event) → i < length cs → c ≡ get_or cs i c → next ≡ change_catalog now c → new ≡ old ++ filter (is_watched bs) (event_of now age c ∷ [])
     → Passes w bs age cs now old (drop i cs) → Passes w bs age cs next new (drop (i + 1) cs)
 pass_goes_on w now next bs age cs i c old new less here step told so_far = (
   ap (λ v. change_all v (drop (i + 1) cs)) step ∙ ap (change_all now) (sym rest) ∙ so_far.0,
   (λ j. told j ++ filter (is_watched bs) (events (step j) age (drop (i + 1) cs)))
-      ∙ events_go_on (is_watched bs) old (event_of now age c) (events (change_world now c) age (drop (i + 1) cs))
+      ∙ events_go_on (is_watched bs) old (event_of now age c) (events (change_catalog now c) age (drop (i + 1) cs))
       ∙ ap (λ ds. old ++ filter (is_watched bs) (events now age ds)) (sym rest) ∙ so_far.1,
 )
   where
@@ -92,7 +92,7 @@ pass_goes_on w now next bs age cs i c old new less here step told so_far = (
     rest : drop i cs ≡ c ∷ drop (i + 1) cs
     rest = first ∙ ap (λ d. d ∷ drop (i + 1) cs) (sym here)
 
-pub pass_ends : (w now tables : World) (bs : List Subscriber) (age : ℕ) (cs : List Change) (i : ℕ) (es : List Event) → length cs ≤ i → tables ≡ now → Passes w bs age cs now es (drop i cs)
+pub pass_ends : (w now tables : Catalog) (bs : List Subscriber) (age : ℕ) (cs : List Change) (i : ℕ) (es : List Event) → length cs ≤ i → tables ≡ now → Passes w bs age cs now es (drop i cs)
     → (tables ≡ change_all w cs) × (es ≡ filter (is_watched bs) (events w age cs))
 pass_ends w now tables bs age cs i es done same so_far = (
   same ∙ ap (change_all now) (sym none) ∙ so_far.0,

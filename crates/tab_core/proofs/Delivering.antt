@@ -1,20 +1,20 @@
--- Items that are owed, delivered: what every session then watches, and what its post then shows.
+-- Items that are due, delivered: what every session then watches, and what its post then shows.
 use Rattle.std.proofs.Common.{◌≡◌, ◌≢◌, ℕ, ◌+◌, ◌<◌, List, [], ◌∷◌, ◌++◌, Bool, true, false, not, refl, sym, ap, ◌∙◌, subst, append-nil, length, Option, Some, None}
 use Rattle.std.specs.Prelude.{◌==◌, if◌then◌else◌, nat_le, is_some, IfSome, map, option_map}
 use Rattle.std.specs.List.{AllByRecursion, filter}
 use Rattle.tab_model.specs.declared.data.Item.{Item}
 use Rattle.tab_model.specs.Log.{has_session}
-use Rattle.tab_model.specs.State.{Watch, Outbox, Seat, seat_at, AreDistinct, without_watch}
+use Rattle.tab_model.specs.State.{Watch, Outbox, Session, session_at, AreDistinct, without_watch}
 use Rattle.tab_model.specs.Outcome as plain
-use Rattle.tab_model.specs.Outcome.{is_empty, pushed}
-use Rattle.tab_model.specs.Run.{Pinned}
-use Rattle.tab_model.proofs.Seats.{eq_true, itself, differs'}
+use Rattle.tab_model.specs.Outcome.{is_empty, with_items}
+use Rattle.tab_model.specs.Run.{IsSplitByOverflow}
+use Rattle.tab_model.proofs.SessionLists.{eq_true, itself, differs'}
 use Rattle.tab_subs.specs.Subscribers.{Subscriber, at, numbers, given, overflowed, overflow_of}
 use Rattle.tab_subs.specs.Deliveries.{first_of, rest_of, unwatched, given_all, IsDecided, AreDecided, joined_if, those_in}
-use Rattle.tab_core.specs.Seats.{watching_of, outbox_of, seat_with}
+use Rattle.tab_core.specs.SessionLists.{watching_of, outbox_of, session_with}
 
-numbers_of : List Seat → List ℕ
-numbers_of ss = map (λ (s : Seat). s.number) ss
+numbers_of : List Session → List ℕ
+numbers_of ss = map (λ (s : Session). s.number) ss
 
 -- ---- who is there
 
@@ -39,15 +39,15 @@ all_there : (bs : List Subscriber) → AllByRecursion (IsThere bs) (numbers bs)
 all_there [] = tt
 all_there (c ∷ bs) = (there_first c bs, all_on c bs (numbers bs) (all_there bs))
 
--- every seat has its subscriber
-pub seated_there : (bs : List Subscriber) (ss : List Seat) → numbers bs ≡ map (λ (s : Seat). s.number) ss → AllByRecursion (IsThere bs) (map (λ (s : Seat). s.number) ss)
+-- every session has its subscriber
+pub seated_there : (bs : List Subscriber) (ss : List Session) → numbers bs ≡ map (λ (s : Session). s.number) ss → AllByRecursion (IsThere bs) (map (λ (s : Session). s.number) ss)
 seated_there bs ss h = subst (AllByRecursion (IsThere bs)) h (all_there bs)
 
-pub found_there : (bs : List Subscriber) (ss : List Seat) → AllByRecursion (IsThere bs) (map (λ (s : Seat). s.number) ss) → (n : ℕ) (s : Seat) → seat_at ss n ≡ Some s → IsThere bs n
+pub found_there : (bs : List Subscriber) (ss : List Session) → AllByRecursion (IsThere bs) (map (λ (s : Session). s.number) ss) → (n : ℕ) (s : Session) → session_at ss n ≡ Some s → IsThere bs n
 found_there bs [] h n s e = cc
 found_there bs (x ∷ ss) h n s e = by (x.number == n) refl e (found_there bs ss h.1 n s)
   where
-    by : (d : Bool) → (x.number == n) ≡ d → (if d then Some x else seat_at ss n) ≡ Some s → (seat_at ss n ≡ Some s → IsThere bs n) → IsThere bs n
+    by : (d : Bool) → (x.number == n) ≡ d → (if d then Some x else session_at ss n) ≡ Some s → (session_at ss n ≡ Some s → IsThere bs n) → IsThere bs n
     by true g f ih = subst (IsThere bs) (eq_true x.number n g) h.0
     by false g f ih = ih f
 
@@ -56,7 +56,7 @@ found_there bs (x ∷ ss) h n s e = by (x.number == n) refl e (found_there bs ss
 given_number : (n : ℕ) (over : List ℕ) (items : List Item) (b : Subscriber) → (given n over items b).number ≡ b.number
 given_number n over items b = by (has_session over b.number)
   where
-    by : (d : Bool) → Subscriber.number (if d then overflowed n b else record b { outbox = pushed b.outbox items }) ≡ b.number
+    by : (d : Bool) → Subscriber.number (if d then overflowed n b else record b { outbox = with_items b.outbox items }) ≡ b.number
     by true = refl
     by false = refl
 
@@ -87,65 +87,65 @@ module _ (n : ℕ) (over : List ℕ) (t : Option (List ℕ)) (h : List Watch →
       by true ih = refl
       by false ih = ih
 
-  -- the same of a seat, by the definitions
-  abbrev dress : Option Subscriber → Seat → Seat
+  -- the same of a session, by the definitions
+  abbrev dress : Option Subscriber → Session → Session
   dress o s = record s { watching = watching_of o; outbox = outbox_of o; overflow = overflow_of o }
 
-  abbrev pub seat_given : Seat → Seat
-  seat_given x = plain.given n over (h x.watching) (plain.unwatched t x)
+  abbrev pub session_given : Session → Session
+  session_given x = plain.after_put n over (h x.watching) (plain.without_deleted t x)
 
-  one_seat : (b : Subscriber) (s : Seat) → b.number ≡ s.number → seat_given (dress (Some b) s) ≡ dress (Some (one b)) s
-  one_seat b s e = at_table t
+  sole_session : (b : Subscriber) (s : Session) → b.number ≡ s.number → session_given (dress (Some b) s) ≡ dress (Some (one b)) s
+  sole_session b s e = at_table t
     where
-      at_table : (u : Option (List ℕ)) → plain.given n over (h b.watching) (plain.unwatched u (dress (Some b) s)) ≡ dress (Some (given n over (h b.watching) (unwatched u b))) s
-      at_table None = by (has_session over s.number) ∙ ap (λ k. dress (Some (if has_session over k then overflowed n b else record b { outbox = pushed b.outbox (h b.watching) })) s) (sym e)
+      at_table : (u : Option (List ℕ)) → plain.after_put n over (h b.watching) (plain.without_deleted u (dress (Some b) s)) ≡ dress (Some (given n over (h b.watching) (unwatched u b))) s
+      at_table None = by (has_session over s.number) ∙ ap (λ k. dress (Some (if has_session over k then overflowed n b else record b { outbox = with_items b.outbox (h b.watching) })) s) (sym e)
         where
-          by : (d : Bool) → (if d then plain.overflowed n (dress (Some b) s) else record s { watching = b.watching; outbox = pushed b.outbox (h b.watching); overflow = b.overflow })
-              ≡ dress (Some (if d then overflowed n b else record b { outbox = pushed b.outbox (h b.watching) })) s
+          by : (d : Bool) → (if d then plain.after_overflow n (dress (Some b) s) else record s { watching = b.watching; outbox = with_items b.outbox (h b.watching); overflow = b.overflow })
+              ≡ dress (Some (if d then overflowed n b else record b { outbox = with_items b.outbox (h b.watching) })) s
           by true = refl
           by false = refl
-      at_table (Some v) = by (has_session over s.number) ∙ ap (λ k. dress (Some (if has_session over k then overflowed n (unwatched (Some v) b) else record b { watching = without_watch b.watching v; outbox = pushed b.outbox (h b.watching) })) s) (sym e)
+      at_table (Some v) = by (has_session over s.number) ∙ ap (λ k. dress (Some (if has_session over k then overflowed n (unwatched (Some v) b) else record b { watching = without_watch b.watching v; outbox = with_items b.outbox (h b.watching) })) s) (sym e)
         where
-          by : (d : Bool) → (if d then plain.overflowed n (plain.unwatched (Some v) (dress (Some b) s)) else record s { watching = without_watch b.watching v; outbox = pushed b.outbox (h b.watching); overflow = b.overflow })
-              ≡ dress (Some (if d then overflowed n (unwatched (Some v) b) else record b { watching = without_watch b.watching v; outbox = pushed b.outbox (h b.watching) })) s
+          by : (d : Bool) → (if d then plain.after_overflow n (plain.without_deleted (Some v) (dress (Some b) s)) else record s { watching = without_watch b.watching v; outbox = with_items b.outbox (h b.watching); overflow = b.overflow })
+              ≡ dress (Some (if d then overflowed n (unwatched (Some v) b) else record b { watching = without_watch b.watching v; outbox = with_items b.outbox (h b.watching) })) s
           by true = refl
           by false = refl
 
-  seat_after : (bs : List Subscriber) (s : Seat) → IsThere bs s.number → seat_given (seat_with bs s) ≡ seat_with (after bs) s
-  seat_after bs s (b, is, e) =
-      ap (λ o. seat_given (dress o s)) is ∙ one_seat b s e ∙ ap (λ o. dress o s) (sym (at_after bs s.number ∙ ap (option_map one) is))
+  session_after : (bs : List Subscriber) (s : Session) → IsThere bs s.number → session_given (session_with bs s) ≡ session_with (after bs) s
+  session_after bs s (b, is, e) =
+      ap (λ o. session_given (dress o s)) is ∙ sole_session b s e ∙ ap (λ o. dress o s) (sym (at_after bs s.number ∙ ap (option_map one) is))
 
-  -- all seats are given theirs
-  pub seats_after : (bs : List Subscriber) (ss : List Seat) → AllByRecursion (IsThere bs) (map (λ (s : Seat). s.number) ss) → map seat_given (map (seat_with bs) ss) ≡ map (seat_with (after bs)) ss
-  seats_after bs [] a = refl
-  seats_after bs (s ∷ ss) a = λ i. seat_after bs s a.0 i ∷ seats_after bs ss a.1 i
+  -- all sessions are given theirs
+  pub sessions_after : (bs : List Subscriber) (ss : List Session) → AllByRecursion (IsThere bs) (map (λ (s : Session). s.number) ss) → map session_given (map (session_with bs) ss) ≡ map (session_with (after bs)) ss
+  sessions_after bs [] a = refl
+  sessions_after bs (s ∷ ss) a = λ i. session_after bs s a.0 i ∷ sessions_after bs ss a.1 i
 
   -- ---- who overflows
 
-  -- each seat with its subscriber
-  abbrev pub Matches : List Subscriber → List Subscriber → List Seat → Type 0
+  -- each session with its subscriber
+  abbrev pub Matches : List Subscriber → List Subscriber → List Session → Type 0
   Matches bs [] [] = Unit {0}
   Matches bs [] (s ∷ ss) = ⊥
   Matches bs (c ∷ cs) [] = ⊥
   Matches bs (c ∷ cs) (s ∷ ss) = (at bs s.number ≡ Some c) × (c.number ≡ s.number) × Matches bs cs ss
 
-  matches_on : (b : Subscriber) (bs cs : List Subscriber) (ss : List Seat) → seat_at ss b.number ≡ None → Matches bs cs ss → Matches (b ∷ bs) cs ss
+  matches_on : (b : Subscriber) (bs cs : List Subscriber) (ss : List Session) → session_at ss b.number ≡ None → Matches bs cs ss → Matches (b ∷ bs) cs ss
   matches_on b bs [] [] none m = tt
   matches_on b bs [] (s ∷ ss) none m = absurd m
   matches_on b bs (c ∷ cs) [] none m = absurd m
   matches_on b bs (c ∷ cs) (s ∷ ss) none m = by (s.number == b.number) refl none (λ g. matches_on b bs cs ss g m.2)
     where
-      by : (d : Bool) → (s.number == b.number) ≡ d → (if d then Some s else seat_at ss b.number) ≡ None → (seat_at ss b.number ≡ None → Matches (b ∷ bs) cs ss) → Matches (b ∷ bs) (c ∷ cs) (s ∷ ss)
+      by : (d : Bool) → (s.number == b.number) ≡ d → (if d then Some s else session_at ss b.number) ≡ None → (session_at ss b.number ≡ None → Matches (b ∷ bs) cs ss) → Matches (b ∷ bs) (c ∷ cs) (s ∷ ss)
       by true e g ih = cc
-      by false e g ih = (ap (λ d. if d then Some b else at bs s.number) (differs' b.number s.number (λ q. Rattle.tab_model.proofs.Seats.other_number s.number b.number e (sym q))) ∙ m.0, m.1, ih g)
+      by false e g ih = (ap (λ d. if d then Some b else at bs s.number) (differs' b.number s.number (λ q. Rattle.tab_model.proofs.SessionLists.other_number s.number b.number e (sym q))) ∙ m.0, m.1, ih g)
 
-  all_match : (bs : List Subscriber) (ss : List Seat) → numbers bs ≡ map (λ (s : Seat). s.number) ss → AreDistinct ss → Matches bs bs ss
+  all_match : (bs : List Subscriber) (ss : List Session) → numbers bs ≡ map (λ (s : Session). s.number) ss → AreDistinct ss → Matches bs bs ss
   all_match [] [] e d = tt
   all_match [] (s ∷ ss) e d = cc
   all_match (b ∷ bs) [] e d = cc
   all_match (b ∷ bs) (s ∷ ss) e d =
       let first : b.number ≡ s.number = head_is e in
-      (ap (λ k. if k == s.number then Some b else at bs s.number) first ∙ ap (λ q. if q then Some b else at bs s.number) (itself s.number), first, matches_on b bs bs ss (ap (seat_at ss) first ∙ d.0) (all_match bs ss (tail_is e) d.1))
+      (ap (λ k. if k == s.number then Some b else at bs s.number) first ∙ ap (λ q. if q then Some b else at bs s.number) (itself s.number), first, matches_on b bs bs ss (ap (session_at ss) first ∙ d.0) (all_match bs ss (tail_is e) d.1))
     where
       head_is : {k l : ℕ} {ks ls : List ℕ} → (k ∷ ks) ≡ (l ∷ ls) → k ≡ l
       head_is q = cc
@@ -153,20 +153,20 @@ module _ (n : ℕ) (over : List ℕ) (t : Option (List ℕ)) (h : List Watch →
       tail_is : {k l : ℕ} {ks ls : List ℕ} → (k ∷ ks) ≡ (l ∷ ls) → ks ≡ ls
       tail_is q = cc
 
-  abbrev pub owing : Seat → Bool
+  abbrev pub owing : Session → Bool
   owing x = not (is_empty (h x.watching))
 
-  pins : (all : List ℕ) (bs cs : List Subscriber) (ss : List Seat) → Matches bs cs ss → AreDecided all (map (λ (b : Subscriber). h b.watching) cs) cs → Pinned (filter owing (map (seat_with bs) ss)) (those_in all cs)
+  pins : (all : List ℕ) (bs cs : List Subscriber) (ss : List Session) → Matches bs cs ss → AreDecided all (map (λ (b : Subscriber). h b.watching) cs) cs → IsSplitByOverflow (filter owing (map (session_with bs) ss)) (those_in all cs)
   pins all bs [] [] m d = refl
   pins all bs [] (s ∷ ss) m d = absurd m
   pins all bs (c ∷ cs) [] m d = absurd m
   pins all bs (c ∷ cs) (s ∷ ss) m d =
-      subst (λ o. Pinned (if not (is_empty (h (watching_of o))) then dress o s ∷ filter owing (map (seat_with bs) ss) else filter owing (map (seat_with bs) ss)) (those_in all (c ∷ cs))) (sym m.0)
+      subst (λ o. IsSplitByOverflow (if not (is_empty (h (watching_of o))) then dress o s ∷ filter owing (map (session_with bs) ss) else filter owing (map (session_with bs) ss)) (those_in all (c ∷ cs))) (sym m.0)
       (by (h c.watching) d.0 (pins all bs cs ss m.2 d.1))
     where
-      by : (items : List Item) → IsDecided (has_session all c.number) items c.outbox → Pinned (filter owing (map (seat_with bs) ss)) (those_in all cs)
-          → Pinned (if not (is_empty items) then dress (Some c) s ∷ filter owing (map (seat_with bs) ss) else filter owing (map (seat_with bs) ss)) (joined_if (has_session all c.number) c.number (those_in all cs))
-      by [] e rest = subst (λ b. Pinned (filter owing (map (seat_with bs) ss)) (joined_if b c.number (those_in all cs))) (sym e) rest
+      by : (items : List Item) → IsDecided (has_session all c.number) items c.outbox → IsSplitByOverflow (filter owing (map (session_with bs) ss)) (those_in all cs)
+          → IsSplitByOverflow (if not (is_empty items) then dress (Some c) s ∷ filter owing (map (session_with bs) ss) else filter owing (map (session_with bs) ss)) (joined_if (has_session all c.number) c.number (those_in all cs))
+      by [] e rest = subst (λ b. IsSplitByOverflow (filter owing (map (session_with bs) ss)) (joined_if b c.number (those_in all cs))) (sym e) rest
       by (i ∷ is) e rest = (has_session all c.number, those_in all cs, list_is (has_session all c.number) ∙ ap (λ k. if has_session all c.number then k ∷ those_in all cs else those_in all cs) m.1, e, rest)
         where
           list_is : (b : Bool) → joined_if b c.number (those_in all cs) ≡ (if b then c.number ∷ those_in all cs else those_in all cs)
@@ -174,5 +174,5 @@ module _ (n : ℕ) (over : List ℕ) (t : Option (List ℕ)) (h : List Watch →
           list_is false = refl
 
   -- those who overflowed are those whose posts refused, and no other could
-  pub are_pinned : (bs : List Subscriber) (ss : List Seat) → numbers bs ≡ map (λ (s : Seat). s.number) ss → AreDistinct ss → over ≡ those_in over bs → AreDecided over (map (λ (b : Subscriber). h b.watching) bs) bs → Pinned (filter owing (map (seat_with bs) ss)) over
-  are_pinned bs ss same distinct is decided = subst (Pinned (filter owing (map (seat_with bs) ss))) (sym is) (pins over bs bs ss (all_match bs ss same distinct) decided)
+  pub are_pinned : (bs : List Subscriber) (ss : List Session) → numbers bs ≡ map (λ (s : Session). s.number) ss → AreDistinct ss → over ≡ those_in over bs → AreDecided over (map (λ (b : Subscriber). h b.watching) bs) bs → IsSplitByOverflow (filter owing (map (session_with bs) ss)) over
+  are_pinned bs ss same distinct is decided = subst (IsSplitByOverflow (filter owing (map (session_with bs) ss))) (sym is) (pins over bs bs ss (all_match bs ss same distinct) decided)

@@ -1,6 +1,6 @@
 pub mod Frames
 pub mod Delivering
-pub mod OneSeat
+pub mod SoleSession
 pub mod NumbersStay
 pub mod Batches
 pub mod OwingLemmas

@@ -8,7 +8,7 @@ use Rattle.tab_model.specs.declared.data.Reply.TheVariants as reply
 use Rattle.tab_model.specs.State.{State, IsSound}
 use Rattle.tab_model.specs.Reached.{IsRising}
 use Rattle.tab_model.specs.Outcome.{Ask, outcome}
-use Rattle.tab_model.specs.Run.{entries, taken_now, JoinsEmpty, IsTied, item_of}
+use Rattle.tab_model.specs.Run.{entries, delivered_by, JoinsEmpty, IsTied, item_of}
 use Rattle.tab_model.proofs.SoundSteps.{step_sound}
 use Rattle.tab_model.proofs.ReachedWaits.{step_rising}
 use Rattle.tab_model.proofs.TiedSteps.{step_tied}
@@ -44,7 +44,7 @@ ends_with f first σ all told h = (
 )
 
 -- a reply without an item gives none to take
-no_item : (m n : ℕ) (r : Reply) → item_of r ≡ [] → [] ≡ taken_now m n r
+no_item : (m n : ℕ) (r : Reply) → item_of r ≡ [] → [] ≡ delivered_by m n r
 no_item m n r e = cases (m == n)
   where
     cases : (b : Bool) → [] ≡ (if b then item_of r else [])
@@ -57,22 +57,22 @@ rests_tied σ τ log taken same tied = subst (λ (x : State). IsTied x (log ++ [
     (subst (λ (l : List Entry). IsTied σ l (λ m. taken m ++ [])) (sym (append-nil log)) (subst (λ (f : ℕ → List Item). IsTied σ log f) (λ i m. sym (append-nil (taken m)) i) tied))
 
 -- and where an answer that changes nothing gives nothing to take
-quiet_tied : (σ μ : State) (n : ℕ) (r : Reply) (log : List Entry) (taken : ℕ → List Item) → μ ≡ σ → item_of r ≡ [] → IsTied σ log taken → IsTied μ (log ++ []) (λ m. taken m ++ taken_now m n r)
+quiet_tied : (σ μ : State) (n : ℕ) (r : Reply) (log : List Entry) (taken : ℕ → List Item) → μ ≡ σ → item_of r ≡ [] → IsTied σ log taken → IsTied μ (log ++ []) (λ m. taken m ++ delivered_by m n r)
 quiet_tied σ μ n r log taken same e tied =
     subst (λ (f : ℕ → List Item). IsTied μ (log ++ []) f) (λ i m. taken m ++ no_item m n r e i) (rests_tied σ μ log taken same tied)
 
 -- what one step leaves
-step_takes : (σ μ : State) (a : ℕ × Ask) (r : Reply) (es log : List Entry) (taken : ℕ → List Item) → StepsOrNoMemory σ a r es μ → JoinsEmpty a.1 → IsSound σ → IsTied σ log taken → IsSound μ × IsTied μ (log ++ es) (λ m. taken m ++ taken_now m a.0 r)
+step_takes : (σ μ : State) (a : ℕ × Ask) (r : Reply) (es log : List Entry) (taken : ℕ → List Item) → StepsOrNoMemory σ a r es μ → JoinsEmpty a.1 → IsSound σ → IsTied σ log taken → IsSound μ × IsTied μ (log ++ es) (λ m. taken m ++ delivered_by m a.0 r)
 step_takes σ μ a r es log taken (inl (over, allowed, st, rp, en)) empty sound tied = (
   subst IsSound st (step_sound σ over a.0 a.1 sound),
-  subst (λ (x : State). IsTied x (log ++ es) (λ m. taken m ++ taken_now m a.0 r)) st
-      (subst (λ (l : List Entry). IsTied (outcome σ over a.0 a.1).state (log ++ l) (λ m. taken m ++ taken_now m a.0 r)) en
-      (subst (λ (q : Reply). IsTied (outcome σ over a.0 a.1).state (log ++ entries (outcome σ over a.0 a.1).entry) (λ m. taken m ++ taken_now m a.0 q)) rp
+  subst (λ (x : State). IsTied x (log ++ es) (λ m. taken m ++ delivered_by m a.0 r)) st
+      (subst (λ (l : List Entry). IsTied (outcome σ over a.0 a.1).state (log ++ l) (λ m. taken m ++ delivered_by m a.0 r)) en
+      (subst (λ (q : Reply). IsTied (outcome σ over a.0 a.1).state (log ++ entries (outcome σ over a.0 a.1).entry) (λ m. taken m ++ delivered_by m a.0 q)) rp
       (step_tied σ log taken over a.0 a.1 sound empty tied))),
 )
 step_takes σ μ a r es log taken (inr (takes, rp, en, st)) empty sound tied = (
   subst IsSound (sym st) sound,
-  subst (λ (l : List Entry). IsTied μ (log ++ l) (λ m. taken m ++ taken_now m a.0 r)) (sym en) (quiet_tied σ μ a.0 r log taken st (ap item_of rp) tied),
+  subst (λ (l : List Entry). IsTied μ (log ++ l) (λ m. taken m ++ delivered_by m a.0 r)) (sym en) (quiet_tied σ μ a.0 r log taken st (ap item_of rp) tied),
 )
 
 -- what every reached state has
@@ -95,6 +95,6 @@ history_goes_on σ τ (a ∷ asks) [] run ran empty sound log taken tied = absur
 history_goes_on σ τ [] (r ∷ rs) run ran empty sound log taken tied = absurd ran
 history_goes_on σ τ (a ∷ asks) (r ∷ rs) run (μ, es, rest, t, ran, is) empty sound log taken tied =
     let one = step_takes σ μ a r es log taken t empty.0 sound tied in
-    let all = history_goes_on μ τ asks rs rest ran empty.1 one.0 (log ++ es) (λ m. taken m ++ taken_now m a.0 r) one.1 in
+    let all = history_goes_on μ τ asks rs rest ran empty.1 one.0 (log ++ es) (λ m. taken m ++ delivered_by m a.0 r) one.1 in
     subst (λ (l : List Entry). IsTied τ l (λ m. taken m ++ taken_in m (a ∷ asks) (r ∷ rs))) (append_assoc log es rest ∙ ap (λ l. log ++ l) (sym is))
-    (subst (λ (f : ℕ → List Item). IsTied τ ((log ++ es) ++ rest) f) (λ i m. append_assoc (taken m) (taken_now m a.0 r) (taken_in m asks rs) i) all)
+    (subst (λ (f : ℕ → List Item). IsTied τ ((log ++ es) ++ rest) f) (λ i m. append_assoc (taken m) (delivered_by m a.0 r) (taken_in m asks rs) i) all)

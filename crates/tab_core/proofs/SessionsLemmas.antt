@@ -8,62 +8,62 @@ use Rattle.tab_model.specs.declared.data.Item.{Item}
 use Rattle.tab_model.specs.declared.data.Reply.{Reply}
 use Rattle.tab_model.specs.declared.data.Reply.TheVariants as reply
 use Rattle.tab_model.specs.Log.{has_session}
-use Rattle.tab_model.specs.State.{Outbox, Watch, Seat, State, seat_at, AreDistinct, is_waiting, transaction_at}
+use Rattle.tab_model.specs.State.{Outbox, Watch, Session, State, session_at, AreDistinct, is_waiting, transaction_at}
 use Rattle.tab_model.specs.Outcome as plain
-use Rattle.tab_model.specs.Outcome.{Ask, Join, Leave, Take, DoCommand, Outcome, outcome, nothing, by_seat, unseated, join, fresh, without_seat, with_seat, pushed, refused, takable, give}
-use Rattle.tab_model.proofs.Seats.{found}
-use Rattle.tab_manager.specs.Seats.{no_outbox}
+use Rattle.tab_model.specs.Outcome.{Ask, Join, Leave, Take, DoCommand, Outcome, outcome, step_without_entry, step_of, step_of_stranger, join, fresh, without_session, with_session, with_items, with_refusal, items_to_take, give}
+use Rattle.tab_model.proofs.SessionLists.{found}
+use Rattle.tab_manager.specs.SessionLists.{no_outbox}
 use Rattle.tab_manager.specs.Steps as manager
 use Rattle.tab_manager.specs.declared.step.Stepped.{Stepped}
 use Rattle.tab_subs.specs.Subscribers as subs
 use Rattle.tab_subs.specs.Subscribers.{Subscriber, at, numbers, AllBelow, change, without, taken_from, overflow_of}
-use Rattle.tab_core.specs.Seats.{seat_with, state_with, watching_of, outbox_of, AreTheSame, IsKept}
+use Rattle.tab_core.specs.SessionLists.{session_with, state_with, watching_of, outbox_of, AreTheSame, IsKept}
 use Rattle.tab_core.specs.Runs.{StepsTo, takes_no_memory}
 use Rattle.tab_core.proofs.Frames.{at_dressed, lifted}
 use Rattle.tab_core.proofs.Delivering.{seated_there, found_there}
-use Rattle.tab_core.proofs.OneSeat.{dress, seats_change, change_numbers, seats_without, without_nobody, without_numbers, seats_joined, joined_numbers}
+use Rattle.tab_core.proofs.SoleSession.{dress, sessions_change, change_numbers, sessions_without, without_nobody, without_numbers, sessions_joined, joined_numbers}
 use Rattle.tab_core.proofs.StepsLemmas.{Makes}
 
-abbrev pub with_seats : State → List Seat → ℕ → State
-with_seats σ ss greatest = record σ { seats = ss; greatest = greatest }
+abbrev pub with_sessions : State → List Session → ℕ → State
+with_sessions σ ss greatest = record σ { sessions = ss; greatest = greatest }
 
-pub mapped_none : (bs : List Subscriber) (σ : State) (n : ℕ) → seat_at σ.seats n ≡ None → seat_at (state_with bs σ).seats n ≡ None
-mapped_none bs σ n h = at_dressed bs σ.seats n ∙ ap (option_map (seat_with bs)) h
+pub mapped_none : (bs : List Subscriber) (σ : State) (n : ℕ) → session_at σ.sessions n ≡ None → session_at (state_with bs σ).sessions n ≡ None
+mapped_none bs σ n h = at_dressed bs σ.sessions n ∙ ap (option_map (session_with bs)) h
 
-pub mapped_some : (bs : List Subscriber) (σ : State) (n : ℕ) (s : Seat) → seat_at σ.seats n ≡ Some s → seat_at (state_with bs σ).seats n ≡ Some (seat_with bs s)
-mapped_some bs σ n s h = at_dressed bs σ.seats n ∙ ap (option_map (seat_with bs)) h
+pub mapped_some : (bs : List Subscriber) (σ : State) (n : ℕ) (s : Session) → session_at σ.sessions n ≡ Some s → session_at (state_with bs σ).sessions n ≡ Some (session_with bs s)
+mapped_some bs σ n s h = at_dressed bs σ.sessions n ∙ ap (option_map (session_with bs)) h
 
-pub at_seat : (σ : State) (over : List ℕ) (n : ℕ) (a : Ask) (o : Option Seat) → seat_at σ.seats n ≡ o → outcome σ over n a ≡ by_seat σ over n a o
+pub at_session : (σ : State) (over : List ℕ) (n : ℕ) (a : Ask) (o : Option Session) → session_at σ.sessions n ≡ o → outcome σ over n a ≡ step_of σ over n a o
 unfolding outcome
-at_seat σ over n a o h = ap (by_seat σ over n a) h
+at_session σ over n a o h = ap (step_of σ over n a) h
 
 -- nobody joins with a number that is taken
-numbers_below : (g : ℕ) (ss : List Seat) → ((n : ℕ) (s : Seat) → seat_at ss n ≡ Some s → n ≤ g) → AreDistinct ss → (m : ℕ) → g < m → AllBelow m (map (λ (s : Seat). s.number) ss)
+numbers_below : (g : ℕ) (ss : List Session) → ((n : ℕ) (s : Session) → session_at ss n ≡ Some s → n ≤ g) → AreDistinct ss → (m : ℕ) → g < m → AllBelow m (map (λ (s : Session). s.number) ss)
 numbers_below g [] h d m less = tt
 numbers_below g (s ∷ ss) h d m less =
-    (let le = h s.number s (ap (λ b. if b then Some s else seat_at ss s.number) (Rattle.tab_model.proofs.Seats.itself s.number)) in omega (arith, le, less), numbers_below g ss rest d.1 m less)
+    (let le = h s.number s (ap (λ b. if b then Some s else session_at ss s.number) (Rattle.tab_model.proofs.SessionLists.itself s.number)) in omega (arith, le, less), numbers_below g ss rest d.1 m less)
   where
-    rest : (n : ℕ) (x : Seat) → seat_at ss n ≡ Some x → n ≤ g
+    rest : (n : ℕ) (x : Session) → session_at ss n ≡ Some x → n ≤ g
     rest n x e = by (s.number == n) refl
       where
         by : (b : Bool) → (s.number == n) ≡ b → n ≤ g
-        by true q = absurd (some_none (sym e ∙ ap (seat_at ss) (sym (Rattle.tab_model.proofs.Seats.eq_true s.number n q)) ∙ d.0))
+        by true q = absurd (some_none (sym e ∙ ap (session_at ss) (sym (Rattle.tab_model.proofs.SessionLists.eq_true s.number n q)) ∙ d.0))
           where
             some_none : Some x ≡ None → ⊥
             some_none r = cc
-        by false q = h n x (ap (λ b. if b then Some s else seat_at ss n) q ∙ e)
+        by false q = h n x (ap (λ b. if b then Some s else session_at ss n) q ∙ e)
 
 pub room_to_join : (bs : List Subscriber) (σ : State) → IsKept bs σ → (n : ℕ) → nat_lt σ.greatest n ≡ true → AllBelow n (numbers bs)
-room_to_join bs σ k n h = subst (AllBelow n) (sym k.same) (numbers_below σ.greatest σ.seats k.sound.joined k.sound.distinct n (above σ.greatest n h))
+room_to_join bs σ k n h = subst (AllBelow n) (sym k.same) (numbers_below σ.greatest σ.sessions k.sound.joined k.sound.distinct n (above σ.greatest n h))
   where
     above : (a b : ℕ) → nat_lt a b ≡ true → a < b
     above a b q = grind (arith, nat_tests)
 
-length_mapped : (f : Seat → Seat) (ss : List Seat) → length (map f ss) ≡ length ss
+length_mapped : (f : Session → Session) (ss : List Session) → length (map f ss) ≡ length ss
 length_mapped f [] = refl
 length_mapped f (s ∷ ss) = ap Rattle.std.proofs.Common.suc (length_mapped f ss)
 
-pub none_there : (bs : List Subscriber) (ss : List Seat) (n : ℕ) → numbers bs ≡ map (λ (s : Seat). s.number) ss → seat_at ss n ≡ None → at bs n ≡ None
+pub none_there : (bs : List Subscriber) (ss : List Session) (n : ℕ) → numbers bs ≡ map (λ (s : Session). s.number) ss → session_at ss n ≡ None → at bs n ≡ None
 none_there [] [] n e h = refl
 none_there [] (s ∷ ss) n e h = cc
 none_there (b ∷ bs) [] n e h = cc
@@ -75,7 +75,7 @@ none_there (b ∷ bs) (s ∷ ss) n e h = ap (λ k. if k == n then Some b else at
     tail_is : {k l : ℕ} {ks ls : List ℕ} → (k ∷ ks) ≡ (l ∷ ls) → ks ≡ ls
     tail_is q = cc
 
-    by : (c : Bool) → (if c then Some s else seat_at ss n) ≡ None → (seat_at ss n ≡ None → at bs n ≡ None) → (if c then Some b else at bs n) ≡ None
+    by : (c : Bool) → (if c then Some s else session_at ss n) ≡ None → (session_at ss n ≡ None → at bs n ≡ None) → (if c then Some b else at bs n) ≡ None
     by true g ih = cc
     by false g ih = ih g
 
@@ -94,7 +94,7 @@ module _ (bs : List Subscriber) (σ : State) (k : IsKept bs σ) (n : ℕ) where
   -- ---- joining
 
   abbrev pub admitted : Bool
-  admitted = nat_lt σ.greatest n && nat_lt (length σ.seats) σ.limits.sessions
+  admitted = nat_lt σ.greatest n && nat_lt (length σ.sessions) σ.limits.sessions
 
   joins_if : (o : Outbox) (a b : Bool) → (a && b) ≡ false → (join (state_with bs σ) n o a b ≡ lifted bs (join σ n no_outbox a b)) × ((join σ n no_outbox a b).state ≡ σ)
   joins_if o false b h = (refl, refl)
@@ -102,27 +102,27 @@ module _ (bs : List Subscriber) (σ : State) (k : IsKept bs σ) (n : ℕ) where
   joins_if o true true h = cc
 
   not_joined : (o : Outbox) → admitted ≡ false → (outcome (state_with bs σ) [] n (Join o) ≡ lifted bs (outcome σ [] n (Join no_outbox))) × ((outcome σ [] n (Join no_outbox)).state ≡ σ)
-  not_joined o h = by (seat_at σ.seats n) refl
+  not_joined o h = by (session_at σ.sessions n) refl
     where
-      by : (x : Option Seat) → seat_at σ.seats n ≡ x → (outcome (state_with bs σ) [] n (Join o) ≡ lifted bs (outcome σ [] n (Join no_outbox))) × ((outcome σ [] n (Join no_outbox)).state ≡ σ)
+      by : (x : Option Session) → session_at σ.sessions n ≡ x → (outcome (state_with bs σ) [] n (Join o) ≡ lifted bs (outcome σ [] n (Join no_outbox))) × ((outcome σ [] n (Join no_outbox)).state ≡ σ)
       by None e =
-          let bare = at_seat σ [] n (Join no_outbox) None e in
-          let p = joins_if o (nat_lt σ.greatest n) (nat_lt (length σ.seats) σ.limits.sessions) h in (
-            at_seat (state_with bs σ) [] n (Join o) None (mapped_none bs σ n e)
-                ∙ ap (λ l. join (state_with bs σ) n o (nat_lt σ.greatest n) (nat_lt l σ.limits.sessions)) (length_mapped (seat_with bs) σ.seats)
+          let bare = at_session σ [] n (Join no_outbox) None e in
+          let p = joins_if o (nat_lt σ.greatest n) (nat_lt (length σ.sessions) σ.limits.sessions) h in (
+            at_session (state_with bs σ) [] n (Join o) None (mapped_none bs σ n e)
+                ∙ ap (λ l. join (state_with bs σ) n o (nat_lt σ.greatest n) (nat_lt l σ.limits.sessions)) (length_mapped (session_with bs) σ.sessions)
                 ∙ p.0 ∙ ap (lifted bs) (sym bare),
             ap (λ (x : Outcome). x.state) bare ∙ p.1,
           )
       by (Some s) e =
-          let bare = at_seat σ [] n (Join no_outbox) (Some s) e in (
-            at_seat (state_with bs σ) [] n (Join o) (Some (seat_with bs s)) (mapped_some bs σ n s e) ∙ ap (lifted bs) (sym bare),
+          let bare = at_session σ [] n (Join no_outbox) (Some s) e in (
+            at_session (state_with bs σ) [] n (Join o) (Some (session_with bs s)) (mapped_some bs σ n s e) ∙ ap (lifted bs) (sym bare),
             ap (λ (x : Outcome). x.state) bare,
           )
 
   pub refused_join_makes : (o : Outbox) (s : Stepped) (τ : State) → admitted ≡ false → manager.StepsTo σ n (Join no_outbox) s τ → Makes bs σ n (Join o) s bs τ
   refused_join_makes o s τ h m =
       let p = not_joined o h in
-      (([], refl, p.0 ∙ ap (lifted bs) m), k.same ∙ ap (λ (x : State). map (λ (y : Seat). y.number) x.seats) (sym p.1 ∙ ap (λ (x : Outcome). x.state) m))
+      (([], refl, p.0 ∙ ap (lifted bs) m), k.same ∙ ap (λ (x : State). map (λ (y : Session). y.number) x.sessions) (sym p.1 ∙ ap (λ (x : Outcome). x.state) m))
 
   pub and_both : (a b : Bool) → (a && b) ≡ true → (a ≡ true) × (b ≡ true)
   and_both true true h = (refl, refl)
@@ -130,74 +130,74 @@ module _ (bs : List Subscriber) (σ : State) (k : IsKept bs σ) (n : ℕ) where
   and_both false b h = cc
 
   -- who is admitted has not joined
-  pub newcomer : admitted ≡ true → seat_at σ.seats n ≡ None
-  newcomer h = by (seat_at σ.seats n) refl
+  pub newcomer : admitted ≡ true → session_at σ.sessions n ≡ None
+  newcomer h = by (session_at σ.sessions n) refl
     where
       above : (a b : ℕ) → nat_lt a b ≡ true → b ≤ a → ⊥
       above a b q le = let less : a < b = grind (arith, nat_tests) in omega (arith, less, le)
 
-      by : (x : Option Seat) → seat_at σ.seats n ≡ x → x ≡ None
+      by : (x : Option Session) → session_at σ.sessions n ≡ x → x ≡ None
       by None e = refl
       by (Some s) e = absurd (above σ.greatest n (and_both _ _ h).0 (k.sound.joined n s e))
 
   pub join_makes : (o : Outbox) (s : Stepped) (τ : State) (cs : List Subscriber) → admitted ≡ true → cs ≡ bs ++ subs.fresh n o ∷ [] → manager.StepsTo σ n (Join no_outbox) s τ → Makes bs σ n (Join o) s cs τ
   join_makes o s τ cs h is m = (([], refl, steps), numbers_are)
     where
-      none : seat_at σ.seats n ≡ None
+      none : session_at σ.sessions n ≡ None
       none = newcomer h
 
-      both : (nat_lt σ.greatest n ≡ true) × (nat_lt (length σ.seats) σ.limits.sessions ≡ true)
+      both : (nat_lt σ.greatest n ≡ true) × (nat_lt (length σ.sessions) σ.limits.sessions ≡ true)
       both = and_both _ _ h
 
-      bare : outcome σ [] n (Join no_outbox) ≡ nothing (with_seats σ (σ.seats ++ fresh n no_outbox ∷ []) n) reply.Done
-      bare = at_seat σ [] n (Join no_outbox) None none ∙ (λ i. join σ n no_outbox (both.0 i) (both.1 i))
+      bare : outcome σ [] n (Join no_outbox) ≡ step_without_entry (with_sessions σ (σ.sessions ++ fresh n no_outbox ∷ []) n) reply.Done
+      bare = at_session σ [] n (Join no_outbox) None none ∙ (λ i. join σ n no_outbox (both.0 i) (both.1 i))
 
       steps : outcome (state_with bs σ) [] n (Join o) ≡ record { state = state_with cs τ; reply = s.reply; entry = s.entry }
       steps =
-          at_seat (state_with bs σ) [] n (Join o) None (mapped_none bs σ n none)
-          ∙ (λ i. join (state_with bs σ) n o (both.0 i) ((ap (λ l. nat_lt l σ.limits.sessions) (length_mapped (seat_with bs) σ.seats) ∙ both.1) i))
-          ∙ ap (λ ss. nothing (with_seats σ ss n) reply.Done) (seats_joined bs (subs.fresh n o) σ.seats (fresh n no_outbox) refl (room_to_join bs σ k n both.0) none ∙ ap (λ xs. map (seat_with xs) (σ.seats ++ fresh n no_outbox ∷ [])) (sym is))
+          at_session (state_with bs σ) [] n (Join o) None (mapped_none bs σ n none)
+          ∙ (λ i. join (state_with bs σ) n o (both.0 i) ((ap (λ l. nat_lt l σ.limits.sessions) (length_mapped (session_with bs) σ.sessions) ∙ both.1) i))
+          ∙ ap (λ ss. step_without_entry (with_sessions σ ss n) reply.Done) (sessions_joined bs (subs.fresh n o) σ.sessions (fresh n no_outbox) refl (room_to_join bs σ k n both.0) none ∙ ap (λ xs. map (session_with xs) (σ.sessions ++ fresh n no_outbox ∷ [])) (sym is))
           ∙ ap (lifted cs) (sym bare ∙ m)
 
       numbers_are : AreTheSame cs τ
-      numbers_are = ap numbers is ∙ joined_numbers bs (subs.fresh n o) σ.seats (fresh n no_outbox) k.same refl ∙ ap (λ (x : Outcome). map (λ (y : Seat). y.number) x.state.seats) (sym bare ∙ m)
+      numbers_are = ap numbers is ∙ joined_numbers bs (subs.fresh n o) σ.sessions (fresh n no_outbox) k.same refl ∙ ap (λ (x : Outcome). map (λ (y : Session). y.number) x.state.sessions) (sym bare ∙ m)
 
   -- who is admitted takes memory: its post's place
   admitted_takes : (o : Outbox) → admitted ≡ true → takes_no_memory (state_with bs σ) n (Join o) ≡ false
   admitted_takes o h = ap (λ (x : Outcome). manager.tells_for_none (is_some (transaction_at (state_with bs σ) n)) (Join o) x.reply) joins
     where
-      both : (nat_lt σ.greatest n ≡ true) × (nat_lt (length σ.seats) σ.limits.sessions ≡ true)
+      both : (nat_lt σ.greatest n ≡ true) × (nat_lt (length σ.sessions) σ.limits.sessions ≡ true)
       both = and_both _ _ h
 
       joins : outcome (state_with bs σ) [] n (Join o) ≡ join (state_with bs σ) n o true true
       joins =
-          at_seat (state_with bs σ) [] n (Join o) None (mapped_none bs σ n (newcomer h))
-          ∙ (λ i. join (state_with bs σ) n o (both.0 i) ((ap (λ l. nat_lt l σ.limits.sessions) (length_mapped (seat_with bs) σ.seats) ∙ both.1) i))
+          at_session (state_with bs σ) [] n (Join o) None (mapped_none bs σ n (newcomer h))
+          ∙ (λ i. join (state_with bs σ) n o (both.0 i) ((ap (λ l. nat_lt l σ.limits.sessions) (length_mapped (session_with bs) σ.sessions) ∙ both.1) i))
 
   pub not_admitted : (ρ : State) (o : Outbox) → state_with bs σ ≡ ρ → takes_no_memory ρ n (Join o) ≡ true → admitted ≡ true → ⊥
   not_admitted ρ o view free h = cc (free, ap (λ (x : State). takes_no_memory x n (Join o)) view, admitted_takes o h)
 
   -- ---- leaving
 
-  left_of : (x : Option Seat) → seat_at σ.seats n ≡ x → (outcome (state_with bs σ) [] n Leave ≡ lifted (without bs n) (outcome σ [] n Leave)) × AreTheSame (without bs n) (outcome σ [] n Leave).state
+  left_of : (x : Option Session) → session_at σ.sessions n ≡ x → (outcome (state_with bs σ) [] n Leave ≡ lifted (without bs n) (outcome σ [] n Leave)) × AreTheSame (without bs n) (outcome σ [] n Leave).state
   left_of None e =
-      let bare = at_seat σ [] n Leave None e in (
-        at_seat (state_with bs σ) [] n Leave None (mapped_none bs σ n e)
-            ∙ ap (λ ss. nothing (with_seats σ ss σ.greatest) reply.BadSession) (sym (without_nobody (map (seat_with bs) σ.seats) n (mapped_none bs σ n e)) ∙ seats_without bs n σ.seats ∙ ap (map (seat_with (without bs n))) (without_nobody σ.seats n e))
+      let bare = at_session σ [] n Leave None e in (
+        at_session (state_with bs σ) [] n Leave None (mapped_none bs σ n e)
+            ∙ ap (λ ss. step_without_entry (with_sessions σ ss σ.greatest) reply.BadSession) (sym (without_nobody (map (session_with bs) σ.sessions) n (mapped_none bs σ n e)) ∙ sessions_without bs n σ.sessions ∙ ap (map (session_with (without bs n))) (without_nobody σ.sessions n e))
             ∙ ap (lifted (without bs n)) (sym bare),
-        without_numbers bs n σ.seats k.same ∙ ap (map (λ (y : Seat). y.number)) (without_nobody σ.seats n e) ∙ ap (λ (x : Outcome). map (λ (y : Seat). y.number) x.state.seats) (sym bare),
+        without_numbers bs n σ.sessions k.same ∙ ap (map (λ (y : Session). y.number)) (without_nobody σ.sessions n e) ∙ ap (λ (x : Outcome). map (λ (y : Session). y.number) x.state.sessions) (sym bare),
       )
   left_of (Some s) e =
-      let bare = at_seat σ [] n Leave (Some s) e in
-      let is : s.number ≡ n = found σ.seats s n e in (
-        at_seat (state_with bs σ) [] n Leave (Some (seat_with bs s)) (mapped_some bs σ n s e)
-            ∙ ap (λ ss. let τ : State = record σ { seats = ss; queue = Rattle.tab_model.specs.State.without_request σ.queue s.number } in nothing τ reply.Done)
-            (ap (without_seat (map (seat_with bs) σ.seats)) is ∙ seats_without bs n σ.seats ∙ ap (λ m. map (seat_with (without bs n)) (without_seat σ.seats m)) (sym is))
+      let bare = at_session σ [] n Leave (Some s) e in
+      let is : s.number ≡ n = found σ.sessions s n e in (
+        at_session (state_with bs σ) [] n Leave (Some (session_with bs s)) (mapped_some bs σ n s e)
+            ∙ ap (λ ss. let τ : State = record σ { sessions = ss; queue = Rattle.tab_model.specs.State.without_request σ.queue s.number } in step_without_entry τ reply.Done)
+            (ap (without_session (map (session_with bs) σ.sessions)) is ∙ sessions_without bs n σ.sessions ∙ ap (λ m. map (session_with (without bs n)) (without_session σ.sessions m)) (sym is))
             ∙ ap (lifted (without bs n)) (sym bare),
-        without_numbers bs n σ.seats k.same ∙ ap (λ m. map (λ (y : Seat). y.number) (without_seat σ.seats m)) (sym is) ∙ ap (λ (x : Outcome). map (λ (y : Seat). y.number) x.state.seats) (sym bare),
+        without_numbers bs n σ.sessions k.same ∙ ap (λ m. map (λ (y : Session). y.number) (without_session σ.sessions m)) (sym is) ∙ ap (λ (x : Outcome). map (λ (y : Session). y.number) x.state.sessions) (sym bare),
       )
 
   pub leave_makes : (s : Stepped) (τ : State) (cs : List Subscriber) → cs ≡ without bs n → manager.StepsTo σ n Leave s τ → Makes bs σ n Leave s cs τ
   leave_makes s τ cs is m =
-      let p = left_of (seat_at σ.seats n) refl in
-      (([], refl, p.0 ∙ (λ i. lifted (sym is i) (m i))), ap numbers is ∙ p.1 ∙ ap (λ (x : Outcome). map (λ (y : Seat). y.number) x.state.seats) m)
+      let p = left_of (session_at σ.sessions n) refl in
+      (([], refl, p.0 ∙ (λ i. lifted (sym is i) (m i))), ap numbers is ∙ p.1 ∙ ap (λ (x : Outcome). map (λ (y : Session). y.number) x.state.sessions) m)

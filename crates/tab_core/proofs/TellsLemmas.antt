@@ -8,13 +8,13 @@ use Rattle.tab_model.specs.declared.data.Level.{Level}
 use Rattle.tab_model.specs.declared.data.Reply.{Reply}
 use Rattle.tab_model.specs.declared.data.Reply.TheVariants as reply
 use Rattle.tab_model.specs.declared.data.Schema.{Schema}
-use Rattle.tab_model.specs.Outcome.{Ask, DoCommand, Retry, Outcome, outcome, nothing, by_seat, commit, commit_at, command_if, has_room, is_abort, is_empty, is_at, schema, subscribe, subscribe_refusal, unsubscribe}
-use Rattle.tab_model.specs.Run.{Pinned, put_ask, put_schema}
+use Rattle.tab_model.specs.Outcome.{Ask, DoCommand, Retry, Outcome, outcome, step_without_entry, step_of, commit, commit_at, command_if, has_room, is_abort, is_empty, is_at, schema, subscribe, subscribe_refusal, unsubscribe}
+use Rattle.tab_model.specs.Run.{IsSplitByOverflow, put_ask, put_schema}
 use Rattle.tab_model.specs.Schemas.{table_of_schema}
 use Rattle.tab_model.specs.Standing.{levels_in, levels_of}
 use Rattle.tab_model.specs.State as plain
-use Rattle.tab_model.specs.State.{Transaction, Seat, State, seat_at, is_busy, is_waiting, level_in, mid_of, transaction_at, transaction_in}
-use Rattle.tab_model.proofs.Seats.{found}
+use Rattle.tab_model.specs.State.{Transaction, Session, State, session_at, is_busy, is_waiting, level_in, mid_of, transaction_at, transaction_in}
+use Rattle.tab_model.proofs.SessionLists.{found}
 use Rattle.tab_manager.specs.declared.step.Stepped.{Stepped}
 use Rattle.tab_manager.specs.Outermost.{outermost, outermost_of}
 use Rattle.tab_manager.specs.Steps as manager
@@ -22,14 +22,14 @@ use Rattle.tab_manager.specs.Steps.{asks_for_none, is_told_for_none, tells_for_n
 use Rattle.tab_manager.proofs.StepsLemmas.{both_ways, schema_takes}
 use Rattle.tab_subs.specs.Subscribers.{Subscriber}
 use Rattle.tab_core.specs.Runs.{StepsTo, takes_no_memory}
-use Rattle.tab_core.specs.Seats.{seat_with, state_with}
+use Rattle.tab_core.specs.SessionLists.{session_with, state_with}
 use Rattle.tab_core.specs.Subscribing.{inside_refusal, refused_by, unsubscribe_refusal}
 use Rattle.tab_core.proofs.Frames.{at_dressed, transactions_dressed, IsQuiet, quiet_command, quiet_retry}
 use Rattle.tab_core.proofs.OwingLemmas.{idles, is_ending}
 
-at_seat : (ρ : State) (n : ℕ) (a : Ask) (o : Option Seat) → seat_at ρ.seats n ≡ o → outcome ρ [] n a ≡ by_seat ρ [] n a o
+at_session : (ρ : State) (n : ℕ) (a : Ask) (o : Option Session) → session_at ρ.sessions n ≡ o → outcome ρ [] n a ≡ step_of ρ [] n a o
 unfolding outcome
-at_seat ρ n a o e = ap (by_seat ρ [] n a) e
+at_session ρ n a o e = ap (step_of ρ [] n a) e
 
 abbrev tells : State → ℕ → Command → Reply → Bool
 tells ρ n c = tells_for_none (is_some (transaction_at ρ n)) (DoCommand c)
@@ -41,38 +41,38 @@ module _ (ρ : State) (n : ℕ) where
   Named c None = Unit {0}
   Named c (Some r) = tells ρ n c r ≡ false
 
-  told_if : (c : Command) (o : Option Reply) (f : Seat → Option Reply) → is_abort c ≡ false → o ≡ refused_by ρ n f (seat_at ρ.seats n) → Named c o
-      → ((s : Seat) → o ≡ f s → tells ρ n c (command_if ρ [] s c false).reply ≡ false) → is_told_for_none ρ n (DoCommand c) ≡ false
-  told_if c o f other h named by_own = by (seat_at ρ.seats n) refl h
+  told_if : (c : Command) (o : Option Reply) (f : Session → Option Reply) → is_abort c ≡ false → o ≡ refused_by ρ n f (session_at ρ.sessions n) → Named c o
+      → ((s : Session) → o ≡ f s → tells ρ n c (command_if ρ [] s c false).reply ≡ false) → is_told_for_none ρ n (DoCommand c) ≡ false
+  told_if c o f other h named by_own = by (session_at ρ.sessions n) refl h
     where
       not_named : (r : Reply) → tells ρ n c r ≡ true → o ≡ Some r → ⊥
       not_named r e g = let no : false ≡ true = sym (subst (Named c) g named) ∙ e in cc
 
-      by_wait : (s : Seat) (b : Bool) → is_waiting ρ s.number ≡ b → o ≡ (if b then Some reply.WaitingNow else f s) → tells ρ n c (command_if ρ [] s c (is_waiting ρ s.number && not (is_abort c))).reply ≡ false
+      by_wait : (s : Session) (b : Bool) → is_waiting ρ s.number ≡ b → o ≡ (if b then Some reply.WaitingNow else f s) → tells ρ n c (command_if ρ [] s c (is_waiting ρ s.number && not (is_abort c))).reply ≡ false
       by_wait s true w g = absurd (not_named reply.WaitingNow refl g)
       by_wait s false w g = ap (λ b. tells ρ n c (command_if ρ [] s c (b && not (is_abort c))).reply) w ∙ by_own s g
 
-      by : (x : Option Seat) → seat_at ρ.seats n ≡ x → o ≡ refused_by ρ n f x → is_told_for_none ρ n (DoCommand c) ≡ false
+      by : (x : Option Session) → session_at ρ.sessions n ≡ x → o ≡ refused_by ρ n f x → is_told_for_none ρ n (DoCommand c) ≡ false
       by None e g = absurd (not_named reply.BadSession refl g)
       by (Some s) e g =
-          ap (λ (x : Outcome). tells ρ n c x.reply) (at_seat ρ n (DoCommand c) (Some s) e)
-          ∙ by_wait s (is_waiting ρ s.number) refl (g ∙ ap (λ k. if is_waiting ρ k then Some reply.WaitingNow else f s) (sym (found ρ.seats s n e)))
+          ap (λ (x : Outcome). tells ρ n c x.reply) (at_session ρ n (DoCommand c) (Some s) e)
+          ∙ by_wait s (is_waiting ρ s.number) refl (g ∙ ap (λ k. if is_waiting ρ k then Some reply.WaitingNow else f s) (sym (found ρ.sessions s n e)))
 
-  pub subscribe_told : (t : List ℕ) (l : Level) (dump : Bool) (o : Option Reply) → o ≡ refused_by ρ n (λ s. subscribe_refusal ρ s t) (seat_at ρ.seats n) → Named (command.Subscribe t l dump) o → is_told_for_none ρ n (DoCommand (command.Subscribe t l dump)) ≡ false
+  pub subscribe_told : (t : List ℕ) (l : Level) (dump : Bool) (o : Option Reply) → o ≡ refused_by ρ n (λ s. subscribe_refusal ρ s t) (session_at ρ.sessions n) → Named (command.Subscribe t l dump) o → is_told_for_none ρ n (DoCommand (command.Subscribe t l dump)) ≡ false
   subscribe_told t l dump o h named = told_if (command.Subscribe t l dump) o (λ s. subscribe_refusal ρ s t) refl h named (λ s g. ap (λ x. tells ρ n (command.Subscribe t l dump) (subscribe ρ [] s t l dump x).reply) (sym g) ∙ by s o named)
     where
-      by : (s : Seat) (x : Option Reply) → Named (command.Subscribe t l dump) x → tells ρ n (command.Subscribe t l dump) (subscribe ρ [] s t l dump x).reply ≡ false
+      by : (s : Session) (x : Option Reply) → Named (command.Subscribe t l dump) x → tells ρ n (command.Subscribe t l dump) (subscribe ρ [] s t l dump x).reply ≡ false
       by s None m = refl
       by s (Some r) m = m
 
-  pub unsubscribe_told : (t : List ℕ) (l : Level) (o : Option Reply) → o ≡ refused_by ρ n (unsubscribe_refusal t l) (seat_at ρ.seats n) → Named (command.Unsubscribe t l) o → is_told_for_none ρ n (DoCommand (command.Unsubscribe t l)) ≡ false
+  pub unsubscribe_told : (t : List ℕ) (l : Level) (o : Option Reply) → o ≡ refused_by ρ n (unsubscribe_refusal t l) (session_at ρ.sessions n) → Named (command.Unsubscribe t l) o → is_told_for_none ρ n (DoCommand (command.Unsubscribe t l)) ≡ false
   unsubscribe_told t l o h named = told_if (command.Unsubscribe t l) o (unsubscribe_refusal t l) refl h named (λ s g. by s (is_at (level_in s.watching t) l))
     where
-      by : (s : Seat) (b : Bool) → tells ρ n (command.Unsubscribe t l) (unsubscribe ρ [] s t b).reply ≡ false
+      by : (s : Session) (b : Bool) → tells ρ n (command.Unsubscribe t l) (unsubscribe ρ [] s t b).reply ≡ false
       by s true = refl
       by s false = refl
 
-  pub schema_told : (c : Schema) → None ≡ refused_by ρ n inside_refusal (seat_at ρ.seats n) → is_told_for_none ρ n (DoCommand (command.Schema c)) ≡ false
+  pub schema_told : (c : Schema) → None ≡ refused_by ρ n inside_refusal (session_at ρ.sessions n) → is_told_for_none ρ n (DoCommand (command.Schema c)) ≡ false
   schema_told c h = told_if (command.Schema c) None inside_refusal refl h tt (λ s g. by s.transaction g)
     where
       by : (t : Option Transaction) → None ≡ (if is_some t then Some reply.InTransaction else None) → tells ρ n (command.Schema c) (schema ρ [] c t).reply ≡ false
@@ -81,8 +81,8 @@ module _ (ρ : State) (n : ℕ) where
 
   -- ---- what refuses a schema command first
 
-  pub schema_refused_first : (c : Schema) (r : Reply) → Some r ≡ refused_by ρ n inside_refusal (seat_at ρ.seats n) → (s' : Stepped) → s' ≡ record { reply = r; entry = None } → StepsTo ρ n (DoCommand (command.Schema c)) s' ρ
-  schema_refused_first c r h s' is = let p = by (seat_at ρ.seats n) refl h in ([], p.0, p.1 ∙ (λ i. record { state = ρ; reply = Stepped.reply (sym is i); entry = Stepped.entry (sym is i) }))
+  pub schema_refused_first : (c : Schema) (r : Reply) → Some r ≡ refused_by ρ n inside_refusal (session_at ρ.sessions n) → (s' : Stepped) → s' ≡ record { reply = r; entry = None } → StepsTo ρ n (DoCommand (command.Schema c)) s' ρ
+  schema_refused_first c r h s' is = let p = by (session_at ρ.sessions n) refl h in ([], p.0, p.1 ∙ (λ i. record { state = ρ; reply = Stepped.reply (sym is i); entry = Stepped.entry (sym is i) }))
     where
       a : Ask
       a = DoCommand (command.Schema c)
@@ -90,17 +90,17 @@ module _ (ρ : State) (n : ℕ) where
       one : {x : Reply} → Some r ≡ Some x → x ≡ r
       one q = cc
 
-      by_wait : (s : Seat) (b : Bool) (t : Option Transaction) → s.transaction ≡ t → Some r ≡ (if b then Some reply.WaitingNow else (if is_some t then Some reply.InTransaction else None))
-          → ((if b then [] else put_schema ρ c s.transaction) ≡ []) × (command_if ρ [] s (command.Schema c) (b && true) ≡ nothing ρ r)
-      by_wait s true t e g = (refl, ap (nothing ρ) (one g))
+      by_wait : (s : Session) (b : Bool) (t : Option Transaction) → s.transaction ≡ t → Some r ≡ (if b then Some reply.WaitingNow else (if is_some t then Some reply.InTransaction else None))
+          → ((if b then [] else put_schema ρ c s.transaction) ≡ []) × (command_if ρ [] s (command.Schema c) (b && true) ≡ step_without_entry ρ r)
+      by_wait s true t e g = (refl, ap (step_without_entry ρ) (one g))
       by_wait s false None e g = cc
-      by_wait s false (Some t) e g = (ap (put_schema ρ c) e, ap (schema ρ [] c) e ∙ ap (nothing ρ) (one g))
+      by_wait s false (Some t) e g = (ap (put_schema ρ c) e, ap (schema ρ [] c) e ∙ ap (step_without_entry ρ) (one g))
 
-      by : (o : Option Seat) → seat_at ρ.seats n ≡ o → Some r ≡ refused_by ρ n inside_refusal o → Pinned (put_ask ρ a (seat_at ρ.seats n)) [] × (outcome ρ [] n a ≡ nothing ρ r)
-      by None m g = (subst (λ ss. Pinned ss []) (sym (ap (put_ask ρ a) m)) refl, at_seat ρ n a None m ∙ ap (nothing ρ) (one g))
+      by : (o : Option Session) → session_at ρ.sessions n ≡ o → Some r ≡ refused_by ρ n inside_refusal o → IsSplitByOverflow (put_ask ρ a (session_at ρ.sessions n)) [] × (outcome ρ [] n a ≡ step_without_entry ρ r)
+      by None m g = (subst (λ ss. IsSplitByOverflow ss []) (sym (ap (put_ask ρ a) m)) refl, at_session ρ n a None m ∙ ap (step_without_entry ρ) (one g))
       by (Some s) m g =
-          let q = by_wait s (is_waiting ρ s.number) s.transaction refl (g ∙ ap (λ k. if is_waiting ρ k then Some reply.WaitingNow else inside_refusal s) (sym (found ρ.seats s n m))) in
-          (subst (λ ss. Pinned ss []) (sym (ap (put_ask ρ a) m ∙ q.0)) refl, at_seat ρ n a (Some s) m ∙ q.1)
+          let q = by_wait s (is_waiting ρ s.number) s.transaction refl (g ∙ ap (λ k. if is_waiting ρ k then Some reply.WaitingNow else inside_refusal s) (sym (found ρ.sessions s n m))) in
+          (subst (λ ss. IsSplitByOverflow ss []) (sym (ap (put_ask ρ a) m ∙ q.0)) refl, at_session ρ n a (Some s) m ∙ q.1)
 
   -- whether it stands in a transaction, by its levels
   shown : (k : ℕ) → k ≡ 0 → 0 < min k (2 ^ 64 - 1) → ⊥
@@ -109,39 +109,39 @@ module _ (ρ : State) (n : ℕ) where
   hidden : (k j : ℕ) → k ≡ suc j → min k (2 ^ 64 - 1) ≤ 0 → ⊥
   hidden k j e h = grind (arith, nat_tests)
 
-  pub stands_inside : None ≡ refused_by ρ n (λ s. None) (seat_at ρ.seats n) → 0 < min (levels_of ρ n) (2 ^ 64 - 1) → Some reply.InTransaction ≡ refused_by ρ n inside_refusal (seat_at ρ.seats n)
-  stands_inside h deep = by (seat_at ρ.seats n) refl h
+  pub stands_inside : None ≡ refused_by ρ n (λ s. None) (session_at ρ.sessions n) → 0 < min (levels_of ρ n) (2 ^ 64 - 1) → Some reply.InTransaction ≡ refused_by ρ n inside_refusal (session_at ρ.sessions n)
+  stands_inside h deep = by (session_at ρ.sessions n) refl h
     where
       by_open : (b : Bool) (t : Option Transaction) → levels_of ρ n ≡ levels_in ρ t → None ≡ (if b then Some reply.WaitingNow else None) → Some reply.InTransaction ≡ (if b then Some reply.WaitingNow else (if is_some t then Some reply.InTransaction else None))
       by_open true t e g = cc
       by_open false None e g = absurd (shown (levels_of ρ n) e deep)
       by_open false (Some t) e g = refl
 
-      by : (o : Option Seat) → seat_at ρ.seats n ≡ o → None ≡ refused_by ρ n (λ s. None) o → Some reply.InTransaction ≡ refused_by ρ n inside_refusal o
+      by : (o : Option Session) → session_at ρ.sessions n ≡ o → None ≡ refused_by ρ n (λ s. None) o → Some reply.InTransaction ≡ refused_by ρ n inside_refusal o
       by None e g = cc
       by (Some s) e g = by_open (is_waiting ρ n) s.transaction (ap (λ x. levels_in ρ (transaction_in x)) e) g
 
-  pub stands_outside : None ≡ refused_by ρ n (λ s. None) (seat_at ρ.seats n) → min (levels_of ρ n) (2 ^ 64 - 1) ≤ 0 → None ≡ refused_by ρ n inside_refusal (seat_at ρ.seats n)
-  stands_outside h flat = by (seat_at ρ.seats n) refl h
+  pub stands_outside : None ≡ refused_by ρ n (λ s. None) (session_at ρ.sessions n) → min (levels_of ρ n) (2 ^ 64 - 1) ≤ 0 → None ≡ refused_by ρ n inside_refusal (session_at ρ.sessions n)
+  stands_outside h flat = by (session_at ρ.sessions n) refl h
     where
       by_open : (b : Bool) (t : Option Transaction) → levels_of ρ n ≡ levels_in ρ t → None ≡ (if b then Some reply.WaitingNow else None) → None ≡ (if b then Some reply.WaitingNow else (if is_some t then Some reply.InTransaction else None))
       by_open true t e g = cc
       by_open false None e g = refl
       by_open false (Some t) e g = absurd (hidden (levels_of ρ n) (length (mid_of ρ t).saved) e flat)
 
-      by : (o : Option Seat) → seat_at ρ.seats n ≡ o → None ≡ refused_by ρ n (λ s. None) o → None ≡ refused_by ρ n inside_refusal o
+      by : (o : Option Session) → session_at ρ.sessions n ≡ o → None ≡ refused_by ρ n (λ s. None) o → None ≡ refused_by ρ n inside_refusal o
       by None e g = cc
       by (Some s) e g = by_open (is_waiting ρ n) s.transaction (ap (λ x. levels_in ρ (transaction_in x)) e) g
 
   -- whom its session refuses, it is refused
-  pub refused_by_session : (f : Seat → Option Reply) (r : Reply) → Some r ≡ refused_by ρ n (λ s. None) (seat_at ρ.seats n) → Some r ≡ refused_by ρ n f (seat_at ρ.seats n)
-  refused_by_session f r h = by (seat_at ρ.seats n) h
+  pub refused_by_session : (f : Session → Option Reply) (r : Reply) → Some r ≡ refused_by ρ n (λ s. None) (session_at ρ.sessions n) → Some r ≡ refused_by ρ n f (session_at ρ.sessions n)
+  refused_by_session f r h = by (session_at ρ.sessions n) h
     where
-      by_wait : (s : Seat) (b : Bool) → Some r ≡ (if b then Some reply.WaitingNow else None) → Some r ≡ (if b then Some reply.WaitingNow else f s)
+      by_wait : (s : Session) (b : Bool) → Some r ≡ (if b then Some reply.WaitingNow else None) → Some r ≡ (if b then Some reply.WaitingNow else f s)
       by_wait s true g = g
       by_wait s false g = cc
 
-      by : (o : Option Seat) → Some r ≡ refused_by ρ n (λ s. None) o → Some r ≡ refused_by ρ n f o
+      by : (o : Option Session) → Some r ≡ refused_by ρ n (λ s. None) o → Some r ≡ refused_by ρ n f o
       by None g = g
       by (Some s) g = by_wait s (is_waiting ρ n) g
 
@@ -160,7 +160,7 @@ module _ (bs : List Subscriber) (σ : State) (n : ℕ) where
   asks_dressed (command.OneShot parts retries) = refl
 
   -- what takes no memory of the core takes none of the manager
-  quiet_free : (c : Command) → ((s : Seat) → seat_at σ.seats n ≡ Some s → (is_waiting σ s.number && not (is_abort c)) ≡ false → IsQuiet bs σ s.transaction c) → takes_no_memory (state_with bs σ) n (DoCommand c) ≡ true → manager.takes_no_memory σ n (DoCommand c) ≡ true
+  quiet_free : (c : Command) → ((s : Session) → session_at σ.sessions n ≡ Some s → (is_waiting σ s.number && not (is_abort c)) ≡ false → IsQuiet bs σ s.transaction c) → takes_no_memory (state_with bs σ) n (DoCommand c) ≡ true → manager.takes_no_memory σ n (DoCommand c) ≡ true
   quiet_free c quiet h = (λ i. asks_dressed c i || tells_for_none (is_some (sym (transactions_dressed bs σ n) i)) (DoCommand c) (Outcome.reply (sym (quiet_command bs σ [] n c quiet) i))) ∙ h
 
   retry_free : takes_no_memory (state_with bs σ) n Retry ≡ true → manager.takes_no_memory σ n Retry ≡ true
@@ -182,14 +182,14 @@ module _ (bs : List Subscriber) (σ : State) (n : ℕ) where
   inner_free : outermost σ n ≡ None → takes_no_memory (state_with bs σ) n (DoCommand command.Commit) ≡ true → manager.takes_no_memory σ n (DoCommand command.Commit) ≡ true
   inner_free none h = quiet_free command.Commit (λ r g w. quiet r g (waits r (is_waiting σ r.number) refl w)) h
     where
-      waits : (r : Seat) (b : Bool) → is_waiting σ r.number ≡ b → (b && true) ≡ false → is_waiting σ r.number ≡ false
+      waits : (r : Session) (b : Bool) → is_waiting σ r.number ≡ b → (b && true) ≡ false → is_waiting σ r.number ≡ false
       waits r true e w = cc
       waits r false e w = e
 
-      quiet : (r : Seat) → seat_at σ.seats n ≡ Some r → is_waiting σ r.number ≡ false → outermost_of σ r.transaction ≡ None
+      quiet : (r : Session) → session_at σ.sessions n ≡ Some r → is_waiting σ r.number ≡ false → outermost_of σ r.transaction ≡ None
       quiet r g w =
           ap (outermost_of σ) (sym (ap transaction_in g))
-          ∙ sym (ap (λ b. if b then None else outermost_of σ (transaction_at σ n)) (ap (is_waiting σ) (sym (found σ.seats r n g)) ∙ w))
+          ∙ sym (ap (λ b. if b then None else outermost_of σ (transaction_at σ n)) (ap (is_waiting σ) (sym (found σ.sessions r n g)) ∙ w))
           ∙ none
 
   module _ (t : Transaction) (ends : outermost σ n ≡ Some t) where
@@ -197,9 +197,9 @@ module _ (bs : List Subscriber) (σ : State) (n : ℕ) where
     commit_told : is_told_for_none (state_with bs σ) n (DoCommand command.Commit) ≡ false
     commit_told =
         let e = is_ending σ n t ends in
-        let here : seat_at (state_with bs σ).seats n ≡ Some (seat_with bs e.seat) = at_dressed bs σ.seats n ∙ ap (option_map (seat_with bs)) e.here in
+        let here : session_at (state_with bs σ).sessions n ≡ Some (session_with bs e.slot) = at_dressed bs σ.sessions n ∙ ap (option_map (session_with bs)) e.here in
         ap (λ (x : Outcome). tells (state_with bs σ) n command.Commit x.reply)
-        (idles (state_with bs σ) [] n (seat_with bs e.seat) command.Commit here e.idle ∙ ap (commit (state_with bs σ) [] (seat_with bs e.seat)) e.opened ∙ ap (commit_at (state_with bs σ) [] (seat_with bs e.seat) t) e.deep)
+        (idles (state_with bs σ) [] n (session_with bs e.slot) command.Commit here e.idle ∙ ap (commit (state_with bs σ) [] (session_with bs e.slot)) e.opened ∙ ap (commit_at (state_with bs σ) [] (session_with bs e.slot) t) e.deep)
 
     pub did_nothing : takes_no_memory (state_with bs σ) n (DoCommand command.Commit) ≡ true → asks_for_none (state_with bs σ) n (DoCommand command.Commit) ≡ true
     did_nothing h = both_ways (asks_for_none (state_with bs σ) n (DoCommand command.Commit)) (is_told_for_none (state_with bs σ) n (DoCommand command.Commit)) h (λ e. e) (λ e. let no : true ≡ false = sym e ∙ commit_told in cc)

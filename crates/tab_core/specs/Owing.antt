@@ -6,7 +6,7 @@ use Rattle.tab_model.specs.declared.data.Event.{Event}
 use Rattle.tab_model.specs.Events.{change_all, events, surviving}
 use Rattle.tab_model.specs.Operations.{table_of_change}
 use Rattle.tab_model.specs.State.{State, Transaction}
-use Rattle.tab_model.specs.Worlds.{World}
+use Rattle.tab_model.specs.Catalogs.{Catalog}
 use Rattle.tab_manager.specs.Outermost.{outermost}
 use Rattle.tab_subs.specs.Subscribers.{Subscriber, watched}
 use Rattle.tab_core.specs.declared.committing.Updated.{Updated}
@@ -20,12 +20,12 @@ abbrev pub are_watched : List Subscriber → List Change → Bool
 are_watched bs cs = list_any (λ c. is_some (watched bs (table_of_change c))) cs
 
 -- the tables after the changes, and the events that someone watches
-pub record Updates (w : World) (bs : List Subscriber) (age : ℕ) (cs : List Change) (u : Updated) : Type 0 where
+pub record Updates (w : Catalog) (bs : List Subscriber) (age : ℕ) (cs : List Change) (u : Updated) : Type 0 where
   pub tables : u.tables ≡ change_all w cs
   pub events : u.events.items ≡ filter (is_watched bs) (events w age cs)
 
 -- nothing where no one watches
-abbrev pub Owes : World → List Subscriber → ℕ → List Change → Option Updated → Type 0
+abbrev pub Owes : Catalog → List Subscriber → ℕ → List Change → Option Updated → Type 0
 Owes w bs age cs None = are_watched bs cs ≡ false
 Owes w bs age cs (Some u) = (are_watched bs cs ≡ true) × Updates w bs age cs u
 

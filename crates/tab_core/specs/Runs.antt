@@ -6,7 +6,7 @@ use Rattle.tab_model.specs.declared.data.Reply.{Reply}
 use Rattle.tab_model.specs.declared.data.Reply.TheVariants as reply
 use Rattle.tab_model.specs.State.{Outbox, State}
 use Rattle.tab_model.specs.Outcome.{Ask, Join, Leave, Retry, Take, DoCommand, outcome}
-use Rattle.tab_model.specs.Run.{Allowed, JoinsEmpty, entries, taken_now}
+use Rattle.tab_model.specs.Run.{Allowed, JoinsEmpty, entries, delivered_by}
 use Rattle.tab_manager.specs.declared.step.Stepped.{Stepped}
 use Rattle.tab_manager.specs.Steps as manager
 use Rattle.tab_core.specs.declared.step.Step.{Step}
@@ -57,5 +57,5 @@ RunsTo σ (a ∷ asks) (r ∷ rs) log τ = (μ : State) × (es rest : List Entry
 
 -- the items that a session took in a run
 abbrev pub taken_in : ℕ → List (ℕ × Ask) → List Reply → List Item
-taken_in m (a ∷ asks) (r ∷ rs) = taken_now m a.0 r ++ taken_in m asks rs
+taken_in m (a ∷ asks) (r ∷ rs) = delivered_by m a.0 r ++ taken_in m asks rs
 taken_in m asks rs = []

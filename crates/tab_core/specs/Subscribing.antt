@@ -4,7 +4,7 @@ use Rattle.tab_model.specs.declared.data.Entry.{Entry}
 use Rattle.tab_model.specs.declared.data.Reply.{Reply}
 use Rattle.tab_model.specs.declared.data.Reply.TheVariants as reply
 use Rattle.tab_model.specs.declared.data.Level.{Level}
-use Rattle.tab_model.specs.State.{Seat, State, is_waiting, level_in}
+use Rattle.tab_model.specs.State.{Session, State, is_waiting, level_in}
 use Rattle.tab_model.specs.Outcome.{is_at}
 use Rattle.tab_manager.specs.declared.step.Stepped.{Stepped}
 use Rattle.tab_subs.specs.declared.answers.Taken.{Taken}
@@ -13,23 +13,23 @@ use Rattle.tab_subs.specs.declared.answers.Marked.{Marked}
 use Rattle.tab_subs.specs.declared.answers.Marked.TheVariants as mark
 
 -- of a session that has not joined, that waits, or that its own state refuses
-abbrev pub refused_by : State → ℕ → (Seat → Option Reply) → Option Seat → Option Reply
+abbrev pub refused_by : State → ℕ → (Session → Option Reply) → Option Session → Option Reply
 refused_by σ n f None = Some reply.BadSession
 refused_by σ n f (Some s) = if is_waiting σ n then Some reply.WaitingNow else f s
 
 -- a session that stands in a transaction
-abbrev pub inside_refusal : Seat → Option Reply
+abbrev pub inside_refusal : Session → Option Reply
 inside_refusal s = if is_some s.transaction then Some reply.InTransaction else None
 
 -- a table that the session doesn't watch at that level
-abbrev pub unsubscribe_refusal : List ℕ → Level → Seat → Option Reply
+abbrev pub unsubscribe_refusal : List ℕ → Level → Session → Option Reply
 unsubscribe_refusal t l s = if is_at (level_in s.watching t) l then None else Some (reply.NotSubscribed t)
 
 -- the reply to a mark that a post took or refused, and the entry of one that it took
 abbrev pub marked_reply : Option Marked → Entry → Stepped
 marked_reply None e = record { reply = reply.BadSession; entry = None }
 marked_reply (Some mark.Full) e = record { reply = reply.OutboxFull; entry = None }
-marked_reply (Some mark.Told) e = record { reply = reply.SubscribedHere; entry = Some e }
+marked_reply (Some mark.Put) e = record { reply = reply.SubscribedHere; entry = Some e }
 
 -- the reply to a Take
 abbrev pub taken_reply : Option Taken → Stepped

@@ -5,10 +5,10 @@ ghost use Rattle.std.specs.List.{filter};
 ghost use Rattle.tab_model.specs.declared.data.Command.TheVariants as command;
 ghost use Rattle.tab_model.specs.Outcome.{DoCommand};
 ghost use Rattle.tab_model.specs.Events.{event_of};
-ghost use Rattle.tab_model.specs.State.{seat_at};
+ghost use Rattle.tab_model.specs.State.{session_at};
 ghost use Rattle.tab_core.specs.Owing.{are_watched as are_watched_by, is_watched, Commits, Owes, Updates};
 ghost use Rattle.tab_core.specs.Runs.{StepsTo, takes_no_memory};
-ghost use Rattle.tab_core.specs.Seats.{state_with, IsKept};
+ghost use Rattle.tab_core.specs.SessionLists.{state_with, IsKept};
 ghost use Rattle.tab_core.specs.Subscribing.{inside_refusal, refused_by};
 
 use crate::Core;
@@ -18,12 +18,12 @@ use tab_manager::{Ending, Manager, Step, Stepped};
 use tab_model::{Change, Command, Event, Reply, Schema};
 use tab_outbox::Post;
 use tab_subs::Subs;
+use tab_tables::{Catalog, Changing, table_of_change};
 use tab_term::Atom;
-use tab_world::{Changing, World, table_of_change};
 
 /// The tables that a commit leaves, and those of its events that someone watches.
 pub(crate) struct Updated {
-    pub tables: World,
+    pub tables: Catalog,
     pub events: Vec<Event>,
 }
 
@@ -36,7 +36,7 @@ impl Drop for Updated {
 }
 
 impl Updated {
-    fn into_tables(self) -> World
+    fn into_tables(self) -> Catalog
         ensures { result ≡ self.tables }
     {
         let Updated { tables, events } = self;
@@ -55,7 +55,7 @@ impl<P: Post + Drop> Core<P> {
         let Some(ending) = self.manager.outermost(session) else {
             return self.manager.step(session, Step::Do(Command::Commit));
         };
-        let Some(updated) = owed(self.alloc, self.manager.tables(), &self.subs, &ending)? else {
+        let Some(updated) = expected(self.alloc, self.manager.tables(), &self.subs, &ending)? else {
             return self.manager.step(session, Step::Do(Command::Commit));
         };
         deliver_commit(
@@ -81,7 +81,7 @@ impl<P: Post + Drop> Core<P> {
 
     /// What refuses a schema command before its table is looked at.
     fn schema_refusal(&self, session: u32) -> Option<Reply>
-        ensures { result ≡ refused_by self.now session inside_refusal (seat_at self.now.seats session) }
+        ensures { result ≡ refused_by self.now session inside_refusal (session_at self.now.sessions session) }
     {
         if let Some(refusal) = self.session_refusal(session) {
             return Some(refusal);
@@ -147,9 +147,9 @@ fn next_commit(manager: &Manager) -> Result<u64, AllocError>
 }
 
 /// What a commit owes to who watches, if it owes anything.
-fn owed<P: Post + Drop>(
+fn expected<P: Post + Drop>(
     alloc: Global,
-    tables: &World,
+    tables: &Catalog,
     subs: &Subs<P>,
     ending: &Ending<'_>,
 ) -> Result<Option<Updated>, AllocError>
@@ -183,7 +183,7 @@ fn are_watched<P: Post + Drop>(subs: &Subs<P>, changes: &[Change], nameless: &At
 /// One pass over the changes: the tables after them, and the events that someone watches.
 fn changed_tables<P: Post + Drop>(
     alloc: Global,
-    tables: &World,
+    tables: &Catalog,
     subs: &Subs<P>,
     ending: &Ending<'_>,
     nameless: &Atom,
@@ -205,7 +205,7 @@ fn changed_tables<P: Post + Drop>(
         )?;
         changing = changing.changed(alloc, change, nameless, &ending.lender)?;
     }
-    let tables = changing.into_world(alloc)?;
+    let tables = changing.into_catalog(alloc)?;
     Ok(Updated { tables, events })
 }
 

@@ -5,14 +5,14 @@ ghost use Rattle.tab_model.specs.Slices.{dump_of as dump_in};
 
 use std::alloc::{AllocError, Global};
 use tab_lists::SharedTerms;
+use tab_tables::Catalog;
 use tab_term::{Atom, Terms};
-use tab_world::World;
 
 /// A table's records as they are committed, by keys, and of each key in the order of their insertion, where a dump is
 /// asked for. They are shared with the table, and take no memory.
 pub fn dump_of(
     alloc: Global,
-    tables: &World,
+    tables: &Catalog,
     name: &Atom,
     dump: bool,
 ) -> Result<Option<SharedTerms>, AllocError>

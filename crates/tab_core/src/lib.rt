@@ -16,7 +16,7 @@ ghost use Rattle.tab_core.specs.Runs.{ask_of, asks_of, AllJoinEmpty, StepsTo, St
 
 mod committing;
 mod dump;
-mod seats;
+mod seen;
 mod sessions;
 mod step;
 mod subscribing;
@@ -26,10 +26,10 @@ use std::marker::Model;
 pub use step::Step;
 pub use tab_manager::{Rest, SESSIONS, Stepped};
 use tab_manager::{Manager, Step as Quiet};
-use tab_model::{Command, Limits, Reply, Told};
+use tab_model::{Command, Limits, Reply, SharedReply};
 use tab_outbox::Post;
 use tab_subs::Subs;
-use tab_world::World;
+use tab_tables::Catalog;
 
 /// A core: tables, sessions, and what each of them is told.
 ///
@@ -47,7 +47,7 @@ impl<P: Post> Model for Core<P> {
     ghost use Rattle.std.specs.Coded.{codes};
     ghost use Rattle.tab_term.specs.Code.{term_code, terms_code, pairs_code};
     ghost use Rattle.tab_model.specs.State.{State};
-    ghost use Rattle.tab_core.specs.Seats.{state_with, IsKept};
+    ghost use Rattle.tab_core.specs.SessionLists.{state_with, IsKept};
 
     ghost Value = { State };
 
@@ -119,7 +119,7 @@ impl<P: Post + Drop> Core<P> {
         &mut self,
         alloc: Global,
         steps: Vec<(u32, Step<P>)>,
-    ) -> Result<Vec<Told>, AllocError>
+    ) -> Result<Vec<SharedReply>, AllocError>
         requires { AllJoinEmpty (asks_of P.outbox steps.items) }
         ensures run { IfOk result (λ rs. (log : List EntryOf) × RunsTo self.old (asks_of P.outbox steps.items) rs.items log self.new
             × ((earlier : List EntryOf) (taken : ℕ → List ItemOf) → IsTied self.old earlier taken → IsTied self.new (earlier ++ log) (λ m. taken m ++ taken_in m (asks_of P.outbox steps.items) rs.items))) }
@@ -138,17 +138,17 @@ impl<P: Post + Drop> Core<P> {
     }
 
     /// One step of a session, and its reply, which is NoMemory where memory was refused.
-    fn step_reply(&mut self, session: u32, step: Step<P>) -> Told
+    fn step_reply(&mut self, session: u32, step: Step<P>) -> SharedReply
         ensures { (log : List EntryOf) × StepsOrNoMemory self.old (session, ask_of P.outbox step) result log self.new }
     {
         match self.step(session, step) {
             Ok(stepped) => stepped.into_reply(),
-            Err(_) => Told::new(Reply::NoMemory),
+            Err(_) => SharedReply::new(Reply::NoMemory),
         }
     }
 
     /// The tables as they are committed.
-    pub fn tables(&self) -> &World
+    pub fn tables(&self) -> &Catalog
         ensures { result.now ≡ self.now.tables }
     {
         self.manager.tables()

@@ -1,7 +1,7 @@
 //! What a session asks of a core, and what it is given.
 
 ghost use Rattle.std.specs.Prelude.{◌≡◌, option_map};
-ghost use Rattle.tab_core.specs.Seats.{with_overflowed as with_overflowed_of};
+ghost use Rattle.tab_core.specs.SessionLists.{with_overflowed as with_overflowed_of};
 
 use tab_manager::Stepped;
 use tab_model::{Command, Entry, Numbers};

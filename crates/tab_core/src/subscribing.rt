@@ -4,7 +4,7 @@ ghost use Rattle.std.specs.Prelude.{◌≡◌, Bool, None, IfOk, IsOk, OnErr, tr
 ghost use Rattle.tab_model.specs.declared.data.Command.TheVariants as command;
 ghost use Rattle.tab_model.specs.declared.data.Level.{Level as LevelOf};
 ghost use Rattle.tab_model.specs.Outcome.{DoCommand, is_at as is_at_of, subscribe_refusal as subscribe_refusal_of};
-ghost use Rattle.tab_model.specs.State.{seat_at};
+ghost use Rattle.tab_model.specs.State.{session_at};
 ghost use Rattle.tab_manager.specs.Steps.{is_told_for_none};
 ghost use Rattle.tab_core.specs.Subscribing.{marked_reply as marked_reply_of, refused_by, unsubscribe_refusal as unsubscribe_refusal_of};
 ghost use Rattle.tab_core.specs.Runs.{StepsTo, takes_no_memory};
@@ -14,7 +14,7 @@ use crate::dump::dump_of;
 use std::alloc::AllocError;
 use tab_events::Level;
 use tab_manager::Stepped;
-use tab_model::{Entry, Reply, Told};
+use tab_model::{Entry, Reply, SharedReply};
 use tab_outbox::Post;
 use tab_subs::Marked;
 use tab_term::Atom;
@@ -54,7 +54,7 @@ impl<P: Post + Drop> Core<P> {
 
     /// What refuses a subscription but its post.
     fn subscribe_refusal(&self, session: u32, table: &Atom) -> Result<Option<Reply>, AllocError>
-        ensures ok { IfOk result (λ refusal. refusal ≡ refused_by self.now session (λ s. subscribe_refusal_of self.now s table.now) (seat_at self.now.seats session)) }
+        ensures ok { IfOk result (λ refusal. refusal ≡ refused_by self.now session (λ s. subscribe_refusal_of self.now s table.now) (session_at self.now.sessions session)) }
         ensures free { (l : LevelOf) (dump : Bool) → is_told_for_none self.now session (DoCommand (command.Subscribe table.now l dump)) ≡ true → IsOk result }
     {
         if let Some(refusal) = self.session_refusal(session) {
@@ -74,7 +74,7 @@ impl<P: Post + Drop> Core<P> {
 
     /// A command of a session that has not joined, or that waits.
     pub(crate) fn session_refusal(&self, session: u32) -> Option<Reply>
-        ensures { result ≡ refused_by self.now session (λ s. None) (seat_at self.now.seats session) }
+        ensures { result ≡ refused_by self.now session (λ s. None) (session_at self.now.sessions session) }
     {
         if !self.manager.joined(session) {
             return Some(Reply::BadSession);
@@ -110,7 +110,7 @@ impl<P: Post + Drop> Core<P> {
         table: &Atom,
         level: Level,
     ) -> Result<Option<Reply>, AllocError>
-        ensures ok { IfOk result (λ refusal. refusal ≡ refused_by self.now session (unsubscribe_refusal_of table.now level) (seat_at self.now.seats session)) }
+        ensures ok { IfOk result (λ refusal. refusal ≡ refused_by self.now session (unsubscribe_refusal_of table.now level) (session_at self.now.sessions session)) }
         ensures free { is_told_for_none self.now session (DoCommand (command.Unsubscribe table.now level)) ≡ true → IsOk result }
     {
         if let Some(refusal) = self.session_refusal(session) {
@@ -140,8 +140,8 @@ fn marked_reply(marked: Option<Marked>, entry: Entry) -> Stepped
     match marked {
         None => Stepped::without_entry(Reply::BadSession),
         Some(Marked::Full) => Stepped::without_entry(Reply::OutboxFull),
-        Some(Marked::Told) => Stepped {
-            reply: Told::new(Reply::SubscribedHere),
+        Some(Marked::Put) => Stepped {
+            reply: SharedReply::new(Reply::SubscribedHere),
             entry: Some(entry),
         },
     }

@@ -1,8 +1,8 @@
 //! Devices that fail under a replay.
 use std::test::Fail;
 use tab_etf::Counted;
-use tab_fixtures::Device;
 use tab_session::{Ended, replay};
+use tab_test_tools::Device;
 
 /// A session's first steps, and their replies.
 static INPUT: &[u8] =

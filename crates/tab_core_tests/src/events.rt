@@ -2,10 +2,10 @@
 use std::alloc::Global;
 use tab_etf::{Body, EncodeFault, Leaf, Outline, append_frame, append_outline, decode};
 use tab_events::{Event, Level, Mirror, Mirrored, change_of, shape};
-use tab_fixtures::atom;
 use tab_lists::{EventTerm, SharedTerms};
 use tab_rows::Kind;
 use tab_term::{Term, Terms};
+use tab_test_tools::atom;
 
 /// Events at their levels: an update of the record `{t,1,a}`, or of the key 1, where `{t,1,b}` stood before; the
 /// transaction's age is 1.

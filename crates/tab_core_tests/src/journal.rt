@@ -1,11 +1,13 @@
 //! Entries that are audited, and folded into the base.
 use std::alloc::{AllocError, Global};
-use tab_fixtures::atom;
 use tab_journal::Journal;
 use tab_lists::SharedTerms;
-use tab_model::{Entry, Level, Move, Moves, Numbers, Operation, Replies, Reply, Schema, Told};
+use tab_model::{
+    Entry, Level, Move, Moves, Numbers, Operation, Replies, Reply, Schema, SharedReply,
+};
 use tab_records::Iter;
 use tab_term::{Term, Terms};
+use tab_test_tools::atom;
 
 /// A move of session 1 in table t, whose records are `{t, 1, V}`.
 enum Made {
@@ -96,13 +98,13 @@ fn found(alloc: Global, value: i128) -> Result<SharedTerms, AllocError> {
     Ok(SharedTerms::from_terms(Terms::from_vec(records)))
 }
 
-fn told_of(alloc: Global, made: &Made) -> Result<Option<Told>, AllocError> {
+fn told_of(alloc: Global, made: &Made) -> Result<Option<SharedReply>, AllocError> {
     Ok(match made {
-        Made::Write(_) => Some(Told::new(Reply::Done)),
-        Made::Read(value) => Some(Told::new(Reply::Found(found(alloc, *value)?))),
-        Made::Fail => Some(Told::new(Reply::NoTable(atom(alloc, "nosuch")?))),
-        Made::Open => Some(Told::new(Reply::Tid(1))),
-        Made::Close => Some(Told::new(Reply::AtomicOk)),
+        Made::Write(_) => Some(SharedReply::new(Reply::Done)),
+        Made::Read(value) => Some(SharedReply::new(Reply::Found(found(alloc, *value)?))),
+        Made::Fail => Some(SharedReply::new(Reply::NoTable(atom(alloc, "nosuch")?))),
+        Made::Open => Some(SharedReply::new(Reply::Tid(1))),
+        Made::Close => Some(SharedReply::new(Reply::AtomicOk)),
         Made::Undo => None,
     })
 }
@@ -197,10 +199,10 @@ fn is_right(
     let mut folded = filled(alloc, moves)?;
     let is_full = folded.full() && folded.len() == 3 && folded.entry(2).is_some();
     fold(alloc, &mut folded, &journal)?;
-    let mut lent = filled(alloc, moves)?;
-    fold(alloc, &mut lent, &folded)?;
+    let mut committed = filled(alloc, moves)?;
+    fold(alloc, &mut committed, &folded)?;
     let wanted = base_of(alloc, &folded)? == (1, 1, value);
-    let is_same = base_of(alloc, &lent)? == (1, 1, value);
+    let is_same = base_of(alloc, &committed)? == (1, 1, value);
     folded.forget(7);
     let is_forgotten = base_of(alloc, &folded)? == (1, 0, value);
     let found = journal.audit(alloc, journal.base(), folded.base().tables())?;

@@ -1,5 +1,5 @@
 //! Tests of the public calls of the machine of steps and of what it stands on, where a stream of the built program can't show
-//! them: a run of steps, devices that fail, mirrors, audits, and one-shots on a seat that is played.
+//! them: a run of steps, devices that fail, mirrors, audits, and one-shots on a session that is played.
 
 #![tactic(auto)]
 

@@ -1,14 +1,14 @@
-//! One-shots on a seat that is played.
+//! One-shots on a session that is played.
 use super::played::Played;
 use std::alloc::{AllocError, Global};
-use tab_fixtures::atom;
 use tab_model::{Command, Operation, Part, Parts};
 use tab_oneshot::one_shot;
 use tab_proto::append_reply;
 use tab_term::Term;
+use tab_test_tools::atom;
 
 /// A one-shot's list (`r` reads, `x` aborts with 7, an inner list in parentheses), how many restarts it may make, the
-/// seat's answers, what the seat is to be asked, and the reply's term as it is spelled.
+/// session's answers, what the session is to be asked, and the reply's term as it is spelled.
 struct Case {
     list: &'static str,
     retries: u64,
@@ -364,7 +364,7 @@ static CASES: [Case; 48] = [
     },
 ];
 
-/// An answer is a stranger's, who used the seat: each in turn of one run, and some of others.
+/// An answer is a stranger's, who used the session: each in turn of one run, and some of others.
 static STRANGERS: [Case; 13] = [
     Case {
         list: "r(rxr)r",
@@ -476,9 +476,9 @@ fn parts_of(alloc: Global, list: &[u8]) -> Result<Parts, AllocError> {
     Ok(Parts { items })
 }
 
-/// Whether the seat was asked and the reply made as the case says.
+/// Whether the session was asked and the reply made as the case says.
 fn is_right(alloc: Global, case: &Case) -> Result<bool, AllocError> {
-    let mut seat = Played {
+    let mut slot = Played {
         alloc,
         answers: case.answers.as_bytes(),
         wanted: case.asked.as_bytes(),
@@ -488,11 +488,11 @@ fn is_right(alloc: Global, case: &Case) -> Result<bool, AllocError> {
         differs: false,
     };
     let parts = parts_of(alloc, case.list.as_bytes())?;
-    let reply = one_shot(&mut seat, alloc, Command::OneShot(parts, case.retries));
+    let reply = one_shot(&mut slot, alloc, Command::OneShot(parts, case.retries));
     let mut frame = Vec::new(alloc);
     let is_put = append_reply(None, reply.reply(), &mut frame).is_ok();
     // Behind the length, 131, and `{reply, ..`.
-    Ok(is_put && seat.is_right() && frame.get(14..) == Some(case.reply.as_bytes()))
+    Ok(is_put && slot.is_right() && frame.get(14..) == Some(case.reply.as_bytes()))
 }
 
 #[test]

@@ -1,15 +1,15 @@
-//! A seat that is played: its answers are written down beforehand, and so is what it is to be asked.
+//! A session that is played: its answers are written down beforehand, and so is what it is to be asked.
 
 ghost use Rattle.std.specs.Prelude.{◌≡◌, ◌≢◌, true, IsOk};
 ghost use Rattle.tab_model.specs.Outcome.{is_abort};
 ghost use Rattle.tab_model.specs.declared.data.Reply.TheVariants as reply;
 
 use std::alloc::{AllocError, Global};
-use tab_fixtures::atom;
 use tab_lists::SharedTerms;
-use tab_model::{Command, Limit, Reply, Told};
+use tab_model::{Command, Limit, Reply, SharedReply};
 use tab_oneshot::Steps;
 use tab_term::{Term, Terms};
+use tab_test_tools::atom;
 
 /// Each answer is one letter; where they end, it answers `BadTerm`.
 #[derive(Drop)]
@@ -109,16 +109,16 @@ fn is_free(command: &Command) -> bool
 }
 
 /// An abort is never refused for memory.
-fn told(alloc: Global, letter: u8, is_free: bool) -> Result<Told, AllocError>
+fn told(alloc: Global, letter: u8, is_free: bool) -> Result<SharedReply, AllocError>
     ensures { is_free ≡ true → IsOk result }
 {
     if is_free {
-        return Ok(Told::new(reply_of(alloc, letter)));
+        return Ok(SharedReply::new(reply_of(alloc, letter)));
     }
     match letter {
         b'E' => Err(AllocError),
-        b'w' => Ok(Told::new(Reply::Waiting)),
-        _ => Ok(Told::new(reply_of(alloc, letter))),
+        b'w' => Ok(SharedReply::new(Reply::Waiting)),
+        _ => Ok(SharedReply::new(reply_of(alloc, letter))),
     }
 }
 
@@ -129,20 +129,20 @@ impl Steps for Played {
 
     ghost shows_on = { λ x y z first more h k. tt };
 
-    fn step(&mut self, command: Command) -> Result<Told, AllocError> {
+    fn step(&mut self, command: Command) -> Result<SharedReply, AllocError> {
         let is_free = is_free(&command);
         self.hear(call_of(&command, self.parts));
         let letter = self.letter();
         told(self.alloc, letter, is_free)
     }
 
-    fn wait(&mut self) -> Option<Result<Told, AllocError>> {
+    fn wait(&mut self) -> Option<Result<SharedReply, AllocError>> {
         self.hear(b'w');
         let letter = self.letter();
         match letter {
             b'N' => None,
             b'E' => Some(Err(AllocError)),
-            _ => Some(Ok(Told::new(reply_of(self.alloc, letter)))),
+            _ => Some(Ok(SharedReply::new(reply_of(self.alloc, letter)))),
         }
     }
 

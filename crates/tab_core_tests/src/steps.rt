@@ -1,7 +1,7 @@
 //! A run of steps, which the program makes one by one.
 use std::alloc::{AllocError, Global};
 use tab_core::{Core, Step};
-use tab_model::{Command, Limits, Reply, Told};
+use tab_model::{Command, Limits, Reply, SharedReply};
 use tab_outbox::{Post, RingPost};
 
 static LIMITS: Limits = Limits {
@@ -14,7 +14,7 @@ static LIMITS: Limits = Limits {
 };
 
 /// A session joins, begins, and commits.
-fn replies(alloc: Global, core: &mut Core<RingPost>) -> Result<Vec<Told>, AllocError> {
+fn replies(alloc: Global, core: &mut Core<RingPost>) -> Result<Vec<SharedReply>, AllocError> {
     let mut steps = Vec::with_capacity(alloc, 3)?;
     let post = RingPost::with_capacity(alloc, 2)?;
     steps.push_reserved((1, Step::Join(post)));
@@ -24,7 +24,7 @@ fn replies(alloc: Global, core: &mut Core<RingPost>) -> Result<Vec<Told>, AllocE
 }
 
 /// What a reply is in one number.
-fn number(told: &Told) -> u64 {
+fn number(told: &SharedReply) -> u64 {
     match told.reply() {
         Reply::Done => 10,
         Reply::Tid(age) => age.saturating_add(20),

@@ -5,7 +5,7 @@ ghost use Rattle.std.specs.Str.{bytes_eq};
 ghost use Rattle.tab_term.specs.Data.{atom, tuple, none, one_more};
 ghost use Rattle.tab_term.specs.View.{term, terms};
 ghost use Rattle.tab_model.specs.Operations.{table_of_change, tag as tag_of};
-ghost use Rattle.tab_model.specs.Shapes.{change_of as change_of_term, change_in as change_in_event, change_in_body, simple_body as simple_body_of, detailed_body as detailed_body_of, simple_change as simple_change_of, detailed_change as detailed_change_of, written as written_of, object_deleted as object_deleted_of, key_deleted as key_deleted_of, deleted as deleted_of, in_table as in_table_of, is_record as is_record_of, is_id as is_id_of};
+ghost use Rattle.tab_model.specs.Shapes.{change_of as change_of_term, change_in as change_in_event, change_in_body, simple_body as simple_body_of, detailed_body as detailed_body_of, simple_change as simple_change_of, detailed_change as detailed_change_of, write_in as written_of, object_deletion_in as object_deleted_of, key_deletion_in as key_deleted_of, deletion_in as deleted_of, in_table as in_table_of, is_record as is_record_of, is_id as is_id_of};
 
 use std::alloc::{AllocError, Global};
 use tab_model::Change;

@@ -6,7 +6,7 @@ ghost use Rattle.tab_model.specs.Names.{plain_terms};
 ghost use Rattle.tab_model.specs.Tables.{at, keys as keys_of_rows, apply as apply_in, applied as applied_in, is_ordered};
 ghost use Rattle.tab_model.specs.WholeTables.{index_read as index_read_in, match_object as match_object_in};
 ghost use Rattle.tab_model.specs.Definitions.{has_number, with_indexes, add_number, less_number};
-ghost use Rattle.tab_model.specs.Worlds.{with_rows, with_def};
+ghost use Rattle.tab_model.specs.Catalogs.{with_rows, with_def};
 ghost use Rattle.tab_rows.specs.Joined.{joined, IsInOrder};
 ghost use Rattle.tab_index.specs.IndexOf.{AreKeysWith, IsIndexOf};
 ghost use Rattle.tab_index.specs.Indexed.{positions, AreIndexesOf};
@@ -37,11 +37,11 @@ pub struct IndexedTable {
 impl Model for IndexedTable {
     ghost use Rattle.std.specs.Coded.{codes};
     ghost use Rattle.tab_term.specs.Code.{term_code};
-    ghost use Rattle.tab_model.specs.Worlds.{Table as TableOfWorld};
+    ghost use Rattle.tab_model.specs.Catalogs.{Table as TableOfCatalog};
     ghost use Rattle.tab_index.specs.IndexOf.{AreKeysWith, IsIndexOf};
     ghost use Rattle.tab_index.specs.Indexed.{IsIndexed};
 
-    ghost Value = { TableOfWorld };
+    ghost Value = { TableOfCatalog };
 
     ghost coded = { Prim.hlevel (codes, term_code) };
 
@@ -231,11 +231,11 @@ impl IndexedTable {
         &self,
         alloc: Global,
         changes: &[Change],
-        lent: Option<&Map<Term, Records>>,
+        lender: Option<&Map<Term, Records>>,
     ) -> Result<IndexedTable, AllocError>
         ensures { IfOk result (λ table. table ≡ with_rows self.now (applied_in self.now.def.kind self.now.rows changes.now)) }
     {
-        self.share(alloc)?.applied(alloc, changes, lent)
+        self.share(alloc)?.applied(alloc, changes, lender)
     }
 
     /// The table after the changes, in turn, in place where nothing is shared; records are lent as to `updated`. An error
@@ -244,7 +244,7 @@ impl IndexedTable {
         self,
         alloc: Global,
         changes: &[Change],
-        lent: Option<&Map<Term, Records>>,
+        lender: Option<&Map<Term, Records>>,
     ) -> Result<IndexedTable, AllocError>
         ensures { IfOk result (λ table. table ≡ with_rows self (applied_in self.def.kind self.rows changes.now)) }
     {
@@ -255,7 +255,7 @@ impl IndexedTable {
         } = self;
         for change in changes {
             change_indexes(alloc, &mut indexes, &rows, change)?;
-            change_rows(alloc, &mut rows, change, lent)?;
+            change_rows(alloc, &mut rows, change, lender)?;
         }
         Ok(IndexedTable { def, rows, indexes })
     }
@@ -266,16 +266,16 @@ impl IndexedTable {
         &mut self,
         alloc: Global,
         change: &Change,
-        lent: Option<&Map<Term, Records>>,
+        lender: Option<&Map<Term, Records>>,
     ) -> Result<(), AllocError>
         ensures ok { OnOk result (self.new ≡ with_rows self.old (apply_in self.old.def.kind self.old.rows change.now)) }
         ensures err { OnErr result (self.new ≡ self.old) }
     {
         if self.indexes.is_empty() {
-            change_rows(alloc, &mut self.rows, change, lent)?;
+            change_rows(alloc, &mut self.rows, change, lender)?;
             return Ok(());
         }
-        *self = self.updated(alloc, slice::from_ref(change), lent)?;
+        *self = self.updated(alloc, slice::from_ref(change), lender)?;
         Ok(())
     }
 }
@@ -301,13 +301,13 @@ fn change_rows(
     alloc: Global,
     rows: &mut Rows,
     change: &Change,
-    lent: Option<&Map<Term, Records>>,
+    lender: Option<&Map<Term, Records>>,
 ) -> Result<(), AllocError>
     ensures ok { OnOk result (rows.new ≡ (rows.old.0, apply_in rows.old.0 rows.old.1 change.now)) }
     ensures err { OnErr result (rows.new ≡ rows.old) }
 {
     match change {
-        Change::Write(row) => rows.put(alloc, row, lent),
+        Change::Write(row) => rows.put(alloc, row, lender),
         Change::Delete(_, key) => rows.delete(alloc, key),
         Change::DeleteObject(row) => rows.delete_object(alloc, row),
     }

@@ -20,62 +20,62 @@ use Rattle.tab_model.specs.declared.data.Move.TheVariants.{Do, Open, Close, Undo
 use Rattle.tab_model.specs.declared.data.Operation.{Operation}
 use Rattle.tab_model.specs.declared.data.Reply.{Reply}
 use Rattle.tab_model.specs.declared.data.Reply.TheVariants as reply
-use Rattle.tab_model.specs.Alone.{Mid, start, next, back, after, told, replies}
+use Rattle.tab_model.specs.Alone.{Mid, start, next, back, after, reply_to, replies}
 use Rattle.tab_model.specs.Events.{change_all, surviving, is_failure}
 use Rattle.tab_model.specs.History.{Base, IsHistory, tables_after, number_after, unless_refused}
-use Rattle.tab_model.specs.Log.{serial_from, entered, IsRight, IsLegal, count_after}
+use Rattle.tab_model.specs.Log.{serial_from, catalog_after, IsRight, IsLegal, count_after}
 use Rattle.tab_model.specs.declared.data.Operation.TheVariants as op
 use Rattle.tab_model.specs.Definitions.{fits_def, is_indexed, position}
-use Rattle.tab_model.specs.Operations.{table_of, table_of_change, change_table, change_world, change_by, change_of_op, effect, failure, failure_in, answer, answer_or, answer_in}
+use Rattle.tab_model.specs.Operations.{table_of, table_of_change, change_table, change_catalog, change_by, change_of_op, effect, failure, failure_in, answer, answer_or, answer_in}
 use Rattle.tab_model.proofs.SurvivorsRight.{reply_tells}
 use Rattle.tab_journal.proofs.SameLemmas.{tables-Decides}
 use Rattle.tab_model.specs.Schemas.{schema_refusal, schema_effect}
 use Rattle.tab_model.specs.Tables.{is_ordered, apply}
-use Rattle.tab_model.specs.Worlds.{World, Table, IsOrderedWorld, name_of, find, place, with_rows}
+use Rattle.tab_model.specs.Catalogs.{Catalog, Table, IsOrderedCatalog, name_of, find, place, with_rows}
 use Rattle.tab_model.proofs.ChangeLaws.{find-place, ordered-apply}
-use Rattle.tab_model.proofs.WorldsOrdered.{ordered-after, schema_ordered}
+use Rattle.tab_model.proofs.CatalogsOrdered.{ordered-after, schema_ordered}
 use Rattle.tab_journal.specs.Audits.{is_done, is_found, is_no_table, is_bad_type, is_no_index, is_answer, is_tid, is_atomic_ok, same_tables, Follows, RunsAs, Enters, Leads, with_now}
 
 -- ---- tables stay in order
 
-placed_ordered : (w : World) (x : Table) → IsOrderedWorld w → is_ordered x.rows ≡ true → IsOrderedWorld (place w x)
+placed_ordered : (w : Catalog) (x : Table) → IsOrderedCatalog w → is_ordered x.rows ≡ true → IsOrderedCatalog (place w x)
 placed_ordered w x o h n t e = cases (bytes_eq (name_of x) n) (sym (find-place w x n) ∙ e)
   where
     cases : (b : Bool) → (if b then Some x else find w n) ≡ Some t → is_ordered t.rows ≡ true
     cases true f = let g : x ≡ t = cc in ap (λ z. is_ordered z.rows) (sym g) ∙ h
     cases false f = o n t f
 
-pub changed_ordered : (w : World) (c : Change) → IsOrderedWorld w → IsOrderedWorld (change_world w c)
+pub changed_ordered : (w : Catalog) (c : Change) → IsOrderedCatalog w → IsOrderedCatalog (change_catalog w c)
 changed_ordered w c o = cases (find w (table_of_change c)) refl
   where
-    cases : (x : Option Table) → find w (table_of_change c) ≡ x → IsOrderedWorld (change_table w x c)
+    cases : (x : Option Table) → find w (table_of_change c) ≡ x → IsOrderedCatalog (change_table w x c)
     cases None h = o
     cases (Some x) h = placed_ordered w (with_rows x (apply x.def.kind x.rows c)) o (ordered-apply x.def.kind x.rows c (o (table_of_change c) x h))
 
-pub all_changed_ordered : (w : World) (cs : List Change) → IsOrderedWorld w → IsOrderedWorld (change_all w cs)
+pub all_changed_ordered : (w : Catalog) (cs : List Change) → IsOrderedCatalog w → IsOrderedCatalog (change_all w cs)
 all_changed_ordered w [] o = o
-all_changed_ordered w (c ∷ cs) o = all_changed_ordered (change_world w c) cs (changed_ordered w c o)
+all_changed_ordered w (c ∷ cs) o = all_changed_ordered (change_catalog w c) cs (changed_ordered w c o)
 
-pub folded_ordered : (w : World) (e : Entry) → IsOrderedWorld w → IsOrderedWorld (tables_after w e)
+pub folded_ordered : (w : Catalog) (e : Entry) → IsOrderedCatalog w → IsOrderedCatalog (tables_after w e)
 folded_ordered w (Committed n s age ms rs over) o = all_changed_ordered w (surviving ms rs) o
 folded_ordered w (Changed c over) o = cases (schema_refusal w c)
   where
-    cases : (r : Option Reply) → IsOrderedWorld (unless_refused r (schema_effect w c) w)
+    cases : (r : Option Reply) → IsOrderedCatalog (unless_refused r (schema_effect w c) w)
     cases None = schema_ordered w c o
     cases (Some r) = o
 folded_ordered w (Subscribed s t l dump) o = o
 folded_ordered w (Unsubscribed s t) o = o
 
-pub entered_ordered : (w : World) (e : Entry) → IsOrderedWorld w → IsOrderedWorld (entered w e)
+pub entered_ordered : (w : Catalog) (e : Entry) → IsOrderedCatalog w → IsOrderedCatalog (catalog_after w e)
 entered_ordered w (Committed n s age xs rs over) o = ordered-after w age xs o
 entered_ordered w (Changed c over) o = schema_ordered w c o
 entered_ordered w (Subscribed s t l dump) o = o
 entered_ordered w (Unsubscribed s t) o = o
 
-pub effect_ordered : (w : World) (o : Operation) → IsOrderedWorld w → IsOrderedWorld (effect w o)
+pub effect_ordered : (w : Catalog) (o : Operation) → IsOrderedCatalog w → IsOrderedCatalog (effect w o)
 effect_ordered w o h = cases (change_of_op o)
   where
-    cases : (c : Option Change) → IsOrderedWorld (change_by w c)
+    cases : (c : Option Change) → IsOrderedCatalog (change_by w c)
     cases None = h
     cases (Some c) = changed_ordered w c h
 
@@ -133,7 +133,7 @@ answer-Decides (reply.BadType t x) r h = bad_type-Decides t x r
 answer-Decides (reply.NoIndex t x) r h = no_index-Decides t x r
 answer-Decides a r h = absurd h
 
-answers_are : (w : World) (o : Operation) → IsOperations (answer w o)
+answers_are : (w : Catalog) (o : Operation) → IsOperations (answer w o)
 answers_are w o = cases (find w (table_of o)) o
   where
     by_type : (b : Bool) (t : List ℕ) (x : Term) (y : Option Table) (p : Operation) → IsOperations (answer_in y p) → IsOperations (answer_or (if b then None else Some (reply.BadType t x)) y p)
@@ -158,7 +158,7 @@ answers_are w o = cases (find w (table_of o)) o
     cases (Some x) (op.WriteLockTable t) = tt
 
 -- what an operation is told was compared
-pub told_decided : (w : World) (o : Operation) (a r : Reply) (b : Bool) → a ≡ answer w o → b ≡ is_answer a r → Decides b (answer w o ≡ r)
+pub told_decided : (w : Catalog) (o : Operation) (a r : Reply) (b : Bool) → a ≡ answer w o → b ≡ is_answer a r → Decides b (answer w o ≡ r)
 told_decided w o a r b e h = let d = answer-Decides (answer w o) r (answers_are w o) in let same : b ≡ is_answer (answer w o) r = h ∙ ap (λ x. is_answer x r) e in
     ((λ t. d.0 (sym same ∙ t)), (λ q. same ∙ d.1 q))
 
@@ -212,15 +212,15 @@ undoes m n (Some x) h e = cc
 -- ---- all moves, one after another
 
 -- from the place i on they are run from m
-pub record Runs (w : World) (age : ℕ) (xs : List Move) (rs : List (Option Reply)) (m : Mid) (i : ℕ) : Type 0 where
+pub record Runs (w : Catalog) (age : ℕ) (xs : List Move) (rs : List (Option Reply)) (m : Mid) (i : ℕ) : Type 0 where
   pub on : replies m (drop i xs) ≡ drop i rs → replies (start w age) xs ≡ rs
   pub back : replies (start w age) xs ≡ rs → replies m (drop i xs) ≡ drop i rs
   pub ends : after m (drop i xs) ≡ after (start w age) xs
 
-pub runs_start : (w : World) (age : ℕ) (xs : List Move) (rs : List (Option Reply)) (m : Mid) → m ≡ start w age → Runs w age xs rs m 0
+pub runs_start : (w : Catalog) (age : ℕ) (xs : List Move) (rs : List (Option Reply)) (m : Mid) → m ≡ start w age → Runs w age xs rs m 0
 runs_start w age xs rs m e = record { on = λ h. ap (λ n. replies n xs) (sym e) ∙ h; back = λ h. ap (λ n. replies n xs) e ∙ h; ends = ap (λ n. after n xs) e }
 
-module _ (w : World) (age : ℕ) (xs : List Move) (rs : List (Option Reply)) (m : Mid) (i : ℕ) (k : Runs w age xs rs m i) where
+module _ (w : Catalog) (age : ℕ) (xs : List Move) (rs : List (Option Reply)) (m : Mid) (i : ℕ) (k : Runs w age xs rs m i) where
   module _ (x : Move) (r : Option Reply) (lx : i < length xs) (lr : i < length rs) (at_x : x ≡ get_or xs i x) (at_r : r ≡ get_or rs i r) where
     left : drop i xs ≡ x ∷ drop (i + 1) xs
     left = at_drop_more (λ ys. ys) xs i x lx ∙ ap (λ y. y ∷ drop (i + 1) xs) (sym at_x)
@@ -231,7 +231,7 @@ module _ (w : World) (age : ℕ) (xs : List Move) (rs : List (Option Reply)) (m 
     pub runs_next : (n : Mid) → Follows m x r (Some n) → Runs w age xs rs n (i + 1)
     runs_next n f = record {
       on = λ h. k.on (ap (replies m) left ∙ (λ j. f.0 j ∷ (ap (λ v. replies v (drop (i + 1) xs)) (sym f.1) ∙ h) j) ∙ sym told_left);
-      back = λ h. let both : told m x ∷ replies (next m x) (drop (i + 1) xs) ≡ r ∷ drop (i + 1) rs = ap (replies m) (sym left) ∙ k.back h ∙ told_left in ap (λ v. replies v (drop (i + 1) xs)) f.1 ∙ tails _ _ _ _ both;
+      back = λ h. let both : reply_to m x ∷ replies (next m x) (drop (i + 1) xs) ≡ r ∷ drop (i + 1) rs = ap (replies m) (sym left) ∙ k.back h ∙ told_left in ap (λ v. replies v (drop (i + 1) xs)) f.1 ∙ tails _ _ _ _ both;
       ends = ap (λ v. after v (drop (i + 1) xs)) f.1 ∙ ap (after m) (sym left) ∙ k.ends;
     }
       where
@@ -244,12 +244,12 @@ module _ (w : World) (age : ℕ) (xs : List Move) (rs : List (Option Reply)) (m 
         heads : (a b : Option Reply) (ps qs : List (Option Reply)) → a ∷ ps ≡ b ∷ qs → a ≡ b
         heads a b ps qs e = cc
 
-  pub runs_end : (v : World) → length xs ≤ i → length rs ≤ i → v ≡ m.now → RunsAs w age xs rs (Some v)
+  pub runs_end : (v : Catalog) → length xs ≤ i → length rs ≤ i → v ≡ m.now → RunsAs w age xs rs (Some v)
   runs_end v hx hr e =
       let none : drop i xs ≡ [] = at_drop_all (λ ys. ys) xs i hx in
       (k.on (ap (replies m) none ∙ sym (at_drop_all (λ ys. ys) rs i hr)), e ∙ ap (λ n. n.now) (ap (after m) (sym none) ∙ k.ends))
 
-pub lengths_told : (w : World) (age : ℕ) (xs : List Move) (rs : List (Option Reply)) → length xs ≢ length rs → replies (start w age) xs ≢ rs
+pub lengths_told : (w : Catalog) (age : ℕ) (xs : List Move) (rs : List (Option Reply)) → length xs ≢ length rs → replies (start w age) xs ≢ rs
 lengths_told w age xs rs h = λ e. h (sym (replies_length (start w age) xs) ∙ ap length e)
   where
     replies_length : (m : Mid) (ys : List Move) → length (replies m ys) ≡ length ys
@@ -258,36 +258,36 @@ lengths_told w age xs rs h = λ e. h (sym (replies_length (start w age) xs) ∙ 
 
 -- ---- a log, entry by entry
 
-counted : (w : World) (c : ℕ) (e : Entry) → IsRight w c e → number_after c e ≡ count_after c e
+counted : (w : Catalog) (c : ℕ) (e : Entry) → IsRight w c e → number_after c e ≡ count_after c e
 counted w c (Committed n s age xs rs over) h = h.0
 counted w c (Changed x over) h = refl
 counted w c (Subscribed s t l dump) h = refl
 counted w c (Unsubscribed s t) h = refl
 
 -- these tables are what the log left to run starts from
-pub record Goes (b : Base) (log : List Entry) (tables w : World) (commits : ℕ) (rest : List Entry) : Type 0 where
+pub record Goes (b : Base) (log : List Entry) (tables w : Catalog) (commits : ℕ) (rest : List Entry) : Type 0 where
   pub on : Leads w commits rest tables → IsHistory b log tables
   pub back : IsHistory b log tables → Leads w commits rest tables
-  pub ordered : IsOrderedWorld w
+  pub ordered : IsOrderedCatalog w
 
-pub goes_start : (b : Base) (log : List Entry) (tables w : World) → w ≡ b.tables → IsOrderedWorld b.tables → Goes b log tables w b.commits log
+pub goes_start : (b : Base) (log : List Entry) (tables w : Catalog) → w ≡ b.tables → IsOrderedCatalog b.tables → Goes b log tables w b.commits log
 goes_start b log tables w e o = record {
   on = λ h. record { legal = subst (λ v. IsLegal v b.commits log) e h.0; ends = ap (λ v. serial_from v log) (sym e) ∙ h.1 };
   back = λ h. (subst (λ v. IsLegal v b.commits log) (sym e) h.legal, ap (λ v. serial_from v log) e ∙ h.ends);
-  ordered = subst IsOrderedWorld (sym e) o;
+  ordered = subst IsOrderedCatalog (sym e) o;
 }
 
-module _ (b : Base) (log : List Entry) (tables w : World) (commits : ℕ) (e : Entry) (rest : List Entry) (k : Goes b log tables w commits (e ∷ rest)) where
-  pub goes_next : (v : World) → Enters w commits e (Some v) → Goes b log tables v (number_after commits e) rest
+module _ (b : Base) (log : List Entry) (tables w : Catalog) (commits : ℕ) (e : Entry) (rest : List Entry) (k : Goes b log tables w commits (e ∷ rest)) where
+  pub goes_next : (v : Catalog) → Enters w commits e (Some v) → Goes b log tables v (number_after commits e) rest
   goes_next v f = record {
-    on = λ h. k.on ((f.0, subst (λ c. IsLegal (entered w e) c rest) (counted w commits e f.0) (subst (λ u. IsLegal u (number_after commits e) rest) f.1 h.0)), ap (λ u. serial_from u rest) (sym f.1) ∙ h.1);
-    back = λ h. let g = k.back h in (subst (λ u. IsLegal u (number_after commits e) rest) (sym f.1) (subst (λ c. IsLegal (entered w e) c rest) (sym (counted w commits e f.0)) g.0.1), ap (λ u. serial_from u rest) f.1 ∙ g.1);
-    ordered = subst IsOrderedWorld (sym f.1) (entered_ordered w e k.ordered);
+    on = λ h. k.on ((f.0, subst (λ c. IsLegal (catalog_after w e) c rest) (counted w commits e f.0) (subst (λ u. IsLegal u (number_after commits e) rest) f.1 h.0)), ap (λ u. serial_from u rest) (sym f.1) ∙ h.1);
+    back = λ h. let g = k.back h in (subst (λ u. IsLegal u (number_after commits e) rest) (sym f.1) (subst (λ c. IsLegal (catalog_after w e) c rest) (sym (counted w commits e f.0)) g.0.1), ap (λ u. serial_from u rest) f.1 ∙ g.1);
+    ordered = subst IsOrderedCatalog (sym f.1) (entered_ordered w e k.ordered);
   }
 
   pub goes_not : Enters w commits e None → IsHistory b log tables → ⊥
   goes_not f h = f (k.back h).0.0
 
-pub goes_end : (b : Base) (log : List Entry) (tables w : World) (commits : ℕ) (is : Bool) → Goes b log tables w commits [] → is ≡ same_tables w tables → Decides is (IsHistory b log tables)
+pub goes_end : (b : Base) (log : List Entry) (tables w : Catalog) (commits : ℕ) (is : Bool) → Goes b log tables w commits [] → is ≡ same_tables w tables → Decides is (IsHistory b log tables)
 goes_end b log tables w commits is k e = let d = tables-Decides w tables in
     ((λ t. k.on (tt, d.0 (sym e ∙ t))), (λ h. e ∙ d.1 (k.back h).1))

@@ -10,7 +10,7 @@ use Rattle.tab_term.specs.Same.{same, same-Decides}
 use Rattle.tab_model.specs.declared.data.Kind.{Kind}
 use Rattle.tab_model.specs.declared.data.Kind.TheVariants.{Set, Bag}
 use Rattle.tab_model.specs.Tables.{Rows}
-use Rattle.tab_model.specs.Worlds.{World, Table}
+use Rattle.tab_model.specs.Catalogs.{Catalog, Table}
 use Rattle.tab_journal.specs.Audits.{same_names, same_kind, same_numbers, same_def, same_rows, same_table, same_tables}
 use Rattle.tab_model.specs.declared.data.TableDef.{TableDef}
 
@@ -61,7 +61,7 @@ table-Decides t u = Decides-like (same_table t u)
     (λ h. (ap (λ (x : Table). x.def) h, ap (λ (x : Table). x.rows) h))
     (Decides-and (same_def t.def u.def) (same_rows t.rows u.rows) (def-Decides t.def u.def) (rows-Decides t.rows u.rows))
 
-pub tables-Decides : (w v : World) → Decides (same_tables w v) (w ≡ v)
+pub tables-Decides : (w v : Catalog) → Decides (same_tables w v) (w ≡ v)
 tables-Decides [] [] = (λ e. refl, λ e. refl)
 tables-Decides (t ∷ w) (u ∷ v) = Decides-like (same_table t u && same_tables w v) (λ p. λ i. p.0 i ∷ p.1 i) (λ e. (cc, cc)) (Decides-and (same_table t u) (same_tables w v) (table-Decides t u) (tables-Decides w v))
 tables-Decides w v = (λ e. absurd (false≢true e), λ e. absurd cc)

@@ -14,10 +14,10 @@ use Rattle.tab_model.specs.declared.data.Reply.{Reply}
 use Rattle.tab_model.specs.declared.data.Reply.TheVariants as reply
 use Rattle.tab_model.specs.declared.data.Schema.{Schema}
 use Rattle.tab_model.specs.Schemas.{schema_refusal, schema_effect}
-use Rattle.tab_model.specs.Alone.{Mid, start, next, after, told, replies}
-use Rattle.tab_model.specs.Log.{serial_from, entered, IsRight, IsLegal}
+use Rattle.tab_model.specs.Alone.{Mid, start, next, after, reply_to, replies}
+use Rattle.tab_model.specs.Log.{serial_from, catalog_after, IsRight, IsLegal}
 use Rattle.tab_model.specs.Tables.{Rows}
-use Rattle.tab_model.specs.Worlds.{World, Table, IsOrderedWorld}
+use Rattle.tab_model.specs.Catalogs.{Catalog, Table, IsOrderedCatalog}
 
 -- ---- the same reply, of those that operations have
 
@@ -100,7 +100,7 @@ abbrev pub same_table : Table → Table → Bool
 same_table t u = same_def t.def u.def && same_rows t.rows u.rows
 
 -- the same tables in the same order
-abbrev pub same_tables : World → World → Bool
+abbrev pub same_tables : Catalog → Catalog → Bool
 same_tables [] [] = true
 same_tables (t ∷ w) (u ∷ v) = same_table t u && same_tables w v
 same_tables w v = false
@@ -108,34 +108,34 @@ same_tables w v = false
 -- ---- a transaction that is run again
 
 -- the tables in its midst are all in order
-abbrev pub AllOrdered : List World → Type 0
+abbrev pub AllOrdered : List Catalog → Type 0
 AllOrdered [] = Unit {0}
-AllOrdered (w ∷ ws) = IsOrderedWorld w × AllOrdered ws
+AllOrdered (w ∷ ws) = IsOrderedCatalog w × AllOrdered ws
 
 -- the tables become others
-abbrev pub with_now : Mid → World → Mid
+abbrev pub with_now : Mid → Catalog → Mid
 with_now m w = record m { now = w }
 
 -- a move that is told this, or another thing
 abbrev pub Follows : Mid → Move → Option Reply → Option Mid → Type 0
-Follows m x r None = told m x ≢ r
-Follows m x r (Some n) = (told m x ≡ r) × (n ≡ next m x)
+Follows m x r None = reply_to m x ≢ r
+Follows m x r (Some n) = (reply_to m x ≡ r) × (n ≡ next m x)
 
 -- all its moves are told these
-abbrev pub RunsAs : World → ℕ → List Move → List (Option Reply) → Option World → Type 0
+abbrev pub RunsAs : Catalog → ℕ → List Move → List (Option Reply) → Option Catalog → Type 0
 RunsAs w age xs rs None = replies (start w age) xs ≢ rs
 RunsAs w age xs rs (Some v) = (replies (start w age) xs ≡ rs) × (v ≡ (after (start w age) xs).now)
 
 -- a schema command is not refused on these tables, and leaves others
-abbrev pub Changes : World → Schema → Option World → Type 0
+abbrev pub Changes : Catalog → Schema → Option Catalog → Type 0
 Changes w c None = schema_refusal w c ≢ None
 Changes w c (Some v) = (schema_refusal w c ≡ None) × (v ≡ schema_effect w c)
 
 -- an entry is right on these tables, and leaves others
-abbrev pub Enters : World → ℕ → Entry → Option World → Type 0
+abbrev pub Enters : Catalog → ℕ → Entry → Option Catalog → Type 0
 Enters w commits e None = IsRight w commits e → ⊥
-Enters w commits e (Some v) = IsRight w commits e × (v ≡ entered w e)
+Enters w commits e (Some v) = IsRight w commits e × (v ≡ catalog_after w e)
 
 -- a log from these tables on
-abbrev pub Leads : World → ℕ → List Entry → World → Type 0
+abbrev pub Leads : Catalog → ℕ → List Entry → Catalog → Type 0
 Leads w commits log tables = IsLegal w commits log × (serial_from w log ≡ tables)

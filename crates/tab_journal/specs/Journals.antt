@@ -1,7 +1,7 @@
 -- A journal as contracts see it: its base, its entries, oldest first, and how many it holds at most (this project's own).
 use Rattle.std.specs.Prelude.{ℕ, Bool, List, [], ◌∷◌}
 use Rattle.tab_model.specs.declared.data.Entry.{Entry}
-use Rattle.tab_model.specs.History.{Base, folded, forgotten}
+use Rattle.tab_model.specs.History.{Base, after_fold, without_subscriber}
 
 -- a journal as plain data, the oldest entry first
 pub record Kept : Type 0 where
@@ -12,7 +12,7 @@ pub record Kept : Type 0 where
 -- its oldest entry is folded into its base
 abbrev pub without_oldest : Bool → Base → List Entry → ℕ → Kept
 without_oldest joined b [] n = record { base = b; entries = []; limit = n }
-without_oldest joined b (e ∷ es) n = record { base = folded joined b e; entries = es; limit = n }
+without_oldest joined b (e ∷ es) n = record { base = after_fold joined b e; entries = es; limit = n }
 
 -- the journal with its oldest entry, if it has one, in its base; joined says that this entry's session is joined
 abbrev pub fold_oldest : Bool → Kept → Kept
@@ -20,4 +20,4 @@ fold_oldest joined k = without_oldest joined k.base k.entries k.limit
 
 -- the journal, whose base has no subscription of session s any more
 abbrev pub forget : Kept → ℕ → Kept
-forget k s = record k { base = forgotten k.base s }
+forget k s = record k { base = without_subscriber k.base s }

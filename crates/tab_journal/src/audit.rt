@@ -3,7 +3,7 @@
 ghost use Rattle.std.specs.Prelude.{◌≡◌, IfOk};
 ghost use Rattle.std.specs.Bool.{Decides};
 ghost use Rattle.tab_model.specs.History.{IsHistory};
-ghost use Rattle.tab_model.specs.Worlds.{IsOrderedWorld};
+ghost use Rattle.tab_model.specs.Catalogs.{IsOrderedCatalog};
 ghost use Rattle.tab_journal.specs.Audits.{Changes, Enters};
 
 use crate::base::{Base, number_after};
@@ -12,14 +12,14 @@ use crate::same::are_same_tables;
 use circular_buffer::HeapCircularBuffer;
 use std::alloc::{AllocError, Global};
 use tab_model::{Entry, Schema};
-use tab_world::{Redefined, World, redefine};
+use tab_tables::{Catalog, Redefined, redefine};
 
 /// Whether the entries are a legal log from this base that ends in these tables.
 pub fn is_history(
     alloc: Global,
     base: &Base,
     entries: &HeapCircularBuffer<Entry>,
-    tables: &World,
+    tables: &Catalog,
 ) -> Result<bool, AllocError>
     ensures { IfOk result (λ is. Decides is (IsHistory base.now entries.now.items tables.now)) }
 {
@@ -38,11 +38,11 @@ pub fn is_history(
 /// The tables after an entry, or None where it is not right on these.
 fn enter(
     alloc: Global,
-    tables: &World,
+    tables: &Catalog,
     commits: u64,
     entry: &Entry,
-) -> Result<Option<World>, AllocError>
-    requires { IsOrderedWorld tables.now }
+) -> Result<Option<Catalog>, AllocError>
+    requires { IsOrderedCatalog tables.now }
     ensures { IfOk result (Enters tables.now commits entry.now) }
 {
     match entry {
@@ -70,11 +70,15 @@ fn enter(
     }
 }
 
-fn redefined(alloc: Global, tables: &World, command: &Schema) -> Result<Option<World>, AllocError>
+fn redefined(
+    alloc: Global,
+    tables: &Catalog,
+    command: &Schema,
+) -> Result<Option<Catalog>, AllocError>
     ensures { IfOk result (Changes tables.now command.now) }
 {
     match redefine(alloc, tables, command)? {
-        Redefined::Done(world) => Ok(Some(world)),
+        Redefined::Done(catalog) => Ok(Some(catalog)),
         Redefined::Refused(_reply) => Ok(None),
     }
 }

@@ -3,20 +3,20 @@
 ghost use Rattle.std.specs.Prelude.{◌≡◌, IfOk, OnOk, OnErr};
 ghost use Rattle.tab_model.specs.declared.data.Schema.{Schema as SchemaOf};
 ghost use Rattle.tab_model.specs.Schemas.{schema_refusal, schema_effect};
-ghost use Rattle.tab_model.specs.History.{empty as empty_base, folded, forgotten, number_after as number_after_entry, unless_refused};
-ghost use Rattle.tab_model.specs.Worlds.{IsOrderedWorld};
+ghost use Rattle.tab_model.specs.History.{empty as empty_base, after_fold, without_subscriber, number_after as number_after_entry, unless_refused};
+ghost use Rattle.tab_model.specs.Catalogs.{IsOrderedCatalog};
 
 use crate::subscriptions::{Subscription, forget, keep, removed, subscribe, unsubscribe};
 use crate::survivors::surviving;
 use std::alloc::{AllocError, Global};
 use std::marker::Model;
 use tab_model::{Entry, Schema};
-use tab_world::{Lender, Redefined, World, redefine};
+use tab_tables::{Catalog, Lender, Redefined, redefine};
 
 /// The tables, the last commit's number, and the joined sessions' subscriptions, as they were before the first entry.
 #[derive(Drop)]
 pub struct Base {
-    tables: World,
+    tables: Catalog,
     commits: u64,
     subscriptions: Vec<Subscription>,
 }
@@ -32,9 +32,9 @@ impl Model for Base {
 
     ghost view = { λ a. record { tables = a.tables; commits = a.commits; subscriptions = a.subscriptions.items } };
 
-    ghost use Rattle.tab_model.specs.Worlds.{IsOrderedWorld};
+    ghost use Rattle.tab_model.specs.Catalogs.{IsOrderedCatalog};
 
-    ghost invariant = { λ a. IsOrderedWorld a.tables };
+    ghost invariant = { λ a. IsOrderedCatalog a.tables };
 }
 
 impl Base {
@@ -43,16 +43,16 @@ impl Base {
         ensures { result ≡ empty_base }
     {
         Base {
-            tables: World::empty(),
+            tables: Catalog::empty(),
             commits: 0,
             subscriptions: Vec::new(alloc),
         }
     }
 
     /// The tables that the first entry starts from.
-    pub fn tables(&self) -> &World
+    pub fn tables(&self) -> &Catalog
         ensures tables { result.now ≡ self.now.tables }
-        ensures ordered { IsOrderedWorld self.now.tables }
+        ensures ordered { IsOrderedCatalog self.now.tables }
     {
         &self.tables
     }
@@ -78,9 +78,9 @@ impl Base {
         alloc: Global,
         joined: bool,
         entry: &Entry,
-        tables: &World,
+        tables: &Catalog,
     ) -> Result<(), AllocError>
-        ensures ok { OnOk result (self.new ≡ folded joined self.old entry.now) }
+        ensures ok { OnOk result (self.new ≡ after_fold joined self.old entry.now) }
         ensures err { OnErr result (self.new ≡ self.old) }
     {
         match entry {
@@ -121,7 +121,7 @@ impl Base {
 
     /// Drops the subscriptions of a session that has left. Takes no memory.
     pub(crate) fn forget(&mut self, session: u64)
-        ensures { self.new ≡ forgotten self.old session }
+        ensures { self.new ≡ without_subscriber self.old session }
     {
         forget(&mut self.subscriptions, session);
     }
@@ -139,11 +139,11 @@ pub fn number_after(commits: u64, entry: &Entry) -> u64
     }
 }
 
-fn redefined(alloc: Global, tables: &World, command: &Schema) -> Result<World, AllocError>
-    ensures { IfOk result (λ world. world ≡ unless_refused (schema_refusal tables.now command.now) (schema_effect tables.now command.now) tables.now) }
+fn redefined(alloc: Global, tables: &Catalog, command: &Schema) -> Result<Catalog, AllocError>
+    ensures { IfOk result (λ catalog. catalog ≡ unless_refused (schema_refusal tables.now command.now) (schema_effect tables.now command.now) tables.now) }
 {
     match redefine(alloc, tables, command)? {
-        Redefined::Done(world) => Ok(world),
+        Redefined::Done(catalog) => Ok(catalog),
         Redefined::Refused(_reply) => tables.share(),
     }
 }

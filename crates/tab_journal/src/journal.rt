@@ -12,7 +12,7 @@ use circular_buffer::HeapCircularBuffer;
 use std::alloc::{AllocError, Global};
 use std::marker::Model;
 use tab_model::Entry;
-use tab_world::World;
+use tab_tables::Catalog;
 
 /// The entries that stand, oldest first, and what they started from.
 #[derive(Drop)]
@@ -92,7 +92,7 @@ impl Journal {
 
     /// True exactly where the entries are a legal log from this base that ends in these tables. Each transaction is run
     /// again and each of its replies compared, so it takes as long as the transactions themselves.
-    pub fn audit(&self, alloc: Global, base: &Base, tables: &World) -> Result<bool, AllocError>
+    pub fn audit(&self, alloc: Global, base: &Base, tables: &Catalog) -> Result<bool, AllocError>
         ensures { IfOk result (λ is. Decides is (IsHistory base.now self.now.entries tables.now)) }
     {
         is_history(alloc, base, &self.entries, tables)
@@ -104,7 +104,7 @@ impl Journal {
         &mut self,
         alloc: Global,
         joined: bool,
-        tables: &World,
+        tables: &Catalog,
     ) -> Result<(), AllocError>
         requires { 0 < length self.old.entries }
         ensures ok { OnOk result (self.new ≡ fold_oldest_of joined self.old) }

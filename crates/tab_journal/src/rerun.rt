@@ -5,7 +5,7 @@ ghost use Rattle.std.specs.Bool.{Decides};
 ghost use Rattle.tab_model.specs.declared.data.Move.TheVariants as moves_of;
 ghost use Rattle.tab_model.specs.Alone.{start as start_of, next, back as back_of};
 ghost use Rattle.tab_model.specs.Operations.{answer as answer_of, effect as effect_of};
-ghost use Rattle.tab_model.specs.Worlds.{IsOrderedWorld};
+ghost use Rattle.tab_model.specs.Catalogs.{IsOrderedCatalog};
 ghost use Rattle.tab_journal.specs.Audits.{Follows, RunsAs, with_now};
 
 use crate::same::{is_answer, is_atomic_ok, is_tid};
@@ -14,25 +14,25 @@ use std::alloc::{AllocError, Global};
 use std::collections::VecDeque;
 use std::marker::Model;
 use std::slice;
-use tab_model::{Move, Operation, Reply, Told};
+use tab_model::{Move, Operation, Reply, SharedReply};
 use tab_operations::{Pending, perform};
+use tab_tables::{Catalog, Lender};
 use tab_txstore::{TxStore, is_failure};
-use tab_world::{Lender, World};
 
 /// A transaction in its midst, on whole versions of the tables, which share what does not change.
 struct Midst {
     age: u64,
-    now: World,
+    now: Catalog,
     // Those that each open level goes back to, innermost first.
-    saved: VecDeque<World>,
-    base: World,
+    saved: VecDeque<Catalog>,
+    base: Catalog,
 }
 
 impl Model for Midst {
     ghost use Rattle.std.specs.Coded.{codes};
     ghost use Rattle.tab_term.specs.Code.{term_code};
     ghost use Rattle.tab_model.specs.Alone.{Mid};
-    ghost use Rattle.tab_model.specs.Worlds.{IsOrderedWorld};
+    ghost use Rattle.tab_model.specs.Catalogs.{IsOrderedCatalog};
     ghost use Rattle.tab_journal.specs.Audits.{AllOrdered};
 
     ghost Value = { Mid };
@@ -41,7 +41,7 @@ impl Model for Midst {
 
     ghost view = { λ a. record { age = a.age; now = a.now; saved = a.saved.items; base = a.base } };
 
-    ghost invariant = { λ a. IsOrderedWorld a.now × AllOrdered a.saved.items × IsOrderedWorld a.base };
+    ghost invariant = { λ a. IsOrderedCatalog a.now × AllOrdered a.saved.items × IsOrderedCatalog a.base };
 }
 
 // A derived Drop would be taken apart, field by field, at each exit of each caller.
@@ -60,8 +60,8 @@ impl Drop for Midst {
 }
 
 impl Midst {
-    fn start(alloc: Global, tables: &World, age: u64) -> Result<Midst, AllocError>
-        requires { IsOrderedWorld tables.now }
+    fn start(alloc: Global, tables: &Catalog, age: u64) -> Result<Midst, AllocError>
+        requires { IsOrderedCatalog tables.now }
         ensures { IfOk result (λ run. run ≡ start_of tables.now age) }
     {
         Ok(Midst {
@@ -77,7 +77,7 @@ impl Midst {
         self,
         alloc: Global,
         step: &Move,
-        told: &Option<Told>,
+        told: &Option<SharedReply>,
     ) -> Result<Option<Midst>, AllocError>
         ensures { IfOk result (Follows self step.now told.now) }
     {
@@ -203,7 +203,7 @@ impl Midst {
         })
     }
 
-    fn into_tables(self) -> World
+    fn into_tables(self) -> Catalog
         ensures { result ≡ self.now }
     {
         let Midst {
@@ -219,7 +219,7 @@ impl Midst {
 }
 
 /// The tables after an operation that does not fail.
-fn effect(alloc: Global, tables: &World, operation: &Operation) -> Result<World, AllocError>
+fn effect(alloc: Global, tables: &Catalog, operation: &Operation) -> Result<Catalog, AllocError>
     ensures { IfOk result (λ after. after ≡ effect_of tables.now operation.now) }
 {
     match change_of(alloc, operation)? {
@@ -231,11 +231,11 @@ fn effect(alloc: Global, tables: &World, operation: &Operation) -> Result<World,
 /// Whether an operation is told this on these tables.
 fn is_told(
     alloc: Global,
-    tables: &World,
+    tables: &Catalog,
     operation: &Operation,
     told: &Reply,
 ) -> Result<bool, AllocError>
-    requires { IsOrderedWorld tables.now }
+    requires { IsOrderedCatalog tables.now }
     ensures { IfOk result (λ is. Decides is (answer_of tables.now operation.now ≡ told.now)) }
 {
     let pending = Pending {
@@ -250,12 +250,12 @@ fn is_told(
 /// thing than this.
 pub fn rerun(
     alloc: Global,
-    tables: &World,
+    tables: &Catalog,
     age: u64,
     moves: &[Move],
-    told: &[Option<Told>],
-) -> Result<Option<World>, AllocError>
-    requires { IsOrderedWorld tables.now }
+    told: &[Option<SharedReply>],
+) -> Result<Option<Catalog>, AllocError>
+    requires { IsOrderedCatalog tables.now }
     ensures { IfOk result (RunsAs tables.now age moves.now told.now) }
 {
     if moves.len() != told.len() {

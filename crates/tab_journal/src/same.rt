@@ -8,9 +8,9 @@ ghost use Rattle.tab_journal.specs.Audits.{is_done as is_done_of, is_found as is
 use crate::records::Records;
 use tab_index::IndexedTable;
 use tab_lists::SharedTerms;
-use tab_model::{Kind, Reply, TableDef, Told};
+use tab_model::{Kind, Reply, SharedReply, TableDef};
+use tab_tables::Catalog;
 use tab_term::{Atom, Term};
-use tab_world::World;
 
 fn are_same(ones: &SharedTerms, others: &SharedTerms) -> bool
     ensures { result ≡ all_same ones.now others.now }
@@ -82,7 +82,7 @@ pub fn is_answer(answer: &Reply, told: &Reply) -> bool
 }
 
 /// Whether what was told is the begin of a child of the transaction with this age.
-pub fn is_tid(told: &Option<Told>, age: u64) -> bool
+pub fn is_tid(told: &Option<SharedReply>, age: u64) -> bool
     ensures { result ≡ is_tid_of age told.now }
 {
     match told {
@@ -95,7 +95,7 @@ pub fn is_tid(told: &Option<Told>, age: u64) -> bool
 }
 
 /// Whether what was told is the commit of a child.
-pub fn is_atomic_ok(told: &Option<Told>) -> bool
+pub fn is_atomic_ok(told: &Option<SharedReply>) -> bool
     ensures { result ≡ is_atomic_ok_of told.now }
 {
     match told {
@@ -196,7 +196,7 @@ fn is_same_table(one: &IndexedTable, other: &IndexedTable) -> bool
 }
 
 /// Whether these are the same tables.
-pub fn are_same_tables(ones: &World, others: &World) -> bool
+pub fn are_same_tables(ones: &Catalog, others: &Catalog) -> bool
     ensures { result ≡ same_tables ones.now others.now }
 {
     let mut left = others.tables();

@@ -3,9 +3,9 @@
 ghost use Rattle.std.specs.Prelude.{◌≡◌, ◌++◌, ◌∷◌, [], not, true, ◌==◌, OnOk, OnErr};
 ghost use Rattle.std.specs.Option.{option_copied};
 ghost use Rattle.std.specs.List.{filter};
-ghost use Rattle.tab_model.specs.Schemas.{removed as removed_by};
+ghost use Rattle.tab_model.specs.Schemas.{removed_table as removed_by};
 ghost use Rattle.tab_model.specs.Log.{has_session as is_among, is_removed};
-ghost use Rattle.tab_model.specs.History.{Subscription as SubscriptionOf, is_of as is_subscription_of, outlasts as outlasts_entry, subscribed};
+ghost use Rattle.tab_model.specs.History.{Subscription as SubscriptionOf, is_of as is_subscription_of, outlasts as outlasts_entry, with_subscription};
 
 use std::alloc::{AllocError, Global};
 use std::marker::Model;
@@ -94,7 +94,7 @@ pub fn subscribe(
     table: &Atom,
     level: Level,
 ) -> Result<(), AllocError>
-    ensures ok { OnOk result (subscriptions.new.items ≡ subscribed true subscriptions.old.items (record { session = session; table = table.now; level = level })) }
+    ensures ok { OnOk result (subscriptions.new.items ≡ with_subscription true subscriptions.old.items (record { session = session; table = table.now; level = level })) }
     ensures err { OnErr result (subscriptions.new.items ≡ subscriptions.old.items) }
 {
     let name = table.try_clone(alloc)?;

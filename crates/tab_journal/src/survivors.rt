@@ -8,7 +8,7 @@ ghost use Rattle.tab_journal.specs.Survivors.{next, opened, closed, ended, chang
 use std::alloc::{AllocError, Global};
 use std::collections::VecDeque;
 use std::marker::Model;
-use tab_model::{Change, Move, Operation, Reply, Told};
+use tab_model::{Change, Move, Operation, Reply, SharedReply};
 
 /// The updates so far that stand.
 pub struct Survivors {
@@ -41,7 +41,7 @@ impl Drop for Survivors {
     }
 }
 
-fn is_failure(told: &Option<Told>) -> bool
+fn is_failure(told: &Option<SharedReply>) -> bool
     ensures { result ≡ is_failure_of told.now }
 {
     match told {
@@ -112,7 +112,12 @@ impl Survivors {
         }
     }
 
-    fn follow(&mut self, alloc: Global, step: &Move, told: &Option<Told>) -> Result<(), AllocError>
+    fn follow(
+        &mut self,
+        alloc: Global,
+        step: &Move,
+        told: &Option<SharedReply>,
+    ) -> Result<(), AllocError>
         ensures { OnOk result (self.new ≡ next self.old step.now told.now) }
     {
         match step {
@@ -151,7 +156,7 @@ impl Survivors {
 pub fn surviving(
     alloc: Global,
     moves: &[Move],
-    told: &[Option<Told>],
+    told: &[Option<SharedReply>],
 ) -> Result<Vec<Change>, AllocError>
     ensures { IfOk result (λ changes. changes.items ≡ surviving_of moves.now told.now) }
 {

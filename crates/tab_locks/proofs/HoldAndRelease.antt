@@ -10,7 +10,7 @@ use Rattle.tab_model.specs.declared.data.Lock as code
 use Rattle.tab_model.specs.Ages.{Owned}
 use Rattle.tab_locks.specs.Members.{HasMore, SameMembers, Drops}
 use Rattle.tab_locks.specs.Plain.{lock_of}
-use Rattle.tab_locks.specs.Spots.{stands_at}
+use Rattle.tab_locks.specs.Spots.{holds_at}
 use Rattle.tab_locks.specs.Placed.{placed, without_last, listed, is_of}
 use Rattle.tab_locks.proofs.Passing.{any_same, any_more}
 use Rattle.tab_locks.proofs.WithoutLast.{placed_undone}
@@ -45,11 +45,11 @@ neither true true c = refl
 neither true false c = refl
 neither false b c = refl
 
-pub one_more_gone : (age : ℕ) (l : code.Lock) (locks : List code.Lock) (old now new : List Owned) → Drops (is_of age locks) old now → Drops (stands_at age (lock_of l)) now new → Drops (is_of age (locks ++ l ∷ [])) old new
+pub one_more_gone : (age : ℕ) (l : code.Lock) (locks : List code.Lock) (old now new : List Owned) → Drops (is_of age locks) old now → Drops (holds_at age (lock_of l)) now new → Drops (is_of age (locks ++ l ∷ [])) old new
 one_more_gone age l locks old now new before here = λ p.
-    here p ∙ before (λ x. p x && not (stands_at age (lock_of l) x))
-    ∙ any_same (λ x. (p x && not (stands_at age (lock_of l) x)) && not (is_of age locks x)) (λ x. p x && not (is_of age (locks ++ l ∷ []) x)) old
-    (λ x. neither (p x) (stands_at age (lock_of l) x) (is_of age locks x) ∙ ap (λ b. p x && not b) (sym (any_more (λ k. stands_at age (lock_of k) x) locks l)))
+    here p ∙ before (λ x. p x && not (holds_at age (lock_of l) x))
+    ∙ any_same (λ x. (p x && not (holds_at age (lock_of l) x)) && not (is_of age locks x)) (λ x. p x && not (is_of age (locks ++ l ∷ []) x)) old
+    (λ x. neither (p x) (holds_at age (lock_of l) x) (is_of age locks x) ∙ ap (λ b. p x && not b) (sym (any_more (λ k. holds_at age (lock_of k) x) locks l)))
 
 pub indexed_released : (age : ℕ) (v : Vec code.Lock) (es new : Entries) (index after : List Owned) → IsStrictlySortedBy nat_cmp (keys_of es) → lookup (is_at (nat_cmp age)) es ≡ Some v
     → new ≡ remove_entry (is_at (nat_cmp age)) es → SameMembers (listed es) index → Drops (is_of age v.items) index after → SameMembers (listed new) after

@@ -16,7 +16,7 @@ use Rattle.tab_model.specs.declared.data.Lock as code
 use Rattle.tab_model.specs.Locks.{Part, All, Key}
 use Rattle.tab_model.specs.Ages.{Owned, without}
 use Rattle.tab_locks.specs.Plain.{lock_of}
-use Rattle.tab_locks.specs.Spots.{same_part, same_mode, stands_at}
+use Rattle.tab_locks.specs.Spots.{same_part, same_mode, holds_at}
 use Rattle.tab_locks.specs.Placed.{placed, owned_by, listed, is_of}
 use Rattle.std.specs.Cmp.{nat_cmp_total}
 use Rattle.std.specs.Option.{unwrap_or}
@@ -163,7 +163,7 @@ same_mode_itself : (b : Bool) → same_mode b b ≡ true
 same_mode_itself true = refl
 same_mode_itself false = refl
 
-pub stands_itself : (age : ℕ) (l : code.Lock) → stands_at age (lock_of l) (age, lock_of l) ≡ true
+pub stands_itself : (age : ℕ) (l : code.Lock) → holds_at age (lock_of l) (age, lock_of l) ≡ true
 stands_itself age l = (λ i. bytes_equiv.refl l.table i && (same_part_itself (lock_of l).part i && (itself age i && same_mode_itself (lock_of l).write i)))
 
 -- an owner's locks are all on the places of its locks
@@ -171,7 +171,7 @@ own_gone : (p : Owned → Bool) (age : ℕ) (first ls : List code.Lock) → list
 own_gone p age first [] = refl
 own_gone p age first (l ∷ ls) =
     let x : Owned = (age, lock_of l) in
-    let here : is_of age (first ++ l ∷ ls) x ≡ true = list_any-append (λ k. stands_at age (lock_of k) x) first (l ∷ ls) ∙ (λ i. is_of age first x || (stands_itself age l i || is_of age ls x)) ∙ or_true (is_of age first x) in
+    let here : is_of age (first ++ l ∷ ls) x ≡ true = list_any-append (λ k. holds_at age (lock_of k) x) first (l ∷ ls) ∙ (λ i. is_of age first x || (stands_itself age l i || is_of age ls x)) ∙ or_true (is_of age first x) in
     let rest = ap (λ ks. list_any (λ y. p y && not (is_of age ks y)) (owned_by age ls)) (sym (append_assoc first (l ∷ []) ls)) ∙ own_gone p age (first ++ l ∷ []) ls in
     λ i. (ap (λ b. p x && not b) here ∙ and-false (p x)) i || rest i
   where
@@ -181,7 +181,7 @@ own_gone p age first (l ∷ ls) =
 
 -- no other owner's are
 other_kept : (age : ℕ) (locks : List code.Lock) (x : Owned) → (x.0 == age) ≡ false → is_of age locks x ≡ false
-other_kept age locks x h = any_never (λ l. stands_at age (lock_of l) x) locks
+other_kept age locks x h = any_never (λ l. holds_at age (lock_of l) x) locks
     (λ l. (λ i. bytes_eq l.table (x.1).table && (same_part (lock_of l).part (x.1).part && (h i && same_mode (lock_of l).write (x.1).write))) ∙ ap (λ b. bytes_eq l.table (x.1).table && b) (and-false (same_part (lock_of l).part (x.1).part)) ∙ and-false (bytes_eq l.table (x.1).table))
 
 pub others_kept : (p : Owned → Bool) (age k : ℕ) (locks ls : List code.Lock) → (k == age) ≡ false → list_any (λ x. p x && not (is_of age locks x)) (owned_by k ls) ≡ list_any p (owned_by k ls)

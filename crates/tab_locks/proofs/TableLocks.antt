@@ -17,7 +17,7 @@ use Rattle.tab_locks.specs.declared.question.Relation.{Relation}
 use Rattle.tab_locks.specs.declared.question.Relation.TheVariants.{Meeting, Opposing, Blocking, Covering}
 use Rattle.tab_locks.specs.Questions.{asked, fits, reaches, meets_at}
 use Rattle.tab_locks.specs.Members.{HasMore, SameMembers, Drops}
-use Rattle.tab_locks.specs.Spots.{Spot, locks_on, locks_in, stands_on, stands_at}
+use Rattle.tab_locks.specs.Spots.{Spot, locks_on, locks_in, stands_on, holds_at}
 use Rattle.tab_locks.proofs.Passing.{any_same, any_map, any_and}
 use Rattle.tab_locks.proofs.Lookups.{found_any}
 use Rattle.tab_locks.proofs.PutEntry.{put_found, found_set, without_set, without_missing}
@@ -99,31 +99,31 @@ pub new_in : (t u : List ℕ) (x : Spot) (v : List Spot) (es new : Entries) → 
     → HasMore x [] v → HasMore (x.1.0, lock t x.0 x.1.1) (locks_in es) (locks_in new)
 new_in t u x v es new e l is h = spelled_new bytes_cmp nat_list_cmp_total locks_on t (x.1.0, lock t x.0 x.1.1) v es new l (is ∙ ap (λ z. insert_entry bytes_cmp es z v) e) (more_mapped (λ (s : Spot). (s.1.0, lock t s.0 s.1.1)) x [] v h)
 
-others_stay : (age : ℕ) (t : List ℕ) (part : Part) (write : Bool) (e : List ℕ × List Spot) → is_at (bytes_cmp t) e.0 ≡ false → Drops (stands_at age (lock t part write)) (locks_on e.0 e.1) (locks_on e.0 e.1)
-others_stay age t part write e n = kept_mapped (λ (s : Spot). (s.1.0, lock e.0 s.0 s.1.1)) (stands_at age (lock t part write)) e.1 (λ s. ap (λ b. b && stands_on part (age, write) s) (sym (is_table t e.0) ∙ n))
+others_stay : (age : ℕ) (t : List ℕ) (part : Part) (write : Bool) (e : List ℕ × List Spot) → is_at (bytes_cmp t) e.0 ≡ false → Drops (holds_at age (lock t part write)) (locks_on e.0 e.1) (locks_on e.0 e.1)
+others_stay age t part write e n = kept_mapped (λ (s : Spot). (s.1.0, lock e.0 s.0 s.1.1)) (holds_at age (lock t part write)) e.1 (λ s. ap (λ b. b && stands_on part (age, write) s) (sym (is_table t e.0) ∙ n))
 
 pub dropped_in : (age : ℕ) (t : List ℕ) (part : Part) (write : Bool) (v w : List Spot) (es new : Entries) → IsStrictlySortedBy bytes_cmp (keys_of es) → lookup (is_at (bytes_cmp t)) es ≡ Some v → new ≡ set_value (is_at (bytes_cmp t)) es w
-    → Drops (stands_on part (age, write)) v w → Drops (stands_at age (lock t part write)) (locks_in es) (locks_in new)
-dropped_in age t part write v w es new s l is h = spelled_dropped bytes_cmp nat_list_cmp_total locks_on t (stands_at age (lock t part write)) v w es new s l is
-    (λ u e. dropped_mapped (λ (z : Spot). (z.1.0, lock u z.0 z.1.1)) (stands_at age (lock t part write)) (stands_on part (age, write)) v w h (λ z. ap (λ b. b && stands_on part (age, write) z) (sym (is_table t u) ∙ e)))
+    → Drops (stands_on part (age, write)) v w → Drops (holds_at age (lock t part write)) (locks_in es) (locks_in new)
+dropped_in age t part write v w es new s l is h = spelled_dropped bytes_cmp nat_list_cmp_total locks_on t (holds_at age (lock t part write)) v w es new s l is
+    (λ u e. dropped_mapped (λ (z : Spot). (z.1.0, lock u z.0 z.1.1)) (holds_at age (lock t part write)) (stands_on part (age, write)) v w h (λ z. ap (λ b. b && stands_on part (age, write) z) (sym (is_table t u) ∙ e)))
     (others_stay age t part write)
 
-pub none_in : (age : ℕ) (t : List ℕ) (part : Part) (write : Bool) (es : Entries) → lookup (is_at (bytes_cmp t)) es ≡ None → Drops (stands_at age (lock t part write)) (locks_in es) (locks_in es)
-none_in age t part write es l = spelled_kept bytes_cmp nat_list_cmp_total locks_on t (stands_at age (lock t part write)) es l (others_stay age t part write)
+pub none_in : (age : ℕ) (t : List ℕ) (part : Part) (write : Bool) (es : Entries) → lookup (is_at (bytes_cmp t)) es ≡ None → Drops (holds_at age (lock t part write)) (locks_in es) (locks_in es)
+none_in age t part write es l = spelled_kept bytes_cmp nat_list_cmp_total locks_on t (holds_at age (lock t part write)) es l (others_stay age t part write)
 
 pub pruned_in : (t : List ℕ) (es new : Entries) → lookup (is_at (bytes_cmp t)) es ≡ Some [] → new ≡ remove_entry (is_at (bytes_cmp t)) es → SameMembers (locks_in es) (locks_in new)
 pruned_in t es new l is = spelled_pruned bytes_cmp nat_list_cmp_total locks_on t [] es new l is (λ u. refl)
 
 -- what is put at a table that is there, and what is left where its last lock goes
 pub dropped_put : (age : ℕ) (t : List ℕ) (part : Part) (write : Bool) (v w : List Spot) (es new : Entries) → IsStrictlySortedBy bytes_cmp (keys_of es) → lookup (is_at (bytes_cmp t)) es ≡ Some v → new ≡ insert_entry bytes_cmp es t w
-    → Drops (stands_on part (age, write)) v w → Drops (stands_at age (lock t part write)) (locks_in es) (locks_in new)
+    → Drops (stands_on part (age, write)) v w → Drops (holds_at age (lock t part write)) (locks_in es) (locks_in new)
 dropped_put age t part write v w es new s l is h = dropped_in age t part write v w es new s l (is ∙ put_found bytes_cmp nat_list_cmp_total t v w es s l) h
 
 pub dropped_last : (age : ℕ) (t : List ℕ) (part : Part) (write : Bool) (v w : List Spot) (es new : Entries) → IsStrictlySortedBy bytes_cmp (keys_of es) → lookup (is_at (bytes_cmp t)) es ≡ Some v → w ≡ [] → new ≡ remove_entry (is_at (bytes_cmp t)) es
-    → Drops (stands_on part (age, write)) v w → Drops (stands_at age (lock t part write)) (locks_in es) (locks_in new)
+    → Drops (stands_on part (age, write)) v w → Drops (holds_at age (lock t part write)) (locks_in es) (locks_in new)
 dropped_last age t part write v w es new s l bare is h =
     let at = is_at (bytes_cmp t) in
     λ p. pruned_in t (set_value at es w) new (found_set at v w es l ∙ ap Some bare) (is ∙ sym (without_set at w es)) p ∙ dropped_in age t part write v w es (set_value at es w) s l refl h p
 
-pub dropped_none : (age : ℕ) (t : List ℕ) (part : Part) (write : Bool) (es new : Entries) → lookup (is_at (bytes_cmp t)) es ≡ None → new ≡ remove_entry (is_at (bytes_cmp t)) es → Drops (stands_at age (lock t part write)) (locks_in es) (locks_in new)
-dropped_none age t part write es new l is = subst (λ (fs : Entries). Drops (stands_at age (lock t part write)) (locks_in es) (locks_in fs)) {x = es} {y = new} (sym (is ∙ without_missing (is_at (bytes_cmp t)) es l)) (none_in age t part write es l)
+pub dropped_none : (age : ℕ) (t : List ℕ) (part : Part) (write : Bool) (es new : Entries) → lookup (is_at (bytes_cmp t)) es ≡ None → new ≡ remove_entry (is_at (bytes_cmp t)) es → Drops (holds_at age (lock t part write)) (locks_in es) (locks_in new)
+dropped_none age t part write es new l is = subst (λ (fs : Entries). Drops (holds_at age (lock t part write)) (locks_in es) (locks_in fs)) {x = es} {y = new} (sym (is ∙ without_missing (is_at (bytes_cmp t)) es l)) (none_in age t part write es l)

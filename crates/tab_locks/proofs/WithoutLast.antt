@@ -19,7 +19,7 @@ use Rattle.tab_model.proofs.Seats.{itself}
 use Rattle.tab_model.proofs.TableLaws.{same_true}
 use Rattle.tab_locks.specs.Members.{SameMembers, Drops}
 use Rattle.tab_locks.specs.Plain.{lock_of}
-use Rattle.tab_locks.specs.Spots.{same_part, same_mode, same_lock, stands_at}
+use Rattle.tab_locks.specs.Spots.{same_part, same_mode, same_lock, holds_at}
 use Rattle.tab_locks.specs.Placed.{placed, without_last, owned_by, listed, is_of}
 use Rattle.tab_locks.proofs.Passing.{any_same}
 use Rattle.tab_locks.proofs.Listing.{Entries, tied_is, apart_is, less_apart, not_itself, owned_more, placed_first, placed_past, found_later, others_kept, all_kept, stands_itself}
@@ -193,7 +193,7 @@ own_stays : (p : Owned → Bool) (age : ℕ) (l : code.Lock) (ls : List code.Loc
 own_stays p age l [] h = refl
 own_stays p age l (k ∷ ls) h = by (same_lock (lock_of l) (lock_of k)) refl (list_any (λ k. same_lock (lock_of l) (lock_of k)) ls) h (own_stays p age l ls)
   where
-    stands_is : stands_at age (lock_of l) (age, lock_of k) ≡ same_lock (lock_of l) (lock_of k)
+    stands_is : holds_at age (lock_of l) (age, lock_of k) ≡ same_lock (lock_of l) (lock_of k)
     stands_is = λ i. bytes_eq l.table k.table && (same_part (lock_of l).part (lock_of k).part && (itself age i && same_mode (lock_of l).write (lock_of k).write))
 
     by : (b : Bool) → same_lock (lock_of l) (lock_of k) ≡ b → (c : Bool) → (b || c) ≡ false
@@ -263,11 +263,11 @@ less_kept p age l v w (e ∷ es) n is more = by (is_eq (nat_cmp age e.0)) refl n
 
 -- the index after a mark that went, and after one that stays
 pub still_marked : (age : ℕ) (l : code.Lock) (v w : Vec code.Lock) (es : Entries) (index after : List Owned) → IsStrictlySortedBy nat_cmp (keys_of es) → lookup (is_at (nat_cmp age)) es ≡ Some v → v.items ≡ w.items ++ l ∷ []
-    → SameMembers (listed es) index → list_any (λ k. same_lock (lock_of l) (lock_of k)) w.items ≡ false → Drops (stands_at age (lock_of l)) index after
+    → SameMembers (listed es) index → list_any (λ k. same_lock (lock_of l) (lock_of k)) w.items ≡ false → Drops (holds_at age (lock_of l)) index after
     → SameMembers (listed (set_value (is_at (nat_cmp age)) es w)) after
 still_marked age l v w es index after s found is same alone gone = λ p.
-    gone p ∙ same (λ x. p x && not (stands_at age (lock_of l) x))
-    ∙ any_same (λ x. p x && not (stands_at age (lock_of l) x)) (λ x. p x && not (is_of age (l ∷ []) x)) (listed es) (λ x. ap (λ b. p x && not b) (sym (or_false (stands_at age (lock_of l) x))))
+    gone p ∙ same (λ x. p x && not (holds_at age (lock_of l) x))
+    ∙ any_same (λ x. p x && not (holds_at age (lock_of l) x)) (λ x. p x && not (is_of age (l ∷ []) x)) (listed es) (λ x. ap (λ b. p x && not b) (sym (or_false (holds_at age (lock_of l) x))))
     ∙ less_dropped p age l v w es s found is alone
 
 pub marked_again : (age : ℕ) (l : code.Lock) (v w : Vec code.Lock) (es : Entries) (index : List Owned) → lookup (is_at (nat_cmp age)) es ≡ Some v → v.items ≡ w.items ++ l ∷ []

@@ -8,7 +8,7 @@ use Rattle.tab_model.specs.declared.data.Lock as code
 use Rattle.tab_model.specs.Ages.{Owned, opposes, blocks, covers_own}
 use Rattle.tab_locks.specs.Members.{SameMembers}
 use Rattle.tab_locks.specs.Plain.{lock_of}
-use Rattle.tab_locks.specs.Spots.{stands_at}
+use Rattle.tab_locks.specs.Spots.{holds_at}
 use Rattle.tab_locks.specs.declared.lock_table.Asked.{Asked}
 use Rattle.tab_locks.specs.declared.lock_table.Asked.TheVariants.{Held, InConflict}
 use Rattle.tab_locks.specs.declared.lock_table.Conflict.{Conflict}
@@ -39,7 +39,7 @@ pub record IsIndexed (owners : BTreeMap ℕ (Vec code.Lock)) (index : List Owned
 
 -- of this owner, and one of these locks
 abbrev pub is_of : ℕ → List code.Lock → Owned → Bool
-is_of age locks x = list_any (λ l. stands_at age (lock_of l) x) locks
+is_of age locks x = list_any (λ l. holds_at age (lock_of l) x) locks
 
 -- whether a request conflicts with a held lock of another owner, and if so, whether with one of an older owner
 abbrev pub conflict_with : Owned → List Owned → Conflict

@@ -65,5 +65,5 @@ abbrev pub stands_on : Part → Holding → Spot → Bool
 stands_on part h s = same_part part s.0 && is_holding h s.1
 
 -- the held lock is this one, of this owner
-abbrev pub stands_at : ℕ → Lock → Owned → Bool
-stands_at age l x = bytes_eq l.table x.1.table && (same_part l.part x.1.part && is_holding (age, l.write) (x.0, x.1.write))
+abbrev pub holds_at : ℕ → Lock → Owned → Bool
+holds_at age l x = bytes_eq l.table x.1.table && (same_part l.part x.1.part && is_holding (age, l.write) (x.0, x.1.write))

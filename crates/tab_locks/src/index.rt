@@ -6,7 +6,7 @@ ghost use Rattle.tab_model.specs.State.{is_in};
 ghost use Rattle.tab_locks.specs.Plain.{is_write as is_write_of, lock_of};
 ghost use Rattle.tab_locks.specs.Questions.{asked, meets_at};
 ghost use Rattle.tab_locks.specs.Members.{HasMore, SameMembers, Drops};
-ghost use Rattle.tab_locks.specs.Spots.{locks_in, stands_at};
+ghost use Rattle.tab_locks.specs.Spots.{locks_in, holds_at};
 ghost use Rattle.tab_locks.specs.Filled.{HasNoneEmpty};
 ghost use Rattle.tab_term.specs.Order.{bytes_cmp};
 
@@ -108,7 +108,7 @@ impl Index {
 
     /// Takes an owner away from the table and part of a lock, in its mode. A table that no one holds a lock on goes away.
     pub fn remove(&mut self, alloc: Global, age: u64, lock: Lock)
-        ensures { Drops (stands_at age (lock_of lock)) self.old self.new }
+        ensures { Drops (holds_at age (lock_of lock)) self.old self.new }
     {
         take(&mut self.tables, alloc, age, lock);
     }
@@ -117,7 +117,7 @@ impl Index {
 /// Takes an owner away from the table and part of a lock, in one search of each, and the table where that was the last one.
 fn take(tables: &mut BTreeMap<Atom, OnTable>, alloc: Global, age: u64, lock: Lock)
     requires { HasNoneEmpty tables.old.entries }
-    ensures dropped { Drops (stands_at age (lock_of lock)) (locks_in tables.old.entries) (locks_in tables.new.entries) }
+    ensures dropped { Drops (holds_at age (lock_of lock)) (locks_in tables.old.entries) (locks_in tables.new.entries) }
     ensures filled { HasNoneEmpty tables.new.entries }
     ensures ordered { IsOrdered bytes_cmp tables.new }
 {

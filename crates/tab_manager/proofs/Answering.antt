@@ -23,33 +23,33 @@ use Rattle.tab_model.specs.declared.data.Schema.{Schema}
 use Rattle.tab_model.specs.Ages.{Ages, Owned, all_of, forget, without}
 use Rattle.tab_model.specs.Events.{change_all, surviving}
 use Rattle.tab_model.specs.Schemas.{table_of_schema, schema_refusal, schema_effect}
-use Rattle.tab_model.specs.Worlds.{World, find}
+use Rattle.tab_model.specs.Catalogs.{Catalog, find}
 use Rattle.tab_model.specs.State as plain
-use Rattle.tab_model.specs.State.{Seat, State, seat_at, transaction_at, moves_at, is_waiting, is_busy, is_in, held_in, held_by, queued_in, mid_of}
-use Rattle.tab_model.specs.Outcome.{Ask, Join, DoCommand, Outcome, outcome, nothing, commit, commit_at, events_now, is_empty, schema, schema_if, has_room, join, fresh, table_info, is_abort, command_if}
+use Rattle.tab_model.specs.State.{Session, State, session_at, transaction_at, moves_at, is_waiting, is_busy, is_in, locks_held_in, locks_held_by, locks_queued_in, mid_of}
+use Rattle.tab_model.specs.Outcome.{Ask, Join, DoCommand, Outcome, outcome, step_without_entry, commit, commit_at, events_now, is_empty, schema, schema_if, has_room, join, fresh, table_info, is_abort, command_if}
 use Rattle.tab_model.proofs.ReachedWaits.{held_pushed}
 use Rattle.tab_txstore.specs.Stores.{Fits}
 use Rattle.tab_txstore.proofs.FitsLemmas.{updates_survive}
-use Rattle.tab_manager.specs.declared.seat.Transaction as kept
-use Rattle.tab_manager.specs.declared.seat.Seat as code
+use Rattle.tab_manager.specs.declared.session.Transaction as kept
+use Rattle.tab_manager.specs.declared.session.Session as code
 use Rattle.tab_manager.specs.declared.queue.Request as request
 use Rattle.tab_manager.specs.declared.step.Stepped.{Stepped}
 use Rattle.tab_manager.specs.declared.machine.Machine.{Machine}
-use Rattle.tab_manager.specs.Seats.{no_outbox, no_seat, transaction_of, seat_of, queued_of, state_of, transaction_in, at, StandsAt}
+use Rattle.tab_manager.specs.SessionLists.{no_outbox, no_session, transaction_of, session_of, queued_of, state_of, transaction_in, at, IsHeldAt}
 use Rattle.tab_manager.specs.Works.{ended, forgotten_if, committed, NestsTo}
 use Rattle.tab_manager.specs.Kept.{opens, count_open, Agree, IsKept}
 use Rattle.tab_manager.proofs.HeldLocks.{busies}
 use Rattle.tab_manager.proofs.Places.{at_of}
 use Rattle.tab_manager.proofs.Keeping as keep
-use Rattle.tab_manager.proofs.Keeping.{Leaves, leaves, kept_step, the_seat}
+use Rattle.tab_manager.proofs.Keeping.{Leaves, leaves, kept_step, the_session}
 use Rattle.tab_manager.proofs.LevelEnds.{outermost}
 use Rattle.tab_manager.proofs.Committing as committing
 
-pub without_entry : (σ : State) (r : Reply) (s : Stepped) → s ≡ record { reply = r; entry = None } → nothing σ r ≡ record { state = σ; reply = s.reply; entry = s.entry }
+pub without_entry : (σ : State) (r : Reply) (s : Stepped) → s ≡ record { reply = r; entry = None } → step_without_entry σ r ≡ record { state = σ; reply = s.reply; entry = s.entry }
 without_entry σ r s e = λ j. record { state = σ; reply = Stepped.reply (sym e j); entry = Stepped.entry (sym e j) }
 
-pub here : (m : Machine) (n i : ℕ) → StandsAt m.seats.items n i → seat_at (map seat_of m.seats.items) n ≡ Some (seat_of (the_seat m n i))
-here m n i there = at_of m.seats.items n ∙ ap (option_map seat_of) (there.seat (no_seat n))
+pub here : (m : Machine) (n i : ℕ) → IsHeldAt m.sessions.items n i → session_at (map session_of m.sessions.items) n ≡ Some (session_of (the_session m n i))
+here m n i there = at_of m.sessions.items n ∙ ap (option_map session_of) (there.slot (no_session n))
 
 pub above_zero : (d : ℕ) → 0 < d → (d == 0) ≡ false
 above_zero d h = grind (arith, nat_tests)
@@ -57,8 +57,8 @@ above_zero d h = grind (arith, nat_tests)
 pub zero_is : (d : ℕ) → d ≤ 0 → (d == 0) ≡ true
 zero_is d h = grind (arith, nat_tests)
 
-pub nests_at : (ls : Limits) (t : kept.Transaction) (s2 s : code.Seat) (new : Option kept.Transaction) (r : Reply) → s2 ≡ s → s.transaction ≡ Some t → IfSome s2.transaction (λ u. NestsTo ls u new r) → NestsTo ls t new r
-nests_at ls t s2 s new r same open_t h = subst (λ o. IfSome o (λ u. NestsTo ls u new r)) (ap (λ (x : code.Seat). x.transaction) same ∙ open_t) h
+pub nests_at : (ls : Limits) (t : kept.Transaction) (s2 s : code.Session) (new : Option kept.Transaction) (r : Reply) → s2 ≡ s → s.transaction ≡ Some t → IfSome s2.transaction (λ u. NestsTo ls u new r) → NestsTo ls t new r
+nests_at ls t s2 s new r same open_t h = subst (λ o. IfSome o (λ u. NestsTo ls u new r)) (ap (λ (x : code.Session). x.transaction) same ∙ open_t) h
 
 pub not_refused : {T E : Type 0} (r : Result T E) (e : E) → r ≡ Err e → IsOk r → ⊥
 not_refused (Ok x) e h k = cc
@@ -66,37 +66,37 @@ not_refused (Err f) e h k = cc
 
 -- ---- an outermost commit
 
-module _ (m : Machine) (n i : ℕ) (k : IsKept m) (there : StandsAt m.seats.items n i) (t : kept.Transaction) (open_t : (the_seat m n i).transaction ≡ Some t) where
-  abbrev s : code.Seat
-  s = the_seat m n i
+module _ (m : Machine) (n i : ℕ) (k : IsKept m) (there : IsHeldAt m.sessions.items n i) (t : kept.Transaction) (open_t : (the_session m n i).transaction ≡ Some t) where
+  abbrev s : code.Session
+  s = the_session m n i
 
   pub no_updates : is_empty (moves_at (state_of m) n) ≡ true → t.store.levels.now.updates ≡ []
   no_updates h =
       let none : t.store.moves ≡ [] = empty_is t.store.moves (ap (λ (o : Option plain.Transaction). is_empty (plain.moves_in o)) (sym (keep.mine m n i k there t open_t)) ∙ h) in
-      updates_survive t.store m.world (keep.fit m n i k there t open_t) ∙ ap (λ xs. surviving xs t.store.told) none
+      updates_survive t.store m.catalog (keep.fit m n i k there t open_t) ∙ ap (λ xs. surviving xs t.store.told) none
     where
       empty_is : {A : Type 0} (xs : List A) → is_empty xs ≡ true → xs ≡ []
       empty_is [] g = refl
       empty_is (x ∷ xs) g = cc
 
-  pub commit_exit : is_waiting (state_of m) n ≡ false → (length t.store.levels.saved == 0) ≡ true → (s2 y : code.Seat) (x : Stepped) (m' : Machine) → s2 ≡ s → y ≡ ended s2 → IfSome s2.transaction (λ u. x ≡ committed (m.commits + 1) s2.number u)
-      → m'.world ≡ change_all m.world t.store.levels.now.updates → m'.seats.items ≡ set m.seats.items i y → m'.queue ≡ m.queue → m'.begun ≡ m.begun → m'.commits ≡ m.commits + 1 → m'.greatest ≡ m.greatest → m'.limits ≡ m.limits → m'.ages ≡ forgotten_if m.ages s2.transaction
+  pub commit_exit : is_waiting (state_of m) n ≡ false → (length t.store.levels.saved == 0) ≡ true → (s2 y : code.Session) (x : Stepped) (m' : Machine) → s2 ≡ s → y ≡ ended s2 → IfSome s2.transaction (λ u. x ≡ committed (m.commits + 1) s2.number u)
+      → m'.catalog ≡ change_all m.catalog t.store.levels.now.updates → m'.sessions.items ≡ set m.sessions.items i y → m'.queue ≡ m.queue → m'.begun ≡ m.begun → m'.commits ≡ m.commits + 1 → m'.greatest ≡ m.greatest → m'.limits ≡ m.limits → m'.ages ≡ forgotten_if m.ages s2.transaction
       → (outcome (state_of m) [] n (DoCommand command.Commit) ≡ record { state = state_of m'; reply = x.reply; entry = x.entry }) × IsKept m'
-  commit_exit idle deep s2 y x m' same end told world seats queue begun commits greatest limits ages = (e, kept_step m m' n (DoCommand command.Commit) x.reply x.entry k agrees e)
+  commit_exit idle deep s2 y x m' same end told catalog sessions queue begun commits greatest limits ages = (e, kept_step m m' n (DoCommand command.Commit) x.reply x.entry k agrees e)
     where
-      seat : y ≡ ended s
-      seat = end ∙ ap ended same
+      slot : y ≡ ended s
+      slot = end ∙ ap ended same
 
       open_2 : s2.transaction ≡ Some t
-      open_2 = ap (λ (z : code.Seat). z.transaction) same ∙ open_t
+      open_2 = ap (λ (z : code.Session). z.transaction) same ∙ open_t
 
       told_is : x ≡ committed (m.commits + 1) s.number t
-      told_is = subst (λ o. IfSome o (λ u. x ≡ committed (m.commits + 1) s2.number u)) open_2 told ∙ ap (λ (z : code.Seat). committed (m.commits + 1) z.number t) same
+      told_is = subst (λ o. IfSome o (λ u. x ≡ committed (m.commits + 1) s2.number u)) open_2 told ∙ ap (λ (z : code.Session). committed (m.commits + 1) z.number t) same
 
-      state : (let τ : State = record { tables = m'.world; seats = map seat_of (set m.seats.items i (ended s)); queue = map queued_of m.queue.items; next_age = m.begun + 1; commits = m.commits + 1; greatest = m.greatest; limits = m.limits } in τ) ≡ state_of m'
+      state : (let τ : State = record { tables = m'.catalog; sessions = map session_of (set m.sessions.items i (ended s)); queue = map queued_of m.queue.items; next_age = m.begun + 1; commits = m.commits + 1; greatest = m.greatest; limits = m.limits } in τ) ≡ state_of m'
       state = λ j. record {
-        tables = m'.world;
-        seats = map seat_of (sym (seats ∙ ap (set m.seats.items i) seat) j);
+        tables = m'.catalog;
+        sessions = map session_of (sym (sessions ∙ ap (set m.sessions.items i) slot) j);
         queue = map queued_of (queue_items j);
         next_age = sym begun j + 1;
         commits = sym commits j;
@@ -109,138 +109,138 @@ module _ (m : Machine) (n i : ℕ) (k : IsKept m) (there : StandsAt m.seats.item
 
       e : outcome (state_of m) [] n (DoCommand command.Commit) ≡ record { state = state_of m'; reply = x.reply; entry = x.entry }
       e = keep.asks m n i k there command.Commit idle
-          ∙ ap (commit (state_of m) [] (seat_of s)) (ap (option_map transaction_of) open_t)
-          ∙ ap (commit_at (state_of m) [] (seat_of s) (transaction_of t)) (outermost m n i k there t open_t ∙ deep)
-          ∙ committing.commits m n i k there t open_t m'.world world
+          ∙ ap (commit (state_of m) [] (session_of s)) (ap (option_map transaction_of) open_t)
+          ∙ ap (commit_at (state_of m) [] (session_of s) (transaction_of t)) (outermost m n i k there t open_t ∙ deep)
+          ∙ committing.commits m n i k there t open_t m'.catalog catalog
           ∙ (λ j. record { state = state j; reply = Stepped.reply (sym told_is j); entry = Stepped.entry (sym told_is j) })
 
       ages_are : m'.ages ≡ forget m.ages t.age
       ages_are = ages ∙ ap (forgotten_if m.ages) open_2
 
       agrees : Agree m'
-      agrees = committing.commit_agrees m n i k there t open_t m' world (seats ∙ ap (set m.seats.items i) seat) limits begun commits (ap (λ (g : Ages). g.held) ages_are)
-          (ap (λ (g : Ages). g.queue) ages_are ∙ keep.not_queued m n i k there t open_t idle ∙ k.agree.queue ∙ ap (λ (qs : Rattle.std.specs.Global.Vec request.Request). queued_in (map queued_of qs.items)) (sym queue))
+      agrees = committing.commit_agrees m n i k there t open_t m' catalog (sessions ∙ ap (set m.sessions.items i) slot) limits begun commits (ap (λ (g : Ages). g.held) ages_are)
+          (ap (λ (g : Ages). g.queue) ages_are ∙ keep.not_queued m n i k there t open_t idle ∙ k.agree.queue ∙ ap (λ (qs : Rattle.std.specs.Global.Vec request.Request). locks_queued_in (map queued_of qs.items)) (sym queue))
 
   pub commits_fit : m.commits + 1 < 18446744073709551616
   commits_fit =
       let c = keep.counts' m n i k there s refl in
       let d = k.agree.counted in
       let o : opens s.transaction ≡ 1 = ap opens open_t in
-      let p = opens_in m.seats.items i s there.within (keep.at_place m n i there) in
+      let p = opens_in m.sessions.items i s there.within (keep.at_place m n i there) in
       let a = k.agree.ages in let w = k.agree.word in omega (arith, d, o, p, a, w)
     where
-      opens_in : (ss : List code.Seat) (j : ℕ) (x : code.Seat) → j < length ss → x ≡ get_or ss j x → opens x.transaction ≤ count_open ss
+      opens_in : (ss : List code.Session) (j : ℕ) (x : code.Session) → j < length ss → x ≡ get_or ss j x → opens x.transaction ≤ count_open ss
       opens_in [] j x lt h = absurd (omega arith)
-      opens_in (y ∷ ss) zero x lt h = let q : opens x.transaction ≡ opens y.transaction = ap (λ (v : code.Seat). opens v.transaction) h in omega (arith, q)
+      opens_in (y ∷ ss) zero x lt h = let q : opens x.transaction ≡ opens y.transaction = ap (λ (v : code.Session). opens v.transaction) h in omega (arith, q)
       opens_in (y ∷ ss) (suc j) x lt h = let q = opens_in ss j x (omega arith) h in omega (arith, q)
 
 -- ---- joining
 
-module _ (m : Machine) (n : ℕ) (stranger : at m.seats.items n ≡ None) where
-  nowhere : seat_at (map seat_of m.seats.items) n ≡ None
-  nowhere = at_of m.seats.items n ∙ ap (option_map seat_of) stranger
+module _ (m : Machine) (n : ℕ) (stranger : at m.sessions.items n ≡ None) where
+  nowhere : session_at (map session_of m.sessions.items) n ≡ None
+  nowhere = at_of m.sessions.items n ∙ ap (option_map session_of) stranger
 
-  joins_if : (a b : Bool) → nat_lt m.greatest n ≡ a → nat_lt (length (map seat_of m.seats.items)) m.limits.sessions ≡ b → outcome (state_of m) [] n (Join no_outbox) ≡ join (state_of m) n no_outbox a b
+  joins_if : (a b : Bool) → nat_lt m.greatest n ≡ a → nat_lt (length (map session_of m.sessions.items)) m.limits.sessions ≡ b → outcome (state_of m) [] n (Join no_outbox) ≡ join (state_of m) n no_outbox a b
   joins_if a b h g = keep.strange (state_of m) n (Join no_outbox) nowhere ∙ (λ j. join (state_of m) n no_outbox (h j) (g j))
 
-  as_many : length (map seat_of m.seats.items) ≡ length m.seats.items
-  as_many = mapped_many m.seats.items
+  as_many : length (map session_of m.sessions.items) ≡ length m.sessions.items
+  as_many = mapped_many m.sessions.items
     where
-      mapped_many : (ss : List code.Seat) → length (map seat_of ss) ≡ length ss
+      mapped_many : (ss : List code.Session) → length (map session_of ss) ≡ length ss
       mapped_many [] = refl
       mapped_many (x ∷ ss) = ap suc (mapped_many ss)
 
-  pub joins_old : nat_lt m.greatest n ≡ false → outcome (state_of m) [] n (Join no_outbox) ≡ nothing (state_of m) reply.BadSession
-  joins_old h = joins_if false (nat_lt (length (map seat_of m.seats.items)) m.limits.sessions) h refl
+  pub joins_old : nat_lt m.greatest n ≡ false → outcome (state_of m) [] n (Join no_outbox) ≡ step_without_entry (state_of m) reply.BadSession
+  joins_old h = joins_if false (nat_lt (length (map session_of m.sessions.items)) m.limits.sessions) h refl
 
-  pub joins_none : nat_lt m.greatest n ≡ true → nat_lt (length m.seats.items) m.limits.sessions ≡ false → outcome (state_of m) [] n (Join no_outbox) ≡ nothing (state_of m) (reply.SystemLimit limit.Sessions)
+  pub joins_none : nat_lt m.greatest n ≡ true → nat_lt (length m.sessions.items) m.limits.sessions ≡ false → outcome (state_of m) [] n (Join no_outbox) ≡ step_without_entry (state_of m) (reply.SystemLimit limit.Sessions)
   joins_none h g = joins_if true false h (ap (λ l. nat_lt l m.limits.sessions) as_many ∙ g)
 
-  -- the machine with one more seat
-  abbrev pub joined : ArrayVec code.Seat → Machine
-  joined ss = record m { seats = ss; greatest = n }
+  -- the machine with one more session
+  abbrev pub joined : ArrayVec code.Session → Machine
+  joined ss = record m { sessions = ss; greatest = n }
 
-pub join_exit : (m : Machine) (n : ℕ) → IsKept m → (stranger : at m.seats.items n ≡ None) → nat_lt m.greatest n ≡ true → nat_lt (length m.seats.items) m.limits.sessions ≡ true → (ss : ArrayVec code.Seat) → ss.items ≡ m.seats.items ++ no_seat n ∷ []
+pub join_exit : (m : Machine) (n : ℕ) → IsKept m → (stranger : at m.sessions.items n ≡ None) → nat_lt m.greatest n ≡ true → nat_lt (length m.sessions.items) m.limits.sessions ≡ true → (ss : ArrayVec code.Session) → ss.items ≡ m.sessions.items ++ no_session n ∷ []
     → Leaves m (joined m n stranger ss) n (Join no_outbox) reply.Done
 join_exit m n k stranger new room ss is = (e, kept_step m (joined m n stranger ss) n (Join no_outbox) reply.Done None k agrees e)
   where
-    pushed : (xs : List code.Seat) → map seat_of (xs ++ no_seat n ∷ []) ≡ map seat_of xs ++ fresh n no_outbox ∷ []
+    pushed : (xs : List code.Session) → map session_of (xs ++ no_session n ∷ []) ≡ map session_of xs ++ fresh n no_outbox ∷ []
     pushed [] = refl
-    pushed (x ∷ xs) = ap (λ ys. seat_of x ∷ ys) (pushed xs)
+    pushed (x ∷ xs) = ap (λ ys. session_of x ∷ ys) (pushed xs)
 
-    e : outcome (state_of m) [] n (Join no_outbox) ≡ nothing (state_of (joined m n stranger ss)) reply.Done
+    e : outcome (state_of m) [] n (Join no_outbox) ≡ step_without_entry (state_of (joined m n stranger ss)) reply.Done
     e = joins_if m n stranger true true new (ap (λ l. nat_lt l m.limits.sessions) (as_many m n stranger) ∙ room)
-        ∙ ap (λ xs. let τ : State = record { tables = m.world; seats = xs; queue = map queued_of m.queue.items; next_age = m.begun + 1; commits = m.commits; greatest = n; limits = m.limits } in nothing τ reply.Done) (sym (pushed m.seats.items) ∙ ap (map seat_of) (sym is))
+        ∙ ap (λ xs. let τ : State = record { tables = m.catalog; sessions = xs; queue = map queued_of m.queue.items; next_age = m.begun + 1; commits = m.commits; greatest = n; limits = m.limits } in step_without_entry τ reply.Done) (sym (pushed m.sessions.items) ∙ ap (map session_of) (sym is))
 
-    last : (xs : List code.Seat) (q : ℕ) (t : kept.Transaction) → transaction_in (at (xs ++ no_seat n ∷ []) q) ≡ Some t → transaction_in (at xs q) ≡ Some t
+    last : (xs : List code.Session) (q : ℕ) (t : kept.Transaction) → transaction_in (at (xs ++ no_session n ∷ []) q) ≡ Some t → transaction_in (at xs q) ≡ Some t
     last [] q t h = by (n == q) h
       where
-        by : (b : Bool) → transaction_in (if b then Some (no_seat n) else None) ≡ Some t → transaction_in (at [] q) ≡ Some t
+        by : (b : Bool) → transaction_in (if b then Some (no_session n) else None) ≡ Some t → transaction_in (at [] q) ≡ Some t
         by true g = cc
         by false g = cc
     last (x ∷ xs) q t h = by (x.number == q) h (last xs q t)
       where
-        by : (b : Bool) → transaction_in (if b then Some x else at (xs ++ no_seat n ∷ []) q) ≡ Some t → (transaction_in (at (xs ++ no_seat n ∷ []) q) ≡ Some t → transaction_in (at xs q) ≡ Some t) → transaction_in (if b then Some x else at xs q) ≡ Some t
+        by : (b : Bool) → transaction_in (if b then Some x else at (xs ++ no_session n ∷ []) q) ≡ Some t → (transaction_in (at (xs ++ no_session n ∷ []) q) ≡ Some t → transaction_in (at xs q) ≡ Some t) → transaction_in (if b then Some x else at xs q) ≡ Some t
         by true g ih = g
         by false g ih = ih g
 
-    count_last : (xs : List code.Seat) → count_open (xs ++ no_seat n ∷ []) ≡ count_open xs
+    count_last : (xs : List code.Session) → count_open (xs ++ no_session n ∷ []) ≡ count_open xs
     count_last [] = refl
     count_last (x ∷ xs) = ap (λ c. opens x.transaction + c) (count_last xs)
 
     agrees : Agree (joined m n stranger ss)
     agrees = record {
-      held = λ p. k.agree.held p ∙ ap (list_any p) (sym (ap held_in (ap (map seat_of) is ∙ pushed m.seats.items) ∙ held_pushed n no_outbox (map seat_of m.seats.items)));
+      held = λ p. k.agree.held p ∙ ap (list_any p) (sym (ap locks_held_in (ap (map session_of) is ∙ pushed m.sessions.items) ∙ held_pushed n no_outbox (map session_of m.sessions.items)));
       queue = k.agree.queue;
-      fits = λ q t h. k.agree.fits q t (last m.seats.items q t (ap (λ xs. transaction_in (at xs q)) (sym is) ∙ h));
+      fits = λ q t h. k.agree.fits q t (last m.sessions.items q t (ap (λ xs. transaction_in (at xs q)) (sym is) ∙ h));
       ages = k.agree.ages;
-      counted = let c : count_open ss.items ≡ count_open m.seats.items = ap count_open is ∙ count_last m.seats.items in let d = k.agree.counted in omega (arith, c, d);
+      counted = let c : count_open ss.items ≡ count_open m.sessions.items = ap count_open is ∙ count_last m.sessions.items in let d = k.agree.counted in omega (arith, c, d);
       word = k.agree.word;
       sessions = k.agree.sessions;
     }
 
 -- ---- schema commands
 
-module _ (m : Machine) (n i : ℕ) (there : StandsAt m.seats.items n i) where
-  abbrev sitting : code.Seat
-  sitting = the_seat m n i
+module _ (m : Machine) (n i : ℕ) (there : IsHeldAt m.sessions.items n i) where
+  abbrev sitting : code.Session
+  sitting = the_session m n i
 
-  seat_here : seat_at (map seat_of m.seats.items) n ≡ Some (seat_of sitting)
-  seat_here = at_of m.seats.items n ∙ ap (option_map seat_of) (there.seat sitting ∙ ap Some (sym (keep.at_place m n i there)))
+  session_here : session_at (map session_of m.sessions.items) n ≡ Some (session_of sitting)
+  session_here = at_of m.sessions.items n ∙ ap (option_map session_of) (there.slot sitting ∙ ap Some (sym (keep.at_place m n i there)))
 
   number : sitting.number ≡ n
-  number = ap (λ (x : code.Seat). x.number) (keep.at_place m n i there) ∙ there.number sitting
+  number = ap (λ (x : code.Session). x.number) (keep.at_place m n i there) ∙ there.number sitting
 
-  asked : (c : Schema) → is_waiting (state_of m) n ≡ false → outcome (state_of m) [] n (DoCommand (command.Schema c)) ≡ schema (state_of m) [] c (seat_of sitting).transaction
-  asked c idle = keep.idles (state_of m) n (seat_of sitting) (command.Schema c) seat_here number idle
+  asked : (c : Schema) → is_waiting (state_of m) n ≡ false → outcome (state_of m) [] n (DoCommand (command.Schema c)) ≡ schema (state_of m) [] c (session_of sitting).transaction
+  asked c idle = keep.idles (state_of m) n (session_of sitting) (command.Schema c) session_here number idle
 
-  pub schema_inside : (t : kept.Transaction) → sitting.transaction ≡ Some t → is_waiting (state_of m) n ≡ false → (c : Schema) → outcome (state_of m) [] n (DoCommand (command.Schema c)) ≡ nothing (state_of m) reply.InTransaction
+  pub schema_inside : (t : kept.Transaction) → sitting.transaction ≡ Some t → is_waiting (state_of m) n ≡ false → (c : Schema) → outcome (state_of m) [] n (DoCommand (command.Schema c)) ≡ step_without_entry (state_of m) reply.InTransaction
   schema_inside t open_t idle c = asked c idle ∙ ap (schema (state_of m) [] c) (ap (option_map transaction_of) open_t)
 
   module _ (closed : sitting.transaction ≡ None) (idle : is_waiting (state_of m) n ≡ false) where
-    decided : (c : Schema) (r : Option Reply) (busy room : Bool) → schema_refusal m.world c ≡ r → is_busy (state_of m) (table_of_schema c) ≡ busy → has_room (state_of m) c ≡ room
+    decided : (c : Schema) (r : Option Reply) (busy room : Bool) → schema_refusal m.catalog c ≡ r → is_busy (state_of m) (table_of_schema c) ≡ busy → has_room (state_of m) c ≡ room
         → outcome (state_of m) [] n (DoCommand (command.Schema c)) ≡ schema_if (state_of m) [] c r busy room
     decided c r busy room a b d = asked c idle ∙ ap (schema (state_of m) [] c) (ap (option_map transaction_of) closed) ∙ (λ j. schema_if (state_of m) [] c (a j) (b j) (d j))
 
-    pub schema_refused : (c : Schema) (r : Reply) → schema_refusal m.world c ≡ Some r → outcome (state_of m) [] n (DoCommand (command.Schema c)) ≡ nothing (state_of m) r
+    pub schema_refused : (c : Schema) (r : Reply) → schema_refusal m.catalog c ≡ Some r → outcome (state_of m) [] n (DoCommand (command.Schema c)) ≡ step_without_entry (state_of m) r
     schema_refused c r h = decided c (Some r) (is_busy (state_of m) (table_of_schema c)) (has_room (state_of m) c) h refl refl
 
-    module _ (k : IsKept m) (c : Schema) (free : schema_refusal m.world c ≡ None) where
+    module _ (k : IsKept m) (c : Schema) (free : schema_refusal m.catalog c ≡ None) where
       locked : (b : Bool) → list_any (is_in (table_of_schema c)) (all_of m.ages) ≡ b → is_busy (state_of m) (table_of_schema c) ≡ b
       locked b h =
-          sym (ap (λ (q : List Owned). list_any (is_in (table_of_schema c)) (m.ages.held ++ q)) k.agree.queue ∙ busies (held_in (map seat_of m.seats.items)) m.ages.held (queued_in (map queued_of m.queue.items)) (table_of_schema c) k.agree.held) ∙ h
+          sym (ap (λ (q : List Owned). list_any (is_in (table_of_schema c)) (m.ages.held ++ q)) k.agree.queue ∙ busies (locks_held_in (map session_of m.sessions.items)) m.ages.held (locks_queued_in (map queued_of m.queue.items)) (table_of_schema c) k.agree.held) ∙ h
 
-      pub schema_locked : list_any (is_in (table_of_schema c)) (all_of m.ages) ≡ true → outcome (state_of m) [] n (DoCommand (command.Schema c)) ≡ nothing (state_of m) (reply.Locked (table_of_schema c))
+      pub schema_locked : list_any (is_in (table_of_schema c)) (all_of m.ages) ≡ true → outcome (state_of m) [] n (DoCommand (command.Schema c)) ≡ step_without_entry (state_of m) (reply.Locked (table_of_schema c))
       schema_locked h = decided c None true (has_room (state_of m) c) free (locked true h) refl
 
-      pub schema_limit : list_any (is_in (table_of_schema c)) (all_of m.ages) ≡ false → has_room (state_of m) c ≡ false → outcome (state_of m) [] n (DoCommand (command.Schema c)) ≡ nothing (state_of m) (reply.SystemLimit limit.Tables)
+      pub schema_limit : list_any (is_in (table_of_schema c)) (all_of m.ages) ≡ false → has_room (state_of m) c ≡ false → outcome (state_of m) [] n (DoCommand (command.Schema c)) ≡ step_without_entry (state_of m) (reply.SystemLimit limit.Tables)
       schema_limit h g = decided c None false false free (locked false h) g
 
       -- the machine with the new tables
-      abbrev pub redefined : World → Machine
-      redefined w = record m { world = w }
+      abbrev pub redefined : Catalog → Machine
+      redefined w = record m { catalog = w }
 
-      pub schema_exit : list_any (is_in (table_of_schema c)) (all_of m.ages) ≡ false → has_room (state_of m) c ≡ true → (w : World) → w ≡ schema_effect m.world c → (c' : Schema) (none : List ℕ) → c' ≡ c → none ≡ []
+      pub schema_exit : list_any (is_in (table_of_schema c)) (all_of m.ages) ≡ false → has_room (state_of m) c ≡ true → (w : Catalog) → w ≡ schema_effect m.catalog c → (c' : Schema) (none : List ℕ) → c' ≡ c → none ≡ []
           → (outcome (state_of m) [] n (DoCommand (command.Schema c)) ≡ record { state = state_of (redefined w); reply = reply.AtomicOk; entry = Some (entry.Changed c' none) }) × IsKept (redefined w)
       schema_exit h g w is c' none same empty =
           let e = decided c None false true free (locked false h) g ∙ committing.schema_done m c w is in (
@@ -250,14 +250,14 @@ module _ (m : Machine) (n i : ℕ) (there : StandsAt m.seats.items n i) where
 
 -- ---- what is told of a table
 
-pub info_told : (m : Machine) (n i : ℕ) → StandsAt m.seats.items n i → is_waiting (state_of m) n ≡ false → (name : List ℕ) (item : InfoItem) {E : Type 0} (r : Result Reply E) → IfOk r (λ x. x ≡ table_info name item (find m.world name))
-    → IfOk r (λ x. outcome (state_of m) [] n (DoCommand (command.TableInfo name item)) ≡ nothing (state_of m) x)
-info_told m n i there idle name item (Ok x) h = keep.idles (state_of m) n (seat_of (the_seat m n i)) (command.TableInfo name item) (here m n i there) (there.number (no_seat n)) idle ∙ ap (nothing (state_of m)) (sym h)
+pub info_told : (m : Machine) (n i : ℕ) → IsHeldAt m.sessions.items n i → is_waiting (state_of m) n ≡ false → (name : List ℕ) (item : InfoItem) {E : Type 0} (r : Result Reply E) → IfOk r (λ x. x ≡ table_info name item (find m.catalog name))
+    → IfOk r (λ x. outcome (state_of m) [] n (DoCommand (command.TableInfo name item)) ≡ step_without_entry (state_of m) x)
+info_told m n i there idle name item (Ok x) h = keep.idles (state_of m) n (session_of (the_session m n i)) (command.TableInfo name item) (here m n i there) (there.number (no_session n)) idle ∙ ap (step_without_entry (state_of m)) (sym h)
 info_told m n i there idle name item (Err f) h = tt
 
 -- ---- who has not joined, and who waits
 
-pub unseated_default : (m : Machine) (n : ℕ) → at m.seats.items n ≡ None → (x : Step) → (x ≡ step.Join → ⊥) → outcome (state_of m) [] n (ask_of x) ≡ nothing (state_of m) reply.BadSession
+pub unseated_default : (m : Machine) (n : ℕ) → at m.sessions.items n ≡ None → (x : Step) → (x ≡ step.Join → ⊥) → outcome (state_of m) [] n (ask_of x) ≡ step_without_entry (state_of m) reply.BadSession
 unseated_default m n stranger step.Join h = absurd (h refl)
 unseated_default m n stranger step.Leave h = keep.strange (state_of m) n _ (nowhere m n stranger)
 unseated_default m n stranger (step.Do c) h = keep.strange (state_of m) n _ (nowhere m n stranger)
@@ -274,10 +274,10 @@ no_abort (command.Subscribe t l d) h = refl
 no_abort (command.Unsubscribe t l) h = refl
 no_abort (command.OneShot parts retries) h = refl
 
-pub waiting_default : (m : Machine) (n i : ℕ) → StandsAt m.seats.items n i → is_waiting (state_of m) n ≡ true → (x : Command) → ((r : Term) → x ≡ command.Abort r → ⊥) → outcome (state_of m) [] n (DoCommand x) ≡ nothing (state_of m) reply.WaitingNow
+pub waiting_default : (m : Machine) (n i : ℕ) → IsHeldAt m.sessions.items n i → is_waiting (state_of m) n ≡ true → (x : Command) → ((r : Term) → x ≡ command.Abort r → ⊥) → outcome (state_of m) [] n (DoCommand x) ≡ step_without_entry (state_of m) reply.WaitingNow
 waiting_default m n i there waits x h =
-    keep.sits (state_of m) n (seat_of (the_seat m n i)) (DoCommand x) (here m n i there)
-    ∙ (λ j. command_if (state_of m) [] (seat_of (the_seat m n i)) x ((ap (is_waiting (state_of m)) (there.number (no_seat n)) ∙ waits) j && not (no_abort x h j)))
+    keep.sits (state_of m) n (session_of (the_session m n i)) (DoCommand x) (here m n i there)
+    ∙ (λ j. command_if (state_of m) [] (session_of (the_session m n i)) x ((ap (is_waiting (state_of m)) (there.number (no_session n)) ∙ waits) j && not (no_abort x h j)))
 
 pub waits_as : (m : Machine) (n : ℕ) (ws : List request.Request) (o : Option (Bor request.Request)) → ws ≡ m.queue.items → plain.request_in (map queued_of ws) n ≡ option_map queued_of (option_copied o) → is_some o ≡ true → is_waiting (state_of m) n ≡ true
 waits_as m n ws o is h waits = ap (λ xs. is_some (plain.request_in (map queued_of xs) n)) (sym is) ∙ ap is_some h ∙ by o waits

@@ -1,4 +1,4 @@
--- The locks that seats hold, when one seat is another.
+-- The locks that sessions hold, when one session is another.
 use Rattle.std.proofs.Common.{◌≡◌, ◌≢◌, ℕ, List, [], ◌∷◌, ◌++◌, Bool, true, false, ◌&&◌, ◌||◌, not, refl, sym, ap, ◌∙◌, subst, arith, Option, Some, None}
 use Rattle.std.specs.Prelude.{◌==◌, if◌then◌else◌}
 use Rattle.std.specs.List.{list_any}
@@ -7,10 +7,10 @@ use Rattle.std.proofs.lemmas.Bool.{or_parts}
 use Rattle.tab_locks.specs.Members.{HasMore, SameMembers, Drops}
 use Rattle.tab_model.specs.Ages.{Owned, Ages, without, opposes, covers_own, blocks, all_of, decide, can_retry, before}
 use Rattle.tab_model.specs.Locks.{Lock, needs, locks_of}
-use Rattle.tab_model.specs.State.{Transaction, Seat, State, seat_at, transaction_in, transaction_at, with_age, held_by, held_in, is_in, is_busy, AreDistinct, IsSound}
-use Rattle.tab_model.specs.Outcome.{change, without_seat}
-use Rattle.tab_model.proofs.Seats.{eq_true, seat_at-without}
-use Rattle.tab_model.proofs.StepsBySeat.{held_some, IsHolder, distinct-without}
+use Rattle.tab_model.specs.State.{Transaction, Session, State, session_at, transaction_in, transaction_at, with_age, locks_held_by, locks_held_in, is_in, is_busy, AreDistinct, IsSound}
+use Rattle.tab_model.specs.Outcome.{with_changed, without_session}
+use Rattle.tab_model.proofs.SessionLists.{eq_true, session_at-without}
+use Rattle.tab_model.proofs.StepsBySession.{held_some, IsHolder, distinct-without}
 
 -- ---- lists of owned locks
 
@@ -64,59 +64,59 @@ retries held held' queue r h =
 pub busies : (held held' queue : List Owned) (t : List ℕ) → SameMembers held held' → list_any (is_in t) (held' ++ queue) ≡ list_any (is_in t) (held ++ queue)
 busies held held' queue t h = list_any-append (is_in t) held' queue ∙ ap (λ b. b || list_any (is_in t) queue) (h (is_in t)) ∙ sym (list_any-append (is_in t) held queue)
 
--- ---- one seat's locks, and all others'
+-- ---- one session's locks, and all others'
 
-absent : (p : Owned → Bool) (seats : List Seat) (n : ℕ) → seat_at seats n ≡ None → held_in (without_seat seats n) ≡ held_in seats
+absent : (p : Owned → Bool) (sessions : List Session) (n : ℕ) → session_at sessions n ≡ None → locks_held_in (without_session sessions n) ≡ locks_held_in sessions
 absent p [] n h = refl
-absent p (x ∷ seats) n h = by (x.number == n) h (absent p seats n)
+absent p (x ∷ sessions) n h = by (x.number == n) h (absent p sessions n)
   where
-    by : (b : Bool) → (if b then Some x else seat_at seats n) ≡ None → (seat_at seats n ≡ None → held_in (without_seat seats n) ≡ held_in seats) → held_in (if b then without_seat seats n else x ∷ without_seat seats n) ≡ held_by x.transaction ++ held_in seats
+    by : (b : Bool) → (if b then Some x else session_at sessions n) ≡ None → (session_at sessions n ≡ None → locks_held_in (without_session sessions n) ≡ locks_held_in sessions) → locks_held_in (if b then without_session sessions n else x ∷ without_session sessions n) ≡ locks_held_by x.transaction ++ locks_held_in sessions
     by true g ih = cc
-    by false g ih = ap (λ hs. held_by x.transaction ++ hs) (ih g)
+    by false g ih = ap (λ hs. locks_held_by x.transaction ++ hs) (ih g)
 
-pub split_changed : (p : Owned → Bool) (seats : List Seat) (n : ℕ) (s s' : Seat) → AreDistinct seats → seat_at seats n ≡ Some s → s'.number ≡ n
-    → list_any p (held_in (change seats s')) ≡ (list_any p (held_by s'.transaction) || list_any p (held_in (without_seat seats n)))
+pub split_changed : (p : Owned → Bool) (sessions : List Session) (n : ℕ) (s s' : Session) → AreDistinct sessions → session_at sessions n ≡ Some s → s'.number ≡ n
+    → list_any p (locks_held_in (with_changed sessions s')) ≡ (list_any p (locks_held_by s'.transaction) || list_any p (locks_held_in (without_session sessions n)))
 split_changed p [] n s s' d h e = cc
-split_changed p (x ∷ seats) n s s' d h e = by (x.number == n) (ap (λ m. x.number == m) e) refl h (λ k. split_changed p seats n s s' d.1 k e)
+split_changed p (x ∷ sessions) n s s' d h e = by (x.number == n) (ap (λ m. x.number == m) e) refl h (λ k. split_changed p sessions n s s' d.1 k e)
   where
-    by : (b : Bool) → (x.number == s'.number) ≡ (x.number == n) → (x.number == n) ≡ b → (if b then Some x else seat_at seats n) ≡ Some s
-        → (seat_at seats n ≡ Some s → list_any p (held_in (change seats s')) ≡ (list_any p (held_by s'.transaction) || list_any p (held_in (without_seat seats n))))
-        → list_any p (held_in (if x.number == s'.number then s' ∷ seats else x ∷ change seats s')) ≡ (list_any p (held_by s'.transaction) || list_any p (held_in (if b then without_seat seats n else x ∷ without_seat seats n)))
+    by : (b : Bool) → (x.number == s'.number) ≡ (x.number == n) → (x.number == n) ≡ b → (if b then Some x else session_at sessions n) ≡ Some s
+        → (session_at sessions n ≡ Some s → list_any p (locks_held_in (with_changed sessions s')) ≡ (list_any p (locks_held_by s'.transaction) || list_any p (locks_held_in (without_session sessions n))))
+        → list_any p (locks_held_in (if x.number == s'.number then s' ∷ sessions else x ∷ with_changed sessions s')) ≡ (list_any p (locks_held_by s'.transaction) || list_any p (locks_held_in (if b then without_session sessions n else x ∷ without_session sessions n)))
     by true f g k ih =
-        ap (λ b. list_any p (held_in (if b then s' ∷ seats else x ∷ change seats s'))) (f ∙ g)
-        ∙ list_any-append p (held_by s'.transaction) (held_in seats)
-        ∙ ap (λ hs. list_any p (held_by s'.transaction) || list_any p hs) (sym (absent p seats n (ap (seat_at seats) (sym (eq_true x.number n g)) ∙ d.0)))
+        ap (λ b. list_any p (locks_held_in (if b then s' ∷ sessions else x ∷ with_changed sessions s'))) (f ∙ g)
+        ∙ list_any-append p (locks_held_by s'.transaction) (locks_held_in sessions)
+        ∙ ap (λ hs. list_any p (locks_held_by s'.transaction) || list_any p hs) (sym (absent p sessions n (ap (session_at sessions) (sym (eq_true x.number n g)) ∙ d.0)))
     by false f g k ih =
-        ap (λ b. list_any p (held_in (if b then s' ∷ seats else x ∷ change seats s'))) (f ∙ g)
-        ∙ list_any-append p (held_by x.transaction) (held_in (change seats s'))
-        ∙ ap (λ b. list_any p (held_by x.transaction) || b) (ih k)
-        ∙ or_swap (list_any p (held_by x.transaction)) (list_any p (held_by s'.transaction)) (list_any p (held_in (without_seat seats n)))
-        ∙ ap (λ b. list_any p (held_by s'.transaction) || b) (sym (list_any-append p (held_by x.transaction) (held_in (without_seat seats n))))
+        ap (λ b. list_any p (locks_held_in (if b then s' ∷ sessions else x ∷ with_changed sessions s'))) (f ∙ g)
+        ∙ list_any-append p (locks_held_by x.transaction) (locks_held_in (with_changed sessions s'))
+        ∙ ap (λ b. list_any p (locks_held_by x.transaction) || b) (ih k)
+        ∙ or_swap (list_any p (locks_held_by x.transaction)) (list_any p (locks_held_by s'.transaction)) (list_any p (locks_held_in (without_session sessions n)))
+        ∙ ap (λ b. list_any p (locks_held_by s'.transaction) || b) (sym (list_any-append p (locks_held_by x.transaction) (locks_held_in (without_session sessions n))))
 
-changed_itself : (seats : List Seat) (n : ℕ) (s : Seat) → seat_at seats n ≡ Some s → s.number ≡ n → change seats s ≡ seats
+changed_itself : (sessions : List Session) (n : ℕ) (s : Session) → session_at sessions n ≡ Some s → s.number ≡ n → with_changed sessions s ≡ sessions
 changed_itself [] n s h e = cc
-changed_itself (x ∷ seats) n s h e = by (x.number == n) (ap (λ m. x.number == m) e) h (changed_itself seats n s)
+changed_itself (x ∷ sessions) n s h e = by (x.number == n) (ap (λ m. x.number == m) e) h (changed_itself sessions n s)
   where
-    by : (b : Bool) → (x.number == s.number) ≡ b → (if b then Some x else seat_at seats n) ≡ Some s → (seat_at seats n ≡ Some s → s.number ≡ n → change seats s ≡ seats) → (if x.number == s.number then s ∷ seats else x ∷ change seats s) ≡ x ∷ seats
-    by true f g ih = let same : x ≡ s = cc in ap (λ b. if b then s ∷ seats else x ∷ change seats s) f ∙ ap (λ (z : Seat). z ∷ seats) (sym same)
-    by false f g ih = ap (λ b. if b then s ∷ seats else x ∷ change seats s) f ∙ ap (λ zs. x ∷ zs) (ih g e)
+    by : (b : Bool) → (x.number == s.number) ≡ b → (if b then Some x else session_at sessions n) ≡ Some s → (session_at sessions n ≡ Some s → s.number ≡ n → with_changed sessions s ≡ sessions) → (if x.number == s.number then s ∷ sessions else x ∷ with_changed sessions s) ≡ x ∷ sessions
+    by true f g ih = let same : x ≡ s = cc in ap (λ b. if b then s ∷ sessions else x ∷ with_changed sessions s) f ∙ ap (λ (z : Session). z ∷ sessions) (sym same)
+    by false f g ih = ap (λ b. if b then s ∷ sessions else x ∷ with_changed sessions s) f ∙ ap (λ zs. x ∷ zs) (ih g e)
 
-pub split : (p : Owned → Bool) (seats : List Seat) (n : ℕ) (s : Seat) → AreDistinct seats → seat_at seats n ≡ Some s → s.number ≡ n
-    → list_any p (held_in seats) ≡ (list_any p (held_by s.transaction) || list_any p (held_in (without_seat seats n)))
-split p seats n s d h e = ap (λ zs. list_any p (held_in zs)) (sym (changed_itself seats n s h e)) ∙ split_changed p seats n s s d h e
+pub split : (p : Owned → Bool) (sessions : List Session) (n : ℕ) (s : Session) → AreDistinct sessions → session_at sessions n ≡ Some s → s.number ≡ n
+    → list_any p (locks_held_in sessions) ≡ (list_any p (locks_held_by s.transaction) || list_any p (locks_held_in (without_session sessions n)))
+split p sessions n s d h e = ap (λ zs. list_any p (locks_held_in zs)) (sym (changed_itself sessions n s h e)) ∙ split_changed p sessions n s s d h e
 
--- ---- a seat with the same locks, with one more, with none
+-- ---- a session with the same locks, with one more, with none
 
-module _ (seats : List Seat) (n : ℕ) (s s' : Seat) (d : AreDistinct seats) (here : seat_at seats n ≡ Some s) (is : s.number ≡ n) (is' : s'.number ≡ n) where
-  pub held_same : held_by s'.transaction ≡ held_by s.transaction → SameMembers (held_in seats) (held_in (change seats s'))
-  held_same h p = split_changed p seats n s s' d here is' ∙ ap (λ hs. list_any p hs || list_any p (held_in (without_seat seats n))) h ∙ sym (split p seats n s d here is)
+module _ (sessions : List Session) (n : ℕ) (s s' : Session) (d : AreDistinct sessions) (here : session_at sessions n ≡ Some s) (is : s.number ≡ n) (is' : s'.number ≡ n) where
+  pub held_same : locks_held_by s'.transaction ≡ locks_held_by s.transaction → SameMembers (locks_held_in sessions) (locks_held_in (with_changed sessions s'))
+  held_same h p = split_changed p sessions n s s' d here is' ∙ ap (λ hs. list_any p hs || list_any p (locks_held_in (without_session sessions n))) h ∙ sym (split p sessions n s d here is)
 
-  pub held_more : (r : Owned) → held_by s'.transaction ≡ held_by s.transaction ++ r ∷ [] → HasMore r (held_in seats) (held_in (change seats s'))
+  pub held_more : (r : Owned) → locks_held_by s'.transaction ≡ locks_held_by s.transaction ++ r ∷ [] → HasMore r (locks_held_in sessions) (locks_held_in (with_changed sessions s'))
   held_more r h p =
-      split_changed p seats n s s' d here is'
-      ∙ ap (λ b. b || list_any p (held_in (without_seat seats n))) (ap (list_any p) h ∙ list_any-append p (held_by s.transaction) (r ∷ []) ∙ last (list_any p (held_by s.transaction)) (p r))
-      ∙ or_assoc (p r) (list_any p (held_by s.transaction)) (list_any p (held_in (without_seat seats n)))
-      ∙ ap (λ b. p r || b) (sym (split p seats n s d here is))
+      split_changed p sessions n s s' d here is'
+      ∙ ap (λ b. b || list_any p (locks_held_in (without_session sessions n))) (ap (list_any p) h ∙ list_any-append p (locks_held_by s.transaction) (r ∷ []) ∙ last (list_any p (locks_held_by s.transaction)) (p r))
+      ∙ or_assoc (p r) (list_any p (locks_held_by s.transaction)) (list_any p (locks_held_in (without_session sessions n)))
+      ∙ ap (λ b. p r || b) (sym (split p sessions n s d here is))
     where
       last : (a b : Bool) → (a || (b || false)) ≡ (b || a)
       last true true = refl
@@ -124,14 +124,14 @@ module _ (seats : List Seat) (n : ℕ) (s s' : Seat) (d : AreDistinct seats) (he
       last false true = refl
       last false false = refl
 
-  pub held_none_left : held_by s'.transaction ≡ [] → SameMembers (held_in (without_seat seats n)) (held_in (change seats s'))
-  held_none_left h p = split_changed p seats n s s' d here is' ∙ ap (λ hs. list_any p hs || list_any p (held_in (without_seat seats n))) h
+  pub held_none_left : locks_held_by s'.transaction ≡ [] → SameMembers (locks_held_in (without_session sessions n)) (locks_held_in (with_changed sessions s'))
+  held_none_left h p = split_changed p sessions n s s' d here is' ∙ ap (λ hs. list_any p hs || list_any p (locks_held_in (without_session sessions n))) h
 
 -- ---- all but one session's locks are those of other ages
 
 any_of_age : (p : Owned → Bool) (a : ℕ) (ls : List Lock) → list_any (λ x. p x && not (x.0 == a)) (with_age a ls) ≡ false
 any_of_age p a [] = refl
-any_of_age p a (l ∷ ls) = ap (λ b. (p (a, l) && not b) || list_any (λ x. p x && not (x.0 == a)) (with_age a ls)) (Rattle.tab_model.proofs.Seats.itself a) ∙ none (p (a, l)) ∙ any_of_age p a ls
+any_of_age p a (l ∷ ls) = ap (λ b. (p (a, l) && not b) || list_any (λ x. p x && not (x.0 == a)) (with_age a ls)) (Rattle.tab_model.proofs.SessionLists.itself a) ∙ none (p (a, l)) ∙ any_of_age p a ls
   where
     none : (b : Bool) → ((b && false) || list_any (λ x. p x && not (x.0 == a)) (with_age a ls)) ≡ list_any (λ x. p x && not (x.0 == a)) (with_age a ls)
     none true = refl
@@ -155,29 +155,29 @@ aged a b (l ∷ ls) h = by (b == a) refl h (aged a b ls)
     by true e g ih = eq_true b a e
     by false e g ih = ih g
 
-none_aged : (σ : State) (n : ℕ) (t : Transaction) → IsSound σ → transaction_at σ n ≡ Some t → list_any (λ x. x.0 == t.age) (held_in (without_seat σ.seats n)) ≡ false
-none_aged σ n t sound mine = by (list_any (λ x. x.0 == t.age) (held_in (without_seat σ.seats n))) refl
+none_aged : (σ : State) (n : ℕ) (t : Transaction) → IsSound σ → transaction_at σ n ≡ Some t → list_any (λ x. x.0 == t.age) (locks_held_in (without_session σ.sessions n)) ≡ false
+none_aged σ n t sound mine = by (list_any (λ x. x.0 == t.age) (locks_held_in (without_session σ.sessions n))) refl
   where
-    refuse : IsHolder (λ x. x.0 == t.age) (without_seat σ.seats n) → ⊥
-    refuse r = other (r.seat.number == n) refl (sym (seat_at-without σ.seats n r.seat.number) ∙ r.here)
+    refuse : IsHolder (λ x. x.0 == t.age) (without_session σ.sessions n) → ⊥
+    refuse r = other (r.slot.number == n) refl (sym (session_at-without σ.sessions n r.slot.number) ∙ r.here)
       where
-        other : (b : Bool) → (r.seat.number == n) ≡ b → (if b then None else seat_at σ.seats r.seat.number) ≡ Some r.seat → ⊥
+        other : (b : Bool) → (r.slot.number == n) ≡ b → (if b then None else session_at σ.sessions r.slot.number) ≡ Some r.slot → ⊥
         other true e h = cc
-        other false e h = by_transaction r.seat.transaction refl r.holds
+        other false e h = by_transaction r.slot.transaction refl r.holds
           where
-            differ : r.seat.number ≡ n → ⊥
-            differ same = Rattle.tab_model.proofs.Seats.other_number r.seat.number n e same
+            differ : r.slot.number ≡ n → ⊥
+            differ same = Rattle.tab_model.proofs.SessionLists.other_number r.slot.number n e same
 
-            by_transaction : (o : Option Transaction) → r.seat.transaction ≡ o → list_any (λ x. x.0 == t.age) (held_by o) ≡ true → ⊥
+            by_transaction : (o : Option Transaction) → r.slot.transaction ≡ o → list_any (λ x. x.0 == t.age) (locks_held_by o) ≡ true → ⊥
             by_transaction None f g = cc
-            by_transaction (Some u) f g = differ (sound.ages r.seat.number n u t (ap transaction_in h ∙ f) mine (aged t.age u.age (locks_of u.moves) g))
+            by_transaction (Some u) f g = differ (sound.ages r.slot.number n u t (ap transaction_in h ∙ f) mine (aged t.age u.age (locks_of u.moves) g))
 
-    by : (b : Bool) → list_any (λ x. x.0 == t.age) (held_in (without_seat σ.seats n)) ≡ b → b ≡ false
+    by : (b : Bool) → list_any (λ x. x.0 == t.age) (locks_held_in (without_session σ.sessions n)) ≡ b → b ≡ false
     by false e = refl
-    by true e = absurd (refuse (held_some (λ x. x.0 == t.age) (without_seat σ.seats n) (distinct-without σ.seats n sound.distinct) e))
+    by true e = absurd (refuse (held_some (λ x. x.0 == t.age) (without_session σ.sessions n) (distinct-without σ.sessions n sound.distinct) e))
 
-pub held_gone : (σ : State) (n : ℕ) (s : Seat) (t : Transaction) → IsSound σ → seat_at σ.seats n ≡ Some s → s.number ≡ n → s.transaction ≡ Some t → SameMembers (without t.age (held_in σ.seats)) (held_in (without_seat σ.seats n))
+pub held_gone : (σ : State) (n : ℕ) (s : Session) (t : Transaction) → IsSound σ → session_at σ.sessions n ≡ Some s → s.number ≡ n → s.transaction ≡ Some t → SameMembers (without t.age (locks_held_in σ.sessions)) (locks_held_in (without_session σ.sessions n))
 held_gone σ n s t sound here is open_t p =
-    sym (any_without p t.age (held_in σ.seats) ∙ split (λ x. p x && not (x.0 == t.age)) σ.seats n s sound.distinct here is
-    ∙ (λ i. (ap (λ o. list_any (λ x. p x && not (x.0 == t.age)) (held_by o)) open_t ∙ any_of_age p t.age (locks_of t.moves)) i || list_any (λ x. p x && not (x.0 == t.age)) (held_in (without_seat σ.seats n)))
-    ∙ all_other p t.age (held_in (without_seat σ.seats n)) (none_aged σ n t sound (ap transaction_in here ∙ open_t)))
+    sym (any_without p t.age (locks_held_in σ.sessions) ∙ split (λ x. p x && not (x.0 == t.age)) σ.sessions n s sound.distinct here is
+    ∙ (λ i. (ap (λ o. list_any (λ x. p x && not (x.0 == t.age)) (locks_held_by o)) open_t ∙ any_of_age p t.age (locks_of t.moves)) i || list_any (λ x. p x && not (x.0 == t.age)) (locks_held_in (without_session σ.sessions n)))
+    ∙ all_other p t.age (locks_held_in (without_session σ.sessions n)) (none_aged σ n t sound (ap transaction_in here ∙ open_t)))

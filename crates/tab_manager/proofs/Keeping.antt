@@ -1,4 +1,4 @@
--- What a seat's session is answered, and what keeps the parts in agreement.
+-- What a session is answered, and what keeps the parts in agreement.
 use Rattle.std.proofs.Common.{◌≡◌, ◌≢◌, ℕ, zero, suc, take, ◌+◌, ◌<◌, ◌≤◌, List, [], ◌∷◌, ◌++◌, Bool, true, false, ◌&&◌, ◌||◌, not, refl, sym, ap, ◌∙◌, subst, arith, length, Option, Some, None, get_or, set}
 use Rattle.std.specs.Prelude.{OnErr, Result, Ok, Err, ◌==◌, if◌then◌else◌, nat_lt, is_some, map, option_map}
 use Rattle.std.specs.List.{list_any, filter}
@@ -17,29 +17,29 @@ use Rattle.tab_model.specs.declared.data.Move.TheVariants.{Do, Open, Close, Undo
 use Rattle.tab_model.specs.declared.data.Operation.{Operation}
 use Rattle.tab_model.specs.declared.data.Reply.{Reply}
 use Rattle.tab_model.specs.Ages.{Owned, without, request_of, forget}
-use Rattle.tab_model.specs.Alone.{start, after, told, replies}
+use Rattle.tab_model.specs.Alone.{start, after, reply_to, replies}
 use Rattle.tab_model.specs.Events.{is_failure}
 use Rattle.tab_model.specs.Locks.{needs, locks_of}
 use Rattle.tab_model.specs.Operations.{table_of, answer, failure}
-use Rattle.tab_model.specs.Worlds.{World, Table, find}
+use Rattle.tab_model.specs.Catalogs.{Catalog, Table, find}
 use Rattle.tab_model.specs.State as plain
-use Rattle.tab_model.specs.State.{Seat, State, Queued, seat_at, transaction_at, request_in, without_request, is_waiting, with_age, held_by, held_in, queued_in, mid_of, IsSound}
-use Rattle.tab_model.specs.Outcome.{Ask, DoCommand, Outcome, outcome, by_seat, unseated, seated, do_command, command_if, is_abort, is_empty, nothing, change, with_seat, with_transaction, without_seat, ends, after_move, said, made, more}
-use Rattle.tab_model.proofs.Seats.{eq_true, other_number, itself}
+use Rattle.tab_model.specs.State.{Session, State, Queued, session_at, transaction_at, request_in, without_request, is_waiting, with_age, locks_held_by, locks_held_in, locks_queued_in, mid_of, IsSound}
+use Rattle.tab_model.specs.Outcome.{Ask, DoCommand, Outcome, outcome, step_of, step_of_stranger, step_of_joined, do_command, command_if, is_abort, is_empty, step_without_entry, with_changed, with_session, with_transaction, without_session, ends_transaction, after_move, reply_or, make, with_move}
+use Rattle.tab_model.proofs.SessionLists.{eq_true, other_number, itself}
 use Rattle.tab_model.proofs.SoundSteps.{step_sound}
-use Rattle.tab_model.proofs.StepsBySeat.{lock_of_move, locks-more}
+use Rattle.tab_model.proofs.StepsBySession.{lock_of_move, locks-more}
 use Rattle.tab_model.proofs.SurvivorsRight.{reply_tells}
 use Rattle.tab_model.proofs.RefusalLaws.{none_queued}
 use Rattle.tab_model.specs.Reached.{IsRising}
 use Rattle.tab_model.proofs.ReachedWaits.{step_rising, Match, match_of, without_match, aged_append}
-use Rattle.tab_txstore.specs.Stores.{Store, store_next, lent_for, Fits}
+use Rattle.tab_txstore.specs.Stores.{Store, store_next, committed_for, Fits}
 use Rattle.tab_txstore.proofs.FitsLemmas.{depth_shown, fits_next}
-use Rattle.tab_manager.specs.declared.seat.Transaction as kept
-use Rattle.tab_manager.specs.declared.seat.Seat as code
+use Rattle.tab_manager.specs.declared.session.Transaction as kept
+use Rattle.tab_manager.specs.declared.session.Session as code
 use Rattle.tab_manager.specs.declared.queue.Request as request
 use Rattle.tab_manager.specs.declared.machine.Machine.{Machine}
 use Rattle.tab_manager.specs.declared.operating.Worked.{Worked}
-use Rattle.tab_manager.specs.Seats.{no_seat, transaction_of, seat_of, queued_of, state_of, transaction_in, at, StandsAt}
+use Rattle.tab_manager.specs.SessionLists.{no_session, transaction_of, session_of, queued_of, state_of, transaction_in, at, IsHeldAt}
 use Rattle.tab_manager.specs.Works.{with_store, ended, Works}
 use Rattle.tab_manager.specs.Kept.{opens, count_open, Agree, IsKept}
 use Rattle.tab_manager.proofs.HeldLocks.{any_without, same_without, held_same, held_more, held_none_left, held_gone}
@@ -47,15 +47,15 @@ use Rattle.tab_manager.proofs.Places.{at_of, counts}
 
 -- ---- what is answered
 
-pub sits : (σ : State) (n : ℕ) (s : Seat) (a : Ask) → seat_at σ.seats n ≡ Some s → outcome σ [] n a ≡ seated σ [] s a
+pub sits : (σ : State) (n : ℕ) (s : Session) (a : Ask) → session_at σ.sessions n ≡ Some s → outcome σ [] n a ≡ step_of_joined σ [] s a
 unfolding outcome
-sits σ n s a here = ap (by_seat σ [] n a) here
+sits σ n s a here = ap (step_of σ [] n a) here
 
-pub strange : (σ : State) (n : ℕ) (a : Ask) → seat_at σ.seats n ≡ None → outcome σ [] n a ≡ unseated σ n a
+pub strange : (σ : State) (n : ℕ) (a : Ask) → session_at σ.sessions n ≡ None → outcome σ [] n a ≡ step_of_stranger σ n a
 unfolding outcome
-strange σ n a here = ap (by_seat σ [] n a) here
+strange σ n a here = ap (step_of σ [] n a) here
 
-pub idles : (σ : State) (n : ℕ) (s : Seat) (c : Command) → seat_at σ.seats n ≡ Some s → s.number ≡ n → is_waiting σ n ≡ false → outcome σ [] n (DoCommand c) ≡ do_command σ [] s c
+pub idles : (σ : State) (n : ℕ) (s : Session) (c : Command) → session_at σ.sessions n ≡ Some s → s.number ≡ n → is_waiting σ n ≡ false → outcome σ [] n (DoCommand c) ≡ do_command σ [] s c
 idles σ n s c here is idle = sits σ n s (DoCommand c) here ∙ ap (λ b. command_if σ [] s c (b && not (is_abort c))) (ap (is_waiting σ) is ∙ idle)
 
 -- ---- steps keep
@@ -74,24 +74,24 @@ kept_same m m' k agree same = record {
   owners = subst (λ (σ : State). plain.OwnedBy (transaction_at σ) σ.queue) (sym same) k.owners;
 }
 
--- ---- the parts after a step: the tables, the seats and the queue may be others
+-- ---- the parts after a step: the tables, the sessions and the queue may be others
 
-pub record IsNext (m m' : Machine) (ss : List code.Seat) (qs : List request.Request) : Type 0 where
-  pub world : m'.world ≡ m.world
-  pub seats : m'.seats.items ≡ ss
+pub record IsNext (m m' : Machine) (ss : List code.Session) (qs : List request.Request) : Type 0 where
+  pub catalog : m'.catalog ≡ m.catalog
+  pub sessions : m'.sessions.items ≡ ss
   pub queue : m'.queue.items ≡ qs
   pub limits : m'.limits ≡ m.limits
   pub begun : m'.begun ≡ m.begun
   pub commits : m'.commits ≡ m.commits
   pub greatest : m'.greatest ≡ m.greatest
 
-abbrev pub state_with : Machine → List code.Seat → List request.Request → State
-state_with m ss qs = record { tables = m.world; seats = map seat_of ss; queue = map queued_of qs; next_age = m.begun + 1; commits = m.commits; greatest = m.greatest; limits = m.limits }
+abbrev pub state_with : Machine → List code.Session → List request.Request → State
+state_with m ss qs = record { tables = m.catalog; sessions = map session_of ss; queue = map queued_of qs; next_age = m.begun + 1; commits = m.commits; greatest = m.greatest; limits = m.limits }
 
-pub state_next : (m m' : Machine) (ss : List code.Seat) (qs : List request.Request) → IsNext m m' ss qs → state_with m ss qs ≡ state_of m'
+pub state_next : (m m' : Machine) (ss : List code.Session) (qs : List request.Request) → IsNext m m' ss qs → state_with m ss qs ≡ state_of m'
 state_next m m' ss qs x = λ i. record {
-  tables = sym x.world i;
-  seats = map seat_of (sym x.seats i);
+  tables = sym x.catalog i;
+  sessions = map session_of (sym x.sessions i);
   queue = map queued_of (sym x.queue i);
   next_age = sym x.begun i + 1;
   commits = sym x.commits i;
@@ -99,16 +99,16 @@ state_next m m' ss qs x = λ i. record {
   limits = sym x.limits i;
 }
 
--- the machine with other seats, locks and requests
-abbrev pub parts : Machine → ArrayVec code.Seat → Plain.Ages → Vec request.Request → Machine
-parts m ss g qs = record m { seats = ss; ages = g; queue = qs }
+-- the machine with other sessions, locks and requests
+abbrev pub parts : Machine → ArrayVec code.Session → Plain.Ages → Vec request.Request → Machine
+parts m ss g qs = record m { sessions = ss; ages = g; queue = qs }
 
 -- what a step without an entry leaves
 abbrev pub Leaves : Machine → Machine → ℕ → Ask → Reply → Type 0
-Leaves m m' n a r = (outcome (state_of m) [] n a ≡ nothing (state_of m') r) × IsKept m'
+Leaves m m' n a r = (outcome (state_of m) [] n a ≡ step_without_entry (state_of m') r) × IsKept m'
 
-pub leaves : (m m' : Machine) (ss : List code.Seat) (qs : List request.Request) (n : ℕ) (a : Ask) (r : Reply) → IsKept m → IsNext m m' ss qs → outcome (state_of m) [] n a ≡ nothing (state_with m ss qs) r → Agree m' → Leaves m m' n a r
-leaves m m' ss qs n a r k x h agree = let e = h ∙ ap (λ τ. nothing τ r) (state_next m m' ss qs x) in (e, kept_step m m' n a r None k agree e)
+pub leaves : (m m' : Machine) (ss : List code.Session) (qs : List request.Request) (n : ℕ) (a : Ask) (r : Reply) → IsKept m → IsNext m m' ss qs → outcome (state_of m) [] n a ≡ step_without_entry (state_with m ss qs) r → Agree m' → Leaves m m' n a r
+leaves m m' ss qs n a r k x h agree = let e = h ∙ ap (λ τ. step_without_entry τ r) (state_next m m' ss qs x) in (e, kept_step m m' n a r None k agree e)
 
 -- ---- one session's requests
 
@@ -130,11 +130,11 @@ none_waits f n (q ∷ qs) h o = by (q.session == n) refl (none_waits f n qs h o.
     by true e ih = absurd (subst (λ x. plain.HasAge x q.age) (ap f (eq_true q.session n e) ∙ h) o.0)
     by false e ih = ap (λ xs. q ∷ xs) ih
 
-none_match : (n a : ℕ) (qs : List Queued) → Match n a qs → is_some (request_in qs n) ≡ false → request_of a (queued_in qs) ≡ None
+none_match : (n a : ℕ) (qs : List Queued) → Match n a qs → is_some (request_in qs n) ≡ false → request_of a (locks_queued_in qs) ≡ None
 none_match n a [] m h = refl
 none_match n a (q ∷ qs) m h = by (q.age == a) (ap (λ b. is_some (if b then Some q else request_in qs n)) (sym m.0) ∙ h) (none_match n a qs m.1)
   where
-    by : (b : Bool) → is_some (if b then Some q else request_in qs n) ≡ false → (is_some (request_in qs n) ≡ false → request_of a (queued_in qs) ≡ None) → (if b then Some (q.age, needs q.operation) else request_of a (queued_in qs)) ≡ None
+    by : (b : Bool) → is_some (if b then Some q else request_in qs n) ≡ false → (is_some (request_in qs n) ≡ false → request_of a (locks_queued_in qs) ≡ None) → (if b then Some (q.age, needs q.operation) else request_of a (locks_queued_in qs)) ≡ None
     by true g ih = cc
     by false g ih = ih g
 
@@ -152,29 +152,29 @@ request_nowhere n (x ∷ qs) (suc i) le none =
     let p = or_parts (x.session == n) (list_any (λ v. v.session == n) (take i qs)) none in
     (λ j. if p.0 j then Some (queued_of x) else request_in (map queued_of qs) n) ∙ request_nowhere n qs i (omega arith) p.1
 
-set_itself : (ss : List code.Seat) (i : ℕ) (s : code.Seat) → s ≡ get_or ss i s → set ss i s ≡ ss
+set_itself : (ss : List code.Session) (i : ℕ) (s : code.Session) → s ≡ get_or ss i s → set ss i s ≡ ss
 set_itself [] i s h = refl
 set_itself (x ∷ ss) zero s h = ap (λ y. y ∷ ss) h
 set_itself (x ∷ ss) (suc i) s h = ap (λ ys. x ∷ ys) (set_itself ss i s h)
 
--- ---- a seat at its place
+-- ---- a session at its place
 
-same_some : {x y : code.Seat} → Some x ≡ Some y → x ≡ y
+same_some : {x y : code.Session} → Some x ≡ Some y → x ≡ y
 same_some h = cc
 
-abbrev pub the_seat : Machine → ℕ → ℕ → code.Seat
-the_seat m n i = get_or m.seats.items i (no_seat n)
+abbrev pub the_session : Machine → ℕ → ℕ → code.Session
+the_session m n i = get_or m.sessions.items i (no_session n)
 
 -- however it is read
-pub read : (m : Machine) (n i : ℕ) → StandsAt m.seats.items n i → (ws : List code.Seat) (d : code.Seat) → ws ≡ m.seats.items → get_or ws i d ≡ the_seat m n i
-read m n i there ws d h = ap (λ ss. get_or ss i d) h ∙ same_some (sym (there.seat d) ∙ there.seat (no_seat n))
+pub read : (m : Machine) (n i : ℕ) → IsHeldAt m.sessions.items n i → (ws : List code.Session) (d : code.Session) → ws ≡ m.sessions.items → get_or ws i d ≡ the_session m n i
+read m n i there ws d h = ap (λ ss. get_or ss i d) h ∙ same_some (sym (there.slot d) ∙ there.slot (no_session n))
 
 -- its transaction, however it is read
-pub found : (m : Machine) (n i : ℕ) → StandsAt m.seats.items n i → (ws : List code.Seat) (d : code.Seat) → ws ≡ m.seats.items → {o : Option kept.Transaction} → (get_or ws i d).transaction ≡ o → (the_seat m n i).transaction ≡ o
-found m n i there ws d h e = ap (λ (x : code.Seat). x.transaction) (sym (read m n i there ws d h)) ∙ e
+pub found : (m : Machine) (n i : ℕ) → IsHeldAt m.sessions.items n i → (ws : List code.Session) (d : code.Session) → ws ≡ m.sessions.items → {o : Option kept.Transaction} → (get_or ws i d).transaction ≡ o → (the_session m n i).transaction ≡ o
+found m n i there ws d h e = ap (λ (x : code.Session). x.transaction) (sym (read m n i there ws d h)) ∙ e
 
-pub at_place : (m : Machine) (n i : ℕ) → StandsAt m.seats.items n i → the_seat m n i ≡ get_or m.seats.items i (the_seat m n i)
-at_place m n i there = same_some (sym (there.seat (no_seat n)) ∙ there.seat (the_seat m n i))
+pub at_place : (m : Machine) (n i : ℕ) → IsHeldAt m.sessions.items n i → the_session m n i ≡ get_or m.sessions.items i (the_session m n i)
+at_place m n i there = same_some (sym (there.slot (no_session n)) ∙ there.slot (the_session m n i))
 
 pub none_of : {T : Type 0} (o : Option T) → is_some o ≡ false → o ≡ None
 none_of None h = refl
@@ -188,100 +188,100 @@ pub always : {T E : Type 0} {P : Type 0} (r : Result T E) → P → OnErr r P
 always (Ok x) p = tt
 always (Err e) p = p
 
-module _ (m : Machine) (n i : ℕ) (k : IsKept m) (there : StandsAt m.seats.items n i) where
-  abbrev s : code.Seat
-  s = the_seat m n i
+module _ (m : Machine) (n i : ℕ) (k : IsKept m) (there : IsHeldAt m.sessions.items n i) where
+  abbrev s : code.Session
+  s = the_session m n i
 
   abbrev σ : State
   σ = state_of m
 
   pub is : s.number ≡ n
-  is = ap (λ (x : code.Seat). x.number) (at_place m n i there) ∙ there.number s
+  is = ap (λ (x : code.Session). x.number) (at_place m n i there) ∙ there.number s
 
-  at_n : at m.seats.items n ≡ Some s
-  at_n = there.seat s ∙ ap Some (sym (at_place m n i there))
+  at_n : at m.sessions.items n ≡ Some s
+  at_n = there.slot s ∙ ap Some (sym (at_place m n i there))
 
-  pub here : seat_at (map seat_of m.seats.items) n ≡ Some (seat_of s)
-  here = at_of m.seats.items n ∙ ap (option_map seat_of) at_n
+  pub here : session_at (map session_of m.sessions.items) n ≡ Some (session_of s)
+  here = at_of m.sessions.items n ∙ ap (option_map session_of) at_n
 
-  -- the seat in its own place
-  pub unchanged : set m.seats.items i s ≡ m.seats.items
-  unchanged = set_itself m.seats.items i s (at_place m n i there)
+  -- the session in its own place
+  pub unchanged : set m.sessions.items i s ≡ m.sessions.items
+  unchanged = set_itself m.sessions.items i s (at_place m n i there)
 
-  pub asks : (c : Command) → is_waiting σ n ≡ false → outcome σ [] n (DoCommand c) ≡ do_command σ [] (seat_of s) c
-  asks c idle = idles σ n (seat_of s) c here is idle
+  pub asks : (c : Command) → is_waiting σ n ≡ false → outcome σ [] n (DoCommand c) ≡ do_command σ [] (session_of s) c
+  asks c idle = idles σ n (session_of s) c here is idle
 
   -- its open transaction
   module _ (t : kept.Transaction) (open_t : s.transaction ≡ Some t) where
     pub mine : transaction_at σ n ≡ Some (transaction_of t)
     mine = ap plain.transaction_in here ∙ ap (option_map transaction_of) open_t
 
-    pub fit : Fits t.store m.world
+    pub fit : Fits t.store m.catalog
     fit = k.agree.fits n t (ap transaction_in at_n ∙ open_t)
 
-    pub right : replies (start m.world t.age) t.store.moves ≡ t.store.told
-    right = subst (λ (o : Option plain.Transaction). replies (start m.world (plain.age_in o)) (plain.moves_in o) ≡ plain.told_in_transaction o) mine (k.sound.told n)
+    pub right : replies (start m.catalog t.age) t.store.moves ≡ t.store.told
+    right = subst (λ (o : Option plain.Transaction). replies (start m.catalog (plain.age_in o)) (plain.moves_in o) ≡ plain.replies_in o) mine (k.sound.told n)
 
     pub depth : length (mid_of σ (transaction_of t)).saved ≡ length t.store.levels.saved
-    depth = depth_shown m.world k.sound.ordered t.store t.age fit right
+    depth = depth_shown m.catalog k.sound.ordered t.store t.age fit right
 
     matches : Match n t.age (map queued_of m.queue.items)
     matches = match_of σ n (transaction_of t) (map queued_of m.queue.items) k.sound mine k.owners
 
     -- its request goes from both queues
-    pub dropped : without t.age m.ages.queue ≡ queued_in (map queued_of (filter (λ q. not (q.session == n)) m.queue.items))
-    dropped = ap (without t.age) k.agree.queue ∙ sym (without_match n t.age (map queued_of m.queue.items) matches) ∙ ap queued_in (sym (queued_filtered n m.queue.items))
+    pub dropped : without t.age m.ages.queue ≡ locks_queued_in (map queued_of (filter (λ q. not (q.session == n)) m.queue.items))
+    dropped = ap (without t.age) k.agree.queue ∙ sym (without_match n t.age (map queued_of m.queue.items) matches) ∙ ap locks_queued_in (sym (queued_filtered n m.queue.items))
 
     pub not_queued : is_waiting σ n ≡ false → without t.age m.ages.queue ≡ m.ages.queue
-    not_queued idle = dropped ∙ ap queued_in (queued_filtered n m.queue.items ∙ none_queued (map queued_of m.queue.items) n idle) ∙ sym k.agree.queue
+    not_queued idle = dropped ∙ ap locks_queued_in (queued_filtered n m.queue.items ∙ none_queued (map queued_of m.queue.items) n idle) ∙ sym k.agree.queue
 
     pub not_requested : is_waiting σ n ≡ false → request_of t.age m.ages.queue ≡ None
     not_requested idle = ap (request_of t.age) k.agree.queue ∙ none_match n t.age (map queued_of m.queue.items) matches idle
 
-  -- ---- the seat becomes another
-  module _ (s' : code.Seat) (is' : s'.number ≡ s.number) where
+  -- ---- the session becomes another
+  module _ (s' : code.Session) (is' : s'.number ≡ s.number) where
     number' : s'.number ≡ n
     number' = is' ∙ is
 
-    pub seats' : map seat_of (set m.seats.items i s') ≡ change (map seat_of m.seats.items) (seat_of s')
+    pub seats' : map session_of (set m.sessions.items i s') ≡ with_changed (map session_of m.sessions.items) (session_of s')
     seats' = sym (there.changed s' number')
 
-    pub fits' : (w : World) → ((q : ℕ) (t : kept.Transaction) → q ≢ n → transaction_in (at m.seats.items q) ≡ Some t → Fits t.store w) → ((t : kept.Transaction) → s'.transaction ≡ Some t → Fits t.store w)
-        → (q : ℕ) (t : kept.Transaction) → transaction_in (at (set m.seats.items i s') q) ≡ Some t → Fits t.store w
+    pub fits' : (w : Catalog) → ((q : ℕ) (t : kept.Transaction) → q ≢ n → transaction_in (at m.sessions.items q) ≡ Some t → Fits t.store w) → ((t : kept.Transaction) → s'.transaction ≡ Some t → Fits t.store w)
+        → (q : ℕ) (t : kept.Transaction) → transaction_in (at (set m.sessions.items i s') q) ≡ Some t → Fits t.store w
     fits' w others own q t h = by (q == n) refl (sym (ap transaction_in (there.replaced s' number' q)) ∙ h)
       where
-        by : (b : Bool) → (q == n) ≡ b → transaction_in (if b then Some s' else at m.seats.items q) ≡ Some t → Fits t.store w
+        by : (b : Bool) → (q == n) ≡ b → transaction_in (if b then Some s' else at m.sessions.items q) ≡ Some t → Fits t.store w
         by true e g = own t g
         by false e g = others q t (other_number q n e) g
 
-    pub counts' : count_open (set m.seats.items i s') + opens s.transaction ≡ count_open m.seats.items + opens s'.transaction
-    counts' = ap (λ x. count_open (set m.seats.items i s') + opens x) (ap (λ (x : code.Seat). x.transaction) (at_place m n i there)) ∙ counts m.seats.items i s' s there.within
+    pub counts' : count_open (set m.sessions.items i s') + opens s.transaction ≡ count_open m.sessions.items + opens s'.transaction
+    counts' = ap (λ x. count_open (set m.sessions.items i s') + opens x) (ap (λ (x : code.Session). x.transaction) (at_place m n i there)) ∙ counts m.sessions.items i s' s there.within
 
-    pub same_locks : held_by (seat_of s').transaction ≡ held_by (seat_of s).transaction → SameMembers (held_in (map seat_of (set m.seats.items i s'))) m.ages.held
-    same_locks h p = k.agree.held p ∙ sym (ap (λ xs. list_any p (held_in xs)) seats' ∙ held_same (map seat_of m.seats.items) n (seat_of s) (seat_of s') k.sound.distinct here is number' h p)
+    pub same_locks : locks_held_by (session_of s').transaction ≡ locks_held_by (session_of s).transaction → SameMembers (locks_held_in (map session_of (set m.sessions.items i s'))) m.ages.held
+    same_locks h p = k.agree.held p ∙ sym (ap (λ xs. list_any p (locks_held_in xs)) seats' ∙ held_same (map session_of m.sessions.items) n (session_of s) (session_of s') k.sound.distinct here is number' h p)
 
-    pub one_more_lock : (r : Owned) → held_by (seat_of s').transaction ≡ held_by (seat_of s).transaction ++ r ∷ [] → SameMembers (held_in (map seat_of (set m.seats.items i s'))) (placed r m.ages.held)
+    pub one_more_lock : (r : Owned) → locks_held_by (session_of s').transaction ≡ locks_held_by (session_of s).transaction ++ r ∷ [] → SameMembers (locks_held_in (map session_of (set m.sessions.items i s'))) (placed r m.ages.held)
     one_more_lock r h p =
         any_placed p r m.ages.held ∙ ap (λ b. p r || b) (k.agree.held p)
-        ∙ sym (ap (λ xs. list_any p (held_in xs)) seats' ∙ held_more (map seat_of m.seats.items) n (seat_of s) (seat_of s') k.sound.distinct here is number' r h p)
+        ∙ sym (ap (λ xs. list_any p (locks_held_in xs)) seats' ∙ held_more (map session_of m.sessions.items) n (session_of s) (session_of s') k.sound.distinct here is number' r h p)
 
-    pub no_locks : (t : kept.Transaction) → s.transaction ≡ Some t → held_by (seat_of s').transaction ≡ [] → SameMembers (held_in (map seat_of (set m.seats.items i s'))) (without t.age m.ages.held)
+    pub no_locks : (t : kept.Transaction) → s.transaction ≡ Some t → locks_held_by (session_of s').transaction ≡ [] → SameMembers (locks_held_in (map session_of (set m.sessions.items i s'))) (without t.age m.ages.held)
     no_locks t open_t h p =
-        same_without t.age (held_in (map seat_of m.seats.items)) m.ages.held k.agree.held p
-        ∙ sym (held_gone σ n (seat_of s) (transaction_of t) k.sound here is (ap (option_map transaction_of) open_t) p)
-        ∙ sym (ap (λ xs. list_any p (held_in xs)) seats' ∙ held_none_left (map seat_of m.seats.items) n (seat_of s) (seat_of s') k.sound.distinct here is number' h p)
+        same_without t.age (locks_held_in (map session_of m.sessions.items)) m.ages.held k.agree.held p
+        ∙ sym (held_gone σ n (session_of s) (transaction_of t) k.sound here is (ap (option_map transaction_of) open_t) p)
+        ∙ sym (ap (λ xs. list_any p (locks_held_in xs)) seats' ∙ held_none_left (map session_of m.sessions.items) n (session_of s) (session_of s') k.sound.distinct here is number' h p)
 
-    -- all parts agree, where the seat is the other
-    pub seat_agrees : (m' : Machine) → m'.world ≡ m.world → m'.seats.items ≡ set m.seats.items i s' → m'.limits ≡ m.limits
-        → SameMembers (held_in (map seat_of (set m.seats.items i s'))) m'.ages.held → m'.ages.queue ≡ queued_in (map queued_of m'.queue.items)
-        → ((t : kept.Transaction) → s'.transaction ≡ Some t → Fits t.store m.world)
-        → m'.begun ≤ m.limits.ages → m'.commits + count_open (set m.seats.items i s') ≤ m'.begun → Agree m'
-    seat_agrees m' world seats limits held queue own ages counted = record {
-      held = subst (λ ss. SameMembers (held_in (map seat_of ss)) m'.ages.held) (sym seats) held;
+    -- all parts agree, where the session is the other
+    pub session_agrees : (m' : Machine) → m'.catalog ≡ m.catalog → m'.sessions.items ≡ set m.sessions.items i s' → m'.limits ≡ m.limits
+        → SameMembers (locks_held_in (map session_of (set m.sessions.items i s'))) m'.ages.held → m'.ages.queue ≡ locks_queued_in (map queued_of m'.queue.items)
+        → ((t : kept.Transaction) → s'.transaction ≡ Some t → Fits t.store m.catalog)
+        → m'.begun ≤ m.limits.ages → m'.commits + count_open (set m.sessions.items i s') ≤ m'.begun → Agree m'
+    session_agrees m' catalog sessions limits held queue own ages counted = record {
+      held = subst (λ ss. SameMembers (locks_held_in (map session_of ss)) m'.ages.held) (sym sessions) held;
       queue = queue;
-      fits = λ q t h. subst (Fits t.store) (sym world) (fits' m.world (λ p u _ g. k.agree.fits p u g) own q t (ap (λ ss. transaction_in (at ss q)) (sym seats) ∙ h));
+      fits = λ q t h. subst (Fits t.store) (sym catalog) (fits' m.catalog (λ p u _ g. k.agree.fits p u g) own q t (ap (λ ss. transaction_in (at ss q)) (sym sessions) ∙ h));
       ages = subst (λ (l : Rattle.tab_model.specs.declared.data.Limits.Limits). m'.begun ≤ l.ages) (sym limits) ages;
-      counted = subst (λ ss. m'.commits + count_open ss ≤ m'.begun) (sym seats) counted;
+      counted = subst (λ ss. m'.commits + count_open ss ≤ m'.begun) (sym sessions) counted;
       word = subst (λ (l : Rattle.tab_model.specs.declared.data.Limits.Limits). l.ages < 18446744073709551616) (sym limits) k.agree.word;
       sessions = subst (λ (l : Rattle.tab_model.specs.declared.data.Limits.Limits). l.sessions ≤ 64) (sym limits) k.agree.sessions;
     }

@@ -12,31 +12,31 @@ use Rattle.tab_model.specs.declared.data.Operation.{Operation}
 use Rattle.tab_model.specs.declared.data.Reply.{Reply}
 use Rattle.tab_model.specs.declared.data.Reply.TheVariants as reply
 use Rattle.tab_model.specs.Ages.{Owned, Ages, without, forget, decide, Granted}
-use Rattle.tab_model.specs.Alone.{Mid, start, after, told, replies}
+use Rattle.tab_model.specs.Alone.{Mid, start, after, reply_to, replies}
 use Rattle.tab_model.specs.Events.{is_failure}
 use Rattle.tab_model.specs.Locks.{Lock, needs, locks_of}
 use Rattle.tab_model.specs.Operations.{table_of, answer, failure}
-use Rattle.tab_model.specs.Worlds.{World, Table, find}
+use Rattle.tab_model.specs.Catalogs.{Catalog, Table, find}
 use Rattle.tab_model.specs.State as plain
-use Rattle.tab_model.specs.State.{Seat, State, with_age, held_by, held_in, queued_in, mid_of}
-use Rattle.tab_model.specs.Outcome.{Outcome, is_empty, nothing, change, with_seat, with_queue, with_transaction, ends, after_move, said, made, more}
-use Rattle.tab_model.proofs.Seats.{itself}
-use Rattle.tab_model.proofs.StepsBySeat.{lock_of_move, locks-more}
+use Rattle.tab_model.specs.State.{Session, State, with_age, locks_held_by, locks_held_in, locks_queued_in, mid_of}
+use Rattle.tab_model.specs.Outcome.{Outcome, is_empty, step_without_entry, with_changed, with_session, with_queue, with_transaction, ends_transaction, after_move, reply_or, make, with_move}
+use Rattle.tab_model.proofs.SessionLists.{itself}
+use Rattle.tab_model.proofs.StepsBySession.{lock_of_move, locks-more}
 use Rattle.tab_model.proofs.SurvivorsRight.{reply_tells}
 use Rattle.tab_model.proofs.ReachedWaits.{aged_append}
-use Rattle.tab_txstore.specs.Stores.{Store, store_next, lent_for, Fits}
+use Rattle.tab_txstore.specs.Stores.{Store, store_next, committed_for, Fits}
 use Rattle.tab_txstore.proofs.FitsLemmas.{fits_next}
-use Rattle.tab_manager.specs.declared.seat.Transaction as kept
-use Rattle.tab_manager.specs.declared.seat.Seat as code
+use Rattle.tab_manager.specs.declared.session.Transaction as kept
+use Rattle.tab_manager.specs.declared.session.Session as code
 use Rattle.tab_manager.specs.declared.queue.Request as request
 use Rattle.tab_manager.specs.declared.machine.Machine.{Machine}
 use Rattle.tab_manager.specs.declared.operating.Worked.{Worked}
-use Rattle.tab_manager.specs.Seats.{transaction_of, seat_of, queued_of, state_of, transaction_in, at, StandsAt}
+use Rattle.tab_manager.specs.SessionLists.{transaction_of, session_of, queued_of, state_of, transaction_in, at, IsHeldAt}
 use Rattle.tab_manager.specs.Works.{with_store, ended, Works, forgotten_if}
 use Rattle.tab_manager.specs.Kept.{opens, count_open, Agree, IsKept}
 use Rattle.tab_manager.proofs.HeldLocks.{any_without}
 use Rattle.tab_manager.proofs.Keeping as keep
-use Rattle.tab_manager.proofs.Keeping.{the_seat, state_with}
+use Rattle.tab_manager.proofs.Keeping.{the_session, state_with}
 
 pub empty_counts : {A : Type 0} (xs : List A) → is_empty xs ≡ (length xs == 0)
 empty_counts [] = refl
@@ -48,15 +48,15 @@ and_swap true false = refl
 and_swap false true = refl
 and_swap false false = refl
 
--- a seat whose transaction has another store
-abbrev pub moved : code.Seat → kept.Transaction → Store → code.Seat
+-- a session whose transaction has another store
+abbrev pub moved : code.Session → kept.Transaction → Store → code.Session
 moved s t st = record { number = s.number; transaction = Some (with_store t st) }
 
-abbrev pub moved_if : Bool → code.Seat → kept.Transaction → Store → code.Seat
+abbrev pub moved_if : Bool → code.Session → kept.Transaction → Store → code.Session
 moved_if over s t st = if over then ended s else moved s t st
 
-locks_next : (t : kept.Transaction) (lent : Option Table) (x : Move) (r : Option Reply) → held_by (Some (transaction_of (with_store t (store_next lent t.store x r)))) ≡ held_by (Some (transaction_of t)) ++ with_age t.age (lock_of_move x)
-locks_next t lent x r = ap (with_age t.age) (locks-more t.store.moves x) ∙ aged_append t.age (locks_of t.store.moves) (lock_of_move x)
+locks_next : (t : kept.Transaction) (committed : Option Table) (x : Move) (r : Option Reply) → locks_held_by (Some (transaction_of (with_store t (store_next committed t.store x r)))) ≡ locks_held_by (Some (transaction_of t)) ++ with_age t.age (lock_of_move x)
+locks_next t committed x r = ap (with_age t.age) (locks-more t.store.moves x) ∙ aged_append t.age (locks_of t.store.moves) (lock_of_move x)
 
 -- a lock that is granted and forgotten again
 placed_gone : (a : ℕ) (l : Lock) (held : List Owned) → SameMembers (without a held) (without a (placed (a, l) held))
@@ -76,9 +76,9 @@ without_twice a (x ∷ xs) = by (x.0 == a) refl (without_twice a xs)
     by true e ih = ih
     by false e ih = ap (λ b. if b then without a (without a xs) else x ∷ without a (without a xs)) e ∙ ap (λ ys. x ∷ ys) ih
 
-module _ (m : Machine) (n i : ℕ) (k : IsKept m) (there : StandsAt m.seats.items n i) (t : kept.Transaction) (open_t : (the_seat m n i).transaction ≡ Some t) where
-  abbrev s : code.Seat
-  s = the_seat m n i
+module _ (m : Machine) (n i : ℕ) (k : IsKept m) (there : IsHeldAt m.sessions.items n i) (t : kept.Transaction) (open_t : (the_session m n i).transaction ≡ Some t) where
+  abbrev s : code.Session
+  s = the_session m n i
 
   abbrev σ : State
   σ = state_of m
@@ -87,47 +87,47 @@ module _ (m : Machine) (n i : ℕ) (k : IsKept m) (there : StandsAt m.seats.item
   tr = transaction_of t
 
   -- THE MOVE
-  pub moves : (qs : List request.Request) (lent : Option Table) (x : Move) (r : Option Reply) (d : Reply) (over : Bool) → told (mid_of σ tr) x ≡ r → ends (mid_of σ tr) x ≡ over
-      → made (state_with m m.seats.items qs) (seat_of s) tr x d ≡ nothing (state_with m (set m.seats.items i (moved_if over s t (store_next lent t.store x r))) qs) (said r d)
-  moves qs lent x r d over h e =
-      (λ j. nothing (with_seat (state_with m m.seats.items qs) (with_transaction (seat_of s) (after_move tr x (h j) (e j)))) (said (h j) d)) ∙ by over
+  pub moves : (qs : List request.Request) (committed : Option Table) (x : Move) (r : Option Reply) (d : Reply) (over : Bool) → reply_to (mid_of σ tr) x ≡ r → ends_transaction (mid_of σ tr) x ≡ over
+      → make (state_with m m.sessions.items qs) (session_of s) tr x d ≡ step_without_entry (state_with m (set m.sessions.items i (moved_if over s t (store_next committed t.store x r))) qs) (reply_or r d)
+  moves qs committed x r d over h e =
+      (λ j. step_without_entry (with_session (state_with m m.sessions.items qs) (with_transaction (session_of s) (after_move tr x (h j) (e j)))) (reply_or (h j) d)) ∙ by over
     where
-      by : (b : Bool) → nothing (with_seat (state_with m m.seats.items qs) (with_transaction (seat_of s) (after_move tr x r b))) (said r d)
-          ≡ nothing (state_with m (set m.seats.items i (moved_if b s t (store_next lent t.store x r))) qs) (said r d)
-      by true = ap (λ ss. let τ : State = record { tables = m.world; seats = ss; queue = map queued_of qs; next_age = m.begun + 1; commits = m.commits; greatest = m.greatest; limits = m.limits } in nothing τ (said r d)) (sym (keep.seats' m n i k there (ended s) refl))
-      by false = ap (λ ss. let τ : State = record { tables = m.world; seats = ss; queue = map queued_of qs; next_age = m.begun + 1; commits = m.commits; greatest = m.greatest; limits = m.limits } in nothing τ (said r d)) (sym (keep.seats' m n i k there (moved s t (store_next lent t.store x r)) refl))
+      by : (b : Bool) → step_without_entry (with_session (state_with m m.sessions.items qs) (with_transaction (session_of s) (after_move tr x r b))) (reply_or r d)
+          ≡ step_without_entry (state_with m (set m.sessions.items i (moved_if b s t (store_next committed t.store x r))) qs) (reply_or r d)
+      by true = ap (λ ss. let τ : State = record { tables = m.catalog; sessions = ss; queue = map queued_of qs; next_age = m.begun + 1; commits = m.commits; greatest = m.greatest; limits = m.limits } in step_without_entry τ (reply_or r d)) (sym (keep.seats' m n i k there (ended s) refl))
+      by false = ap (λ ss. let τ : State = record { tables = m.catalog; sessions = ss; queue = map queued_of qs; next_age = m.begun + 1; commits = m.commits; greatest = m.greatest; limits = m.limits } in step_without_entry τ (reply_or r d)) (sym (keep.seats' m n i k there (moved s t (store_next committed t.store x r)) refl))
 
   -- an operation that was made over the tables as they are
-  module _ (o : Operation) (x : Worked) (new : kept.Transaction) (w : Works m.world t o x new) where
-    pub answered : told (mid_of σ tr) (Do o) ≡ Some x.reply
+  module _ (o : Operation) (x : Worked) (new : kept.Transaction) (w : Works m.catalog t o x new) where
+    pub answered : reply_to (mid_of σ tr) (Do o) ≡ Some x.reply
     answered = ap Some (sym (w.answer t.age k.sound.ordered (keep.fit m n i k there t open_t) (keep.right m n i k there t open_t)))
 
-    pub over_is : ends (mid_of σ tr) (Do o) ≡ x.over
+    pub over_is : ends_transaction (mid_of σ tr) (Do o) ≡ x.over
     over_is =
         (λ j. sym (reply_tells (find (mid_of σ tr).now (table_of o)) o) j && (empty_counts (mid_of σ tr).saved ∙ ap (λ d. d == 0) (keep.depth m n i k there t open_t)) j)
         ∙ ap (λ r. is_failure r && (length t.store.levels.saved == 0)) answered
         ∙ and_swap (is_failure (Some x.reply)) (length t.store.levels.saved == 0) ∙ sym w.over
 
-    -- the seat after it
-    abbrev pub after_work : code.Seat
-    after_work = moved_if x.over s t (store_next (find m.world (table_of o)) t.store (Do o) (Some x.reply))
+    -- the session after it
+    abbrev pub after_work : code.Session
+    after_work = moved_if x.over s t (store_next (find m.catalog (table_of o)) t.store (Do o) (Some x.reply))
 
     -- the locks, and who fits
-    locks_after : (b : Bool) → SameMembers (held_in (map seat_of (set m.seats.items i (moved_if b s t (store_next (find m.world (table_of o)) t.store (Do o) (Some x.reply)))))) (if b then without t.age (placed (t.age, needs o) m.ages.held) else placed (t.age, needs o) m.ages.held)
+    locks_after : (b : Bool) → SameMembers (locks_held_in (map session_of (set m.sessions.items i (moved_if b s t (store_next (find m.catalog (table_of o)) t.store (Do o) (Some x.reply)))))) (if b then without t.age (placed (t.age, needs o) m.ages.held) else placed (t.age, needs o) m.ages.held)
     locks_after true p = placed_gone t.age (needs o) m.ages.held p ∙ keep.no_locks m n i k there (ended s) refl t open_t refl p
-    locks_after false p = keep.one_more_lock m n i k there (moved s t (store_next (find m.world (table_of o)) t.store (Do o) (Some x.reply))) refl (t.age, needs o)
-        (locks_next t (find m.world (table_of o)) (Do o) (Some x.reply) ∙ ap (λ u. held_by u ++ (t.age, needs o) ∷ []) (ap (option_map transaction_of) (sym open_t))) p
+    locks_after false p = keep.one_more_lock m n i k there (moved s t (store_next (find m.catalog (table_of o)) t.store (Do o) (Some x.reply))) refl (t.age, needs o)
+        (locks_next t (find m.catalog (table_of o)) (Do o) (Some x.reply) ∙ ap (λ u. locks_held_by u ++ (t.age, needs o) ∷ []) (ap (option_map transaction_of) (sym open_t))) p
 
-    fits_after : (b : Bool) (u : kept.Transaction) → (moved_if b s t (store_next (find m.world (table_of o)) t.store (Do o) (Some x.reply))).transaction ≡ Some u → Fits u.store m.world
+    fits_after : (b : Bool) (u : kept.Transaction) → (moved_if b s t (store_next (find m.catalog (table_of o)) t.store (Do o) (Some x.reply))).transaction ≡ Some u → Fits u.store m.catalog
     fits_after true u h = cc
-    fits_after false u h = let same : with_store t (store_next (find m.world (table_of o)) t.store (Do o) (Some x.reply)) ≡ u = cc in
-        subst (λ (v : kept.Transaction). Fits v.store m.world) same (fits_next t.store m.world (Do o) (Some x.reply) (keep.fit m n i k there t open_t))
+    fits_after false u h = let same : with_store t (store_next (find m.catalog (table_of o)) t.store (Do o) (Some x.reply)) ≡ u = cc in
+        subst (λ (v : kept.Transaction). Fits v.store m.catalog) same (fits_next t.store m.catalog (Do o) (Some x.reply) (keep.fit m n i k there t open_t))
 
-    number_after : (b : Bool) → (moved_if b s t (store_next (find m.world (table_of o)) t.store (Do o) (Some x.reply))).number ≡ s.number
+    number_after : (b : Bool) → (moved_if b s t (store_next (find m.catalog (table_of o)) t.store (Do o) (Some x.reply))).number ≡ s.number
     number_after true = refl
     number_after false = refl
 
-    opens_after : (b : Bool) → opens (moved_if b s t (store_next (find m.world (table_of o)) t.store (Do o) (Some x.reply))).transaction ≤ opens s.transaction
+    opens_after : (b : Bool) → opens (moved_if b s t (store_next (find m.catalog (table_of o)) t.store (Do o) (Some x.reply))).transaction ≤ opens s.transaction
     opens_after true = omega arith
     opens_after false = ap_le (ap opens open_t)
       where
@@ -135,11 +135,11 @@ module _ (m : Machine) (n i : ℕ) (k : IsKept m) (there : StandsAt m.seats.item
         ap_le h = omega (arith, h)
 
     -- all parts agree after it
-    pub work_agrees : (m' : Machine) → m'.world ≡ m.world → m'.seats.items ≡ set m.seats.items i after_work → m'.limits ≡ m.limits → m'.begun ≡ m.begun → m'.commits ≡ m.commits
+    pub work_agrees : (m' : Machine) → m'.catalog ≡ m.catalog → m'.sessions.items ≡ set m.sessions.items i after_work → m'.limits ≡ m.limits → m'.begun ≡ m.begun → m'.commits ≡ m.commits
         → m'.ages.held ≡ (if x.over then without t.age (placed (t.age, needs o) m.ages.held) else placed (t.age, needs o) m.ages.held)
-        → m'.ages.queue ≡ queued_in (map queued_of m'.queue.items) → Agree m'
-    work_agrees m' world seats limits begun commits held queue =
-        keep.seat_agrees m n i k there after_work (number_after x.over) m' world seats limits
-        (subst (SameMembers (held_in (map seat_of (set m.seats.items i after_work)))) (sym held) (locks_after x.over)) queue (fits_after x.over)
+        → m'.ages.queue ≡ locks_queued_in (map queued_of m'.queue.items) → Agree m'
+    work_agrees m' catalog sessions limits begun commits held queue =
+        keep.session_agrees m n i k there after_work (number_after x.over) m' catalog sessions limits
+        (subst (SameMembers (locks_held_in (map session_of (set m.sessions.items i after_work)))) (sym held) (locks_after x.over)) queue (fits_after x.over)
         (let a = k.agree.ages in omega (arith, a, begun))
         (let c = keep.counts' m n i k there after_work (number_after x.over) in let d = k.agree.counted in let e = opens_after x.over in omega (arith, c, d, e, begun, commits))

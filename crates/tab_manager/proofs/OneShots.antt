@@ -7,23 +7,23 @@ use Rattle.tab_model.specs.declared.data.Command.TheVariants as command
 use Rattle.tab_model.specs.declared.data.Reply.{Reply}
 use Rattle.tab_model.specs.declared.data.Reply.TheVariants as reply
 use Rattle.tab_model.specs.State.{State, is_waiting}
-use Rattle.tab_model.specs.Outcome.{DoCommand, outcome, nothing, begin, one_shot, do_command}
-use Rattle.tab_manager.specs.declared.seat.Transaction as kept
+use Rattle.tab_model.specs.Outcome.{DoCommand, outcome, step_without_entry, begin, one_shot, do_command}
+use Rattle.tab_manager.specs.declared.session.Transaction as kept
 use Rattle.tab_manager.specs.declared.machine.Machine.{Machine}
-use Rattle.tab_manager.specs.Seats.{no_seat, transaction_of, seat_of, state_of, StandsAt}
+use Rattle.tab_manager.specs.SessionLists.{no_session, transaction_of, session_of, state_of, IsHeldAt}
 use Rattle.tab_manager.proofs.Keeping as keep
-use Rattle.tab_manager.proofs.Keeping.{the_seat}
+use Rattle.tab_manager.proofs.Keeping.{the_session}
 use Rattle.tab_manager.proofs.Answering as answering
 
-module _ (m : Machine) (n i : ℕ) (there : StandsAt m.seats.items n i) (idle : is_waiting (state_of m) n ≡ false) where
-  asked : (c : Command) → outcome (state_of m) [] n (DoCommand c) ≡ do_command (state_of m) [] (seat_of (the_seat m n i)) c
-  asked c = keep.idles (state_of m) n (seat_of (the_seat m n i)) c (answering.here m n i there) (there.number (no_seat n)) idle
+module _ (m : Machine) (n i : ℕ) (there : IsHeldAt m.sessions.items n i) (idle : is_waiting (state_of m) n ≡ false) where
+  asked : (c : Command) → outcome (state_of m) [] n (DoCommand c) ≡ do_command (state_of m) [] (session_of (the_session m n i)) c
+  asked c = keep.idles (state_of m) n (session_of (the_session m n i)) c (answering.here m n i there) (there.number (no_session n)) idle
 
-  pub inside : (t : kept.Transaction) → (the_seat m n i).transaction ≡ Some t → (parts : List Part) (retries : ℕ) → outcome (state_of m) [] n (DoCommand (command.OneShot parts retries)) ≡ nothing (state_of m) reply.InTransaction
-  inside t e parts retries = asked (command.OneShot parts retries) ∙ ap (one_shot (state_of m) (seat_of (the_seat m n i))) (ap (option_map transaction_of) e)
+  pub inside : (t : kept.Transaction) → (the_session m n i).transaction ≡ Some t → (parts : List Part) (retries : ℕ) → outcome (state_of m) [] n (DoCommand (command.OneShot parts retries)) ≡ step_without_entry (state_of m) reply.InTransaction
+  inside t e parts retries = asked (command.OneShot parts retries) ∙ ap (one_shot (state_of m) (session_of (the_session m n i))) (ap (option_map transaction_of) e)
 
-  pub outside : (the_seat m n i).transaction ≡ None → (τ : State) (r : Reply) → outcome (state_of m) [] n (DoCommand command.Begin) ≡ nothing τ r
-      → (parts : List Part) (retries : ℕ) → outcome (state_of m) [] n (DoCommand (command.OneShot parts retries)) ≡ nothing τ r
+  pub outside : (the_session m n i).transaction ≡ None → (τ : State) (r : Reply) → outcome (state_of m) [] n (DoCommand command.Begin) ≡ step_without_entry τ r
+      → (parts : List Part) (retries : ℕ) → outcome (state_of m) [] n (DoCommand (command.OneShot parts retries)) ≡ step_without_entry τ r
   outside e τ r h parts retries =
-      asked (command.OneShot parts retries) ∙ ap (one_shot (state_of m) (seat_of (the_seat m n i))) (ap (option_map transaction_of) e)
-      ∙ sym (asked command.Begin ∙ ap (begin (state_of m) (seat_of (the_seat m n i))) (ap (option_map transaction_of) e)) ∙ h
+      asked (command.OneShot parts retries) ∙ ap (one_shot (state_of m) (session_of (the_session m n i))) (ap (option_map transaction_of) e)
+      ∙ sym (asked command.Begin ∙ ap (begin (state_of m) (session_of (the_session m n i))) (ap (option_map transaction_of) e)) ∙ h

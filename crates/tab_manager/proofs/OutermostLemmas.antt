@@ -8,16 +8,16 @@ use Rattle.tab_model.specs.State as plain
 use Rattle.tab_model.specs.State.{State, Transaction, transaction_at, is_waiting, mid_of}
 use Rattle.tab_model.specs.Outcome.{is_empty}
 use Rattle.tab_txstore.proofs.FitsLemmas.{updates_survive}
-use Rattle.tab_model.specs.Worlds.{World}
-use Rattle.tab_manager.specs.declared.seat.Transaction as kept
-use Rattle.tab_manager.specs.declared.seat.Seat as code
+use Rattle.tab_model.specs.Catalogs.{Catalog}
+use Rattle.tab_manager.specs.declared.session.Transaction as kept
+use Rattle.tab_manager.specs.declared.session.Session as code
 use Rattle.tab_manager.specs.declared.machine.Machine.{Machine}
-use Rattle.tab_manager.specs.Seats.{no_seat, transaction_of, seat_of, state_of, at, StandsAt}
+use Rattle.tab_manager.specs.SessionLists.{no_session, transaction_of, session_of, state_of, at, IsHeldAt}
 use Rattle.tab_manager.specs.Kept.{IsKept}
 use Rattle.tab_manager.specs.Outermost.{outermost, outermost_of, ending_of}
 use Rattle.tab_manager.proofs.Places.{at_of}
 use Rattle.tab_manager.proofs.Keeping as keep
-use Rattle.tab_manager.proofs.Keeping.{the_seat}
+use Rattle.tab_manager.proofs.Keeping.{the_session}
 use Rattle.tab_manager.proofs.LevelEnds as ending
 
 none_if : (σ : State) (b : Bool) (o : Option Transaction) → outermost_of σ o ≡ None → (if b then None else outermost_of σ o) ≡ None
@@ -33,11 +33,11 @@ waits_none σ n h = ap (λ b. if b then None else outermost_of σ (transaction_a
 pub closed_none : (σ : State) (n : ℕ) → transaction_at σ n ≡ None → outermost σ n ≡ None
 closed_none σ n h = none_if σ (is_waiting σ n) (transaction_at σ n) (ap (outermost_of σ) h)
 
-pub stranger_none : (m : Machine) (n : ℕ) → at m.seats.items n ≡ None → outermost (state_of m) n ≡ None
-stranger_none m n h = closed_none (state_of m) n (ap plain.transaction_in (at_of m.seats.items n ∙ ap (option_map seat_of) h))
+pub stranger_none : (m : Machine) (n : ℕ) → at m.sessions.items n ≡ None → outermost (state_of m) n ≡ None
+stranger_none m n h = closed_none (state_of m) n (ap plain.transaction_in (at_of m.sessions.items n ∙ ap (option_map session_of) h))
 
-pub stranger_levels : (m : Machine) (n : ℕ) → at m.seats.items n ≡ None → levels_of (state_of m) n ≡ 0
-stranger_levels m n h = ap (λ o. levels_in (state_of m) (plain.transaction_in o)) (at_of m.seats.items n ∙ ap (option_map seat_of) h)
+pub stranger_levels : (m : Machine) (n : ℕ) → at m.sessions.items n ≡ None → levels_of (state_of m) n ≡ 0
+stranger_levels m n h = ap (λ o. levels_in (state_of m) (plain.transaction_in o)) (at_of m.sessions.items n ∙ ap (option_map session_of) h)
 
 pub not_none : (σ : State) (n : ℕ) (t : Transaction) → outermost σ n ≡ None → outermost σ n ≡ Some t → ⊥
 not_none σ n t h g = none_some (sym h ∙ g)
@@ -64,17 +64,17 @@ found σ false (Some u) t h = by (is_empty (mid_of σ u).saved) refl h
 -- a session's open transaction, where it ends with a commit
 pub record IsEnding (m : Machine) (n i : ℕ) (t : Transaction) : Type 0 where
   pub held : kept.Transaction
-  pub opened : (the_seat m n i).transaction ≡ Some held
+  pub opened : (the_session m n i).transaction ≡ Some held
   pub is : transaction_of held ≡ t
   pub idle : is_waiting (state_of m) n ≡ false
   pub deep : (length held.store.levels.saved == 0) ≡ true
 
-module _ (m : Machine) (n i : ℕ) (k : IsKept m) (there : StandsAt m.seats.items n i) where
+module _ (m : Machine) (n i : ℕ) (k : IsKept m) (there : IsHeldAt m.sessions.items n i) where
   abbrev σ : State
   σ = state_of m
 
-  abbrev s : code.Seat
-  s = the_seat m n i
+  abbrev s : code.Session
+  s = the_session m n i
 
   transactions : transaction_at σ n ≡ option_map transaction_of s.transaction
   transactions = ap plain.transaction_in (keep.here m n i k there)
@@ -97,7 +97,7 @@ module _ (m : Machine) (n i : ℕ) (k : IsKept m) (there : StandsAt m.seats.item
 
     pub ends : (updates : List Change) → updates ≡ t.store.levels.now.updates → is_waiting σ n ≡ false → (length t.store.levels.saved == 0) ≡ true → Some (t.age, updates) ≡ option_map ending_of (outermost σ n)
     ends updates is idle h =
-        ap (λ us. Some (t.age, us)) (is ∙ updates_survive t.store m.world (keep.fit m n i k there t open_t))
+        ap (λ us. Some (t.age, us)) (is ∙ updates_survive t.store m.catalog (keep.fit m n i k there t open_t))
         ∙ sym (ap (option_map ending_of) ((λ j. if idle j then None else outermost_of σ (keep.mine m n i k there t open_t j)) ∙ ap (λ b. if b then Some (transaction_of t) else None) (saved true h)))
 
   pub is_ending : (t : Transaction) → outermost σ n ≡ Some t → IsEnding m n i t
@@ -126,12 +126,12 @@ module _ (m : Machine) (n i : ℕ) (k : IsKept m) (there : StandsAt m.seats.item
           same = one (sym (transactions ∙ ap (option_map transaction_of) e) ∙ at_n.1)
 
   -- its changes are those of its store
-  pub updates_are : (t : Transaction) (e : IsEnding m n i t) → change_all m.world (surviving t.moves t.told) ≡ change_all m.world e.held.store.levels.now.updates
+  pub updates_are : (t : Transaction) (e : IsEnding m n i t) → change_all m.catalog (surviving t.moves t.told) ≡ change_all m.catalog e.held.store.levels.now.updates
   updates_are t e =
-      ap (λ (x : Transaction). change_all m.world (surviving x.moves x.told)) (sym e.is)
-      ∙ ap (change_all m.world) (sym (updates_survive e.held.store m.world (keep.fit m n i k there e.held e.opened)))
+      ap (λ (x : Transaction). change_all m.catalog (surviving x.moves x.told)) (sym e.is)
+      ∙ ap (change_all m.catalog) (sym (updates_survive e.held.store m.catalog (keep.fit m n i k there e.held e.opened)))
 
 -- who has a place has joined
-pub joined_is : (m : Machine) (n : ℕ) (o : Option ℕ) → MatchOption o (at m.seats.items n ≡ None) (StandsAt m.seats.items n) → is_some o ≡ is_some (plain.seat_at (state_of m).seats n)
-joined_is m n None h = sym (ap is_some (at_of m.seats.items n ∙ ap (option_map seat_of) h))
-joined_is m n (Some i) h = sym (ap is_some (at_of m.seats.items n ∙ ap (option_map seat_of) (h.seat (no_seat n))))
+pub joined_is : (m : Machine) (n : ℕ) (o : Option ℕ) → MatchOption o (at m.sessions.items n ≡ None) (IsHeldAt m.sessions.items n) → is_some o ≡ is_some (plain.session_at (state_of m).sessions n)
+joined_is m n None h = sym (ap is_some (at_of m.sessions.items n ∙ ap (option_map session_of) h))
+joined_is m n (Some i) h = sym (ap is_some (at_of m.sessions.items n ∙ ap (option_map session_of) (h.slot (no_session n))))

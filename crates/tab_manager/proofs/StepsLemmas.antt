@@ -15,24 +15,24 @@ use Rattle.tab_model.specs.declared.data.Schema.TheVariants.{Create, Remove, Add
 use Rattle.tab_model.specs.Ages.{Answer, Granted, Wait, Die, can_retry, decide}
 use Rattle.tab_model.specs.Definitions.{Parsed, Good, Bad, parse_options, is_indexed, position}
 use Rattle.tab_model.specs.Locks.{needs}
-use Rattle.tab_model.specs.Outcome.{Ask, Outcome, Retry, DoCommand, begin, commit, commit_at, decided, has_room, nested, retried, schema, schema_if, table_info}
-use Rattle.tab_model.specs.Refusals.{Changes, standing}
+use Rattle.tab_model.specs.Outcome.{Ask, Outcome, Retry, DoCommand, begin, commit, commit_at, by_lock_answer, has_room, open_child, try_again, schema, schema_if, table_info}
+use Rattle.tab_model.specs.Refusals.{Changes, effect_of_reply}
 use Rattle.tab_model.specs.Schemas.{table_of_schema, is_some_position, bad_parse, create_refusal, remove_refusal, add_refusal, del_refusal, schema_refusal}
 use Rattle.tab_model.specs.State as plain
-use Rattle.tab_model.specs.State.{Transaction, Seat, State, ages_of, count_moves, is_busy, is_waiting, mid_of, request_in, transaction_at}
-use Rattle.tab_model.specs.Worlds.{Table, find}
+use Rattle.tab_model.specs.State.{Transaction, Session, State, ages_of, count_moves, is_busy, is_waiting, mid_of, request_in, transaction_at}
+use Rattle.tab_model.specs.Catalogs.{Table, find}
 use Rattle.tab_model.proofs.RefusalLaws.{move_answers}
 use Rattle.tab_manager.specs.declared.machine.Machine.{Machine}
 use Rattle.tab_manager.specs.declared.queue.Request as request
-use Rattle.tab_manager.specs.declared.seat.Seat as code
-use Rattle.tab_manager.specs.declared.seat.Transaction as kept
+use Rattle.tab_manager.specs.declared.session.Session as code
+use Rattle.tab_manager.specs.declared.session.Transaction as kept
 use Rattle.tab_manager.specs.Kept.{IsKept}
-use Rattle.tab_manager.specs.Seats.{no_seat, queued_of, seat_of, state_of, transaction_of, StandsAt}
+use Rattle.tab_manager.specs.SessionLists.{no_session, queued_of, session_of, state_of, transaction_of, IsHeldAt}
 use Rattle.tab_manager.specs.Steps.{is_commit, is_told_for_none, tells_for_none}
 use Rattle.tab_manager.specs.Works.{has_level}
 use Rattle.tab_manager.proofs.Answering as answering
 use Rattle.tab_manager.proofs.Keeping as keep
-use Rattle.tab_manager.proofs.Keeping.{the_seat}
+use Rattle.tab_manager.proofs.Keeping.{the_session}
 use Rattle.tab_manager.proofs.LevelEnds as ending
 use Rattle.tab_manager.proofs.OperatingLemmas as operating
 
@@ -46,7 +46,7 @@ differ false h g = cc
 
 module _ (σ : State) (n : ℕ) where
   -- the answer to a move of an open transaction
-  answer_takes : (a : Ask) (r : Reply) → is_some (transaction_at σ n) ≡ true → is_commit a ≡ false → standing r ≡ Changes → tells_for_none (is_some (transaction_at σ n)) a r ≡ false
+  answer_takes : (a : Ask) (r : Reply) → is_some (transaction_at σ n) ≡ true → is_commit a ≡ false → effect_of_reply r ≡ Changes → tells_for_none (is_some (transaction_at σ n)) a r ≡ false
   answer_takes a reply.BadTerm inside other h = refl
   answer_takes a reply.BadCommand inside other h = refl
   answer_takes a reply.NoTransaction inside other h = cc
@@ -79,23 +79,23 @@ module _ (σ : State) (n : ℕ) where
   answer_takes a reply.NoWait inside other h = refl
   answer_takes a (reply.Found ts) inside other h = refl
   answer_takes a reply.SubscribedHere inside other h = refl
-  answer_takes a (reply.Told i) inside other h = refl
+  answer_takes a (reply.TableInfo i) inside other h = refl
   answer_takes a (reply.Taken x) inside other h = refl
   answer_takes a (reply.Overflow c) inside other h = refl
   answer_takes a reply.Empty inside other h = refl
 
   -- an operation whose lock is decided
-  pub decided_takes : (s : Seat) (t : Transaction) (o : Operation) (b : Answer) → transaction_at σ n ≡ Some t → tells_for_none (is_some (transaction_at σ n)) (DoCommand (command.Do o)) (decided σ s t o b).reply ≡ false
+  pub decided_takes : (s : Session) (t : Transaction) (o : Operation) (b : Answer) → transaction_at σ n ≡ Some t → tells_for_none (is_some (transaction_at σ n)) (DoCommand (command.Do o)) (by_lock_answer σ s t o b).reply ≡ false
   decided_takes s t o Granted e = answer_takes (DoCommand (command.Do o)) _ (ap is_some e) refl (move_answers (mid_of σ t) (Do o) reply.Done refl)
   decided_takes s t o Wait e = refl
   decided_takes s t o Die e = refl
 
   -- a retry that is granted
-  pub retried_takes : (s : Seat) (t : Transaction) (o : Operation) → transaction_at σ n ≡ Some t → tells_for_none (is_some (transaction_at σ n)) Retry (retried σ s t o true).reply ≡ false
+  pub retried_takes : (s : Session) (t : Transaction) (o : Operation) → transaction_at σ n ≡ Some t → tells_for_none (is_some (transaction_at σ n)) Retry (try_again σ s t o true).reply ≡ false
   retried_takes s t o e = answer_takes Retry _ (ap is_some e) refl (move_answers (mid_of σ t) (Do o) reply.Done refl)
 
   -- a child's begin that the limits let through
-  pub nested_takes : (s : Seat) (t : Transaction) (a b : Bool) → (a && b) ≡ true → transaction_at σ n ≡ Some t → tells_for_none (is_some (transaction_at σ n)) (DoCommand command.Begin) (nested σ s t a b).reply ≡ false
+  pub nested_takes : (s : Session) (t : Transaction) (a b : Bool) → (a && b) ≡ true → transaction_at σ n ≡ Some t → tells_for_none (is_some (transaction_at σ n)) (DoCommand command.Begin) (open_child σ s t a b).reply ≡ false
   nested_takes s t true true h e = answer_takes (DoCommand command.Begin) (reply.Tid (mid_of σ t).age) (ap is_some e) refl refl
   nested_takes s t true false h e = cc
   nested_takes s t false b h e = cc
@@ -159,16 +159,16 @@ module _ (σ : State) (n : ℕ) where
 -- ---- at a session's place
 
 -- a begin that was refused memory, in a transaction that has room for a child
-pub has_room_for : (ls : Limits) (t : kept.Transaction) (s2 s : code.Seat) {E : Type 0} (r : Result Reply E) (e : E) → s2 ≡ s → s.transaction ≡ Some t → IfSome s2.transaction (λ u. has_level ls u ≡ false → IsOk r) → r ≡ Err e → has_level ls t ≡ true
-has_room_for ls t s2 s r e same open_t free was = by (has_level ls t) refl (subst (λ o. IfSome o (λ u. has_level ls u ≡ false → IsOk r)) (ap (λ (x : code.Seat). x.transaction) same ∙ open_t) free)
+pub has_room_for : (ls : Limits) (t : kept.Transaction) (s2 s : code.Session) {E : Type 0} (r : Result Reply E) (e : E) → s2 ≡ s → s.transaction ≡ Some t → IfSome s2.transaction (λ u. has_level ls u ≡ false → IsOk r) → r ≡ Err e → has_level ls t ≡ true
+has_room_for ls t s2 s r e same open_t free was = by (has_level ls t) refl (subst (λ o. IfSome o (λ u. has_level ls u ≡ false → IsOk r)) (ap (λ (x : code.Session). x.transaction) same ∙ open_t) free)
   where
     by : (b : Bool) → has_level ls t ≡ b → (has_level ls t ≡ false → IsOk r) → b ≡ true
     by true h f = refl
     by false h f = absurd (answering.not_refused r e was (f h))
 
-module _ (m : Machine) (n i : ℕ) (k : IsKept m) (there : StandsAt m.seats.items n i) where
-  abbrev s : code.Seat
-  s = the_seat m n i
+module _ (m : Machine) (n i : ℕ) (k : IsKept m) (there : IsHeldAt m.sessions.items n i) where
+  abbrev s : code.Session
+  s = the_session m n i
 
   abbrev σ : State
   σ = state_of m
@@ -182,34 +182,34 @@ module _ (m : Machine) (n i : ℕ) (k : IsKept m) (there : StandsAt m.seats.item
   pub operation_told : (t : kept.Transaction) → s.transaction ≡ Some t → (o : Operation) → is_waiting σ n ≡ false → nat_lt (count_moves t.store.moves) m.limits.operations ≡ true → is_told_for_none σ n (DoCommand (command.Do o)) ≡ false
   operation_told t open_t o idle room =
       ap (λ (x : Outcome). tells_for_none (is_some (transaction_at σ n)) (DoCommand (command.Do o)) x.reply) (operating.at_within m n i k there t open_t o true idle room)
-      ∙ decided_takes σ n (seat_of s) (transaction_of t) o (decide (ages_of σ) (t.age, needs o)) (keep.mine m n i k there t open_t)
+      ∙ decided_takes σ n (session_of s) (transaction_of t) o (decide (ages_of σ) (t.age, needs o)) (keep.mine m n i k there t open_t)
 
   pub retry_told : (q : request.Request) → request_in (map queued_of m.queue.items) n ≡ Some (queued_of q) → can_retry m.ages (q.age, needs q.operation) ≡ true → is_told_for_none σ n Retry ≡ false
   retry_told q rq may =
       let r = operating.requested m n i k there q rq in
       ap (λ (x : Outcome). tells_for_none (is_some (transaction_at σ n)) Retry x.reply) (operating.retried_as m n i k there q rq true may)
-      ∙ retried_takes σ n (seat_of s) (transaction_of r.transaction) q.operation (keep.mine m n i k there r.transaction r.open_t)
+      ∙ retried_takes σ n (session_of s) (transaction_of r.transaction) q.operation (keep.mine m n i k there r.transaction r.open_t)
 
   pub begin_told : (t : kept.Transaction) → s.transaction ≡ Some t → is_waiting σ n ≡ false → has_level m.limits t ≡ true → is_told_for_none σ n (DoCommand command.Begin) ≡ false
   begin_told t open_t idle room =
       ap (λ (x : Outcome). tells_for_none (is_some (transaction_at σ n)) (DoCommand command.Begin) x.reply)
-      (keep.asks m n i k there command.Begin idle ∙ ap (begin σ (seat_of s)) (ap (option_map transaction_of) open_t)
-      ∙ ap (λ d. nested σ (seat_of s) (transaction_of t) (nat_lt (suc d) m.limits.nesting) (nat_lt (count_moves t.store.moves) m.limits.operations)) (keep.depth m n i k there t open_t))
-      ∙ nested_takes σ n (seat_of s) (transaction_of t) (nat_lt (suc (length t.store.levels.saved)) m.limits.nesting) (nat_lt (count_moves t.store.moves) m.limits.operations) room (keep.mine m n i k there t open_t)
+      (keep.asks m n i k there command.Begin idle ∙ ap (begin σ (session_of s)) (ap (option_map transaction_of) open_t)
+      ∙ ap (λ d. open_child σ (session_of s) (transaction_of t) (nat_lt (suc d) m.limits.nesting) (nat_lt (count_moves t.store.moves) m.limits.operations)) (keep.depth m n i k there t open_t))
+      ∙ nested_takes σ n (session_of s) (transaction_of t) (nat_lt (suc (length t.store.levels.saved)) m.limits.nesting) (nat_lt (count_moves t.store.moves) m.limits.operations) room (keep.mine m n i k there t open_t)
 
   pub commit_told : (t : kept.Transaction) → s.transaction ≡ Some t → is_waiting σ n ≡ false → (length t.store.levels.saved == 0) ≡ true → is_told_for_none σ n (DoCommand command.Commit) ≡ false
   commit_told t open_t idle deep =
       ap (λ (x : Outcome). tells_for_none (is_some (transaction_at σ n)) (DoCommand command.Commit) x.reply)
-      (keep.asks m n i k there command.Commit idle ∙ ap (commit σ [] (seat_of s)) (ap (option_map transaction_of) open_t)
-      ∙ ap (commit_at σ [] (seat_of s) (transaction_of t)) (ending.outermost m n i k there t open_t ∙ deep))
+      (keep.asks m n i k there command.Commit idle ∙ ap (commit σ [] (session_of s)) (ap (option_map transaction_of) open_t)
+      ∙ ap (commit_at σ [] (session_of s) (transaction_of t)) (ending.outermost m n i k there t open_t ∙ deep))
 
   pub schema_told : s.transaction ≡ None → is_waiting σ n ≡ false → (c : Schema) → is_told_for_none σ n (DoCommand (command.Schema c)) ≡ false
   schema_told closed idle c =
       ap (λ (x : Outcome). tells_for_none (is_some (transaction_at σ n)) (DoCommand (command.Schema c)) x.reply) (keep.asks m n i k there (command.Schema c) idle ∙ ap (schema σ [] c) (ap (option_map transaction_of) closed))
       ∙ schema_takes σ n [] c (is_busy σ (table_of_schema c)) (has_room σ c)
 
-pub info_told : (m : Machine) (n i : ℕ) → StandsAt m.seats.items n i → is_waiting (state_of m) n ≡ false → (t : List ℕ) (x : InfoItem) → is_told_for_none (state_of m) n (DoCommand (command.TableInfo t x)) ≡ false
+pub info_told : (m : Machine) (n i : ℕ) → IsHeldAt m.sessions.items n i → is_waiting (state_of m) n ≡ false → (t : List ℕ) (x : InfoItem) → is_told_for_none (state_of m) n (DoCommand (command.TableInfo t x)) ≡ false
 info_told m n i there idle t x =
     ap (λ (o : Outcome). tells_for_none (is_some (transaction_at (state_of m) n)) (DoCommand (command.TableInfo t x)) o.reply)
-    (keep.idles (state_of m) n (seat_of (the_seat m n i)) (command.TableInfo t x) (answering.here m n i there) (there.number (no_seat n)) idle)
-    ∙ info_takes (state_of m) n t x (find m.world t)
+    (keep.idles (state_of m) n (session_of (the_session m n i)) (command.TableInfo t x) (answering.here m n i there) (there.number (no_session n)) idle)
+    ∙ info_takes (state_of m) n t x (find m.catalog t)

@@ -1,4 +1,4 @@
-pub mod Seats
+pub mod SessionLists
 pub mod Works
 pub mod Kept
 pub mod Quiet

@@ -11,7 +11,7 @@ use Rattle.tab_manager.specs.declared.step.Step.{Step}
 use Rattle.tab_manager.specs.declared.step.Step.TheVariants as step
 use Rattle.tab_manager.specs.declared.step.Stepped.{Stepped}
 use Rattle.tab_manager.specs.Quiet.{is_quiet}
-use Rattle.tab_manager.specs.Seats.{no_outbox}
+use Rattle.tab_manager.specs.SessionLists.{no_outbox}
 
 -- what a step asks; a session joins with the outbox into which nothing is put
 abbrev pub ask_of : Step → Ask

@@ -1,4 +1,4 @@
--- What becomes of a seat and of its transaction's locks.
+-- What becomes of a session and of its transaction's locks.
 use Rattle.std.specs.Prelude.{◌≡◌, ℕ, suc, [], Bool, true, false, ◌&&◌, ◌==◌, nat_lt, Option, None, Some, length, option_map}
 use Rattle.tab_model.specs.declared.data.Operation.{Operation}
 use Rattle.tab_model.specs.declared.data.Move.TheVariants.{Do, Open, Close, Undo}
@@ -12,10 +12,10 @@ use Rattle.tab_model.specs.State.{count_moves}
 use Rattle.tab_model.specs.Alone.{start, after, replies}
 use Rattle.tab_model.specs.Events.{is_failure}
 use Rattle.tab_model.specs.Operations.{table_of, answer}
-use Rattle.tab_model.specs.Worlds.{World, find, IsOrderedWorld}
+use Rattle.tab_model.specs.Catalogs.{Catalog, find, IsOrderedCatalog}
 use Rattle.tab_txstore.specs.Stores.{Store, no_store, store_next, Fits}
-use Rattle.tab_manager.specs.declared.seat.Transaction as kept
-use Rattle.tab_manager.specs.declared.seat.Seat as code
+use Rattle.tab_manager.specs.declared.session.Transaction as kept
+use Rattle.tab_manager.specs.declared.session.Session as code
 use Rattle.tab_manager.specs.declared.operating.Worked.{Worked}
 use Rattle.tab_manager.specs.declared.step.Stepped.{Stepped}
 
@@ -24,11 +24,11 @@ abbrev pub with_store : kept.Transaction → Store → kept.Transaction
 with_store t s = record { age = t.age; store = s }
 
 -- the session without a transaction
-abbrev pub ended : code.Seat → code.Seat
+abbrev pub ended : code.Session → code.Session
 ended s = record { number = s.number; transaction = None }
 
 -- the session, whose transaction, if it has one, starts anew with the age that it has
-abbrev pub emptied : code.Seat → code.Seat
+abbrev pub emptied : code.Session → code.Session
 emptied s = record { number = s.number; transaction = option_map (λ t. with_store t no_store) s.transaction }
 
 -- the locks and requests without those of this transaction, if there is one
@@ -37,9 +37,9 @@ forgotten_if g None = g
 forgotten_if g (Some t) = forget g t.age
 
 -- an operation that was made: its reply, as its transaction alone is told it, and whether that ended the transaction
-pub record Works (w : World) (t : kept.Transaction) (o : Operation) (x : Worked) (new : kept.Transaction) : Type 0 where
+pub record Works (w : Catalog) (t : kept.Transaction) (o : Operation) (x : Worked) (new : kept.Transaction) : Type 0 where
   pub store : new ≡ with_store t (store_next (find w (table_of o)) t.store (Do o) (Some x.reply))
-  pub answer : (age : ℕ) → IsOrderedWorld w → Fits t.store w → replies (start w age) t.store.moves ≡ t.store.told → x.reply ≡ answer (after (start w age) t.store.moves).now o
+  pub answer : (age : ℕ) → IsOrderedCatalog w → Fits t.store w → replies (start w age) t.store.moves ≡ t.store.told → x.reply ≡ answer (after (start w age) t.store.moves).now o
   pub over : x.over ≡ ((length t.store.levels.saved == 0) && is_failure (Some x.reply))
 
 -- a child's begin, by whether a level is left and whether a move is: done, or refused with nothing changed
@@ -49,7 +49,7 @@ NestsIf t true false new r = (new ≡ t) × (r ≡ reply.SystemLimit limit.Opera
 NestsIf t false room new r = (new ≡ t) × (r ≡ reply.SystemLimit limit.Nesting)
 
 -- an operation that was made, whose transaction is still in its place
-abbrev pub WorksTo : World → kept.Transaction → Operation → Worked → Option kept.Transaction → Type 0
+abbrev pub WorksTo : Catalog → kept.Transaction → Operation → Worked → Option kept.Transaction → Type 0
 WorksTo w t o x None = ⊥
 WorksTo w t o x (Some new) = Works w t o x new
 
@@ -67,7 +67,7 @@ NestsTo ls t None r = ⊥
 NestsTo ls t (Some new) r = Nests ls t new r
 
 -- a child's commit
-abbrev pub joined : code.Seat → code.Seat
+abbrev pub joined : code.Session → code.Session
 joined s = record { number = s.number; transaction = option_map (λ t. with_store t (store_next None t.store Close (Some reply.AtomicOk))) s.transaction }
 
 -- a child's abort
@@ -75,12 +75,12 @@ abbrev pub undone : kept.Transaction → kept.Transaction
 undone t = with_store t (store_next None t.store Undo None)
 
 -- an abort: of the whole, or of a child
-abbrev pub UndoesIf : Bool → kept.Transaction → code.Seat → Ages → code.Seat → Ages → Type 0
+abbrev pub UndoesIf : Bool → kept.Transaction → code.Session → Ages → code.Session → Ages → Type 0
 UndoesIf true t s g s' g' = (s' ≡ ended s) × (g'.held ≡ without t.age g.held) × (g'.queue ≡ without t.age (without t.age g.queue))
 UndoesIf false t s g s' g' = (s' ≡ record { number = s.number; transaction = Some (undone t) }) × (g' ≡ record { held = g.held; queue = without t.age g.queue })
 
 -- an abort of the innermost level: of the whole where no child is open
-abbrev pub Undoes : kept.Transaction → code.Seat → Ages → code.Seat → Ages → Type 0
+abbrev pub Undoes : kept.Transaction → code.Session → Ages → code.Session → Ages → Type 0
 Undoes t s g s' g' = UndoesIf (length t.store.levels.saved == 0) t s g s' g'
 
 -- the reply and the entry of an outermost commit in which no post refused

@@ -5,7 +5,7 @@ ghost use Rattle.tab_model.specs.declared.data.Command.TheVariants as command;
 ghost use Rattle.tab_model.specs.Events.{change_all, surviving};
 ghost use Rattle.tab_model.specs.State.{Transaction as Opened, is_waiting};
 ghost use Rattle.tab_model.specs.Outcome.{DoCommand};
-ghost use Rattle.tab_manager.specs.Seats.{state_of, StandsAt};
+ghost use Rattle.tab_manager.specs.SessionLists.{state_of, IsHeldAt};
 ghost use Rattle.tab_manager.specs.Kept.{IsKept};
 ghost use Rattle.tab_manager.specs.Outermost.{outermost, ending_of, told_of};
 ghost use Rattle.tab_manager.specs.Steps.{StepsTo};
@@ -14,7 +14,7 @@ use crate::levels::finish;
 use crate::machine::Machine;
 use crate::step::Stepped;
 use tab_model::Change;
-use tab_world::{Lender, World};
+use tab_tables::{Catalog, Lender};
 
 /// A transaction that its commit would end: its age, its updates in order, and the records that it lends to the tables.
 #[derive(Clone, Copy)]
@@ -42,11 +42,11 @@ impl Machine {
     /// Of a session that waits for nothing.
     fn ending(&self, session: u32, place: usize) -> Option<Ending<'_>>
         requires kept { IsKept self.now }
-        requires there { StandsAt self.now.seats.items session place }
+        requires there { IsHeldAt self.now.sessions.items session place }
         requires idle { is_waiting (state_of self.now) session ≡ false }
         ensures { option_map told_of result ≡ option_map ending_of (outermost (state_of self.now) session) }
     {
-        let Some(transaction) = &self.seats[place].transaction else {
+        let Some(transaction) = &self.sessions[place].transaction else {
             return None;
         };
         if transaction.store.depth() > 0 {
@@ -60,21 +60,21 @@ impl Machine {
     }
 
     /// The tables have the transaction's updates. From here nothing fails.
-    pub fn commit_as(&mut self, session: u32, world: World) -> Stepped
+    pub fn commit_as(&mut self, session: u32, catalog: Catalog) -> Stepped
         requires kept { IsKept self.old }
-        requires there { (t : Opened) × (outermost (state_of self.old) session ≡ Some t) × (world ≡ change_all self.old.world (surviving t.moves t.told)) }
+        requires there { (t : Opened) × (outermost (state_of self.old) session ≡ Some t) × (catalog ≡ change_all self.old.catalog (surviving t.moves t.told)) }
         ensures done { StepsTo (state_of self.old) session (DoCommand command.Commit) result (state_of self.new) }
         ensures kept { IsKept self.new }
     {
         let Some(place) = self.place(session) else {
             unreachable!();
         };
-        self.world = world;
+        self.catalog = catalog;
         self.commits += 1;
         finish(
             self.alloc,
             self.commits,
-            &mut self.seats[place],
+            &mut self.sessions[place],
             &mut self.ages,
         )
     }

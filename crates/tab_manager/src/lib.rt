@@ -10,7 +10,7 @@ ghost use Rattle.tab_model.specs.declared.data.Command.TheVariants as command;
 ghost use Rattle.tab_model.specs.Events.{change_all, surviving};
 ghost use Rattle.tab_model.specs.Outcome.{DoCommand};
 ghost use Rattle.tab_model.specs.Standing.{levels_of};
-ghost use Rattle.tab_model.specs.State.{Transaction, new, seat_at, is_waiting, IsSound};
+ghost use Rattle.tab_model.specs.State.{Transaction, new, session_at, is_waiting, IsSound};
 ghost use Rattle.tab_model.specs.Reached.{IsRising};
 ghost use Rattle.tab_manager.specs.Outermost.{outermost, ending_of, told_of};
 ghost use Rattle.tab_manager.specs.Steps.{ask_of, is_quiet_step, StepsTo, takes_no_memory};
@@ -23,7 +23,7 @@ mod operating;
 mod queue;
 mod redefining;
 mod resting;
-mod seat;
+mod session;
 mod sessions;
 mod step;
 
@@ -35,8 +35,8 @@ use std::alloc::{AllocError, Global};
 use std::marker::Model;
 pub use step::{Step, Stepped};
 use tab_model::Limits;
+use tab_tables::Catalog;
 pub use tab_waitdie::Rest;
-use tab_world::World;
 
 /// The sessions' transactions and locks, and the tables.
 ///
@@ -52,7 +52,7 @@ impl Model for Manager {
     ghost use Rattle.std.specs.Coded.{codes};
     ghost use Rattle.tab_term.specs.Code.{term_code, terms_code, pairs_code};
     ghost use Rattle.tab_model.specs.State.{State};
-    ghost use Rattle.tab_manager.specs.Seats.{state_of};
+    ghost use Rattle.tab_manager.specs.SessionLists.{state_of};
     ghost use Rattle.tab_manager.specs.Kept.{IsKept};
 
     ghost Value = { State };
@@ -96,7 +96,7 @@ impl Manager {
     }
 
     /// The outermost commit of the session, whose changes the caller has made to the tables.
-    pub fn commit(&mut self, session: u32, tables: World) -> Stepped
+    pub fn commit(&mut self, session: u32, tables: Catalog) -> Stepped
         requires { (t : Transaction) × (outermost self.old session ≡ Some t) × (tables ≡ change_all self.old.tables (surviving t.moves t.told)) }
         ensures done { StepsTo self.old session (DoCommand command.Commit) result self.new }
         ensures sound { IsSound self.new }
@@ -106,10 +106,10 @@ impl Manager {
     }
 
     /// The tables as they are committed.
-    pub fn tables(&self) -> &World
+    pub fn tables(&self) -> &Catalog
         ensures { result.now ≡ self.now.tables }
     {
-        &self.machine.world
+        &self.machine.catalog
     }
 
     /// How many commits there were.
@@ -121,7 +121,7 @@ impl Manager {
 
     /// Whether the session has joined.
     pub fn joined(&self, session: u32) -> bool
-        ensures { result ≡ is_some (seat_at self.now.seats session) }
+        ensures { result ≡ is_some (session_at self.now.sessions session) }
     {
         self.machine.joined(session)
     }
@@ -166,7 +166,7 @@ impl Manager {
 
     /// Whether the session's number and the limit of sessions let it join.
     pub fn admits(&self, session: u32) -> bool
-        ensures { result ≡ (nat_lt self.now.greatest session && nat_lt (length self.now.seats) self.now.limits.sessions) }
+        ensures { result ≡ (nat_lt self.now.greatest session && nat_lt (length self.now.sessions) self.now.limits.sessions) }
     {
         self.machine.admits(session)
     }

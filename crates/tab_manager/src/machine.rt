@@ -2,31 +2,31 @@
 
 ghost use Rattle.std.specs.Prelude.{◌≡◌, ◌≤◌, [], Some, None, IfOk, IsOk, OnErr, MatchOption, false, true};
 ghost use Rattle.tab_model.specs.State.{new, is_waiting};
-ghost use Rattle.tab_model.specs.Outcome.{DoCommand, nothing, outcome};
+ghost use Rattle.tab_model.specs.Outcome.{DoCommand, step_without_entry, outcome};
 ghost use Rattle.tab_manager.specs.Steps.{StepsTo, ask_of, is_quiet_step, asks_for_none, is_told_for_none};
 ghost use Rattle.tab_manager.specs.Quiet.{is_quiet};
-ghost use Rattle.tab_manager.specs.Seats.{state_of, at, StandsAt};
+ghost use Rattle.tab_manager.specs.SessionLists.{state_of, at, IsHeldAt};
 ghost use Rattle.tab_manager.specs.Kept.{IsKept};
 
 use crate::command::{Asked, AskedSchema};
 use crate::queue::{Request, find};
-use crate::seat::Seat;
+use crate::session::Session;
 use crate::step::{Step, Stepped};
 use arrayvec::ArrayVec;
 use std::alloc::{AllocError, Global};
 use tab_model::{Command, Limits, Reply};
 use tab_operations::Pending;
+use tab_tables::Catalog;
 use tab_waitdie::Ages;
-use tab_world::World;
 
-/// How many sessions are joined at most. Their seats are searched one after another.
+/// How many sessions are joined at most. Their sessions are searched one after another.
 pub const SESSIONS: usize = 64;
 
 /// The tables, the sessions with their transactions in the order of joining, who holds locks and who waits.
 pub(crate) struct Machine {
     pub alloc: Global,
-    pub world: World,
-    pub seats: ArrayVec<Seat, SESSIONS>,
+    pub catalog: Catalog,
+    pub sessions: ArrayVec<Session, SESSIONS>,
     pub ages: Ages,
     pub queue: Vec<Request>,
     /// How many outermost transactions have begun.
@@ -41,8 +41,8 @@ impl Drop for Machine {
     fn drop(self) {
         let Machine {
             alloc: _,
-            world,
-            seats,
+            catalog,
+            sessions,
             ages,
             queue,
             begun: _,
@@ -50,8 +50,8 @@ impl Drop for Machine {
             greatest: _,
             limits: _,
         } = self;
-        drop(world);
-        drop(seats);
+        drop(catalog);
+        drop(sessions);
         drop(ages);
         drop(queue);
     }
@@ -65,8 +65,8 @@ impl Machine {
     {
         Machine {
             alloc,
-            world: World::empty(),
-            seats: ArrayVec::new(),
+            catalog: Catalog::empty(),
+            sessions: ArrayVec::new(),
             ages: Ages::new(alloc),
             queue: Vec::new(alloc),
             begun: 0,
@@ -76,12 +76,12 @@ impl Machine {
         }
     }
 
-    /// Where a session's seat stands, if it has joined.
+    /// A session's place in the list, if it has joined.
     pub fn place(&self, session: u32) -> Option<usize>
-        ensures { MatchOption result (at self.now.seats.items session ≡ None) (StandsAt self.now.seats.items session) }
+        ensures { MatchOption result (at self.now.sessions.items session ≡ None) (IsHeldAt self.now.sessions.items session) }
     {
-        for (place, seat) in self.seats.iter().enumerate() {
-            if seat.number == session {
+        for (place, slot) in self.sessions.iter().enumerate() {
+            if slot.number == session {
                 return Some(place);
             }
         }
@@ -112,7 +112,7 @@ impl Machine {
     fn command(&mut self, session: u32, place: usize, asked: Asked) -> Result<Stepped, AllocError>
         requires quiet { is_quiet asked.command ≡ true }
         requires kept { IsKept self.old }
-        requires there { StandsAt self.old.seats.items session place }
+        requires there { IsHeldAt self.old.sessions.items session place }
         ensures done { IfOk result (λ s. outcome (state_of self.old) [] session (DoCommand asked.command) ≡ record { state = state_of self.new; reply = s.reply; entry = s.entry }) }
         ensures free { asks_for_none (state_of self.old) session (DoCommand asked.command) ≡ true → IsOk result }
         ensures told { is_told_for_none (state_of self.old) session (DoCommand asked.command) ≡ true → IsOk result }
@@ -138,7 +138,7 @@ impl Machine {
     ) -> Result<Stepped, AllocError>
         requires quiet { is_quiet asked.command ≡ true }
         requires kept { IsKept self.old }
-        requires there { StandsAt self.old.seats.items session place }
+        requires there { IsHeldAt self.old.sessions.items session place }
         requires idle { is_waiting (state_of self.old) session ≡ false }
         ensures done { IfOk result (λ s. outcome (state_of self.old) [] session (DoCommand asked.command) ≡ record { state = state_of self.new; reply = s.reply; entry = s.entry }) }
         ensures free { asks_for_none (state_of self.old) session (DoCommand asked.command) ≡ true → IsOk result }
@@ -171,8 +171,8 @@ impl Machine {
     /// A session that has not joined can do nothing but join.
     fn stranger(&mut self, session: u32, step: &Step) -> Reply
         requires kept { IsKept self.old }
-        requires stranger { at self.old.seats.items session ≡ None }
-        ensures done { outcome (state_of self.old) [] session (ask_of step.now) ≡ nothing (state_of self.new) result }
+        requires stranger { at self.old.sessions.items session ≡ None }
+        ensures done { outcome (state_of self.old) [] session (ask_of step.now) ≡ step_without_entry (state_of self.new) result }
         ensures kept { IsKept self.new }
     {
         match step {

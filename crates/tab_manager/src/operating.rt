@@ -5,27 +5,27 @@ ghost use Rattle.tab_model.specs.declared.data.Command.TheVariants as command;
 ghost use Rattle.tab_model.specs.Ages.{forget as forgotten};
 ghost use Rattle.tab_model.specs.Events.{is_failure as is_failure_of};
 ghost use Rattle.tab_model.specs.State.{is_waiting};
-ghost use Rattle.tab_model.specs.Outcome.{DoCommand, Retry, nothing, outcome};
+ghost use Rattle.tab_model.specs.Outcome.{DoCommand, Retry, step_without_entry, outcome};
 ghost use Rattle.tab_locks.specs.Placed.{without_last};
 ghost use Rattle.tab_waitdie.specs.Decisions.{ages as ages_with};
-ghost use Rattle.tab_manager.specs.Seats.{state_of, StandsAt};
+ghost use Rattle.tab_manager.specs.SessionLists.{state_of, IsHeldAt};
 ghost use Rattle.tab_manager.specs.Kept.{IsKept};
 ghost use Rattle.tab_manager.specs.Steps.{is_told_for_none};
 ghost use Rattle.tab_manager.specs.Works.{Works, WorksTo, emptied, ended, forgotten_if};
 
 use crate::machine::Machine;
 use crate::queue::{Request, find};
-use crate::seat::{Seat, Transaction};
+use crate::session::{Session, Transaction};
 use std::alloc::{AllocError, Global};
-use tab_model::{Limit, Reply, Told};
+use tab_model::{Limit, Reply, SharedReply};
 use tab_operations::{Pending, needs, perform};
+use tab_tables::Catalog;
 use tab_txstore::is_failure;
 use tab_waitdie::{Ages, Answer};
-use tab_world::World;
 
 /// What an operation was told, and whether it ended its transaction: by a failure at level 1.
 pub(crate) struct Worked {
-    pub reply: Told,
+    pub reply: SharedReply,
     pub over: bool,
 }
 
@@ -37,7 +37,7 @@ impl Drop for Worked {
 }
 
 impl Worked {
-    fn into_reply(self) -> Told
+    fn into_reply(self) -> SharedReply
         ensures { result ≡ self.reply }
     {
         let Worked { reply, over: _ } = self;
@@ -52,29 +52,29 @@ impl Machine {
         session: u32,
         place: usize,
         pending: Pending,
-    ) -> Result<Told, AllocError>
+    ) -> Result<SharedReply, AllocError>
         requires kept { IsKept self.old }
-        requires there { StandsAt self.old.seats.items session place }
+        requires there { IsHeldAt self.old.sessions.items session place }
         requires idle { is_waiting (state_of self.old) session ≡ false }
-        ensures ok { IfOk result (λ r. outcome (state_of self.old) [] session (DoCommand (command.Do pending.operation)) ≡ nothing (state_of self.new) r) }
+        ensures ok { IfOk result (λ r. outcome (state_of self.old) [] session (DoCommand (command.Do pending.operation)) ≡ step_without_entry (state_of self.new) r) }
         ensures told { is_told_for_none (state_of self.old) session (DoCommand (command.Do pending.operation)) ≡ true → IsOk result }
         ensures err { OnErr result (state_of self.new ≡ state_of self.old) }
         ensures kept { IsKept self.new }
     {
-        let Some(transaction) = &self.seats[place].transaction else {
-            return Ok(Told::new(Reply::NoTransaction));
+        let Some(transaction) = &self.sessions[place].transaction else {
+            return Ok(SharedReply::new(Reply::NoTransaction));
         };
         if transaction.store.count() as u64 >= self.limits.operations {
-            return Ok(Told::new(Reply::SystemLimit(Limit::Operations)));
+            return Ok(SharedReply::new(Reply::SystemLimit(Limit::Operations)));
         }
         let age = transaction.age;
         self.queue.reserve(1)?;
         let lock = needs(self.alloc, &pending.operation)?;
         match self.ages.request(age, lock)? {
             Answer::Granted => {
-                let seat = &mut self.seats[place];
-                let worked = work(self.alloc, &self.world, seat, &mut self.ages, pending)?;
-                end_if(worked.over, seat, &mut self.ages);
+                let slot = &mut self.sessions[place];
+                let worked = work(self.alloc, &self.catalog, slot, &mut self.ages, pending)?;
+                end_if(worked.over, slot, &mut self.ages);
                 Ok(worked.into_reply())
             }
             Answer::Wait => {
@@ -83,41 +83,41 @@ impl Machine {
                     age,
                     operation: pending.into_operation(),
                 });
-                Ok(Told::new(Reply::Waiting))
+                Ok(SharedReply::new(Reply::Waiting))
             }
             Answer::Die => {
-                restart(&mut self.seats[place], &mut self.ages);
-                Ok(Told::new(Reply::Restart))
+                restart(&mut self.sessions[place], &mut self.ages);
+                Ok(SharedReply::new(Reply::Restart))
             }
         }
     }
 
     /// The queued operation of a session, if there is one, asks again for its lock.
-    pub fn retry(&mut self, session: u32, place: usize) -> Result<Told, AllocError>
+    pub fn retry(&mut self, session: u32, place: usize) -> Result<SharedReply, AllocError>
         requires kept { IsKept self.old }
-        requires there { StandsAt self.old.seats.items session place }
-        ensures ok { IfOk result (λ r. outcome (state_of self.old) [] session Retry ≡ nothing (state_of self.new) r) }
+        requires there { IsHeldAt self.old.sessions.items session place }
+        ensures ok { IfOk result (λ r. outcome (state_of self.old) [] session Retry ≡ step_without_entry (state_of self.new) r) }
         ensures free { is_waiting (state_of self.old) session ≡ false → IsOk result }
         ensures told { is_told_for_none (state_of self.old) session Retry ≡ true → IsOk result }
         ensures err { OnErr result (state_of self.new ≡ state_of self.old) }
         ensures kept { IsKept self.new }
     {
         let Some(request) = find(&self.queue, session) else {
-            return Ok(Told::new(Reply::NotWaiting));
+            return Ok(SharedReply::new(Reply::NotWaiting));
         };
         let age = request.age;
         if !self.ages.may_go(age) {
-            return Ok(Told::new(Reply::Waiting));
+            return Ok(SharedReply::new(Reply::Waiting));
         }
         let pending = Pending {
             operation: request.operation.try_clone(self.alloc)?,
         };
         self.ages.grant(age)?;
-        let seat = &mut self.seats[place];
-        let worked = work(self.alloc, &self.world, seat, &mut self.ages, pending)?;
+        let slot = &mut self.sessions[place];
+        let worked = work(self.alloc, &self.catalog, slot, &mut self.ages, pending)?;
         self.ages.drop_wait(age);
         self.queue.retain(|request| request.session != session);
-        end_if(worked.over, seat, &mut self.ages);
+        end_if(worked.over, slot, &mut self.ages);
         Ok(worked.into_reply())
     }
 }
@@ -125,36 +125,36 @@ impl Machine {
 /// An operation whose lock was granted last. Where it is refused memory, the lock goes again.
 fn work(
     alloc: Global,
-    world: &World,
-    seat: &mut Seat,
+    catalog: &Catalog,
+    slot: &mut Session,
     ages: &mut Ages,
     pending: Pending,
 ) -> Result<Worked, AllocError>
-    requires { IsSome seat.old.transaction }
-    ensures number { seat.new.number ≡ seat.old.number }
-    ensures ok { IfSome seat.old.transaction (λ t. IfOk result (λ x. WorksTo world.now t pending.operation x seat.new.transaction)) }
+    requires { IsSome slot.old.transaction }
+    ensures number { slot.new.number ≡ slot.old.number }
+    ensures ok { IfSome slot.old.transaction (λ t. IfOk result (λ x. WorksTo catalog.now t pending.operation x slot.new.transaction)) }
     ensures held { IfOk result (λ x. ages.new ≡ ages.old) }
-    ensures undone { IfSome seat.old.transaction (λ t. OnErr result ((seat.new.transaction ≡ seat.old.transaction) × (ages.new ≡ ages_with (without_last t.age ages.old.held) ages.old.queue))) }
+    ensures undone { IfSome slot.old.transaction (λ t. OnErr result ((slot.new.transaction ≡ slot.old.transaction) × (ages.new ≡ ages_with (without_last t.age ages.old.held) ages.old.queue))) }
 {
-    let Some(transaction) = &mut seat.transaction else {
+    let Some(transaction) = &mut slot.transaction else {
         unreachable!();
     };
-    work_in(alloc, world, transaction, ages, pending)
+    work_in(alloc, catalog, transaction, ages, pending)
 }
 
 fn work_in(
     alloc: Global,
-    world: &World,
+    catalog: &Catalog,
     transaction: &mut Transaction,
     ages: &mut Ages,
     pending: Pending,
 ) -> Result<Worked, AllocError>
-    ensures ok { IfOk result (λ x. Works world.now transaction.old pending.operation x transaction.new) }
+    ensures ok { IfOk result (λ x. Works catalog.now transaction.old pending.operation x transaction.new) }
     ensures held { IfOk result (λ x. ages.new ≡ ages.old) }
     ensures undone { OnErr result ((transaction.new ≡ transaction.old) × (ages.new ≡ ages_with (without_last transaction.old.age ages.old.held) ages.old.queue)) }
 {
     let outermost = transaction.store.depth() == 0;
-    match perform(alloc, world, &mut transaction.store, pending) {
+    match perform(alloc, catalog, &mut transaction.store, pending) {
         Ok(reply) => {
             let over = outermost && is_failure(reply.reply());
             Ok(Worked { reply, over })
@@ -167,24 +167,24 @@ fn work_in(
 }
 
 /// The transaction is over, with its locks and its queued request.
-pub(crate) fn end_if(over: bool, seat: &mut Seat, ages: &mut Ages)
-    ensures seat { seat.new ≡ (if over then ended seat.old else seat.old) }
-    ensures ages { ages.new ≡ (if over then forgotten_if ages.old seat.old.transaction else ages.old) }
+pub(crate) fn end_if(over: bool, slot: &mut Session, ages: &mut Ages)
+    ensures slot { slot.new ≡ (if over then ended slot.old else slot.old) }
+    ensures ages { ages.new ≡ (if over then forgotten_if ages.old slot.old.transaction else ages.old) }
 {
     if over {
-        if let Some(transaction) = &seat.transaction {
+        if let Some(transaction) = &slot.transaction {
             ages.forget(transaction.age);
         }
-        seat.transaction = None;
+        slot.transaction = None;
     }
 }
 
 /// A younger transaction gives way: its operations and locks are gone; its age stays, and it rests for the lock.
-fn restart(seat: &mut Seat, ages: &mut Ages)
-    ensures seat { seat.new ≡ emptied seat.old }
-    ensures ages { ages.new ≡ forgotten_if ages.old seat.old.transaction }
+fn restart(slot: &mut Session, ages: &mut Ages)
+    ensures slot { slot.new ≡ emptied slot.old }
+    ensures ages { ages.new ≡ forgotten_if ages.old slot.old.transaction }
 {
-    if let Some(transaction) = &mut seat.transaction {
+    if let Some(transaction) = &mut slot.transaction {
         transaction.store.clear();
         ages.give_up(transaction.age);
     }

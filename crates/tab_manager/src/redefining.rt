@@ -2,10 +2,10 @@
 
 ghost use Rattle.std.specs.Prelude.{◌≡◌, [], None, IfOk, IsOk, OnErr, false, true, slice_index_or};
 ghost use Rattle.tab_model.specs.declared.data.Command.TheVariants as command;
-ghost use Rattle.tab_model.specs.Outcome.{DoCommand, has_room, nothing, outcome};
+ghost use Rattle.tab_model.specs.Outcome.{DoCommand, has_room, step_without_entry, outcome};
 ghost use Rattle.tab_model.specs.Schemas.{schema_effect, schema_refusal, table_of_schema};
 ghost use Rattle.tab_model.specs.State.{is_waiting};
-ghost use Rattle.tab_manager.specs.Seats.{no_seat, state_of, StandsAt};
+ghost use Rattle.tab_manager.specs.SessionLists.{no_session, state_of, IsHeldAt};
 ghost use Rattle.tab_manager.specs.Kept.{IsKept};
 ghost use Rattle.tab_manager.specs.Steps.{is_told_for_none};
 
@@ -13,9 +13,9 @@ use crate::command::AskedSchema;
 use crate::machine::Machine;
 use crate::step::Stepped;
 use std::alloc::AllocError;
-use tab_model::{Entry, InfoItem, Limit, Numbers, Reply, Schema, Told};
+use tab_model::{Entry, InfoItem, Limit, Numbers, Reply, Schema, SharedReply};
+use tab_tables::{Catalog, Redefined, redefine, table_info};
 use tab_term::Atom;
-use tab_world::{Redefined, World, redefine, table_info};
 
 impl Machine {
     /// A command on tables' definitions, refused while anyone holds or awaits a lock in the table.
@@ -26,19 +26,19 @@ impl Machine {
         asked: AskedSchema,
     ) -> Result<Stepped, AllocError>
         requires kept { IsKept self.old }
-        requires there { StandsAt self.old.seats.items session place }
+        requires there { IsHeldAt self.old.sessions.items session place }
         requires idle { is_waiting (state_of self.old) session ≡ false }
         ensures ok { IfOk result (λ s. outcome (state_of self.old) [] session (DoCommand (command.Schema asked.schema)) ≡ record { state = state_of self.new; reply = s.reply; entry = s.entry }) }
         ensures told { is_told_for_none (state_of self.old) session (DoCommand (command.Schema asked.schema)) ≡ true → IsOk result }
         ensures err { OnErr result (state_of self.new ≡ state_of self.old) }
         ensures kept { IsKept self.new }
     {
-        if self.seats[place].transaction.is_some() {
+        if self.sessions[place].transaction.is_some() {
             return Ok(Stepped::without_entry(Reply::InTransaction));
         }
-        match redefine(self.alloc, &self.world, &asked.schema)? {
+        match redefine(self.alloc, &self.catalog, &asked.schema)? {
             Redefined::Refused(reply) => Ok(Stepped::without_entry(reply)),
-            Redefined::Done(world) => self.put_tables(session, place, asked, world),
+            Redefined::Done(catalog) => self.put_tables(session, place, asked, catalog),
         }
     }
 
@@ -48,13 +48,13 @@ impl Machine {
         session: u32,
         place: usize,
         asked: AskedSchema,
-        world: World,
+        catalog: Catalog,
     ) -> Result<Stepped, AllocError>
         requires kept { IsKept self.old }
-        requires there { StandsAt self.old.seats.items session place }
+        requires there { IsHeldAt self.old.sessions.items session place }
         requires idle { is_waiting (state_of self.old) session ≡ false }
-        requires outside { (slice_index_or self.old.seats.items place (no_seat session)).transaction ≡ None }
-        requires done { (schema_refusal self.old.world asked.schema ≡ None) × (world ≡ schema_effect self.old.world asked.schema) }
+        requires outside { (slice_index_or self.old.sessions.items place (no_session session)).transaction ≡ None }
+        requires done { (schema_refusal self.old.catalog asked.schema ≡ None) × (catalog ≡ schema_effect self.old.catalog asked.schema) }
         ensures ok { IfOk result (λ s. outcome (state_of self.old) [] session (DoCommand (command.Schema asked.schema)) ≡ record { state = state_of self.new; reply = s.reply; entry = s.entry }) }
         ensures told { is_told_for_none (state_of self.old) session (DoCommand (command.Schema asked.schema)) ≡ true → IsOk result }
         ensures err { OnErr result (state_of self.new ≡ state_of self.old) }
@@ -67,9 +67,9 @@ impl Machine {
         if !self.has_room(&asked.schema) {
             return Ok(Stepped::without_entry(Reply::SystemLimit(Limit::Tables)));
         }
-        self.world = world;
+        self.catalog = catalog;
         Ok(Stepped {
-            reply: Told::new(Reply::AtomicOk),
+            reply: SharedReply::new(Reply::AtomicOk),
             entry: Some(Entry::Changed(
                 asked.into_schema(),
                 Numbers {
@@ -84,19 +84,19 @@ impl Machine {
         ensures { result ≡ has_room (state_of self.now) command.now }
     {
         match command {
-            Schema::Create(_, _) => self.world.has_room(self.limits.tables),
+            Schema::Create(_, _) => self.catalog.has_room(self.limits.tables),
             _ => true,
         }
     }
 
     /// What is asked of a table as it is committed.
     pub fn table_info(&self, session: u32, name: &Atom, item: InfoItem) -> Result<Reply, AllocError>
-        requires there { (i : _) × StandsAt self.now.seats.items session i }
+        requires there { (i : _) × IsHeldAt self.now.sessions.items session i }
         requires idle { is_waiting (state_of self.now) session ≡ false }
-        ensures ok { IfOk result (λ r. outcome (state_of self.now) [] session (DoCommand (command.TableInfo name.now item)) ≡ nothing (state_of self.now) r) }
+        ensures ok { IfOk result (λ r. outcome (state_of self.now) [] session (DoCommand (command.TableInfo name.now item)) ≡ step_without_entry (state_of self.now) r) }
         ensures told { is_told_for_none (state_of self.now) session (DoCommand (command.TableInfo name.now item)) ≡ true → IsOk result }
     {
-        table_info(self.alloc, &self.world, name, item)
+        table_info(self.alloc, &self.catalog, name, item)
     }
 }
 

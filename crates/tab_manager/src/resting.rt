@@ -1,7 +1,7 @@
 //! Who rests, and who may go on.
 
 ghost use Rattle.std.specs.Prelude.{◌≡◌, [], false};
-ghost use Rattle.tab_manager.specs.Seats.{state_of};
+ghost use Rattle.tab_manager.specs.SessionLists.{state_of};
 
 use crate::machine::{Machine, SESSIONS};
 use arrayvec::ArrayVec;
@@ -13,7 +13,7 @@ impl Machine {
         let Some(place) = self.place(session) else {
             return Rest::Over;
         };
-        match &self.seats[place].transaction {
+        match &self.sessions[place].transaction {
             Some(transaction) => self.ages.rest(transaction.age),
             None => Rest::Over,
         }
@@ -22,11 +22,11 @@ impl Machine {
     /// The sessions that wait and would be granted their lock now, or rest and may go on.
     pub fn ready(&self) -> ArrayVec<u32, SESSIONS> {
         let mut ready = ArrayVec::new();
-        for seat in self.seats.iter() {
-            if let Some(transaction) = &seat.transaction {
+        for slot in self.sessions.iter() {
+            if let Some(transaction) = &slot.transaction {
                 if self.ages.is_ready(transaction.age) {
-                    // There is a place for each seat.
-                    let _full = ready.try_push(seat.number);
+                    // There is a place for each session.
+                    let _full = ready.try_push(slot.number);
                 }
             }
         }

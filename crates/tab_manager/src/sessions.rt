@@ -1,16 +1,16 @@
 //! Sessions join and leave.
 
 ghost use Rattle.std.specs.Prelude.{◌≡◌, ◌^◌, ◌-◌, ◌&&◌, [], None, is_some, length, min, nat_lt};
-ghost use Rattle.tab_model.specs.Outcome.{Join, Leave, nothing, outcome};
+ghost use Rattle.tab_model.specs.Outcome.{Join, Leave, step_without_entry, outcome};
 ghost use Rattle.tab_model.specs.Standing.{levels_of};
-ghost use Rattle.tab_model.specs.State.{is_waiting, seat_at};
-ghost use Rattle.tab_manager.specs.Seats.{state_of, no_outbox, at, StandsAt};
+ghost use Rattle.tab_model.specs.State.{is_waiting, session_at};
+ghost use Rattle.tab_manager.specs.SessionLists.{state_of, no_outbox, at, IsHeldAt};
 ghost use Rattle.tab_manager.specs.Kept.{IsKept};
 
 use crate::machine::Machine;
 use crate::operating::end_if;
 use crate::queue::find;
-use crate::seat::Seat;
+use crate::session::Session;
 use tab_model::{Limit, Reply};
 
 impl Machine {
@@ -23,7 +23,7 @@ impl Machine {
 
     /// Whether the session is joined.
     pub fn joined(&self, session: u32) -> bool
-        ensures { result ≡ is_some (seat_at (state_of self.now).seats session) }
+        ensures { result ≡ is_some (session_at (state_of self.now).sessions session) }
     {
         self.place(session).is_some()
     }
@@ -41,10 +41,10 @@ impl Machine {
 
     fn levels_at(&self, session: u32, place: usize) -> u64
         requires kept { IsKept self.now }
-        requires there { StandsAt self.now.seats.items session place }
+        requires there { IsHeldAt self.now.sessions.items session place }
         ensures { result ≡ min (levels_of (state_of self.now) session) (2 ^ 64 - 1) }
     {
-        let Some(transaction) = &self.seats[place].transaction else {
+        let Some(transaction) = &self.sessions[place].transaction else {
             return 0;
         };
         (transaction.store.depth() as u64).saturating_add(1)
@@ -52,25 +52,25 @@ impl Machine {
 
     /// Whether the session's number and the limit of sessions let it join.
     pub fn admits(&self, session: u32) -> bool
-        ensures { result ≡ (nat_lt self.now.greatest session && nat_lt (length self.now.seats.items) self.now.limits.sessions) }
+        ensures { result ≡ (nat_lt self.now.greatest session && nat_lt (length self.now.sessions.items) self.now.limits.sessions) }
     {
-        session > self.greatest && (self.seats.len() as u64) < self.limits.sessions
+        session > self.greatest && (self.sessions.len() as u64) < self.limits.sessions
     }
 
     /// Of a session that has not joined. Takes no memory.
     pub fn join(&mut self, session: u32) -> Reply
         requires kept { IsKept self.old }
-        requires stranger { at self.old.seats.items session ≡ None }
-        ensures ok { outcome (state_of self.old) [] session (Join no_outbox) ≡ nothing (state_of self.new) result }
+        requires stranger { at self.old.sessions.items session ≡ None }
+        ensures ok { outcome (state_of self.old) [] session (Join no_outbox) ≡ step_without_entry (state_of self.new) result }
         ensures kept { IsKept self.new }
     {
         if session <= self.greatest {
             return Reply::BadSession;
         }
-        if self.seats.len() as u64 >= self.limits.sessions {
+        if self.sessions.len() as u64 >= self.limits.sessions {
             return Reply::SystemLimit(Limit::Sessions);
         }
-        self.seats.push(Seat {
+        self.sessions.push(Session {
             number: session,
             transaction: None,
         });
@@ -81,12 +81,12 @@ impl Machine {
     /// The session's transaction, locks and queued request are gone. Takes no memory.
     pub fn leave(&mut self, session: u32, place: usize) -> Reply
         requires kept { IsKept self.old }
-        requires there { StandsAt self.old.seats.items session place }
-        ensures ok { outcome (state_of self.old) [] session Leave ≡ nothing (state_of self.new) result }
+        requires there { IsHeldAt self.old.sessions.items session place }
+        ensures ok { outcome (state_of self.old) [] session Leave ≡ step_without_entry (state_of self.new) result }
         ensures kept { IsKept self.new }
     {
-        end_if(true, &mut self.seats[place], &mut self.ages);
-        self.seats.remove(place);
+        end_if(true, &mut self.sessions[place], &mut self.ages);
+        self.sessions.remove(place);
         self.queue.retain(|request| request.session != session);
         Reply::Done
     }

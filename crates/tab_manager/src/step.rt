@@ -2,7 +2,7 @@
 
 ghost use Rattle.std.specs.Prelude.{◌≡◌, None};
 
-use tab_model::{Command, Entry, Reply, Told};
+use tab_model::{Command, Entry, Reply, SharedReply};
 
 /// What a session asks.
 #[derive(Drop)]
@@ -20,7 +20,7 @@ pub enum Step {
 /// What a step answers, and what it adds to the log.
 #[derive(Drop)]
 pub struct Stepped {
-    pub reply: Told,
+    pub reply: SharedReply,
     pub entry: Option<Entry>,
 }
 
@@ -29,18 +29,18 @@ impl Stepped {
     pub fn without_entry(reply: Reply) -> Stepped
         ensures { result ≡ record { reply = reply; entry = None } }
     {
-        Stepped::told(Told::new(reply))
+        Stepped::told(SharedReply::new(reply))
     }
 
     /// What an operation was told, which its trace may share.
-    pub fn told(reply: Told) -> Stepped
+    pub fn told(reply: SharedReply) -> Stepped
         ensures { result ≡ record { reply = reply; entry = None } }
     {
         Stepped { reply, entry: None }
     }
 
     /// The reply alone.
-    pub fn into_reply(self) -> Told
+    pub fn into_reply(self) -> SharedReply
         ensures { result ≡ self.reply }
     {
         let Stepped { reply, entry } = self;

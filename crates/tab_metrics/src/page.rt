@@ -5,7 +5,7 @@ use std::alloc::{AllocError, Global};
 use std::sync::Wait;
 use std::time::Clock;
 use tab_book::Shared;
-use tab_names::House;
+use tab_names::Host;
 use tab_server::Count;
 
 /// What a book holds.
@@ -19,8 +19,8 @@ pub struct Holdings {
 
 impl Holdings {
     /// Of a book, which is held meanwhile.
-    pub fn of<H: House>(house: &H, shared: &Shared<H>) -> Holdings {
-        let book = shared.hold(house);
+    pub fn of<H: Host>(host: &H, shared: &Shared<H>) -> Holdings {
+        let book = shared.hold(host);
         let mut holdings = Holdings {
             tables: 0,
             records: 0,

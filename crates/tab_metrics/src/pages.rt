@@ -8,14 +8,14 @@ use std::io::{self, Write};
 use std::net::{Shutdown, TcpListener, TcpStream};
 use std::time::Duration;
 use tab_book::Shared;
-use tab_names::House;
+use tab_names::Host;
 
 /// So many seconds a client has for its request, and to take the page.
 const PATIENCE: u64 = 2;
 
 /// Answers `GET /metrics`, one client after the other, until no more are looked for.
-pub fn serve_pages<H: House, P: Paged>(
-    house: &H,
+pub fn serve_pages<H: Host, P: Paged>(
+    host: &H,
     alloc: Global,
     listener: &TcpListener,
     shared: &Shared<H>,
@@ -26,20 +26,20 @@ pub fn serve_pages<H: House, P: Paged>(
     if listener.set_nonblocking(true).is_err() {
         return;
     }
-    for _ in house.forever() {
+    for _ in host.forever() {
         match listener.accept() {
             Ok((stream, _peer)) => {
-                let _told = answer(house, alloc, stream, shared, paged);
+                let _told = answer(host, alloc, stream, shared, paged);
             }
-            Err(_) if closing.goes_on(house) => {}
+            Err(_) if closing.goes_on(host) => {}
             Err(_) => return,
         }
     }
 }
 
 /// No one is left to hear that an answer failed.
-fn answer<H: House, P: Paged>(
-    house: &H,
+fn answer<H: Host, P: Paged>(
+    host: &H,
     alloc: Global,
     mut stream: TcpStream,
     shared: &Shared<H>,
@@ -52,7 +52,7 @@ fn answer<H: House, P: Paged>(
         return Ok(());
     };
     let text = match request {
-        Request::Page => page(house, alloc, shared, paged)?,
+        Request::Page => page(host, alloc, shared, paged)?,
         Request::Elsewhere => other(alloc, "404 Not Found")?,
         Request::Otherwise => other(alloc, "405 Method Not Allowed\r\nAllow: GET")?,
         Request::Wrong => other(alloc, "400 Bad Request")?,
@@ -63,13 +63,13 @@ fn answer<H: House, P: Paged>(
 }
 
 /// The page with its head.
-fn page<H: House, P: Paged>(
-    house: &H,
+fn page<H: Host, P: Paged>(
+    host: &H,
     alloc: Global,
     shared: &Shared<H>,
     paged: &P,
 ) -> Result<String, AllocError> {
-    let page = paged.page(Holdings::of(house, shared))?;
+    let page = paged.page(Holdings::of(host, shared))?;
     format!(in alloc;
         "HTTP/1.1 200 OK\r\nContent-Type: text/plain; version=0.0.4\r\nContent-Length: {}\r\nConnection: close\r\n\r\n{page}",
         page.len()

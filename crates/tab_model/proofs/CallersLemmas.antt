@@ -22,18 +22,18 @@ use Rattle.tab_model.specs.declared.data.Command.{Command}
 use Rattle.tab_model.specs.declared.data.Command.TheVariants as command
 use Rattle.tab_model.specs.declared.data.Part.{Part}
 use Rattle.tab_model.specs.Definitions.{Parsed, Good, Bad, parse_options, is_indexed, position}
-use Rattle.tab_model.specs.Worlds.{World, Table, find}
+use Rattle.tab_model.specs.Catalogs.{Catalog, Table, find}
 use Rattle.tab_model.specs.Operations.{table_of, failure_in, failure, answer_or}
-use Rattle.tab_model.specs.Alone.{Mid, start, after, replies, back_to, back, next, told}
+use Rattle.tab_model.specs.Alone.{Mid, start, after, replies, back_to, back, next, reply_to}
 use Rattle.tab_model.specs.Ages.{Answer, Granted, Wait, Die}
-use Rattle.tab_model.specs.Schemas.{is_some_position, bad_parse, create_refusal, remove_refusal, add_refusal, del_refusal, schema_refusal, removed}
-use Rattle.tab_model.specs.State.{Transaction, Outbox, Watch, Seat, Queued, State, new, seat_at, transaction_in, moves_in, told_in_transaction, age_in, transaction_at, request_in, without_request, is_waiting, level_in, mid_of}
-use Rattle.tab_model.specs.Outcome.{Ask, Join, Leave, Retry, Take, DoCommand, Outcome, outcome, nothing, with_transaction, with_queue, change, without_seat, more, ends, after_move, said, made, emptied, decided, within, operate, retry_in, retry, opened, nested, begin, one_shot, abort, given, batch_to, end_to, unwatched, commit_at, commit, events_now, schema_if, schema, marked, subscribe_refusal, subscribe, unsubscribe, do_command, command_if, give, leave, seated, fresh, join, unseated, by_seat}
+use Rattle.tab_model.specs.Schemas.{is_some_position, bad_parse, create_refusal, remove_refusal, add_refusal, del_refusal, schema_refusal, removed_table}
+use Rattle.tab_model.specs.State.{Transaction, Outbox, Watch, Session, Queued, State, new, session_at, transaction_in, moves_in, replies_in, age_in, transaction_at, request_in, without_request, is_waiting, level_in, mid_of}
+use Rattle.tab_model.specs.Outcome.{Ask, Join, Leave, Retry, Take, DoCommand, Outcome, outcome, step_without_entry, with_transaction, with_queue, with_changed, without_session, with_move, ends_transaction, after_move, reply_or, make, begun_anew, by_lock_answer, within_limit, operate, retry_in, retry, open_level_1, open_child, begin, one_shot, abort, after_put, batch_to, end_to, without_deleted, commit_at, commit, events_now, schema_if, schema, put_marker, subscribe_refusal, subscribe, unsubscribe, do_command, command_if, give, leave, step_of_joined, fresh, join, step_of_stranger, step_of}
 use Rattle.tab_model.specs.Outcome as core
 use Rattle.tab_model.specs.Run.{Call, outcome_of, after_all, entries, log_of, replies_of, AllJoinEmpty}
 use Rattle.tab_model.specs.Log.{IsLegal}
-use Rattle.tab_model.specs.Callers.{Caller, Callers, newcomers, did, afresh, AnswerKind, Made, kind_of, operated, retried, begun, hears_command, hears, commit_told, schema_told, done_told, command_told, entry_told, queued_told, answered_told, queue_by_command, queue_told, age_told, age_by_command, next_told, told_one, callers_after, log_told, queue_after, next_after, AreHeard}
-use Rattle.tab_model.proofs.Seats.{eq_true, itself, found, seat_at-change, seat_at-push, seat_at-without, seat_at-map, mapped}
+use Rattle.tab_model.specs.Callers.{Caller, Callers, newcomers, caller_with_move, caller_anew, AnswerKind, Made, kind_of, after_operation, after_answer, after_begin, hears_command, hears, commit_entry, schema_entry, subscription_entry, entry_of_command, entry_of_step, queue_after_operation, queue_after_answer, queue_after_command, queue_after_step, age_after_begin, age_after_command, age_after_step, callers_after_one, callers_after, log_of_replies, queue_after, next_after, AreHeard}
+use Rattle.tab_model.proofs.SessionLists.{eq_true, itself, found, session_at-change, session_at-push, session_at-without, session_at-map, mapped}
 use Rattle.tab_model.proofs.OperationAnswers.{answers}
 use Rattle.tab_model.proofs.RefusalLaws.{without-filter}
 use Rattle.tab_model.proofs.Schedules.{schedule_legal, schedule_told}
@@ -78,7 +78,7 @@ same_if f m n = cases (m == n) refl
     cases true e = ap f (eq_true m n e)
     cases false e = refl
 
-pub transaction_if : (b : Bool) (x y : Option Seat) → transaction_in (if b then x else y) ≡ (if b then transaction_in x else transaction_in y)
+pub transaction_if : (b : Bool) (x y : Option Session) → transaction_in (if b then x else y) ≡ (if b then transaction_in x else transaction_in y)
 transaction_if true x y = refl
 transaction_if false x y = refl
 
@@ -90,26 +90,26 @@ request_in-push : (qs : List Queued) (q : Queued) (m : ℕ) → request_in qs q.
 request_in-push [] q m e = grind (arith, nat_tests)
 request_in-push (p ∷ qs) q m e = grind (arith, nat_tests, request_in-push qs q m)
 
--- a seat that keeps its number
-pub changed_transactions : (seats : List Seat) (s x : Seat) (n : ℕ) → seat_at seats n ≡ Some s → x.number ≡ s.number → (m : ℕ) → transaction_in (seat_at (change seats x) m) ≡ (if m == n then x.transaction else transaction_in (seat_at seats m))
-changed_transactions seats s x n here num m =
-    let same : x.number ≡ n = num ∙ found seats s n here in
-    ap transaction_in (seat_at-change seats x s m (ap (seat_at seats) same ∙ here))
-    ∙ ap (λ (k : ℕ). transaction_in (if m == k then Some x else seat_at seats m)) same
-    ∙ transaction_if (m == n) (Some x) (seat_at seats m)
+-- a session that keeps its number
+pub changed_transactions : (sessions : List Session) (s x : Session) (n : ℕ) → session_at sessions n ≡ Some s → x.number ≡ s.number → (m : ℕ) → transaction_in (session_at (with_changed sessions x) m) ≡ (if m == n then x.transaction else transaction_in (session_at sessions m))
+changed_transactions sessions s x n here num m =
+    let same : x.number ≡ n = num ∙ found sessions s n here in
+    ap transaction_in (session_at-change sessions x s m (ap (session_at sessions) same ∙ here))
+    ∙ ap (λ (k : ℕ). transaction_in (if m == k then Some x else session_at sessions m)) same
+    ∙ transaction_if (m == n) (Some x) (session_at sessions m)
 
-pub mapped_transaction : (f : Seat → Seat) → ((s : Seat) → ((f s).number ≡ s.number) × ((f s).transaction ≡ s.transaction)) → (seats : List Seat) (m : ℕ) → transaction_in (seat_at (map f seats) m) ≡ transaction_in (seat_at seats m)
+pub mapped_transaction : (f : Session → Session) → ((s : Session) → ((f s).number ≡ s.number) × ((f s).transaction ≡ s.transaction)) → (sessions : List Session) (m : ℕ) → transaction_in (session_at (map f sessions) m) ≡ transaction_in (session_at sessions m)
 unfolding mapped
-mapped_transaction f h seats m = ap transaction_in (seat_at-map f (λ s. (h s).0) seats m) ∙ cases (seat_at seats m)
+mapped_transaction f h sessions m = ap transaction_in (session_at-map f (λ s. (h s).0) sessions m) ∙ cases (session_at sessions m)
   where
-    cases : (o : Option Seat) → transaction_in (mapped f o) ≡ transaction_in o
+    cases : (o : Option Session) → transaction_in (mapped f o) ≡ transaction_in o
     cases None = refl
     cases (Some s) = (h s).1
 
 -- ---- replies
 
 -- a transaction's age is its moves'
-back-age : (m : Mid) (ws : List World) → (back_to m ws).age ≡ m.age
+back-age : (m : Mid) (ws : List Catalog) → (back_to m ws).age ≡ m.age
 back-age m [] = refl
 back-age m (w ∷ ws) = refl
 
@@ -136,9 +136,9 @@ is_made = answers (λ f r. kind_of r ≡ Made) (record { no_table = λ t. refl; 
 -- a step is heard: what the caller then knows is what the core then has, and so is the entry
 record IsHeard (σ : State) (n : ℕ) (k : Caller) (over : List ℕ) (a : Ask) (o : Outcome) : Type 0 where
   keeps : Keeps σ n (hears k a o.reply) o.state
-  entry : entry_told n over k a o.reply ≡ o.entry
-  queue : queue_told n k a o.reply σ.queue ≡ o.state.queue
-  next : next_told k a o.reply σ.next_age ≡ o.state.next_age
+  entry : entry_of_step n over k a o.reply ≡ o.entry
+  queue : queue_after_step n k a o.reply σ.queue ≡ o.state.queue
+  next : age_after_step k a o.reply σ.next_age ≡ o.state.next_age
 
 abbrev WaitsFor : State → ℕ → Caller → Option Queued → Type 0
 WaitsFor σ n k p = (q : Queued) → p ≡ Some q → k.queued ≡ Some q.operation
@@ -171,7 +171,7 @@ abbrev NoEntry : (Reply → Option Entry) → Option Reply → Type 0
 NoEntry f None = Unit {0}
 NoEntry f (Some r) = f r ≡ None
 
-parsed_none : (over : List ℕ) (c : Schema) (t : List ℕ) (p : Parsed) → NoEntry (schema_told over c) (bad_parse t p)
+parsed_none : (over : List ℕ) (c : Schema) (t : List ℕ) (p : Parsed) → NoEntry (schema_entry over c) (bad_parse t p)
 parsed_none over c t (Good d) = tt
 parsed_none over c t (Bad x) = refl
 
@@ -183,39 +183,39 @@ none_if : (f : Reply → Option Entry) (b : Bool) (r : Reply) → f r ≡ None �
 none_if f true r h = tt
 none_if f false r h = h
 
-schema_none : (over : List ℕ) (w : World) (c : Schema) → NoEntry (schema_told over c) (schema_refusal w c)
+schema_none : (over : List ℕ) (w : Catalog) (c : Schema) → NoEntry (schema_entry over c) (schema_refusal w c)
 schema_none over w (Create t os) = cases (find w t)
   where
-    cases : (x : Option Table) → NoEntry (schema_told over (Create t os)) (create_refusal t os x)
+    cases : (x : Option Table) → NoEntry (schema_entry over (Create t os)) (create_refusal t os x)
     cases (Some x) = refl
     cases None = parsed_none over (Create t os) t (parse_options t os)
 schema_none over w (Remove t) = cases (find w t)
   where
-    cases : (x : Option Table) → NoEntry (schema_told over (Remove t)) (remove_refusal t x)
+    cases : (x : Option Table) → NoEntry (schema_entry over (Remove t)) (remove_refusal t x)
     cases (Some x) = tt
     cases None = refl
 schema_none over w (AddIndex t a) = cases (find w t)
   where
-    cases : (x : Option Table) → NoEntry (schema_told over (AddIndex t a)) (add_refusal t a x)
+    cases : (x : Option Table) → NoEntry (schema_entry over (AddIndex t a)) (add_refusal t a x)
     cases None = refl
-    cases (Some x) = if_none (schema_told over (AddIndex t a)) (not (is_some_position (position x.def (term a))) || is_indexed x.def (position x.def (term a))) _ refl
+    cases (Some x) = if_none (schema_entry over (AddIndex t a)) (not (is_some_position (position x.def (term a))) || is_indexed x.def (position x.def (term a))) _ refl
 schema_none over w (DelIndex t a) = cases (find w t)
   where
-    cases : (x : Option Table) → NoEntry (schema_told over (DelIndex t a)) (del_refusal t a x)
+    cases : (x : Option Table) → NoEntry (schema_entry over (DelIndex t a)) (del_refusal t a x)
     cases None = refl
-    cases (Some x) = none_if (schema_told over (DelIndex t a)) (is_indexed x.def (position x.def (term a))) _ refl
+    cases (Some x) = none_if (schema_entry over (DelIndex t a)) (is_indexed x.def (position x.def (term a))) _ refl
 
-subscribe_none : (e : Entry) (σ : State) (s : Seat) (t : List ℕ) → NoEntry (done_told e) (subscribe_refusal σ s t)
+subscribe_none : (e : Entry) (σ : State) (s : Session) (t : List ℕ) → NoEntry (subscription_entry e) (subscribe_refusal σ s t)
 subscribe_none e σ s t = cases (is_some s.overflow) (is_some (find σ.tables t)) (is_some (level_in s.watching t))
   where
-    cases : (a b c : Bool) → NoEntry (done_told e) (if a then Some reply.OverflowUntold else (if not b then Some (reply.SubNoTable t) else (if c then Some (reply.AlreadySubscribed t) else None)))
+    cases : (a b c : Bool) → NoEntry (subscription_entry e) (if a then Some reply.OverflowUntold else (if not b then Some (reply.SubNoTable t) else (if c then Some (reply.AlreadySubscribed t) else None)))
     cases true b c = refl
     cases false false c = refl
     cases false true true = refl
     cases false true false = tt
 
 -- a joined session
-module _ (σ : State) (s : Seat) (k : Caller) (here : seat_at σ.seats s.number ≡ Some s) (waits : WaitsFor σ s.number k (request_in σ.queue s.number)) (aged : k.transaction.age < σ.next_age) (mine : Knows k s.transaction) where
+module _ (σ : State) (s : Session) (k : Caller) (here : session_at σ.sessions s.number ≡ Some s) (waits : WaitsFor σ s.number k (request_in σ.queue s.number)) (aged : k.transaction.age < σ.next_age) (mine : Knows k s.transaction) where
   mine_at : Knows k (transaction_at σ s.number)
   mine_at t e = mine t (sym (ap transaction_in here) ∙ e)
 
@@ -226,17 +226,17 @@ module _ (σ : State) (s : Seat) (k : Caller) (here : seat_at σ.seats s.number 
   Heard over a o = IsHeard σ s.number k over a o
 
   -- nothing is done
-  nothing_heard : (over : List ℕ) (a : Ask) (r : Reply) → hears k a r ≡ k → entry_told s.number over k a r ≡ None → queue_told s.number k a r σ.queue ≡ σ.queue → next_told k a r σ.next_age ≡ σ.next_age → Heard over a (nothing σ r)
+  nothing_heard : (over : List ℕ) (a : Ask) (r : Reply) → hears k a r ≡ k → entry_of_step s.number over k a r ≡ None → queue_after_step s.number k a r σ.queue ≡ σ.queue → age_after_step k a r σ.next_age ≡ σ.next_age → Heard over a (step_without_entry σ r)
   nothing_heard over a r h e q x = record { keeps = subst (λ (y : Caller). Keeps σ s.number y σ) (sym h) stay; entry = e; queue = q; next = x }
 
-  -- its seat and the queue change
-  seat_kept : (τ : State) (x : Seat) (k' : Caller) (p : Option Queued) → x.number ≡ s.number → τ.seats ≡ change σ.seats x → σ.next_age ≤ τ.next_age
+  -- its session and the queue change
+  session_kept : (τ : State) (x : Session) (k' : Caller) (p : Option Queued) → x.number ≡ s.number → τ.sessions ≡ with_changed σ.sessions x → σ.next_age ≤ τ.next_age
       → ((m : ℕ) → request_in τ.queue m ≡ (if m == s.number then p else request_in σ.queue m)) → WaitsFor σ s.number k' p
       → Knows k' x.transaction → k'.transaction.age < τ.next_age → Keeps σ s.number k' τ
-  seat_kept τ x k' p num seats later requests asked own below = record {
+  session_kept τ x k' p num sessions later requests asked own below = record {
     then_open = x.transaction;
     then_queued = p;
-    transactions = λ m. ap (λ (xs : List Seat). transaction_in (seat_at xs m)) seats ∙ changed_transactions σ.seats s x s.number here num m;
+    transactions = λ m. ap (λ (xs : List Session). transaction_in (session_at xs m)) sessions ∙ changed_transactions σ.sessions s x s.number here num m;
     requests = requests;
     own = own;
     asked = asked;
@@ -249,19 +249,19 @@ module _ (σ : State) (s : Seat) (k : Caller) (here : seat_at σ.seats s.number 
 
   -- a move is made
   made_kept : (qs : List Queued) (p : Option Queued) (t : Transaction) (x : Move) (r : Reply) → s.transaction ≡ Some t → ((m : ℕ) → request_in qs m ≡ (if m == s.number then p else request_in σ.queue m)) → WaitsFor σ s.number k p
-      → Keeps σ s.number (did k x (told (mid_of σ t) x)) (made (with_queue σ qs) s t x r).state
-  made_kept qs p t x r e requests asked = seat_kept (made (with_queue σ qs) s t x r).state (with_transaction s (after_move t x (told (mid_of σ t) x) (ends (mid_of σ t) x))) _ p refl refl (omega arith) requests asked (λ u. own u (ends (mid_of σ t) x)) aged
+      → Keeps σ s.number (caller_with_move k x (reply_to (mid_of σ t) x)) (make (with_queue σ qs) s t x r).state
+  made_kept qs p t x r e requests asked = session_kept (make (with_queue σ qs) s t x r).state (with_transaction s (after_move t x (reply_to (mid_of σ t) x) (ends_transaction (mid_of σ t) x))) _ p refl refl (omega arith) requests asked (λ u. own u (ends_transaction (mid_of σ t) x)) aged
     where
-      own : (u : Transaction) (b : Bool) → after_move t x (told (mid_of σ t) x) b ≡ Some u → (did k x (told (mid_of σ t) x)).transaction ≡ u
+      own : (u : Transaction) (b : Bool) → after_move t x (reply_to (mid_of σ t) x) b ≡ Some u → (caller_with_move k x (reply_to (mid_of σ t) x)).transaction ≡ u
       own u true h = cc
-      own u false h = let same : more t x (told (mid_of σ t) x) ≡ u = cc in ap (λ (v : Transaction). more v x (told (mid_of σ t) x)) (mine t e) ∙ same
+      own u false h = let same : with_move t x (reply_to (mid_of σ t) x) ≡ u = cc in ap (λ (v : Transaction). with_move v x (reply_to (mid_of σ t) x)) (mine t e) ∙ same
 
-  decided_heard : (over : List ℕ) (t : Transaction) (o : Operation) (a : Answer) → s.transaction ≡ Some t → is_waiting σ s.number ≡ false → Heard over (DoCommand (command.Do o)) (decided σ s t o a)
+  decided_heard : (over : List ℕ) (t : Transaction) (o : Operation) (a : Answer) → s.transaction ≡ Some t → is_waiting σ s.number ≡ false → Heard over (DoCommand (command.Do o)) (by_lock_answer σ s t o a)
   decided_heard over t o Granted e free = record {
-    keeps = subst (λ (z : AnswerKind). Keeps σ s.number (operated k o (made σ s t (Do o) reply.Done).reply z) (made σ s t (Do o) reply.Done).state) (sym (is_made (find (mid_of σ t).now (table_of o)) o))
+    keeps = subst (λ (z : AnswerKind). Keeps σ s.number (after_operation k o (make σ s t (Do o) reply.Done).reply z) (make σ s t (Do o) reply.Done).state) (sym (is_made (find (mid_of σ t).now (table_of o)) o))
         (made_kept σ.queue (request_in σ.queue s.number) t (Do o) reply.Done e same_requests waits);
     entry = refl;
-    queue = ap (λ (z : AnswerKind). queued_told s.number k o z σ.queue) (is_made (find (mid_of σ t).now (table_of o)) o);
+    queue = ap (λ (z : AnswerKind). queue_after_operation s.number k o z σ.queue) (is_made (find (mid_of σ t).now (table_of o)) o);
     next = refl;
   }
   decided_heard over t o Wait e free = record {
@@ -280,14 +280,14 @@ module _ (σ : State) (s : Seat) (k : Caller) (here : seat_at σ.seats s.number 
     next = refl;
   }
   decided_heard over t o Die e free = record {
-    keeps = seat_kept (decided σ s t o Die).state (with_transaction s (Some (emptied t))) (afresh k k.transaction.age) (request_in σ.queue s.number) refl refl (omega arith) same_requests waits
-        (λ u h. let same : emptied t ≡ u = cc in ap (λ (v : Transaction). emptied v) (mine t e) ∙ same) aged;
+    keeps = session_kept (by_lock_answer σ s t o Die).state (with_transaction s (Some (begun_anew t))) (caller_anew k k.transaction.age) (request_in σ.queue s.number) refl refl (omega arith) same_requests waits
+        (λ u h. let same : begun_anew t ≡ u = cc in ap (λ (v : Transaction). begun_anew v) (mine t e) ∙ same) aged;
     entry = refl;
     queue = refl;
     next = refl;
   }
 
-  within_heard : (over : List ℕ) (t : Transaction) (o : Operation) (b : Bool) → s.transaction ≡ Some t → is_waiting σ s.number ≡ false → Heard over (DoCommand (command.Do o)) (within σ s t o b)
+  within_heard : (over : List ℕ) (t : Transaction) (o : Operation) (b : Bool) → s.transaction ≡ Some t → is_waiting σ s.number ≡ false → Heard over (DoCommand (command.Do o)) (within_limit σ s t o b)
   within_heard over t o false e free = nothing_heard over (DoCommand (command.Do o)) _ refl refl refl refl
   within_heard over t o true e free = decided_heard over t o _ e free
 
@@ -295,22 +295,22 @@ module _ (σ : State) (s : Seat) (k : Caller) (here : seat_at σ.seats s.number 
   operate_heard over o None e free = nothing_heard over (DoCommand (command.Do o)) _ refl refl refl refl
   operate_heard over o (Some t) e free = within_heard over t o _ e free
 
-  retried_heard : (over : List ℕ) (t : Transaction) (q : Queued) (b : Bool) → s.transaction ≡ Some t → request_in σ.queue s.number ≡ Some q → Heard over Retry (core.retried σ s t q.operation b)
+  retried_heard : (over : List ℕ) (t : Transaction) (q : Queued) (b : Bool) → s.transaction ≡ Some t → request_in σ.queue s.number ≡ Some q → Heard over Retry (core.try_again σ s t q.operation b)
   retried_heard over t q false e asked = nothing_heard over Retry _ refl refl refl refl
   retried_heard over t q true e asked = record {
-    keeps = subst (λ (z : AnswerKind). Keeps σ s.number (retried k R z k.queued) τ) (sym (is_made (find (mid_of σ t).now (table_of q.operation)) q.operation))
-        (subst (λ (z : Option Operation). Keeps σ s.number (retried k R Made z) τ) (sym (waits q asked))
+    keeps = subst (λ (z : AnswerKind). Keeps σ s.number (after_answer k R z k.queued) τ) (sym (is_made (find (mid_of σ t).now (table_of q.operation)) q.operation))
+        (subst (λ (z : Option Operation). Keeps σ s.number (after_answer k R Made z) τ) (sym (waits q asked))
         (made_kept (without_request σ.queue s.number) None t (Do q.operation) reply.Done e (request_in-without σ.queue s.number) (λ p h. cc)));
     entry = refl;
-    queue = ap (λ (z : AnswerKind). answered_told s.number z σ.queue) (is_made (find (mid_of σ t).now (table_of q.operation)) q.operation) ∙ sym (without-filter σ.queue s.number);
+    queue = ap (λ (z : AnswerKind). queue_after_answer s.number z σ.queue) (is_made (find (mid_of σ t).now (table_of q.operation)) q.operation) ∙ sym (without-filter σ.queue s.number);
     next = refl;
   }
     where
       τ : State
-      τ = (core.retried σ s t q.operation true).state
+      τ = (core.try_again σ s t q.operation true).state
 
       R : Reply
-      R = (core.retried σ s t q.operation true).reply
+      R = (core.try_again σ s t q.operation true).reply
 
   retry_in_heard : (over : List ℕ) (q : Queued) (x : Option Transaction) → s.transaction ≡ x → request_in σ.queue s.number ≡ Some q → Heard over Retry (retry_in σ s q.operation x)
   retry_in_heard over q None e asked = nothing_heard over Retry _ refl refl refl refl
@@ -321,26 +321,26 @@ module _ (σ : State) (s : Seat) (k : Caller) (here : seat_at σ.seats s.number 
   retry_heard over (Some q) asked = retry_in_heard over q s.transaction refl asked
 
   -- an outermost begin is told the next age, which no transaction had
-  opened_kept : Keeps σ s.number (begun k (reply.Tid σ.next_age)) (opened σ s true).state
-  opened_kept = subst (λ (b : Bool). Keeps σ s.number (if b then did k Open (Some (reply.Tid σ.next_age)) else afresh k σ.next_age) (opened σ s true).state) (sym (below_differs k.transaction.age σ.next_age aged))
-      (seat_kept (opened σ s true).state (with_transaction s (Some (record { age = σ.next_age; moves = []; told = [] }))) (afresh k σ.next_age) (request_in σ.queue s.number) refl refl (omega arith) same_requests waits
+  opened_kept : Keeps σ s.number (after_begin k (reply.Tid σ.next_age)) (open_level_1 σ s true).state
+  opened_kept = subst (λ (b : Bool). Keeps σ s.number (if b then caller_with_move k Open (Some (reply.Tid σ.next_age)) else caller_anew k σ.next_age) (open_level_1 σ s true).state) (sym (below_differs k.transaction.age σ.next_age aged))
+      (session_kept (open_level_1 σ s true).state (with_transaction s (Some (record { age = σ.next_age; moves = []; told = [] }))) (caller_anew k σ.next_age) (request_in σ.queue s.number) refl refl (omega arith) same_requests waits
       (λ u h. cc) (omega arith))
 
-  open_heard : (over : List ℕ) (a : Ask) (b : Bool) → ((r : Reply) → hears k a r ≡ begun k r) → ((r : Reply) → entry_told s.number over k a r ≡ None) → ((r : Reply) → queue_told s.number k a r σ.queue ≡ σ.queue)
-      → ((r : Reply) → next_told k a r σ.next_age ≡ age_told k r σ.next_age) → Heard over a (opened σ s b)
+  open_heard : (over : List ℕ) (a : Ask) (b : Bool) → ((r : Reply) → hears k a r ≡ after_begin k r) → ((r : Reply) → entry_of_step s.number over k a r ≡ None) → ((r : Reply) → queue_after_step s.number k a r σ.queue ≡ σ.queue)
+      → ((r : Reply) → age_after_step k a r σ.next_age ≡ age_after_begin k r σ.next_age) → Heard over a (open_level_1 σ s b)
   open_heard over a false h e q x = nothing_heard over a _ (h (reply.SystemLimit limit.Ages)) (e (reply.SystemLimit limit.Ages)) (q (reply.SystemLimit limit.Ages)) (x (reply.SystemLimit limit.Ages))
   open_heard over a true h e q x = record {
-    keeps = subst (λ (y : Caller). Keeps σ s.number y (opened σ s true).state) (sym (h (reply.Tid σ.next_age))) opened_kept;
+    keeps = subst (λ (y : Caller). Keeps σ s.number y (open_level_1 σ s true).state) (sym (h (reply.Tid σ.next_age))) opened_kept;
     entry = e (reply.Tid σ.next_age);
     queue = q (reply.Tid σ.next_age);
     next = x (reply.Tid σ.next_age) ∙ ap (λ (b : Bool). if b then σ.next_age else σ.next_age + 1) (below_differs k.transaction.age σ.next_age aged);
   }
 
-  nested_heard : (over : List ℕ) (t : Transaction) (a b : Bool) → s.transaction ≡ Some t → Heard over (DoCommand command.Begin) (nested σ s t a b)
+  nested_heard : (over : List ℕ) (t : Transaction) (a b : Bool) → s.transaction ≡ Some t → Heard over (DoCommand command.Begin) (open_child σ s t a b)
   nested_heard over t false b e = nothing_heard over (DoCommand command.Begin) _ refl refl refl refl
   nested_heard over t true false e = nothing_heard over (DoCommand command.Begin) _ refl refl refl refl
   nested_heard over t true true e = record {
-    keeps = subst (λ (b : Bool). Keeps σ s.number (if b then did k Open (Some (reply.Tid (mid_of σ t).age)) else afresh k (mid_of σ t).age) (made σ s t Open reply.Done).state) (sym own_age)
+    keeps = subst (λ (b : Bool). Keeps σ s.number (if b then caller_with_move k Open (Some (reply.Tid (mid_of σ t).age)) else caller_anew k (mid_of σ t).age) (make σ s t Open reply.Done).state) (sym own_age)
         (made_kept σ.queue (request_in σ.queue s.number) t Open reply.Done e same_requests waits);
     entry = refl;
     queue = refl;
@@ -374,29 +374,29 @@ module _ (σ : State) (s : Seat) (k : Caller) (here : seat_at σ.seats s.number 
     keeps = record {
       then_open = None;
       then_queued = request_in σ.queue s.number;
-      transactions = λ m. mapped_transaction f same (change σ.seats (with_transaction s None)) m ∙ changed_transactions σ.seats s (with_transaction s None) s.number here refl m;
+      transactions = λ m. mapped_transaction f same (with_changed σ.sessions (with_transaction s None)) m ∙ changed_transactions σ.sessions s (with_transaction s None) s.number here refl m;
       requests = same_requests;
       own = λ u h. cc;
       asked = waits;
       aged = aged;
       later = omega arith;
     };
-    entry = ap (λ (v : Transaction). commit_told s.number over (record { transaction = v; queued = k.queued }) (reply.Atomic (σ.commits + 1))) (mine t e);
+    entry = ap (λ (v : Transaction). commit_entry s.number over (record { transaction = v; queued = k.queued }) (reply.Atomic (σ.commits + 1))) (mine t e);
     queue = refl;
     next = refl;
   }
     where
-      f : Seat → Seat
-      f x = given (σ.commits + 1) over (batch_to (σ.commits + 1) (events_now σ t) x) x
+      f : Session → Session
+      f x = after_put (σ.commits + 1) over (batch_to (σ.commits + 1) (events_now σ t) x) x
 
-      same : (x : Seat) → ((f x).number ≡ x.number) × ((f x).transaction ≡ x.transaction)
+      same : (x : Session) → ((f x).number ≡ x.number) × ((f x).transaction ≡ x.transaction)
       same x = given_same (σ.commits + 1) over (batch_to (σ.commits + 1) (events_now σ t) x) x
 
   commit_heard : (over : List ℕ) (x : Option Transaction) → s.transaction ≡ x → Heard over (DoCommand command.Commit) (commit σ over s x)
   commit_heard over None e = nothing_heard over (DoCommand command.Commit) _ refl refl refl refl
   commit_heard over (Some t) e = commit_at_heard over t _ e
 
-  schema_if_heard : (over : List ℕ) (c : Schema) (r : Option Reply) (busy room : Bool) → NoEntry (schema_told over c) r → Heard over (DoCommand (command.Schema c)) (schema_if σ over c r busy room)
+  schema_if_heard : (over : List ℕ) (c : Schema) (r : Option Reply) (busy room : Bool) → NoEntry (schema_entry over c) r → Heard over (DoCommand (command.Schema c)) (schema_if σ over c r busy room)
   schema_if_heard over c (Some r) busy room h = nothing_heard over (DoCommand (command.Schema c)) r refl h refl refl
   schema_if_heard over c None true room h = nothing_heard over (DoCommand (command.Schema c)) _ refl refl refl refl
   schema_if_heard over c None false false h = nothing_heard over (DoCommand (command.Schema c)) _ refl refl refl refl
@@ -404,7 +404,7 @@ module _ (σ : State) (s : Seat) (k : Caller) (here : seat_at σ.seats s.number 
     keeps = record {
       then_open = transaction_at σ s.number;
       then_queued = request_in σ.queue s.number;
-      transactions = λ m. mapped_transaction f same σ.seats m ∙ same_if (transaction_at σ) m s.number;
+      transactions = λ m. mapped_transaction f same σ.sessions m ∙ same_if (transaction_at σ) m s.number;
       requests = same_requests;
       own = mine_at;
       asked = waits;
@@ -416,36 +416,36 @@ module _ (σ : State) (s : Seat) (k : Caller) (here : seat_at σ.seats s.number 
     next = refl;
   }
     where
-      f : Seat → Seat
-      f x = given (σ.commits + 1) over (end_to (removed c) x) (unwatched (removed c) x)
+      f : Session → Session
+      f x = after_put (σ.commits + 1) over (end_to (removed_table c) x) (without_deleted (removed_table c) x)
 
-      same : (x : Seat) → ((f x).number ≡ x.number) × ((f x).transaction ≡ x.transaction)
-      same x = let a = given_same (σ.commits + 1) over (end_to (removed c) x) (unwatched (removed c) x) in let b = unwatched_same (removed c) x in (a.0 ∙ b.0, a.1 ∙ b.1)
+      same : (x : Session) → ((f x).number ≡ x.number) × ((f x).transaction ≡ x.transaction)
+      same x = let a = given_same (σ.commits + 1) over (end_to (removed_table c) x) (without_deleted (removed_table c) x) in let b = unwatched_same (removed_table c) x in (a.0 ∙ b.0, a.1 ∙ b.1)
 
   schema_heard : (over : List ℕ) (c : Schema) (x : Option Transaction) → Heard over (DoCommand (command.Schema c)) (schema σ over c x)
   schema_heard over c (Some t) = nothing_heard over (DoCommand (command.Schema c)) _ refl refl refl refl
   schema_heard over c None = schema_if_heard over c (schema_refusal σ.tables c) _ _ (schema_none over σ.tables c)
 
-  -- its seat has the same transaction
-  same_kept : (x : Seat) → x.number ≡ s.number → x.transaction ≡ s.transaction → (τ : State) → τ.seats ≡ change σ.seats x → τ.queue ≡ σ.queue → τ.next_age ≡ σ.next_age → Keeps σ s.number k τ
-  same_kept x num same τ seats queue next = seat_kept τ x k (request_in σ.queue s.number) num seats (omega (arith, next)) (λ m. ap (λ (qs : List Queued). request_in qs m) queue ∙ same_requests m) waits
+  -- its session has the same transaction
+  same_kept : (x : Session) → x.number ≡ s.number → x.transaction ≡ s.transaction → (τ : State) → τ.sessions ≡ with_changed σ.sessions x → τ.queue ≡ σ.queue → τ.next_age ≡ σ.next_age → Keeps σ s.number k τ
+  same_kept x num same τ sessions queue next = session_kept τ x k (request_in σ.queue s.number) num sessions (omega (arith, next)) (λ m. ap (λ (qs : List Queued). request_in qs m) queue ∙ same_requests m) waits
       (λ u h. mine u (sym same ∙ h)) (subst (λ (a : ℕ). k.transaction.age < a) (sym next) aged)
 
-  marked_heard : (over : List ℕ) (c : Command) (full : Bool) (ws : List Watch) (x : Item) (e : Entry) → ((r : Reply) → hears_command k c r ≡ k) → ((r : Reply) → command_told s.number over k c r ≡ done_told e r) → ((r : Reply) → queue_by_command s.number k c r σ.queue ≡ σ.queue) → ((r : Reply) → age_by_command k c r σ.next_age ≡ σ.next_age) → Heard over (DoCommand c) (marked σ full s ws x e)
+  marked_heard : (over : List ℕ) (c : Command) (full : Bool) (ws : List Watch) (x : Item) (e : Entry) → ((r : Reply) → hears_command k c r ≡ k) → ((r : Reply) → entry_of_command s.number over k c r ≡ subscription_entry e r) → ((r : Reply) → queue_after_command s.number k c r σ.queue ≡ σ.queue) → ((r : Reply) → age_after_command k c r σ.next_age ≡ σ.next_age) → Heard over (DoCommand c) (put_marker σ full s ws x e)
   marked_heard over c true ws x e h g q y = record {
-    keeps = subst (λ (y : Caller). Keeps σ s.number y (marked σ true s ws x e).state) (sym (h reply.OutboxFull)) (same_kept _ refl refl (marked σ true s ws x e).state refl refl refl);
+    keeps = subst (λ (y : Caller). Keeps σ s.number y (put_marker σ true s ws x e).state) (sym (h reply.OutboxFull)) (same_kept _ refl refl (put_marker σ true s ws x e).state refl refl refl);
     entry = g reply.OutboxFull;
     queue = q reply.OutboxFull;
     next = y reply.OutboxFull;
   }
   marked_heard over c false ws x e h g q y = record {
-    keeps = subst (λ (y : Caller). Keeps σ s.number y (marked σ false s ws x e).state) (sym (h reply.SubscribedHere)) (same_kept _ refl refl (marked σ false s ws x e).state refl refl refl);
+    keeps = subst (λ (y : Caller). Keeps σ s.number y (put_marker σ false s ws x e).state) (sym (h reply.SubscribedHere)) (same_kept _ refl refl (put_marker σ false s ws x e).state refl refl refl);
     entry = g reply.SubscribedHere;
     queue = q reply.SubscribedHere;
     next = y reply.SubscribedHere;
   }
 
-  subscribe_heard : (over : List ℕ) (t : List ℕ) (l : Level) (dump : Bool) (r : Option Reply) → NoEntry (done_told (Subscribed s.number t l dump)) r → Heard over (DoCommand (command.Subscribe t l dump)) (subscribe σ over s t l dump r)
+  subscribe_heard : (over : List ℕ) (t : List ℕ) (l : Level) (dump : Bool) (r : Option Reply) → NoEntry (subscription_entry (Subscribed s.number t l dump)) r → Heard over (DoCommand (command.Subscribe t l dump)) (subscribe σ over s t l dump r)
   subscribe_heard over t l dump (Some r) h = nothing_heard over (DoCommand (command.Subscribe t l dump)) r refl h refl refl
   subscribe_heard over t l dump None h = marked_heard over (command.Subscribe t l dump) _ _ _ (Subscribed s.number t l dump) (λ r. refl) (λ r. refl) (λ r. refl) (λ r. refl)
 
@@ -465,7 +465,7 @@ module _ (σ : State) (s : Seat) (k : Caller) (here : seat_at σ.seats s.number 
   do_heard over (command.OneShot parts retries) free = one_shot_heard over parts retries s.transaction
 
   -- who waits is told so of every other command
-  waiting_now : (over : List ℕ) (c : Command) → (hears_command k c reply.WaitingNow ≡ k) × (command_told s.number over k c reply.WaitingNow ≡ None) × (queue_by_command s.number k c reply.WaitingNow σ.queue ≡ σ.queue) × (age_by_command k c reply.WaitingNow σ.next_age ≡ σ.next_age)
+  waiting_now : (over : List ℕ) (c : Command) → (hears_command k c reply.WaitingNow ≡ k) × (entry_of_command s.number over k c reply.WaitingNow ≡ None) × (queue_after_command s.number k c reply.WaitingNow σ.queue ≡ σ.queue) × (age_after_command k c reply.WaitingNow σ.next_age ≡ σ.next_age)
   waiting_now over (command.Schema c) = (refl, refl, refl, refl)
   waiting_now over (command.TableInfo t i) = (refl, refl, refl, refl)
   waiting_now over command.Begin = (refl, refl, refl, refl)
@@ -490,7 +490,7 @@ module _ (σ : State) (s : Seat) (k : Caller) (here : seat_at σ.seats s.number 
     keeps = record {
       then_open = None;
       then_queued = None;
-      transactions = λ m. ap transaction_in (seat_at-without σ.seats s.number m) ∙ transaction_if (m == s.number) None (seat_at σ.seats m);
+      transactions = λ m. ap transaction_in (session_at-without σ.sessions s.number m) ∙ transaction_if (m == s.number) None (session_at σ.sessions m);
       requests = request_in-without σ.queue s.number;
       own = λ u h. cc;
       asked = λ q h. cc;
@@ -502,7 +502,7 @@ module _ (σ : State) (s : Seat) (k : Caller) (here : seat_at σ.seats s.number 
     next = refl;
   }
 
-  seated_heard : (over : List ℕ) (a : Ask) → Heard over a (seated σ over s a)
+  seated_heard : (over : List ℕ) (a : Ask) → Heard over a (step_of_joined σ over s a)
   seated_heard over (Join b) = nothing_heard over (Join b) _ refl refl refl refl
   seated_heard over Leave = leave_heard over
   seated_heard over Retry = retry_heard over _ refl
@@ -510,11 +510,11 @@ module _ (σ : State) (s : Seat) (k : Caller) (here : seat_at σ.seats s.number 
   seated_heard over (DoCommand c) = command_heard over c _ refl
 
 -- one that is not joined
-module _ (σ : State) (n : ℕ) (k : Caller) (none : seat_at σ.seats n ≡ None) (waits : WaitsFor σ n k (request_in σ.queue n)) (aged : k.transaction.age < σ.next_age) where
+module _ (σ : State) (n : ℕ) (k : Caller) (none : session_at σ.sessions n ≡ None) (waits : WaitsFor σ n k (request_in σ.queue n)) (aged : k.transaction.age < σ.next_age) where
   absent : Keeps σ n k σ
   absent = kept σ n k waits aged (λ t h. let gone : transaction_at σ n ≡ None = ap transaction_in none in cc)
 
-  refused_heard : (over : List ℕ) (a : Ask) (r : Reply) → hears k a r ≡ k → entry_told n over k a r ≡ None → queue_told n k a r σ.queue ≡ σ.queue → next_told k a r σ.next_age ≡ σ.next_age → IsHeard σ n k over a (nothing σ r)
+  refused_heard : (over : List ℕ) (a : Ask) (r : Reply) → hears k a r ≡ k → entry_of_step n over k a r ≡ None → queue_after_step n k a r σ.queue ≡ σ.queue → age_after_step k a r σ.next_age ≡ σ.next_age → IsHeard σ n k over a (step_without_entry σ r)
   refused_heard over a r h e q x = record { keeps = subst (λ (y : Caller). Keeps σ n y σ) (sym h) absent; entry = e; queue = q; next = x }
 
   join_heard : (over : List ℕ) (b : Outbox) (above room : Bool) → IsHeard σ n k over (Join b) (join σ n b above room)
@@ -524,7 +524,7 @@ module _ (σ : State) (n : ℕ) (k : Caller) (none : seat_at σ.seats n ≡ None
     keeps = record {
       then_open = None;
       then_queued = request_in σ.queue n;
-      transactions = λ m. ap transaction_in (seat_at-push σ.seats (fresh n b) m none) ∙ transaction_if (m == n) (Some (fresh n b)) (seat_at σ.seats m);
+      transactions = λ m. ap transaction_in (session_at-push σ.sessions (fresh n b) m none) ∙ transaction_if (m == n) (Some (fresh n b)) (session_at σ.sessions m);
       requests = λ m. same_if (request_in σ.queue) m n;
       own = λ u h. cc;
       asked = waits;
@@ -536,7 +536,7 @@ module _ (σ : State) (n : ℕ) (k : Caller) (none : seat_at σ.seats n ≡ None
     next = refl;
   }
 
-  bad_session : (over : List ℕ) (c : Command) → (hears_command k c reply.BadSession ≡ k) × (command_told n over k c reply.BadSession ≡ None) × (queue_by_command n k c reply.BadSession σ.queue ≡ σ.queue) × (age_by_command k c reply.BadSession σ.next_age ≡ σ.next_age)
+  bad_session : (over : List ℕ) (c : Command) → (hears_command k c reply.BadSession ≡ k) × (entry_of_command n over k c reply.BadSession ≡ None) × (queue_after_command n k c reply.BadSession σ.queue ≡ σ.queue) × (age_after_command k c reply.BadSession σ.next_age ≡ σ.next_age)
   bad_session over (command.Schema c) = (refl, refl, refl, refl)
   bad_session over (command.TableInfo t i) = (refl, refl, refl, refl)
   bad_session over command.Begin = (refl, refl, refl, refl)
@@ -547,7 +547,7 @@ module _ (σ : State) (n : ℕ) (k : Caller) (none : seat_at σ.seats n ≡ None
   bad_session over (command.Unsubscribe t l) = (refl, refl, refl, refl)
   bad_session over (command.OneShot parts retries) = (refl, refl, refl, refl)
 
-  unseated_heard : (over : List ℕ) (a : Ask) → IsHeard σ n k over a (unseated σ n a)
+  unseated_heard : (over : List ℕ) (a : Ask) → IsHeard σ n k over a (step_of_stranger σ n a)
   unseated_heard over (Join b) = join_heard over b _ _
   unseated_heard over Leave = refused_heard over Leave _ refl refl refl refl
   unseated_heard over Retry = refused_heard over Retry _ refl refl refl refl
@@ -558,35 +558,35 @@ module _ (σ : State) (n : ℕ) (k : Caller) (none : seat_at σ.seats n ≡ None
 
 step_is_heard : (σ : State) (over : List ℕ) (n : ℕ) (a : Ask) (ks : Callers) → AreHeard σ ks → IsHeard σ n (ks n) over a (outcome σ over n a)
 unfolding outcome
-step_is_heard σ over n a ks heard = cases (seat_at σ.seats n) refl
+step_is_heard σ over n a ks heard = cases (session_at σ.sessions n) refl
   where
-    at_seat : (s : Seat) (m : ℕ) → s.number ≡ m → seat_at σ.seats m ≡ Some s → IsHeard σ s.number (ks s.number) over a (seated σ over s a)
-    at_seat s m num here =
-        let own : seat_at σ.seats s.number ≡ Some s = ap (seat_at σ.seats) num ∙ here in
+    at_session : (s : Session) (m : ℕ) → s.number ≡ m → session_at σ.sessions m ≡ Some s → IsHeard σ s.number (ks s.number) over a (step_of_joined σ over s a)
+    at_session s m num here =
+        let own : session_at σ.sessions s.number ≡ Some s = ap (session_at σ.sessions) num ∙ here in
         seated_heard σ s (ks s.number) own (λ q e. heard.waits s.number q e) (heard.aged s.number) (λ t e. heard.known s.number t (ap transaction_in own ∙ e)) over a
 
-    cases : (o : Option Seat) → seat_at σ.seats n ≡ o → IsHeard σ n (ks n) over a (by_seat σ over n a o)
+    cases : (o : Option Session) → session_at σ.sessions n ≡ o → IsHeard σ n (ks n) over a (step_of σ over n a o)
     cases None none = unseated_heard σ n (ks n) none (λ q e. heard.waits n q e) (heard.aged n) over a
-    cases (Some s) here = subst (λ (m : ℕ). IsHeard σ m (ks m) over a (seated σ over s a)) (found σ.seats s n here) (at_seat s n (found σ.seats s n here) here)
+    cases (Some s) here = subst (λ (m : ℕ). IsHeard σ m (ks m) over a (step_of_joined σ over s a)) (found σ.sessions s n here) (at_session s n (found σ.sessions s n here) here)
 
 -- each step keeps callers' knowledge right, and its entry is the one that they tell
-pub step_heard : (σ : State) (ks : Callers) (c : Call) → AreHeard σ ks → AreHeard (outcome_of σ c).state (told_one ks c (outcome_of σ c).reply) × (entry_told c.session c.over (ks c.session) c.ask (outcome_of σ c).reply ≡ (outcome_of σ c).entry)
+pub step_heard : (σ : State) (ks : Callers) (c : Call) → AreHeard σ ks → AreHeard (outcome_of σ c).state (callers_after_one ks c (outcome_of σ c).reply) × (entry_of_step c.session c.over (ks c.session) c.ask (outcome_of σ c).reply ≡ (outcome_of σ c).entry)
 step_heard σ ks c heard =
     let h = step_is_heard σ c.over c.session c.ask ks heard in
     (keeps_heard σ (outcome_of σ c).state c.session _ ks heard h.keeps, h.entry)
 
-pub run_heard : (σ : State) (ks : Callers) (calls : List Call) → AreHeard σ ks → AreHeard (after_all σ calls) (callers_after ks calls (replies_of σ calls)) × (log_of σ calls ≡ log_told ks calls (replies_of σ calls))
+pub run_heard : (σ : State) (ks : Callers) (calls : List Call) → AreHeard σ ks → AreHeard (after_all σ calls) (callers_after ks calls (replies_of σ calls)) × (log_of σ calls ≡ log_of_replies ks calls (replies_of σ calls))
 run_heard σ ks [] heard = (heard, refl)
 run_heard σ ks (c ∷ calls) heard =
     let h = step_heard σ ks c heard in
-    let rest = run_heard (outcome_of σ c).state (told_one ks c (outcome_of σ c).reply) calls h.0 in
+    let rest = run_heard (outcome_of σ c).state (callers_after_one ks c (outcome_of σ c).reply) calls h.0 in
     (rest.0, λ i. entries (sym h.1 i) ++ rest.1 i)
 
 pub new_heard : (limits : Limits) → AreHeard (new limits) newcomers
 new_heard limits = record { known = λ n t e. cc; waits = λ n q e. cc; aged = λ n. omega arith }
 
 -- for every schedule the log is the one that its callers tell
-pub schedule_log : (limits : Limits) (calls : List Call) → log_of (new limits) calls ≡ log_told newcomers calls (replies_of (new limits) calls)
+pub schedule_log : (limits : Limits) (calls : List Call) → log_of (new limits) calls ≡ log_of_replies newcomers calls (replies_of (new limits) calls)
 schedule_log limits calls = (run_heard (new limits) newcomers calls (new_heard limits)).1
 
 -- and each open transaction is what its caller knows
@@ -601,14 +601,14 @@ schedule_queued limits calls n q e = (run_heard (new limits) newcomers calls (ne
 run_queue : (σ : State) (ks : Callers) (calls : List Call) → AreHeard σ ks → (after_all σ calls).queue ≡ queue_after ks σ.queue calls (replies_of σ calls)
 run_queue σ ks [] heard = refl
 run_queue σ ks (c ∷ calls) heard =
-    run_queue (outcome_of σ c).state (told_one ks c (outcome_of σ c).reply) calls (step_heard σ ks c heard).0
-    ∙ ap (λ qs. queue_after (told_one ks c (outcome_of σ c).reply) qs calls (replies_of (outcome_of σ c).state calls)) (sym (step_is_heard σ c.over c.session c.ask ks heard).queue)
+    run_queue (outcome_of σ c).state (callers_after_one ks c (outcome_of σ c).reply) calls (step_heard σ ks c heard).0
+    ∙ ap (λ qs. queue_after (callers_after_one ks c (outcome_of σ c).reply) qs calls (replies_of (outcome_of σ c).state calls)) (sym (step_is_heard σ c.over c.session c.ask ks heard).queue)
 
 run_next : (σ : State) (ks : Callers) (calls : List Call) → AreHeard σ ks → (after_all σ calls).next_age ≡ next_after ks σ.next_age calls (replies_of σ calls)
 run_next σ ks [] heard = refl
 run_next σ ks (c ∷ calls) heard =
-    run_next (outcome_of σ c).state (told_one ks c (outcome_of σ c).reply) calls (step_heard σ ks c heard).0
-    ∙ ap (λ a. next_after (told_one ks c (outcome_of σ c).reply) a calls (replies_of (outcome_of σ c).state calls)) (sym (step_is_heard σ c.over c.session c.ask ks heard).next)
+    run_next (outcome_of σ c).state (callers_after_one ks c (outcome_of σ c).reply) calls (step_heard σ ks c heard).0
+    ∙ ap (λ a. next_after (callers_after_one ks c (outcome_of σ c).reply) a calls (replies_of (outcome_of σ c).state calls)) (sym (step_is_heard σ c.over c.session c.ask ks heard).next)
 
 pub schedule_queue : (limits : Limits) (calls : List Call) → (after_all (new limits) calls).queue ≡ queue_after newcomers [] calls (replies_of (new limits) calls)
 schedule_queue limits calls = run_queue (new limits) newcomers calls (new_heard limits)
@@ -617,7 +617,7 @@ pub schedule_next : (limits : Limits) (calls : List Call) → (after_all (new li
 schedule_next limits calls = run_next (new limits) newcomers calls (new_heard limits)
 
 -- what callers were told is legal
-pub schedule_heard_legal : (limits : Limits) (calls : List Call) → AllJoinEmpty calls → IsLegal [] 0 (log_told newcomers calls (replies_of (new limits) calls))
+pub schedule_heard_legal : (limits : Limits) (calls : List Call) → AllJoinEmpty calls → IsLegal [] 0 (log_of_replies newcomers calls (replies_of (new limits) calls))
 schedule_heard_legal limits calls empty = subst (λ (log : List Entry). IsLegal [] 0 log) (schedule_log limits calls) (schedule_legal limits calls empty)
 
 -- and right on the tables as they are, in each open transaction
@@ -625,4 +625,4 @@ pub schedule_heard_told : (limits : Limits) (calls : List Call) (n : ℕ) (t : T
     → let k = (callers_after newcomers calls (replies_of (new limits) calls) n).transaction in replies (start (after_all (new limits) calls).tables k.age) k.moves ≡ k.told
 schedule_heard_told limits calls n t e =
     subst (λ (v : Transaction). replies (start (after_all (new limits) calls).tables v.age) v.moves ≡ v.told) (sym (schedule_open limits calls n t e))
-    (subst (λ (o : Option Transaction). replies (start (after_all (new limits) calls).tables (age_in o)) (moves_in o) ≡ told_in_transaction o) e (schedule_told limits calls n))
+    (subst (λ (o : Option Transaction). replies (start (after_all (new limits) calls).tables (age_in o)) (moves_in o) ≡ replies_in o) e (schedule_told limits calls n))

@@ -14,40 +14,40 @@ use Rattle.tab_model.specs.declared.data.Entry.TheVariants.{Subscribed, Unsubscr
 use Rattle.tab_model.specs.declared.data.Schema.{Schema}
 use Rattle.tab_model.specs.declared.data.Command.{Command}
 use Rattle.tab_model.specs.declared.data.Command.TheVariants as command
-use Rattle.tab_model.specs.Worlds.{find}
+use Rattle.tab_model.specs.Catalogs.{find}
 use Rattle.tab_model.specs.Ages.{Answer, Granted, Wait, Die}
-use Rattle.tab_model.specs.Schemas.{removed}
+use Rattle.tab_model.specs.Schemas.{removed_table}
 use Rattle.tab_model.specs.Log.{has_session, commits_from}
-use Rattle.tab_model.specs.State.{Transaction, Outbox, Watch, Seat, Queued, State, new, seat_at, level_in}
-use Rattle.tab_model.specs.Outcome.{Ask, Join, Leave, Retry, Take, DoCommand, Outcome, outcome, nothing, with_transaction, change, overflowed, pushed, made, decided, within, operate, retried, retry_in, retry, opened, nested, begin, one_shot, abort, given, batch_to, end_to, unwatched, commit_at, commit, events_now, schema_if, schema, marked, subscribe_refusal, subscribe, unsubscribe, do_command, command_if, give, leave, seated, fresh, join, unseated, by_seat}
+use Rattle.tab_model.specs.State.{Transaction, Outbox, Watch, Session, Queued, State, new, session_at, level_in}
+use Rattle.tab_model.specs.Outcome.{Ask, Join, Leave, Retry, Take, DoCommand, Outcome, outcome, step_without_entry, with_transaction, with_changed, after_overflow, with_items, make, by_lock_answer, within_limit, operate, try_again, retry_in, retry, open_level_1, open_child, begin, one_shot, abort, after_put, batch_to, end_to, without_deleted, commit_at, commit, events_now, schema_if, schema, put_marker, subscribe_refusal, subscribe, unsubscribe, do_command, command_if, give, leave, step_of_joined, fresh, join, step_of_stranger, step_of}
 use Rattle.tab_model.specs.Run.{Call, outcome_of, after_all, entries, replies_of}
-use Rattle.tab_model.specs.Callers.{Callers, newcomers, Post, no_post, overflowing, post_by_entry, post_marked, post_by_command, post_by_answer, post_told, told_one, told_entry, post_after, AreHeard}
-use Rattle.tab_model.proofs.Seats.{eq_true, found, seat_at-change, seat_at-push, seat_at-without, seat_at-map, mapped_some}
+use Rattle.tab_model.specs.Callers.{Callers, newcomers, Post, no_post, with_overflow, post_after_entry, post_after_marker, post_after_command, post_after_answer, post_after_step, callers_after_one, entry_of_call, post_after, AreHeard}
+use Rattle.tab_model.proofs.SessionLists.{eq_true, found, session_at-change, session_at-push, session_at-without, session_at-map, mapped_some}
 use Rattle.tab_model.proofs.SoundSteps.{given_same, unwatched_same}
 use Rattle.tab_model.proofs.CallersLemmas.{new_heard, step_heard}
 
-abbrev post_of : Seat → Post
+abbrev post_of : Session → Post
 post_of s = record { refusals = s.outbox.refusals; overflow = s.overflow }
 
 -- a joined session's post is this one
-abbrev HasPost : List Seat → ℕ → Post → Type 0
-HasPost seats n p = (x : Seat) → seat_at seats n ≡ Some x → post_of x ≡ p
+abbrev HasPost : List Session → ℕ → Post → Type 0
+HasPost sessions n p = (x : Session) → session_at sessions n ≡ Some x → post_of x ≡ p
 
 -- a step leaves each post as callers tell
 record IsPosted (σ : State) (m : ℕ) (a : Ask) (o : Outcome) : Type 0 where
   commits : o.state.commits ≡ commits_from σ.commits (entries o.entry)
-  posts : (n : ℕ) (p : Post) → HasPost σ.seats n p → HasPost o.state.seats n (post_told n σ.commits m a o.reply o.entry p)
+  posts : (n : ℕ) (p : Post) → HasPost σ.sessions n p → HasPost o.state.sessions n (post_after_step n σ.commits m a o.reply o.entry p)
 
 -- an entry that no post refuses
 abbrev Quiet : ℕ → Option Entry → Type 0
-Quiet commits e = (n : ℕ) (p : Post) → post_by_entry n commits e p ≡ p
+Quiet commits e = (n : ℕ) (p : Post) → post_after_entry n commits e p ≡ p
 
 -- an answer that tells nothing of its session's post
 abbrev TellsNothing : Ask → Reply → Type 0
-TellsNothing a r = (p : Post) → post_by_answer a r p ≡ p
+TellsNothing a r = (p : Post) → post_after_answer a r p ≡ p
 
 -- of a command only a refused mark tells something
-other_answer : (c : Command) (r : Reply) → ((p : Post) → post_marked r p ≡ p) → TellsNothing (DoCommand c) r
+other_answer : (c : Command) (r : Reply) → ((p : Post) → post_after_marker r p ≡ p) → TellsNothing (DoCommand c) r
 other_answer (command.Schema c) r h p = refl
 other_answer (command.TableInfo t i) r h p = refl
 other_answer command.Begin r h p = refl
@@ -62,59 +62,59 @@ if_same : {A : Type 0} (b : Bool) (x y : A) → x ≡ y → (if b then x else y)
 if_same true x y e = e
 if_same false x y e = refl
 
--- the seats stay
-stays_posted : (σ : State) (m : ℕ) (a : Ask) (o : Outcome) → o.state.seats ≡ σ.seats → o.state.commits ≡ σ.commits → o.entry ≡ None → TellsNothing a o.reply → IsPosted σ m a o
-stays_posted σ m a o seats commits none calm = record {
+-- the sessions stay
+stays_posted : (σ : State) (m : ℕ) (a : Ask) (o : Outcome) → o.state.sessions ≡ σ.sessions → o.state.commits ≡ σ.commits → o.entry ≡ None → TellsNothing a o.reply → IsPosted σ m a o
+stays_posted σ m a o sessions commits none calm = record {
   commits = commits ∙ ap (λ e. commits_from σ.commits (entries e)) (sym none);
-  posts = λ n p has x e. has x (ap (λ xs. seat_at xs n) (sym seats) ∙ e) ∙ sym (if_same (n == m) _ p (calm p)) ∙ ap (λ z. post_by_entry n σ.commits z (if n == m then post_by_answer a o.reply p else p)) (sym none);
+  posts = λ n p has x e. has x (ap (λ xs. session_at xs n) (sym sessions) ∙ e) ∙ sym (if_same (n == m) _ p (calm p)) ∙ ap (λ z. post_after_entry n σ.commits z (if n == m then post_after_answer a o.reply p else p)) (sym none);
 }
 
-nothing_posted : (σ : State) (m : ℕ) (a : Ask) (r : Reply) → TellsNothing a r → IsPosted σ m a (nothing σ r)
-nothing_posted σ m a r calm = stays_posted σ m a (nothing σ r) refl refl refl calm
+nothing_posted : (σ : State) (m : ℕ) (a : Ask) (r : Reply) → TellsNothing a r → IsPosted σ m a (step_without_entry σ r)
+nothing_posted σ m a r calm = stays_posted σ m a (step_without_entry σ r) refl refl refl calm
 
 -- an item that a post is handed, and may refuse
-given_post : (n commits : ℕ) (over : List ℕ) (items : List Item) (x : Seat) → x.number ≡ n → post_of (given commits over items x) ≡ (if has_session over n then overflowing commits (post_of x) else post_of x)
-given_post n commits over items x num = cases (has_session over x.number) ∙ ap (λ k. if has_session over k then overflowing commits (post_of x) else post_of x) num
+given_post : (n commits : ℕ) (over : List ℕ) (items : List Item) (x : Session) → x.number ≡ n → post_of (after_put commits over items x) ≡ (if has_session over n then with_overflow commits (post_of x) else post_of x)
+given_post n commits over items x num = cases (has_session over x.number) ∙ ap (λ k. if has_session over k then with_overflow commits (post_of x) else post_of x) num
   where
-    cases : (b : Bool) → post_of (if b then overflowed commits x else record x { outbox = pushed x.outbox items }) ≡ (if b then overflowing commits (post_of x) else post_of x)
+    cases : (b : Bool) → post_of (if b then after_overflow commits x else record x { outbox = with_items x.outbox items }) ≡ (if b then with_overflow commits (post_of x) else post_of x)
     cases true = refl
     cases false = refl
 
-unwatched_post : (t : Option (List ℕ)) (x : Seat) → post_of (unwatched t x) ≡ post_of x
+unwatched_post : (t : Option (List ℕ)) (x : Session) → post_of (without_deleted t x) ≡ post_of x
 unwatched_post None x = refl
 unwatched_post (Some t) x = refl
 
 -- posts by their number through a map
-mapped_posts : (f : Seat → Seat) → ((x : Seat) → (f x).number ≡ x.number) → (g : Post → Post) (seats : List Seat) (n : ℕ) → ((x : Seat) → x.number ≡ n → post_of (f x) ≡ g (post_of x)) → (p : Post) → HasPost seats n p → HasPost (map f seats) n (g p)
-mapped_posts f number g seats n same p has x e =
-    let y = mapped_some f (seat_at seats n) x (sym (seat_at-map f number seats n) ∙ e) in
-    ap post_of (sym y.2) ∙ same y.0 (found seats y.0 n y.1) ∙ ap g (has y.0 y.1)
+mapped_posts : (f : Session → Session) → ((x : Session) → (f x).number ≡ x.number) → (g : Post → Post) (sessions : List Session) (n : ℕ) → ((x : Session) → x.number ≡ n → post_of (f x) ≡ g (post_of x)) → (p : Post) → HasPost sessions n p → HasPost (map f sessions) n (g p)
+mapped_posts f number g sessions n same p has x e =
+    let y = mapped_some f (session_at sessions n) x (sym (session_at-map f number sessions n) ∙ e) in
+    ap post_of (sym y.2) ∙ same y.0 (found sessions y.0 n y.1) ∙ ap g (has y.0 y.1)
 
 -- a joined session's step
-module _ (σ : State) (s : Seat) (here : seat_at σ.seats s.number ≡ Some s) where
+module _ (σ : State) (s : Session) (here : session_at σ.sessions s.number ≡ Some s) where
   abbrev Posted : Ask → Outcome → Type 0
   Posted a o = IsPosted σ s.number a o
 
-  changed_posts : (x : Seat) (g : Post → Post) → x.number ≡ s.number → post_of x ≡ g (post_of s) → (n : ℕ) (p : Post) → HasPost σ.seats n p → HasPost (change σ.seats x) n (if n == s.number then g p else p)
-  changed_posts x g num own n p has y e = cases (n == s.number) refl (sym (seat_at-change σ.seats x s n (ap (seat_at σ.seats) num ∙ here) ∙ ap (λ k. if n == k then Some x else seat_at σ.seats n) num) ∙ e)
+  changed_posts : (x : Session) (g : Post → Post) → x.number ≡ s.number → post_of x ≡ g (post_of s) → (n : ℕ) (p : Post) → HasPost σ.sessions n p → HasPost (with_changed σ.sessions x) n (if n == s.number then g p else p)
+  changed_posts x g num own n p has y e = cases (n == s.number) refl (sym (session_at-change σ.sessions x s n (ap (session_at σ.sessions) num ∙ here) ∙ ap (λ k. if n == k then Some x else session_at σ.sessions n) num) ∙ e)
     where
-      cases : (b : Bool) → (n == s.number) ≡ b → (if b then Some x else seat_at σ.seats n) ≡ Some y → post_of y ≡ (if b then g p else p)
-      cases true k h = let same : x ≡ y = cc in ap post_of (sym same) ∙ own ∙ ap g (has s (ap (seat_at σ.seats) (eq_true n s.number k) ∙ here))
+      cases : (b : Bool) → (n == s.number) ≡ b → (if b then Some x else session_at σ.sessions n) ≡ Some y → post_of y ≡ (if b then g p else p)
+      cases true k h = let same : x ≡ y = cc in ap post_of (sym same) ∙ own ∙ ap g (has s (ap (session_at σ.sessions) (eq_true n s.number k) ∙ here))
       cases false k h = has y h
 
-  -- its seat changes
-  own_posted : (a : Ask) (o : Outcome) (x : Seat) → o.state.seats ≡ change σ.seats x → x.number ≡ s.number → post_of x ≡ post_by_answer a o.reply (post_of s) → o.state.commits ≡ commits_from σ.commits (entries o.entry) → Quiet σ.commits o.entry → Posted a o
-  own_posted a o x seats num own commits quiet = record {
+  -- its session changes
+  own_posted : (a : Ask) (o : Outcome) (x : Session) → o.state.sessions ≡ with_changed σ.sessions x → x.number ≡ s.number → post_of x ≡ post_after_answer a o.reply (post_of s) → o.state.commits ≡ commits_from σ.commits (entries o.entry) → Quiet σ.commits o.entry → Posted a o
+  own_posted a o x sessions num own commits quiet = record {
     commits = commits;
-    posts = λ n p has y e. changed_posts x (post_by_answer a o.reply) num own n p has y (ap (λ xs. seat_at xs n) (sym seats) ∙ e) ∙ sym (quiet n _);
+    posts = λ n p has y e. changed_posts x (post_after_answer a o.reply) num own n p has y (ap (λ xs. session_at xs n) (sym sessions) ∙ e) ∙ sym (quiet n _);
   }
 
-  decided_posted : (t : Transaction) (o : Operation) (a : Answer) → Posted (DoCommand (command.Do o)) (decided σ s t o a)
-  decided_posted t o Granted = own_posted _ (made σ s t (Do o) reply.Done) _ refl refl refl refl (λ n p. refl)
-  decided_posted t o Wait = stays_posted σ s.number _ (decided σ s t o Wait) refl refl refl (λ p. refl)
-  decided_posted t o Die = own_posted _ (decided σ s t o Die) _ refl refl refl refl (λ n p. refl)
+  decided_posted : (t : Transaction) (o : Operation) (a : Answer) → Posted (DoCommand (command.Do o)) (by_lock_answer σ s t o a)
+  decided_posted t o Granted = own_posted _ (make σ s t (Do o) reply.Done) _ refl refl refl refl (λ n p. refl)
+  decided_posted t o Wait = stays_posted σ s.number _ (by_lock_answer σ s t o Wait) refl refl refl (λ p. refl)
+  decided_posted t o Die = own_posted _ (by_lock_answer σ s t o Die) _ refl refl refl refl (λ n p. refl)
 
-  within_posted : (t : Transaction) (o : Operation) (b : Bool) → Posted (DoCommand (command.Do o)) (within σ s t o b)
+  within_posted : (t : Transaction) (o : Operation) (b : Bool) → Posted (DoCommand (command.Do o)) (within_limit σ s t o b)
   within_posted t o false = nothing_posted σ s.number _ _ (λ p. refl)
   within_posted t o true = decided_posted t o _
 
@@ -122,9 +122,9 @@ module _ (σ : State) (s : Seat) (here : seat_at σ.seats s.number ≡ Some s) w
   operate_posted o None = nothing_posted σ s.number _ _ (λ p. refl)
   operate_posted o (Some t) = within_posted t o _
 
-  retried_posted : (t : Transaction) (o : Operation) (b : Bool) → Posted Retry (retried σ s t o b)
+  retried_posted : (t : Transaction) (o : Operation) (b : Bool) → Posted Retry (try_again σ s t o b)
   retried_posted t o false = nothing_posted σ s.number Retry _ (λ p. refl)
-  retried_posted t o true = own_posted Retry (retried σ s t o true) _ refl refl refl refl (λ n p. refl)
+  retried_posted t o true = own_posted Retry (try_again σ s t o true) _ refl refl refl refl (λ n p. refl)
 
   retry_in_posted : (o : Operation) (x : Option Transaction) → Posted Retry (retry_in σ s o x)
   retry_in_posted o None = nothing_posted σ s.number Retry _ (λ p. refl)
@@ -134,14 +134,14 @@ module _ (σ : State) (s : Seat) (here : seat_at σ.seats s.number ≡ Some s) w
   retry_posted None = nothing_posted σ s.number Retry _ (λ p. refl)
   retry_posted (Some q) = retry_in_posted q.operation s.transaction
 
-  opened_posted : (a : Ask) (b : Bool) → ((r : Reply) → TellsNothing a r) → Posted a (opened σ s b)
+  opened_posted : (a : Ask) (b : Bool) → ((r : Reply) → TellsNothing a r) → Posted a (open_level_1 σ s b)
   opened_posted a false calm = nothing_posted σ s.number a _ (calm _)
-  opened_posted a true calm = own_posted a (opened σ s true) _ refl refl (sym (calm _ _)) refl (λ n p. refl)
+  opened_posted a true calm = own_posted a (open_level_1 σ s true) _ refl refl (sym (calm _ _)) refl (λ n p. refl)
 
-  nested_posted : (t : Transaction) (a b : Bool) → Posted (DoCommand command.Begin) (nested σ s t a b)
+  nested_posted : (t : Transaction) (a b : Bool) → Posted (DoCommand command.Begin) (open_child σ s t a b)
   nested_posted t false b = nothing_posted σ s.number _ _ (λ p. refl)
   nested_posted t true false = nothing_posted σ s.number _ _ (λ p. refl)
-  nested_posted t true true = own_posted _ (made σ s t Open reply.Done) _ refl refl refl refl (λ n p. refl)
+  nested_posted t true true = own_posted _ (make σ s t Open reply.Done) _ refl refl refl refl (λ n p. refl)
 
   begin_posted : (x : Option Transaction) → Posted (DoCommand command.Begin) (begin σ s x)
   begin_posted None = opened_posted _ _ (λ r p. refl)
@@ -151,17 +151,17 @@ module _ (σ : State) (s : Seat) (here : seat_at σ.seats s.number ≡ Some s) w
   abort_posted r None = nothing_posted σ s.number _ _ (λ p. refl)
   abort_posted r (Some t) = own_posted _ (abort σ s r (Some t)) _ refl refl refl refl (λ n p. refl)
 
-  -- an outermost commit: its own seat, and then who refuses
+  -- an outermost commit: its own session, and then who refuses
   commit_at_posted : (over : List ℕ) (t : Transaction) (b : Bool) → Posted (DoCommand command.Commit) (commit_at σ over s t b)
-  commit_at_posted over t false = own_posted _ (made σ s t Close reply.Done) _ refl refl refl refl (λ n p. refl)
+  commit_at_posted over t false = own_posted _ (make σ s t Close reply.Done) _ refl refl refl refl (λ n p. refl)
   commit_at_posted over t true = record {
     commits = refl;
-    posts = λ n p has. mapped_posts f (λ x. (given_same (σ.commits + 1) over (batch_to (σ.commits + 1) (events_now σ t) x) x).0) (λ q. if has_session over n then overflowing (σ.commits + 1) q else q) (change σ.seats (with_transaction s None)) n
+    posts = λ n p has. mapped_posts f (λ x. (given_same (σ.commits + 1) over (batch_to (σ.commits + 1) (events_now σ t) x) x).0) (λ q. if has_session over n then with_overflow (σ.commits + 1) q else q) (with_changed σ.sessions (with_transaction s None)) n
         (λ x num. given_post n (σ.commits + 1) over (batch_to (σ.commits + 1) (events_now σ t) x) x num) _ (changed_posts (with_transaction s None) (λ q. q) refl refl n p has);
   }
     where
-      f : Seat → Seat
-      f x = given (σ.commits + 1) over (batch_to (σ.commits + 1) (events_now σ t) x) x
+      f : Session → Session
+      f x = after_put (σ.commits + 1) over (batch_to (σ.commits + 1) (events_now σ t) x) x
 
   commit_posted : (over : List ℕ) (x : Option Transaction) → Posted (DoCommand command.Commit) (commit σ over s x)
   commit_posted over None = nothing_posted σ s.number _ _ (λ p. refl)
@@ -173,30 +173,30 @@ module _ (σ : State) (s : Seat) (here : seat_at σ.seats s.number ≡ Some s) w
   schema_if_posted over c None false false = nothing_posted σ s.number _ _ (λ p. refl)
   schema_if_posted over c None false true = record {
     commits = refl;
-    posts = λ n p has x e. mapped_posts f number (λ q. if has_session over n then overflowing (σ.commits + 1) q else q) σ.seats n
-        (λ y num. given_post n (σ.commits + 1) over (end_to (removed c) y) (unwatched (removed c) y) ((unwatched_same (removed c) y).0 ∙ num) ∙ ap (λ q. if has_session over n then overflowing (σ.commits + 1) q else q) (unwatched_post (removed c) y)) p has x e
-        ∙ ap (λ q. if has_session over n then overflowing (σ.commits + 1) q else q) (sym (if_same (n == s.number) p p refl));
+    posts = λ n p has x e. mapped_posts f number (λ q. if has_session over n then with_overflow (σ.commits + 1) q else q) σ.sessions n
+        (λ y num. given_post n (σ.commits + 1) over (end_to (removed_table c) y) (without_deleted (removed_table c) y) ((unwatched_same (removed_table c) y).0 ∙ num) ∙ ap (λ q. if has_session over n then with_overflow (σ.commits + 1) q else q) (unwatched_post (removed_table c) y)) p has x e
+        ∙ ap (λ q. if has_session over n then with_overflow (σ.commits + 1) q else q) (sym (if_same (n == s.number) p p refl));
   }
     where
-      f : Seat → Seat
-      f x = given (σ.commits + 1) over (end_to (removed c) x) (unwatched (removed c) x)
+      f : Session → Session
+      f x = after_put (σ.commits + 1) over (end_to (removed_table c) x) (without_deleted (removed_table c) x)
 
-      number : (x : Seat) → (f x).number ≡ x.number
-      number x = (given_same (σ.commits + 1) over (end_to (removed c) x) (unwatched (removed c) x)).0 ∙ (unwatched_same (removed c) x).0
+      number : (x : Session) → (f x).number ≡ x.number
+      number x = (given_same (σ.commits + 1) over (end_to (removed_table c) x) (without_deleted (removed_table c) x)).0 ∙ (unwatched_same (removed_table c) x).0
 
   schema_posted : (over : List ℕ) (c : Schema) (x : Option Transaction) → Posted (DoCommand (command.Schema c)) (schema σ over c x)
   schema_posted over c (Some t) = nothing_posted σ s.number _ _ (λ p. refl)
   schema_posted over c None = schema_if_posted over c _ _ _
 
   -- a mark that its post takes or refuses
-  marked_posted : (c : Command) (full : Bool) (ws : List Watch) (x : Item) (e : Entry) → ((r : Reply) (p : Post) → post_by_command c r p ≡ post_marked r p) → commits_from σ.commits (e ∷ []) ≡ σ.commits → Quiet σ.commits (Some e) → Posted (DoCommand c) (marked σ full s ws x e)
-  marked_posted c true ws x e marks commits quiet = own_posted _ (marked σ true s ws x e) _ refl refl (sym (marks _ _)) refl (λ n p. refl)
-  marked_posted c false ws x e marks commits quiet = own_posted _ (marked σ false s ws x e) _ refl refl (sym (marks _ _)) (sym commits) quiet
+  marked_posted : (c : Command) (full : Bool) (ws : List Watch) (x : Item) (e : Entry) → ((r : Reply) (p : Post) → post_after_command c r p ≡ post_after_marker r p) → commits_from σ.commits (e ∷ []) ≡ σ.commits → Quiet σ.commits (Some e) → Posted (DoCommand c) (put_marker σ full s ws x e)
+  marked_posted c true ws x e marks commits quiet = own_posted _ (put_marker σ true s ws x e) _ refl refl (sym (marks _ _)) refl (λ n p. refl)
+  marked_posted c false ws x e marks commits quiet = own_posted _ (put_marker σ false s ws x e) _ refl refl (sym (marks _ _)) (sym commits) quiet
 
   -- what refuses a subscription but its post
   abbrev Marks : Option Reply → Type 0
   Marks None = Unit {0}
-  Marks (Some r) = (p : Post) → post_marked r p ≡ p
+  Marks (Some r) = (p : Post) → post_after_marker r p ≡ p
 
   refusal_marks : (t : List ℕ) → Marks (subscribe_refusal σ s t)
   refusal_marks t = cases (is_some s.overflow) (is_some (find σ.tables t)) (is_some (level_in s.watching t))
@@ -240,13 +240,13 @@ module _ (σ : State) (s : Seat) (here : seat_at σ.seats s.number ≡ Some s) w
   give_posted [] (Some i) = own_posted Take (give σ s [] (Some i)) _ refl refl refl refl (λ n p. refl)
 
   leave_posted : Posted Leave (leave σ s)
-  leave_posted = record { commits = refl; posts = λ n p has x e. cases n p has x (n == s.number) (sym (seat_at-without σ.seats s.number n) ∙ e) }
+  leave_posted = record { commits = refl; posts = λ n p has x e. cases n p has x (n == s.number) (sym (session_at-without σ.sessions s.number n) ∙ e) }
     where
-      cases : (n : ℕ) (p : Post) → HasPost σ.seats n p → (x : Seat) (b : Bool) → (if b then None else seat_at σ.seats n) ≡ Some x → post_of x ≡ (if b then p else p)
+      cases : (n : ℕ) (p : Post) → HasPost σ.sessions n p → (x : Session) (b : Bool) → (if b then None else session_at σ.sessions n) ≡ Some x → post_of x ≡ (if b then p else p)
       cases n p has x true e = cc
       cases n p has x false e = has x e
 
-  seated_posted : (over : List ℕ) (a : Ask) → Posted a (seated σ over s a)
+  seated_posted : (over : List ℕ) (a : Ask) → Posted a (step_of_joined σ over s a)
   seated_posted over (Join b) = nothing_posted σ s.number _ _ (λ p. refl)
   seated_posted over Leave = leave_posted
   seated_posted over Retry = retry_posted _
@@ -254,16 +254,16 @@ module _ (σ : State) (s : Seat) (here : seat_at σ.seats s.number ≡ Some s) w
   seated_posted over (DoCommand c) = command_posted over c _
 
 -- one that is not joined
-join_posted : (σ : State) (m : ℕ) (b : Outbox) (above room : Bool) → seat_at σ.seats m ≡ None → IsPosted σ m (Join b) (join σ m b above room)
+join_posted : (σ : State) (m : ℕ) (b : Outbox) (above room : Bool) → session_at σ.sessions m ≡ None → IsPosted σ m (Join b) (join σ m b above room)
 join_posted σ m b false room none = nothing_posted σ m _ _ (λ p. refl)
 join_posted σ m b true false none = nothing_posted σ m _ _ (λ p. refl)
-join_posted σ m b true true none = record { commits = refl; posts = λ n p has x e. cases n p has x (n == m) (sym (seat_at-push σ.seats (fresh m b) n none) ∙ e) }
+join_posted σ m b true true none = record { commits = refl; posts = λ n p has x e. cases n p has x (n == m) (sym (session_at-push σ.sessions (fresh m b) n none) ∙ e) }
   where
-    cases : (n : ℕ) (p : Post) → HasPost σ.seats n p → (x : Seat) (c : Bool) → (if c then Some (fresh m b) else seat_at σ.seats n) ≡ Some x → post_of x ≡ (if c then post_of (fresh m b) else p)
+    cases : (n : ℕ) (p : Post) → HasPost σ.sessions n p → (x : Session) (c : Bool) → (if c then Some (fresh m b) else session_at σ.sessions n) ≡ Some x → post_of x ≡ (if c then post_of (fresh m b) else p)
     cases n p has x true e = let same : fresh m b ≡ x = cc in ap post_of (sym same)
     cases n p has x false e = has x e
 
-unseated_posted : (σ : State) (m : ℕ) (a : Ask) → seat_at σ.seats m ≡ None → IsPosted σ m a (unseated σ m a)
+unseated_posted : (σ : State) (m : ℕ) (a : Ask) → session_at σ.sessions m ≡ None → IsPosted σ m a (step_of_stranger σ m a)
 unseated_posted σ m (Join b) none = join_posted σ m b _ _ none
 unseated_posted σ m Leave none = nothing_posted σ m Leave _ (λ p. refl)
 unseated_posted σ m Retry none = nothing_posted σ m Retry _ (λ p. refl)
@@ -274,18 +274,18 @@ unseated_posted σ m (DoCommand c) none = nothing_posted σ m _ _ (other_answer 
 
 step_posted : (σ : State) (over : List ℕ) (m : ℕ) (a : Ask) → IsPosted σ m a (outcome σ over m a)
 unfolding outcome
-step_posted σ over m a = cases (seat_at σ.seats m) refl
+step_posted σ over m a = cases (session_at σ.sessions m) refl
   where
-    cases : (o : Option Seat) → seat_at σ.seats m ≡ o → IsPosted σ m a (by_seat σ over m a o)
+    cases : (o : Option Session) → session_at σ.sessions m ≡ o → IsPosted σ m a (step_of σ over m a o)
     cases None none = unseated_posted σ m a none
-    cases (Some s) here = subst (λ (k : ℕ). IsPosted σ k a (seated σ over s a)) (found σ.seats s m here) (seated_posted σ s (ap (seat_at σ.seats) (found σ.seats s m here) ∙ here) over a)
+    cases (Some s) here = subst (λ (k : ℕ). IsPosted σ k a (step_of_joined σ over s a)) (found σ.sessions s m here) (seated_posted σ s (ap (session_at σ.sessions) (found σ.sessions s m here) ∙ here) over a)
 
-run_posts : (n : ℕ) (σ : State) (ks : Callers) (p : Post) (calls : List Call) → AreHeard σ ks → HasPost σ.seats n p → HasPost (after_all σ calls).seats n (post_after n ks σ.commits p calls (replies_of σ calls))
+run_posts : (n : ℕ) (σ : State) (ks : Callers) (p : Post) (calls : List Call) → AreHeard σ ks → HasPost σ.sessions n p → HasPost (after_all σ calls).sessions n (post_after n ks σ.commits p calls (replies_of σ calls))
 run_posts n σ ks p [] heard has = has
 run_posts n σ ks p (c ∷ calls) heard has =
-    subst (λ (e : Option Entry). HasPost (after_all τ calls).seats n (post_after n (told_one ks c r) (commits_from σ.commits (entries e)) (post_told n σ.commits c.session c.ask r e p) calls (replies_of τ calls))) (sym h.1)
-    (subst (λ (i : ℕ). HasPost (after_all τ calls).seats n (post_after n (told_one ks c r) i (post_told n σ.commits c.session c.ask r (outcome_of σ c).entry p) calls (replies_of τ calls))) posted.commits
-    (run_posts n τ (told_one ks c r) (post_told n σ.commits c.session c.ask r (outcome_of σ c).entry p) calls h.0 (posted.posts n p has)))
+    subst (λ (e : Option Entry). HasPost (after_all τ calls).sessions n (post_after n (callers_after_one ks c r) (commits_from σ.commits (entries e)) (post_after_step n σ.commits c.session c.ask r e p) calls (replies_of τ calls))) (sym h.1)
+    (subst (λ (i : ℕ). HasPost (after_all τ calls).sessions n (post_after n (callers_after_one ks c r) i (post_after_step n σ.commits c.session c.ask r (outcome_of σ c).entry p) calls (replies_of τ calls))) posted.commits
+    (run_posts n τ (callers_after_one ks c r) (post_after_step n σ.commits c.session c.ask r (outcome_of σ c).entry p) calls h.0 (posted.posts n p has)))
   where
     τ : State
     τ = (outcome_of σ c).state
@@ -293,33 +293,33 @@ run_posts n σ ks p (c ∷ calls) heard has =
     r : Reply
     r = (outcome_of σ c).reply
 
-    h : AreHeard τ (told_one ks c r) × (told_entry ks c r ≡ (outcome_of σ c).entry)
+    h : AreHeard τ (callers_after_one ks c r) × (entry_of_call ks c r ≡ (outcome_of σ c).entry)
     h = step_heard σ ks c heard
 
     posted : IsPosted σ c.session c.ask (outcome_of σ c)
     posted = step_posted σ c.over c.session c.ask
 
 -- for every schedule a joined session's post is the one that callers tell
-schedule_post : (limits : Limits) (calls : List Call) (n : ℕ) (s : Seat) → seat_at (after_all (new limits) calls).seats n ≡ Some s → post_of s ≡ post_after n newcomers 0 no_post calls (replies_of (new limits) calls)
+schedule_post : (limits : Limits) (calls : List Call) (n : ℕ) (s : Session) → session_at (after_all (new limits) calls).sessions n ≡ Some s → post_of s ≡ post_after n newcomers 0 no_post calls (replies_of (new limits) calls)
 schedule_post limits calls n s here = run_posts n (new limits) newcomers no_post calls (new_heard limits) (λ x e. cc) s here
 
-pub schedule_overflow : (limits : Limits) (calls : List Call) (n : ℕ) (s : Seat) → seat_at (after_all (new limits) calls).seats n ≡ Some s → s.overflow ≡ (post_after n newcomers 0 no_post calls (replies_of (new limits) calls)).overflow
+pub schedule_overflow : (limits : Limits) (calls : List Call) (n : ℕ) (s : Session) → session_at (after_all (new limits) calls).sessions n ≡ Some s → s.overflow ≡ (post_after n newcomers 0 no_post calls (replies_of (new limits) calls)).overflow
 schedule_overflow limits calls n s here = ap (λ (p : Post). p.overflow) (schedule_post limits calls n s here)
 
-pub schedule_refusals : (limits : Limits) (calls : List Call) (n : ℕ) (s : Seat) → seat_at (after_all (new limits) calls).seats n ≡ Some s → s.outbox.refusals ≡ (post_after n newcomers 0 no_post calls (replies_of (new limits) calls)).refusals
+pub schedule_refusals : (limits : Limits) (calls : List Call) (n : ℕ) (s : Session) → session_at (after_all (new limits) calls).sessions n ≡ Some s → s.outbox.refusals ≡ (post_after n newcomers 0 no_post calls (replies_of (new limits) calls)).refusals
 schedule_refusals limits calls n s here = ap (λ (p : Post). p.refusals) (schedule_post limits calls n s here)
 
--- a Take tells the overflow that its seat has
-take_tells : (σ : State) (over : List ℕ) (n i : ℕ) → (outcome σ over n Take).reply ≡ reply.Overflow i → (s : Seat) × (seat_at σ.seats n ≡ Some s) × (s.overflow ≡ Some i)
+-- a Take tells the overflow that its session has
+take_tells : (σ : State) (over : List ℕ) (n i : ℕ) → (outcome σ over n Take).reply ≡ reply.Overflow i → (s : Session) × (session_at σ.sessions n ≡ Some s) × (s.overflow ≡ Some i)
 unfolding outcome
-take_tells σ over n i = cases (seat_at σ.seats n) refl
+take_tells σ over n i = cases (session_at σ.sessions n) refl
   where
-    by_items : (s : Seat) (xs : List Item) (l : Option ℕ) → s.overflow ≡ l → (give σ s xs l).reply ≡ reply.Overflow i → s.overflow ≡ Some i
+    by_items : (s : Session) (xs : List Item) (l : Option ℕ) → s.overflow ≡ l → (give σ s xs l).reply ≡ reply.Overflow i → s.overflow ≡ Some i
     by_items s (x ∷ xs) l e h = cc
     by_items s [] None e h = cc
     by_items s [] (Some m) e h = let same : m ≡ i = cc in e ∙ ap (λ (k : ℕ). Some k) same
 
-    cases : (o : Option Seat) → seat_at σ.seats n ≡ o → (by_seat σ over n Take o).reply ≡ reply.Overflow i → (s : Seat) × (seat_at σ.seats n ≡ Some s) × (s.overflow ≡ Some i)
+    cases : (o : Option Session) → session_at σ.sessions n ≡ o → (step_of σ over n Take o).reply ≡ reply.Overflow i → (s : Session) × (session_at σ.sessions n ≡ Some s) × (s.overflow ≡ Some i)
     cases None e h = cc
     cases (Some s) e h = (s, e, by_items s _ _ refl h)
 

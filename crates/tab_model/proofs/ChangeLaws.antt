@@ -11,7 +11,7 @@ use Rattle.tab_term.specs.View.{term}
 use Rattle.tab_term.specs.declared.term.Term.{Term}
 use Rattle.tab_model.specs.Names.{less, before}
 use Rattle.tab_model.specs.Tables.{Rows, key, has_key, at, delete, delete_object, insert, put_bag, put, apply, is_ordered}
-use Rattle.tab_model.specs.Worlds.{World, Table, name_of, find, place, without}
+use Rattle.tab_model.specs.Catalogs.{Catalog, Table, name_of, find, place, without}
 use Rattle.tab_model.specs.Operations.{key_of_change}
 use Rattle.tab_model.specs.declared.data.Kind.{Kind}
 use Rattle.tab_model.specs.declared.data.Kind.TheVariants.{Set, Bag}
@@ -110,11 +110,11 @@ at-apply kind rows (change.DeleteObject r) k o = filter_swap (has_key k) (λ x. 
     by_case true e = refl
     by_case false e = not_there (term r) k rows e
 
--- a world after one table is placed
+-- a catalog after one table is placed
 eq_names : (a b : List ℕ) → bytes_eq a b ≡ true → a ≡ b
 eq_names a b h = (bytes_eq-Decides a b).0 h
 
-pub find-place : (w : World) (t : Table) (n : List ℕ) → find (place w t) n ≡ (if bytes_eq (name_of t) n then Some t else find w n)
+pub find-place : (w : Catalog) (t : Table) (n : List ℕ) → find (place w t) n ≡ (if bytes_eq (name_of t) n then Some t else find w n)
 find-place [] t n = refl
 find-place (u ∷ w) t n = cases (find-place w t n) (bytes_eq (name_of u) (name_of t)) refl (before (name_of t) (name_of u)) (bytes_eq (name_of t) n) refl (bytes_eq (name_of u) n) refl
   where
@@ -133,7 +133,7 @@ none_found : (b : Bool) (o : Option Table) → o ≡ None → o ≡ (if b then N
 none_found true o h = h
 none_found false o h = refl
 
-pub find-without : (w : World) (m n : List ℕ) → find (without w m) n ≡ (if bytes_eq m n then None else find w n)
+pub find-without : (w : Catalog) (m n : List ℕ) → find (without w m) n ≡ (if bytes_eq m n then None else find w n)
 find-without [] m n = none_found (bytes_eq m n) None refl
 find-without (u ∷ w) m n = cases (find-without w m n) (bytes_eq (name_of u) m) refl (bytes_eq (name_of u) n) refl (bytes_eq m n) refl
   where

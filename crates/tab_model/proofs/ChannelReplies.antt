@@ -13,35 +13,35 @@ use Rattle.tab_model.specs.declared.data.Command.{Command}
 use Rattle.tab_model.specs.declared.data.Command.TheVariants as command
 use Rattle.tab_model.specs.declared.data.Reply.{Reply}
 use Rattle.tab_model.specs.declared.data.Reply.TheVariants as reply
-use Rattle.tab_model.specs.Worlds.{find}
+use Rattle.tab_model.specs.Catalogs.{find}
 use Rattle.tab_model.specs.Ages.{Answer, Granted, Wait, Die}
 use Rattle.tab_model.specs.Schemas.{schema_refusal}
-use Rattle.tab_model.specs.State.{Transaction, Outbox, Watch, Seat, Queued, State, seat_at, level_in, mid_of}
-use Rattle.tab_model.specs.Outcome.{Ask, Join, Leave, Retry, Take, DoCommand, Outcome, outcome, change, decided, within, operate, retried, retry_in, retry, opened, nested, begin, one_shot, abort, commit_at, commit, schema_if, schema, table_info, is_at, marked, subscribe_refusal, subscribe, unsubscribe, do_command, command_if, give, takable, seated, join, unseated, by_seat}
+use Rattle.tab_model.specs.State.{Transaction, Outbox, Watch, Session, Queued, State, session_at, level_in, mid_of}
+use Rattle.tab_model.specs.Outcome.{Ask, Join, Leave, Retry, Take, DoCommand, Outcome, outcome, with_changed, by_lock_answer, within_limit, operate, try_again, retry_in, retry, open_level_1, open_child, begin, one_shot, abort, commit_at, commit, schema_if, schema, table_info, is_at, put_marker, subscribe_refusal, subscribe, unsubscribe, do_command, command_if, give, items_to_take, step_of_joined, join, step_of_stranger, step_of}
 use Rattle.tab_model.specs.Run.{item_of}
 use Rattle.tab_model.specs.Standing.{AreChannels}
-use Rattle.tab_model.proofs.Seats.{found, itself, seat_at-change}
+use Rattle.tab_model.proofs.SessionLists.{found, itself, session_at-change}
 use Rattle.tab_model.proofs.PostsStay.{IsChannel, found_has}
 use Rattle.tab_model.proofs.LoggedSteps.{item_in, said_item, info_item, refusal_item, sub_item}
 
--- a seat that is changed is there
-changed_there : (seats : List Seat) (x s : Seat) (n : ℕ) → seat_at seats n ≡ Some s → x.number ≡ n → seat_at (change seats x) n ≡ None → ⊥
-changed_there seats x s n here num none = by (n == x.number) (ap (λ k. n == k) num ∙ itself n) (sym (seat_at-change seats x s n (ap (seat_at seats) num ∙ here)) ∙ none)
+-- a session that is changed is there
+changed_there : (sessions : List Session) (x s : Session) (n : ℕ) → session_at sessions n ≡ Some s → x.number ≡ n → session_at (with_changed sessions x) n ≡ None → ⊥
+changed_there sessions x s n here num none = by (n == x.number) (ap (λ k. n == k) num ∙ itself n) (sym (session_at-change sessions x s n (ap (session_at sessions) num ∙ here)) ∙ none)
   where
-    by : (b : Bool) → b ≡ true → (if b then Some x else seat_at seats n) ≡ None → ⊥
+    by : (b : Bool) → b ≡ true → (if b then Some x else session_at sessions n) ≡ None → ⊥
     by true e h = cc
     by false e h = cc
 
 abbrev GivesNone : Outcome → Type 0
 GivesNone o = item_of o.reply ≡ []
 
-module _ (σ : State) (s : Seat) where
-  decided_gives : (t : Transaction) (o : Operation) (a : Answer) → GivesNone (decided σ s t o a)
+module _ (σ : State) (s : Session) where
+  decided_gives : (t : Transaction) (o : Operation) (a : Answer) → GivesNone (by_lock_answer σ s t o a)
   decided_gives t o Granted = said_item (mid_of σ t) (Do o) reply.Done refl
   decided_gives t o Wait = refl
   decided_gives t o Die = refl
 
-  within_gives : (t : Transaction) (o : Operation) (b : Bool) → GivesNone (within σ s t o b)
+  within_gives : (t : Transaction) (o : Operation) (b : Bool) → GivesNone (within_limit σ s t o b)
   within_gives t o false = refl
   within_gives t o true = decided_gives t o _
 
@@ -49,7 +49,7 @@ module _ (σ : State) (s : Seat) where
   operate_gives o None = refl
   operate_gives o (Some t) = within_gives t o _
 
-  retried_gives : (t : Transaction) (o : Operation) (b : Bool) → GivesNone (retried σ s t o b)
+  retried_gives : (t : Transaction) (o : Operation) (b : Bool) → GivesNone (try_again σ s t o b)
   retried_gives t o false = refl
   retried_gives t o true = said_item (mid_of σ t) (Do o) reply.Done refl
 
@@ -61,11 +61,11 @@ module _ (σ : State) (s : Seat) where
   retry_gives None = refl
   retry_gives (Some q) = retry_in_gives q.operation s.transaction
 
-  opened_gives : (b : Bool) → GivesNone (opened σ s b)
+  opened_gives : (b : Bool) → GivesNone (open_level_1 σ s b)
   opened_gives false = refl
   opened_gives true = refl
 
-  nested_gives : (t : Transaction) (a b : Bool) → GivesNone (nested σ s t a b)
+  nested_gives : (t : Transaction) (a b : Bool) → GivesNone (open_child σ s t a b)
   nested_gives t false b = refl
   nested_gives t true false = refl
   nested_gives t true true = refl
@@ -100,7 +100,7 @@ module _ (σ : State) (s : Seat) where
   schema_gives over c (Some t) = refl
   schema_gives over c None = schema_if_gives over c (schema_refusal σ.tables c) _ _ (refusal_item σ.tables c)
 
-  marked_gives : (full : Bool) (ws : List Watch) (x : Item) (e : Entry) → GivesNone (marked σ full s ws x e)
+  marked_gives : (full : Bool) (ws : List Watch) (x : Item) (e : Entry) → GivesNone (put_marker σ full s ws x e)
   marked_gives true ws x e = refl
   marked_gives false ws x e = refl
 
@@ -127,7 +127,7 @@ module _ (σ : State) (s : Seat) where
   command_gives over c true = refl
   command_gives over c false = do_gives over c
 
-  take_gives : (c : Option ℕ) → c ≡ None → GivesNone (give σ s (takable s.outbox c) s.overflow)
+  take_gives : (c : Option ℕ) → c ≡ None → GivesNone (give σ s (items_to_take s.outbox c) s.overflow)
   take_gives (Some k) e = cc
   take_gives None e = by s.overflow
     where
@@ -135,15 +135,15 @@ module _ (σ : State) (s : Seat) where
       by None = refl
       by (Some n) = refl
 
-  seated_gives : (over : List ℕ) (a : Ask) → s.outbox.capacity ≡ None → GivesNone (seated σ over s a)
+  seated_gives : (over : List ℕ) (a : Ask) → s.outbox.capacity ≡ None → GivesNone (step_of_joined σ over s a)
   seated_gives over (Join b) h = refl
   seated_gives over Leave h = refl
   seated_gives over Retry h = retry_gives _
   seated_gives over Take h = take_gives s.outbox.capacity h
   seated_gives over (DoCommand c) h = command_gives over c _
 
-unseated_gives : (σ : State) (n : ℕ) (a : Ask) → GivesNone (unseated σ n a)
-unseated_gives σ n (Join b) = by (nat_lt σ.greatest n) (nat_lt (length σ.seats) σ.limits.sessions)
+unseated_gives : (σ : State) (n : ℕ) (a : Ask) → GivesNone (step_of_stranger σ n a)
+unseated_gives σ n (Join b) = by (nat_lt σ.greatest n) (nat_lt (length σ.sessions) σ.limits.sessions)
   where
     by : (x y : Bool) → GivesNone (join σ n b x y)
     by false y = refl
@@ -156,29 +156,29 @@ unseated_gives σ n (DoCommand c) = refl
 
 pub no_item : (σ : State) (over : List ℕ) (n : ℕ) (a : Ask) → AreChannels σ → item_of (outcome σ over n a).reply ≡ []
 unfolding outcome
-no_item σ over n a channels = by (seat_at σ.seats n) refl
+no_item σ over n a channels = by (session_at σ.sessions n) refl
   where
-    by : (o : Option Seat) → seat_at σ.seats n ≡ o → GivesNone (by_seat σ over n a o)
+    by : (o : Option Session) → session_at σ.sessions n ≡ o → GivesNone (step_of σ over n a o)
     by None e = unseated_gives σ n a
-    by (Some s) e = seated_gives σ s over a (found_has IsChannel σ.seats n s channels e)
+    by (Some s) e = seated_gives σ s over a (found_has IsChannel σ.sessions n s channels e)
 
 -- who is given an item stays joined
-pub item_stays : (σ : State) (over : List ℕ) (n : ℕ) (a : Ask) → seat_at (outcome σ over n a).state.seats n ≡ None → item_of (outcome σ over n a).reply ≡ []
+pub item_stays : (σ : State) (over : List ℕ) (n : ℕ) (a : Ask) → session_at (outcome σ over n a).state.sessions n ≡ None → item_of (outcome σ over n a).reply ≡ []
 unfolding outcome
-item_stays σ over n a gone = by (seat_at σ.seats n) refl gone
+item_stays σ over n a gone = by (session_at σ.sessions n) refl gone
   where
-    given : (s : Seat) (xs : List Item) (l : Option ℕ) → seat_at σ.seats n ≡ Some s → seat_at (give σ s xs l).state.seats n ≡ None → GivesNone (give σ s xs l)
-    given s (x ∷ xs) l e g = absurd (changed_there σ.seats _ s n e (found σ.seats s n e) g)
+    given : (s : Session) (xs : List Item) (l : Option ℕ) → session_at σ.sessions n ≡ Some s → session_at (give σ s xs l).state.sessions n ≡ None → GivesNone (give σ s xs l)
+    given s (x ∷ xs) l e g = absurd (changed_there σ.sessions _ s n e (found σ.sessions s n e) g)
     given s [] None e g = refl
     given s [] (Some k) e g = refl
 
-    by_ask : (s : Seat) (a : Ask) → seat_at σ.seats n ≡ Some s → seat_at (seated σ over s a).state.seats n ≡ None → GivesNone (seated σ over s a)
+    by_ask : (s : Session) (a : Ask) → session_at σ.sessions n ≡ Some s → session_at (step_of_joined σ over s a).state.sessions n ≡ None → GivesNone (step_of_joined σ over s a)
     by_ask s (Join b) e g = refl
     by_ask s Leave e g = refl
     by_ask s Retry e g = retry_gives σ s _
     by_ask s Take e g = given s _ _ e g
     by_ask s (DoCommand c) e g = command_gives σ s over c _
 
-    by : (o : Option Seat) → seat_at σ.seats n ≡ o → seat_at (by_seat σ over n a o).state.seats n ≡ None → GivesNone (by_seat σ over n a o)
+    by : (o : Option Session) → session_at σ.sessions n ≡ o → session_at (step_of σ over n a o).state.sessions n ≡ None → GivesNone (step_of σ over n a o)
     by None e g = unseated_gives σ n a
     by (Some s) e g = by_ask s a e g

@@ -17,7 +17,7 @@ use Rattle.tab_model.specs.Names.{plain_terms}
 use Rattle.tab_model.specs.Tables.{Rows, key, second, has_key, at, is_ordered, SameTable}
 use Rattle.tab_model.specs.WholeTables.{match_object}
 use Rattle.tab_model.specs.Definitions.{fits_def, is_indexed, position}
-use Rattle.tab_model.specs.Worlds.{Table}
+use Rattle.tab_model.specs.Catalogs.{Table}
 use Rattle.tab_model.specs.Operations.{failure_in, answer_or, failure_at, answer_at, bad_type}
 use Rattle.tab_model.specs.Locks.{Part, All, Key, needs}
 use Rattle.tab_model.proofs.TableLaws.{same_true, same_refl, same_lists}

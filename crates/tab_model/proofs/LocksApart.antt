@@ -12,11 +12,11 @@ use Rattle.tab_model.specs.declared.data.Operation.TheVariants as op
 use Rattle.tab_model.specs.declared.data.Move.{Move}
 use Rattle.tab_model.specs.declared.data.Move.TheVariants.{Do, Open, Close, Undo}
 use Rattle.tab_model.specs.Tables.{key}
-use Rattle.tab_model.specs.Worlds.{World, Table, find}
+use Rattle.tab_model.specs.Catalogs.{Catalog, Table, find}
 use Rattle.tab_model.specs.Operations.{table_of}
 use Rattle.tab_model.specs.Alone.{start, after, replies}
 use Rattle.tab_model.specs.Locks.{Part, All, Key, Lock, lock, needs, locks_of, meets, conflict, Apart}
-use Rattle.tab_model.specs.Worlds.{IsOrderedWorld}
+use Rattle.tab_model.specs.Catalogs.{IsOrderedCatalog}
 use Rattle.tab_model.proofs.TableLaws.{same_true, same_refl}
 use Rattle.tab_model.proofs.RepliesStay.{AgreeTab, Agree, SeesPart, SeesAll, same_replies, WritesAll, keeps_after}
 
@@ -108,7 +108,7 @@ writes_apart (Open ∷ xs) ms h = (tt, writes_apart xs ms h)
 writes_apart (Close ∷ xs) ms h = (tt, writes_apart xs ms h)
 writes_apart (Undo ∷ xs) ms h = (tt, writes_apart xs ms h)
 
-pub agree_self : (c : List ℕ → PlainTerm → Bool) (w : World) → IsOrderedWorld w → Agree c every w w
+pub agree_self : (c : List ℕ → PlainTerm → Bool) (w : Catalog) → IsOrderedCatalog w → Agree c every w w
 agree_self c w o t d = cases (find w t) refl
   where
     cases : (x : Option Table) → find w t ≡ x → AgreeTab (c t) x x
@@ -122,7 +122,7 @@ like_back c None (Some y) a = absurd a
 like_back c (Some x) None a = absurd a
 
 -- THE HEART: what the one sees stays as the other leaves it
-pub stays : (w : World) (a b : ℕ) (xs ys : List Move) → IsOrderedWorld w → Apart (locks_of xs) (locks_of ys) → replies (start (after (start w a) xs).now b) ys ≡ replies (start w b) ys
+pub stays : (w : Catalog) (a b : ℕ) (xs ys : List Move) → IsOrderedCatalog w → Apart (locks_of xs) (locks_of ys) → replies (start (after (start w a) xs).now b) ys ≡ replies (start w b) ys
 stays w a b xs ys o h =
     let self = agree_self (seen (locks_of ys)) w o in
     let kept = keeps_after (seen (locks_of ys)) every w (start w a) xs (record { now = self; saved = tt; base = self }) (writes_apart xs (locks_of ys) h) in

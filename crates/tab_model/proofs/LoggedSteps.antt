@@ -31,18 +31,18 @@ use Rattle.tab_model.specs.declared.data.Limit.TheVariants as limit
 use Rattle.tab_model.specs.declared.data.Entry.{Entry}
 use Rattle.tab_model.specs.declared.data.Entry.TheVariants.{Committed, Changed, Subscribed, Unsubscribed}
 use Rattle.tab_model.specs.Definitions.{fits_def, is_indexed, position, Parsed, Good, Bad, parse_options}
-use Rattle.tab_model.specs.Worlds.{World, Table, find}
+use Rattle.tab_model.specs.Catalogs.{Catalog, Table, find}
 use Rattle.tab_model.specs.Operations.{bad_type, failure_in, answer_or, answer}
-use Rattle.tab_model.specs.Alone.{Mid, start, replies, told}
+use Rattle.tab_model.specs.Alone.{Mid, start, replies, reply_to}
 use Rattle.tab_model.specs.Events.{events, surviving}
 use Rattle.tab_model.specs.Ages.{Answer, Granted, Wait, Die}
-use Rattle.tab_model.specs.Schemas.{removed, schema_refusal, table_of_schema, create_refusal, bad_parse, remove_refusal, add_refusal, del_refusal, is_some_position}
-use Rattle.tab_model.specs.Log.{entered, serial, has_session, is_removed, kept_if, stands, in_force, IsRight, count_after}
-use Rattle.tab_model.specs.Slices.{as_batch, shape_at, batch_for, dump_of, end_for, unless_over, owed}
-use Rattle.tab_model.specs.State.{Transaction, Outbox, Watch, Seat, Queued, State, new, seat_at, transaction_in, moves_in, told_in_transaction, age_in, without_request, level_in, without_watch, mid_of, IsSound}
-use Rattle.tab_model.specs.Run.{entries, item_of, taken_now, JoinsEmpty, IsSeatTied, IsNew}
-use Rattle.tab_model.specs.Outcome.{Ask, Join, Leave, Retry, Take, DoCommand, nothing, change, with_transaction, with_queue, pushed, said, made, decided, within, operate, retried, retry_in, retry, opened, nested, begin, one_shot, abort, overflowed, given, batch_to, commit_now, events_now, commit_at, commit, unwatched, end_to, schema_now, schema_if, schema, table_info, is_at, marked, subscribe_refusal, subscribe, unsubscribe, do_command, command_if, give, takable, leave, seated, fresh, join, unseated, by_seat, outcome}
-use Rattle.tab_model.proofs.Seats.{eq_true, differs, differs', itself, found, seat_at-push, seat_at-without, seat_at-map, mapped_some}
+use Rattle.tab_model.specs.Schemas.{removed_table, schema_refusal, table_of_schema, create_refusal, bad_parse, remove_refusal, add_refusal, del_refusal, is_some_position}
+use Rattle.tab_model.specs.Log.{catalog_after, serial, has_session, is_removed, level_if, level_after, in_force, IsRight, count_after}
+use Rattle.tab_model.specs.Slices.{as_batch, shape_at, batch_for, dump_of, end_for, unless_over, expected}
+use Rattle.tab_model.specs.State.{Transaction, Outbox, Watch, Session, Queued, State, new, session_at, transaction_in, moves_in, replies_in, age_in, without_request, level_in, without_watch, mid_of, IsSound}
+use Rattle.tab_model.specs.Run.{entries, item_of, delivered_by, JoinsEmpty, IsSessionTied, IsNew}
+use Rattle.tab_model.specs.Outcome.{Ask, Join, Leave, Retry, Take, DoCommand, step_without_entry, with_changed, with_transaction, with_queue, with_items, reply_or, make, by_lock_answer, within_limit, operate, try_again, retry_in, retry, open_level_1, open_child, begin, one_shot, abort, after_overflow, after_put, batch_to, commit_now, events_now, commit_at, commit, without_deleted, end_to, schema_now, schema_if, schema, table_info, is_at, put_marker, subscribe_refusal, subscribe, unsubscribe, do_command, command_if, give, items_to_take, leave, step_of_joined, fresh, join, step_of_stranger, step_of, outcome}
+use Rattle.tab_model.proofs.SessionLists.{eq_true, differs, differs', itself, found, session_at-push, session_at-without, session_at-map, mapped_some}
 use Rattle.tab_model.proofs.LoggedLemmas.{IsLogged, kept, none_taken, Ties, quiet_tied, Moves, entry_tied, changed_some}
 
 -- an operation's answer gives no item
@@ -63,7 +63,7 @@ answer_item (Some t) (op.AllKeys n) = refl
 answer_item (Some t) (op.ReadLockTable n) = refl
 answer_item (Some t) (op.WriteLockTable n) = refl
 
-pub said_item : (m : Mid) (x : Move) (r : Reply) → item_of r ≡ [] → item_of (said (told m x) r) ≡ []
+pub said_item : (m : Mid) (x : Move) (r : Reply) → item_of r ≡ [] → item_of (reply_or (reply_to m x) r) ≡ []
 said_item m (Do o) r h = answer_item (find m.now (Rattle.tab_model.specs.Operations.table_of o)) o
 said_item m Open r h = refl
 said_item m Close r h = refl
@@ -80,44 +80,44 @@ info_item n item.Size (Some t) = refl
 bytes_true : (a b : List ℕ) → bytes_eq a b ≡ true → a ≡ b
 bytes_true a b h = (bytes_eq-Decides a b).0 h
 
-left_level : (xs : List Watch) (t u : List ℕ) → level_in (without_watch xs t) u ≡ kept_if (not (bytes_eq t u)) (level_in xs u)
+left_level : (xs : List Watch) (t u : List ℕ) → level_in (without_watch xs t) u ≡ level_if (not (bytes_eq t u)) (level_in xs u)
 left_level [] t u = none (bytes_eq t u)
   where
-    none : (b : Bool) → None ≡ kept_if (not b) None
+    none : (b : Bool) → None ≡ level_if (not b) None
     none true = refl
     none false = refl
 left_level (x ∷ xs) t u = cases (left_level xs t u) (bytes_eq x.table t) refl (bytes_eq x.table u) refl (bytes_eq t u) refl
   where
-    cases : level_in (without_watch xs t) u ≡ kept_if (not (bytes_eq t u)) (level_in xs u)
+    cases : level_in (without_watch xs t) u ≡ level_if (not (bytes_eq t u)) (level_in xs u)
         → (a : Bool) → bytes_eq x.table t ≡ a → (b : Bool) → bytes_eq x.table u ≡ b → (c : Bool) → bytes_eq t u ≡ c
-        → level_in (if a then without_watch xs t else x ∷ without_watch xs t) u ≡ kept_if (not c) (if b then Some x.level else level_in xs u)
-    cases ih true e b f true g = ih ∙ ap (λ k. kept_if (not k) (level_in xs u)) g
+        → level_in (if a then without_watch xs t else x ∷ without_watch xs t) u ≡ level_if (not c) (if b then Some x.level else level_in xs u)
+    cases ih true e b f true g = ih ∙ ap (λ k. level_if (not k) (level_in xs u)) g
     cases ih true e true f false g = absurd (false≢true (sym g ∙ ap (λ n. bytes_eq n u) (sym (bytes_true x.table t e)) ∙ f))
-    cases ih true e false f false g = ih ∙ ap (λ k. kept_if (not k) (level_in xs u)) g
+    cases ih true e false f false g = ih ∙ ap (λ k. level_if (not k) (level_in xs u)) g
     cases ih false e true f true g = absurd (false≢true (sym e ∙ ap (λ n. bytes_eq n t) (bytes_true x.table u f ∙ sym (bytes_true t u g)) ∙ (bytes_eq-Decides t t).1 refl))
     cases ih false e true f false g = ap (λ k. if k then Some x.level else level_in (without_watch xs t) u) f
-    cases ih false e false f c g = ap (λ k. if k then Some x.level else level_in (without_watch xs t) u) f ∙ ih ∙ ap (λ k. kept_if (not k) (level_in xs u)) g
+    cases ih false e false f c g = ap (λ k. if k then Some x.level else level_in (without_watch xs t) u) f ∙ ih ∙ ap (λ k. level_if (not k) (level_in xs u)) g
 
-unwatched_level : (o : Option (List ℕ)) (x : Seat) (u : List ℕ) → level_in (unwatched o x).watching u ≡ kept_if (not (is_removed u o)) (level_in x.watching u)
+unwatched_level : (o : Option (List ℕ)) (x : Session) (u : List ℕ) → level_in (without_deleted o x).watching u ≡ level_if (not (is_removed u o)) (level_in x.watching u)
 unwatched_level None x u = refl
 unwatched_level (Some t) x u = left_level x.watching t u
 
-unwatched_same : (o : Option (List ℕ)) (x : Seat) → ((unwatched o x).number ≡ x.number) × ((unwatched o x).outbox ≡ x.outbox)
+unwatched_same : (o : Option (List ℕ)) (x : Session) → ((without_deleted o x).number ≡ x.number) × ((without_deleted o x).outbox ≡ x.outbox)
 unwatched_same None x = (refl, refl)
 unwatched_same (Some t) x = (refl, refl)
 
--- what a commit or a deletion gives to one seat
-given_moves : (q n : ℕ) (over : List ℕ) (items : List Item) (log : List Entry) (e : Entry) (x y : Seat) → y.number ≡ q → y.outbox ≡ x.outbox
-    → owed q log e ≡ unless_over (has_session over q) items
-    → (has_session over q ≡ true → (u : List ℕ) → stands q u (level_in x.watching u) e ≡ None)
-    → (has_session over q ≡ false → (u : List ℕ) → level_in y.watching u ≡ stands q u (level_in x.watching u) e)
-    → Moves q log e x (given n over items y)
+-- what a commit or a deletion gives to one session
+given_moves : (q n : ℕ) (over : List ℕ) (items : List Item) (log : List Entry) (e : Entry) (x y : Session) → y.number ≡ q → y.outbox ≡ x.outbox
+    → expected q log e ≡ unless_over (has_session over q) items
+    → (has_session over q ≡ true → (u : List ℕ) → level_after q u (level_in x.watching u) e ≡ None)
+    → (has_session over q ≡ false → (u : List ℕ) → level_in y.watching u ≡ level_after q u (level_in x.watching u) e)
+    → Moves q log e x (after_put n over items y)
 given_moves q n over items log e x y num outbox ow gone stay = cases (has_session over y.number) refl
   where
     at_q : has_session over y.number ≡ has_session over q
     at_q = ap (has_session over) num
 
-    cases : (b : Bool) → has_session over y.number ≡ b → Moves q log e x (if b then overflowed n y else record y { outbox = pushed y.outbox items })
+    cases : (b : Bool) → has_session over y.number ≡ b → Moves q log e x (if b then after_overflow n y else record y { outbox = with_items y.outbox items })
     cases true h = record {
       watching = λ u. sym (gone (sym at_q ∙ h) u);
       items = ap (λ b. b.items) outbox ∙ sym (append-nil x.outbox.items) ∙ ap (λ xs. x.outbox.items ++ xs) (sym (ow ∙ ap (λ b. unless_over b items) (sym at_q ∙ h)));
@@ -127,14 +127,14 @@ given_moves q n over items log e x y num outbox ow gone stay = cases (has_sessio
       items = ap (λ b. b.items ++ items) outbox ∙ ap (λ xs. x.outbox.items ++ xs) (sym (ow ∙ ap (λ b. unless_over b items) (sym at_q ∙ h)));
     }
 
-given_number : (n : ℕ) (over : List ℕ) (items : List Item) (s : Seat) → (given n over items s).number ≡ s.number
+given_number : (n : ℕ) (over : List ℕ) (items : List Item) (s : Session) → (after_put n over items s).number ≡ s.number
 given_number n over items s = cases (has_session over s.number)
   where
-    cases : (b : Bool) → Seat.number (if b then overflowed n s else record s { outbox = pushed s.outbox items }) ≡ s.number
+    cases : (b : Bool) → Session.number (if b then after_overflow n s else record s { outbox = with_items s.outbox items }) ≡ s.number
     cases true = refl
     cases false = refl
 
-kept_none : (b : Bool) → kept_if b None ≡ None
+kept_none : (b : Bool) → level_if b None ≡ None
 kept_none true = refl
 kept_none false = refl
 
@@ -170,7 +170,7 @@ if_some : (b : Bool) (r : Reply) → item_of r ≡ [] → item_in (if b then Non
 if_some true r h = refl
 if_some false r h = h
 
-pub refusal_item : (w : World) (c : Schema) → item_in (schema_refusal w c) ≡ []
+pub refusal_item : (w : Catalog) (c : Schema) → item_in (schema_refusal w c) ≡ []
 refusal_item w (Create t os) = create_item (find w t)
   where
     create_item : (x : Option Table) → item_in (create_refusal t os x) ≡ []
@@ -192,7 +192,7 @@ refusal_item w (DelIndex t a) = del_item (find w t)
     del_item None = refl
     del_item (Some x) = if_some (is_indexed x.def (position x.def (term a))) (reply.NoIndex t a) refl
 
-pub sub_item : (σ : State) (s : Seat) (t : List ℕ) → item_in (subscribe_refusal σ s t) ≡ []
+pub sub_item : (σ : State) (s : Session) (t : List ℕ) → item_in (subscribe_refusal σ s t) ≡ []
 sub_item σ s t = cases (is_some s.overflow) (not (is_some (find σ.tables t))) (is_some (level_in s.watching t))
   where
     cases : (a b c : Bool) → item_in (if a then Some reply.OverflowUntold else (if b then Some (reply.SubNoTable t) else (if c then Some (reply.AlreadySubscribed t) else None))) ≡ []
@@ -202,31 +202,31 @@ sub_item σ s t = cases (is_some s.overflow) (not (is_some (find σ.tables t))) 
     cases false false false = refl
 
 module _ (σ : State) (log : List Entry) (tk : ℕ → List Item) (t : IsLogged σ log tk) where
-  nothing_tied : (n : ℕ) (r : Reply) → item_of r ≡ [] → Ties n log tk (nothing σ r)
-  nothing_tied n r h = quiet_tied σ σ log tk _ t refl refl (omega arith) (λ q z f. subst (λ (xs : List Item). IsSeatTied q z log xs) (none_taken tk n r h q) (t.seats q z f)) (λ q g. none_taken tk n r h q)
+  nothing_tied : (n : ℕ) (r : Reply) → item_of r ≡ [] → Ties n log tk (step_without_entry σ r)
+  nothing_tied n r h = quiet_tied σ σ log tk _ t refl refl (omega arith) (λ q z f. subst (λ (xs : List Item). IsSessionTied q z log xs) (none_taken tk n r h q) (t.sessions q z f)) (λ q g. none_taken tk n r h q)
 
   requeued : (qs : List Queued) → IsLogged (with_queue σ qs) log tk
-  requeued qs = record { tables = t.tables; legal = t.legal; commits = t.commits; seats = t.seats; fresh = t.fresh }
+  requeued qs = record { tables = t.tables; legal = t.legal; commits = t.commits; sessions = t.sessions; fresh = t.fresh }
 
-  module _ (s : Seat) (here : seat_at σ.seats s.number ≡ Some s) where
-    -- the seat is another, with the same subscriptions and items
-    same_tied : (s' : Seat) (qs : List Queued) (a : ℕ) (r : Reply) → item_of r ≡ [] → s'.number ≡ s.number → s'.watching ≡ s.watching → s'.outbox.items ≡ s.outbox.items
-        → Ties s.number log tk (nothing (record σ { seats = change σ.seats s'; queue = qs; next_age = a }) r)
+  module _ (s : Session) (here : session_at σ.sessions s.number ≡ Some s) where
+    -- the session is another, with the same subscriptions and items
+    same_tied : (s' : Session) (qs : List Queued) (a : ℕ) (r : Reply) → item_of r ≡ [] → s'.number ≡ s.number → s'.watching ≡ s.watching → s'.outbox.items ≡ s.outbox.items
+        → Ties s.number log tk (step_without_entry (record σ { sessions = with_changed σ.sessions s'; queue = qs; next_age = a }) r)
     same_tied s' qs a r h num ws bs = quiet_tied σ _ log tk _ t refl refl (omega arith)
-        (λ q z f. changed_some σ.seats s' s q z (λ k y. IsSeatTied k y log (kept s.number tk r k)) (ap (seat_at σ.seats) num ∙ here) f
-        (let m = t.seats s.number s here in subst (λ (k : ℕ). IsSeatTied k s' log (kept s.number tk r k)) (sym num) (record { watching = λ u. ap (λ w. level_in w u) ws ∙ m.watching u; items = ap (λ xs. xs ++ s'.outbox.items) (sym (none_taken tk s.number r h s.number)) ∙ ap (λ xs. tk s.number ++ xs) bs ∙ m.items }))
-        (λ k d y g. subst (λ (xs : List Item). IsSeatTied k y log xs) (none_taken tk s.number r h k) (t.seats k y g)))
+        (λ q z f. changed_some σ.sessions s' s q z (λ k y. IsSessionTied k y log (kept s.number tk r k)) (ap (session_at σ.sessions) num ∙ here) f
+        (let m = t.sessions s.number s here in subst (λ (k : ℕ). IsSessionTied k s' log (kept s.number tk r k)) (sym num) (record { watching = λ u. ap (λ w. level_in w u) ws ∙ m.watching u; items = ap (λ xs. xs ++ s'.outbox.items) (sym (none_taken tk s.number r h s.number)) ∙ ap (λ xs. tk s.number ++ xs) bs ∙ m.items }))
+        (λ k d y g. subst (λ (xs : List Item). IsSessionTied k y log xs) (none_taken tk s.number r h k) (t.sessions k y g)))
         (λ q g. none_taken tk s.number r h q)
 
-    made_tied : (transaction : Transaction) (x : Move) (r : Reply) → item_of r ≡ [] → Ties s.number log tk (made σ s transaction x r)
+    made_tied : (transaction : Transaction) (x : Move) (r : Reply) → item_of r ≡ [] → Ties s.number log tk (make σ s transaction x r)
     made_tied transaction x r h = same_tied (with_transaction s _) σ.queue σ.next_age _ (said_item (mid_of σ transaction) x r h) refl refl refl
 
-    decided_tied : (transaction : Transaction) (o : Operation) (a : Answer) → Ties s.number log tk (decided σ s transaction o a)
+    decided_tied : (transaction : Transaction) (o : Operation) (a : Answer) → Ties s.number log tk (by_lock_answer σ s transaction o a)
     decided_tied transaction o Granted = made_tied transaction (Do o) reply.Done refl
-    decided_tied transaction o Wait = quiet_tied σ _ log tk _ t refl refl (omega arith) (λ q z f. subst (λ (xs : List Item). IsSeatTied q z log xs) (none_taken tk s.number reply.Waiting refl q) (t.seats q z f)) (λ q g. none_taken tk s.number reply.Waiting refl q)
+    decided_tied transaction o Wait = quiet_tied σ _ log tk _ t refl refl (omega arith) (λ q z f. subst (λ (xs : List Item). IsSessionTied q z log xs) (none_taken tk s.number reply.Waiting refl q) (t.sessions q z f)) (λ q g. none_taken tk s.number reply.Waiting refl q)
     decided_tied transaction o Die = same_tied (with_transaction s _) σ.queue σ.next_age reply.Restart refl refl refl refl
 
-    within_tied : (transaction : Transaction) (o : Operation) (b : Bool) → Ties s.number log tk (within σ s transaction o b)
+    within_tied : (transaction : Transaction) (o : Operation) (b : Bool) → Ties s.number log tk (within_limit σ s transaction o b)
     within_tied transaction o false = nothing_tied s.number (reply.SystemLimit limit.Operations) refl
     within_tied transaction o true = decided_tied transaction o _
 
@@ -234,11 +234,11 @@ module _ (σ : State) (log : List Entry) (tk : ℕ → List Item) (t : IsLogged 
     operate_tied o None = nothing_tied s.number (reply.NoTransaction) refl
     operate_tied o (Some transaction) = within_tied transaction o _
 
-    opened_tied : (b : Bool) → Ties s.number log tk (opened σ s b)
+    opened_tied : (b : Bool) → Ties s.number log tk (open_level_1 σ s b)
     opened_tied false = nothing_tied s.number (reply.SystemLimit limit.Ages) refl
     opened_tied true = same_tied (with_transaction s _) σ.queue (σ.next_age + 1) (reply.Tid σ.next_age) refl refl refl refl
 
-    nested_tied : (transaction : Transaction) (a b : Bool) → Ties s.number log tk (nested σ s transaction a b)
+    nested_tied : (transaction : Transaction) (a b : Bool) → Ties s.number log tk (open_child σ s transaction a b)
     nested_tied transaction false b = nothing_tied s.number (reply.SystemLimit limit.Nesting) refl
     nested_tied transaction true false = nothing_tied s.number (reply.SystemLimit limit.Operations) refl
     nested_tied transaction true true = made_tied transaction Open reply.Done refl
@@ -254,9 +254,9 @@ module _ (σ : State) (log : List Entry) (tk : ℕ → List Item) (t : IsLogged 
     -- taking the first item moves it from the row to the items taken
     give_tied : ((q : ℕ) → σ.greatest < q → q ≢ s.number) → (xs : List Item) (l : Option ℕ) → s.outbox.items ≡ xs → Ties s.number log tk (give σ s xs l)
     give_tied above (x ∷ xs) l is = quiet_tied σ _ log tk _ t refl refl (omega arith)
-        (λ q z f. changed_some σ.seats _ s q z (λ k y. IsSeatTied k y log (kept s.number tk (reply.Taken x) k)) here f
-        (let m = t.seats s.number s here in record { watching = m.watching; items = ap (λ b. (tk s.number ++ (if b then x ∷ [] else [])) ++ xs) (itself s.number) ∙ append_assoc (tk s.number) (x ∷ []) xs ∙ ap (λ ys. tk s.number ++ ys) (sym is) ∙ m.items })
-        (λ k d y g. subst (λ (ys : List Item). IsSeatTied k y log ys) (same k d) (t.seats k y g)))
+        (λ q z f. changed_some σ.sessions _ s q z (λ k y. IsSessionTied k y log (kept s.number tk (reply.Taken x) k)) here f
+        (let m = t.sessions s.number s here in record { watching = m.watching; items = ap (λ b. (tk s.number ++ (if b then x ∷ [] else [])) ++ xs) (itself s.number) ∙ append_assoc (tk s.number) (x ∷ []) xs ∙ ap (λ ys. tk s.number ++ ys) (sym is) ∙ m.items })
+        (λ k d y g. subst (λ (ys : List Item). IsSessionTied k y log ys) (same k d) (t.sessions k y g)))
         (λ q g. same q (above q g))
       where
         same : (k : ℕ) → k ≢ s.number → tk k ≡ kept s.number tk (reply.Taken x) k
@@ -264,12 +264,12 @@ module _ (σ : State) (log : List Entry) (tk : ℕ → List Item) (t : IsLogged 
     give_tied above [] None is = nothing_tied s.number (reply.Empty) refl
     give_tied above [] (Some n) is = same_tied _ σ.queue σ.next_age (reply.Overflow n) refl refl refl refl
 
-  module _ (s : Seat) (here : seat_at σ.seats s.number ≡ Some s) where
-    retried_tied : (transaction : Transaction) (o : Operation) (b : Bool) → Ties s.number log tk (retried σ s transaction o b)
+  module _ (s : Session) (here : session_at σ.sessions s.number ≡ Some s) where
+    retried_tied : (transaction : Transaction) (o : Operation) (b : Bool) → Ties s.number log tk (try_again σ s transaction o b)
     retried_tied transaction o false = nothing_tied s.number (reply.Waiting) refl
     retried_tied transaction o true = made_again
       where
-        made_again : Ties s.number log tk (made (with_queue σ (without_request σ.queue s.number)) s transaction (Do o) reply.Done)
+        made_again : Ties s.number log tk (make (with_queue σ (without_request σ.queue s.number)) s transaction (Do o) reply.Done)
         made_again = same_tied s here (with_transaction s _) (without_request σ.queue s.number) σ.next_age _ (said_item (mid_of σ transaction) (Do o) reply.Done refl) refl refl refl
 
     retry_tx_tied : (o : Operation) (x : Option Transaction) → Ties s.number log tk (retry_in σ s o x)
@@ -288,15 +288,15 @@ module _ (σ : State) (log : List Entry) (tk : ℕ → List Item) (t : IsLogged 
       low : (q : ℕ) → σ.greatest < q → q ≢ s.number
       low q h e = let j = sound.joined s.number s here in omega arith
 
-      -- a mark into the seat's own post
+      -- a mark into the session's own post
       mark_tied : (over : Bool) (ws : List Watch) (x : Item) (e : Entry)
-          → σ.tables ≡ entered σ.tables e → σ.commits ≡ count_after σ.commits e → IsRight σ.tables σ.commits e
-          → ((u : List ℕ) → level_in ws u ≡ stands s.number u (level_in s.watching u) e) → owed s.number log e ≡ x ∷ []
-          → ((q : ℕ) → q ≢ s.number → ((u : List ℕ) (b : Option Level) → stands q u b e ≡ b) × (owed q log e ≡ []))
-          → Ties s.number log tk (marked σ over s ws x e)
+          → σ.tables ≡ catalog_after σ.tables e → σ.commits ≡ count_after σ.commits e → IsRight σ.tables σ.commits e
+          → ((u : List ℕ) → level_in ws u ≡ level_after s.number u (level_in s.watching u) e) → expected s.number log e ≡ x ∷ []
+          → ((q : ℕ) → q ≢ s.number → ((u : List ℕ) (b : Option Level) → level_after q u b e ≡ b) × (expected q log e ≡ []))
+          → Ties s.number log tk (put_marker σ over s ws x e)
       mark_tied true ws x e ts cs right wat ow others = same_tied s here _ σ.queue σ.next_age reply.OutboxFull refl refl refl refl
       mark_tied false ws x e ts cs right wat ow others = entry_tied σ _ log tk _ e t ts cs refl right
-          (λ q r f. changed_some σ.seats _ s q r (λ k y. (z : Seat) × (seat_at σ.seats k ≡ Some z) × Moves k log e z y) here f
+          (λ q r f. changed_some σ.sessions _ s q r (λ k y. (z : Session) × (session_at σ.sessions k ≡ Some z) × Moves k log e z y) here f
           (s, here, record { watching = wat; items = ap (λ xs. s.outbox.items ++ xs) (sym ow) })
           (λ k d z g. (z, g, record { watching = λ u. sym ((others k d).0 u (level_in z.watching u)); items = sym (append-nil z.outbox.items) ∙ ap (λ xs. z.outbox.items ++ xs) (sym (others k d).1) })))
           (λ q h. (λ u. (others q (low q h)).0 u None, (others q (low q h)).1))
@@ -312,46 +312,46 @@ module _ (σ : State) (log : List Entry) (tk : ℕ → List Item) (t : IsLogged 
       unsubscribe_tied : (over : List ℕ) (n : List ℕ) (b : Bool) → Ties s.number log tk (unsubscribe σ over s n b)
       unsubscribe_tied over n false = nothing_tied s.number (reply.NotSubscribed n) refl
       unsubscribe_tied over n true = mark_tied _ _ _ (Unsubscribed s.number n) refl refl tt
-          (λ u. left_level s.watching n u ∙ ap (λ b. kept_if (not (b && bytes_eq n u)) (level_in s.watching u)) (sym (itself s.number)))
+          (λ u. left_level s.watching n u ∙ ap (λ b. level_if (not (b && bytes_eq n u)) (level_in s.watching u)) (sym (itself s.number)))
           (ap (λ b. if b then Ended n ending.Unsubscribed ∷ [] else []) (itself s.number))
-          (λ q d. (λ u b. ap (λ k. kept_if (not (k && bytes_eq n u)) b) (differs q s.number d), ap (λ k. if k then Ended n ending.Unsubscribed ∷ [] else []) (differs q s.number d)))
+          (λ q d. (λ u b. ap (λ k. level_if (not (k && bytes_eq n u)) b) (differs q s.number d), ap (λ k. if k then Ended n ending.Unsubscribed ∷ [] else []) (differs q s.number d)))
 
-      -- THE COMMIT: each seat is given what the entry owes it
+      -- THE COMMIT: each session is given what the entry owes it
       commit_tied : (over : List ℕ) (transaction : Transaction) → s.transaction ≡ Some transaction → Ties s.number log tk (commit_now σ over s transaction (events_now σ transaction))
-      commit_tied over transaction is = entry_tied σ _ log tk _ e t refl refl refl (refl, right) seats
-          (λ q h. (λ u. kept_none (not (has_session over q)), fresh_owed q (t.fresh q h).watching))
+      commit_tied over transaction is = entry_tied σ _ log tk _ e t refl refl refl (refl, right) sessions
+          (λ q h. (λ u. kept_none (not (has_session over q)), fresh_expected q (t.fresh q h).watching))
           (none_taken tk s.number (reply.Atomic (σ.commits + 1)) refl)
         where
           e : Entry
           e = Committed (σ.commits + 1) s.number transaction.age transaction.moves transaction.told over
 
-          tx_is : transaction_in (seat_at σ.seats s.number) ≡ Some transaction
+          tx_is : transaction_in (session_at σ.sessions s.number) ≡ Some transaction
           tx_is = ap transaction_in here ∙ is
 
           right : replies (start σ.tables transaction.age) transaction.moves ≡ transaction.told
-          right = ap (λ (o : Option Transaction). replies (start σ.tables (age_in o)) (moves_in o)) (sym tx_is) ∙ sound.told s.number ∙ ap told_in_transaction tx_is
+          right = ap (λ (o : Option Transaction). replies (start σ.tables (age_in o)) (moves_in o)) (sym tx_is) ∙ sound.told s.number ∙ ap replies_in tx_is
 
-          fresh_owed : (q : ℕ) → ((u : List ℕ) → in_force q log u ≡ None) → owed q log e ≡ []
-          fresh_owed q h = (λ i. unless_over (has_session over q) (batch_for (λ u. h u i) (σ.commits + 1) (events (serial log) transaction.age (surviving transaction.moves transaction.told))))
+          fresh_expected : (q : ℕ) → ((u : List ℕ) → in_force q log u ≡ None) → expected q log e ≡ []
+          fresh_expected q h = (λ i. unless_over (has_session over q) (batch_for (λ u. h u i) (σ.commits + 1) (events (serial log) transaction.age (surviving transaction.moves transaction.told))))
               ∙ ap (unless_over (has_session over q)) (batch_none (σ.commits + 1) (events (serial log) transaction.age (surviving transaction.moves transaction.told))) ∙ unless_nil (has_session over q)
 
-          f : Seat → Seat
-          f x = given (σ.commits + 1) over (batch_to (σ.commits + 1) (events_now σ transaction) x) x
+          f : Session → Session
+          f x = after_put (σ.commits + 1) over (batch_to (σ.commits + 1) (events_now σ transaction) x) x
 
-          moves : (q : ℕ) (x y : Seat) → seat_at σ.seats q ≡ Some x → y.number ≡ q → y.watching ≡ x.watching → y.outbox ≡ x.outbox → Moves q log e x (given (σ.commits + 1) over (batch_to (σ.commits + 1) (events_now σ transaction) y) y)
+          moves : (q : ℕ) (x y : Session) → session_at σ.sessions q ≡ Some x → y.number ≡ q → y.watching ≡ x.watching → y.outbox ≡ x.outbox → Moves q log e x (after_put (σ.commits + 1) over (batch_to (σ.commits + 1) (events_now σ transaction) y) y)
           moves q x y g num ws outbox = given_moves q (σ.commits + 1) over _ log e x y num outbox
-              (λ i. unless_over (has_session over q) (batch_for (λ u. (sym ((t.seats q x g).watching u) ∙ ap (λ w. level_in w u) (sym ws)) i) (σ.commits + 1) (events (sym t.tables i) transaction.age (surviving transaction.moves transaction.told))))
-              (λ h u. ap (λ b. kept_if (not b) (level_in x.watching u)) h)
-              (λ h u. ap (λ w. level_in w u) ws ∙ ap (λ b. kept_if (not b) (level_in x.watching u)) (sym h))
+              (λ i. unless_over (has_session over q) (batch_for (λ u. (sym ((t.sessions q x g).watching u) ∙ ap (λ w. level_in w u) (sym ws)) i) (σ.commits + 1) (events (sym t.tables i) transaction.age (surviving transaction.moves transaction.told))))
+              (λ h u. ap (λ b. level_if (not b) (level_in x.watching u)) h)
+              (λ h u. ap (λ w. level_in w u) ws ∙ ap (λ b. level_if (not b) (level_in x.watching u)) (sym h))
 
-          seats : (q : ℕ) (r : Seat) → seat_at (map f (change σ.seats (with_transaction s None))) q ≡ Some r → (x : Seat) × (seat_at σ.seats q ≡ Some x) × Moves q log e x r
-          seats q r g =
-              let m = mapped_some f _ r (sym (seat_at-map f (λ x. given_number (σ.commits + 1) over _ x) (change σ.seats (with_transaction s None)) q) ∙ g) in
-              let P : ℕ → Seat → Type 0 = λ k y. (x : Seat) × (seat_at σ.seats k ≡ Some x) × Moves k log e x (f y) in
-              let got : P q m.0 = changed_some σ.seats (with_transaction s None) s q m.0 P here m.1
+          sessions : (q : ℕ) (r : Session) → session_at (map f (with_changed σ.sessions (with_transaction s None))) q ≡ Some r → (x : Session) × (session_at σ.sessions q ≡ Some x) × Moves q log e x r
+          sessions q r g =
+              let m = mapped_some f _ r (sym (session_at-map f (λ x. given_number (σ.commits + 1) over _ x) (with_changed σ.sessions (with_transaction s None)) q) ∙ g) in
+              let P : ℕ → Session → Type 0 = λ k y. (x : Session) × (session_at σ.sessions k ≡ Some x) × Moves k log e x (f y) in
+              let got : P q m.0 = changed_some σ.sessions (with_transaction s None) s q m.0 P here m.1
               (s, here, moves s.number s (with_transaction s None) here refl refl refl)
-              (λ k d y j. (y, j, moves k y y j (found σ.seats y k j) refl refl)) in
-              (got.0, got.1, subst (λ (z : Seat). Moves q log e got.0 z) m.2 got.2)
+              (λ k d y j. (y, j, moves k y y j (found σ.sessions y k j) refl refl)) in
+              (got.0, got.1, subst (λ (z : Session). Moves q log e got.0 z) m.2 got.2)
 
       commit_at_tied : (over : List ℕ) (transaction : Transaction) (b : Bool) → s.transaction ≡ Some transaction → Ties s.number log tk (commit_at σ over s transaction b)
       commit_at_tied over transaction false is = made_tied s here transaction Close reply.Done refl
@@ -363,33 +363,33 @@ module _ (σ : State) (log : List Entry) (tk : ℕ → List Item) (t : IsLogged 
 
   -- a schema command: those that watch a table that goes are given its end
   schema_tied : (n : ℕ) (over : List ℕ) (c : Schema) → schema_refusal σ.tables c ≡ None → Ties n log tk (schema_now σ over c)
-  schema_tied n over c right = entry_tied σ _ log tk _ e t refl refl refl right seats
-      (λ q h. (λ u. kept_none (not (is_removed u (removed c) || has_session over q)), fresh_owed q (t.fresh q h).watching))
+  schema_tied n over c right = entry_tied σ _ log tk _ e t refl refl refl right sessions
+      (λ q h. (λ u. kept_none (not (is_removed u (removed_table c) || has_session over q)), fresh_expected q (t.fresh q h).watching))
       (none_taken tk n reply.AtomicOk refl)
     where
       e : Entry
       e = Changed c over
 
-      fresh_owed : (q : ℕ) → ((u : List ℕ) → in_force q log u ≡ None) → owed q log e ≡ []
-      fresh_owed q h = (λ i. unless_over (has_session over q) (end_for (λ u. h u i) (removed c))) ∙ ap (unless_over (has_session over q)) (end_none (removed c)) ∙ unless_nil (has_session over q)
+      fresh_expected : (q : ℕ) → ((u : List ℕ) → in_force q log u ≡ None) → expected q log e ≡ []
+      fresh_expected q h = (λ i. unless_over (has_session over q) (end_for (λ u. h u i) (removed_table c))) ∙ ap (unless_over (has_session over q)) (end_none (removed_table c)) ∙ unless_nil (has_session over q)
 
-      f : Seat → Seat
-      f x = given (σ.commits + 1) over (end_to (removed c) x) (unwatched (removed c) x)
+      f : Session → Session
+      f x = after_put (σ.commits + 1) over (end_to (removed_table c) x) (without_deleted (removed_table c) x)
 
       or_true : (b : Bool) → (b || true) ≡ true
       or_true true = refl
       or_true false = refl
 
-      moves : (q : ℕ) (x : Seat) → seat_at σ.seats q ≡ Some x → Moves q log e x (f x)
-      moves q x g = given_moves q (σ.commits + 1) over (end_to (removed c) x) log e x (unwatched (removed c) x) ((unwatched_same (removed c) x).0 ∙ found σ.seats x q g) (unwatched_same (removed c) x).1
-          (λ i. unless_over (has_session over q) (end_for (λ u. (sym ((t.seats q x g).watching u)) i) (removed c)))
-          (λ h u. ap (λ b. kept_if (not (is_removed u (removed c) || b)) (level_in x.watching u)) h ∙ ap (λ b. kept_if (not b) (level_in x.watching u)) (or_true (is_removed u (removed c))))
-          (λ h u. unwatched_level (removed c) x u ∙ ap (λ b. kept_if (not b) (level_in x.watching u)) (sym (or-false (is_removed u (removed c)))) ∙ ap (λ b. kept_if (not (is_removed u (removed c) || b)) (level_in x.watching u)) (sym h))
+      moves : (q : ℕ) (x : Session) → session_at σ.sessions q ≡ Some x → Moves q log e x (f x)
+      moves q x g = given_moves q (σ.commits + 1) over (end_to (removed_table c) x) log e x (without_deleted (removed_table c) x) ((unwatched_same (removed_table c) x).0 ∙ found σ.sessions x q g) (unwatched_same (removed_table c) x).1
+          (λ i. unless_over (has_session over q) (end_for (λ u. (sym ((t.sessions q x g).watching u)) i) (removed_table c)))
+          (λ h u. ap (λ b. level_if (not (is_removed u (removed_table c) || b)) (level_in x.watching u)) h ∙ ap (λ b. level_if (not b) (level_in x.watching u)) (or_true (is_removed u (removed_table c))))
+          (λ h u. unwatched_level (removed_table c) x u ∙ ap (λ b. level_if (not b) (level_in x.watching u)) (sym (or-false (is_removed u (removed_table c)))) ∙ ap (λ b. level_if (not (is_removed u (removed_table c) || b)) (level_in x.watching u)) (sym h))
 
-      seats : (q : ℕ) (r : Seat) → seat_at (map f σ.seats) q ≡ Some r → (x : Seat) × (seat_at σ.seats q ≡ Some x) × Moves q log e x r
-      seats q r g =
-          let m = mapped_some f _ r (sym (seat_at-map f (λ x. given_number (σ.commits + 1) over (end_to (removed c) x) (unwatched (removed c) x) ∙ (unwatched_same (removed c) x).0) σ.seats q) ∙ g) in
-          (m.0, m.1, subst (λ (z : Seat). Moves q log e m.0 z) m.2 (moves q m.0 m.1))
+      sessions : (q : ℕ) (r : Session) → session_at (map f σ.sessions) q ≡ Some r → (x : Session) × (session_at σ.sessions q ≡ Some x) × Moves q log e x r
+      sessions q r g =
+          let m = mapped_some f _ r (sym (session_at-map f (λ x. given_number (σ.commits + 1) over (end_to (removed_table c) x) (without_deleted (removed_table c) x) ∙ (unwatched_same (removed_table c) x).0) σ.sessions q) ∙ g) in
+          (m.0, m.1, subst (λ (z : Session). Moves q log e m.0 z) m.2 (moves q m.0 m.1))
 
   schema_if_tied : (n : ℕ) (over : List ℕ) (c : Schema) (o : Option Reply) (busy room : Bool) → schema_refusal σ.tables c ≡ o → item_in o ≡ [] → Ties n log tk (schema_if σ over c o busy room)
   schema_if_tied n over c (Some r) busy room h g = nothing_tied n r g
@@ -397,12 +397,12 @@ module _ (σ : State) (log : List Entry) (tk : ℕ → List Item) (t : IsLogged 
   schema_if_tied n over c None false false h g = nothing_tied n (reply.SystemLimit limit.Tables) refl
   schema_if_tied n over c None false true h g = schema_tied n over c h
 
-  schema_step_logged : (n : ℕ) (over : List ℕ) (s : Seat) (c : Schema) (o : Option Transaction) → Ties n log tk (schema σ over c o)
+  schema_step_logged : (n : ℕ) (over : List ℕ) (s : Session) (c : Schema) (o : Option Transaction) → Ties n log tk (schema σ over c o)
   schema_step_logged n over s c (Some transaction) = nothing_tied n reply.InTransaction refl
   schema_step_logged n over s c None = schema_if_tied n over c (schema_refusal σ.tables c) _ _ refl (refusal_item σ.tables c)
 
   module _ (sound : IsSound σ) where
-    do_tied : (over : List ℕ) (s : Seat) (c : Command) → seat_at σ.seats s.number ≡ Some s → Ties s.number log tk (do_command σ over s c)
+    do_tied : (over : List ℕ) (s : Session) (c : Command) → session_at σ.sessions s.number ≡ Some s → Ties s.number log tk (do_command σ over s c)
     do_tied over s (command.Schema c) here = schema_step_logged s.number over s c s.transaction
     do_tied over s (command.TableInfo n i) here = nothing_tied s.number (table_info n i (find σ.tables n)) (info_item n i (find σ.tables n))
     do_tied over s command.Begin here = begin_tied s here s.transaction
@@ -413,11 +413,11 @@ module _ (σ : State) (log : List Entry) (tk : ℕ → List Item) (t : IsLogged 
     do_tied over s (command.Unsubscribe n l) here = unsubscribe_tied s here sound over n (is_at (level_in s.watching n) l)
     do_tied over s (command.OneShot parts retries) here = one_shot_tied s here s.transaction
 
-    command_if_tied : (over : List ℕ) (s : Seat) (c : Command) (b : Bool) → seat_at σ.seats s.number ≡ Some s → Ties s.number log tk (command_if σ over s c b)
+    command_if_tied : (over : List ℕ) (s : Session) (c : Command) (b : Bool) → session_at σ.sessions s.number ≡ Some s → Ties s.number log tk (command_if σ over s c b)
     command_if_tied over s c true here = nothing_tied s.number reply.WaitingNow refl
     command_if_tied over s c false here = do_tied over s c here
 
-    take_tied : (s : Seat) (c : Option ℕ) → seat_at σ.seats s.number ≡ Some s → Ties s.number log tk (give σ s (takable s.outbox c) s.overflow)
+    take_tied : (s : Session) (c : Option ℕ) → session_at σ.sessions s.number ≡ Some s → Ties s.number log tk (give σ s (items_to_take s.outbox c) s.overflow)
     take_tied s (Some c) here = give_tied s here (low s here sound) s.outbox.items s.overflow refl
     take_tied s None here = none_there s.overflow
       where
@@ -425,51 +425,51 @@ module _ (σ : State) (log : List Entry) (tk : ℕ → List Item) (t : IsLogged 
         none_there None = nothing_tied s.number reply.Empty refl
         none_there (Some n) = same_tied s here _ σ.queue σ.next_age (reply.Overflow n) refl refl refl refl
 
-    leave_tied : (s : Seat) → Ties s.number log tk (leave σ s)
+    leave_tied : (s : Session) → Ties s.number log tk (leave σ s)
     leave_tied s = quiet_tied σ _ log tk _ t refl refl (omega arith)
-        (λ q z f. cases q z (q == s.number) (sym (seat_at-without σ.seats s.number q) ∙ f))
+        (λ q z f. cases q z (q == s.number) (sym (session_at-without σ.sessions s.number q) ∙ f))
         (λ q g. none_taken tk s.number reply.Done refl q)
       where
-        cases : (q : ℕ) (z : Seat) (b : Bool) → (if b then None else seat_at σ.seats q) ≡ Some z → IsSeatTied q z log (kept s.number tk reply.Done q)
+        cases : (q : ℕ) (z : Session) (b : Bool) → (if b then None else session_at σ.sessions q) ≡ Some z → IsSessionTied q z log (kept s.number tk reply.Done q)
         cases q z true f = cc
-        cases q z false f = subst (λ (xs : List Item). IsSeatTied q z log xs) (none_taken tk s.number reply.Done refl q) (t.seats q z f)
+        cases q z false f = subst (λ (xs : List Item). IsSessionTied q z log xs) (none_taken tk s.number reply.Done refl q) (t.sessions q z f)
 
-    seated_tied : (over : List ℕ) (s : Seat) (a : Ask) → seat_at σ.seats s.number ≡ Some s → Ties s.number log tk (seated σ over s a)
+    seated_tied : (over : List ℕ) (s : Session) (a : Ask) → session_at σ.sessions s.number ≡ Some s → Ties s.number log tk (step_of_joined σ over s a)
     seated_tied over s (Join b) here = nothing_tied s.number reply.BadSession refl
     seated_tied over s Leave here = leave_tied s
     seated_tied over s Retry here = retry_tied s here _
     seated_tied over s Take here = take_tied s s.outbox.capacity here
     seated_tied over s (DoCommand c) here = command_if_tied over s c _ here
 
-    join_tied : (n : ℕ) (b : Outbox) (x y : Bool) → nat_lt σ.greatest n ≡ x → seat_at σ.seats n ≡ None → b.items ≡ [] → Ties n log tk (join σ n b x y)
+    join_tied : (n : ℕ) (b : Outbox) (x y : Bool) → nat_lt σ.greatest n ≡ x → session_at σ.sessions n ≡ None → b.items ≡ [] → Ties n log tk (join σ n b x y)
     join_tied n b false y e none empty = nothing_tied n reply.BadSession refl
     join_tied n b true false e none empty = nothing_tied n (reply.SystemLimit limit.Sessions) refl
     join_tied n b true true e none empty =
         let above : σ.greatest < n = grind (arith, nat_tests) in
         let new = t.fresh n above in
         quiet_tied σ _ log tk _ t refl refl (omega arith)
-        (λ q z f. cases q z new (q == n) refl (sym (seat_at-push σ.seats (fresh n b) q none) ∙ f))
+        (λ q z f. cases q z new (q == n) refl (sym (session_at-push σ.sessions (fresh n b) q none) ∙ f))
         (λ q g. none_taken tk n reply.Done refl q)
       where
-        cases : (q : ℕ) (z : Seat) → IsNew n log (tk n) → (c : Bool) → (q == n) ≡ c → (if c then Some (fresh n b) else seat_at σ.seats q) ≡ Some z → IsSeatTied q z log (kept n tk reply.Done q)
+        cases : (q : ℕ) (z : Session) → IsNew n log (tk n) → (c : Bool) → (q == n) ≡ c → (if c then Some (fresh n b) else session_at σ.sessions q) ≡ Some z → IsSessionTied q z log (kept n tk reply.Done q)
         cases q z new true g f = let h : fresh n b ≡ z = cc in
-            subst (λ (k : ℕ). IsSeatTied k z log (kept n tk reply.Done k)) (sym (eq_true q n g)) (subst (λ (y : Seat). IsSeatTied n y log (kept n tk reply.Done n)) h
-            (record { watching = λ u. sym (new.watching u); items = ap (λ xs. kept n tk reply.Done n ++ xs) empty ∙ append-nil _ ∙ sym (none_taken tk n reply.Done refl n) ∙ new.taken_none ∙ sym new.owed }))
-        cases q z new false g f = subst (λ (xs : List Item). IsSeatTied q z log xs) (none_taken tk n reply.Done refl q) (t.seats q z f)
+            subst (λ (k : ℕ). IsSessionTied k z log (kept n tk reply.Done k)) (sym (eq_true q n g)) (subst (λ (y : Session). IsSessionTied n y log (kept n tk reply.Done n)) h
+            (record { watching = λ u. sym (new.watching u); items = ap (λ xs. kept n tk reply.Done n ++ xs) empty ∙ append-nil _ ∙ sym (none_taken tk n reply.Done refl n) ∙ new.taken_none ∙ sym new.expected }))
+        cases q z new false g f = subst (λ (xs : List Item). IsSessionTied q z log xs) (none_taken tk n reply.Done refl q) (t.sessions q z f)
 
-    unseated_tied : (n : ℕ) (a : Ask) → seat_at σ.seats n ≡ None → JoinsEmpty a → Ties n log tk (unseated σ n a)
+    unseated_tied : (n : ℕ) (a : Ask) → session_at σ.sessions n ≡ None → JoinsEmpty a → Ties n log tk (step_of_stranger σ n a)
     unseated_tied n (Join b) none empty = join_tied n b _ _ refl none empty
     unseated_tied n Leave none empty = nothing_tied n reply.BadSession refl
     unseated_tied n Retry none empty = nothing_tied n reply.BadSession refl
     unseated_tied n Take none empty = nothing_tied n reply.BadSession refl
     unseated_tied n (DoCommand c) none empty = nothing_tied n reply.BadSession refl
 
-    by_seat_tied : (over : List ℕ) (n : ℕ) (a : Ask) (o : Option Seat) → seat_at σ.seats n ≡ o → JoinsEmpty a → Ties n log tk (by_seat σ over n a o)
-    by_seat_tied over n a None e empty = unseated_tied n a e empty
-    by_seat_tied over n a (Some s) e empty = subst (λ (k : ℕ). Ties k log tk (seated σ over s a)) (found σ.seats s n e) (seated_tied over s a (ap (seat_at σ.seats) (found σ.seats s n e) ∙ e))
+    by_session_tied : (over : List ℕ) (n : ℕ) (a : Ask) (o : Option Session) → session_at σ.sessions n ≡ o → JoinsEmpty a → Ties n log tk (step_of σ over n a o)
+    by_session_tied over n a None e empty = unseated_tied n a e empty
+    by_session_tied over n a (Some s) e empty = subst (λ (k : ℕ). Ties k log tk (step_of_joined σ over s a)) (found σ.sessions s n e) (seated_tied over s a (ap (session_at σ.sessions) (found σ.sessions s n e) ∙ e))
 
 -- one step
 pub step_logged : (σ : State) (log : List Entry) (tk : ℕ → List Item) (over : List ℕ) (n : ℕ) (a : Ask) → IsSound σ → JoinsEmpty a → IsLogged σ log tk
-    → IsLogged (outcome σ over n a).state (log ++ entries (outcome σ over n a).entry) (λ m. tk m ++ taken_now m n (outcome σ over n a).reply)
+    → IsLogged (outcome σ over n a).state (log ++ entries (outcome σ over n a).entry) (λ m. tk m ++ delivered_by m n (outcome σ over n a).reply)
 unfolding outcome
-step_logged σ log tk over n a sound empty t = by_seat_tied σ log tk t sound over n a (seat_at σ.seats n) refl empty
+step_logged σ log tk over n a sound empty t = by_session_tied σ log tk t sound over n a (session_at σ.sessions n) refl empty

@@ -9,7 +9,7 @@ use Rattle.tab_model.specs.declared.data.Operation.TheVariants as op
 use Rattle.tab_model.specs.declared.data.Reply.{Reply}
 use Rattle.tab_model.specs.declared.data.Reply.TheVariants as reply
 use Rattle.tab_model.specs.Definitions.{fits_def, is_indexed, position}
-use Rattle.tab_model.specs.Worlds.{Table}
+use Rattle.tab_model.specs.Catalogs.{Table}
 use Rattle.tab_model.specs.Operations.{failure_in, answer_at, answer_or}
 
 -- a property of an operation's failure and its reply that holds of each kind of answer

@@ -21,13 +21,13 @@ use Rattle.tab_model.specs.declared.data.Command.{Command}
 use Rattle.tab_model.specs.declared.data.Command.TheVariants as command
 use Rattle.tab_model.specs.Locks.{Lock, needs, locks_of}
 use Rattle.tab_model.specs.Ages.{Owned, Answer, Granted, Wait, Die, blocks, decide, can_retry, request_of, without, after_request, after_retry, RisesAfter, Rises, Chain, last_of}
-use Rattle.tab_model.specs.Schemas.{removed}
-use Rattle.tab_model.specs.State.{Transaction, Outbox, Watch, Seat, Queued, State, new, seat_at, transaction_in, transaction_at, request_in, without_request, is_waiting, with_age, held_by, held_in, queued_in, ages_of, OwnedBy, HasAge, IsSound}
+use Rattle.tab_model.specs.Schemas.{removed_table}
+use Rattle.tab_model.specs.State.{Transaction, Outbox, Watch, Session, Queued, State, new, session_at, transaction_in, transaction_at, request_in, without_request, is_waiting, with_age, locks_held_by, locks_held_in, locks_queued_in, ages_of, OwnedBy, HasAge, IsSound}
 use Rattle.tab_model.specs.Reached.{IsRising}
-use Rattle.tab_model.specs.Outcome.{Ask, Join, Leave, Retry, Take, DoCommand, outcome, with_transaction, with_queue, change, without_seat, after_move, made, emptied, decided, within, operate, retried, retry_in, retry, opened, nested, begin, one_shot, abort, given, batch_to, end_to, unwatched, commit_at, commit, events_now, schema_if, schema, marked, subscribe, unsubscribe, is_abort, do_command, command_if, give, leave, seated, fresh, join, unseated, by_seat}
+use Rattle.tab_model.specs.Outcome.{Ask, Join, Leave, Retry, Take, DoCommand, outcome, with_transaction, with_queue, with_changed, without_session, after_move, make, begun_anew, by_lock_answer, within_limit, operate, try_again, retry_in, retry, open_level_1, open_child, begin, one_shot, abort, after_put, batch_to, end_to, without_deleted, commit_at, commit, events_now, schema_if, schema, put_marker, subscribe, unsubscribe, is_abort, do_command, command_if, give, leave, step_of_joined, fresh, join, step_of_stranger, step_of}
 use Rattle.tab_model.specs.Run.{Call, outcome_of, after_all}
-use Rattle.tab_model.proofs.Seats.{eq_true, found, seat_at-push, seat_at-without}
-use Rattle.tab_model.proofs.StepsBySeat.{lock_of_move, locks-more, held_none}
+use Rattle.tab_model.proofs.SessionLists.{eq_true, found, session_at-push, session_at-without}
+use Rattle.tab_model.proofs.StepsBySession.{lock_of_move, locks-more, held_none}
 use Rattle.tab_model.proofs.SoundSteps.{given_same, unwatched_same, step_sound}
 use Rattle.tab_model.proofs.Schedules.{new_sound}
 use Rattle.tab_model.proofs.RefusalLaws.{none_queued}
@@ -49,7 +49,7 @@ fewer_held held held' earlier [] f h = tt
 fewer_held held held' earlier (x ∷ queue) f h = (f (blocks x) h.0, h.1, fewer_held held held' (earlier ++ x ∷ []) queue f h.2)
 
 -- a session's requests go
-fewer_queue : (n : ℕ) (held earlier earlier' : List Owned) (qs : List Queued) → Fewer earlier earlier' → RisesAfter held earlier (queued_in qs) → RisesAfter held earlier' (queued_in (without_request qs n))
+fewer_queue : (n : ℕ) (held earlier earlier' : List Owned) (qs : List Queued) → Fewer earlier earlier' → RisesAfter held earlier (locks_queued_in qs) → RisesAfter held earlier' (locks_queued_in (without_request qs n))
 fewer_queue n held earlier earlier' [] f h = tt
 fewer_queue n held earlier earlier' (q ∷ qs) f h = cases (q.session == n)
     (fewer_queue n held (earlier ++ x ∷ []) earlier' qs (fewer_front earlier earlier' (x ∷ []) f) h.2)
@@ -58,11 +58,11 @@ fewer_queue n held earlier earlier' (q ∷ qs) f h = cases (q.session == n)
     x : Owned
     x = (q.age, needs q.operation)
 
-    cases : (b : Bool) → RisesAfter held earlier' (queued_in (without_request qs n)) → RisesAfter held (earlier' ++ x ∷ []) (queued_in (without_request qs n)) → RisesAfter held earlier' (queued_in (if b then without_request qs n else q ∷ without_request qs n))
+    cases : (b : Bool) → RisesAfter held earlier' (locks_queued_in (without_request qs n)) → RisesAfter held (earlier' ++ x ∷ []) (locks_queued_in (without_request qs n)) → RisesAfter held earlier' (locks_queued_in (if b then without_request qs n else q ∷ without_request qs n))
     cases true g k = g
     cases false g k = (h.0, f (blocks x) h.1, k)
 
-pub queued_in-push : (qs : List Queued) (q : Queued) → queued_in (qs ++ q ∷ []) ≡ queued_in qs ++ (q.age, needs q.operation) ∷ []
+pub queued_in-push : (qs : List Queued) (q : Queued) → locks_queued_in (qs ++ q ∷ []) ≡ locks_queued_in qs ++ (q.age, needs q.operation) ∷ []
 queued_in-push [] q = refl
 queued_in-push (p ∷ qs) q = ap (λ xs. (p.age, needs p.operation) ∷ xs) (queued_in-push qs q)
 
@@ -89,19 +89,19 @@ abbrev pub Match : ℕ → ℕ → List Queued → Type 0
 Match n a [] = Unit {0}
 Match n a (q ∷ qs) = ((q.session == n) ≡ (q.age == a)) × Match n a qs
 
-pub without_match : (n a : ℕ) (qs : List Queued) → Match n a qs → queued_in (without_request qs n) ≡ without a (queued_in qs)
+pub without_match : (n a : ℕ) (qs : List Queued) → Match n a qs → locks_queued_in (without_request qs n) ≡ without a (locks_queued_in qs)
 without_match n a [] m = refl
-without_match n a (q ∷ qs) m = ap (λ b. queued_in (if b then without_request qs n else q ∷ without_request qs n)) m.0 ∙ cases (q.age == a) (without_match n a qs m.1)
+without_match n a (q ∷ qs) m = ap (λ b. locks_queued_in (if b then without_request qs n else q ∷ without_request qs n)) m.0 ∙ cases (q.age == a) (without_match n a qs m.1)
   where
-    cases : (b : Bool) → queued_in (without_request qs n) ≡ without a (queued_in qs) → queued_in (if b then without_request qs n else q ∷ without_request qs n) ≡ (if b then without a (queued_in qs) else (q.age, needs q.operation) ∷ without a (queued_in qs))
+    cases : (b : Bool) → locks_queued_in (without_request qs n) ≡ without a (locks_queued_in qs) → locks_queued_in (if b then without_request qs n else q ∷ without_request qs n) ≡ (if b then without a (locks_queued_in qs) else (q.age, needs q.operation) ∷ without a (locks_queued_in qs))
     cases true ih = ih
     cases false ih = ap (λ xs. (q.age, needs q.operation) ∷ xs) ih
 
-pub request_match : (n a : ℕ) (qs : List Queued) (q : Queued) → Match n a qs → request_in qs n ≡ Some q → request_of a (queued_in qs) ≡ Some (q.age, needs q.operation)
+pub request_match : (n a : ℕ) (qs : List Queued) (q : Queued) → Match n a qs → request_in qs n ≡ Some q → request_of a (locks_queued_in qs) ≡ Some (q.age, needs q.operation)
 request_match n a [] q m e = cc
 request_match n a (p ∷ qs) q m e = cases (p.age == a) (ap (λ b. if b then Some p else request_in qs n) (sym m.0) ∙ e) (request_match n a qs q m.1)
   where
-    cases : (b : Bool) → (if b then Some p else request_in qs n) ≡ Some q → (request_in qs n ≡ Some q → request_of a (queued_in qs) ≡ Some (q.age, needs q.operation)) → (if b then Some (p.age, needs p.operation) else request_of a (queued_in qs)) ≡ Some (q.age, needs q.operation)
+    cases : (b : Bool) → (if b then Some p else request_in qs n) ≡ Some q → (request_in qs n ≡ Some q → request_of a (locks_queued_in qs) ≡ Some (q.age, needs q.operation)) → (if b then Some (p.age, needs p.operation) else request_of a (locks_queued_in qs)) ≡ Some (q.age, needs q.operation)
     cases true g ih = let same : p ≡ q = cc in ap (λ (z : Queued). Some (z.age, needs z.operation)) same
     cases false g ih = ih g
 
@@ -133,41 +133,41 @@ match_of σ n t (q ∷ qs) sound mine o = (one (q.session == n) refl (q.age == t
         other None h g = g
         other (Some u) h g = apart (sound.ages q.session n u t h mine (g ∙ eq_true q.age t.age f)) e
 
--- ---- the locks of seats
+-- ---- the locks of sessions
 
-held_changed : (p : Owned → Bool) (seats : List Seat) (x : Seat) → list_any p (held_in seats) ≡ false → list_any p (held_by x.transaction) ≡ false → list_any p (held_in (change seats x)) ≡ false
+held_changed : (p : Owned → Bool) (sessions : List Session) (x : Session) → list_any p (locks_held_in sessions) ≡ false → list_any p (locks_held_by x.transaction) ≡ false → list_any p (locks_held_in (with_changed sessions x)) ≡ false
 held_changed p [] x h g = refl
-held_changed p (y ∷ seats) x h g =
-    let q = or_parts (list_any p (held_by y.transaction)) (list_any p (held_in seats)) (sym (list_any-append p (held_by y.transaction) (held_in seats)) ∙ h) in
-    cases (y.number == x.number) q.0 q.1 (held_changed p seats x q.1 g)
+held_changed p (y ∷ sessions) x h g =
+    let q = or_parts (list_any p (locks_held_by y.transaction)) (list_any p (locks_held_in sessions)) (sym (list_any-append p (locks_held_by y.transaction) (locks_held_in sessions)) ∙ h) in
+    cases (y.number == x.number) q.0 q.1 (held_changed p sessions x q.1 g)
   where
-    cases : (b : Bool) → list_any p (held_by y.transaction) ≡ false → list_any p (held_in seats) ≡ false → list_any p (held_in (change seats x)) ≡ false → list_any p (held_in (if b then x ∷ seats else y ∷ change seats x)) ≡ false
-    cases true a b ih = list_any-append p (held_by x.transaction) (held_in seats) ∙ (λ i. g i || b i)
-    cases false a b ih = list_any-append p (held_by y.transaction) (held_in (change seats x)) ∙ (λ i. a i || ih i)
+    cases : (b : Bool) → list_any p (locks_held_by y.transaction) ≡ false → list_any p (locks_held_in sessions) ≡ false → list_any p (locks_held_in (with_changed sessions x)) ≡ false → list_any p (locks_held_in (if b then x ∷ sessions else y ∷ with_changed sessions x)) ≡ false
+    cases true a b ih = list_any-append p (locks_held_by x.transaction) (locks_held_in sessions) ∙ (λ i. g i || b i)
+    cases false a b ih = list_any-append p (locks_held_by y.transaction) (locks_held_in (with_changed sessions x)) ∙ (λ i. a i || ih i)
 
-held_without : (p : Owned → Bool) (seats : List Seat) (n : ℕ) → list_any p (held_in seats) ≡ false → list_any p (held_in (without_seat seats n)) ≡ false
+held_without : (p : Owned → Bool) (sessions : List Session) (n : ℕ) → list_any p (locks_held_in sessions) ≡ false → list_any p (locks_held_in (without_session sessions n)) ≡ false
 held_without p [] n h = refl
-held_without p (y ∷ seats) n h =
-    let q = or_parts (list_any p (held_by y.transaction)) (list_any p (held_in seats)) (sym (list_any-append p (held_by y.transaction) (held_in seats)) ∙ h) in
-    cases (y.number == n) q.0 (held_without p seats n q.1)
+held_without p (y ∷ sessions) n h =
+    let q = or_parts (list_any p (locks_held_by y.transaction)) (list_any p (locks_held_in sessions)) (sym (list_any-append p (locks_held_by y.transaction) (locks_held_in sessions)) ∙ h) in
+    cases (y.number == n) q.0 (held_without p sessions n q.1)
   where
-    cases : (b : Bool) → list_any p (held_by y.transaction) ≡ false → list_any p (held_in (without_seat seats n)) ≡ false → list_any p (held_in (if b then without_seat seats n else y ∷ without_seat seats n)) ≡ false
+    cases : (b : Bool) → list_any p (locks_held_by y.transaction) ≡ false → list_any p (locks_held_in (without_session sessions n)) ≡ false → list_any p (locks_held_in (if b then without_session sessions n else y ∷ without_session sessions n)) ≡ false
     cases true a ih = ih
-    cases false a ih = list_any-append p (held_by y.transaction) (held_in (without_seat seats n)) ∙ (λ i. a i || ih i)
+    cases false a ih = list_any-append p (locks_held_by y.transaction) (locks_held_in (without_session sessions n)) ∙ (λ i. a i || ih i)
 
-pub held_pushed : (n : ℕ) (b : Outbox) (seats : List Seat) → held_in (seats ++ fresh n b ∷ []) ≡ held_in seats
+pub held_pushed : (n : ℕ) (b : Outbox) (sessions : List Session) → locks_held_in (sessions ++ fresh n b ∷ []) ≡ locks_held_in sessions
 held_pushed n b [] = refl
-held_pushed n b (y ∷ seats) = ap (λ xs. held_by y.transaction ++ xs) (held_pushed n b seats)
+held_pushed n b (y ∷ sessions) = ap (λ xs. locks_held_by y.transaction ++ xs) (held_pushed n b sessions)
 
-pub held_mapped : (f : Seat → Seat) → ((x : Seat) → (f x).transaction ≡ x.transaction) → (seats : List Seat) → held_in (map f seats) ≡ held_in seats
+pub held_mapped : (f : Session → Session) → ((x : Session) → (f x).transaction ≡ x.transaction) → (sessions : List Session) → locks_held_in (map f sessions) ≡ locks_held_in sessions
 held_mapped f h [] = refl
-held_mapped f h (y ∷ seats) = λ i. held_by (h y i) ++ held_mapped f h seats i
+held_mapped f h (y ∷ sessions) = λ i. locks_held_by (h y i) ++ held_mapped f h sessions i
 
 pub aged_append : (a : ℕ) (xs ys : List Lock) → with_age a (xs ++ ys) ≡ with_age a xs ++ with_age a ys
 aged_append a [] ys = refl
 aged_append a (x ∷ xs) ys = ap (λ zs. (a, x) ∷ zs) (aged_append a xs ys)
 
-moved_held : (p : Owned → Bool) (t : Transaction) (x : Move) (r : Option Reply) (b : Bool) → list_any p (held_by (Some t)) ≡ false → list_any p (with_age t.age (lock_of_move x)) ≡ false → list_any p (held_by (after_move t x r b)) ≡ false
+moved_held : (p : Owned → Bool) (t : Transaction) (x : Move) (r : Option Reply) (b : Bool) → list_any p (locks_held_by (Some t)) ≡ false → list_any p (with_age t.age (lock_of_move x)) ≡ false → list_any p (locks_held_by (after_move t x r b)) ≡ false
 moved_held p t x r true h g = refl
 moved_held p t x r false h g =
     ap (λ ls. list_any p (with_age t.age ls)) (locks-more t.moves x) ∙ ap (list_any p) (aged_append t.age (locks_of t.moves) (lock_of_move x))
@@ -175,57 +175,57 @@ moved_held p t x r false h g =
 
 -- ---- steps
 
-same_rising : (σ τ : State) → IsRising σ → τ.queue ≡ σ.queue → ((m : ℕ) → transaction_at τ m ≡ transaction_at σ m) → Fewer (held_in σ.seats) (held_in τ.seats) → IsRising τ
+same_rising : (σ τ : State) → IsRising σ → τ.queue ≡ σ.queue → ((m : ℕ) → transaction_at τ m ≡ transaction_at σ m) → Fewer (locks_held_in σ.sessions) (locks_held_in τ.sessions) → IsRising τ
 same_rising σ τ rise q h f = record {
-  rises = subst (λ (qs : List Queued). RisesAfter (held_in τ.seats) [] (queued_in qs)) (sym q) (fewer_held (held_in σ.seats) (held_in τ.seats) [] (queued_in σ.queue) f rise.rises);
+  rises = subst (λ (qs : List Queued). RisesAfter (locks_held_in τ.sessions) [] (locks_queued_in qs)) (sym q) (fewer_held (locks_held_in σ.sessions) (locks_held_in τ.sessions) [] (locks_queued_in σ.queue) f rise.rises);
   owners = subst (λ (qs : List Queued). OwnedBy (transaction_at τ) qs) (sym q) (owned_same (transaction_at σ) (transaction_at τ) σ.queue h rise.owners);
 }
 
 -- one session's requests are gone, and all others' transactions stay
-gone_rising : (σ τ : State) (n : ℕ) → IsRising σ → τ.queue ≡ without_request σ.queue n → ((m : ℕ) → (m == n) ≡ false → transaction_at τ m ≡ transaction_at σ m) → RisesAfter (held_in τ.seats) [] (queued_in (without_request σ.queue n)) → IsRising τ
+gone_rising : (σ τ : State) (n : ℕ) → IsRising σ → τ.queue ≡ without_request σ.queue n → ((m : ℕ) → (m == n) ≡ false → transaction_at τ m ≡ transaction_at σ m) → RisesAfter (locks_held_in τ.sessions) [] (locks_queued_in (without_request σ.queue n)) → IsRising τ
 gone_rising σ τ n rise q h r = record {
-  rises = subst (λ (qs : List Queued). RisesAfter (held_in τ.seats) [] (queued_in qs)) (sym q) r;
+  rises = subst (λ (qs : List Queued). RisesAfter (locks_held_in τ.sessions) [] (locks_queued_in qs)) (sym q) r;
   owners = subst (λ (qs : List Queued). OwnedBy (transaction_at τ) qs) (sym q) (owned_without (transaction_at σ) (transaction_at τ) n σ.queue h rise.owners);
 }
 
-dropped_rises : (σ τ : State) (n : ℕ) → IsRising σ → Fewer (held_in σ.seats) (held_in τ.seats) → RisesAfter (held_in τ.seats) [] (queued_in (without_request σ.queue n))
-dropped_rises σ τ n rise f = fewer_held (held_in σ.seats) (held_in τ.seats) [] (queued_in (without_request σ.queue n)) f (fewer_queue n (held_in σ.seats) [] [] σ.queue (λ p h. h) rise.rises)
+dropped_rises : (σ τ : State) (n : ℕ) → IsRising σ → Fewer (locks_held_in σ.sessions) (locks_held_in τ.sessions) → RisesAfter (locks_held_in τ.sessions) [] (locks_queued_in (without_request σ.queue n))
+dropped_rises σ τ n rise f = fewer_held (locks_held_in σ.sessions) (locks_held_in τ.sessions) [] (locks_queued_in (without_request σ.queue n)) f (fewer_queue n (locks_held_in σ.sessions) [] [] σ.queue (λ p h. h) rise.rises)
 
 module _ (σ : State) (sound : IsSound σ) (rise : IsRising σ) where
-  module _ (s : Seat) (here : seat_at σ.seats s.number ≡ Some s) where
+  module _ (s : Session) (here : session_at σ.sessions s.number ≡ Some s) where
     mine : transaction_at σ s.number ≡ s.transaction
     mine = ap transaction_in here
 
-    own_held : (p : Owned → Bool) (t : Transaction) → s.transaction ≡ Some t → list_any p (held_in σ.seats) ≡ false → list_any p (held_by (Some t)) ≡ false
-    own_held p t e h = ap (λ (o : Option Transaction). list_any p (held_by o)) (sym (mine ∙ e)) ∙ held_none p σ.seats s.number h
+    own_held : (p : Owned → Bool) (t : Transaction) → s.transaction ≡ Some t → list_any p (locks_held_in σ.sessions) ≡ false → list_any p (locks_held_by (Some t)) ≡ false
+    own_held p t e h = ap (λ (o : Option Transaction). list_any p (locks_held_by o)) (sym (mine ∙ e)) ∙ held_none p σ.sessions s.number h
 
-    changed_others : (o : Option Transaction) (m : ℕ) → (m == s.number) ≡ false → transaction_in (seat_at (change σ.seats (with_transaction s o)) m) ≡ transaction_at σ m
-    changed_others o m e = changed_transactions σ.seats s (with_transaction s o) s.number here refl m ∙ ap (λ (b : Bool). if b then o else transaction_at σ m) e
+    changed_others : (o : Option Transaction) (m : ℕ) → (m == s.number) ≡ false → transaction_in (session_at (with_changed σ.sessions (with_transaction s o)) m) ≡ transaction_at σ m
+    changed_others o m e = changed_transactions σ.sessions s (with_transaction s o) s.number here refl m ∙ ap (λ (b : Bool). if b then o else transaction_at σ m) e
 
-    -- the seat's locks are at most those of a list that it had, and one move's more
-    moved_fewer : (t : Transaction) (x : Move) (r : Option Reply) (b : Bool) → s.transaction ≡ Some t → Fewer (held_in σ.seats ++ with_age t.age (lock_of_move x)) (held_in (change σ.seats (with_transaction s (after_move t x r b))))
+    -- the session's locks are at most those of a list that it had, and one move's more
+    moved_fewer : (t : Transaction) (x : Move) (r : Option Reply) (b : Bool) → s.transaction ≡ Some t → Fewer (locks_held_in σ.sessions ++ with_age t.age (lock_of_move x)) (locks_held_in (with_changed σ.sessions (with_transaction s (after_move t x r b))))
     moved_fewer t x r b e p h =
-        let q = or_parts (list_any p (held_in σ.seats)) (list_any p (with_age t.age (lock_of_move x))) (sym (list_any-append p (held_in σ.seats) (with_age t.age (lock_of_move x))) ∙ h) in
-        held_changed p σ.seats (with_transaction s (after_move t x r b)) q.0 (moved_held p t x r b (own_held p t e q.0) q.1)
+        let q = or_parts (list_any p (locks_held_in σ.sessions)) (list_any p (with_age t.age (lock_of_move x))) (sym (list_any-append p (locks_held_in σ.sessions) (with_age t.age (lock_of_move x))) ∙ h) in
+        held_changed p σ.sessions (with_transaction s (after_move t x r b)) q.0 (moved_held p t x r b (own_held p t e q.0) q.1)
 
-    lockless_fewer : (t : Transaction) (x : Move) (r : Option Reply) (b : Bool) → s.transaction ≡ Some t → lock_of_move x ≡ [] → Fewer (held_in σ.seats) (held_in (change σ.seats (with_transaction s (after_move t x r b))))
-    lockless_fewer t x r b e none p h = moved_fewer t x r b e p (list_any-append p (held_in σ.seats) (with_age t.age (lock_of_move x)) ∙ (λ i. h i || list_any p (with_age t.age (none i))))
+    lockless_fewer : (t : Transaction) (x : Move) (r : Option Reply) (b : Bool) → s.transaction ≡ Some t → lock_of_move x ≡ [] → Fewer (locks_held_in σ.sessions) (locks_held_in (with_changed σ.sessions (with_transaction s (after_move t x r b))))
+    lockless_fewer t x r b e none p h = moved_fewer t x r b e p (list_any-append p (locks_held_in σ.sessions) (with_age t.age (lock_of_move x)) ∙ (λ i. h i || list_any p (with_age t.age (none i))))
 
     -- a move that asks for no lock, of a session none of whose requests is kept
-    lockless_rising : (qs : List Queued) (t : Transaction) (x : Move) (r : Reply) → s.transaction ≡ Some t → lock_of_move x ≡ [] → qs ≡ without_request σ.queue s.number → IsRising (made (with_queue σ qs) s t x r).state
-    lockless_rising qs t x r e none q = gone_rising σ (made (with_queue σ qs) s t x r).state s.number rise q (changed_others _)
-        (dropped_rises σ (made (with_queue σ qs) s t x r).state s.number rise (lockless_fewer t x _ _ e none))
+    lockless_rising : (qs : List Queued) (t : Transaction) (x : Move) (r : Reply) → s.transaction ≡ Some t → lock_of_move x ≡ [] → qs ≡ without_request σ.queue s.number → IsRising (make (with_queue σ qs) s t x r).state
+    lockless_rising qs t x r e none q = gone_rising σ (make (with_queue σ qs) s t x r).state s.number rise q (changed_others _)
+        (dropped_rises σ (make (with_queue σ qs) s t x r).state s.number rise (lockless_fewer t x _ _ e none))
 
-    -- the seat's transaction begins anew or is over
-    emptied_rising : (o : Option Transaction) (τ : State) → ((p : Owned → Bool) → list_any p (held_by o) ≡ false) → τ.seats ≡ change σ.seats (with_transaction s o) → τ.queue ≡ without_request σ.queue s.number → IsRising τ
-    emptied_rising o τ none seats q = gone_rising σ τ s.number rise q (λ m e. ap (λ (xs : List Seat). transaction_in (seat_at xs m)) seats ∙ changed_others o m e)
-        (dropped_rises σ τ s.number rise (λ p h. ap (λ (xs : List Seat). list_any p (held_in xs)) seats ∙ held_changed p σ.seats (with_transaction s o) h (none p)))
+    -- the session's transaction begins anew or is over
+    emptied_rising : (o : Option Transaction) (τ : State) → ((p : Owned → Bool) → list_any p (locks_held_by o) ≡ false) → τ.sessions ≡ with_changed σ.sessions (with_transaction s o) → τ.queue ≡ without_request σ.queue s.number → IsRising τ
+    emptied_rising o τ none sessions q = gone_rising σ τ s.number rise q (λ m e. ap (λ (xs : List Session). transaction_in (session_at xs m)) sessions ∙ changed_others o m e)
+        (dropped_rises σ τ s.number rise (λ p h. ap (λ (xs : List Session). list_any p (locks_held_in xs)) sessions ∙ held_changed p σ.sessions (with_transaction s o) h (none p)))
 
-    retried_rising : (t : Transaction) (q : Queued) (b : Bool) → s.transaction ≡ Some t → request_in σ.queue s.number ≡ Some q → can_retry (ages_of σ) (t.age, needs q.operation) ≡ b → IsRising (retried σ s t q.operation b).state
+    retried_rising : (t : Transaction) (q : Queued) (b : Bool) → s.transaction ≡ Some t → request_in σ.queue s.number ≡ Some q → can_retry (ages_of σ) (t.age, needs q.operation) ≡ b → IsRising (try_again σ s t q.operation b).state
     retried_rising t q false e asked may = rise
-    retried_rising t q true e asked may = gone_rising σ (retried σ s t q.operation true).state s.number rise refl (changed_others _)
-        (fewer_held (held_in σ.seats ++ r ∷ []) (held_in (retried σ s t q.operation true).state.seats) [] (queued_in (without_request σ.queue s.number)) (moved_fewer t (Do q.operation) _ _ e)
-        (subst (λ (qs : List Owned). RisesAfter (held_in σ.seats ++ r ∷ []) [] qs) (sym (without_match s.number t.age σ.queue matched)) granted))
+    retried_rising t q true e asked may = gone_rising σ (try_again σ s t q.operation true).state s.number rise refl (changed_others _)
+        (fewer_held (locks_held_in σ.sessions ++ r ∷ []) (locks_held_in (try_again σ s t q.operation true).state.sessions) [] (locks_queued_in (without_request σ.queue s.number)) (moved_fewer t (Do q.operation) _ _ e)
+        (subst (λ (qs : List Owned). RisesAfter (locks_held_in σ.sessions ++ r ∷ []) [] qs) (sym (without_match s.number t.age σ.queue matched)) granted))
       where
         r : Owned
         r = (t.age, needs q.operation)
@@ -236,7 +236,7 @@ module _ (σ : State) (sound : IsSound σ) (rise : IsRising σ) where
         aged : t.age ≡ q.age
         aged = subst (λ (o : Option Transaction). HasAge o q.age) (mine ∙ e) (request_age (transaction_at σ) s.number σ.queue q rise.owners asked)
 
-        granted : RisesAfter (held_in σ.seats ++ r ∷ []) [] (without t.age (queued_in σ.queue))
+        granted : RisesAfter (locks_held_in σ.sessions ++ r ∷ []) [] (without t.age (locks_queued_in σ.queue))
         granted = subst (λ (b : Bool). Rises (after_retry (ages_of σ) r b)) may
             (retry_rises (ages_of σ) r (request_match s.number t.age σ.queue q matched asked ∙ ap (λ (a : ℕ). Some (a, needs q.operation)) (sym aged)) rise.rises)
 
@@ -254,18 +254,18 @@ module _ (σ : State) (sound : IsSound σ) (rise : IsRising σ) where
 
     leave_rising : IsRising (leave σ s).state
     leave_rising = gone_rising σ (leave σ s).state s.number rise refl
-        (λ m e. ap transaction_in (seat_at-without σ.seats s.number m) ∙ ap (λ (b : Bool). transaction_in (if b then None else seat_at σ.seats m)) e)
-        (dropped_rises σ (leave σ s).state s.number rise (λ p h. held_without p σ.seats s.number h))
+        (λ m e. ap transaction_in (session_at-without σ.sessions s.number m) ∙ ap (λ (b : Bool). transaction_in (if b then None else session_at σ.sessions m)) e)
+        (dropped_rises σ (leave σ s).state s.number rise (λ p h. held_without p σ.sessions s.number h))
 
     -- its transaction stays
-    marks_rising : (x : Seat) (τ : State) → x.number ≡ s.number → x.transaction ≡ s.transaction → τ.seats ≡ change σ.seats x → τ.queue ≡ σ.queue → IsRising τ
-    marks_rising x τ num same seats q = same_rising σ τ rise q
-        (λ m. ap (λ (xs : List Seat). transaction_in (seat_at xs m)) seats ∙ changed_transactions σ.seats s x s.number here num m ∙ ap (λ (o : Option Transaction). if m == s.number then o else transaction_at σ m) (same ∙ sym mine) ∙ sym (same_if (transaction_at σ) m s.number))
-        (λ p h. ap (λ (xs : List Seat). list_any p (held_in xs)) seats ∙ held_changed p σ.seats x h (ap (λ (o : Option Transaction). list_any p (held_by o)) (same ∙ sym mine) ∙ held_none p σ.seats s.number h))
+    marks_rising : (x : Session) (τ : State) → x.number ≡ s.number → x.transaction ≡ s.transaction → τ.sessions ≡ with_changed σ.sessions x → τ.queue ≡ σ.queue → IsRising τ
+    marks_rising x τ num same sessions q = same_rising σ τ rise q
+        (λ m. ap (λ (xs : List Session). transaction_in (session_at xs m)) sessions ∙ changed_transactions σ.sessions s x s.number here num m ∙ ap (λ (o : Option Transaction). if m == s.number then o else transaction_at σ m) (same ∙ sym mine) ∙ sym (same_if (transaction_at σ) m s.number))
+        (λ p h. ap (λ (xs : List Session). list_any p (locks_held_in xs)) sessions ∙ held_changed p σ.sessions x h (ap (λ (o : Option Transaction). list_any p (locks_held_by o)) (same ∙ sym mine) ∙ held_none p σ.sessions s.number h))
 
-    marked_rising : (over : Bool) (ws : List Watch) (x : Item) (e : Entry) → IsRising (marked σ over s ws x e).state
-    marked_rising true ws x e = marks_rising _ (marked σ true s ws x e).state refl refl refl refl
-    marked_rising false ws x e = marks_rising _ (marked σ false s ws x e).state refl refl refl refl
+    marked_rising : (over : Bool) (ws : List Watch) (x : Item) (e : Entry) → IsRising (put_marker σ over s ws x e).state
+    marked_rising true ws x e = marks_rising _ (put_marker σ true s ws x e).state refl refl refl refl
+    marked_rising false ws x e = marks_rising _ (put_marker σ false s ws x e).state refl refl refl refl
 
     give_rising : (xs : List Item) (l : Option ℕ) → IsRising (give σ s xs l).state
     give_rising (x ∷ xs) l = marks_rising _ (give σ s (x ∷ xs) l).state refl refl refl refl
@@ -285,19 +285,19 @@ module _ (σ : State) (sound : IsSound σ) (rise : IsRising σ) where
       none_waits : σ.queue ≡ without_request σ.queue s.number
       none_waits = sym (none_queued σ.queue s.number free)
 
-      decided_rising : (t : Transaction) (o : Operation) (a : Answer) → s.transaction ≡ Some t → decide (ages_of σ) (t.age, needs o) ≡ a → IsRising (decided σ s t o a).state
-      decided_rising t o Granted e is = gone_rising σ (made σ s t (Do o) reply.Done).state s.number rise none_waits (changed_others _)
-          (subst (λ (qs : List Queued). RisesAfter (held_in (made σ s t (Do o) reply.Done).state.seats) [] (queued_in qs)) none_waits
-          (fewer_held (held_in σ.seats ++ (t.age, needs o) ∷ []) (held_in (made σ s t (Do o) reply.Done).state.seats) [] (queued_in σ.queue) (moved_fewer t (Do o) _ _ e)
+      decided_rising : (t : Transaction) (o : Operation) (a : Answer) → s.transaction ≡ Some t → decide (ages_of σ) (t.age, needs o) ≡ a → IsRising (by_lock_answer σ s t o a).state
+      decided_rising t o Granted e is = gone_rising σ (make σ s t (Do o) reply.Done).state s.number rise none_waits (changed_others _)
+          (subst (λ (qs : List Queued). RisesAfter (locks_held_in (make σ s t (Do o) reply.Done).state.sessions) [] (locks_queued_in qs)) none_waits
+          (fewer_held (locks_held_in σ.sessions ++ (t.age, needs o) ∷ []) (locks_held_in (make σ s t (Do o) reply.Done).state.sessions) [] (locks_queued_in σ.queue) (moved_fewer t (Do o) _ _ e)
           (subst (λ (a : Answer). Rises (after_request (ages_of σ) (t.age, needs o) a)) is (request_rises (ages_of σ) (t.age, needs o) rise.rises))))
       decided_rising t o Wait e is = record {
-        rises = subst (λ (qs : List Owned). RisesAfter (held_in σ.seats) [] qs) (sym (queued_in-push σ.queue (record { session = s.number; age = t.age; operation = o })))
+        rises = subst (λ (qs : List Owned). RisesAfter (locks_held_in σ.sessions) [] qs) (sym (queued_in-push σ.queue (record { session = s.number; age = t.age; operation = o })))
             (subst (λ (a : Answer). Rises (after_request (ages_of σ) (t.age, needs o) a)) is (request_rises (ages_of σ) (t.age, needs o) rise.rises));
         owners = owned_push (transaction_at σ) σ.queue (record { session = s.number; age = t.age; operation = o }) rise.owners (subst (λ (x : Option Transaction). HasAge x t.age) (sym (mine ∙ e)) refl);
       }
-      decided_rising t o Die e is = emptied_rising (Some (emptied t)) (decided σ s t o Die).state (λ p. refl) refl none_waits
+      decided_rising t o Die e is = emptied_rising (Some (begun_anew t)) (by_lock_answer σ s t o Die).state (λ p. refl) refl none_waits
 
-      within_rising : (t : Transaction) (o : Operation) (b : Bool) → s.transaction ≡ Some t → IsRising (within σ s t o b).state
+      within_rising : (t : Transaction) (o : Operation) (b : Bool) → s.transaction ≡ Some t → IsRising (within_limit σ s t o b).state
       within_rising t o false e = rise
       within_rising t o true e = decided_rising t o _ e refl
 
@@ -305,11 +305,11 @@ module _ (σ : State) (sound : IsSound σ) (rise : IsRising σ) where
       operate_rising o None e = rise
       operate_rising o (Some t) e = within_rising t o _ e
 
-      opened_rising : (b : Bool) → IsRising (opened σ s b).state
+      opened_rising : (b : Bool) → IsRising (open_level_1 σ s b).state
       opened_rising false = rise
-      opened_rising true = emptied_rising (Some (record { age = σ.next_age; moves = []; told = [] })) (opened σ s true).state (λ p. refl) refl none_waits
+      opened_rising true = emptied_rising (Some (record { age = σ.next_age; moves = []; told = [] })) (open_level_1 σ s true).state (λ p. refl) refl none_waits
 
-      nested_rising : (t : Transaction) (a b : Bool) → s.transaction ≡ Some t → IsRising (nested σ s t a b).state
+      nested_rising : (t : Transaction) (a b : Bool) → s.transaction ≡ Some t → IsRising (open_child σ s t a b).state
       nested_rising t false b e = rise
       nested_rising t true false e = rise
       nested_rising t true true e = lockless_rising σ.queue t Open reply.Done e refl none_waits
@@ -325,14 +325,14 @@ module _ (σ : State) (sound : IsSound σ) (rise : IsRising σ) where
       commit_at_rising : (over : List ℕ) (t : Transaction) (b : Bool) → s.transaction ≡ Some t → IsRising (commit_at σ over s t b).state
       commit_at_rising over t false e = lockless_rising σ.queue t Close reply.Done e refl none_waits
       commit_at_rising over t true e = gone_rising σ (commit_at σ over s t true).state s.number rise none_waits
-          (λ m d. mapped_transaction f same (change σ.seats (with_transaction s None)) m ∙ changed_others None m d)
+          (λ m d. mapped_transaction f same (with_changed σ.sessions (with_transaction s None)) m ∙ changed_others None m d)
           (dropped_rises σ (commit_at σ over s t true).state s.number rise
-          (λ p h. ap (list_any p) (held_mapped f (λ x. (same x).1) (change σ.seats (with_transaction s None))) ∙ held_changed p σ.seats (with_transaction s None) h refl))
+          (λ p h. ap (list_any p) (held_mapped f (λ x. (same x).1) (with_changed σ.sessions (with_transaction s None))) ∙ held_changed p σ.sessions (with_transaction s None) h refl))
         where
-          f : Seat → Seat
-          f x = given (σ.commits + 1) over (batch_to (σ.commits + 1) (events_now σ t) x) x
+          f : Session → Session
+          f x = after_put (σ.commits + 1) over (batch_to (σ.commits + 1) (events_now σ t) x) x
 
-          same : (x : Seat) → ((f x).number ≡ x.number) × ((f x).transaction ≡ x.transaction)
+          same : (x : Session) → ((f x).number ≡ x.number) × ((f x).transaction ≡ x.transaction)
           same x = given_same (σ.commits + 1) over (batch_to (σ.commits + 1) (events_now σ t) x) x
 
       commit_rising : (over : List ℕ) (x : Option Transaction) → s.transaction ≡ x → IsRising (commit σ over s x).state
@@ -343,13 +343,13 @@ module _ (σ : State) (sound : IsSound σ) (rise : IsRising σ) where
     schema_if_rising over c (Some r) busy room = rise
     schema_if_rising over c None true room = rise
     schema_if_rising over c None false false = rise
-    schema_if_rising over c None false true = same_rising σ (schema_if σ over c None false true).state rise refl (mapped_transaction f same σ.seats) (λ p h. ap (list_any p) (held_mapped f (λ x. (same x).1) σ.seats) ∙ h)
+    schema_if_rising over c None false true = same_rising σ (schema_if σ over c None false true).state rise refl (mapped_transaction f same σ.sessions) (λ p h. ap (list_any p) (held_mapped f (λ x. (same x).1) σ.sessions) ∙ h)
       where
-        f : Seat → Seat
-        f x = given (σ.commits + 1) over (end_to (removed c) x) (unwatched (removed c) x)
+        f : Session → Session
+        f x = after_put (σ.commits + 1) over (end_to (removed_table c) x) (without_deleted (removed_table c) x)
 
-        same : (x : Seat) → ((f x).number ≡ x.number) × ((f x).transaction ≡ x.transaction)
-        same x = let a = given_same (σ.commits + 1) over (end_to (removed c) x) (unwatched (removed c) x) in let b = unwatched_same (removed c) x in (a.0 ∙ b.0, a.1 ∙ b.1)
+        same : (x : Session) → ((f x).number ≡ x.number) × ((f x).transaction ≡ x.transaction)
+        same x = let a = given_same (σ.commits + 1) over (end_to (removed_table c) x) (without_deleted (removed_table c) x) in let b = unwatched_same (removed_table c) x in (a.0 ∙ b.0, a.1 ∙ b.1)
 
     schema_rising : (over : List ℕ) (c : Schema) (x : Option Transaction) → IsRising (schema σ over c x).state
     schema_rising over c (Some t) = rise
@@ -370,21 +370,21 @@ module _ (σ : State) (sound : IsSound σ) (rise : IsRising σ) where
     command_rising over c true free = rise
     command_rising over c false free = do_rising over c free
 
-    seated_rising : (over : List ℕ) (a : Ask) → IsRising (seated σ over s a).state
+    seated_rising : (over : List ℕ) (a : Ask) → IsRising (step_of_joined σ over s a).state
     seated_rising over (Join b) = rise
     seated_rising over Leave = leave_rising
     seated_rising over Retry = retry_rising _ refl
     seated_rising over Take = give_rising _ _
     seated_rising over (DoCommand c) = command_rising over c _ refl
 
-  join_rising : (n : ℕ) (b : Outbox) (above room : Bool) → seat_at σ.seats n ≡ None → IsRising (join σ n b above room).state
+  join_rising : (n : ℕ) (b : Outbox) (above room : Bool) → session_at σ.sessions n ≡ None → IsRising (join σ n b above room).state
   join_rising n b false room none = rise
   join_rising n b true false none = rise
   join_rising n b true true none = same_rising σ (join σ n b true true).state rise refl
-      (λ m. ap transaction_in (seat_at-push σ.seats (fresh n b) m none) ∙ transaction_if (m == n) (Some (fresh n b)) (seat_at σ.seats m) ∙ ap (λ (o : Option Transaction). if m == n then o else transaction_at σ m) (sym (ap transaction_in none)) ∙ sym (same_if (transaction_at σ) m n))
-      (λ p h. ap (list_any p) (held_pushed n b σ.seats) ∙ h)
+      (λ m. ap transaction_in (session_at-push σ.sessions (fresh n b) m none) ∙ transaction_if (m == n) (Some (fresh n b)) (session_at σ.sessions m) ∙ ap (λ (o : Option Transaction). if m == n then o else transaction_at σ m) (sym (ap transaction_in none)) ∙ sym (same_if (transaction_at σ) m n))
+      (λ p h. ap (list_any p) (held_pushed n b σ.sessions) ∙ h)
 
-  unseated_rising : (n : ℕ) (a : Ask) → seat_at σ.seats n ≡ None → IsRising (unseated σ n a).state
+  unseated_rising : (n : ℕ) (a : Ask) → session_at σ.sessions n ≡ None → IsRising (step_of_stranger σ n a).state
   unseated_rising n (Join b) none = join_rising n b _ _ none
   unseated_rising n Leave none = rise
   unseated_rising n Retry none = rise
@@ -393,11 +393,11 @@ module _ (σ : State) (sound : IsSound σ) (rise : IsRising σ) where
 
 pub step_rising : (σ : State) (over : List ℕ) (n : ℕ) (a : Ask) → IsSound σ → IsRising σ → IsRising (outcome σ over n a).state
 unfolding outcome
-step_rising σ over n a sound rise = cases (seat_at σ.seats n) refl
+step_rising σ over n a sound rise = cases (session_at σ.sessions n) refl
   where
-    cases : (o : Option Seat) → seat_at σ.seats n ≡ o → IsRising (by_seat σ over n a o).state
+    cases : (o : Option Session) → session_at σ.sessions n ≡ o → IsRising (step_of σ over n a o).state
     cases None none = unseated_rising σ sound rise n a none
-    cases (Some s) here = seated_rising σ sound rise s (ap (seat_at σ.seats) (found σ.seats s n here) ∙ here) over a
+    cases (Some s) here = seated_rising σ sound rise s (ap (session_at σ.sessions) (found σ.sessions s n here) ∙ here) over a
 
 run_rising : (σ : State) (calls : List Call) → IsSound σ → IsRising σ → IsRising (after_all σ calls)
 run_rising σ [] sound rise = rise

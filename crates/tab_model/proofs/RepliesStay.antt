@@ -15,9 +15,9 @@ use Rattle.tab_model.specs.declared.data.Move.TheVariants.{Do, Open, Close, Undo
 use Rattle.tab_model.specs.declared.data.TableDef.{TableDef}
 use Rattle.tab_model.specs.declared.data.Reply.{Reply}
 use Rattle.tab_model.specs.Tables.{at, apply, is_ordered}
-use Rattle.tab_model.specs.Worlds.{World, Table, name_of, find, with_rows}
-use Rattle.tab_model.specs.Operations.{table_of, failure_in, failure, answer, answer_or, change_of_op, table_of_change, key_of_change, change_table, change_world, change_by, effect}
-use Rattle.tab_model.specs.Alone.{Mid, forgotten, back_to, back, next, told, after, replies}
+use Rattle.tab_model.specs.Catalogs.{Catalog, Table, name_of, find, with_rows}
+use Rattle.tab_model.specs.Operations.{table_of, failure_in, failure, answer, answer_or, change_of_op, table_of_change, key_of_change, change_table, change_catalog, change_by, effect}
+use Rattle.tab_model.specs.Alone.{Mid, without_innermost, back_to, back, next, reply_to, after, replies}
 use Rattle.tab_model.specs.Locks.{Part, All, Key, needs}
 use Rattle.tab_model.proofs.TableLaws.{same_true}
 use Rattle.tab_model.proofs.ChangeLaws.{at-apply, ordered-apply, find-place}
@@ -26,7 +26,7 @@ use Rattle.tab_model.proofs.CoveredOperations.{Alike, same_failure, same_told}
 pub eq_names : (a b : List ℕ) → bytes_eq a b ≡ true → a ≡ b
 eq_names a b h = (bytes_eq-Decides a b).0 h
 
-pub find_name : (w : World) (n : List ℕ) (x : Table) → find w n ≡ Some x → name_of x ≡ n
+pub find_name : (w : Catalog) (n : List ℕ) (x : Table) → find w n ≡ Some x → name_of x ≡ n
 find_name [] n x h = cc
 find_name (u ∷ w) n x h = cases (find_name w n x) (bytes_eq (name_of u) n) refl h
   where
@@ -47,7 +47,7 @@ AgreeTab c (Some x) (Some y) = Like c x y
 AgreeTab c None (Some y) = ⊥
 AgreeTab c (Some x) None = ⊥
 
-abbrev pub Agree : (List ℕ → PlainTerm → Bool) → (List ℕ → Bool) → World → World → Type 0
+abbrev pub Agree : (List ℕ → PlainTerm → Bool) → (List ℕ → Bool) → Catalog → Catalog → Type 0
 Agree c d w v = (t : List ℕ) → d t ≡ true → AgreeTab (c t) (find w t) (find v t)
 
 abbrev pub SeesPart : (PlainTerm → Bool) → Part → Type 0
@@ -86,7 +86,7 @@ module _ (c : List ℕ → PlainTerm → Bool) (d : List ℕ → Bool) where
       kept k g true e = absurd (false≢true (sym none ∙ ap f (same_true (key_of_change h) k e) ∙ g))
       kept k g false e = refl
 
-  agree_change : (w v : World) (h : Change) → Agree c d w v → d (table_of_change h) ≡ true → Agree c d (change_world w h) (change_world v h)
+  agree_change : (w v : Catalog) (h : Change) → Agree c d w v → d (table_of_change h) ≡ true → Agree c d (change_catalog w h) (change_catalog v h)
   agree_change w v h a here t dt = cases (find w (table_of_change h)) refl (find v (table_of_change h)) refl (a (table_of_change h) here)
     where
       cases : (x : Option Table) → find w (table_of_change h) ≡ x → (y : Option Table) → find v (table_of_change h) ≡ y → AgreeTab (c (table_of_change h)) x y → AgreeTab (c t) (find (change_table w x h) t) (find (change_table v y h) t)
@@ -102,7 +102,7 @@ module _ (c : List ℕ → PlainTerm → Bool) (d : List ℕ → Bool) where
           placed true k = subst (λ (n : List ℕ). Like (c n) (with_rows x (apply x.def.kind x.rows h)) (with_rows y (apply y.def.kind y.rows h))) (sym (find_name w (table_of_change h) x e) ∙ eq_names (name_of x) t k) (like_change (c (table_of_change h)) x y h g)
           placed false k = a t dt
 
-  agree_other : (w v : World) (h : Change) → Agree c d w v → d (table_of_change h) ≡ true → c (table_of_change h) (key_of_change h) ≡ false → Agree c d w (change_world v h)
+  agree_other : (w v : Catalog) (h : Change) → Agree c d w v → d (table_of_change h) ≡ true → c (table_of_change h) (key_of_change h) ≡ false → Agree c d w (change_catalog v h)
   agree_other w v h a here none t dt = cases (find w (table_of_change h)) refl (find v (table_of_change h)) refl (a (table_of_change h) here)
     where
       cases : (x : Option Table) → find w (table_of_change h) ≡ x → (y : Option Table) → find v (table_of_change h) ≡ y → AgreeTab (c (table_of_change h)) x y → AgreeTab (c t) (find w t) (find (change_table v y h) t)
@@ -120,10 +120,10 @@ module _ (c : List ℕ → PlainTerm → Bool) (d : List ℕ → Bool) where
   abbrev Sees : Operation → Type 0
   Sees o = (d (table_of o) ≡ true) × SeesPart (c (table_of o)) (needs o).part
 
-  same_answer : (w v : World) (o : Operation) → Agree c d w v → Sees o → (failure w o ≡ failure v o) × (answer w o ≡ answer v o)
+  same_answer : (w v : Catalog) (o : Operation) → Agree c d w v → Sees o → (failure w o ≡ failure v o) × (answer w o ≡ answer v o)
   same_answer w v o a s = same_in (c (table_of o)) o (find w (table_of o)) (find v (table_of o)) (a (table_of o) s.0) s.1
 
-  agree_effect : (w v : World) (o : Operation) → Agree c d w v → d (table_of o) ≡ true → Agree c d (effect w o) (effect v o)
+  agree_effect : (w v : Catalog) (o : Operation) → Agree c d w v → d (table_of o) ≡ true → Agree c d (effect w o) (effect v o)
   agree_effect w v (op.Read n k) a s = a
   agree_effect w v (op.ReadForWrite n k) a s = a
   agree_effect w v (op.Write r) a s = agree_change w v (change.Write r) a s
@@ -135,7 +135,7 @@ module _ (c : List ℕ → PlainTerm → Bool) (d : List ℕ → Bool) where
   agree_effect w v (op.ReadLockTable n) a s = a
   agree_effect w v (op.WriteLockTable n) a s = a
 
-  abbrev AgreeAll : List World → List World → Type 0
+  abbrev AgreeAll : List Catalog → List Catalog → Type 0
   AgreeAll [] [] = Unit {0}
   AgreeAll (w ∷ ws) (v ∷ vs) = Agree c d w v × AgreeAll ws vs
   AgreeAll [] (v ∷ vs) = ⊥
@@ -147,13 +147,13 @@ module _ (c : List ℕ → PlainTerm → Bool) (d : List ℕ → Bool) where
     pub saved : AgreeAll m.saved n.saved
     pub base : Agree c d m.base n.base
 
-  agree_back : (m n : Mid) (ws vs : List World) → m.age ≡ n.age → Agree c d m.base n.base → AgreeAll ws vs → AgreeMid (back_to m ws) (back_to n vs)
+  agree_back : (m n : Mid) (ws vs : List Catalog) → m.age ≡ n.age → Agree c d m.base n.base → AgreeAll ws vs → AgreeMid (back_to m ws) (back_to n vs)
   agree_back m n [] [] g b rest = record { age = g; now = b; saved = tt; base = b }
   agree_back m n (x ∷ ws) (y ∷ vs) g b rest = record { age = g; now = rest.0; saved = rest.1; base = b }
   agree_back m n [] (y ∷ vs) g b rest = absurd rest
   agree_back m n (x ∷ ws) [] g b rest = absurd rest
 
-  agree_forgotten : (ws vs : List World) → AgreeAll ws vs → AgreeAll (forgotten ws) (forgotten vs)
+  agree_forgotten : (ws vs : List Catalog) → AgreeAll ws vs → AgreeAll (without_innermost ws) (without_innermost vs)
   agree_forgotten [] [] rest = tt
   agree_forgotten (x ∷ ws) (y ∷ vs) rest = rest.1
   agree_forgotten [] (y ∷ vs) rest = absurd rest
@@ -182,7 +182,7 @@ module _ (c : List ℕ → PlainTerm → Bool) (d : List ℕ → Bool) where
   agree_next m n Close a s = record { age = a.age; now = a.now; saved = agree_forgotten m.saved n.saved a.saved; base = a.base }
   agree_next m n Undo a s = agree_back m n m.saved n.saved a.age a.base a.saved
 
-  same_move : (m n : Mid) (x : Move) → AgreeMid m n → SeesMove x → told m x ≡ told n x
+  same_move : (m n : Mid) (x : Move) → AgreeMid m n → SeesMove x → reply_to m x ≡ reply_to n x
   same_move m n (Do o) a s = ap (λ r. Some r) (same_answer m.now n.now o a.now s).1
   same_move m n Open a s = ap (λ g. Some (Rattle.tab_model.specs.declared.data.Reply.TheVariants.Tid g)) a.age
   same_move m n Close a s = refl
@@ -208,38 +208,38 @@ module _ (c : List ℕ → PlainTerm → Bool) (d : List ℕ → Bool) where
   WritesAll [] = Unit {0}
   WritesAll (x ∷ xs) = WritesMove x × WritesAll xs
 
-  keeps_change : (w v : World) (h : Option Change) → Agree c d w v → WritesChange h → Agree c d w (change_by v h)
+  keeps_change : (w v : Catalog) (h : Option Change) → Agree c d w v → WritesChange h → Agree c d w (change_by v h)
   keeps_change w v None a s = a
   keeps_change w v (Some h) a s = agree_other w v h a s.0 s.1
 
-  abbrev KeepsAll : World → List World → Type 0
+  abbrev KeepsAll : Catalog → List Catalog → Type 0
   KeepsAll w [] = Unit {0}
   KeepsAll w (v ∷ vs) = Agree c d w v × KeepsAll w vs
 
-  pub record KeepsMid (w : World) (m : Mid) : Type 0 where
+  pub record KeepsMid (w : Catalog) (m : Mid) : Type 0 where
     pub now : Agree c d w m.now
     pub saved : KeepsAll w m.saved
     pub base : Agree c d w m.base
 
-  keeps_back : (w : World) (m : Mid) (vs : List World) → Agree c d w m.base → KeepsAll w vs → KeepsMid w (back_to m vs)
+  keeps_back : (w : Catalog) (m : Mid) (vs : List Catalog) → Agree c d w m.base → KeepsAll w vs → KeepsMid w (back_to m vs)
   keeps_back w m [] b rest = record { now = b; saved = tt; base = b }
   keeps_back w m (x ∷ vs) b rest = record { now = rest.0; saved = rest.1; base = b }
 
-  keeps_forgotten : (w : World) (vs : List World) → KeepsAll w vs → KeepsAll w (forgotten vs)
+  keeps_forgotten : (w : Catalog) (vs : List Catalog) → KeepsAll w vs → KeepsAll w (without_innermost vs)
   keeps_forgotten w [] rest = tt
   keeps_forgotten w (x ∷ vs) rest = rest.1
 
-  keeps_choice : (w : World) (a : Bool) (m n : Mid) → KeepsMid w m → KeepsMid w n → KeepsMid w (if a then m else n)
+  keeps_choice : (w : Catalog) (a : Bool) (m n : Mid) → KeepsMid w m → KeepsMid w n → KeepsMid w (if a then m else n)
   keeps_choice w true m n x y = x
   keeps_choice w false m n x y = y
 
-  keeps_next : (w : World) (m : Mid) (x : Move) → KeepsMid w m → WritesMove x → KeepsMid w (next m x)
+  keeps_next : (w : Catalog) (m : Mid) (x : Move) → KeepsMid w m → WritesMove x → KeepsMid w (next m x)
   keeps_next w m (Do o) a s = keeps_choice w (is_some (failure m.now o)) (back m) (record m { now = effect m.now o }) (keeps_back w m m.saved a.base a.saved) (record { now = keeps_change w m.now (change_of_op o) a.now s; saved = a.saved; base = a.base })
   keeps_next w m Open a s = record { now = a.now; saved = (a.now, a.saved); base = a.base }
   keeps_next w m Close a s = record { now = a.now; saved = keeps_forgotten w m.saved a.saved; base = a.base }
   keeps_next w m Undo a s = keeps_back w m m.saved a.base a.saved
 
   -- a transaction changes only what it writes
-  pub keeps_after : (w : World) (m : Mid) (xs : List Move) → KeepsMid w m → WritesAll xs → KeepsMid w (after m xs)
+  pub keeps_after : (w : Catalog) (m : Mid) (xs : List Move) → KeepsMid w m → WritesAll xs → KeepsMid w (after m xs)
   keeps_after w m [] a s = a
   keeps_after w m (x ∷ xs) a s = keeps_after w (next m x) xs (keeps_next w m x a s.0) s.1

@@ -4,14 +4,14 @@ use Rattle.tab_model.specs.declared.data.Item.{Item}
 use Rattle.tab_model.specs.declared.data.Entry.{Entry}
 use Rattle.tab_model.specs.declared.data.Level.{Level}
 use Rattle.tab_model.specs.declared.data.Limits.{Limits}
-use Rattle.tab_model.specs.Worlds.{rows_of}
+use Rattle.tab_model.specs.Catalogs.{rows_of}
 use Rattle.tab_model.specs.Alone.{start, replies}
 use Rattle.tab_model.specs.Log.{serial, IsLegal}
 use Rattle.tab_model.specs.Slices.{slice}
-use Rattle.tab_model.specs.Since.{AllStood, RowsSince}
-use Rattle.tab_model.specs.State.{Seat, State, new, seat_at, age_at, moves_at, told_at, level_in, IsSound}
+use Rattle.tab_model.specs.Since.{AllWereInForce, RowsSince}
+use Rattle.tab_model.specs.State.{Session, State, new, session_at, age_at, moves_at, replies_at, level_in, IsSound}
 use Rattle.tab_model.specs.Outcome.{Outcome}
-use Rattle.tab_model.specs.Run.{Call, outcome_of, after_all, entries, log_of, taken_now, taken_of, AllJoinEmpty, IsTied}
+use Rattle.tab_model.specs.Run.{Call, outcome_of, after_all, entries, log_of, delivered_by, delivered_to, AllJoinEmpty, IsTied}
 use Rattle.tab_model.proofs.TiedSteps.{new_tied, step_tied}
 use Rattle.tab_model.proofs.SoundSteps.{step_sound}
 
@@ -31,16 +31,16 @@ run_sound σ [] sound = sound
 run_sound σ (c ∷ calls) sound = run_sound (outcome_of σ c).state calls (step_sound σ c.over c.session c.ask sound)
 
 -- the log and the items taken go on
-pub run_tied : (σ : State) (log : List Entry) (taken : ℕ → List Item) (calls : List Call) → IsSound σ → AllJoinEmpty calls → IsTied σ log taken → IsTied (after_all σ calls) (log ++ log_of σ calls) (λ m. taken m ++ taken_of m σ calls)
+pub run_tied : (σ : State) (log : List Entry) (taken : ℕ → List Item) (calls : List Call) → IsSound σ → AllJoinEmpty calls → IsTied σ log taken → IsTied (after_all σ calls) (log ++ log_of σ calls) (λ m. taken m ++ delivered_to m σ calls)
 run_tied σ log taken [] sound empty t = subst (λ (l : List Entry). IsTied σ l (λ m. taken m ++ [])) (sym (append-nil log)) (subst (λ (f : ℕ → List Item). IsTied σ log f) (λ i m. sym (append-nil (taken m)) i) t)
 run_tied σ log taken (c ∷ calls) sound empty t =
     let o : Outcome = outcome_of σ c in
     let before = step_tied σ log taken c.over c.session c.ask sound empty.0 t in
-    let all = run_tied o.state (log ++ entries o.entry) (λ m. taken m ++ taken_now m c.session o.reply) calls (step_sound σ c.over c.session c.ask sound) empty.1 before in
-    subst (λ (l : List Entry). IsTied (after_all o.state calls) l (λ m. taken m ++ taken_of m σ (c ∷ calls))) (append_assoc log (entries o.entry) (log_of o.state calls))
-    (subst (λ (f : ℕ → List Item). IsTied (after_all o.state calls) ((log ++ entries o.entry) ++ log_of o.state calls) f) (λ i m. append_assoc (taken m) (taken_now m c.session o.reply) (taken_of m o.state calls) i) all)
+    let all = run_tied o.state (log ++ entries o.entry) (λ m. taken m ++ delivered_by m c.session o.reply) calls (step_sound σ c.over c.session c.ask sound) empty.1 before in
+    subst (λ (l : List Entry). IsTied (after_all o.state calls) l (λ m. taken m ++ delivered_to m σ (c ∷ calls))) (append_assoc log (entries o.entry) (log_of o.state calls))
+    (subst (λ (f : ℕ → List Item). IsTied (after_all o.state calls) ((log ++ entries o.entry) ++ log_of o.state calls) f) (λ i m. append_assoc (taken m) (delivered_by m c.session o.reply) (delivered_to m o.state calls) i) all)
 
-pub tied : (limits : Limits) (calls : List Call) → AllJoinEmpty calls → IsTied (after_all (new limits) calls) (log_of (new limits) calls) (λ m. taken_of m (new limits) calls)
+pub tied : (limits : Limits) (calls : List Call) → AllJoinEmpty calls → IsTied (after_all (new limits) calls) (log_of (new limits) calls) (λ m. delivered_to m (new limits) calls)
 tied limits calls empty = run_tied (new limits) [] (λ m. []) calls (new_sound limits) empty (new_tied limits)
 
 pub schedule_legal : (limits : Limits) (calls : List Call) → AllJoinEmpty calls → IsLegal [] 0 (log_of (new limits) calls)
@@ -49,15 +49,15 @@ schedule_legal limits calls empty = (tied limits calls empty).legal
 pub schedule_tables : (limits : Limits) (calls : List Call) → AllJoinEmpty calls → (after_all (new limits) calls).tables ≡ serial (log_of (new limits) calls)
 schedule_tables limits calls empty = (tied limits calls empty).tables
 
-pub schedule_told : (limits : Limits) (calls : List Call) (n : ℕ) → replies (start (after_all (new limits) calls).tables (age_at (after_all (new limits) calls) n)) (moves_at (after_all (new limits) calls) n) ≡ told_at (after_all (new limits) calls) n
+pub schedule_told : (limits : Limits) (calls : List Call) (n : ℕ) → replies (start (after_all (new limits) calls).tables (age_at (after_all (new limits) calls) n)) (moves_at (after_all (new limits) calls) n) ≡ replies_at (after_all (new limits) calls) n
 schedule_told limits calls n = (run_sound (new limits) calls (new_sound limits)).told n
 
-pub schedule_rows : (limits : Limits) (calls : List Call) (n : ℕ) (s : Seat) → AllJoinEmpty calls → seat_at (after_all (new limits) calls).seats n ≡ Some s → taken_of n (new limits) calls ++ s.outbox.items ≡ slice n (log_of (new limits) calls)
-schedule_rows limits calls n s empty here = ((tied limits calls empty).seats n s here).items
+pub schedule_rows : (limits : Limits) (calls : List Call) (n : ℕ) (s : Session) → AllJoinEmpty calls → session_at (after_all (new limits) calls).sessions n ≡ Some s → delivered_to n (new limits) calls ++ s.outbox.items ≡ slice n (log_of (new limits) calls)
+schedule_rows limits calls n s empty here = ((tied limits calls empty).sessions n s here).items
 
-pub schedule_stood : (limits : Limits) (calls : List Call) → AllJoinEmpty calls → AllStood [] (log_of (new limits) calls)
+pub schedule_stood : (limits : Limits) (calls : List Call) → AllJoinEmpty calls → AllWereInForce [] (log_of (new limits) calls)
 schedule_stood limits calls empty = (tied limits calls empty).stood
 
-pub schedule_applied : (limits : Limits) (calls : List Call) (n : ℕ) (s : Seat) (t : List ℕ) (l : Level) → AllJoinEmpty calls → seat_at (after_all (new limits) calls).seats n ≡ Some s → level_in s.watching t ≡ Some l
+pub schedule_applied : (limits : Limits) (calls : List Call) (n : ℕ) (s : Session) (t : List ℕ) (l : Level) → AllJoinEmpty calls → session_at (after_all (new limits) calls).sessions n ≡ Some s → level_in s.watching t ≡ Some l
     → RowsSince n t l (log_of (new limits) calls) (rows_of (after_all (new limits) calls).tables t)
 schedule_applied limits calls n s t l empty = (tied limits calls empty).since n s t l

@@ -22,14 +22,14 @@ use Rattle.tab_model.specs.declared.data.InfoItem.TheVariants as item
 use Rattle.tab_model.specs.declared.data.Command.{Command}
 use Rattle.tab_model.specs.declared.data.Command.TheVariants as command
 use Rattle.tab_model.specs.Definitions.{Parsed, Good, Bad, parse_options, is_indexed, position}
-use Rattle.tab_model.specs.Worlds.{Table, find}
+use Rattle.tab_model.specs.Catalogs.{Table, find}
 use Rattle.tab_model.specs.Locks.{Lock, needs, locks_of}
 use Rattle.tab_model.specs.Ages.{Owned, Answer, Granted, Wait, Die, opposes, decide}
 use Rattle.tab_model.specs.Log.{has_session}
-use Rattle.tab_model.specs.Schemas.{is_some_position, bad_parse, create_refusal, remove_refusal, add_refusal, del_refusal, schema_refusal, removed}
-use Rattle.tab_model.specs.State.{Transaction, Outbox, Watch, Seat, Queued, State, seat_at, with_age, held_by, ages_of, mid_of, level_in, request_in, is_waiting}
-use Rattle.tab_model.specs.Outcome.{Ask, Join, Leave, Retry, Take, DoCommand, Outcome, outcome, nothing, with_transaction, change, without_seat, ends, after_move, made, said, decided, within, operate, retry, opened, nested, begin, one_shot, abort, given, commit_at, commit, unwatched, end_to, batch_to, events_now, schema_if, schema, table_info, marked, subscribe_refusal, subscribe, unsubscribe, do_command, command_if, give, seated, join, unseated, by_seat}
-use Rattle.tab_model.specs.Refusals.{Standing, Changes, Queues, Emptied, standing, IsSeatOf, IsSole}
+use Rattle.tab_model.specs.Schemas.{is_some_position, bad_parse, create_refusal, remove_refusal, add_refusal, del_refusal, schema_refusal, removed_table}
+use Rattle.tab_model.specs.State.{Transaction, Outbox, Watch, Session, Queued, State, session_at, with_age, locks_held_by, ages_of, mid_of, level_in, request_in, is_waiting}
+use Rattle.tab_model.specs.Outcome.{Ask, Join, Leave, Retry, Take, DoCommand, Outcome, outcome, step_without_entry, with_transaction, with_changed, without_session, ends_transaction, after_move, make, reply_or, by_lock_answer, within_limit, operate, retry, open_level_1, open_child, begin, one_shot, abort, after_put, commit_at, commit, without_deleted, end_to, batch_to, events_now, schema_if, schema, table_info, put_marker, subscribe_refusal, subscribe, unsubscribe, do_command, command_if, give, step_of_joined, join, step_of_stranger, step_of}
+use Rattle.tab_model.specs.Refusals.{EffectOfReply, Changes, Queues, Emptied, effect_of_reply, IsOnlySession, IsSole}
 use Rattle.tab_model.proofs.RefusalLaws.{move_answers}
 
 -- ---- one owner is granted whatever it asks
@@ -47,56 +47,56 @@ granted_if true b d e = refl
 granted_if false true d e = cc
 granted_if false false d e = refl
 
--- ---- its seat stays the only one
+-- ---- its session stays the only one
 
-change_sole : (n : ℕ) (xs : List Seat) (s : Seat) → IsSeatOf n xs → s.number ≡ n → IsSeatOf n (change xs s)
+change_sole : (n : ℕ) (xs : List Session) (s : Session) → IsOnlySession n xs → s.number ≡ n → IsOnlySession n (with_changed xs s)
 change_sole n [] s h e = tt
 change_sole n (x ∷ []) s h e = cases (x.number == s.number)
   where
-    cases : (b : Bool) → IsSeatOf n (if b then s ∷ [] else x ∷ [])
+    cases : (b : Bool) → IsOnlySession n (if b then s ∷ [] else x ∷ [])
     cases true = e
     cases false = h
 change_sole n (x ∷ y ∷ xs) s h e = absurd h
 
-map_sole : (n : ℕ) (f : Seat → Seat) → ((s : Seat) → (f s).number ≡ s.number) → (xs : List Seat) → IsSeatOf n xs → IsSeatOf n (map f xs)
+map_sole : (n : ℕ) (f : Session → Session) → ((s : Session) → (f s).number ≡ s.number) → (xs : List Session) → IsOnlySession n xs → IsOnlySession n (map f xs)
 map_sole n f k [] h = tt
 map_sole n f k (x ∷ []) h = k x ∙ h
 map_sole n f k (x ∷ y ∷ xs) h = absurd h
 
-without_sole : (n : ℕ) (xs : List Seat) (m : ℕ) → IsSeatOf n xs → IsSeatOf n (without_seat xs m)
+without_sole : (n : ℕ) (xs : List Session) (m : ℕ) → IsOnlySession n xs → IsOnlySession n (without_session xs m)
 without_sole n [] m h = tt
 without_sole n (x ∷ []) m h = cases (x.number == m)
   where
-    cases : (b : Bool) → IsSeatOf n (if b then [] else x ∷ [])
+    cases : (b : Bool) → IsOnlySession n (if b then [] else x ∷ [])
     cases true = tt
     cases false = h
 without_sole n (x ∷ y ∷ xs) m h = absurd h
 
-given_number : (n : ℕ) (over : List ℕ) (items : List Item) (s : Seat) → (given n over items s).number ≡ s.number
+given_number : (n : ℕ) (over : List ℕ) (items : List Item) (s : Session) → (after_put n over items s).number ≡ s.number
 given_number n over items s = cases (has_session over s.number)
   where
-    cases : (b : Bool) → Seat.number (if b then Rattle.tab_model.specs.Outcome.overflowed n s else record s { outbox = Rattle.tab_model.specs.Outcome.pushed s.outbox items }) ≡ s.number
+    cases : (b : Bool) → Session.number (if b then Rattle.tab_model.specs.Outcome.after_overflow n s else record s { outbox = Rattle.tab_model.specs.Outcome.with_items s.outbox items }) ≡ s.number
     cases true = refl
     cases false = refl
 
-unwatched_number : (t : Option (List ℕ)) (s : Seat) → (unwatched t s).number ≡ s.number
+unwatched_number : (t : Option (List ℕ)) (s : Session) → (without_deleted t s).number ≡ s.number
 unwatched_number None s = refl
 unwatched_number (Some t) s = refl
 
 -- ---- what it is told
 
-abbrev unheld : Standing → Bool
+abbrev unheld : EffectOfReply → Bool
 unheld Queues = false
 unheld Emptied = false
 unheld s = true
 
 -- no wait and no restart, and the session is alone still
 abbrev Calm : ℕ → Outcome → Type 0
-Calm n o = (unheld (standing o.reply) ≡ true) × IsSole n o.state
+Calm n o = (unheld (effect_of_reply o.reply) ≡ true) × IsSole n o.state
 
 abbrev CalmRefusal : Option Reply → Type 0
 CalmRefusal None = Unit {0}
-CalmRefusal (Some r) = unheld (standing r) ≡ true
+CalmRefusal (Some r) = unheld (effect_of_reply r) ≡ true
 
 parsed_calm : (t : List ℕ) (p : Parsed) → CalmRefusal (bad_parse t p)
 parsed_calm t (Good d) = tt
@@ -128,29 +128,29 @@ refusal_calm σ (DelIndex t a) = cases (find σ.tables t)
     cases None = refl
     cases (Some x) = if_calm (is_indexed x.def (position x.def (term a))) _ _ tt refl
 
-subscribe_calm : (σ : State) (s : Seat) (t : List ℕ) → CalmRefusal (subscribe_refusal σ s t)
+subscribe_calm : (σ : State) (s : Session) (t : List ℕ) → CalmRefusal (subscribe_refusal σ s t)
 subscribe_calm σ s t =
     if_calm (is_some s.overflow) _ _ refl
     (if_calm (not (is_some (find σ.tables t))) _ _ refl (if_calm (is_some (level_in s.watching t)) _ _ refl tt))
 
-module _ (σ : State) (n : ℕ) (s : Seat) (sole : IsSole n σ) (here : s.number ≡ n) where
-  made_calm : (t : Transaction) (x : Move) (r : Reply) → standing r ≡ Changes → Calm n (made σ s t x r)
-  made_calm t x r h = (ap unheld (move_answers (mid_of σ t) x r h), (change_sole n σ.seats _ sole.0 here, sole.1))
+module _ (σ : State) (n : ℕ) (s : Session) (sole : IsSole n σ) (here : s.number ≡ n) where
+  made_calm : (t : Transaction) (x : Move) (r : Reply) → effect_of_reply r ≡ Changes → Calm n (make σ s t x r)
+  made_calm t x r h = (ap unheld (move_answers (mid_of σ t) x r h), (change_sole n σ.sessions _ sole.0 here, sole.1))
 
   -- what it queues is dropped: nothing is queued
-  dropped_calm : (t : Transaction) (x : Move) (r : Reply) (q : List Queued) → q ≡ [] → standing r ≡ Changes → Calm n (made (Rattle.tab_model.specs.Outcome.with_queue σ q) s t x r)
-  dropped_calm t x r q e h = (ap unheld (move_answers (mid_of σ t) x r h), (change_sole n σ.seats _ sole.0 here, e))
+  dropped_calm : (t : Transaction) (x : Move) (r : Reply) (q : List Queued) → q ≡ [] → effect_of_reply r ≡ Changes → Calm n (make (Rattle.tab_model.specs.Outcome.with_queue σ q) s t x r)
+  dropped_calm t x r q e h = (ap unheld (move_answers (mid_of σ t) x r h), (change_sole n σ.sessions _ sole.0 here, e))
 
-  decided_calm : (t : Transaction) (o : Operation) (a : Answer) → a ≡ Granted → Calm n (decided σ s t o a)
+  decided_calm : (t : Transaction) (o : Operation) (a : Answer) → a ≡ Granted → Calm n (by_lock_answer σ s t o a)
   decided_calm t o Granted e = made_calm t (Do o) reply.Done refl
   decided_calm t o Wait e = cc
   decided_calm t o Die e = cc
 
-  granted : (xs : List Seat) (t : Transaction) (o : Operation) → IsSeatOf n xs → seat_at xs n ≡ Some s → s.transaction ≡ Some t
-      → decide (record { held = Rattle.tab_model.specs.State.held_in xs; queue = [] }) (t.age, needs o) ≡ Granted
+  granted : (xs : List Session) (t : Transaction) (o : Operation) → IsOnlySession n xs → session_at xs n ≡ Some s → s.transaction ≡ Some t
+      → decide (record { held = Rattle.tab_model.specs.State.locks_held_in xs; queue = [] }) (t.age, needs o) ≡ Granted
   granted [] t o h e f = cc
   granted (x ∷ []) t o h e f =
-      granted_if _ _ _ (ap (λ y. list_any (opposes (t.age, needs o)) ((held_by y ++ []) ++ [])) mine
+      granted_if _ _ _ (ap (λ y. list_any (opposes (t.age, needs o)) ((locks_held_by y ++ []) ++ [])) mine
       ∙ any_nil (opposes (t.age, needs o)) (with_age t.age (locks_of t.moves)) ∙ own_unopposed t.age (needs o) (locks_of t.moves))
     where
       at_once : (b : Bool) → b ≡ true → (if b then Some x else None) ≡ Some s → x ≡ s
@@ -158,14 +158,14 @@ module _ (σ : State) (n : ℕ) (s : Seat) (sole : IsSole n σ) (here : s.number
       at_once false g k = cc
 
       mine : x.transaction ≡ Some t
-      mine = ap (λ y. Seat.transaction y) (at_once (x.number == n) (ap (λ m. m == n) h ∙ grind (arith, nat_tests)) e) ∙ f
+      mine = ap (λ y. Session.transaction y) (at_once (x.number == n) (ap (λ m. m == n) h ∙ grind (arith, nat_tests)) e) ∙ f
   granted (x ∷ y ∷ xs) t o h e f = absurd h
 
-  within_calm : (t : Transaction) (o : Operation) (b : Bool) → seat_at σ.seats n ≡ Some s → s.transaction ≡ Some t → Calm n (within σ s t o b)
+  within_calm : (t : Transaction) (o : Operation) (b : Bool) → session_at σ.sessions n ≡ Some s → s.transaction ≡ Some t → Calm n (within_limit σ s t o b)
   within_calm t o false e f = (refl, sole)
-  within_calm t o true e f = decided_calm t o _ (ap (λ q. decide (record { held = Rattle.tab_model.specs.State.held_in σ.seats; queue = Rattle.tab_model.specs.State.queued_in q }) (t.age, needs o)) sole.1 ∙ granted σ.seats t o sole.0 e f)
+  within_calm t o true e f = decided_calm t o _ (ap (λ q. decide (record { held = Rattle.tab_model.specs.State.locks_held_in σ.sessions; queue = Rattle.tab_model.specs.State.locks_queued_in q }) (t.age, needs o)) sole.1 ∙ granted σ.sessions t o sole.0 e f)
 
-  operate_calm : (o : Operation) (x : Option Transaction) → seat_at σ.seats n ≡ Some s → s.transaction ≡ x → Calm n (operate σ s o x)
+  operate_calm : (o : Operation) (x : Option Transaction) → session_at σ.sessions n ≡ Some s → s.transaction ≡ x → Calm n (operate σ s o x)
   operate_calm o None e f = (refl, sole)
   operate_calm o (Some t) e f = within_calm t o _ e f
 
@@ -173,11 +173,11 @@ module _ (σ : State) (n : ℕ) (s : Seat) (sole : IsSole n σ) (here : s.number
   retry_calm [] e = (refl, sole)
   retry_calm (x ∷ xs) e = cc
 
-  open_calm : (b : Bool) → Calm n (opened σ s b)
+  open_calm : (b : Bool) → Calm n (open_level_1 σ s b)
   open_calm false = (refl, sole)
-  open_calm true = (refl, (change_sole n σ.seats _ sole.0 here, sole.1))
+  open_calm true = (refl, (change_sole n σ.sessions _ sole.0 here, sole.1))
 
-  nested_calm : (t : Transaction) (a b : Bool) → Calm n (nested σ s t a b)
+  nested_calm : (t : Transaction) (a b : Bool) → Calm n (open_child σ s t a b)
   nested_calm t false b = (refl, sole)
   nested_calm t true false = (refl, sole)
   nested_calm t true true = made_calm t Open reply.Done refl
@@ -197,7 +197,7 @@ module _ (σ : State) (n : ℕ) (s : Seat) (sole : IsSole n σ) (here : s.number
   commit_at_calm : (over : List ℕ) (t : Transaction) (b : Bool) → Calm n (commit_at σ over s t b)
   commit_at_calm over t false = made_calm t Close reply.Done refl
   commit_at_calm over t true =
-      (refl, (map_sole n _ (λ x. given_number _ over (batch_to _ (events_now σ t) x) x) (change σ.seats (with_transaction s None)) (change_sole n σ.seats _ sole.0 here), sole.1))
+      (refl, (map_sole n _ (λ x. given_number _ over (batch_to _ (events_now σ t) x) x) (with_changed σ.sessions (with_transaction s None)) (change_sole n σ.sessions _ sole.0 here), sole.1))
 
   commit_calm : (over : List ℕ) (x : Option Transaction) → Calm n (commit σ over s x)
   commit_calm over None = (refl, sole)
@@ -208,22 +208,22 @@ module _ (σ : State) (n : ℕ) (s : Seat) (sole : IsSole n σ) (here : s.number
   schema_if_calm over c None true room h = (refl, sole)
   schema_if_calm over c None false false h = (refl, sole)
   schema_if_calm over c None false true h =
-      (refl, (map_sole n _ (λ x. given_number _ over (end_to (removed c) x) (unwatched (removed c) x) ∙ unwatched_number (removed c) x) σ.seats sole.0, sole.1))
+      (refl, (map_sole n _ (λ x. given_number _ over (end_to (removed_table c) x) (without_deleted (removed_table c) x) ∙ unwatched_number (removed_table c) x) σ.sessions sole.0, sole.1))
 
   schema_calm : (over : List ℕ) (c : Schema) (x : Option Transaction) → Calm n (schema σ over c x)
   schema_calm over c (Some t) = (refl, sole)
   schema_calm over c None = schema_if_calm over c _ _ _ (refusal_calm σ c)
 
-  info_calm : (t : List ℕ) (i : InfoItem) (x : Option Table) → Calm n (nothing σ (table_info t i x))
+  info_calm : (t : List ℕ) (i : InfoItem) (x : Option Table) → Calm n (step_without_entry σ (table_info t i x))
   info_calm t i None = (refl, sole)
   info_calm t item.Kind (Some x) = (refl, sole)
   info_calm t item.Attributes (Some x) = (refl, sole)
   info_calm t item.Index (Some x) = (refl, sole)
   info_calm t item.Size (Some x) = (refl, sole)
 
-  marked_calm : (full : Bool) (ws : List Watch) (x : Item) (e : Entry) → Calm n (marked σ full s ws x e)
-  marked_calm true ws x e = (refl, (change_sole n σ.seats _ sole.0 here, sole.1))
-  marked_calm false ws x e = (refl, (change_sole n σ.seats _ sole.0 here, sole.1))
+  marked_calm : (full : Bool) (ws : List Watch) (x : Item) (e : Entry) → Calm n (put_marker σ full s ws x e)
+  marked_calm true ws x e = (refl, (change_sole n σ.sessions _ sole.0 here, sole.1))
+  marked_calm false ws x e = (refl, (change_sole n σ.sessions _ sole.0 here, sole.1))
 
   subscribed_calm : (over : List ℕ) (t : List ℕ) (l : Level) (dump : Bool) (r : Option Reply) → CalmRefusal r → Calm n (subscribe σ over s t l dump r)
   subscribed_calm over t l dump (Some r) h = (h, sole)
@@ -233,7 +233,7 @@ module _ (σ : State) (n : ℕ) (s : Seat) (sole : IsSole n σ) (here : s.number
   unsubscribed_calm over t false = (refl, sole)
   unsubscribed_calm over t true = marked_calm _ _ _ _
 
-  do_calm : (over : List ℕ) (c : Command) → seat_at σ.seats n ≡ Some s → Calm n (do_command σ over s c)
+  do_calm : (over : List ℕ) (c : Command) → session_at σ.sessions n ≡ Some s → Calm n (do_command σ over s c)
   do_calm over (command.Schema c) e = schema_calm over c s.transaction
   do_calm over (command.TableInfo t i) e = info_calm t i (find σ.tables t)
   do_calm over command.Begin e = begin_calm s.transaction
@@ -244,29 +244,29 @@ module _ (σ : State) (n : ℕ) (s : Seat) (sole : IsSole n σ) (here : s.number
   do_calm over (command.Unsubscribe t l) e = unsubscribed_calm over t _
   do_calm over (command.OneShot parts retries) e = one_shot_calm s.transaction
 
-  command_calm : (over : List ℕ) (c : Command) (b : Bool) → seat_at σ.seats n ≡ Some s → Calm n (command_if σ over s c b)
+  command_calm : (over : List ℕ) (c : Command) (b : Bool) → session_at σ.sessions n ≡ Some s → Calm n (command_if σ over s c b)
   command_calm over c true e = (refl, sole)
   command_calm over c false e = do_calm over c e
 
   give_calm : (xs : List Item) (l : Option ℕ) → Calm n (give σ s xs l)
-  give_calm (x ∷ xs) l = (refl, (change_sole n σ.seats _ sole.0 here, sole.1))
+  give_calm (x ∷ xs) l = (refl, (change_sole n σ.sessions _ sole.0 here, sole.1))
   give_calm [] None = (refl, sole)
-  give_calm [] (Some m) = (refl, (change_sole n σ.seats _ sole.0 here, sole.1))
+  give_calm [] (Some m) = (refl, (change_sole n σ.sessions _ sole.0 here, sole.1))
 
-  seated_calm : (over : List ℕ) (a : Ask) → seat_at σ.seats n ≡ Some s → Calm n (seated σ over s a)
+  seated_calm : (over : List ℕ) (a : Ask) → session_at σ.sessions n ≡ Some s → Calm n (step_of_joined σ over s a)
   seated_calm over (Join b) e = (refl, sole)
-  seated_calm over Leave e = (refl, (without_sole n σ.seats s.number sole.0, ap (λ q. Rattle.tab_model.specs.State.without_request q s.number) sole.1))
+  seated_calm over Leave e = (refl, (without_sole n σ.sessions s.number sole.0, ap (λ q. Rattle.tab_model.specs.State.without_request q s.number) sole.1))
   seated_calm over Retry e = retry_calm σ.queue sole.1
   seated_calm over Take e = give_calm _ _
   seated_calm over (DoCommand c) e = command_calm over c _ e
 
 -- nobody sits
-join_calm : (σ : State) (n : ℕ) (b : Outbox) (above room : Bool) → IsSole n σ → seat_at σ.seats n ≡ None → Calm n (join σ n b above room)
+join_calm : (σ : State) (n : ℕ) (b : Outbox) (above room : Bool) → IsSole n σ → session_at σ.sessions n ≡ None → Calm n (join σ n b above room)
 join_calm σ n b false room sole e = (refl, sole)
 join_calm σ n b true false sole e = (refl, sole)
-join_calm σ n b true true sole e = (refl, (pushed_sole σ.seats sole.0 e, sole.1))
+join_calm σ n b true true sole e = (refl, (pushed_sole σ.sessions sole.0 e, sole.1))
   where
-    pushed_sole : (xs : List Seat) → IsSeatOf n xs → seat_at xs n ≡ None → IsSeatOf n (xs ++ Rattle.tab_model.specs.Outcome.fresh n b ∷ [])
+    pushed_sole : (xs : List Session) → IsOnlySession n xs → session_at xs n ≡ None → IsOnlySession n (xs ++ Rattle.tab_model.specs.Outcome.fresh n b ∷ [])
     pushed_sole [] h f = refl
     pushed_sole (x ∷ []) h f = absurd (sits (x.number == n) (ap (λ m. m == n) h ∙ grind (arith, nat_tests)) f)
       where
@@ -275,7 +275,7 @@ join_calm σ n b true true sole e = (refl, (pushed_sole σ.seats sole.0 e, sole.
         sits false g k = cc
     pushed_sole (x ∷ y ∷ xs) h f = absurd h
 
-unseated_calm : (σ : State) (n : ℕ) (a : Ask) → IsSole n σ → seat_at σ.seats n ≡ None → Calm n (unseated σ n a)
+unseated_calm : (σ : State) (n : ℕ) (a : Ask) → IsSole n σ → session_at σ.sessions n ≡ None → Calm n (step_of_stranger σ n a)
 unseated_calm σ n (Join b) sole e = join_calm σ n b _ _ sole e
 unseated_calm σ n Leave sole e = (refl, sole)
 unseated_calm σ n Retry sole e = (refl, sole)
@@ -284,20 +284,20 @@ unseated_calm σ n (DoCommand c) sole e = (refl, sole)
 
 calm : (σ : State) (over : List ℕ) (n : ℕ) (a : Ask) → IsSole n σ → Calm n (outcome σ over n a)
 unfolding outcome
-calm σ over n a sole = cases (seat_at σ.seats n) refl
+calm σ over n a sole = cases (session_at σ.sessions n) refl
   where
-    found_here : (xs : List Seat) (s : Seat) → seat_at xs n ≡ Some s → s.number ≡ n
-    found_here xs s e = Rattle.tab_model.proofs.Seats.found xs s n e
+    found_here : (xs : List Session) (s : Session) → session_at xs n ≡ Some s → s.number ≡ n
+    found_here xs s e = Rattle.tab_model.proofs.SessionLists.found xs s n e
 
-    cases : (o : Option Seat) → seat_at σ.seats n ≡ o → Calm n (by_seat σ over n a o)
+    cases : (o : Option Session) → session_at σ.sessions n ≡ o → Calm n (step_of σ over n a o)
     cases None e = unseated_calm σ n a sole e
-    cases (Some s) e = seated_calm σ n s sole (found_here σ.seats s e) over a e
+    cases (Some s) e = seated_calm σ n s sole (found_here σ.sessions s e) over a e
 
 pub stays_sole : (σ : State) (over : List ℕ) (n : ℕ) (a : Ask) → IsSole n σ → IsSole n (outcome σ over n a).state
 stays_sole σ over n a sole = (calm σ over n a sole).1
 
 pub no_wait : (σ : State) (over : List ℕ) (n : ℕ) (a : Ask) → IsSole n σ → (outcome σ over n a).reply ≢ reply.Waiting
-no_wait σ over n a sole e = false≢true (ap unheld (ap standing (sym e)) ∙ (calm σ over n a sole).0)
+no_wait σ over n a sole e = false≢true (ap unheld (ap effect_of_reply (sym e)) ∙ (calm σ over n a sole).0)
 
 pub no_restart : (σ : State) (over : List ℕ) (n : ℕ) (a : Ask) → IsSole n σ → (outcome σ over n a).reply ≢ reply.Restart
-no_restart σ over n a sole e = false≢true (ap unheld (ap standing (sym e)) ∙ (calm σ over n a sole).0)
+no_restart σ over n a sole e = false≢true (ap unheld (ap effect_of_reply (sym e)) ∙ (calm σ over n a sole).0)

@@ -13,7 +13,7 @@ use Rattle.tab_model.specs.declared.data.Change.{Change}
 use Rattle.tab_model.specs.declared.data.Change.TheVariants as change
 use Rattle.tab_model.specs.declared.data.Event.{Event}
 use Rattle.tab_model.specs.Operations.{table_of_change}
-use Rattle.tab_model.specs.Shapes.{held, tid, five, simple, detailed, body, shape, is_record, is_id, written, object_deleted, key_deleted, deleted, in_table, simple_change, detailed_change, detailed_body, by_rest, change_in_body, change_in, change_of, is_whole, IsShaped, ShapesChange}
+use Rattle.tab_model.specs.Shapes.{held, tid, five, simple, detailed, body, shape, is_record, is_id, write_in, object_deletion_in, key_deletion_in, deletion_in, in_table, simple_change, detailed_change, detailed_body, by_rest, change_in_body, change_in, change_of, is_whole, IsShaped, ShapesChange}
 
 pub held_term : (r : Term) → held (term r) ≡ r
 held_term (is.Int z) = refl
@@ -31,7 +31,7 @@ term_held (list ts) = refl
 term_held (bin b) = refl
 term_held (map ps) = refl
 
-deleted_record : (x : PlainTerm) → is_record x ≡ true → deleted x ≡ Some (change.DeleteObject (held x))
+deleted_record : (x : PlainTerm) → is_record x ≡ true → deletion_in x ≡ Some (change.DeleteObject (held x))
 deleted_record (tuple (one_more (atom t) (one_more k (one_more v vs)))) h = refl
 deleted_record x h = cc
 
@@ -49,9 +49,9 @@ at_table : (t : List ℕ) (o : Option Change) (c : Change) → o ≡ Some c → 
 at_table t o c h e = ap (in_table t) h ∙ ap (λ b. if b then Some c else None) ((bytes_eq-Decides (table_of_change c) t).1 e)
 
 told_detailed : (c : Change) (t : List ℕ) (old : PlainTerms) (a : ℕ) → is_whole c ≡ true → table_of_change c ≡ t → change_of (pair (atom (codes "mnesia_table_event")) (detailed c t old (suc a))) ≡ Some c
-told_detailed (change.Write r) t old a w e = at_table t (written (term r)) (change.Write r) (one_of (is_record (term r)) (change.Write (held (term r))) w ∙ ap (λ x. Some (change.Write x)) (held_term r)) e
+told_detailed (change.Write r) t old a w e = at_table t (write_in (term r)) (change.Write r) (one_of (is_record (term r)) (change.Write (held (term r))) w ∙ ap (λ x. Some (change.Write x)) (held_term r)) e
 told_detailed (change.Delete u k) t old a w e = at_table t (Some (change.Delete u (held (term k)))) (change.Delete u k) (ap (λ x. Some (change.Delete u x)) (held_term k)) e
-told_detailed (change.DeleteObject r) t old a w e = at_table t (deleted (term r)) (change.DeleteObject r) (deleted_record (term r) w ∙ ap (λ x. Some (change.DeleteObject x)) (held_term r)) e
+told_detailed (change.DeleteObject r) t old a w e = at_table t (deletion_in (term r)) (change.DeleteObject r) (deleted_record (term r) w ∙ ap (λ x. Some (change.DeleteObject x)) (held_term r)) e
 
 told_at : (l : Level) (c : Change) (t : List ℕ) (old : PlainTerms) (a : ℕ) → is_whole c ≡ true → table_of_change c ≡ t → 0 < a → change_of (shape l (record { tab = t; change = c; old = old; age = a })) ≡ Some c
 told_at l c t old zero w e h = absurd (omega arith)
@@ -91,10 +91,10 @@ pub record Changes (x : PlainTerm) (c d : Change) : Type 0 where
   pub change_is : c ≡ d
   pub whole : is_whole c ≡ true
 
-written_is : (x : PlainTerm) (c : Change) → written x ≡ Some c → Changes x (change.Write (held x)) c
+written_is : (x : PlainTerm) (c : Change) → write_in x ≡ Some c → Changes x (change.Write (held x)) c
 written_is x c h = let p = if_some (is_record x) (change.Write (held x)) c h in record { change_is = p.1; whole = ap is_record (term_held x) ∙ p.0 }
 
-object_is : (x : PlainTerm) (c : Change) → object_deleted x ≡ Some c → Changes x (change.DeleteObject (held x)) c
+object_is : (x : PlainTerm) (c : Change) → object_deletion_in x ≡ Some c → Changes x (change.DeleteObject (held x)) c
 object_is x c h = let p = if_some (is_record x) (change.DeleteObject (held x)) c h in record { change_is = p.1; whole = ap is_record (term_held x) ∙ p.0 }
 
 pub record Pair (x : PlainTerm) (c : Change) : Type 0 where
@@ -103,7 +103,7 @@ pub record Pair (x : PlainTerm) (c : Change) : Type 0 where
   pub is : pair (atom table) key ≡ x
   pub change_is : change.Delete table (held key) ≡ c
 
-key_is : (x : PlainTerm) (c : Change) → key_deleted x ≡ Some c → Pair x c
+key_is : (x : PlainTerm) (c : Change) → key_deletion_in x ≡ Some c → Pair x c
 key_is (tuple (one_more (atom t) (one_more k none))) c h = record { table = t; key = k; is = refl; change_is = cc }
 key_is x c h = cc
 
@@ -114,7 +114,7 @@ simple_is : (n : List ℕ) (x i : PlainTerm) (c : Change) → Id i → simple_ch
 simple_is n x i c id h = cases (bytes_eq n (codes "write")) refl (bytes_eq n (codes "delete")) refl (bytes_eq n (codes "delete_object")) refl h
   where
     cases : (p : Bool) → bytes_eq n (codes "write") ≡ p → (q : Bool) → bytes_eq n (codes "delete") ≡ q → (r : Bool) → bytes_eq n (codes "delete_object") ≡ r
-        → (if p then written x else (if q then key_deleted x else (if r then object_deleted x else None))) ≡ Some c → BodyOf (one_more (atom n) (one_more x (one_more i none))) c
+        → (if p then write_in x else (if q then key_deletion_in x else (if r then object_deletion_in x else None))) ≡ Some c → BodyOf (one_more (atom n) (one_more x (one_more i none))) c
     cases true e q f r g h = let w = written_is x c h in record {
       level = Simple;
       event = record { tab = table_of_change (change.Write (held x)); change = change.Write (held x); old = none; age = suc id.age };
@@ -149,7 +149,7 @@ pub record Deletes (x : PlainTerm) (c : Change) : Type 0 where
   pub change_is : change ≡ c
   pub whole : is_whole change ≡ true
 
-object_deletes : (x : PlainTerm) (c : Change) → object_deleted x ≡ Some c → Deletes x c
+object_deletes : (x : PlainTerm) (c : Change) → object_deletion_in x ≡ Some c → Deletes x c
 object_deletes x c h = let w = object_is x c h in record {
   change = change.DeleteObject (held x);
   is = λ t old a. ap (λ y. five (atom (codes "delete")) (atom t) y (list old) (tid a)) (term_held x);
@@ -157,7 +157,7 @@ object_deletes x c h = let w = object_is x c h in record {
   whole = w.whole;
 }
 
-deletes_is : (x : PlainTerm) (c : Change) → deleted x ≡ Some c → Deletes x c
+deletes_is : (x : PlainTerm) (c : Change) → deletion_in x ≡ Some c → Deletes x c
 deletes_is (tuple (one_more (atom u) (one_more k none))) c h = record {
   change = change.Delete u (held k);
   is = λ t old a. ap (λ y. five (atom (codes "delete")) (atom t) (pair (atom u) y) (list old) (tid a)) (term_held k);
@@ -173,15 +173,15 @@ detailed_is : (n t : List ℕ) (x i : PlainTerm) (old : PlainTerms) (c : Change)
 detailed_is n t x i old c id h = cases (bytes_eq n (codes "write")) refl (bytes_eq n (codes "delete")) refl h
   where
     cases : (p : Bool) → bytes_eq n (codes "write") ≡ p → (q : Bool) → bytes_eq n (codes "delete") ≡ q
-        → (if p then in_table t (written x) else (if q then in_table t (deleted x) else None)) ≡ Some c → BodyOf (one_more (atom n) (one_more (atom t) (one_more x (one_more (list old) (one_more i none))))) c
-    cases true e q f h = let u = in_table_is t (written x) c h in let w = written_is x c u.0 in record {
+        → (if p then in_table t (write_in x) else (if q then in_table t (deletion_in x) else None)) ≡ Some c → BodyOf (one_more (atom n) (one_more (atom t) (one_more x (one_more (list old) (one_more i none))))) c
+    cases true e q f h = let u = in_table_is t (write_in x) c h in let w = written_is x c u.0 in record {
       level = Detailed;
       event = record { tab = t; change = change.Write (held x); old = old; age = suc id.age };
       is = λ j. five (atom (sym (names_true n (codes "write") e) j)) (atom t) (term_held x j) (list old) (id.is j);
       change_is = w.change_is;
       shaped = in_one (change.Write (held x)) c t old id.age w.change_is u.1 w.whole;
     }
-    cases false e true f h = let u = in_table_is t (deleted x) c h in let w = deletes_is x c u.0 in record {
+    cases false e true f h = let u = in_table_is t (deletion_in x) c h in let w = deletes_is x c u.0 in record {
       level = Detailed;
       event = record { tab = t; change = w.change; old = old; age = suc id.age };
       is = w.is t old (suc id.age) ∙ (λ j. five (atom (sym (names_true n (codes "delete") f) j)) (atom t) x (list old) (id.is j));

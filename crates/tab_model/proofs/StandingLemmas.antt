@@ -8,15 +8,15 @@ use Rattle.tab_model.specs.declared.data.Level.{Level}
 use Rattle.tab_model.specs.declared.data.Limits.{Limits}
 use Rattle.tab_model.specs.declared.data.Entry.{Entry}
 use Rattle.tab_model.specs.declared.data.Entry.TheVariants.{Committed, Changed, Subscribed, Unsubscribed}
-use Rattle.tab_model.specs.Worlds.{World}
-use Rattle.tab_model.specs.Log.{entered, serial, serial_from, stands, in_force, in_force_from, count_after, IsRight, IsLegal, commits_from}
-use Rattle.tab_model.specs.Slices.{dump_of, owed, slice_after, slice}
-use Rattle.tab_model.specs.History.{Base, empty, level_at, in_force_since, owed_on, owed_since, slice_since_after, slice_since, IsHistory, folded, Admits, forgotten}
-use Rattle.tab_model.specs.State.{Outbox, Seat, State, new, seat_at, level_in, IsSound}
-use Rattle.tab_model.specs.Outcome.{Ask, Join, Leave, Retry, Take, DoCommand, by_seat, without_seat, outcome}
-use Rattle.tab_model.specs.Run.{entries, item_of, taken_now, JoinsEmpty, IsTied, IsNew}
-use Rattle.tab_model.specs.Standing.{AreChannels, JoinsChannel, is_joined, MayStand, IsFolded, Stands, still_joined}
-use Rattle.tab_model.proofs.Seats.{other_number, found, itself, seat_at-without, serial_more, in_force_more, commits-push}
+use Rattle.tab_model.specs.Catalogs.{Catalog}
+use Rattle.tab_model.specs.Log.{catalog_after, serial, serial_from, level_after, in_force, in_force_from, count_after, IsRight, IsLegal, commits_from}
+use Rattle.tab_model.specs.Slices.{dump_of, expected, slice_after, slice}
+use Rattle.tab_model.specs.History.{Base, empty, level_at, in_force_since, expected_on, expected_since, slice_since_after, slice_since, IsHistory, after_fold, Admits, without_subscriber}
+use Rattle.tab_model.specs.State.{Outbox, Session, State, new, session_at, level_in, IsSound}
+use Rattle.tab_model.specs.Outcome.{Ask, Join, Leave, Retry, Take, DoCommand, step_of, without_session, outcome}
+use Rattle.tab_model.specs.Run.{entries, item_of, delivered_by, JoinsEmpty, IsTied, IsNew}
+use Rattle.tab_model.specs.Standing.{AreChannels, JoinsChannel, is_joined, MayFollow, IsFolded, FollowsLog, still_joined}
+use Rattle.tab_model.proofs.SessionLists.{other_number, found, itself, session_at-without, serial_more, in_force_more, commits-push}
 use Rattle.tab_model.proofs.TiedSteps.{new_tied, step_tied}
 use Rattle.tab_model.proofs.PostsStay.{IsChannel, JoinsAs, channels_stay}
 use Rattle.tab_model.proofs.ChannelReplies.{no_item}
@@ -27,18 +27,18 @@ use Rattle.tab_model.proofs.Folding.{tables_right, number_right, in_force_folded
 
 -- ---- who may stand
 
-some_none : (s : Seat) → Some s ≡ None → ⊥
+some_none : (s : Session) → Some s ≡ None → ⊥
 some_none s e = cc
 
 not_true : (b : Bool) → (b ≡ true → ⊥) → b ≡ false
 not_true true h = absurd (h refl)
 not_true false h = refl
 
-is_none : (o : Option Seat) → is_some o ≡ false → o ≡ None
+is_none : (o : Option Session) → is_some o ≡ false → o ≡ None
 is_none None h = refl
 is_none (Some s) h = cc
 
-is_there : (o : Option Seat) → o ≡ None → is_some o ≡ true → ⊥
+is_there : (o : Option Session) → o ≡ None → is_some o ≡ true → ⊥
 is_there None h e = cc
 is_there (Some s) h e = cc
 
@@ -53,33 +53,33 @@ not_above : (g n : ℕ) → g < n → n ≤ g → ⊥
 not_above g n h e = omega (arith, h, e)
 
 -- each session may stand or is gone
-stands_or_gone : (σ : State) (n : ℕ) → MayStand σ n ⊎ IsGone n σ
+stands_or_gone : (σ : State) (n : ℕ) → MayFollow σ n ⊎ IsGone n σ
 stands_or_gone σ n = by (is_joined σ n) refl
   where
-    by_number : is_joined σ n ≡ false → (σ.greatest < n) ⊎ (n ≤ σ.greatest) → MayStand σ n ⊎ IsGone n σ
+    by_number : is_joined σ n ≡ false → (σ.greatest < n) ⊎ (n ≤ σ.greatest) → MayFollow σ n ⊎ IsGone n σ
     by_number e (inl h) = inl (inr h)
-    by_number e (inr h) = inr (record { none = is_none (seat_at σ.seats n) e; joined = h })
+    by_number e (inr h) = inr (record { none = is_none (session_at σ.sessions n) e; joined = h })
 
-    by : (b : Bool) → is_joined σ n ≡ b → MayStand σ n ⊎ IsGone n σ
+    by : (b : Bool) → is_joined σ n ≡ b → MayFollow σ n ⊎ IsGone n σ
     by true e = inl (inl e)
     by false e = by_number e (above σ.greatest n)
 
-gone_not : (σ : State) (n : ℕ) → IsGone n σ → MayStand σ n → ⊥
-gone_not σ n gone (inl h) = is_there (seat_at σ.seats n) gone.none h
+gone_not : (σ : State) (n : ℕ) → IsGone n σ → MayFollow σ n → ⊥
+gone_not σ n gone (inl h) = is_there (session_at σ.sessions n) gone.none h
 gone_not σ n gone (inr h) = not_above σ.greatest n h gone.joined
 
 -- who may stand after a step could before
-stood_before : (σ : State) (over : List ℕ) (n : ℕ) (a : Ask) (m : ℕ) → MayStand (outcome σ over n a).state m → MayStand σ m
+stood_before : (σ : State) (over : List ℕ) (n : ℕ) (a : Ask) (m : ℕ) → MayFollow (outcome σ over n a).state m → MayFollow σ m
 stood_before σ over n a m h = by (stands_or_gone σ m)
   where
-    by : MayStand σ m ⊎ IsGone m σ → MayStand σ m
+    by : MayFollow σ m ⊎ IsGone m σ → MayFollow σ m
     by (inl k) = k
     by (inr gone) = absurd (gone_not (outcome σ over n a).state m (step_gone m σ over n a gone) h)
 
 -- ---- a new book
 
-pub new_stands : (limits : Limits) → Stands [] empty [] (new limits)
-new_stands limits = record {
+pub new_follows : (limits : Limits) → FollowsLog [] empty [] (new limits)
+new_follows limits = record {
   tied = new_tied limits;
   folded = record { tables = refl; commits = refl; levels = λ n t h. refl };
   channels = tt;
@@ -109,9 +109,9 @@ none_now m n xs h = by (m == n)
     by false = refl
 
 module _ (past : List Entry) (b : Base) (log : List Entry) (σ : State) where
-  pub step_stands : (over : List ℕ) (n : ℕ) (a : Ask) → IsSound σ → JoinsChannel a → Stands past b log σ
-      → Stands past b (log ++ entries (outcome σ over n a).entry) (outcome σ over n a).state
-  step_stands over n a sound joins k =
+  pub step_follows : (over : List ℕ) (n : ℕ) (a : Ask) → IsSound σ → JoinsChannel a → FollowsLog past b log σ
+      → FollowsLog past b (log ++ entries (outcome σ over n a).entry) (outcome σ over n a).state
+  step_follows over n a sound joins k =
       let o = outcome σ over n a in
       let tied = step_tied σ (past ++ log) (λ m. []) over n a sound (joins_empty a joins) k.tied in
       record {
@@ -121,11 +121,11 @@ module _ (past : List Entry) (b : Base) (log : List Entry) (σ : State) where
         channels = channels_stay σ over n a (joins_channel σ n a joins) k.channels;
       }
 
-  pub history_of : Stands past b log σ → IsHistory b log σ.tables
+  pub history_of : FollowsLog past b log σ → IsHistory b log σ.tables
   history_of k =
       let rest = legal-rest [] 0 past log k.tied.legal in
       record {
-        legal = subst (λ (w : World). IsLegal w b.commits log) (sym k.folded.tables) (subst (λ (c : ℕ). IsLegal (serial past) c log) (sym k.folded.commits) rest);
+        legal = subst (λ (w : Catalog). IsLegal w b.commits log) (sym k.folded.tables) (subst (λ (c : ℕ). IsLegal (serial past) c log) (sym k.folded.commits) rest);
         ends = ap (λ w. serial_from w log) k.folded.tables ∙ sym (serial-append [] past log) ∙ sym k.tied.tables;
       }
 
@@ -133,61 +133,61 @@ commits-append : (c : ℕ) (xs ys : List Entry) → commits_from c (xs ++ ys) �
 commits-append c [] ys = refl
 commits-append c (x ∷ xs) ys = commits-append (count_after c x) xs ys
 
-pub commits_are : (past : List Entry) (b : Base) (log : List Entry) (σ : State) → Stands past b log σ → σ.commits ≡ commits_from b.commits log
+pub commits_are : (past : List Entry) (b : Base) (log : List Entry) (σ : State) → FollowsLog past b log σ → σ.commits ≡ commits_from b.commits log
 commits_are past b log σ k = k.tied.commits ∙ commits-append 0 past log ∙ ap (λ c. commits_from c log) (sym k.folded.commits)
 
 -- ---- what was sent
 
 in_force-append : (s : ℕ) (t : List ℕ) (l : Option Level) (xs ys : List Entry) → in_force_from s t l (xs ++ ys) ≡ in_force_from s t (in_force_from s t l xs) ys
 in_force-append s t l [] ys = refl
-in_force-append s t l (x ∷ xs) ys = in_force-append s t (stands s t l x) xs ys
+in_force-append s t l (x ∷ xs) ys = in_force-append s t (level_after s t l x) xs ys
 
 module _ (past : List Entry) (b : Base) (n : ℕ) (tables : b.tables ≡ serial past) (levels : (t : List ℕ) → level_at b.subscriptions n t ≡ in_force n past t) where
-  owed_is : (log : List Entry) (e : Entry) → owed n (past ++ log) e ≡ owed_since b n log e
-  owed_is log e = by e
+  expected_is : (log : List Entry) (e : Entry) → expected n (past ++ log) e ≡ expected_since b n log e
+  expected_is log e = by e
     where
-      world : serial (past ++ log) ≡ serial_from b.tables log
-      world = serial-append [] past log ∙ ap (λ w. serial_from w log) (sym tables)
+      catalog : serial (past ++ log) ≡ serial_from b.tables log
+      catalog = serial-append [] past log ∙ ap (λ w. serial_from w log) (sym tables)
 
       level : (λ t. in_force n (past ++ log) t) ≡ in_force_since b n log
       level i t = (in_force-append n t None past log ∙ ap (λ l. in_force_from n t l log) (sym (levels t))) i
 
-      by : (e : Entry) → owed n (past ++ log) e ≡ owed_since b n log e
-      by (Committed m x age xs rs over) i = owed_on (world i) (level i) n (Committed m x age xs rs over)
-      by (Changed c over) i = owed_on (world i) (level i) n (Changed c over)
-      by (Subscribed x t l dump) i = owed_on (world i) (level i) n (Subscribed x t l dump)
-      by (Unsubscribed x t) i = owed_on (world i) (level i) n (Unsubscribed x t)
+      by : (e : Entry) → expected n (past ++ log) e ≡ expected_since b n log e
+      by (Committed m x age xs rs over) i = expected_on (catalog i) (level i) n (Committed m x age xs rs over)
+      by (Changed c over) i = expected_on (catalog i) (level i) n (Changed c over)
+      by (Subscribed x t l dump) i = expected_on (catalog i) (level i) n (Subscribed x t l dump)
+      by (Unsubscribed x t) i = expected_on (catalog i) (level i) n (Unsubscribed x t)
 
   slice_is : (log es : List Entry) → slice_after n (past ++ log) es ≡ slice_since_after b n log es
   slice_is log [] = refl
-  slice_is log (e ∷ es) = λ i. owed_is log e i ++ (ap (λ xs. slice_after n xs es) (append_assoc past log (e ∷ [])) ∙ slice_is (log ++ e ∷ []) es) i
+  slice_is log (e ∷ es) = λ i. expected_is log e i ++ (ap (λ xs. slice_after n xs es) (append_assoc past log (e ∷ [])) ∙ slice_is (log ++ e ∷ []) es) i
 
 since_parts : (b : Base) (n : ℕ) (before xs ys : List Entry) → slice_since_after b n before (xs ++ ys) ≡ slice_since_after b n before xs ++ slice_since_after b n (before ++ xs) ys
 since_parts b n before [] ys = ap (λ es. slice_since_after b n es ys) (sym (append-nil before))
 since_parts b n before (x ∷ xs) ys =
-    ap (λ zs. owed_since b n before x ++ zs) (since_parts b n (before ++ x ∷ []) xs ys ∙ ap (λ es. slice_since_after b n (before ++ x ∷ []) xs ++ slice_since_after b n es ys) (append_assoc before (x ∷ []) xs))
-    ∙ sym (append_assoc (owed_since b n before x) _ _)
+    ap (λ zs. expected_since b n before x ++ zs) (since_parts b n (before ++ x ∷ []) xs ys ∙ ap (λ es. slice_since_after b n (before ++ x ∷ []) xs ++ slice_since_after b n es ys) (append_assoc before (x ∷ []) xs))
+    ∙ sym (append_assoc (expected_since b n before x) _ _)
 
-is_seat : (o : Option Seat) (s : Seat) → o ≡ Some s → is_some o ≡ true
-is_seat None s e = cc
-is_seat (Some x) s e = refl
+is_session : (o : Option Session) (s : Session) → o ≡ Some s → is_some o ≡ true
+is_session None s e = cc
+is_session (Some x) s e = refl
 
-module _ (past : List Entry) (b : Base) (log : List Entry) (σ : State) (k : Stands past b log σ) (n : ℕ) (s : Seat) (here : seat_at σ.seats n ≡ Some s) where
+module _ (past : List Entry) (b : Base) (log : List Entry) (σ : State) (k : FollowsLog past b log σ) (n : ℕ) (s : Session) (here : session_at σ.sessions n ≡ Some s) where
   -- all that a joined session was sent
   pub sent_is : s.outbox.items ≡ slice n past ++ slice_since b n log
-  sent_is = (k.tied.seats n s here).items ∙ slice_parts n past log ∙ ap (λ xs. slice n past ++ xs)
-      (ap (λ es. slice_after n es log) (sym (append-nil past)) ∙ slice_is past b n k.folded.tables (λ t. k.folded.levels n t (inl (is_seat (seat_at σ.seats n) s here))) [] log)
+  sent_is = (k.tied.sessions n s here).items ∙ slice_parts n past log ∙ ap (λ xs. slice n past ++ xs)
+      (ap (λ es. slice_after n es log) (sym (append-nil past)) ∙ slice_is past b n k.folded.tables (λ t. k.folded.levels n t (inl (is_session (session_at σ.sessions n) s here))) [] log)
 
   -- and what it watches
   pub watched_is : (t : List ℕ) → level_in s.watching t ≡ in_force_since b n log t
-  watched_is t = (k.tied.seats n s here).watching t ∙ in_force-append n t None past log ∙ ap (λ l. in_force_from n t l log) (sym (k.folded.levels n t (inl (is_seat (seat_at σ.seats n) s here))))
+  watched_is t = (k.tied.sessions n s here).watching t ∙ in_force-append n t None past log ∙ ap (λ l. in_force_from n t l log) (sym (k.folded.levels n t (inl (is_session (session_at σ.sessions n) s here))))
 
   -- and after more entries
-  pub sent_grows : (more : List Entry) (τ : State) (r : Seat) → Stands past b (log ++ more) τ → seat_at τ.seats n ≡ Some r → r.outbox.items ≡ s.outbox.items ++ slice_since_after b n log more
+  pub sent_grows : (more : List Entry) (τ : State) (r : Session) → FollowsLog past b (log ++ more) τ → session_at τ.sessions n ≡ Some r → r.outbox.items ≡ s.outbox.items ++ slice_since_after b n log more
   sent_grows more τ r h there =
       let now : r.outbox.items ≡ slice n past ++ slice_since b n (log ++ more)
-      = (h.tied.seats n r there).items ∙ slice_parts n past (log ++ more) ∙ ap (λ xs. slice n past ++ xs)
-      (ap (λ es. slice_after n es (log ++ more)) (sym (append-nil past)) ∙ slice_is past b n k.folded.tables (λ t. k.folded.levels n t (inl (is_seat (seat_at σ.seats n) s here))) [] (log ++ more)) in
+      = (h.tied.sessions n r there).items ∙ slice_parts n past (log ++ more) ∙ ap (λ xs. slice n past ++ xs)
+      (ap (λ es. slice_after n es (log ++ more)) (sym (append-nil past)) ∙ slice_is past b n k.folded.tables (λ t. k.folded.levels n t (inl (is_session (session_at σ.sessions n) s here))) [] (log ++ more)) in
       now ∙ ap (λ xs. slice n past ++ xs) (since_parts b n [] log more) ∙ sym (append_assoc (slice n past) _ _) ∙ ap (λ xs. xs ++ slice_since_after b n log more) (sym sent_is)
 
 -- ---- the oldest entry is folded
@@ -201,12 +201,12 @@ both_nil (x ∷ xs) ys e = absurd (nil_cons x (xs ++ ys) (sym e))
 
 module _ (past : List Entry) (b : Base) (e : Entry) (log : List Entry) (σ : State) where
   -- who has not joined yet has subscribed to nothing
-  not_yet : Stands past b (e ∷ log) σ → (n : ℕ) → σ.greatest < n → owed n past e ≡ []
+  not_yet : FollowsLog past b (e ∷ log) σ → (n : ℕ) → σ.greatest < n → expected n past e ≡ []
   not_yet k n h =
-      let whole : slice n past ++ slice_after n past (e ∷ log) ≡ [] = sym (slice_parts n past (e ∷ log)) ∙ (k.tied.fresh n h).owed in
-      (both_nil (owed n past e) (slice_after n (past ++ e ∷ []) log) ((both_nil (slice n past) _ whole).1)).0
+      let whole : slice n past ++ slice_after n past (e ∷ log) ≡ [] = sym (slice_parts n past (e ∷ log)) ∙ (k.tied.fresh n h).expected in
+      (both_nil (expected n past e) (slice_after n (past ++ e ∷ []) log) ((both_nil (slice n past) _ whole).1)).0
 
-  admits : Stands past b (e ∷ log) σ → (n : ℕ) → MayStand σ n → Admits (still_joined σ e) n e
+  admits : FollowsLog past b (e ∷ log) σ → (n : ℕ) → MayFollow σ n → Admits (still_joined σ e) n e
   admits k n may = by e refl
     where
       by : (f : Entry) → e ≡ f → Admits (still_joined σ f) n f
@@ -215,50 +215,50 @@ module _ (past : List Entry) (b : Base) (e : Entry) (log : List Entry) (σ : Sta
       by (Unsubscribed s t) q = tt
       by (Subscribed s t l dump) q = λ same. ap (is_joined σ) same ∙ here same may
         where
-          begun : σ.greatest < n → owed n past (Subscribed s t l dump) ≡ []
-          begun h = ap (owed n past) (sym q) ∙ not_yet k n h
+          begun : σ.greatest < n → expected n past (Subscribed s t l dump) ≡ []
+          begun h = ap (expected n past) (sym q) ∙ not_yet k n h
 
           item : (b : Bool) → (if b then Began t l (dump_of (serial past) t dump) ∷ [] else []) ≡ [] → b ≡ false
           item true h = absurd (nil_cons _ [] (sym h))
           item false h = refl
 
-          here : s ≡ n → MayStand σ n → is_joined σ n ≡ true
+          here : s ≡ n → MayFollow σ n → is_joined σ n ≡ true
           here same (inl h) = h
           here same (inr h) = absurd (other_number s n (item (s == n) (begun h)) same)
 
-  pub fold_stands : Stands past b (e ∷ log) σ → Stands (past ++ e ∷ []) (folded (still_joined σ e) b e) log σ
-  fold_stands k =
+  pub fold_follows : FollowsLog past b (e ∷ log) σ → FollowsLog (past ++ e ∷ []) (after_fold (still_joined σ e) b e) log σ
+  fold_follows k =
       let right : IsRight (serial past) (commits_from 0 past) e = (legal-rest [] 0 past (e ∷ log) k.tied.legal).0 in
-      let right' : IsRight b.tables b.commits e = subst (λ (w : World). IsRight w b.commits e) (sym k.folded.tables) (subst (λ (c : ℕ). IsRight (serial past) c e) (sym k.folded.commits) right) in
+      let right' : IsRight b.tables b.commits e = subst (λ (w : Catalog). IsRight w b.commits e) (sym k.folded.tables) (subst (λ (c : ℕ). IsRight (serial past) c e) (sym k.folded.commits) right) in
       record {
         tied = subst (λ (es : List Entry). IsTied σ es (λ m. [])) (sym (append_assoc past (e ∷ []) log)) k.tied;
         folded = record {
-          tables = tables_right b.tables b.commits e right' ∙ ap (λ w. entered w e) k.folded.tables ∙ sym (serial_more past e);
+          tables = tables_right b.tables b.commits e right' ∙ ap (λ w. catalog_after w e) k.folded.tables ∙ sym (serial_more past e);
           commits = number_right b.tables b.commits e right' ∙ ap (λ c. count_after c e) k.folded.commits ∙ sym (commits-push 0 past e);
-          levels = λ n t may. sym (in_force_folded (still_joined σ e) b n t e [] (admits k n may)) ∙ ap (λ l. stands n t l e) (k.folded.levels n t may) ∙ sym (in_force_more n past e t);
+          levels = λ n t may. sym (in_force_folded (still_joined σ e) b n t e [] (admits k n may)) ∙ ap (λ l. level_after n t l e) (k.folded.levels n t may) ∙ sym (in_force_more n past e t);
         };
         channels = k.channels;
       }
 
 -- ---- who has left is forgotten
 
-pub forget_stands : (past : List Entry) (b : Base) (log : List Entry) (σ : State) (q : ℕ) → (MayStand σ q → ⊥) → Stands past b log σ → Stands past (forgotten b q) log σ
-forget_stands past b log σ q gone k = record {
+pub forget_follows : (past : List Entry) (b : Base) (log : List Entry) (σ : State) (q : ℕ) → (MayFollow σ q → ⊥) → FollowsLog past b log σ → FollowsLog past (without_subscriber b q) log σ
+forget_follows past b log σ q gone k = record {
   tied = k.tied;
   folded = record {
     tables = k.folded.tables;
     commits = k.folded.commits;
-    levels = λ n t may. in_force_forgotten b n q [] t (λ same. gone (subst (λ (m : ℕ). MayStand σ m) (sym same) may)) ∙ k.folded.levels n t may;
+    levels = λ n t may. in_force_forgotten b n q [] t (λ same. gone (subst (λ (m : ℕ). MayFollow σ m) (sym same) may)) ∙ k.folded.levels n t may;
   };
   channels = k.channels;
 }
 
 -- who was joined and leaves may stand no more
-pub left_away : (σ : State) (over : List ℕ) (n : ℕ) → IsSound σ → is_joined σ n ≡ true → MayStand (outcome σ over n Leave).state n → ⊥
+pub left_away : (σ : State) (over : List ℕ) (n : ℕ) → IsSound σ → is_joined σ n ≡ true → MayFollow (outcome σ over n Leave).state n → ⊥
 unfolding outcome
-left_away σ over n sound joined may = by (seat_at σ.seats n) refl joined may
+left_away σ over n sound joined may = by (session_at σ.sessions n) refl joined may
   where
-    by : (o : Option Seat) → seat_at σ.seats n ≡ o → is_some o ≡ true → MayStand (by_seat σ over n Leave o).state n → ⊥
+    by : (o : Option Session) → session_at σ.sessions n ≡ o → is_some o ≡ true → MayFollow (step_of σ over n Leave o).state n → ⊥
     by None e j m = cc
-    by (Some s) e j (inl h) = is_there (seat_at (without_seat σ.seats s.number) n) (seat_at-without σ.seats s.number n ∙ ap (λ b. if b then None else seat_at σ.seats n) (ap (λ k. n == k) (found σ.seats s n e) ∙ itself n)) h
+    by (Some s) e j (inl h) = is_there (session_at (without_session σ.sessions s.number) n) (session_at-without σ.sessions s.number n ∙ ap (λ b. if b then None else session_at σ.sessions n) (ap (λ k. n == k) (found σ.sessions s n e) ∙ itself n)) h
     by (Some s) e j (inr h) = not_above σ.greatest n h (sound.joined n s e)

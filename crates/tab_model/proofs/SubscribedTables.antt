@@ -13,33 +13,33 @@ use Rattle.tab_model.specs.declared.data.Entry.TheVariants.{Subscribed, Unsubscr
 use Rattle.tab_model.specs.declared.data.Command.{Command}
 use Rattle.tab_model.specs.declared.data.Command.TheVariants as command
 use Rattle.tab_model.specs.Tables.{applied}
-use Rattle.tab_model.specs.Worlds.{World, Table, find, rows_in, rows_of}
+use Rattle.tab_model.specs.Catalogs.{Catalog, Table, find, rows_in, rows_of}
 use Rattle.tab_model.specs.Ages.{Answer, Granted, Wait, Die}
-use Rattle.tab_model.specs.Log.{entered, serial, serial_from}
-use Rattle.tab_model.specs.Since.{changes_on, StandsSince, StoodFor, AllStood, AllAged, RowsSince}
-use Rattle.tab_model.specs.State.{Transaction, Watch, Seat, Queued, State, seat_at, level_in}
-use Rattle.tab_model.specs.Outcome.{Ask, Join, Leave, Retry, Take, DoCommand, Outcome, outcome, decided, within, operate, retried, retry_in, retry, opened, nested, begin, one_shot, abort, commit_at, commit, schema_if, schema, marked, subscribe_refusal, subscribe, unsubscribe, command_if, give, seated, join, unseated, by_seat}
+use Rattle.tab_model.specs.Log.{catalog_after, serial, serial_from}
+use Rattle.tab_model.specs.Since.{changes_on, IsInForceSince, WasInForce, AllWereInForce, AllAged, RowsSince}
+use Rattle.tab_model.specs.State.{Transaction, Watch, Session, Queued, State, session_at, level_in}
+use Rattle.tab_model.specs.Outcome.{Ask, Join, Leave, Retry, Take, DoCommand, Outcome, outcome, by_lock_answer, within_limit, operate, try_again, retry_in, retry, open_level_1, open_child, begin, one_shot, abort, commit_at, commit, schema_if, schema, put_marker, subscribe_refusal, subscribe, unsubscribe, command_if, give, step_of_joined, join, step_of_stranger, step_of}
 use Rattle.tab_model.specs.Run.{entries}
 use Rattle.tab_model.proofs.EventsGiveTheRows.{since_applies, dump_applies}
 use Rattle.tab_model.proofs.InForce.{in_force_stands}
 use Rattle.tab_model.proofs.ItemsTellTheChanges.{items_tell}
 use Rattle.tab_model.proofs.LoggedLemmas.{IsLogged}
 
-abbrev pub Stood : World → Option Entry → Type 0
+abbrev pub Stood : Catalog → Option Entry → Type 0
 Stood w None = Unit {0}
-Stood w (Some e) = StoodFor w e
+Stood w (Some e) = WasInForce w e
 
-module _ (σ : State) (s : Seat) where
+module _ (σ : State) (s : Session) where
   operate_stood : (o : Operation) (x : Option Transaction) → Stood σ.tables (operate σ s o x).entry
   operate_stood o None = tt
   operate_stood o (Some t) = by_room _
     where
-      by_answer : (a : Answer) → Stood σ.tables (decided σ s t o a).entry
+      by_answer : (a : Answer) → Stood σ.tables (by_lock_answer σ s t o a).entry
       by_answer Granted = tt
       by_answer Wait = tt
       by_answer Die = tt
 
-      by_room : (b : Bool) → Stood σ.tables (within σ s t o b).entry
+      by_room : (b : Bool) → Stood σ.tables (within_limit σ s t o b).entry
       by_room false = tt
       by_room true = by_answer _
 
@@ -47,7 +47,7 @@ module _ (σ : State) (s : Seat) where
   retry_stood None = tt
   retry_stood (Some q) = by_transaction s.transaction
     where
-      by_turn : (t : Transaction) (b : Bool) → Stood σ.tables (retried σ s t q.operation b).entry
+      by_turn : (t : Transaction) (b : Bool) → Stood σ.tables (try_again σ s t q.operation b).entry
       by_turn t false = tt
       by_turn t true = tt
 
@@ -55,7 +55,7 @@ module _ (σ : State) (s : Seat) where
       by_transaction None = tt
       by_transaction (Some t) = by_turn t _
 
-  opened_stood : (b : Bool) → Stood σ.tables (opened σ s b).entry
+  opened_stood : (b : Bool) → Stood σ.tables (open_level_1 σ s b).entry
   opened_stood false = tt
   opened_stood true = tt
 
@@ -63,7 +63,7 @@ module _ (σ : State) (s : Seat) where
   begin_stood None = opened_stood _
   begin_stood (Some t) = by_limits _ _
     where
-      by_limits : (a b : Bool) → Stood σ.tables (nested σ s t a b).entry
+      by_limits : (a b : Bool) → Stood σ.tables (open_child σ s t a b).entry
       by_limits false b = tt
       by_limits true false = tt
       by_limits true true = tt
@@ -107,7 +107,7 @@ module _ (σ : State) (s : Seat) where
   subscribe_stood over t l dump (Some r) h = tt
   subscribe_stood over t l dump None h = by_room _
     where
-      by_room : (full : Bool) → Stood σ.tables (marked σ full s (record { table = t; level = l } ∷ s.watching) (Rattle.tab_model.specs.declared.data.Item.TheVariants.Began t l (Rattle.tab_model.specs.Slices.dump_of σ.tables t dump)) (Subscribed s.number t l dump)).entry
+      by_room : (full : Bool) → Stood σ.tables (put_marker σ full s (record { table = t; level = l } ∷ s.watching) (Rattle.tab_model.specs.declared.data.Item.TheVariants.Began t l (Rattle.tab_model.specs.Slices.dump_of σ.tables t dump)) (Subscribed s.number t l dump)).entry
       by_room true = tt
       by_room false = unrefused t h
 
@@ -115,7 +115,7 @@ module _ (σ : State) (s : Seat) where
   unsubscribe_stood over t false = tt
   unsubscribe_stood over t true = by_room _ _ _
     where
-      by_room : (full : Bool) (ws : List Watch) (x : Item) → Stood σ.tables (marked σ full s ws x (Unsubscribed s.number t)).entry
+      by_room : (full : Bool) (ws : List Watch) (x : Item) → Stood σ.tables (put_marker σ full s ws x (Unsubscribed s.number t)).entry
       by_room true ws x = tt
       by_room false ws x = tt
 
@@ -136,14 +136,14 @@ module _ (σ : State) (s : Seat) where
   give_stood [] None = tt
   give_stood [] (Some n) = tt
 
-  seated_stood : (over : List ℕ) (a : Ask) → Stood σ.tables (seated σ over s a).entry
+  seated_stood : (over : List ℕ) (a : Ask) → Stood σ.tables (step_of_joined σ over s a).entry
   seated_stood over (Join b) = tt
   seated_stood over Leave = tt
   seated_stood over Retry = retry_stood _
   seated_stood over Take = give_stood _ _
   seated_stood over (DoCommand c) = command_stood over c _
 
-unseated_stood : (σ : State) (n : ℕ) (a : Ask) → Stood σ.tables (unseated σ n a).entry
+unseated_stood : (σ : State) (n : ℕ) (a : Ask) → Stood σ.tables (step_of_stranger σ n a).entry
 unseated_stood σ n (Join b) = cases _ _
   where
     cases : (x y : Bool) → Stood σ.tables (join σ n b x y).entry
@@ -157,32 +157,32 @@ unseated_stood σ n (DoCommand c) = tt
 
 pub step_stood : (σ : State) (over : List ℕ) (n : ℕ) (a : Ask) → Stood σ.tables (outcome σ over n a).entry
 unfolding outcome
-step_stood σ over n a = cases (seat_at σ.seats n)
+step_stood σ over n a = cases (session_at σ.sessions n)
   where
-    cases : (o : Option Seat) → Stood σ.tables (by_seat σ over n a o).entry
+    cases : (o : Option Session) → Stood σ.tables (step_of σ over n a o).entry
     cases None = unseated_stood σ n a
     cases (Some s) = seated_stood σ s over a
 
 -- a step's entry is put behind a log
-pub stood_more : (w : World) (xs : List Entry) (o : Option Entry) → AllStood w xs → Stood (serial_from w xs) o → AllStood w (xs ++ entries o)
+pub stood_more : (w : Catalog) (xs : List Entry) (o : Option Entry) → AllWereInForce w xs → Stood (serial_from w xs) o → AllWereInForce w (xs ++ entries o)
 stood_more w [] None h r = tt
 stood_more w [] (Some e) h r = (r, tt)
-stood_more w (x ∷ xs) o h r = (h.0, stood_more (entered w x) xs o h.1 r)
+stood_more w (x ∷ xs) o h r = (h.0, stood_more (catalog_after w x) xs o h.1 r)
 
-stood-rest : (w : World) (xs ys : List Entry) → AllStood w (xs ++ ys) → AllStood (serial_from w xs) ys
+stood-rest : (w : Catalog) (xs ys : List Entry) → AllWereInForce w (xs ++ ys) → AllWereInForce (serial_from w xs) ys
 stood-rest w [] ys h = h
-stood-rest w (x ∷ xs) ys h = stood-rest (entered w x) xs ys h.1
+stood-rest w (x ∷ xs) ys h = stood-rest (catalog_after w x) xs ys h.1
 
 -- the changes since a subscription that stands give the table now
-module _ (σ : State) (log : List Entry) (tk : ℕ → List Item) (logged : IsLogged σ log tk) (stood : AllStood [] log) (aged : AllAged log) where
-  pub rows_since : (n : ℕ) (s : Seat) (t : List ℕ) (l : Level) → seat_at σ.seats n ≡ Some s → level_in s.watching t ≡ Some l → RowsSince n t l log (rows_of σ.tables t)
+module _ (σ : State) (log : List Entry) (tk : ℕ → List Item) (logged : IsLogged σ log tk) (stood : AllWereInForce [] log) (aged : AllAged log) where
+  pub rows_since : (n : ℕ) (s : Session) (t : List ℕ) (l : Level) → session_at σ.sessions n ≡ Some s → level_in s.watching t ≡ Some l → RowsSince n t l log (rows_of σ.tables t)
   rows_since n s t l here watched = by_table (find (serial sub.earlier) t) refl there
     where
-      sub : StandsSince n t l log
-      sub = in_force_stands n t l log (sym ((logged.seats n s here).watching t) ∙ watched)
+      sub : IsInForceSince n t l log
+      sub = in_force_stands n t l log (sym ((logged.sessions n s here).watching t) ∙ watched)
 
-      all : AllStood [] (sub.earlier ++ Subscribed n t l sub.dump ∷ sub.since)
-      all = subst (λ (es : List Entry). AllStood [] es) sub.is stood
+      all : AllWereInForce [] (sub.earlier ++ Subscribed n t l sub.dump ∷ sub.since)
+      all = subst (λ (es : List Entry). AllWereInForce [] es) sub.is stood
 
       there : is_some (find (serial sub.earlier) t) ≡ true
       there = (stood-rest [] sub.earlier (Subscribed n t l sub.dump ∷ sub.since) all).0

@@ -5,9 +5,9 @@ use Rattle.tab_model.specs.declared.data.Operation.{Operation}
 use Rattle.tab_model.specs.declared.data.Move.{Move}
 use Rattle.tab_model.specs.declared.data.Move.TheVariants.{Do, Open, Close, Undo}
 use Rattle.tab_model.specs.declared.data.Change.{Change}
-use Rattle.tab_model.specs.Worlds.{World, Table, find}
-use Rattle.tab_model.specs.Operations.{table_of, failure_in, failure, answer_or, answer, change_of_op, change_by, change_world, effect}
-use Rattle.tab_model.specs.Alone.{Mid, start, forgotten, back_to, back, next, after, replies}
+use Rattle.tab_model.specs.Catalogs.{Catalog, Table, find}
+use Rattle.tab_model.specs.Operations.{table_of, failure_in, failure, answer_or, answer, change_of_op, change_by, change_catalog, effect}
+use Rattle.tab_model.specs.Alone.{Mid, start, without_innermost, back_to, back, next, after, replies}
 use Rattle.tab_model.proofs.OperationAnswers.{answers}
 use Rattle.tab_model.specs.Events.{drop_level, top_level, is_failure, with_change, survivors, surviving, change_all}
 
@@ -15,29 +15,29 @@ use Rattle.tab_model.specs.Events.{drop_level, top_level, is_failure, with_chang
 pub reply_tells : (x : Option Table) (o : Operation) → is_failure (Some (answer_or (failure_in x o) x o)) ≡ is_some (failure_in x o)
 reply_tells = answers (λ f r. is_failure (Some r) ≡ is_some f) (record { no_table = λ t. refl; bad_type = λ t r. refl; no_index = λ t a. refl; found = λ rs. refl; done = refl })
 
-change_all-push : (w : World) (cs : List Change) (c : Change) → change_all w (cs ++ c ∷ []) ≡ change_world (change_all w cs) c
+change_all-push : (w : Catalog) (cs : List Change) (c : Change) → change_all w (cs ++ c ∷ []) ≡ change_catalog (change_all w cs) c
 change_all-push w [] c = refl
-change_all-push w (x ∷ cs) c = change_all-push (change_world w x) cs c
+change_all-push w (x ∷ cs) c = change_all-push (change_catalog w x) cs c
 
 -- the updates so far, and those at each open level's begin, give the tables now and then
-record Kept (w : World) (now : List Change) (saved : List (List Change)) (m : Mid) : Type 0 where
+record Kept (w : Catalog) (now : List Change) (saved : List (List Change)) (m : Mid) : Type 0 where
   now_is : change_all w now ≡ m.now
   saved_are : map (change_all w) saved ≡ m.saved
   base_is : w ≡ m.base
 
-kept_back : (w : World) (now : List Change) (saved : List (List Change)) (m : Mid) → Kept w now saved m → Kept w (top_level saved) (drop_level saved) (back m)
-kept_back w now [] m k = subst (λ (ws : List World). Kept w [] [] (back_to m ws)) k.saved_are (record { now_is = k.base_is; saved_are = refl; base_is = k.base_is })
-kept_back w now (x ∷ saved) m k = subst (λ (ws : List World). Kept w x saved (back_to m ws)) k.saved_are (record { now_is = refl; saved_are = refl; base_is = k.base_is })
+kept_back : (w : Catalog) (now : List Change) (saved : List (List Change)) (m : Mid) → Kept w now saved m → Kept w (top_level saved) (drop_level saved) (back m)
+kept_back w now [] m k = subst (λ (ws : List Catalog). Kept w [] [] (back_to m ws)) k.saved_are (record { now_is = k.base_is; saved_are = refl; base_is = k.base_is })
+kept_back w now (x ∷ saved) m k = subst (λ (ws : List Catalog). Kept w x saved (back_to m ws)) k.saved_are (record { now_is = refl; saved_are = refl; base_is = k.base_is })
 
-kept_closed : (w : World) (now : List Change) (saved : List (List Change)) (m : Mid) → Kept w now saved m → map (change_all w) (drop_level saved) ≡ forgotten m.saved
-kept_closed w now [] m k = ap forgotten k.saved_are
-kept_closed w now (x ∷ saved) m k = ap forgotten k.saved_are
+kept_closed : (w : Catalog) (now : List Change) (saved : List (List Change)) (m : Mid) → Kept w now saved m → map (change_all w) (drop_level saved) ≡ without_innermost m.saved
+kept_closed w now [] m k = ap without_innermost k.saved_are
+kept_closed w now (x ∷ saved) m k = ap without_innermost k.saved_are
 
-kept_change : (w : World) (cs : List Change) (c : Option Change) → change_all w (with_change cs c) ≡ change_by (change_all w cs) c
+kept_change : (w : Catalog) (cs : List Change) (c : Option Change) → change_all w (with_change cs c) ≡ change_by (change_all w cs) c
 kept_change w cs None = refl
 kept_change w cs (Some c) = change_all-push w cs c
 
-survives : (w : World) (now : List Change) (saved : List (List Change)) (m : Mid) (xs : List Move) → Kept w now saved m → change_all w (survivors now saved xs (replies m xs)) ≡ (after m xs).now
+survives : (w : Catalog) (now : List Change) (saved : List (List Change)) (m : Mid) (xs : List Move) → Kept w now saved m → change_all w (survivors now saved xs (replies m xs)) ≡ (after m xs).now
 survives w now saved m [] k = k.now_is
 survives w now saved m (Do o ∷ xs) k =
     by_case (is_failure (Some (answer m.now o))) (is_some (failure m.now o)) (reply_tells (find m.now (table_of o)) o)
@@ -61,5 +61,5 @@ survives w now saved m (Close ∷ xs) k = survives w now (drop_level saved) (nex
 survives w now saved m (Undo ∷ xs) k = survives w (top_level saved) (drop_level saved) (next m Undo) xs (kept_back w now saved m k)
 
 -- the surviving updates, read off the replies, give the tables after the transaction
-pub survivors_are : (w : World) (age : ℕ) (xs : List Move) → change_all w (surviving xs (replies (start w age) xs)) ≡ (after (start w age) xs).now
+pub survivors_are : (w : Catalog) (age : ℕ) (xs : List Move) → change_all w (surviving xs (replies (start w age) xs)) ≡ (after (start w age) xs).now
 survivors_are w age xs = survives w [] [] (start w age) xs (record { now_is = refl; saved_are = refl; base_is = refl })

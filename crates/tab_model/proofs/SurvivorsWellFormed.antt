@@ -19,45 +19,45 @@ use Rattle.tab_model.specs.declared.data.Schema.{Schema}
 use Rattle.tab_model.specs.declared.data.Schema.TheVariants.{Create, Remove, AddIndex, DelIndex}
 use Rattle.tab_model.specs.declared.data.Entry.{Entry}
 use Rattle.tab_model.specs.declared.data.Entry.TheVariants.{Committed, Changed, Subscribed, Unsubscribed}
-use Rattle.tab_model.specs.Definitions.{Parsed, Good, Bad, fits_def, are_different, good_names, atoms_in, attributes_in, kind_in, value_of, default_names, first_fault, bad_option, indexed, with_index, with_names, without_fault, parse_options, position}
+use Rattle.tab_model.specs.Definitions.{Parsed, Good, Bad, fits_def, are_different, good_names, atoms_in, attributes_in, kind_in, value_of, default_names, first_fault, bad_option, with_entries, with_index_option, with_names, without_fault, parse_options, position}
 use Rattle.tab_model.specs.Tables.{apply}
-use Rattle.tab_model.specs.Worlds.{World, Table, name_of, find, place, without, with_rows, with_def}
-use Rattle.tab_model.specs.Operations.{table_of, failure_in, failure, change_of_op, table_of_change, change_table, change_world, change_by, answer}
-use Rattle.tab_model.specs.Alone.{Mid, start, forgotten, back_to, back, next, after, replies}
+use Rattle.tab_model.specs.Catalogs.{Catalog, Table, name_of, find, place, without, with_rows, with_def}
+use Rattle.tab_model.specs.Operations.{table_of, failure_in, failure, change_of_op, table_of_change, change_table, change_catalog, change_by, answer}
+use Rattle.tab_model.specs.Alone.{Mid, start, without_innermost, back_to, back, next, after, replies}
 use Rattle.tab_model.specs.Events.{drop_level, top_level, is_failure, with_change, survivors, surviving}
 use Rattle.tab_model.specs.Schemas.{schema_effect, create_parsed, add_at, del_at, add_effect, del_effect}
-use Rattle.tab_model.specs.Log.{entered, serial_from}
+use Rattle.tab_model.specs.Log.{catalog_after, serial_from}
 use Rattle.tab_model.specs.Shapes.{is_record, is_whole}
 use Rattle.tab_model.proofs.ChangeLaws.{find-place, find-without}
 use Rattle.tab_model.proofs.SurvivorsRight.{reply_tells}
 use Rattle.std.specs.Prelude.{codes}
 
 -- each table has two attributes or more
-abbrev pub IsGood : World → Type 0
+abbrev pub IsGood : Catalog → Type 0
 IsGood w = (n : List ℕ) (t : Table) → find w n ≡ Some t → 1 < length t.def.attributes
 
-good_place : (w : World) (x : Table) → IsGood w → 1 < length x.def.attributes → IsGood (place w x)
+good_place : (w : Catalog) (x : Table) → IsGood w → 1 < length x.def.attributes → IsGood (place w x)
 good_place w x g h n t e = cases (bytes_eq (name_of x) n) (sym (find-place w x n) ∙ e)
   where
     cases : (b : Bool) → (if b then Some x else find w n) ≡ Some t → 1 < length t.def.attributes
     cases true f = let same : x ≡ t = cc in subst (λ (z : Table). 1 < length z.def.attributes) same h
     cases false f = g n t f
 
-good_without : (w : World) (m : List ℕ) → IsGood w → IsGood (without w m)
+good_without : (w : Catalog) (m : List ℕ) → IsGood w → IsGood (without w m)
 good_without w m g n t e = cases (bytes_eq m n) (sym (find-without w m n) ∙ e)
   where
     cases : (b : Bool) → (if b then None else find w n) ≡ Some t → 1 < length t.def.attributes
     cases true f = cc
     cases false f = g n t f
 
-good_change : (w : World) (c : Change) → IsGood w → IsGood (change_world w c)
+good_change : (w : Catalog) (c : Change) → IsGood w → IsGood (change_catalog w c)
 good_change w c g = cases (find w (table_of_change c)) refl
   where
     cases : (o : Option Table) → find w (table_of_change c) ≡ o → IsGood (change_table w o c)
     cases None e = g
     cases (Some y) e = good_place w (with_rows y (apply y.def.kind y.rows c)) g (g (table_of_change c) y e)
 
-good_by : (w : World) (c : Option Change) → IsGood w → IsGood (change_by w c)
+good_by : (w : Catalog) (c : Option Change) → IsGood w → IsGood (change_by w c)
 good_by w None g = g
 good_by w (Some c) g = good_change w c g
 
@@ -79,11 +79,11 @@ attributes_good : (x : PlainTerm) (names : List (List ℕ)) → attributes_in x 
 attributes_good (list ts) names h = names_good (atoms_in ts) names h
 attributes_good x names h = cc
 
-indexed_good : (def : TableDef) (es : PlainTerms) (f : Option PlainTerm) (d : TableDef) → indexed def es f ≡ Good d → def.attributes ≡ d.attributes
+indexed_good : (def : TableDef) (es : PlainTerms) (f : Option PlainTerm) (d : TableDef) → with_entries def es f ≡ Good d → def.attributes ≡ d.attributes
 indexed_good def es (Some e) d h = cc
 indexed_good def es None d h = cc
 
-with_index_good : (def : TableDef) (x : PlainTerm) (d : TableDef) → with_index def x ≡ Good d → def.attributes ≡ d.attributes
+with_index_good : (def : TableDef) (x : PlainTerm) (d : TableDef) → with_index_option def x ≡ Good d → def.attributes ≡ d.attributes
 with_index_good def (list es) d h = indexed_good def es (first_fault def es) d h
 with_index_good def (int z) d h = cc
 with_index_good def (atom s) d h = cc
@@ -107,7 +107,7 @@ del_attributes : (def : TableDef) (p : Option ℕ) → def.attributes ≡ (del_a
 del_attributes def None = refl
 del_attributes def (Some p) = refl
 
-good_schema : (w : World) (c : Schema) → IsGood w → IsGood (schema_effect w c)
+good_schema : (w : Catalog) (c : Schema) → IsGood w → IsGood (schema_effect w c)
 good_schema w (Create t os) g = cases (parse_options t os) refl
   where
     cases : (p : Parsed) → parse_options t os ≡ p → IsGood (create_parsed w p)
@@ -127,7 +127,7 @@ good_schema w (DelIndex t a) g = cases (find w t) refl
 
 -- ---- in the midst of a transaction
 
-abbrev GoodAll : List World → Type 0
+abbrev GoodAll : List Catalog → Type 0
 GoodAll [] = Unit {0}
 GoodAll (w ∷ ws) = IsGood w × GoodAll ws
 
@@ -136,11 +136,11 @@ record GoodMid (m : Mid) : Type 0 where
   saved : GoodAll m.saved
   base : IsGood m.base
 
-good_back : (m : Mid) (ws : List World) → GoodAll ws → IsGood m.base → GoodMid (back_to m ws)
+good_back : (m : Mid) (ws : List Catalog) → GoodAll ws → IsGood m.base → GoodMid (back_to m ws)
 good_back m [] g b = record { now = λ n t e. b n t e; saved = tt; base = λ n t e. b n t e }
 good_back m (w ∷ ws) g b = record { now = g.0; saved = g.1; base = λ n t e. b n t e }
 
-good_forgotten : (ws : List World) → GoodAll ws → GoodAll (forgotten ws)
+good_forgotten : (ws : List Catalog) → GoodAll ws → GoodAll (without_innermost ws)
 good_forgotten [] g = tt
 good_forgotten (w ∷ ws) g = g.1
 
@@ -158,15 +158,15 @@ good_after : (m : Mid) (xs : List Move) → GoodMid m → GoodMid (after m xs)
 good_after m [] g = g
 good_after m (x ∷ xs) g = good_after (next m x) xs (good_next m x g)
 
-pub good_entry : (w : World) (e : Entry) → IsGood w → IsGood (entered w e)
+pub good_entry : (w : Catalog) (e : Entry) → IsGood w → IsGood (catalog_after w e)
 good_entry w (Committed n s age xs rs over) g = let m = good_after (start w age) xs (record { now = λ n t e. g n t e; saved = tt; base = λ n t e. g n t e }) in λ n t e. m.now n t e
 good_entry w (Changed c over) g = good_schema w c g
 good_entry w (Subscribed s t l dump) g = g
 good_entry w (Unsubscribed s t) g = g
 
-pub good_serial : (w : World) (log : List Entry) → IsGood w → IsGood (serial_from w log)
+pub good_serial : (w : Catalog) (log : List Entry) → IsGood w → IsGood (serial_from w log)
 good_serial w [] g = g
-good_serial w (e ∷ log) g = good_serial (entered w e) log (good_entry w e g)
+good_serial w (e ∷ log) g = good_serial (catalog_after w e) log (good_entry w e g)
 
 -- ---- what fits such a definition is a record
 
@@ -248,5 +248,5 @@ wholes cur saved m (Close ∷ xs) g h k = wholes cur (drop_level saved) (next m 
 wholes cur saved m (Undo ∷ xs) g h k = wholes (top_level saved) (drop_level saved) (next m Undo) xs (good_next m Undo g) (whole_top saved k) (whole_drop saved k)
 
 -- what survives a transaction on good tables is whole
-pub surviving_whole : (w : World) (age : ℕ) (xs : List Move) → IsGood w → WholeAll (surviving xs (replies (start w age) xs))
+pub surviving_whole : (w : Catalog) (age : ℕ) (xs : List Move) → IsGood w → WholeAll (surviving xs (replies (start w age) xs))
 surviving_whole w age xs g = wholes [] [] (start w age) xs (record { now = λ n t e. g n t e; saved = tt; base = λ n t e. g n t e }) tt tt

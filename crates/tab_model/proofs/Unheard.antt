@@ -10,26 +10,26 @@ use Rattle.tab_model.specs.declared.data.Limit.{Limit}
 use Rattle.tab_model.specs.declared.data.Operation.{Operation}
 use Rattle.tab_model.specs.State.{Outbox, Queued}
 use Rattle.tab_model.specs.Outcome.{Ask, Join, Leave, Retry, Take, DoCommand}
-use Rattle.tab_model.specs.Callers.{Caller, AnswerKind, NotMade, kind_of, operated, retried, begun, closed, undone, hears, hears_command, commit_told, schema_told, done_told, command_told, entry_told, queued_told, answered_told, aborted_told, left_told, queue_by_command, queue_told, age_told, age_by_command, next_told, Post, post_joined, post_taken, post_marked, post_by_command, post_by_answer, IsUnheard}
+use Rattle.tab_model.specs.Callers.{Caller, AnswerKind, NotMade, kind_of, after_operation, after_answer, after_begin, after_close, after_undo, hears, hears_command, commit_entry, schema_entry, subscription_entry, entry_of_command, entry_of_step, queue_after_operation, queue_after_answer, queue_after_abort, queue_after_leave, queue_after_command, queue_after_step, age_after_begin, age_after_command, age_after_step, Post, post_after_join, post_after_take, post_after_marker, post_after_command, post_after_answer, IsUnheard}
 
 -- a reply that is none of those that tell something
 record IsSilent (r : Reply) : Type 0 where
   not_made : kind_of r ≡ NotMade
-  no_begin : (k : Caller) → begun k r ≡ k
-  no_close : (k : Caller) → closed k r ≡ k
-  no_abort : (k : Caller) → undone k r ≡ k
-  no_commit : (n : ℕ) (over : List ℕ) (k : Caller) → commit_told n over k r ≡ None
-  no_schema : (over : List ℕ) (c : Schema) → schema_told over c r ≡ None
-  no_mark : (e : Entry) → done_told e r ≡ None
-  no_drop : (n : ℕ) (qs : List Queued) → aborted_told n r qs ≡ qs
-  no_leave : (n : ℕ) (qs : List Queued) → left_told n r qs ≡ qs
-  no_age : (k : Caller) (a : ℕ) → age_told k r a ≡ a
-  no_join : (b : Outbox) (p : Post) → post_joined b r p ≡ p
-  no_take : (p : Post) → post_taken r p ≡ p
-  no_refusal : (p : Post) → post_marked r p ≡ p
+  no_begin : (k : Caller) → after_begin k r ≡ k
+  no_close : (k : Caller) → after_close k r ≡ k
+  no_abort : (k : Caller) → after_undo k r ≡ k
+  no_commit : (n : ℕ) (over : List ℕ) (k : Caller) → commit_entry n over k r ≡ None
+  no_schema : (over : List ℕ) (c : Schema) → schema_entry over c r ≡ None
+  no_mark : (e : Entry) → subscription_entry e r ≡ None
+  no_drop : (n : ℕ) (qs : List Queued) → queue_after_abort n r qs ≡ qs
+  no_leave : (n : ℕ) (qs : List Queued) → queue_after_leave n r qs ≡ qs
+  no_age : (k : Caller) (a : ℕ) → age_after_begin k r a ≡ a
+  no_join : (b : Outbox) (p : Post) → post_after_join b r p ≡ p
+  no_take : (p : Post) → post_after_take r p ≡ p
+  no_refusal : (p : Post) → post_after_marker r p ≡ p
 
 module _ (r : Reply) (s : IsSilent r) where
-  unretried : (k : Caller) (o : Option Operation) → retried k r NotMade o ≡ k
+  unretried : (k : Caller) (o : Option Operation) → after_answer k r NotMade o ≡ k
   unretried k None = refl
   unretried k (Some o) = refl
 
@@ -39,7 +39,7 @@ module _ (r : Reply) (s : IsSilent r) where
   command_knows k command.Begin = s.no_begin k
   command_knows k command.Commit = s.no_close k
   command_knows k (command.Abort x) = s.no_abort k
-  command_knows k (command.Do o) = ap (operated k o r) s.not_made
+  command_knows k (command.Do o) = ap (after_operation k o r) s.not_made
   command_knows k (command.Subscribe t l dump) = refl
   command_knows k (command.Unsubscribe t l) = refl
   command_knows k (command.OneShot parts retries) = s.no_begin k
@@ -47,11 +47,11 @@ module _ (r : Reply) (s : IsSilent r) where
   knows : (k : Caller) (a : Ask) → hears k a r ≡ k
   knows k (Join b) = refl
   knows k Leave = refl
-  knows k Retry = ap (λ (x : AnswerKind). retried k r x k.queued) s.not_made ∙ unretried k k.queued
+  knows k Retry = ap (λ (x : AnswerKind). after_answer k r x k.queued) s.not_made ∙ unretried k k.queued
   knows k Take = refl
   knows k (DoCommand c) = command_knows k c
 
-  command_entry : (n : ℕ) (over : List ℕ) (k : Caller) (c : Command) → command_told n over k c r ≡ None
+  command_entry : (n : ℕ) (over : List ℕ) (k : Caller) (c : Command) → entry_of_command n over k c r ≡ None
   command_entry n over k (command.Schema c) = s.no_schema over c
   command_entry n over k (command.TableInfo t i) = refl
   command_entry n over k command.Begin = refl
@@ -62,32 +62,32 @@ module _ (r : Reply) (s : IsSilent r) where
   command_entry n over k (command.Unsubscribe t l) = s.no_mark _
   command_entry n over k (command.OneShot parts retries) = refl
 
-  entry : (n : ℕ) (over : List ℕ) (k : Caller) (a : Ask) → entry_told n over k a r ≡ None
+  entry : (n : ℕ) (over : List ℕ) (k : Caller) (a : Ask) → entry_of_step n over k a r ≡ None
   entry n over k (Join b) = refl
   entry n over k Leave = refl
   entry n over k Retry = refl
   entry n over k Take = refl
   entry n over k (DoCommand c) = command_entry n over k c
 
-  command_queue : (n : ℕ) (k : Caller) (c : Command) (qs : List Queued) → queue_by_command n k c r qs ≡ qs
+  command_queue : (n : ℕ) (k : Caller) (c : Command) (qs : List Queued) → queue_after_command n k c r qs ≡ qs
   command_queue n k (command.Schema c) qs = refl
   command_queue n k (command.TableInfo t i) qs = refl
   command_queue n k command.Begin qs = refl
   command_queue n k command.Commit qs = refl
   command_queue n k (command.Abort x) qs = s.no_drop n qs
-  command_queue n k (command.Do o) qs = ap (λ (x : AnswerKind). queued_told n k o x qs) s.not_made
+  command_queue n k (command.Do o) qs = ap (λ (x : AnswerKind). queue_after_operation n k o x qs) s.not_made
   command_queue n k (command.Subscribe t l dump) qs = refl
   command_queue n k (command.Unsubscribe t l) qs = refl
   command_queue n k (command.OneShot parts retries) qs = refl
 
-  queue : (n : ℕ) (k : Caller) (a : Ask) (qs : List Queued) → queue_told n k a r qs ≡ qs
+  queue : (n : ℕ) (k : Caller) (a : Ask) (qs : List Queued) → queue_after_step n k a r qs ≡ qs
   queue n k (Join b) qs = refl
   queue n k Leave qs = s.no_leave n qs
-  queue n k Retry qs = ap (λ (x : AnswerKind). answered_told n x qs) s.not_made
+  queue n k Retry qs = ap (λ (x : AnswerKind). queue_after_answer n x qs) s.not_made
   queue n k Take qs = refl
   queue n k (DoCommand c) qs = command_queue n k c qs
 
-  command_age : (k : Caller) (c : Command) (age : ℕ) → age_by_command k c r age ≡ age
+  command_age : (k : Caller) (c : Command) (age : ℕ) → age_after_command k c r age ≡ age
   command_age k (command.Schema c) age = refl
   command_age k (command.TableInfo t i) age = refl
   command_age k command.Begin age = s.no_age k age
@@ -98,14 +98,14 @@ module _ (r : Reply) (s : IsSilent r) where
   command_age k (command.Unsubscribe t l) age = refl
   command_age k (command.OneShot parts retries) age = s.no_age k age
 
-  next : (k : Caller) (a : Ask) (age : ℕ) → next_told k a r age ≡ age
+  next : (k : Caller) (a : Ask) (age : ℕ) → age_after_step k a r age ≡ age
   next k (Join b) age = refl
   next k Leave age = refl
   next k Retry age = refl
   next k Take age = refl
   next k (DoCommand c) age = command_age k c age
 
-  command_post : (c : Command) (p : Post) → post_by_command c r p ≡ p
+  command_post : (c : Command) (p : Post) → post_after_command c r p ≡ p
   command_post (command.Schema c) p = refl
   command_post (command.TableInfo t i) p = refl
   command_post command.Begin p = refl
@@ -116,7 +116,7 @@ module _ (r : Reply) (s : IsSilent r) where
   command_post (command.Unsubscribe t l) p = s.no_refusal p
   command_post (command.OneShot parts retries) p = refl
 
-  post : (a : Ask) (p : Post) → post_by_answer a r p ≡ p
+  post : (a : Ask) (p : Post) → post_after_answer a r p ≡ p
   post (Join b) p = s.no_join b p
   post Leave p = refl
   post Retry p = refl

@@ -7,7 +7,7 @@ use Rattle.std.proofs.lemmas.Bool.Decides.{nat_tests}
 use Rattle.std.proofs.lemmas.List.Folds.{Any-from_list_any, list_any-from_Any}
 use Rattle.tab_model.specs.Locks.{conflict, covers}
 use Rattle.tab_model.specs.Ages.{Owned, Ages, opposes, covers_own, blocks, Answer, Granted, Wait, Die, all_of, decide, before, can_retry, Covered, Opposed, OpposedByOlder, OpposedBefore}
-use Rattle.tab_model.proofs.Seats.{eq_true, itself}
+use Rattle.tab_model.proofs.SessionLists.{eq_true, itself}
 
 some_of : (p : Owned → Bool) (P : Owned → Type 0) (xs : List Owned) → ((x : Owned) → p x ≡ true → P x) → list_any p xs ≡ true → Any P xs
 some_of p P xs f h = let a = Any-from_list_any p xs h in (a.0, a.1, a.2, a.3, f a.1 a.4)

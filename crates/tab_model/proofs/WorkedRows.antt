@@ -204,7 +204,7 @@ pub row_options : told_in (joins 1
     ∷ reply.BadDefinition (codes "v") (held (indexes_are (num 2)))
     ∷ reply.BadDefinition (codes "v") (held (pair (atom (codes "record_name")) (atom (codes "w"))))
     ∷ reply.AtomicOk
-    ∷ reply.Told (info.Index (numbers (3 ∷ []))) ∷ reply.Told (info.Attributes (names (codes "key" ∷ codes "val" ∷ []))) ∷ reply.Told (info.Kind Set) ∷ reply.Told (info.Size 0) ∷ reply.SubNoTable (codes "w") ∷ []
+    ∷ reply.TableInfo (info.Index (numbers (3 ∷ []))) ∷ reply.TableInfo (info.Attributes (names (codes "key" ∷ codes "val" ∷ []))) ∷ reply.TableInfo (info.Kind Set) ∷ reply.TableInfo (info.Size 0) ∷ reply.SubNoTable (codes "w") ∷ []
 unfolding outcome canon int_contents
 row_options = refl
 
@@ -261,7 +261,7 @@ row_of_two = plain_terms (word (codes "x") ∷ num 1 ∷ word (codes "a") ∷ wo
 
 pub row_other_index : told_in (joins 1 ∷ creates 1 (codes "x") two_indexes ∷ call 1 (DoCommand (command.Schema (DelIndex (codes "x") (is.Atom (codes "v"))))) ∷ call 1 (DoCommand (command.TableInfo (codes "x") item.Index))
     ∷ begins 1 ∷ does 1 (op.Write (is.Tuple row_of_two)) ∷ does 1 (op.IndexRead (codes "x") (is.Atom (codes "b")) (is.Atom (codes "w"))) ∷ does 1 (op.IndexRead (codes "x") (is.Atom (codes "a")) (is.Atom (codes "v"))) ∷ [])
-    ≡ reply.Done ∷ reply.AtomicOk ∷ reply.AtomicOk ∷ reply.Told (info.Index (numbers (4 ∷ [])))
+    ≡ reply.Done ∷ reply.AtomicOk ∷ reply.AtomicOk ∷ reply.TableInfo (info.Index (numbers (4 ∷ [])))
     ∷ reply.Tid 1 ∷ reply.Done ∷ reply.Found (plain_terms (tuple row_of_two ∷ [])) ∷ reply.NoIndex (codes "x") (is.Atom (codes "v")) ∷ []
 unfolding outcome canon int_contents
 row_other_index = refl

@@ -28,12 +28,12 @@ abbrev pub newcomer : Caller
 newcomer = record { transaction = record { age = 0; moves = []; told = [] }; queued = None }
 
 -- a move more, with what it was told
-abbrev pub did : Caller → Move → Option Reply → Caller
-did k x r = record { transaction = record { age = k.transaction.age; moves = k.transaction.moves ++ x ∷ []; told = k.transaction.told ++ r ∷ [] }; queued = k.queued }
+abbrev pub caller_with_move : Caller → Move → Option Reply → Caller
+caller_with_move k x r = record { transaction = record { age = k.transaction.age; moves = k.transaction.moves ++ x ∷ []; told = k.transaction.told ++ r ∷ [] }; queued = k.queued }
 
 -- a transaction of this age with no moves yet
-abbrev pub afresh : Caller → ℕ → Caller
-afresh k age = record { transaction = record { age = age; moves = []; told = [] }; queued = k.queued }
+abbrev pub caller_anew : Caller → ℕ → Caller
+caller_anew k age = record { transaction = record { age = age; moves = []; told = [] }; queued = k.queued }
 
 -- what an answer says of the operation that was asked for: it was not made, it waits, it began anew, it was made
 pub data AnswerKind : Type 0 where
@@ -54,127 +54,127 @@ kind_of reply.Restart = BeginsAnew
 kind_of r = Made
 
 -- what a caller knows after an operation: the same, that it waits, that its transaction is empty, or a move more
-abbrev pub operated : Caller → Operation → Reply → AnswerKind → Caller
-operated k o r NotMade = k
-operated k o r Waits = record { transaction = k.transaction; queued = Some o }
-operated k o r BeginsAnew = afresh k k.transaction.age
-operated k o r Made = did k (Do o) (Some r)
+abbrev pub after_operation : Caller → Operation → Reply → AnswerKind → Caller
+after_operation k o r NotMade = k
+after_operation k o r Waits = record { transaction = k.transaction; queued = Some o }
+after_operation k o r BeginsAnew = caller_anew k k.transaction.age
+after_operation k o r Made = caller_with_move k (Do o) (Some r)
 
 -- a retry's answer belongs to the operation that waits
-abbrev pub retried : Caller → Reply → AnswerKind → Option Operation → Caller
-retried k r Made (Some o) = did k (Do o) (Some r)
-retried k r x o = k
+abbrev pub after_answer : Caller → Reply → AnswerKind → Option Operation → Caller
+after_answer k r Made (Some o) = caller_with_move k (Do o) (Some r)
+after_answer k r x o = k
 
 -- a child's begin is told its transaction's age, an outermost one a new age
-abbrev pub begun : Caller → Reply → Caller
-begun k (reply.Tid age) = if k.transaction.age == age then did k Open (Some (reply.Tid age)) else afresh k age
-begun k r = k
+abbrev pub after_begin : Caller → Reply → Caller
+after_begin k (reply.Tid age) = if k.transaction.age == age then caller_with_move k Open (Some (reply.Tid age)) else caller_anew k age
+after_begin k r = k
 
 -- what a caller knows after a commit: a move more where a child's was done, else the same
-abbrev pub closed : Caller → Reply → Caller
-closed k reply.AtomicOk = did k Close (Some reply.AtomicOk)
-closed k r = k
+abbrev pub after_close : Caller → Reply → Caller
+after_close k reply.AtomicOk = caller_with_move k Close (Some reply.AtomicOk)
+after_close k r = k
 
 -- an abort stands bare, without its reason
-abbrev pub undone : Caller → Reply → Caller
-undone k (reply.UserAbort reason) = did k Undo None
-undone k r = k
+abbrev pub after_undo : Caller → Reply → Caller
+after_undo k (reply.UserAbort reason) = caller_with_move k Undo None
+after_undo k r = k
 
 -- what a caller knows after a command of its own; schema commands, table_info and subscriptions change nothing
 abbrev pub hears_command : Caller → Command → Reply → Caller
-hears_command k command.Begin r = begun k r
-hears_command k command.Commit r = closed k r
-hears_command k (command.Abort reason) r = undone k r
-hears_command k (command.Do o) r = operated k o r (kind_of r)
-hears_command k (command.OneShot parts retries) r = begun k r
+hears_command k command.Begin r = after_begin k r
+hears_command k command.Commit r = after_close k r
+hears_command k (command.Abort reason) r = after_undo k r
+hears_command k (command.Do o) r = after_operation k o r (kind_of r)
+hears_command k (command.OneShot parts retries) r = after_begin k r
 hears_command k c r = k
 
 -- what a caller knows after one step of its own
 abbrev pub hears : Caller → Ask → Reply → Caller
-hears k Retry r = retried k r (kind_of r) k.queued
+hears k Retry r = after_answer k r (kind_of r) k.queued
 hears k (DoCommand c) r = hears_command k c r
 hears k a r = k
 
 -- the entry of an outermost commit, a schema command, a subscription and its end, where they are told that they are done
-abbrev pub commit_told : ℕ → List ℕ → Caller → Reply → Option Entry
-commit_told n over k (reply.Atomic i) = Some (Committed i n k.transaction.age k.transaction.moves k.transaction.told over)
-commit_told n over k r = None
+abbrev pub commit_entry : ℕ → List ℕ → Caller → Reply → Option Entry
+commit_entry n over k (reply.Atomic i) = Some (Committed i n k.transaction.age k.transaction.moves k.transaction.told over)
+commit_entry n over k r = None
 
 -- the entry of a schema command, where its reply says that it is done
-abbrev pub schema_told : List ℕ → Schema → Reply → Option Entry
-schema_told over c reply.AtomicOk = Some (Changed c over)
-schema_told over c r = None
+abbrev pub schema_entry : List ℕ → Schema → Reply → Option Entry
+schema_entry over c reply.AtomicOk = Some (Changed c over)
+schema_entry over c r = None
 
 -- the entry of a subscription or of its end, where its reply says that it is done
-abbrev pub done_told : Entry → Reply → Option Entry
-done_told e reply.SubscribedHere = Some e
-done_told e r = None
+abbrev pub subscription_entry : Entry → Reply → Option Entry
+subscription_entry e reply.SubscribedHere = Some e
+subscription_entry e r = None
 
 -- the entry that a command of session n adds: only schema commands, commits, subscriptions and their ends add one
-abbrev pub command_told : ℕ → List ℕ → Caller → Command → Reply → Option Entry
-command_told n over k (command.Schema c) r = schema_told over c r
-command_told n over k command.Commit r = commit_told n over k r
-command_told n over k (command.Subscribe t l dump) r = done_told (Subscribed n t l dump) r
-command_told n over k (command.Unsubscribe t l) r = done_told (Unsubscribed n t) r
-command_told n over k c r = None
+abbrev pub entry_of_command : ℕ → List ℕ → Caller → Command → Reply → Option Entry
+entry_of_command n over k (command.Schema c) r = schema_entry over c r
+entry_of_command n over k command.Commit r = commit_entry n over k r
+entry_of_command n over k (command.Subscribe t l dump) r = subscription_entry (Subscribed n t l dump) r
+entry_of_command n over k (command.Unsubscribe t l) r = subscription_entry (Unsubscribed n t) r
+entry_of_command n over k c r = None
 
 -- the entry that a step of a caller adds
-abbrev pub entry_told : ℕ → List ℕ → Caller → Ask → Reply → Option Entry
-entry_told n over k (DoCommand c) r = command_told n over k c r
-entry_told n over k a r = None
+abbrev pub entry_of_step : ℕ → List ℕ → Caller → Ask → Reply → Option Entry
+entry_of_step n over k (DoCommand c) r = entry_of_command n over k c r
+entry_of_step n over k a r = None
 
 -- a session's requests go, the others' stay in their order
 abbrev pub without_own : ℕ → List Queued → List Queued
 without_own n qs = filter (λ q. not (q.session == n)) qs
 
 -- an operation joins the queue where it is told to wait
-abbrev pub queued_told : ℕ → Caller → Operation → AnswerKind → List Queued → List Queued
-queued_told n k o Waits qs = qs ++ record { session = n; age = k.transaction.age; operation = o } ∷ []
-queued_told n k o x qs = qs
+abbrev pub queue_after_operation : ℕ → Caller → Operation → AnswerKind → List Queued → List Queued
+queue_after_operation n k o Waits qs = qs ++ record { session = n; age = k.transaction.age; operation = o } ∷ []
+queue_after_operation n k o x qs = qs
 
 -- it leaves the queue where its answer comes, and where its session aborts or leaves
-abbrev pub answered_told : ℕ → AnswerKind → List Queued → List Queued
-answered_told n Made qs = without_own n qs
-answered_told n x qs = qs
+abbrev pub queue_after_answer : ℕ → AnswerKind → List Queued → List Queued
+queue_after_answer n Made qs = without_own n qs
+queue_after_answer n x qs = qs
 
 -- the queue after an abort: without its session's requests where its reply says that it is done
-abbrev pub aborted_told : ℕ → Reply → List Queued → List Queued
-aborted_told n (reply.UserAbort reason) qs = without_own n qs
-aborted_told n r qs = qs
+abbrev pub queue_after_abort : ℕ → Reply → List Queued → List Queued
+queue_after_abort n (reply.UserAbort reason) qs = without_own n qs
+queue_after_abort n r qs = qs
 
 -- the queue after a session leaves: without its requests where its reply says that it has left
-abbrev pub left_told : ℕ → Reply → List Queued → List Queued
-left_told n reply.Done qs = without_own n qs
-left_told n r qs = qs
+abbrev pub queue_after_leave : ℕ → Reply → List Queued → List Queued
+queue_after_leave n reply.Done qs = without_own n qs
+queue_after_leave n r qs = qs
 
 -- the queue after a command of session n: only an operation and an abort may change it
-abbrev pub queue_by_command : ℕ → Caller → Command → Reply → List Queued → List Queued
-queue_by_command n k (command.Abort reason) r qs = aborted_told n r qs
-queue_by_command n k (command.Do o) r qs = queued_told n k o (kind_of r) qs
-queue_by_command n k c r qs = qs
+abbrev pub queue_after_command : ℕ → Caller → Command → Reply → List Queued → List Queued
+queue_after_command n k (command.Abort reason) r qs = queue_after_abort n r qs
+queue_after_command n k (command.Do o) r qs = queue_after_operation n k o (kind_of r) qs
+queue_after_command n k c r qs = qs
 
 -- the queue after one step of a caller
-abbrev pub queue_told : ℕ → Caller → Ask → Reply → List Queued → List Queued
-queue_told n k Leave r qs = left_told n r qs
-queue_told n k Retry r qs = answered_told n (kind_of r) qs
-queue_told n k (DoCommand c) r qs = queue_by_command n k c r qs
-queue_told n k a r qs = qs
+abbrev pub queue_after_step : ℕ → Caller → Ask → Reply → List Queued → List Queued
+queue_after_step n k Leave r qs = queue_after_leave n r qs
+queue_after_step n k Retry r qs = queue_after_answer n (kind_of r) qs
+queue_after_step n k (DoCommand c) r qs = queue_after_command n k c r qs
+queue_after_step n k a r qs = qs
 
 -- the next age after a begin: one more where it was an outermost one
-abbrev pub age_told : Caller → Reply → ℕ → ℕ
-age_told k (reply.Tid age) a = if k.transaction.age == age then a else a + 1
-age_told k r a = a
+abbrev pub age_after_begin : Caller → Reply → ℕ → ℕ
+age_after_begin k (reply.Tid age) a = if k.transaction.age == age then a else a + 1
+age_after_begin k r a = a
 
 -- the next age after a command: only a begin and a one-shot may change it
-abbrev pub age_by_command : Caller → Command → Reply → ℕ → ℕ
-age_by_command k command.Begin r a = age_told k r a
-age_by_command k (command.OneShot parts retries) r a = age_told k r a
-age_by_command k c r a = a
+abbrev pub age_after_command : Caller → Command → Reply → ℕ → ℕ
+age_after_command k command.Begin r a = age_after_begin k r a
+age_after_command k (command.OneShot parts retries) r a = age_after_begin k r a
+age_after_command k c r a = a
 
 -- the next age after one step of a caller: only commands may change it
-abbrev pub next_told : Caller → Ask → Reply → ℕ → ℕ
-next_told k (DoCommand c) r a = age_by_command k c r a
-next_told k x r a = a
+abbrev pub age_after_step : Caller → Ask → Reply → ℕ → ℕ
+age_after_step k (DoCommand c) r a = age_after_command k c r a
+age_after_step k x r a = a
 
 -- what callers can tell of a session's post: how often it refused, and an overflow that its session was not told yet
 pub record Post : Type 0 where
@@ -190,47 +190,47 @@ abbrev pub next_refusals : ℕ → ℕ
 next_refusals refusals = min (refusals + 1) (2 ^ 64 - 1)
 
 -- a post that refuses an entry's item overflows; an overflow that was not told before it is forgotten
-abbrev pub overflowing : ℕ → Post → Post
-overflowing i p = record { refusals = next_refusals p.refusals; overflow = Some i }
+abbrev pub with_overflow : ℕ → Post → Post
+with_overflow i p = record { refusals = next_refusals p.refusals; overflow = Some i }
 
 -- after an entry, with so many commits before it: an overflow has the number of its commit, or of the next one where it is
 -- the mark of a deletion that is refused
-abbrev pub post_by_entry : ℕ → ℕ → Option Entry → Post → Post
-post_by_entry n commits (Some (Committed i m age xs rs over)) p = if has_session over n then overflowing i p else p
-post_by_entry n commits (Some (Changed c over)) p = if has_session over n then overflowing (commits + 1) p else p
-post_by_entry n commits e p = p
+abbrev pub post_after_entry : ℕ → ℕ → Option Entry → Post → Post
+post_after_entry n commits (Some (Committed i m age xs rs over)) p = if has_session over n then with_overflow i p else p
+post_after_entry n commits (Some (Changed c over)) p = if has_session over n then with_overflow (commits + 1) p else p
+post_after_entry n commits e p = p
 
 -- a join that is done hands the post in, with its refusals so far
-abbrev pub post_joined : Outbox → Reply → Post → Post
-post_joined b reply.Done p = record { refusals = b.refusals; overflow = None }
-post_joined b r p = p
+abbrev pub post_after_join : Outbox → Reply → Post → Post
+post_after_join b reply.Done p = record { refusals = b.refusals; overflow = None }
+post_after_join b r p = p
 
 -- a Take that is answered by the overflow tells it
-abbrev pub post_taken : Reply → Post → Post
-post_taken (reply.Overflow i) p = record { refusals = p.refusals; overflow = None }
-post_taken r p = p
+abbrev pub post_after_take : Reply → Post → Post
+post_after_take (reply.Overflow i) p = record { refusals = p.refusals; overflow = None }
+post_after_take r p = p
 
 -- a mark that the post refuses is no overflow
-abbrev pub post_marked : Reply → Post → Post
-post_marked reply.OutboxFull p = record { refusals = next_refusals p.refusals; overflow = p.overflow }
-post_marked r p = p
+abbrev pub post_after_marker : Reply → Post → Post
+post_after_marker reply.OutboxFull p = record { refusals = next_refusals p.refusals; overflow = p.overflow }
+post_after_marker r p = p
 
 -- a post after a command of its own session: only a refused mark of a subscription's begin or end changes it
-abbrev pub post_by_command : Command → Reply → Post → Post
-post_by_command (command.Subscribe t l dump) r p = post_marked r p
-post_by_command (command.Unsubscribe t l) r p = post_marked r p
-post_by_command c r p = p
+abbrev pub post_after_command : Command → Reply → Post → Post
+post_after_command (command.Subscribe t l dump) r p = post_after_marker r p
+post_after_command (command.Unsubscribe t l) r p = post_after_marker r p
+post_after_command c r p = p
 
 -- a post after an answer to its own session
-abbrev pub post_by_answer : Ask → Reply → Post → Post
-post_by_answer (Join b) r p = post_joined b r p
-post_by_answer Take r p = post_taken r p
-post_by_answer (DoCommand c) r p = post_by_command c r p
-post_by_answer a r p = p
+abbrev pub post_after_answer : Ask → Reply → Post → Post
+post_after_answer (Join b) r p = post_after_join b r p
+post_after_answer Take r p = post_after_take r p
+post_after_answer (DoCommand c) r p = post_after_command c r p
+post_after_answer a r p = p
 
 -- session n's post after one step of session m, and the step's entry
-abbrev pub post_told : ℕ → ℕ → ℕ → Ask → Reply → Option Entry → Post → Post
-post_told n commits m a r e p = post_by_entry n commits e (if n == m then post_by_answer a r p else p)
+abbrev pub post_after_step : ℕ → ℕ → ℕ → Ask → Reply → Option Entry → Post → Post
+post_after_step n commits m a r e p = post_after_entry n commits e (if n == m then post_after_answer a r p else p)
 
 -- who knows what, by session
 abbrev pub Callers : Type 0
@@ -241,43 +241,43 @@ abbrev pub newcomers : Callers
 newcomers m = newcomer
 
 -- what callers know after one call and its reply, of which the asker's caller alone learns
-abbrev pub told_one : Callers → Call → Reply → Callers
-told_one ks c r m = if m == c.session then hears (ks c.session) c.ask r else ks m
+abbrev pub callers_after_one : Callers → Call → Reply → Callers
+callers_after_one ks c r m = if m == c.session then hears (ks c.session) c.ask r else ks m
 
 -- the entry that a call adds, read off its reply and what its caller knows
-abbrev pub told_entry : Callers → Call → Reply → Option Entry
-told_entry ks c r = entry_told c.session c.over (ks c.session) c.ask r
+abbrev pub entry_of_call : Callers → Call → Reply → Option Entry
+entry_of_call ks c r = entry_of_step c.session c.over (ks c.session) c.ask r
 
 -- what callers know after calls that were answered so
 abbrev pub callers_after : Callers → List Call → List Reply → Callers
 callers_after ks [] rs = ks
 callers_after ks (c ∷ cs) [] = ks
-callers_after ks (c ∷ cs) (r ∷ rs) = callers_after (told_one ks c r) cs rs
+callers_after ks (c ∷ cs) (r ∷ rs) = callers_after (callers_after_one ks c r) cs rs
 
 -- the log that they tell
-abbrev pub log_told : Callers → List Call → List Reply → List Entry
-log_told ks [] rs = []
-log_told ks (c ∷ cs) [] = []
-log_told ks (c ∷ cs) (r ∷ rs) = entries (told_entry ks c r) ++ log_told (told_one ks c r) cs rs
+abbrev pub log_of_replies : Callers → List Call → List Reply → List Entry
+log_of_replies ks [] rs = []
+log_of_replies ks (c ∷ cs) [] = []
+log_of_replies ks (c ∷ cs) (r ∷ rs) = entries (entry_of_call ks c r) ++ log_of_replies (callers_after_one ks c r) cs rs
 
 -- the queue that they tell
 abbrev pub queue_after : Callers → List Queued → List Call → List Reply → List Queued
 queue_after ks qs [] rs = qs
 queue_after ks qs (c ∷ cs) [] = qs
-queue_after ks qs (c ∷ cs) (r ∷ rs) = queue_after (told_one ks c r) (queue_told c.session (ks c.session) c.ask r qs) cs rs
+queue_after ks qs (c ∷ cs) (r ∷ rs) = queue_after (callers_after_one ks c r) (queue_after_step c.session (ks c.session) c.ask r qs) cs rs
 
 -- the next age that they tell
 abbrev pub next_after : Callers → ℕ → List Call → List Reply → ℕ
 next_after ks a [] rs = a
 next_after ks a (c ∷ cs) [] = a
-next_after ks a (c ∷ cs) (r ∷ rs) = next_after (told_one ks c r) (next_told (ks c.session) c.ask r a) cs rs
+next_after ks a (c ∷ cs) (r ∷ rs) = next_after (callers_after_one ks c r) (age_after_step (ks c.session) c.ask r a) cs rs
 
 -- the post of a session that they tell; so many commits were before
 abbrev pub post_after : ℕ → Callers → ℕ → Post → List Call → List Reply → Post
 post_after n ks commits p [] rs = p
 post_after n ks commits p (c ∷ cs) [] = p
 post_after n ks commits p (c ∷ cs) (r ∷ rs) =
-    post_after n (told_one ks c r) (commits_from commits (entries (told_entry ks c r))) (post_told n commits c.session c.ask r (told_entry ks c r) p) cs rs
+    post_after n (callers_after_one ks c r) (commits_from commits (entries (entry_of_call ks c r))) (post_after_step n commits c.session c.ask r (entry_of_call ks c r) p) cs rs
 
 -- each open transaction is what its caller knows, each queued operation the one that its caller was last told to wait for
 pub record AreHeard (σ : State) (ks : Callers) : Type 0 where
@@ -289,7 +289,7 @@ pub record AreHeard (σ : State) (ks : Callers) : Type 0 where
 -- asker's post stay
 pub record IsUnheard (r : Reply) : Type 0 where
   pub knows : (k : Caller) (a : Ask) → hears k a r ≡ k
-  pub entry : (n : ℕ) (over : List ℕ) (k : Caller) (a : Ask) → entry_told n over k a r ≡ None
-  pub queue : (n : ℕ) (k : Caller) (a : Ask) (qs : List Queued) → queue_told n k a r qs ≡ qs
-  pub next : (k : Caller) (a : Ask) (age : ℕ) → next_told k a r age ≡ age
-  pub post : (a : Ask) (p : Post) → post_by_answer a r p ≡ p
+  pub entry : (n : ℕ) (over : List ℕ) (k : Caller) (a : Ask) → entry_of_step n over k a r ≡ None
+  pub queue : (n : ℕ) (k : Caller) (a : Ask) (qs : List Queued) → queue_after_step n k a r qs ≡ qs
+  pub next : (k : Caller) (a : Ask) (age : ℕ) → age_after_step k a r age ≡ age
+  pub post : (a : Ask) (p : Post) → post_after_answer a r p ≡ p

@@ -86,15 +86,15 @@ named tab (bin b) x = None
 named tab (map ps) x = None
 
 -- the name of the option that a tuple of these elements is: two elements, a name and a value that it may have
-abbrev pub two : List ℕ → PlainTerms → Option (List ℕ)
-two tab none = None
-two tab (one_more a none) = None
-two tab (one_more a (one_more b none)) = named tab a b
-two tab (one_more a (one_more b (one_more c ts))) = None
+abbrev pub option_of_two : List ℕ → PlainTerms → Option (List ℕ)
+option_of_two tab none = None
+option_of_two tab (one_more a none) = None
+option_of_two tab (one_more a (one_more b none)) = named tab a b
+option_of_two tab (one_more a (one_more b (one_more c ts))) = None
 
 -- the name of the option that a term is; none where it is no option
 abbrev pub option_name : List ℕ → PlainTerm → Option (List ℕ)
-option_name tab (tuple ts) = two tab ts
+option_name tab (tuple ts) = option_of_two tab ts
 option_name tab (int z) = None
 option_name tab (atom s) = None
 option_name tab (list ts) = None
@@ -118,9 +118,9 @@ bad_option tab seen (one_more o os) =
     if is_new_name seen (option_name tab o) then bad_option tab (with_name seen (option_name tab o)) os else Some o
 
 -- there is a name, and it is n
-abbrev pub is_option : List ℕ → Option (List ℕ) → Bool
-is_option n None = false
-is_option n (Some m) = bytes_eq n m
+abbrev pub is_named : List ℕ → Option (List ℕ) → Bool
+is_named n None = false
+is_named n (Some m) = bytes_eq n m
 
 -- the second element of a tuple; `[]` where there is none
 abbrev pub value_in : PlainTerm → PlainTerm
@@ -136,7 +136,7 @@ value_in (map ps) = list none
 -- the value of an option, or what stands for none
 abbrev pub value_of : List ℕ → List ℕ → PlainTerm → PlainTerms → PlainTerm
 value_of tab n other none = other
-value_of tab n other (one_more o os) = if is_option n (option_name tab o) then value_in o else value_of tab n other os
+value_of tab n other (one_more o os) = if is_named n (option_name tab o) then value_in o else value_of tab n other os
 
 -- a name before the others; None where those are not all atoms
 abbrev pub and_atom : List ℕ → Option (List (List ℕ)) → Option (List (List ℕ))
@@ -205,18 +205,18 @@ positions def none = []
 positions def (one_more e es) = add_position (position def e) (positions def es)
 
 -- the definition with an index at each position that the entries name, or the fault of the entry that names none
-abbrev pub indexed : TableDef → PlainTerms → Option PlainTerm → Parsed
-indexed def es (Some e) = index_fault e
-indexed def es None = Good (with_indexes def (positions def es))
+abbrev pub with_entries : TableDef → PlainTerms → Option PlainTerm → Parsed
+with_entries def es (Some e) = index_fault e
+with_entries def es None = Good (with_indexes def (positions def es))
 
 -- the definition with the indexes that a value of `index` asks for, or its first fault; it has to be a list
-abbrev pub with_index : TableDef → PlainTerm → Parsed
-with_index def (list es) = indexed def es (first_fault def es)
-with_index def (int z) = index_fault (int z)
-with_index def (atom s) = index_fault (atom s)
-with_index def (tuple ts) = index_fault (tuple ts)
-with_index def (bin b) = index_fault (bin b)
-with_index def (map ps) = index_fault (map ps)
+abbrev pub with_index_option : TableDef → PlainTerm → Parsed
+with_index_option def (list es) = with_entries def es (first_fault def es)
+with_index_option def (int z) = index_fault (int z)
+with_index_option def (atom s) = index_fault (atom s)
+with_index_option def (tuple ts) = index_fault (tuple ts)
+with_index_option def (bin b) = index_fault (bin b)
+with_index_option def (map ps) = index_fault (map ps)
 
 -- the value of `attributes` where that option is not given: `[key, val]`
 abbrev pub default_names : PlainTerm
@@ -226,7 +226,7 @@ default_names = list (one_more (atom (codes "key")) (one_more (atom (codes "val"
 abbrev pub with_names : List ℕ → PlainTerms → Option (List (List ℕ)) → Parsed
 with_names tab os None = Bad (atom (codes "attributes"))
 with_names tab os (Some names) =
-    with_index (record { name = tab; kind = kind_in (value_of tab (codes "type") (atom (codes "set")) os); attributes = names; indexes = [] }) (value_of tab (codes "index") (list none) os)
+    with_index_option (record { name = tab; kind = kind_in (value_of tab (codes "type") (atom (codes "set")) os); attributes = names; indexes = [] }) (value_of tab (codes "index") (list none) os)
 
 -- the fault of an option, where one is wrong by itself; else the definition, or the fault of attributes or index
 abbrev pub without_fault : List ℕ → PlainTerms → Option PlainTerm → Parsed

@@ -8,8 +8,8 @@ use Rattle.tab_model.specs.declared.data.Reply.TheVariants as reply
 use Rattle.tab_model.specs.declared.data.Change.{Change}
 use Rattle.tab_model.specs.declared.data.Event.{Event}
 use Rattle.tab_model.specs.Names.{plain_terms}
-use Rattle.tab_model.specs.Worlds.{World, cell}
-use Rattle.tab_model.specs.Operations.{change_of_op, table_of_change, key_of_change, change_world}
+use Rattle.tab_model.specs.Catalogs.{Catalog, cell}
+use Rattle.tab_model.specs.Operations.{change_of_op, table_of_change, key_of_change, change_catalog}
 
 -- the saved updates without those of the innermost level, where any are saved
 abbrev pub drop_level : List (List Change) → List (List Change)
@@ -48,15 +48,15 @@ abbrev pub surviving : List Move → List (Option Reply) → List Change
 surviving xs rs = survivors [] [] xs rs
 
 -- the event of a change, with the records of its key just before
-abbrev pub event_of : World → ℕ → Change → Event
+abbrev pub event_of : Catalog → ℕ → Change → Event
 event_of w age c = record { tab = table_of_change c; change = c; old = plain_terms (cell w (table_of_change c) (key_of_change c)); age = age }
 
 -- the events of changes, made in turn
-abbrev pub events : World → ℕ → List Change → List Event
+abbrev pub events : Catalog → ℕ → List Change → List Event
 events w age [] = []
-events w age (c ∷ cs) = event_of w age c ∷ events (change_world w c) age cs
+events w age (c ∷ cs) = event_of w age c ∷ events (change_catalog w c) age cs
 
 -- the tables after changes, in turn
-abbrev pub change_all : World → List Change → World
+abbrev pub change_all : Catalog → List Change → Catalog
 change_all w [] = w
-change_all w (c ∷ cs) = change_all (change_world w c) cs
+change_all w (c ∷ cs) = change_all (change_catalog w c) cs

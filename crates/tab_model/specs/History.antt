@@ -9,10 +9,10 @@ use Rattle.tab_model.specs.declared.data.Item.TheVariants.{Began, Ended}
 use Rattle.tab_model.specs.declared.data.Ending.TheVariants as ending
 use Rattle.tab_model.specs.declared.data.Entry.{Entry}
 use Rattle.tab_model.specs.declared.data.Entry.TheVariants.{Committed, Changed, Subscribed, Unsubscribed}
-use Rattle.tab_model.specs.Worlds.{World}
+use Rattle.tab_model.specs.Catalogs.{Catalog}
 use Rattle.tab_model.specs.declared.data.Reply.{Reply}
 use Rattle.tab_model.specs.Events.{events, surviving, change_all}
-use Rattle.tab_model.specs.Schemas.{removed, schema_refusal, schema_effect}
+use Rattle.tab_model.specs.Schemas.{removed_table, schema_refusal, schema_effect}
 use Rattle.tab_model.specs.Log.{serial_from, in_force_from, is_removed, has_session, IsLegal}
 use Rattle.tab_model.specs.Slices.{batch_for, dump_of, end_for, unless_over}
 
@@ -24,7 +24,7 @@ pub record Subscription : Type 0 where
 
 -- where a journal starts from: the tables, the last commit's number, the subscriptions in force
 pub record Base : Type 0 where
-  pub tables : World
+  pub tables : Catalog
   pub commits : ℕ
   pub subscriptions : List Subscription
 
@@ -46,27 +46,27 @@ abbrev pub in_force_since : Base → ℕ → List Entry → List ℕ → Option 
 in_force_since b s log t = in_force_from s t (level_at b.subscriptions s t) log
 
 -- what an entry owes to a session that has these levels, on the tables before it
-abbrev pub owed_on : World → (List ℕ → Option Level) → ℕ → Entry → List Item
-owed_on w levels s (Committed n x age xs rs over) = unless_over (has_session over s) (batch_for levels n (events w age (surviving xs rs)))
-owed_on w levels s (Changed c over) = unless_over (has_session over s) (end_for levels (removed c))
-owed_on w levels s (Subscribed x t l dump) = if x == s then Began t l (dump_of w t dump) ∷ [] else []
-owed_on w levels s (Unsubscribed x t) = if x == s then Ended t ending.Unsubscribed ∷ [] else []
+abbrev pub expected_on : Catalog → (List ℕ → Option Level) → ℕ → Entry → List Item
+expected_on w levels s (Committed n x age xs rs over) = unless_over (has_session over s) (batch_for levels n (events w age (surviving xs rs)))
+expected_on w levels s (Changed c over) = unless_over (has_session over s) (end_for levels (removed_table c))
+expected_on w levels s (Subscribed x t l dump) = if x == s then Began t l (dump_of w t dump) ∷ [] else []
+expected_on w levels s (Unsubscribed x t) = if x == s then Ended t ending.Unsubscribed ∷ [] else []
 
 -- what an entry owes to a session, after the log before it
-abbrev pub owed_since : Base → ℕ → List Entry → Entry → List Item
-owed_since b s log e = owed_on (serial_from b.tables log) (in_force_since b s log) s e
+abbrev pub expected_since : Base → ℕ → List Entry → Entry → List Item
+expected_since b s log e = expected_on (serial_from b.tables log) (in_force_since b s log) s e
 
 -- what the second log owes to a session, in order, where the first log came before it, from the base
 abbrev pub slice_since_after : Base → ℕ → List Entry → List Entry → List Item
 slice_since_after b s log [] = []
-slice_since_after b s log (e ∷ es) = owed_since b s log e ++ slice_since_after b s (log ++ e ∷ []) es
+slice_since_after b s log (e ∷ es) = expected_since b s log e ++ slice_since_after b s (log ++ e ∷ []) es
 
 -- all that a log from a base owes to a session, in order
 abbrev pub slice_since : Base → ℕ → List Entry → List Item
 slice_since b s log = slice_since_after b s [] log
 
 -- running a log from a base is legal and ends in these tables
-pub record IsHistory (b : Base) (log : List Entry) (tables : World) : Type 0 where
+pub record IsHistory (b : Base) (log : List Entry) (tables : Catalog) : Type 0 where
   pub legal : IsLegal b.tables b.commits log
   pub ends : serial_from b.tables log ≡ tables
 
@@ -75,24 +75,24 @@ abbrev pub outlasts : List ℕ → Option (List ℕ) → Subscription → Bool
 outlasts over gone x = not (is_removed x.table gone || has_session over x.session)
 
 -- a session subscribes: where it is still joined, that is its subscription to the table
-abbrev pub subscribed : Bool → List Subscription → Subscription → List Subscription
-subscribed false xs x = xs
-subscribed true xs x = filter (λ y. not (is_of x.session x.table y)) xs ++ x ∷ []
+abbrev pub with_subscription : Bool → List Subscription → Subscription → List Subscription
+with_subscription false xs x = xs
+with_subscription true xs x = filter (λ y. not (is_of x.session x.table y)) xs ++ x ∷ []
 
 -- the subscriptions after one entry; joined says whether a session that subscribes is still joined
 abbrev pub subscriptions_after : Bool → List Subscription → Entry → List Subscription
 subscriptions_after joined xs (Committed n s age ms rs over) = filter (outlasts over None) xs
-subscriptions_after joined xs (Changed c over) = filter (outlasts over (removed c)) xs
-subscriptions_after joined xs (Subscribed s t l dump) = subscribed joined xs (record { session = s; table = t; level = l })
+subscriptions_after joined xs (Changed c over) = filter (outlasts over (removed_table c)) xs
+subscriptions_after joined xs (Subscribed s t l dump) = with_subscription joined xs (record { session = s; table = t; level = l })
 subscriptions_after joined xs (Unsubscribed s t) = filter (λ y. not (is_of s t y)) xs
 
 -- the tables after a schema command, or those before it where it is refused
-abbrev pub unless_refused : Option Reply → World → World → World
+abbrev pub unless_refused : Option Reply → Catalog → Catalog → Catalog
 unless_refused None done was = done
 unless_refused (Some r) done was = was
 
 -- the tables after one entry, read off what it was told: its surviving updates, or its schema command
-abbrev pub tables_after : World → Entry → World
+abbrev pub tables_after : Catalog → Entry → Catalog
 tables_after w (Committed n s age ms rs over) = change_all w (surviving ms rs)
 tables_after w (Changed c over) = unless_refused (schema_refusal w c) (schema_effect w c) w
 tables_after w (Subscribed s t l dump) = w
@@ -106,8 +106,8 @@ number_after c (Subscribed s t l dump) = c
 number_after c (Unsubscribed s t) = c
 
 -- one entry folded into a base
-abbrev pub folded : Bool → Base → Entry → Base
-folded joined b e = record { tables = tables_after b.tables e; commits = number_after b.commits e; subscriptions = subscriptions_after joined b.subscriptions e }
+abbrev pub after_fold : Bool → Base → Entry → Base
+after_fold joined b e = record { tables = tables_after b.tables e; commits = number_after b.commits e; subscriptions = subscriptions_after joined b.subscriptions e }
 
 -- where an entry is a subscription of that session, its session is said to be joined
 abbrev pub Admits : Bool → ℕ → Entry → Type 0
@@ -117,5 +117,5 @@ Admits joined s (Subscribed x t l dump) = x ≡ s → joined ≡ true
 Admits joined s (Unsubscribed x t) = Unit {0}
 
 -- a session has left: its subscriptions go
-abbrev pub forgotten : Base → ℕ → Base
-forgotten b s = record { tables = b.tables; commits = b.commits; subscriptions = filter (λ x. not (x.session == s)) b.subscriptions }
+abbrev pub without_subscriber : Base → ℕ → Base
+without_subscriber b s = record { tables = b.tables; commits = b.commits; subscriptions = filter (λ x. not (x.session == s)) b.subscriptions }

@@ -15,7 +15,7 @@ use Rattle.tab_model.specs.Names.{plain_terms}
 use Rattle.tab_model.specs.Tables.{Rows, at, key, keys, apply}
 use Rattle.tab_model.specs.WholeTables.{index_read, match_object}
 use Rattle.tab_model.specs.Definitions.{position, is_indexed, fits_def}
-use Rattle.tab_model.specs.Worlds.{World, Table, find, place, with_rows}
+use Rattle.tab_model.specs.Catalogs.{Catalog, Table, find, place, with_rows}
 
 -- the text of the first element, as UTF-8 bytes; empty where there is none or it is no atom
 abbrev pub tag_in : PlainTerms → List ℕ
@@ -103,7 +103,7 @@ failure_in None o = Some (reply.NoTable (table_of o))
 failure_in (Some t) o = failure_at t o
 
 -- the failure of an operation on all tables
-abbrev pub failure : World → Operation → Option Reply
+abbrev pub failure : Catalog → Operation → Option Reply
 failure w o = failure_in (find w (table_of o)) o
 
 -- the table that a change is made in
@@ -119,21 +119,21 @@ key_of_change (change.Delete t k) = term k
 key_of_change (change.DeleteObject r) = key (term r)
 
 -- the tables with one of them changed; as they were where that is not there
-abbrev pub change_table : World → Option Table → Change → World
+abbrev pub change_table : Catalog → Option Table → Change → Catalog
 change_table w None c = w
 change_table w (Some t) c = place w (with_rows t (apply t.def.kind t.rows c))
 
 -- the tables after one change
-abbrev pub change_world : World → Change → World
-change_world w c = change_table w (find w (table_of_change c)) c
+abbrev pub change_catalog : Catalog → Change → Catalog
+change_catalog w c = change_table w (find w (table_of_change c)) c
 
 -- the tables after a change, or as they were without one
-abbrev pub change_by : World → Option Change → World
+abbrev pub change_by : Catalog → Option Change → Catalog
 change_by w None = w
-change_by w (Some c) = change_world w c
+change_by w (Some c) = change_catalog w c
 
 -- the tables after an operation that does not fail
-abbrev pub effect : World → Operation → World
+abbrev pub effect : Catalog → Operation → Catalog
 effect w o = change_by w (change_of_op o)
 
 -- the answer of an operation that does not fail, on its table; without one it fails, and this answer is not used
@@ -147,5 +147,5 @@ answer_or (Some r) t o = r
 answer_or None t o = answer_in t o
 
 -- the reply of an operation, failures too
-abbrev pub answer : World → Operation → Reply
+abbrev pub answer : Catalog → Operation → Reply
 answer w o = answer_or (failure w o) (find w (table_of o)) o

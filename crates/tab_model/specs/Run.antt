@@ -9,29 +9,29 @@ use Rattle.tab_model.specs.declared.data.Schema.{Schema}
 use Rattle.tab_model.specs.declared.data.Command.{Command}
 use Rattle.tab_model.specs.declared.data.Command.TheVariants as command
 use Rattle.tab_model.specs.declared.data.Entry.{Entry}
-use Rattle.tab_model.specs.Schemas.{table_of_schema, schema_refusal, removed}
+use Rattle.tab_model.specs.Schemas.{table_of_schema, schema_refusal, removed_table}
 use Rattle.tab_model.specs.Log.{serial, in_force, commits_from, IsLegal}
 use Rattle.tab_model.specs.Slices.{slice}
-use Rattle.tab_model.specs.Since.{AllStood, AllAged, RowsSince}
-use Rattle.tab_model.specs.Worlds.{rows_of}
-use Rattle.tab_model.specs.State.{Transaction, Seat, State, seat_at, is_waiting, is_busy, level_in, mid_of}
+use Rattle.tab_model.specs.Since.{AllWereInForce, AllAged, RowsSince}
+use Rattle.tab_model.specs.Catalogs.{rows_of}
+use Rattle.tab_model.specs.State.{Transaction, Session, State, session_at, is_waiting, is_busy, level_in, mid_of}
 use Rattle.tab_model.specs.Reached.{AreAged}
 use Rattle.tab_model.specs.Outcome.{Ask, Join, Leave, Retry, Take, DoCommand, Outcome, outcome, is_empty, batch_to, end_to, events_now, subscribe_refusal, is_at}
 
 -- those whose posts are handed an item in a step
 -- who watches what an outermost commit changes; none by a child's
-abbrev pub put_commit : State → Option Transaction → List Seat
+abbrev pub put_commit : State → Option Transaction → List Session
 put_commit σ None = []
-put_commit σ (Some transaction) = if is_empty (mid_of σ transaction).saved then filter (λ x. not (is_empty (batch_to (σ.commits + 1) (events_now σ transaction) x))) σ.seats else []
+put_commit σ (Some transaction) = if is_empty (mid_of σ transaction).saved then filter (λ x. not (is_empty (batch_to (σ.commits + 1) (events_now σ transaction) x))) σ.sessions else []
 
 -- those whom a schema command hands an end mark: who watches the table that it deletes; none where it is refused
-abbrev pub put_schema : State → Schema → Option Transaction → List Seat
+abbrev pub put_schema : State → Schema → Option Transaction → List Session
 put_schema σ c (Some transaction) = []
 put_schema σ c None =
-    if is_some (schema_refusal σ.tables c) || is_busy σ (table_of_schema c) then [] else filter (λ x. not (is_empty (end_to (removed c) x))) σ.seats
+    if is_some (schema_refusal σ.tables c) || is_busy σ (table_of_schema c) then [] else filter (λ x. not (is_empty (end_to (removed_table c) x))) σ.sessions
 
 -- those whom a command hands an item: who watches, by a commit or a deletion; the asker, by a subscription or its end
-abbrev pub put_command : State → Seat → Command → List Seat
+abbrev pub put_command : State → Session → Command → List Session
 put_command σ s (command.Schema c) = put_schema σ c s.transaction
 put_command σ s command.Commit = put_commit σ s.transaction
 put_command σ s (command.Subscribe t l dump) = if is_some (subscribe_refusal σ s t) then [] else s ∷ []
@@ -39,20 +39,20 @@ put_command σ s (command.Unsubscribe t l) = if is_at (level_in s.watching t) l 
 put_command σ s c = []
 
 -- those whom a step hands an item: none but by a command of a joined session that does not wait
-abbrev pub put_ask : State → Ask → Option Seat → List Seat
+abbrev pub put_ask : State → Ask → Option Session → List Session
 put_ask σ (DoCommand c) (Some s) = if is_waiting σ s.number then [] else put_command σ s c
 put_ask σ a s = []
 
 -- each of them refuses or not: where its capacity decides, that decides
-abbrev pub Pinned : List Seat → List ℕ → Type 0
-Pinned [] over = over ≡ []
-Pinned (s ∷ seats) over =
+abbrev pub IsSplitByOverflow : List Session → List ℕ → Type 0
+IsSplitByOverflow [] over = over ≡ []
+IsSplitByOverflow (s ∷ sessions) over =
     (b : Bool) × (rest : List ℕ) × (over ≡ (if b then s.number ∷ rest else rest))
-    × IfSome s.outbox.capacity (λ c. b ≡ nat_le c (length s.outbox.items)) × Pinned seats rest
+    × IfSome s.outbox.capacity (λ c. b ≡ nat_le c (length s.outbox.items)) × IsSplitByOverflow sessions rest
 
 -- the sessions whose posts may refuse in a step
 abbrev pub Allowed : State → List ℕ → ℕ → Ask → Type 0
-Allowed σ over n a = Pinned (put_ask σ a (seat_at σ.seats n)) over
+Allowed σ over n a = IsSplitByOverflow (put_ask σ a (session_at σ.sessions n)) over
 
 -- a post is handed in with an empty row (the caller's condition)
 abbrev pub JoinsEmpty : Ask → Type 0
@@ -104,23 +104,23 @@ item_of (reply.Taken x) = x ∷ []
 item_of r = []
 
 -- what session m takes by a reply to session n: its item where they are one session, else nothing
-abbrev pub taken_now : ℕ → ℕ → Reply → List Item
-taken_now m n r = if m == n then item_of r else []
+abbrev pub delivered_by : ℕ → ℕ → Reply → List Item
+delivered_by m n r = if m == n then item_of r else []
 
 -- the items that a session took in a run
-abbrev pub taken_of : ℕ → State → List Call → List Item
-taken_of m σ [] = []
-taken_of m σ (c ∷ cs) = taken_now m c.session (outcome_of σ c).reply ++ taken_of m (outcome_of σ c).state cs
+abbrev pub delivered_to : ℕ → State → List Call → List Item
+delivered_to m σ [] = []
+delivered_to m σ (c ∷ cs) = delivered_by m c.session (outcome_of σ c).reply ++ delivered_to m (outcome_of σ c).state cs
 
 -- a joined session is as the log says: it watches what is in force, and what it took and then its outbox are its slice
-pub record IsSeatTied (n : ℕ) (s : Seat) (log : List Entry) (taken : List Item) : Type 0 where
+pub record IsSessionTied (n : ℕ) (s : Session) (log : List Entry) (taken : List Item) : Type 0 where
   pub watching : (t : List ℕ) → level_in s.watching t ≡ in_force n log t
   pub items : taken ++ s.outbox.items ≡ slice n log
 
 -- nothing of a session that has not joined yet
 pub record IsNew (n : ℕ) (log : List Entry) (taken : List Item) : Type 0 where
   pub watching : (t : List ℕ) → in_force n log t ≡ None
-  pub owed : slice n log ≡ []
+  pub expected : slice n log ≡ []
   pub taken_none : taken ≡ []
 
 -- a list is a beginning of another
@@ -133,19 +133,19 @@ pub record IsTied (σ : State) (log : List Entry) (taken : ℕ → List Item) : 
   pub tables : σ.tables ≡ serial log
   pub legal : IsLegal [] 0 log
   pub commits : σ.commits ≡ commits_from 0 log
-  pub seats : (n : ℕ) (s : Seat) → seat_at σ.seats n ≡ Some s → IsSeatTied n s log (taken n)
+  pub sessions : (n : ℕ) (s : Session) → session_at σ.sessions n ≡ Some s → IsSessionTied n s log (taken n)
   pub fresh : (n : ℕ) → σ.greatest < n → IsNew n log (taken n)
   -- each session, also one that left, has taken a beginning of what the log owes it
   pub begun : (n : ℕ) → Begins (taken n) (slice n log)
   -- where a session watches a table, the changes since it subscribed give the table's rows now
-  pub since : (n : ℕ) (s : Seat) (t : List ℕ) (l : Level) → seat_at σ.seats n ≡ Some s → level_in s.watching t ≡ Some l → RowsSince n t l log (rows_of σ.tables t)
+  pub since : (n : ℕ) (s : Session) (t : List ℕ) (l : Level) → session_at σ.sessions n ≡ Some s → level_in s.watching t ≡ Some l → RowsSince n t l log (rows_of σ.tables t)
   -- each subscription was made on a table that stood then
-  pub stood : AllStood [] log
+  pub stood : AllWereInForce [] log
   -- ages are from 1 on: of commits, of open transactions, and of the next
   pub aged : AllAged log
-  pub ages : AreAged σ.seats
+  pub ages : AreAged σ.sessions
   pub next_age : 0 < σ.next_age
 
 -- the call of a session that leaves; no outbox refuses in it
-abbrev pub leaves : ℕ → Call
-leaves n = record { session = n; ask = Leave; over = [] }
+abbrev pub leave_call : ℕ → Call
+leave_call n = record { session = n; ask = Leave; over = [] }

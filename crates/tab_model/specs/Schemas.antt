@@ -10,7 +10,7 @@ use Rattle.tab_model.specs.declared.data.Schema.TheVariants.{Create, Remove, Add
 use Rattle.tab_model.specs.declared.data.Reply.{Reply}
 use Rattle.tab_model.specs.declared.data.Reply.TheVariants as reply
 use Rattle.tab_model.specs.Definitions.{position, is_indexed, add_number, less_number, with_indexes, Parsed, Good, Bad, parse_options}
-use Rattle.tab_model.specs.Worlds.{World, Table, find, place, without, with_def}
+use Rattle.tab_model.specs.Catalogs.{Catalog, Table, find, place, without, with_def}
 use Rattle.tab_model.specs.Shapes.{held}
 
 -- the table that a schema command names
@@ -30,7 +30,7 @@ abbrev pub bad_parse : List ℕ → Parsed → Option Reply
 bad_parse t (Good def) = None
 bad_parse t (Bad what) = Some (reply.BadDefinition t (held what))
 
--- the refusals of a schema command on a world, but for locks and limits
+-- the refusals of a schema command on a catalog, but for locks and limits
 -- what refuses a new table: one of that name, or its options' first fault
 abbrev pub create_refusal : List ℕ → PlainTerms → Option Table → Option Reply
 create_refusal t os (Some x) = Some (reply.AlreadyExists t)
@@ -54,14 +54,14 @@ del_refusal t a None = Some (reply.NoTable t)
 del_refusal t a (Some x) = if is_indexed x.def (position x.def (term a)) then None else Some (reply.NoIndex t a)
 
 -- what refuses a schema command on these tables
-abbrev pub schema_refusal : World → Schema → Option Reply
+abbrev pub schema_refusal : Catalog → Schema → Option Reply
 schema_refusal w (Create t os) = create_refusal t os (find w t)
 schema_refusal w (Remove t) = remove_refusal t (find w t)
 schema_refusal w (AddIndex t a) = add_refusal t a (find w t)
 schema_refusal w (DelIndex t a) = del_refusal t a (find w t)
 
 -- the tables with a new one of this definition, which is empty; as they were where there is a fault
-abbrev pub create_parsed : World → Parsed → World
+abbrev pub create_parsed : Catalog → Parsed → Catalog
 create_parsed w (Good def) = place w (record { def = def; rows = [] })
 create_parsed w (Bad what) = w
 
@@ -76,25 +76,25 @@ del_at def None = def
 del_at def (Some p) = with_indexes def (less_number p def.indexes)
 
 -- the tables, one of which has an index more; as they were where that table is not there
-abbrev pub add_effect : World → Term → Option Table → World
+abbrev pub add_effect : Catalog → Term → Option Table → Catalog
 add_effect w a None = w
 add_effect w a (Some x) = place w (with_def x (add_at x.def (position x.def (term a))))
 
 -- the tables, one of which has an index less; as they were where that table is not there
-abbrev pub del_effect : World → Term → Option Table → World
+abbrev pub del_effect : Catalog → Term → Option Table → Catalog
 del_effect w a None = w
 del_effect w a (Some x) = place w (with_def x (del_at x.def (position x.def (term a))))
 
 -- the tables after a schema command that is done
-abbrev pub schema_effect : World → Schema → World
+abbrev pub schema_effect : Catalog → Schema → Catalog
 schema_effect w (Create t os) = create_parsed w (parse_options t os)
 schema_effect w (Remove t) = without w t
 schema_effect w (AddIndex t a) = add_effect w a (find w t)
 schema_effect w (DelIndex t a) = del_effect w a (find w t)
 
 -- the table that a schema command ends
-abbrev pub removed : Schema → Option (List ℕ)
-removed (Create t os) = None
-removed (Remove t) = Some t
-removed (AddIndex t a) = None
-removed (DelIndex t a) = None
+abbrev pub removed_table : Schema → Option (List ℕ)
+removed_table (Create t os) = None
+removed_table (Remove t) = Some t
+removed_table (AddIndex t a) = None
+removed_table (DelIndex t a) = None

@@ -58,22 +58,22 @@ is_id (tuple (one_more (atom n) (one_more (int (pos (suc a))) none))) = bytes_eq
 is_id x = false
 
 -- the write of a record; none where the term is no record
-abbrev pub written : PlainTerm → Option Change
-written x = if is_record x then Some (change.Write (held x)) else None
+abbrev pub write_in : PlainTerm → Option Change
+write_in x = if is_record x then Some (change.Write (held x)) else None
 
 -- the deletion of a record; none where the term is no record
-abbrev pub object_deleted : PlainTerm → Option Change
-object_deleted x = if is_record x then Some (change.DeleteObject (held x)) else None
+abbrev pub object_deletion_in : PlainTerm → Option Change
+object_deletion_in x = if is_record x then Some (change.DeleteObject (held x)) else None
 
 -- `{Tab, Key}`
-abbrev pub key_deleted : PlainTerm → Option Change
-key_deleted (tuple (one_more (atom t) (one_more k none))) = Some (change.Delete t (held k))
-key_deleted x = None
+abbrev pub key_deletion_in : PlainTerm → Option Change
+key_deletion_in (tuple (one_more (atom t) (one_more k none))) = Some (change.Delete t (held k))
+key_deletion_in x = None
 
 -- a deletion of a key has arity 2, a record 3 or more
-abbrev pub deleted : PlainTerm → Option Change
-deleted (tuple (one_more (atom t) (one_more k none))) = Some (change.Delete t (held k))
-deleted x = object_deleted x
+abbrev pub deletion_in : PlainTerm → Option Change
+deletion_in (tuple (one_more (atom t) (one_more k none))) = Some (change.Delete t (held k))
+deletion_in x = object_deletion_in x
 
 -- the change where it is made in the table; none where it is made in another
 abbrev pub in_table : List ℕ → Option Change → Option Change
@@ -83,15 +83,15 @@ in_table t (Some c) = if bytes_eq (table_of_change c) t then Some c else None
 -- the change that a simple event tells, by its tag n and the record or `{Tab, Key}` behind it
 abbrev pub simple_change : List ℕ → PlainTerm → Option Change
 simple_change n x =
-    if bytes_eq n (codes "write") then written x
-    else (if bytes_eq n (codes "delete") then key_deleted x
-    else (if bytes_eq n (codes "delete_object") then object_deleted x else None))
+    if bytes_eq n (codes "write") then write_in x
+    else (if bytes_eq n (codes "delete") then key_deletion_in x
+    else (if bytes_eq n (codes "delete_object") then object_deletion_in x else None))
 
 -- the change that a detailed event tells, by its tag n, its table t, and the record or `{Tab, Key}` behind them
 abbrev pub detailed_change : List ℕ → List ℕ → PlainTerm → Option Change
 detailed_change n t x =
-    if bytes_eq n (codes "write") then in_table t (written x)
-    else (if bytes_eq n (codes "delete") then in_table t (deleted x) else None)
+    if bytes_eq n (codes "write") then in_table t (write_in x)
+    else (if bytes_eq n (codes "delete") then in_table t (deletion_in x) else None)
 
 -- the change of `{n, x, i}`, where i is an activity id
 abbrev pub simple_body : List ℕ → PlainTerm → PlainTerm → Option Change

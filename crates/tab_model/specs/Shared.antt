@@ -2,8 +2,8 @@
 use Rattle.std.specs.Prelude.{◌≡◌, Bool, true, false}
 use Rattle.tab_model.specs.declared.data.Reply.{Reply}
 use Rattle.tab_model.specs.declared.data.Reply.TheVariants as reply
-use Rattle.tab_model.specs.declared.told.Owned.{Owned}
-use Rattle.tab_model.specs.declared.told.Owned.TheVariants.{Own, Shared}
+use Rattle.tab_model.specs.declared.shared_reply.Owned.{Owned}
+use Rattle.tab_model.specs.declared.shared_reply.Owned.TheVariants.{Own, Shared}
 
 -- the reply itself, be it alone or shared
 abbrev pub reply_in : Owned → Reply

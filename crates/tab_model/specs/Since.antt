@@ -13,10 +13,10 @@ use Rattle.tab_model.specs.Names.{terms_list}
 use Rattle.tab_model.specs.Shapes.{change_of}
 use Rattle.tab_model.specs.Operations.{table_of_change}
 use Rattle.tab_model.specs.Events.{surviving}
-use Rattle.tab_model.specs.Schemas.{removed}
+use Rattle.tab_model.specs.Schemas.{removed_table}
 use Rattle.tab_model.specs.Tables.{Rows, applied}
-use Rattle.tab_model.specs.Worlds.{World, Table, find}
-use Rattle.tab_model.specs.Log.{has_session, is_removed, entered, serial}
+use Rattle.tab_model.specs.Catalogs.{Catalog, Table, find}
+use Rattle.tab_model.specs.Log.{has_session, is_removed, catalog_after, serial}
 use Rattle.tab_model.specs.Slices.{dump_of, slice_after}
 
 -- the change is made in the table
@@ -36,65 +36,65 @@ changes_on t [] = []
 changes_on t (e ∷ es) = changes_in t e ++ changes_on t es
 
 -- whether an entry deletes a table
-abbrev pub deletes : List ℕ → Entry → Bool
-deletes t (Committed n s age xs rs over) = false
-deletes t (Changed c over) = is_removed t (removed c)
-deletes t (Subscribed s u l dump) = false
-deletes t (Unsubscribed s u) = false
+abbrev pub is_deletion_of : List ℕ → Entry → Bool
+is_deletion_of t (Committed n s age xs rs over) = false
+is_deletion_of t (Changed c over) = is_removed t (removed_table c)
+is_deletion_of t (Subscribed s u l dump) = false
+is_deletion_of t (Unsubscribed s u) = false
 
 -- whether a session overflowed in an entry
-abbrev pub overflows : ℕ → Entry → Bool
-overflows s (Committed n x age xs rs over) = has_session over s
-overflows s (Changed c over) = has_session over s
-overflows s (Subscribed x u l dump) = false
-overflows s (Unsubscribed x u) = false
+abbrev pub is_overflow_of : ℕ → Entry → Bool
+is_overflow_of s (Committed n x age xs rs over) = has_session over s
+is_overflow_of s (Changed c over) = has_session over s
+is_overflow_of s (Subscribed x u l dump) = false
+is_overflow_of s (Unsubscribed x u) = false
 
 -- whether an entry is a session's unsubscribing of a table
-abbrev pub unsubscribes : ℕ → List ℕ → Entry → Bool
-unsubscribes s t (Committed n x age xs rs over) = false
-unsubscribes s t (Changed c over) = false
-unsubscribes s t (Subscribed x u l dump) = false
-unsubscribes s t (Unsubscribed x u) = (x == s) && bytes_eq u t
+abbrev pub is_unsubscription_of : ℕ → List ℕ → Entry → Bool
+is_unsubscription_of s t (Committed n x age xs rs over) = false
+is_unsubscription_of s t (Changed c over) = false
+is_unsubscription_of s t (Subscribed x u l dump) = false
+is_unsubscription_of s t (Unsubscribed x u) = (x == s) && bytes_eq u t
 
 -- what ends a session's subscription to a table
-abbrev pub ends_it : ℕ → List ℕ → Entry → Bool
-ends_it s t e = unsubscribes s t e || (deletes t e || overflows s e)
+abbrev pub is_end_of : ℕ → List ℕ → Entry → Bool
+is_end_of s t e = is_unsubscription_of s t e || (is_deletion_of t e || is_overflow_of s e)
 
 -- whether an entry begins a session's subscription to a table
-abbrev pub subscribes : ℕ → List ℕ → Entry → Bool
-subscribes s t (Committed n x age xs rs over) = false
-subscribes s t (Changed c over) = false
-subscribes s t (Subscribed x u l dump) = (x == s) && bytes_eq u t
-subscribes s t (Unsubscribed x u) = false
+abbrev pub is_subscription_of : ℕ → List ℕ → Entry → Bool
+is_subscription_of s t (Committed n x age xs rs over) = false
+is_subscription_of s t (Changed c over) = false
+is_subscription_of s t (Subscribed x u l dump) = (x == s) && bytes_eq u t
+is_subscription_of s t (Unsubscribed x u) = false
 
 -- a subscription that stands at a log's end: a Subscribed entry of the session for the table, and nothing after it that
 -- ends it (an unsubscribing, the table's deletion, the session's overflow) or begins it anew
-pub record StandsSince (s : ℕ) (t : List ℕ) (l : Level) (log : List Entry) : Type 0 where
+pub record IsInForceSince (s : ℕ) (t : List ℕ) (l : Level) (log : List Entry) : Type 0 where
   pub earlier : List Entry
   pub dump : Bool
   pub since : List Entry
   pub is : log ≡ earlier ++ Subscribed s t l dump ∷ since
-  pub not_ended : list_any (ends_it s t) since ≡ false
-  pub not_anew : list_any (subscribes s t) since ≡ false
+  pub not_ended : list_any (is_end_of s t) since ≡ false
+  pub not_anew : list_any (is_subscription_of s t) since ≡ false
 
 -- a subscription was made on a table that stood then
-abbrev pub StoodFor : World → Entry → Type 0
-StoodFor w (Committed n s age xs rs over) = Unit {0}
-StoodFor w (Changed c over) = Unit {0}
-StoodFor w (Subscribed s t l dump) = is_some (find w t) ≡ true
-StoodFor w (Unsubscribed s t) = Unit {0}
+abbrev pub WasInForce : Catalog → Entry → Type 0
+WasInForce w (Committed n s age xs rs over) = Unit {0}
+WasInForce w (Changed c over) = Unit {0}
+WasInForce w (Subscribed s t l dump) = is_some (find w t) ≡ true
+WasInForce w (Unsubscribed s t) = Unit {0}
 
 -- each subscription of a log, which is run from these tables, was made on a table that was there then
-abbrev pub AllStood : World → List Entry → Type 0
-AllStood w [] = Unit {0}
-AllStood w (e ∷ es) = StoodFor w e × AllStood (entered w e) es
+abbrev pub AllWereInForce : Catalog → List Entry → Type 0
+AllWereInForce w [] = Unit {0}
+AllWereInForce w (e ∷ es) = WasInForce w e × AllWereInForce (catalog_after w e) es
 
 -- the changes of a table that items tell, read off the terms of their events
-abbrev pub changes_told : List ℕ → List Item → List Change
-changes_told t [] = []
-changes_told t (Began u l dump ∷ items) = changes_told t items
-changes_told t (Batch n es ∷ items) = filter (is_of t) (filter_map change_of (terms_list es)) ++ changes_told t items
-changes_told t (Ended u ending ∷ items) = changes_told t items
+abbrev pub changes_in_items : List ℕ → List Item → List Change
+changes_in_items t [] = []
+changes_in_items t (Began u l dump ∷ items) = changes_in_items t items
+changes_in_items t (Batch n es ∷ items) = filter (is_of t) (filter_map change_of (terms_list es)) ++ changes_in_items t items
+changes_in_items t (Ended u ending ∷ items) = changes_in_items t items
 
 -- the age of each commit is from 1 on
 abbrev pub HasAge : Entry → Type 0
@@ -109,11 +109,11 @@ AllAged [] = Unit {0}
 AllAged (e ∷ es) = HasAge e × AllAged es
 
 -- a table's rows are those of it at the beginning of a subscription that stands, with the changes since applied: those of
--- the log, and those that the items owed since the begin mark tell; and so are the records of its dump, where the mark has one
+-- the log, and those that the items due since the begin mark tell; and so are the records of its dump, where the mark has one
 pub record RowsSince (s : ℕ) (t : List ℕ) (l : Level) (log : List Entry) (rows : Rows) : Type 0 where
-  pub subscription : StandsSince s t l log
+  pub subscription : IsInForceSince s t l log
   pub table : Table
   pub stood : find (serial subscription.earlier) t ≡ Some table
   pub now : rows ≡ applied table.def.kind table.rows (changes_on t subscription.since)
-  pub told : rows ≡ applied table.def.kind table.rows (changes_told t (slice_after s (subscription.earlier ++ Subscribed s t l subscription.dump ∷ []) subscription.since))
+  pub told : rows ≡ applied table.def.kind table.rows (changes_in_items t (slice_after s (subscription.earlier ++ Subscribed s t l subscription.dump ∷ []) subscription.since))
   pub dumped : (records : PlainTerms) → dump_of (serial subscription.earlier) t subscription.dump ≡ Some records → rows ≡ applied table.def.kind (terms_list records) (changes_on t subscription.since)

@@ -9,10 +9,10 @@ use Rattle.tab_model.specs.declared.data.Ending.TheVariants as ending
 use Rattle.tab_model.specs.declared.data.Entry.{Entry}
 use Rattle.tab_model.specs.declared.data.Entry.TheVariants.{Committed, Changed, Subscribed, Unsubscribed}
 use Rattle.tab_model.specs.Names.{plain_terms}
-use Rattle.tab_model.specs.Worlds.{World, rows_of}
+use Rattle.tab_model.specs.Catalogs.{Catalog, rows_of}
 use Rattle.tab_model.specs.Events.{events, surviving}
 use Rattle.tab_model.specs.Shapes.{shape}
-use Rattle.tab_model.specs.Schemas.{removed}
+use Rattle.tab_model.specs.Schemas.{removed_table}
 use Rattle.tab_model.specs.Log.{serial, in_force, has_session}
 
 -- a commit's events at the levels of a session, as one item where there are any
@@ -30,7 +30,7 @@ abbrev pub batch_for : (List ℕ → Option Level) → ℕ → List Event → Li
 batch_for levels n es = as_batch n (filter_map (λ e. shape_at (levels e.tab) e) es)
 
 -- the records that a begin mark carries, where a dump was asked for
-abbrev pub dump_of : World → List ℕ → Bool → Option PlainTerms
+abbrev pub dump_of : Catalog → List ℕ → Bool → Option PlainTerms
 dump_of w t true = Some (plain_terms (rows_of w t))
 dump_of w t false = None
 
@@ -44,22 +44,22 @@ abbrev pub end_for : (List ℕ → Option Level) → Option (List ℕ) → List 
 end_for levels None = []
 end_for levels (Some t) = ended_item t (levels t)
 
--- who overflowed in an entry is owed nothing of it
+-- who overflowed in an entry is due nothing of it
 abbrev pub unless_over : Bool → List Item → List Item
 unless_over true items = []
 unless_over false items = items
 
 -- what an entry owes to a session, after the log before it
-abbrev pub owed : ℕ → List Entry → Entry → List Item
-owed s log (Committed n x age xs rs over) = unless_over (has_session over s) (batch_for (in_force s log) n (events (serial log) age (surviving xs rs)))
-owed s log (Changed c over) = unless_over (has_session over s) (end_for (in_force s log) (removed c))
-owed s log (Subscribed x t l dump) = if x == s then Began t l (dump_of (serial log) t dump) ∷ [] else []
-owed s log (Unsubscribed x t) = if x == s then Ended t ending.Unsubscribed ∷ [] else []
+abbrev pub expected : ℕ → List Entry → Entry → List Item
+expected s log (Committed n x age xs rs over) = unless_over (has_session over s) (batch_for (in_force s log) n (events (serial log) age (surviving xs rs)))
+expected s log (Changed c over) = unless_over (has_session over s) (end_for (in_force s log) (removed_table c))
+expected s log (Subscribed x t l dump) = if x == s then Began t l (dump_of (serial log) t dump) ∷ [] else []
+expected s log (Unsubscribed x t) = if x == s then Ended t ending.Unsubscribed ∷ [] else []
 
 -- what the second log owes to a session, in order, where the first log came before it
 abbrev pub slice_after : ℕ → List Entry → List Entry → List Item
 slice_after s log [] = []
-slice_after s log (e ∷ es) = owed s log e ++ slice_after s (log ++ e ∷ []) es
+slice_after s log (e ∷ es) = expected s log e ++ slice_after s (log ++ e ∷ []) es
 
 -- all that a log owes to a session, in order
 abbrev pub slice : ℕ → List Entry → List Item

@@ -8,13 +8,13 @@ use Rattle.tab_model.specs.declared.data.Entry.{Entry}
 use Rattle.tab_model.specs.declared.data.Entry.TheVariants.{Committed, Changed, Subscribed, Unsubscribed}
 use Rattle.tab_model.specs.Log.{serial, in_force, commits_from}
 use Rattle.tab_model.specs.History.{Base, level_at}
-use Rattle.tab_model.specs.State.{Transaction, Seat, State, seat_at, transaction_at, mid_of}
+use Rattle.tab_model.specs.State.{Transaction, Session, State, session_at, transaction_at, mid_of}
 use Rattle.tab_model.specs.Outcome.{Ask, Join, Leave, Retry, Take, DoCommand}
 use Rattle.tab_model.specs.Run.{IsTied}
 
 -- all posts are channels', which take nothing back
 abbrev pub AreChannels : State → Type 0
-AreChannels σ = AllByRecursion (λ s. s.outbox.capacity ≡ None) σ.seats
+AreChannels σ = AllByRecursion (λ s. s.outbox.capacity ≡ None) σ.sessions
 
 -- a Join hands in an empty outbox of a channel; of all else nothing is required
 abbrev pub JoinsChannel : Ask → Type 0
@@ -26,20 +26,20 @@ JoinsChannel (DoCommand c) = Unit {0}
 
 -- the session is joined
 abbrev pub is_joined : State → ℕ → Bool
-is_joined σ n = is_some (seat_at σ.seats n)
+is_joined σ n = is_some (session_at σ.sessions n)
 
 -- a session that is joined, or may join
-abbrev pub MayStand : State → ℕ → Type 0
-MayStand σ n = (is_joined σ n ≡ true) ⊎ σ.greatest < n
+abbrev pub MayFollow : State → ℕ → Type 0
+MayFollow σ n = (is_joined σ n ≡ true) ⊎ σ.greatest < n
 
 -- the base is what the entries that were folded into it leave: of who has left it may keep nothing
 pub record IsFolded (past : List Entry) (b : Base) (σ : State) : Type 0 where
   pub tables : b.tables ≡ serial past
   pub commits : b.commits ≡ commits_from 0 past
-  pub levels : (n : ℕ) (t : List ℕ) → MayStand σ n → level_at b.subscriptions n t ≡ in_force n past t
+  pub levels : (n : ℕ) (t : List ℕ) → MayFollow σ n → level_at b.subscriptions n t ≡ in_force n past t
 
 -- past and log together are all that happened
-pub record Stands (past : List Entry) (b : Base) (log : List Entry) (σ : State) : Type 0 where
+pub record FollowsLog (past : List Entry) (b : Base) (log : List Entry) (σ : State) : Type 0 where
   pub tied : IsTied σ (past ++ log) (λ m. [])
   pub folded : IsFolded past b σ
   pub channels : AreChannels σ
@@ -73,13 +73,13 @@ may_enter_command σ n (command.Do o) = false
 may_enter_command σ n (command.OneShot parts retries) = false
 
 -- the step may give an entry: it is a command that may, and true says that its session is joined
-abbrev pub may_enter_seat : State → ℕ → Ask → Bool → Bool
-may_enter_seat σ n (DoCommand c) true = may_enter_command σ n c
-may_enter_seat σ n (DoCommand c) false = false
-may_enter_seat σ n (Join b) joined = false
-may_enter_seat σ n Leave joined = false
-may_enter_seat σ n Retry joined = false
-may_enter_seat σ n Take joined = false
+abbrev pub may_enter_session : State → ℕ → Ask → Bool → Bool
+may_enter_session σ n (DoCommand c) true = may_enter_command σ n c
+may_enter_session σ n (DoCommand c) false = false
+may_enter_session σ n (Join b) joined = false
+may_enter_session σ n Leave joined = false
+may_enter_session σ n Retry joined = false
+may_enter_session σ n Take joined = false
 
 -- a commit of the session would end its transaction
 pub record EndsTransaction (σ : State) (n : ℕ) : Type 0 where
@@ -89,4 +89,4 @@ pub record EndsTransaction (σ : State) (n : ℕ) : Type 0 where
 
 -- the step may give an entry: it is a command that may, of a joined session
 abbrev pub may_enter : State → ℕ → Ask → Bool
-may_enter σ n a = may_enter_seat σ n a (is_joined σ n)
+may_enter σ n a = may_enter_session σ n a (is_joined σ n)

@@ -9,7 +9,7 @@ use Rattle.tab_model.specs.declared.data.Reply.{Reply}
 use Rattle.tab_model.specs.declared.data.Item.{Item}
 use Rattle.tab_model.specs.declared.data.Level.{Level}
 use Rattle.tab_model.specs.declared.data.Limits.{Limits}
-use Rattle.tab_model.specs.Worlds.{World, IsOrderedWorld}
+use Rattle.tab_model.specs.Catalogs.{Catalog, IsOrderedCatalog}
 use Rattle.tab_model.specs.Alone.{Mid, start, after, replies}
 use Rattle.tab_model.specs.Locks.{Lock, needs, locks_of, Apart}
 use Rattle.tab_model.specs.Ages.{Ages, Owned}
@@ -35,7 +35,7 @@ pub record Watch : Type 0 where
   pub level : Level
 
 -- a joined session; overflow is the number of the first commit of which it gets nothing, until it has that number
-pub record Seat : Type 0 where
+pub record Session : Type 0 where
   pub number : ℕ
   pub transaction : Option Transaction
   pub watching : List Watch
@@ -50,8 +50,8 @@ pub record Queued : Type 0 where
 
 -- a core between steps: committed tables, sessions in the order of joining, the queue, counts, and limits
 pub record State : Type 0 where
-  pub tables : World
-  pub seats : List Seat
+  pub tables : Catalog
+  pub sessions : List Session
   pub queue : List Queued
   pub next_age : ℕ
   pub commits : ℕ
@@ -61,12 +61,12 @@ pub record State : Type 0 where
 
 -- a core that has just been made
 abbrev pub new : Limits → State
-new limits = record { tables = []; seats = []; queue = []; next_age = 1; commits = 0; greatest = 0; limits = limits }
+new limits = record { tables = []; sessions = []; queue = []; next_age = 1; commits = 0; greatest = 0; limits = limits }
 
 -- the session of a number, where it is joined
-abbrev pub seat_at : List Seat → ℕ → Option Seat
-seat_at [] n = None
-seat_at (s ∷ seats) n = if s.number == n then Some s else seat_at seats n
+abbrev pub session_at : List Session → ℕ → Option Session
+session_at [] n = None
+session_at (s ∷ sessions) n = if s.number == n then Some s else session_at sessions n
 
 -- the moves of an open transaction; empty where none is open
 abbrev pub moves_in : Option Transaction → List Move
@@ -74,9 +74,9 @@ moves_in None = []
 moves_in (Some transaction) = transaction.moves
 
 -- the replies to an open transaction's moves, in their order, None for an abort; empty where none is open
-abbrev pub told_in_transaction : Option Transaction → List (Option Reply)
-told_in_transaction None = []
-told_in_transaction (Some transaction) = transaction.told
+abbrev pub replies_in : Option Transaction → List (Option Reply)
+replies_in None = []
+replies_in (Some transaction) = transaction.told
 
 -- the age of an open transaction, or 0 where none is open
 abbrev pub age_in : Option Transaction → ℕ
@@ -84,21 +84,21 @@ age_in None = 0
 age_in (Some transaction) = transaction.age
 
 -- the open transaction of a session, where it is joined and has one
-abbrev pub transaction_in : Option Seat → Option Transaction
+abbrev pub transaction_in : Option Session → Option Transaction
 transaction_in None = None
 transaction_in (Some s) = s.transaction
 
 -- a session's open transaction
 abbrev pub transaction_at : State → ℕ → Option Transaction
-transaction_at σ n = transaction_in (seat_at σ.seats n)
+transaction_at σ n = transaction_in (session_at σ.sessions n)
 
 -- the moves of a session's open transaction; empty where it has none
 abbrev pub moves_at : State → ℕ → List Move
 moves_at σ n = moves_in (transaction_at σ n)
 
 -- the replies to the moves of a session's open transaction, None for an abort; empty where it has none
-abbrev pub told_at : State → ℕ → List (Option Reply)
-told_at σ n = told_in_transaction (transaction_at σ n)
+abbrev pub replies_at : State → ℕ → List (Option Reply)
+replies_at σ n = replies_in (transaction_at σ n)
 
 -- the age of a session's open transaction, or 0 where it has none
 abbrev pub age_at : State → ℕ → ℕ
@@ -125,23 +125,23 @@ with_age a [] = []
 with_age a (l ∷ ls) = (a, l) ∷ with_age a ls
 
 -- the locks that an open transaction holds, each with its age, in the order of its operations
-abbrev pub held_by : Option Transaction → List Owned
-held_by None = []
-held_by (Some transaction) = with_age transaction.age (locks_of transaction.moves)
+abbrev pub locks_held_by : Option Transaction → List Owned
+locks_held_by None = []
+locks_held_by (Some transaction) = with_age transaction.age (locks_of transaction.moves)
 
 -- the locks that the transactions of all sessions hold, each with its age, session by session
-abbrev pub held_in : List Seat → List Owned
-held_in [] = []
-held_in (s ∷ seats) = held_by s.transaction ++ held_in seats
+abbrev pub locks_held_in : List Session → List Owned
+locks_held_in [] = []
+locks_held_in (s ∷ sessions) = locks_held_by s.transaction ++ locks_held_in sessions
 
 -- the locks that the queued requests wait for, each with its age, in the order of the queue
-abbrev pub queued_in : List Queued → List Owned
-queued_in [] = []
-queued_in (q ∷ qs) = (q.age, needs q.operation) ∷ queued_in qs
+abbrev pub locks_queued_in : List Queued → List Owned
+locks_queued_in [] = []
+locks_queued_in (q ∷ qs) = (q.age, needs q.operation) ∷ locks_queued_in qs
 
 -- who holds and who waits, read off the open transactions and the queue
 abbrev pub ages_of : State → Ages
-ages_of σ = record { held = held_in σ.seats; queue = queued_in σ.queue }
+ages_of σ = record { held = locks_held_in σ.sessions; queue = locks_queued_in σ.queue }
 
 -- the lock is on the table or on a key of it
 abbrev pub is_in : List ℕ → Owned → Bool
@@ -149,7 +149,7 @@ is_in t x = bytes_eq (x.1).table t
 
 -- whether some transaction holds or awaits a lock in the table
 abbrev pub is_busy : State → List ℕ → Bool
-is_busy σ t = list_any (is_in t) (held_in σ.seats ++ queued_in σ.queue)
+is_busy σ t = list_any (is_in t) (locks_held_in σ.sessions ++ locks_queued_in σ.queue)
 
 -- the level at which a session watches a table
 abbrev pub level_in : List Watch → List ℕ → Option Level
@@ -184,19 +184,19 @@ OwnedBy f [] = Unit {0}
 OwnedBy f (q ∷ qs) = HasAge (f q.session) q.age × OwnedBy f qs
 
 -- a session sits once
-abbrev pub AreDistinct : List Seat → Type 0
+abbrev pub AreDistinct : List Session → Type 0
 AreDistinct [] = Unit {0}
-AreDistinct (s ∷ seats) = (seat_at seats s.number ≡ None) × AreDistinct seats
+AreDistinct (s ∷ sessions) = (session_at sessions s.number ≡ None) × AreDistinct sessions
 
 -- what every reached core has
 pub record IsSound (σ : State) : Type 0 where
   -- each open transaction was told what it is told alone, on the tables as they are now
-  pub told : (n : ℕ) → replies (start σ.tables (age_at σ n)) (moves_at σ n) ≡ told_at σ n
+  pub told : (n : ℕ) → replies (start σ.tables (age_at σ n)) (moves_at σ n) ≡ replies_at σ n
   -- the locks of two sessions' transactions don't conflict
   pub apart : (m n : ℕ) → m ≢ n → Apart (locks_of (moves_at σ m)) (locks_of (moves_at σ n))
   -- ages are different, and below the next one
   pub ages : (m n : ℕ) (t u : Transaction) → transaction_at σ m ≡ Some t → transaction_at σ n ≡ Some u → t.age ≡ u.age → m ≡ n
   pub taken : (n : ℕ) (t : Transaction) → transaction_at σ n ≡ Some t → t.age < σ.next_age
-  pub joined : (n : ℕ) (s : Seat) → seat_at σ.seats n ≡ Some s → n ≤ σ.greatest
-  pub distinct : AreDistinct σ.seats
-  pub ordered : IsOrderedWorld σ.tables
+  pub joined : (n : ℕ) (s : Session) → session_at σ.sessions n ≡ Some s → n ≤ σ.greatest
+  pub distinct : AreDistinct σ.sessions
+  pub ordered : IsOrderedCatalog σ.tables

@@ -199,7 +199,7 @@ pub enum Reply {
     NoWait,
     Found(SharedTerms),
     SubscribedHere,
-    Told(TableInfo),
+    TableInfo(TableInfo),
     Taken(Item),
     Overflow(u64),
     Empty,
@@ -326,7 +326,7 @@ impl Drop for Reply {
             Reply::UserAbort(reason) => drop(reason),
             Reply::AtomicTerms(answers) => drop(answers),
             Reply::Found(terms) => drop(terms),
-            Reply::Told(info) => drop(info),
+            Reply::TableInfo(info) => drop(info),
             Reply::Taken(item) => drop(item),
             Reply::SystemLimit(_) | Reply::Tid(_) | Reply::Atomic(_) | Reply::Overflow(_) => {}
             Reply::BadTerm

@@ -28,23 +28,23 @@ ghost use Rattle.tab_model.specs.declared.data.Command.TheVariants as command;
 ghost use Rattle.tab_model.specs.Names.{terms_list};
 ghost use Rattle.tab_model.specs.Tables.{Rows, key, at, apply, applied, is_ordered, SameTable};
 ghost use Rattle.tab_model.specs.Operations.{key_of_change};
-ghost use Rattle.tab_model.specs.Worlds.{World, Table, find, rows_of, IsOrderedWorld};
+ghost use Rattle.tab_model.specs.Catalogs.{Catalog, Table, find, rows_of, IsOrderedCatalog};
 ghost use Rattle.tab_model.specs.Alone.{start, after, replies};
 ghost use Rattle.tab_model.specs.Events.{is_failure, surviving, events, change_all};
 ghost use Rattle.tab_model.specs.Locks.{locks_of, Apart};
 ghost use Rattle.tab_model.specs.Shapes.{shape, change_of, IsShaped, ShapesChange};
 ghost use Rattle.tab_model.specs.Ages.{Ages, Owned, Granted, Wait, Die, Covered, Opposed, OpposedByOlder, OpposedBefore, Rises, decide, after_request, can_retry, after_retry, request_of, forget, Chain, last_of};
-ghost use Rattle.tab_model.specs.Log.{entered, serial, serial_from, stands, in_force, IsRight, IsLegal, commits_from};
-ghost use Rattle.tab_model.specs.Since.{changes_on, changes_told, deletes, StandsSince, AllStood, AllAged, RowsSince};
-ghost use Rattle.tab_model.specs.Slices.{dump_of, owed, slice, slice_after};
-ghost use Rattle.tab_model.specs.History.{Base, empty, level_at, in_force_since, owed_since, slice_since, slice_since_after, IsHistory, tables_after, folded, Admits, forgotten};
-ghost use Rattle.tab_model.specs.State.{State, Seat, Transaction, Queued, Outbox, new, seat_at, transaction_at, request_in, ages_of, age_at, moves_at, told_at, level_in, IsSound};
+ghost use Rattle.tab_model.specs.Log.{catalog_after, serial, serial_from, level_after, in_force, IsRight, IsLegal, commits_from};
+ghost use Rattle.tab_model.specs.Since.{changes_on, changes_in_items, is_deletion_of, IsInForceSince, AllWereInForce, AllAged, RowsSince};
+ghost use Rattle.tab_model.specs.Slices.{dump_of, expected, slice, slice_after};
+ghost use Rattle.tab_model.specs.History.{Base, empty, level_at, in_force_since, expected_since, slice_since, slice_since_after, IsHistory, tables_after, after_fold, Admits, without_subscriber};
+ghost use Rattle.tab_model.specs.State.{State, Session, Transaction, Queued, Outbox, new, session_at, transaction_at, request_in, ages_of, age_at, moves_at, replies_at, level_in, IsSound};
 ghost use Rattle.tab_model.specs.Reached.{IsRising};
 ghost use Rattle.tab_model.specs.Outcome.{Ask, Join, Leave, Retry, Take, DoCommand, outcome};
-ghost use Rattle.tab_model.specs.Refusals.{AsBefore, standing, counted, requested, queued, empty_again, restarted, Restarts, EndsLevel, IsSole, LeavesAll};
-ghost use Rattle.tab_model.specs.Run.{Call, AllJoinEmpty, Begins, leaves, JoinsEmpty, IsTied, outcome_of, after_all, log_of, replies_of, taken_of, entries, taken_now};
-ghost use Rattle.tab_model.specs.Standing.{EndsTransaction, JoinsChannel, MayStand, Stands, still_joined, may_enter};
-ghost use Rattle.tab_model.specs.Callers.{Callers, newcomers, entry_told, told_one, callers_after, log_told, queue_after, next_after, no_post, post_after, AreHeard, IsUnheard};
+ghost use Rattle.tab_model.specs.Refusals.{AsBefore, effect_of_reply, with_count, request_of_ask, with_requests, transaction_anew, with_restart, IsRestart, EndsLevel, IsSole, LeavesAll};
+ghost use Rattle.tab_model.specs.Run.{Call, AllJoinEmpty, Begins, leave_call, JoinsEmpty, IsTied, outcome_of, after_all, log_of, replies_of, delivered_to, entries, delivered_by};
+ghost use Rattle.tab_model.specs.Standing.{EndsTransaction, JoinsChannel, MayFollow, FollowsLog, still_joined, may_enter};
+ghost use Rattle.tab_model.specs.Callers.{Callers, newcomers, entry_of_step, callers_after_one, callers_after, log_of_replies, queue_after, next_after, no_post, post_after, AreHeard, IsUnheard};
 
 /// For every schedule of steps: commits are numbered in order and were told what they are told alone in that order;
 /// the tables are those of running them so; each open transaction was told what it is told alone on the tables as they
@@ -56,11 +56,11 @@ ghost use Rattle.tab_model.specs.Callers.{Callers, newcomers, entry_told, told_o
 pub fn every_schedule()
     ensures legal { (limits : Limits) (calls : List Call) → AllJoinEmpty calls → IsLegal [] 0 (log_of (new limits) calls) }
     ensures tables { (limits : Limits) (calls : List Call) → AllJoinEmpty calls → (after_all (new limits) calls).tables ≡ serial (log_of (new limits) calls) }
-    ensures told { (limits : Limits) (calls : List Call) (n : ℕ) → let σ = after_all (new limits) calls in replies (start σ.tables (age_at σ n)) (moves_at σ n) ≡ told_at σ n }
-    ensures rows { (limits : Limits) (calls : List Call) (n : ℕ) (s : Seat) → AllJoinEmpty calls → seat_at (after_all (new limits) calls).seats n ≡ Some s → taken_of n (new limits) calls ++ s.outbox.items ≡ slice n (log_of (new limits) calls) }
-    ensures stood { (limits : Limits) (calls : List Call) → AllJoinEmpty calls → AllStood [] (log_of (new limits) calls) }
+    ensures told { (limits : Limits) (calls : List Call) (n : ℕ) → let σ = after_all (new limits) calls in replies (start σ.tables (age_at σ n)) (moves_at σ n) ≡ replies_at σ n }
+    ensures rows { (limits : Limits) (calls : List Call) (n : ℕ) (s : Session) → AllJoinEmpty calls → session_at (after_all (new limits) calls).sessions n ≡ Some s → delivered_to n (new limits) calls ++ s.outbox.items ≡ slice n (log_of (new limits) calls) }
+    ensures stood { (limits : Limits) (calls : List Call) → AllJoinEmpty calls → AllWereInForce [] (log_of (new limits) calls) }
     ensures aged { (limits : Limits) (calls : List Call) → AllAged (log_of (new limits) calls) }
-    ensures applied { (limits : Limits) (calls : List Call) (n : ℕ) (s : Seat) (t : List ℕ) (l : Level) → AllJoinEmpty calls → seat_at (after_all (new limits) calls).seats n ≡ Some s → level_in s.watching t ≡ Some l → RowsSince n t l (log_of (new limits) calls) (rows_of (after_all (new limits) calls).tables t) }
+    ensures applied { (limits : Limits) (calls : List Call) (n : ℕ) (s : Session) (t : List ℕ) (l : Level) → AllJoinEmpty calls → session_at (after_all (new limits) calls).sessions n ≡ Some s → level_in s.watching t ≡ Some l → RowsSince n t l (log_of (new limits) calls) (rows_of (after_all (new limits) calls).tables t) }
 {}
 
 /// For every schedule the log is the one that its callers can tell, who see what they asked and were told and nothing of the
@@ -74,18 +74,18 @@ pub fn every_schedule()
 /// that its caller tells.
 #[tactic(auto, using(crate::proofs::CallersLemmas::new_heard, crate::proofs::CallersLemmas::schedule_log, crate::proofs::CallersLemmas::schedule_open, crate::proofs::CallersLemmas::schedule_queued, crate::proofs::CallersLemmas::schedule_heard_legal, crate::proofs::CallersLemmas::schedule_heard_told, crate::proofs::CallersLemmas::schedule_queue, crate::proofs::CallersLemmas::schedule_next, crate::proofs::CallersPosts::schedule_overflow, crate::proofs::CallersPosts::schedule_told_overflow, crate::proofs::CallersPosts::schedule_refusals))]
 pub fn callers_tell_the_log()
-    ensures log { (limits : Limits) (calls : List Call) → log_of (new limits) calls ≡ log_told newcomers calls (replies_of (new limits) calls) }
-    ensures legal { (limits : Limits) (calls : List Call) → AllJoinEmpty calls → IsLegal [] 0 (log_told newcomers calls (replies_of (new limits) calls)) }
+    ensures log { (limits : Limits) (calls : List Call) → log_of (new limits) calls ≡ log_of_replies newcomers calls (replies_of (new limits) calls) }
+    ensures legal { (limits : Limits) (calls : List Call) → AllJoinEmpty calls → IsLegal [] 0 (log_of_replies newcomers calls (replies_of (new limits) calls)) }
     ensures open { (limits : Limits) (calls : List Call) (n : ℕ) (t : Transaction) → transaction_at (after_all (new limits) calls) n ≡ Some t → (callers_after newcomers calls (replies_of (new limits) calls) n).transaction ≡ t }
     ensures told { (limits : Limits) (calls : List Call) (n : ℕ) (t : Transaction) → transaction_at (after_all (new limits) calls) n ≡ Some t → let k = (callers_after newcomers calls (replies_of (new limits) calls) n).transaction in replies (start (after_all (new limits) calls).tables k.age) k.moves ≡ k.told }
     ensures queued { (limits : Limits) (calls : List Call) (n : ℕ) (q : Queued) → request_in (after_all (new limits) calls).queue n ≡ Some q → (callers_after newcomers calls (replies_of (new limits) calls) n).queued ≡ Some q.operation }
     ensures queue { (limits : Limits) (calls : List Call) → (after_all (new limits) calls).queue ≡ queue_after newcomers [] calls (replies_of (new limits) calls) }
     ensures next_age { (limits : Limits) (calls : List Call) → (after_all (new limits) calls).next_age ≡ next_after newcomers 1 calls (replies_of (new limits) calls) }
-    ensures overflow { (limits : Limits) (calls : List Call) (n : ℕ) (s : Seat) → seat_at (after_all (new limits) calls).seats n ≡ Some s → s.overflow ≡ (post_after n newcomers 0 no_post calls (replies_of (new limits) calls)).overflow }
+    ensures overflow { (limits : Limits) (calls : List Call) (n : ℕ) (s : Session) → session_at (after_all (new limits) calls).sessions n ≡ Some s → s.overflow ≡ (post_after n newcomers 0 no_post calls (replies_of (new limits) calls)).overflow }
     ensures told_overflow { (limits : Limits) (calls : List Call) (over : List ℕ) (n i : ℕ) → (outcome (after_all (new limits) calls) over n Take).reply ≡ reply.Overflow i → (post_after n newcomers 0 no_post calls (replies_of (new limits) calls)).overflow ≡ Some i }
-    ensures refusals { (limits : Limits) (calls : List Call) (n : ℕ) (s : Seat) → seat_at (after_all (new limits) calls).seats n ≡ Some s → s.outbox.refusals ≡ (post_after n newcomers 0 no_post calls (replies_of (new limits) calls)).refusals }
+    ensures refusals { (limits : Limits) (calls : List Call) (n : ℕ) (s : Session) → session_at (after_all (new limits) calls).sessions n ≡ Some s → s.outbox.refusals ≡ (post_after n newcomers 0 no_post calls (replies_of (new limits) calls)).refusals }
     ensures new_heard { (limits : Limits) → AreHeard (new limits) newcomers }
-    ensures step { (σ : State) (ks : Callers) (c : Call) → AreHeard σ ks → AreHeard (outcome_of σ c).state (told_one ks c (outcome_of σ c).reply) × (entry_told c.session c.over (ks c.session) c.ask (outcome_of σ c).reply ≡ (outcome_of σ c).entry) }
+    ensures step { (σ : State) (ks : Callers) (c : Call) → AreHeard σ ks → AreHeard (outcome_of σ c).state (callers_after_one ks c (outcome_of σ c).reply) × (entry_of_step c.session c.over (ks c.session) c.ask (outcome_of σ c).reply ≡ (outcome_of σ c).entry) }
 {}
 
 /// A new core has no history and keeps what every reached core has; and each step keeps it, and keeps the state tied to
@@ -97,7 +97,7 @@ pub fn steps_keep_what_holds()
     ensures new_tied { (limits : Limits) → IsTied (new limits) [] (λ m. []) }
     ensures sound { (σ : State) (over : List ℕ) (n : ℕ) (a : Ask) → IsSound σ → IsSound (outcome σ over n a).state }
     ensures rising { (σ : State) (over : List ℕ) (n : ℕ) (a : Ask) → IsSound σ → IsRising σ → IsRising (outcome σ over n a).state }
-    ensures tied { (σ : State) (log : List Entry) (taken : ℕ → List Item) (over : List ℕ) (n : ℕ) (a : Ask) → IsSound σ → JoinsEmpty a → IsTied σ log taken → IsTied (outcome σ over n a).state (log ++ entries (outcome σ over n a).entry) (λ m. taken m ++ taken_now m n (outcome σ over n a).reply) }
+    ensures tied { (σ : State) (log : List Entry) (taken : ℕ → List Item) (over : List ℕ) (n : ℕ) (a : Ask) → IsSound σ → JoinsEmpty a → IsTied σ log taken → IsTied (outcome σ over n a).state (log ++ entries (outcome σ over n a).entry) (λ m. taken m ++ delivered_by m n (outcome σ over n a).reply) }
 {}
 
 /// What a change leaves at each key is that change made on what stood there; and lists in canonical order with the
@@ -124,7 +124,7 @@ pub fn what_a_change_leaves()
 /// What a transaction was told stays right when another commits whose locks do not conflict with its own.
 #[tactic(auto, using(crate::proofs::LocksApart::stays))]
 pub fn replies_stay()
-    ensures { (w : World) (a b : ℕ) (xs ys : List Move) → IsOrderedWorld w → Apart (locks_of xs) (locks_of ys) → replies (start (after (start w a) xs).now b) ys ≡ replies (start w b) ys }
+    ensures { (w : Catalog) (a b : ℕ) (xs ys : List Move) → IsOrderedCatalog w → Apart (locks_of xs) (locks_of ys) → replies (start (after (start w a) xs).now b) ys ≡ replies (start w b) ys }
 {}
 
 /// Whatever is asked, ages rise along every wait, from older to younger: so no chain of waits leads back. In every reached
@@ -143,7 +143,7 @@ pub fn waits_have_no_cycle()
 /// tables that the transaction leaves.
 #[tactic(auto, using(crate::proofs::SurvivorsRight::survivors_are))]
 pub fn survivors_right()
-    ensures { (w : World) (age : ℕ) (xs : List Move) → change_all w (surviving xs (replies (start w age) xs)) ≡ (after (start w age) xs).now }
+    ensures { (w : Catalog) (age : ℕ) (xs : List Move) → change_all w (surviving xs (replies (start w age) xs)) ≡ (after (start w age) xs).now }
 {}
 
 /// The changes that a legal log made to a table that stood before it and that it doesn't delete, applied to the table's
@@ -151,49 +151,49 @@ pub fn survivors_right()
 /// rows at its beginning or from the dump of its begin mark. The changes are those that the events of the commits carry.
 #[tactic(auto, using(crate::proofs::EventsGiveTheRows::log_applies, crate::proofs::EventsGiveTheRows::events_carry))]
 pub fn events_give_the_rows()
-    ensures log { (w : World) (n : ℕ) (x : Table) (t : List ℕ) (log : List Entry) → IsLegal w n log → find w t ≡ Some x → list_any (deletes t) log ≡ false → rows_of (serial_from w log) t ≡ applied x.def.kind (rows_of w t) (changes_on t log) }
-    ensures since { (s : ℕ) (t : List ℕ) (l : Level) (log : List Entry) (x : Table) → IsLegal [] 0 log → (i : StandsSince s t l log) → find (serial i.earlier) t ≡ Some x → rows_of (serial log) t ≡ applied x.def.kind (rows_of (serial i.earlier) t) (changes_on t i.since) }
-    ensures dump { (s : ℕ) (t : List ℕ) (l : Level) (log : List Entry) (x : Table) (records : PlainTerms) → IsLegal [] 0 log → (i : StandsSince s t l log) → find (serial i.earlier) t ≡ Some x → dump_of (serial i.earlier) t i.dump ≡ Some records → rows_of (serial log) t ≡ applied x.def.kind (terms_list records) (changes_on t i.since) }
-    ensures carried { (w : World) (age : ℕ) (cs : List Change) → map (λ (e : Event). e.change) (events w age cs) ≡ cs }
+    ensures log { (w : Catalog) (n : ℕ) (x : Table) (t : List ℕ) (log : List Entry) → IsLegal w n log → find w t ≡ Some x → list_any (is_deletion_of t) log ≡ false → rows_of (serial_from w log) t ≡ applied x.def.kind (rows_of w t) (changes_on t log) }
+    ensures since { (s : ℕ) (t : List ℕ) (l : Level) (log : List Entry) (x : Table) → IsLegal [] 0 log → (i : IsInForceSince s t l log) → find (serial i.earlier) t ≡ Some x → rows_of (serial log) t ≡ applied x.def.kind (rows_of (serial i.earlier) t) (changes_on t i.since) }
+    ensures dump { (s : ℕ) (t : List ℕ) (l : Level) (log : List Entry) (x : Table) (records : PlainTerms) → IsLegal [] 0 log → (i : IsInForceSince s t l log) → find (serial i.earlier) t ≡ Some x → dump_of (serial i.earlier) t i.dump ≡ Some records → rows_of (serial log) t ≡ applied x.def.kind (terms_list records) (changes_on t i.since) }
+    ensures carried { (w : Catalog) (age : ℕ) (cs : List Change) → map (λ (e : Event). e.change) (events w age cs) ≡ cs }
 {}
 
 /// What a log with one entry more says: its tables are that entry's on the tables before; a subscription's level is what
 /// the entry leaves of it; a session's items are those before and then those that the entry owes it.
-#[tactic(auto, using(crate::proofs::Seats::serial_more, crate::proofs::Seats::in_force_more, crate::proofs::Seats::slice_more, crate::proofs::Seats::legal_more))]
+#[tactic(auto, using(crate::proofs::SessionLists::serial_more, crate::proofs::SessionLists::in_force_more, crate::proofs::SessionLists::slice_more, crate::proofs::SessionLists::legal_more))]
 pub fn a_log_with_one_entry_more()
-    ensures tables { (log : List Entry) (e : Entry) → serial (log ++ e ∷ []) ≡ entered (serial log) e }
-    ensures levels { (s : ℕ) (log : List Entry) (e : Entry) (t : List ℕ) → in_force s (log ++ e ∷ []) t ≡ stands s t (in_force s log t) e }
-    ensures items { (s : ℕ) (log : List Entry) (e : Entry) → slice s (log ++ e ∷ []) ≡ slice s log ++ owed s log e }
+    ensures tables { (log : List Entry) (e : Entry) → serial (log ++ e ∷ []) ≡ catalog_after (serial log) e }
+    ensures levels { (s : ℕ) (log : List Entry) (e : Entry) (t : List ℕ) → in_force s (log ++ e ∷ []) t ≡ level_after s t (in_force s log t) e }
+    ensures items { (s : ℕ) (log : List Entry) (e : Entry) → slice s (log ++ e ∷ []) ≡ slice s log ++ expected s log e }
     ensures legal { (log : List Entry) (e : Entry) → IsLegal [] 0 log → IsRight (serial log) (commits_from 0 log) e → IsLegal [] 0 (log ++ e ∷ []) }
 {}
 
 /// A log from a base. With one entry more its items are those before and then those that the entry owes. With the oldest
 /// entry folded into the base it is still a history of the same tables, and a session that is joined has the same levels
-/// and is owed what that entry owed it and then what the rest owes it from the folded base. From the empty base all is as
+/// and is due what that entry due it and then what the rest owes it from the folded base. From the empty base all is as
 /// of a log from its beginning. A session that has left is forgotten without a change for the others.
 #[tactic(auto, using(crate::proofs::Folding::slice_more, crate::proofs::Folding::in_force_more, crate::proofs::Folding::history_more, crate::proofs::Folding::tables_right, crate::proofs::Folding::slice_folded, crate::proofs::Folding::in_force_folded, crate::proofs::Folding::history_folded, crate::proofs::Folding::slice_empty, crate::proofs::Folding::history_empty, crate::proofs::Folding::slice_forgotten, crate::proofs::Folding::in_force_forgotten, crate::proofs::Folding::history_forgotten))]
 pub fn a_log_from_a_base()
-    ensures items_more { (b : Base) (s : ℕ) (log : List Entry) (e : Entry) → slice_since b s (log ++ e ∷ []) ≡ slice_since b s log ++ owed_since b s log e }
-    ensures levels_more { (b : Base) (s : ℕ) (log : List Entry) (e : Entry) (t : List ℕ) → in_force_since b s (log ++ e ∷ []) t ≡ stands s t (in_force_since b s log t) e }
-    ensures history_more { (b : Base) (log : List Entry) (e : Entry) (w : World) → IsHistory b log w → IsRight w (commits_from b.commits log) e → IsHistory b (log ++ e ∷ []) (entered w e) }
-    ensures tables_folded { (w : World) (c : ℕ) (e : Entry) → IsRight w c e → tables_after w e ≡ entered w e }
-    ensures items_folded { (joined : Bool) (b : Base) (s : ℕ) (e : Entry) (es : List Entry) → IsRight b.tables b.commits e → Admits joined s e → slice_since b s (e ∷ es) ≡ owed_since b s [] e ++ slice_since (folded joined b e) s es }
-    ensures levels_folded { (joined : Bool) (b : Base) (s : ℕ) (t : List ℕ) (e : Entry) (es : List Entry) → Admits joined s e → in_force_since b s (e ∷ es) t ≡ in_force_since (folded joined b e) s es t }
-    ensures history_folded { (joined : Bool) (b : Base) (e : Entry) (es : List Entry) (w : World) → IsHistory b (e ∷ es) w → IsHistory (folded joined b e) es w }
+    ensures items_more { (b : Base) (s : ℕ) (log : List Entry) (e : Entry) → slice_since b s (log ++ e ∷ []) ≡ slice_since b s log ++ expected_since b s log e }
+    ensures levels_more { (b : Base) (s : ℕ) (log : List Entry) (e : Entry) (t : List ℕ) → in_force_since b s (log ++ e ∷ []) t ≡ level_after s t (in_force_since b s log t) e }
+    ensures history_more { (b : Base) (log : List Entry) (e : Entry) (w : Catalog) → IsHistory b log w → IsRight w (commits_from b.commits log) e → IsHistory b (log ++ e ∷ []) (catalog_after w e) }
+    ensures tables_folded { (w : Catalog) (c : ℕ) (e : Entry) → IsRight w c e → tables_after w e ≡ catalog_after w e }
+    ensures items_folded { (joined : Bool) (b : Base) (s : ℕ) (e : Entry) (es : List Entry) → IsRight b.tables b.commits e → Admits joined s e → slice_since b s (e ∷ es) ≡ expected_since b s [] e ++ slice_since (after_fold joined b e) s es }
+    ensures levels_folded { (joined : Bool) (b : Base) (s : ℕ) (t : List ℕ) (e : Entry) (es : List Entry) → Admits joined s e → in_force_since b s (e ∷ es) t ≡ in_force_since (after_fold joined b e) s es t }
+    ensures history_folded { (joined : Bool) (b : Base) (e : Entry) (es : List Entry) (w : Catalog) → IsHistory b (e ∷ es) w → IsHistory (after_fold joined b e) es w }
     ensures items_from_none { (s : ℕ) (log : List Entry) → slice_since empty s log ≡ slice s log }
     ensures levels_from_none { (s : ℕ) (log : List Entry) (t : List ℕ) → in_force_since empty s log t ≡ in_force s log t }
-    ensures history_from_none { (log : List Entry) (w : World) → IsHistory empty log w ↔ (IsLegal [] 0 log × (serial log ≡ w)) }
-    ensures items_forgotten { (b : Base) (s q : ℕ) (log : List Entry) → q ≢ s → slice_since (forgotten b q) s log ≡ slice_since b s log }
-    ensures levels_forgotten { (b : Base) (s q : ℕ) (log : List Entry) (t : List ℕ) → q ≢ s → in_force_since (forgotten b q) s log t ≡ in_force_since b s log t }
-    ensures history_forgotten { (b : Base) (q : ℕ) (log : List Entry) (w : World) → IsHistory b log w → IsHistory (forgotten b q) log w }
+    ensures history_from_none { (log : List Entry) (w : Catalog) → IsHistory empty log w ↔ (IsLegal [] 0 log × (serial log ≡ w)) }
+    ensures items_forgotten { (b : Base) (s q : ℕ) (log : List Entry) → q ≢ s → slice_since (without_subscriber b q) s log ≡ slice_since b s log }
+    ensures levels_forgotten { (b : Base) (s q : ℕ) (log : List Entry) (t : List ℕ) → q ≢ s → in_force_since (without_subscriber b q) s log t ≡ in_force_since b s log t }
+    ensures history_forgotten { (b : Base) (q : ℕ) (log : List Entry) (w : Catalog) → IsHistory b log w → IsHistory (without_subscriber b q) log w }
 {}
 
 /// A subscription is in force exactly where the log has its Subscribed entry and after it no unsubscribing of it, no
 /// deletion of its table, no overflow of its session, and no further Subscribed entry.
 #[tactic(auto, using(crate::proofs::InForce::in_force_stands))]
-pub fn subscriptions_stand_in_the_log()
-    ensures stands { (s : ℕ) (t : List ℕ) (l : Level) (log : List Entry) → in_force s log t ≡ Some l → StandsSince s t l log }
-    ensures in_force { (s : ℕ) (t : List ℕ) (l : Level) (log : List Entry) → StandsSince s t l log → in_force s log t ≡ Some l }
+pub fn subscriptions_are_in_the_log()
+    ensures stands { (s : ℕ) (t : List ℕ) (l : Level) (log : List Entry) → in_force s log t ≡ Some l → IsInForceSince s t l log }
+    ensures in_force { (s : ℕ) (t : List ℕ) (l : Level) (log : List Entry) → IsInForceSince s t l log → in_force s log t ≡ Some l }
 {}
 
 /// An event's term, at either level, tells the event's change; and a term that tells a change is the term of an event
@@ -209,17 +209,17 @@ pub fn events_tell_their_changes()
 /// and of the same age, and all else as it was.
 #[tactic(auto, using(crate::proofs::RefusalLaws::as_before, crate::proofs::RefusalLaws::schema_refused, crate::proofs::RefusalLaws::refusal_counted, crate::proofs::RefusalLaws::waits_queued, crate::proofs::RefusalLaws::restarts_empty, crate::proofs::RefusalLaws::restarted_open))]
 pub fn refusals_change_nothing()
-    ensures refused { (σ : State) (over : List ℕ) (n : ℕ) (a : Ask) → standing (outcome σ over n a).reply ≡ AsBefore → (outcome σ over n a).state ≡ σ }
+    ensures refused { (σ : State) (over : List ℕ) (n : ℕ) (a : Ask) → effect_of_reply (outcome σ over n a).reply ≡ AsBefore → (outcome σ over n a).state ≡ σ }
     ensures schema { (σ : State) (over : List ℕ) (n : ℕ) (c : Schema) → (outcome σ over n (DoCommand (command.Schema c))).reply ≢ reply.AtomicOk → (outcome σ over n (DoCommand (command.Schema c))).state ≡ σ }
-    ensures outbox_full { (σ : State) (over : List ℕ) (n : ℕ) (a : Ask) → (outcome σ over n a).reply ≡ reply.OutboxFull → (outcome σ over n a).state ≡ counted σ (seat_at σ.seats n) }
-    ensures waiting { (σ : State) (over : List ℕ) (n : ℕ) (a : Ask) → (outcome σ over n a).reply ≡ reply.Waiting → (outcome σ over n a).state ≡ queued σ (requested (seat_at σ.seats n) a) }
-    ensures restart { (σ : State) (over : List ℕ) (n : ℕ) (a : Ask) → (outcome σ over n a).reply ≡ reply.Restart → Restarts σ (seat_at σ.seats n) (outcome σ over n a).state }
-    ensures restarted { (σ : State) (n : ℕ) → transaction_at (restarted σ (seat_at σ.seats n)) n ≡ empty_again (transaction_at σ n) }
+    ensures outbox_full { (σ : State) (over : List ℕ) (n : ℕ) (a : Ask) → (outcome σ over n a).reply ≡ reply.OutboxFull → (outcome σ over n a).state ≡ with_count σ (session_at σ.sessions n) }
+    ensures waiting { (σ : State) (over : List ℕ) (n : ℕ) (a : Ask) → (outcome σ over n a).reply ≡ reply.Waiting → (outcome σ over n a).state ≡ with_requests σ (request_of_ask (session_at σ.sessions n) a) }
+    ensures restart { (σ : State) (over : List ℕ) (n : ℕ) (a : Ask) → (outcome σ over n a).reply ≡ reply.Restart → IsRestart σ (session_at σ.sessions n) (outcome σ over n a).state }
+    ensures restarted { (σ : State) (n : ℕ) → transaction_at (with_restart σ (session_at σ.sessions n)) n ≡ transaction_anew (transaction_at σ n) }
 {}
 
 /// An operation that fails, at once or when it is retried, and an abort end the innermost level alone: the transaction is
 /// over where that is level 1; else it stays open with its locks, at most the operation's more, on the tables that the
-/// level began with. The session's queued request is gone; the rest of its seat, all other seats, all other requests, the
+/// level began with. The session's queued request is gone; the rest of its session, all other sessions, all other requests, the
 /// tables and the numbers stay.
 #[tactic(auto)]
 pub fn levels_end_alone()
@@ -243,16 +243,16 @@ pub fn older_wait_and_younger_die()
 /// after its Leave, a beginning of its slice at that moment.
 #[tactic(auto, using(crate::proofs::WhoLeaves::joined_begins, crate::proofs::WhoLeaves::left_begins))]
 pub fn who_leaves_has_taken_a_beginning()
-    ensures joined { (limits : Limits) (calls : List Call) (n : ℕ) (s : Seat) → AllJoinEmpty calls → seat_at (after_all (new limits) calls).seats n ≡ Some s → Begins (taken_of n (new limits) calls) (slice n (log_of (new limits) calls)) }
-    ensures left { (limits : Limits) (calls later : List Call) (n : ℕ) (s : Seat) → AllJoinEmpty calls → seat_at (after_all (new limits) calls).seats n ≡ Some s → Begins (taken_of n (new limits) (calls ++ leaves n ∷ later)) (slice n (log_of (new limits) calls)) }
+    ensures joined { (limits : Limits) (calls : List Call) (n : ℕ) (s : Session) → AllJoinEmpty calls → session_at (after_all (new limits) calls).sessions n ≡ Some s → Begins (delivered_to n (new limits) calls) (slice n (log_of (new limits) calls)) }
+    ensures left { (limits : Limits) (calls later : List Call) (n : ℕ) (s : Session) → AllJoinEmpty calls → session_at (after_all (new limits) calls).sessions n ≡ Some s → Begins (delivered_to n (new limits) (calls ++ leave_call n ∷ later)) (slice n (log_of (new limits) calls)) }
 {}
 
-/// The items that a session is owed since a subscription that stands, which follow those owed before in its slice, tell
+/// The items that a session is due since a subscription that stands, which follow those due before in its slice, tell
 /// exactly the changes that the log's commits made to that table since: read off the terms of their events, at either
 /// level, whatever else the session watches.
 #[tactic(auto, using(crate::proofs::ItemsTellTheChanges::slice_parts))]
 pub fn items_tell_the_changes()
-    ensures told { (s : ℕ) (t : List ℕ) (l : Level) (log : List Entry) → IsLegal [] 0 log → AllAged log → (i : StandsSince s t l log) → changes_told t (slice_after s (i.earlier ++ Subscribed s t l i.dump ∷ []) i.since) ≡ changes_on t i.since }
+    ensures told { (s : ℕ) (t : List ℕ) (l : Level) (log : List Entry) → IsLegal [] 0 log → AllAged log → (i : IsInForceSince s t l log) → changes_in_items t (slice_after s (i.earlier ++ Subscribed s t l i.dump ∷ []) i.since) ≡ changes_on t i.since }
     ensures parts { (s : ℕ) (xs ys : List Entry) → slice s (xs ++ ys) ≡ slice s xs ++ slice_after s xs ys }
 {}
 
@@ -268,18 +268,18 @@ pub fn a_session_alone_never_waits()
 /// A running book: its journal starts from a base, into which its oldest entries were folded. Whatever was folded, a new
 /// book, each step of its core with channels for posts, each fold of the oldest entry, and each forgetting of a session that
 /// left keep that the base and the journal are a history of the core's tables, and that a joined session was sent what it
-/// was owed of what is folded and then its slice of the journal from the base. A step gives an entry only where it may.
-#[tactic(auto, using(crate::proofs::StandingLemmas::new_stands, crate::proofs::StandingLemmas::step_stands, crate::proofs::StandingLemmas::fold_stands, crate::proofs::StandingLemmas::forget_stands, crate::proofs::StandingLemmas::history_of, crate::proofs::StandingLemmas::sent_is, crate::proofs::StandingLemmas::sent_grows, crate::proofs::Entering::enters_only))]
-pub fn a_state_stands_over_its_journal()
-    ensures new { (limits : Limits) → Stands [] empty [] (new limits) }
-    ensures step { (past log : List Entry) (b : Base) (σ : State) (over : List ℕ) (n : ℕ) (a : Ask) → IsSound σ → JoinsChannel a → Stands past b log σ → Stands past b (log ++ entries (outcome σ over n a).entry) (outcome σ over n a).state }
-    ensures fold { (past log : List Entry) (b : Base) (e : Entry) (σ : State) → Stands past b (e ∷ log) σ → Stands (past ++ e ∷ []) (folded (still_joined σ e) b e) log σ }
-    ensures forget { (past log : List Entry) (b : Base) (σ : State) (n : ℕ) → (MayStand σ n → ⊥) → Stands past b log σ → Stands past (forgotten b n) log σ }
-    ensures history { (past log : List Entry) (b : Base) (σ : State) → Stands past b log σ → IsHistory b log σ.tables }
-    ensures commits { (past log : List Entry) (b : Base) (σ : State) → Stands past b log σ → σ.commits ≡ commits_from b.commits log }
-    ensures watching { (past log : List Entry) (b : Base) (σ : State) (n : ℕ) (s : Seat) (t : List ℕ) → Stands past b log σ → seat_at σ.seats n ≡ Some s → level_in s.watching t ≡ in_force_since b n log t }
-    ensures sent { (past log : List Entry) (b : Base) (σ : State) (n : ℕ) (s : Seat) → Stands past b log σ → seat_at σ.seats n ≡ Some s → s.outbox.items ≡ slice n past ++ slice_since b n log }
-    ensures grows { (past log more : List Entry) (b : Base) (σ τ : State) (n : ℕ) (s r : Seat) → Stands past b log σ → seat_at σ.seats n ≡ Some s → Stands past b (log ++ more) τ → seat_at τ.seats n ≡ Some r → r.outbox.items ≡ s.outbox.items ++ slice_since_after b n log more }
+/// was due of what is folded and then its slice of the journal from the base. A step gives an entry only where it may.
+#[tactic(auto, using(crate::proofs::StandingLemmas::new_follows, crate::proofs::StandingLemmas::step_follows, crate::proofs::StandingLemmas::fold_follows, crate::proofs::StandingLemmas::forget_follows, crate::proofs::StandingLemmas::history_of, crate::proofs::StandingLemmas::sent_is, crate::proofs::StandingLemmas::sent_grows, crate::proofs::Entering::enters_only))]
+pub fn a_state_follows_from_its_journal()
+    ensures new { (limits : Limits) → FollowsLog [] empty [] (new limits) }
+    ensures step { (past log : List Entry) (b : Base) (σ : State) (over : List ℕ) (n : ℕ) (a : Ask) → IsSound σ → JoinsChannel a → FollowsLog past b log σ → FollowsLog past b (log ++ entries (outcome σ over n a).entry) (outcome σ over n a).state }
+    ensures fold { (past log : List Entry) (b : Base) (e : Entry) (σ : State) → FollowsLog past b (e ∷ log) σ → FollowsLog (past ++ e ∷ []) (after_fold (still_joined σ e) b e) log σ }
+    ensures forget { (past log : List Entry) (b : Base) (σ : State) (n : ℕ) → (MayFollow σ n → ⊥) → FollowsLog past b log σ → FollowsLog past (without_subscriber b n) log σ }
+    ensures history { (past log : List Entry) (b : Base) (σ : State) → FollowsLog past b log σ → IsHistory b log σ.tables }
+    ensures commits { (past log : List Entry) (b : Base) (σ : State) → FollowsLog past b log σ → σ.commits ≡ commits_from b.commits log }
+    ensures watching { (past log : List Entry) (b : Base) (σ : State) (n : ℕ) (s : Session) (t : List ℕ) → FollowsLog past b log σ → session_at σ.sessions n ≡ Some s → level_in s.watching t ≡ in_force_since b n log t }
+    ensures sent { (past log : List Entry) (b : Base) (σ : State) (n : ℕ) (s : Session) → FollowsLog past b log σ → session_at σ.sessions n ≡ Some s → s.outbox.items ≡ slice n past ++ slice_since b n log }
+    ensures grows { (past log more : List Entry) (b : Base) (σ τ : State) (n : ℕ) (s r : Session) → FollowsLog past b log σ → session_at σ.sessions n ≡ Some s → FollowsLog past b (log ++ more) τ → session_at τ.sessions n ≡ Some r → r.outbox.items ≡ s.outbox.items ++ slice_since_after b n log more }
     ensures enters { (σ : State) (over : List ℕ) (n : ℕ) (a : Ask) (e : Entry) → (outcome σ over n a).entry ≡ Some e → may_enter σ n a ≡ true }
 {}
 
@@ -318,20 +318,20 @@ pub fn what_was_not_done_is_not_heard()
 /// left adds nothing, and a session is still joined exactly where it sits.
 #[tactic(auto, using(crate::proofs::Folding::level_forgotten))]
 pub fn who_left_is_forgotten()
-    ensures level { (b : Base) (s : ℕ) (t : List ℕ) → level_at (forgotten b s).subscriptions s t ≡ None }
-    ensures tables { (b : Base) (s : ℕ) → (forgotten b s).tables ≡ b.tables }
-    ensures commits { (b : Base) (s : ℕ) → (forgotten b s).commits ≡ b.commits }
-    ensures folded { (b : Base) (s : ℕ) (t : List ℕ) (l : Level) (dump : Bool) → folded false b (Subscribed s t l dump) ≡ b }
-    ensures joined { (σ : State) (s : ℕ) (t : List ℕ) (l : Level) (dump : Bool) → still_joined σ (Subscribed s t l dump) ≡ is_some (seat_at σ.seats s) }
+    ensures level { (b : Base) (s : ℕ) (t : List ℕ) → level_at (without_subscriber b s).subscriptions s t ≡ None }
+    ensures tables { (b : Base) (s : ℕ) → (without_subscriber b s).tables ≡ b.tables }
+    ensures commits { (b : Base) (s : ℕ) → (without_subscriber b s).commits ≡ b.commits }
+    ensures folded { (b : Base) (s : ℕ) (t : List ℕ) (l : Level) (dump : Bool) → after_fold false b (Subscribed s t l dump) ≡ b }
+    ensures joined { (σ : State) (s : ℕ) (t : List ℕ) (l : Level) (dump : Bool) → still_joined σ (Subscribed s t l dump) ≡ is_some (session_at σ.sessions s) }
 {}
 
 /// Which steps may give an entry, both ways: a joined session's schema command, its subscription's begin and end, and a commit
 /// that would end its transaction; no other.
 #[tactic(auto, using(crate::proofs::Entering::commit_ends))]
 pub fn these_steps_may_enter()
-    ensures schema { (σ : State) (n : ℕ) (c : Schema) → may_enter σ n (DoCommand (command.Schema c)) ≡ is_some (seat_at σ.seats n) }
-    ensures subscribe { (σ : State) (n : ℕ) (t : List ℕ) (l : Level) (dump : Bool) → may_enter σ n (DoCommand (command.Subscribe t l dump)) ≡ is_some (seat_at σ.seats n) }
-    ensures unsubscribe { (σ : State) (n : ℕ) (t : List ℕ) (l : Level) → may_enter σ n (DoCommand (command.Unsubscribe t l)) ≡ is_some (seat_at σ.seats n) }
+    ensures schema { (σ : State) (n : ℕ) (c : Schema) → may_enter σ n (DoCommand (command.Schema c)) ≡ is_some (session_at σ.sessions n) }
+    ensures subscribe { (σ : State) (n : ℕ) (t : List ℕ) (l : Level) (dump : Bool) → may_enter σ n (DoCommand (command.Subscribe t l dump)) ≡ is_some (session_at σ.sessions n) }
+    ensures unsubscribe { (σ : State) (n : ℕ) (t : List ℕ) (l : Level) → may_enter σ n (DoCommand (command.Unsubscribe t l)) ≡ is_some (session_at σ.sessions n) }
     ensures commit { (σ : State) (n : ℕ) → (may_enter σ n (DoCommand command.Commit) ≡ true) ↔ EndsTransaction σ n }
     ensures table_info { (σ : State) (n : ℕ) (t : List ℕ) (i : InfoItem) → may_enter σ n (DoCommand (command.TableInfo t i)) ≡ false }
     ensures begin { (σ : State) (n : ℕ) → may_enter σ n (DoCommand command.Begin) ≡ false }

@@ -1,5 +1,5 @@
 //! What a table server is, as plain data: the words that code and contracts share, the definitions of what each
-//! step does (specs/), and their laws (`laws`). Nothing here runs a table; memory is taken by `Told::pair` and
+//! step does (specs/), and their laws (`laws`). Nothing here runs a table; memory is taken by `SharedReply::pair` and
 //! `Operation::try_clone` alone.
 
 #![tactic(auto)]
@@ -8,7 +8,7 @@ mod copying;
 mod data;
 mod laws;
 mod lists;
-mod told;
+mod shared_reply;
 
 pub use data::{
     Change, Command, Ending, Entry, Event, InfoItem, Item, Kind, Level, Limit, Limits, Lock, Mode,
@@ -16,12 +16,12 @@ pub use data::{
 };
 pub use laws::{
     a_log_from_a_base, a_log_with_one_entry_more, a_refusal_leaves_all,
-    a_session_alone_never_waits, a_state_stands_over_its_journal, callers_tell_the_log,
+    a_session_alone_never_waits, a_state_follows_from_its_journal, callers_tell_the_log,
     events_give_the_rows, events_tell_their_changes, every_schedule, items_tell_the_changes,
     levels_end_alone, older_wait_and_younger_die, refusals_change_nothing, replies_stay,
-    steps_keep_what_holds, subscriptions_stand_in_the_log, survivors_right, tables_are_lists,
+    steps_keep_what_holds, subscriptions_are_in_the_log, survivors_right, tables_are_lists,
     these_steps_may_enter, waits_have_no_cycle, what_a_change_leaves,
     what_was_not_done_is_not_heard, who_leaves_has_taken_a_beginning, who_left_is_forgotten,
 };
 pub use lists::{Atoms, Moves, Numbers, Parts, Replies};
-pub use told::Told;
+pub use shared_reply::SharedReply;

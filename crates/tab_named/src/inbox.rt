@@ -1,22 +1,22 @@
 //! The receiving end.
 
 ghost use Rattle.crossbeam_channel.specs.Ends.{receives_on};
-ghost use Rattle.tab_named.specs.Places.{StandsAt};
+ghost use Rattle.tab_named.specs.Places.{IsHeldAt};
 
-use tab_names::{Front, House};
+use tab_names::{Host, Prefix};
 use tab_outbox::Item;
-use tab_post::{Inbox, Line};
+use tab_post::{Channel, Inbox};
 
 /// The receiving end of the mailbox that has a place in the register.
 #[derive(Drop)]
-pub struct SeatInbox<H: House> {
+pub struct SeatInbox<H: Host> {
     pub(crate) inbox: Inbox<H>,
     pub(crate) place: u64,
-    pub(crate) front: Front<Line, H>,
-    ghost stands: { StandsAt front place (receives_on inbox.line) },
+    pub(crate) prefix: Prefix<Channel, H>,
+    ghost stands: { IsHeldAt prefix place (receives_on inbox.channel) },
 }
 
-impl<H: House> SeatInbox<H> {
+impl<H: Host> SeatInbox<H> {
     ghost use Rattle.std.specs.Prelude.{◌≡◌, [], ◌∷◌, ◌++◌, MatchOption};
     ghost use Rattle.tab_named.specs.Ends.{received, mailbox_of};
 

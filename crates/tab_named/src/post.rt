@@ -1,26 +1,26 @@
 //! The sending end.
 
 ghost use Rattle.crossbeam_channel.specs.Ends.{sends_on};
-ghost use Rattle.tab_named.specs.Places.{StandsAt};
+ghost use Rattle.tab_named.specs.Places.{IsHeldAt};
 
 use crate::inbox::SeatInbox;
-use tab_names::{Front, House};
+use tab_names::{Host, Prefix};
 use tab_outbox::{Item, Mailbox, Met, Post, Refused};
-use tab_post::{ChannelPost, Line, meet};
+use tab_post::{Channel, ChannelPost, meet};
 
 /// The sending end of the mailbox that has a place in the register.
 #[derive(Drop)]
-pub struct SeatPost<H: House> {
+pub struct SeatPost<H: Host> {
     pub(crate) post: ChannelPost<H>,
     pub(crate) place: u64,
-    pub(crate) front: Front<Line, H>,
-    ghost stands: { StandsAt front place (sends_on post.line) },
+    pub(crate) prefix: Prefix<Channel, H>,
+    ghost stands: { IsHeldAt prefix place (sends_on post.channel) },
 }
 
-impl<H: House> Post for SeatPost<H> {
+impl<H: Host> Post for SeatPost<H> {
     ghost use Rattle.std.specs.Prelude.{◌≡◌, [], ◌∷◌, OnOk, IfErr, IfSome, IsNone, is_err, length, nat_le, refl};
     ghost use Rattle.std.proofs.Common.{◌∙◌};
-    ghost use Rattle.tab_model.specs.Outcome.{pushed, refused};
+    ghost use Rattle.tab_model.specs.Outcome.{with_items, with_refusal};
     ghost use Rattle.tab_outbox.specs.Posts.{refused_item, IsFull};
     ghost use Rattle.tab_post.specs.Ends.{WasFull};
     ghost use Rattle.tab_named.specs.Ends.{as_outbox, sent, capacity_of, IsSamePost};
@@ -37,8 +37,8 @@ impl<H: House> Post for SeatPost<H> {
     fn put(&mut self, item: Item) -> Result<(), Refused>
         ensures stays { IsSamePost self.old self.new }
         ensures decided { IfSome (as_outbox self.old).capacity (λ c. is_err result ≡ nat_le c (length (as_outbox self.old).items)) }
-        ensures ok { OnOk result (as_outbox self.new ≡ pushed (as_outbox self.old) (item ∷ [])) }
-        ensures err { IfErr result (λ r. (refused_item r ≡ item) × (as_outbox self.new ≡ refused (as_outbox self.old))) }
+        ensures ok { OnOk result (as_outbox self.new ≡ with_items (as_outbox self.old) (item ∷ [])) }
+        ensures err { IfErr result (λ r. (refused_item r ≡ item) × (as_outbox self.new ≡ with_refusal (as_outbox self.old))) }
         ensures full { IfErr result (λ r. IsFull r → WasFull (capacity_of self.old) (sent self.old)) }
     {
         self.post.put(item)
@@ -57,7 +57,7 @@ impl<H: House> Post for SeatPost<H> {
     }
 }
 
-impl<H: House> Mailbox for SeatPost<H> {
+impl<H: Host> Mailbox for SeatPost<H> {
     ghost use Rattle.tab_named.specs.Ends.{received, mailbox_of};
 
     type End = SeatInbox<H>;
@@ -70,7 +70,7 @@ impl<H: House> Mailbox for SeatPost<H> {
         if self.place != end.place {
             return Met::Apart;
         }
-        self.front.agrees(&end.front, self.place);
+        self.prefix.agrees(&end.prefix, self.place);
         meet(&mut self.post, &mut end.inbox)
     }
 }

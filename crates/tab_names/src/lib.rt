@@ -5,11 +5,11 @@
 
 #![tactic(auto)]
 
-mod front;
 mod naming;
+mod prefix;
 mod register;
 mod rule;
 
-pub use front::Front;
-pub use naming::{House, Naming};
+pub use naming::{Host, Naming};
+pub use prefix::Prefix;
 pub use register::{Opened, Register};

@@ -19,6 +19,6 @@ impl<J: Naming, R> Naming for (R, PhantomData<J>) {
 }
 
 /// A handle for waiting, whose type also names a register.
-pub trait House: Naming + Wait + Copy {}
+pub trait Host: Naming + Wait + Copy {}
 
-impl<H: Naming + Wait + Copy> House for H {}
+impl<H: Naming + Wait + Copy> Host for H {}

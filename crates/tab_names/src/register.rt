@@ -3,8 +3,8 @@
 ghost use Rattle.std.specs.Prelude.{◌≡◌, []};
 ghost use Rattle.tab_names.specs.Rules.{head_of};
 
-use crate::front::Front;
 use crate::naming::Naming;
+use crate::prefix::Prefix;
 use crate::rule::Counted;
 use logbook::{Seen, Start, Word};
 use std::marker::{Model, PhantomData};
@@ -40,7 +40,7 @@ impl<E> Opened<E> {
     }
 
     /// The register under its name, and what was seen of it: nothing.
-    pub fn named<J: Naming>(self) -> (Register<E, J>, Front<E, J>)
+    pub fn named<J: Naming>(self) -> (Register<E, J>, Prefix<E, J>)
         requires { self ≡ J.book }
         ensures { result.1 ≡ [] }
     {
@@ -50,7 +50,7 @@ impl<E> Opened<E> {
                 head,
                 of: PhantomData,
             },
-            Front {
+            Prefix {
                 len: 0,
                 seen,
                 of: PhantomData,

@@ -125,7 +125,7 @@ module _ (P : Reply → Type 0) where
     level_ends r (ts ∷ us ∷ outer) calls turn h = to 0 calls (λ k p. k) (puts 1 r (us ∷ outer) calls turn h)
 
     operation : (s : Sort) (r : Reply) (levels : List PlainTerms) (calls : List Call) (turn : Turn) → AfterOperation s r levels calls turn → Leads 0 calls (P r → Over turn)
-    operation sort.Told r levels calls turn h = to 0 calls (λ k p. k) (puts 0 r levels calls turn h)
+    operation sort.Answered r levels calls turn h = to 0 calls (λ k p. k) (puts 0 r levels calls turn h)
     operation sort.Failed r levels calls turn h = level_ends r levels calls turn h
     operation sort.Restarted r levels calls turn (e, f) = nothing 0 calls e (λ p. subst Over (sym f) tt)
     operation sort.Refused r levels calls turn h = stops r levels calls turn h

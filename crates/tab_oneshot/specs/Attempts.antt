@@ -16,8 +16,8 @@ use Rattle.tab_oneshot.specs.Calls.{Call, Asked, Waited}
 
 -- what an answer says of the levels
 abbrev pub sort_of : Reply → Sort
-sort_of reply.Done = sort.Told
-sort_of (reply.Found rows) = sort.Told
+sort_of reply.Done = sort.Answered
+sort_of (reply.Found rows) = sort.Answered
 sort_of (reply.NoTable t) = sort.Failed
 sort_of (reply.BadType t r) = sort.Failed
 sort_of (reply.NoIndex t a) = sort.Failed
@@ -86,7 +86,7 @@ LevelEnds r levels calls turn = AsItIs r calls turn
 
 -- after an operation's answer: it is put, ends its level, begins all anew, ends all levels, or is the reply
 abbrev pub AfterOperation : Sort → Reply → List PlainTerms → List Call → Turn → Type 0
-AfterOperation sort.Told r levels calls turn = Puts 0 r levels calls turn
+AfterOperation sort.Answered r levels calls turn = Puts 0 r levels calls turn
 AfterOperation sort.Failed r levels calls turn = LevelEnds r levels calls turn
 AfterOperation sort.Restarted r levels calls turn = (calls ≡ []) × (turn ≡ Restarts)
 AfterOperation sort.Refused r levels calls turn = Stops r levels calls turn

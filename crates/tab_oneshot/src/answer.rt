@@ -4,13 +4,13 @@ ghost use Rattle.std.specs.Prelude.{◌≡◌};
 ghost use Rattle.tab_model.specs.declared.data.Reply.TheVariants as reply;
 ghost use Rattle.tab_oneshot.specs.Attempts.{sort_of};
 
-use tab_model::{Reply, Told};
+use tab_model::{Reply, SharedReply};
 
 /// What an answer says of the levels.
 #[derive(Clone, Copy)]
 pub enum Sort {
     /// An operation is done.
-    Told,
+    Answered,
     /// An operation ended its level.
     Failed,
     /// An abort ended its level.
@@ -29,7 +29,7 @@ pub enum Sort {
 
 /// An answer of the seat.
 pub struct Answer {
-    pub reply: Told,
+    pub reply: SharedReply,
 }
 
 // A derived Drop would be taken apart, variant by variant, at each exit of each caller.
@@ -46,11 +46,11 @@ impl Answer {
         ensures { result.reply ≡ reply.NoMemory }
     {
         Answer {
-            reply: Told::new(Reply::NoMemory),
+            reply: SharedReply::new(Reply::NoMemory),
         }
     }
 
-    pub fn into_reply(self) -> Told
+    pub fn into_reply(self) -> SharedReply
         ensures { result ≡ self.reply }
     {
         let Answer { reply } = self;
@@ -62,7 +62,7 @@ impl Answer {
         ensures { result ≡ sort_of self.now.reply }
     {
         match self.reply.reply() {
-            Reply::Done | Reply::Found(_) => Sort::Told,
+            Reply::Done | Reply::Found(_) => Sort::Answered,
             Reply::NoTable(_) | Reply::BadType(_, _) | Reply::NoIndex(_, _) => Sort::Failed,
             Reply::UserAbort(_) => Sort::Aborted,
             Reply::Tid(_) => Sort::Opened,

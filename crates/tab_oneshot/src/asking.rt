@@ -9,7 +9,7 @@ ghost use Rattle.tab_oneshot.specs.Parts.{awaited, turn_of};
 use crate::answer::{Answer, Sort};
 use crate::steps::Steps;
 use crate::turn::Turn;
-use tab_model::{Command, Told};
+use tab_model::{Command, SharedReply};
 use tab_term::Term;
 
 /// Hands a command in.
@@ -34,7 +34,7 @@ pub fn wait<S: Steps>(steps: &mut S) -> Option<Answer>
 }
 
 /// Ends so many levels and the one inside them; the last answer, or that to an abort which ended no level.
-pub fn end<S: Steps>(steps: &mut S, around: usize, last: Answer) -> Told
+pub fn end<S: Steps>(steps: &mut S, around: usize, last: Answer) -> SharedReply
     ensures { (more : List Call) × S.shows steps.old more steps.new × Ends (suc around) last.reply more result }
 {
     let ended = ask(steps, Command::Abort(Term::Int(0)));

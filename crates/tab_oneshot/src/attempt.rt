@@ -11,7 +11,7 @@ use crate::parts::serve;
 use crate::steps::Steps;
 use crate::turn::Turn;
 use std::alloc::Global;
-use tab_model::{Command, Part, Reply, Told};
+use tab_model::{Command, Part, Reply, SharedReply};
 
 /// How many levels are still to end behind a part that is left out.
 fn passed(part: &Part, skipped: usize) -> usize
@@ -27,12 +27,12 @@ fn passed(part: &Part, skipped: usize) -> usize
 }
 
 /// The commit of level 1.
-fn commit<S: Steps>(steps: &mut S, alloc: Global, levels: &mut Levels) -> Told
+fn commit<S: Steps>(steps: &mut S, alloc: Global, levels: &mut Levels) -> SharedReply
     ensures { (more : List Call) × S.shows steps.old more steps.new × Commits levels.old more result }
 {
     let answer = ask(steps, Command::Commit);
     match answer.sort() {
-        Sort::Committed => Told::new(Reply::AtomicTerms(levels.take(alloc))),
+        Sort::Committed => SharedReply::new(Reply::AtomicTerms(levels.take(alloc))),
         Sort::Refused => end(steps, levels.around(), answer),
         _ => answer.into_reply(),
     }
@@ -44,7 +44,7 @@ pub fn attempt<S: Steps>(
     alloc: Global,
     parts: &[Part],
     levels: &mut Levels,
-) -> Option<Told>
+) -> Option<SharedReply>
     ensures { (more : List Call) × S.shows steps.old more steps.new × IsAttempt parts.now 0 levels.old more result }
 {
     let mut skipped = 0;

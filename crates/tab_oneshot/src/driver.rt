@@ -12,13 +12,13 @@ use crate::copies::parts_of;
 use crate::levels::Levels;
 use crate::steps::Steps;
 use std::alloc::Global;
-use tab_model::{Command, Part, Parts, Reply, Told};
+use tab_model::{Command, Part, Parts, Reply, SharedReply};
 
 /// Runs a one-shot, whose command is `{transaction, Ops, Retries}`, on a seat.
 ///
 /// A copy of the whole command is handed in first, and opens level 1; then the members of its list, in order, and the
 /// commit. Where the seat restarts it, it begins again with the first member, at most `Retries` times.
-pub fn one_shot<S: Steps>(steps: &mut S, alloc: Global, command: Command) -> Told
+pub fn one_shot<S: Steps>(steps: &mut S, alloc: Global, command: Command) -> SharedReply
     requires { is_one_shot command ≡ true }
     ensures { (more : List Call) × S.shows steps.old more steps.new × IsOneShot command more result }
 {
@@ -28,11 +28,11 @@ pub fn one_shot<S: Steps>(steps: &mut S, alloc: Global, command: Command) -> Tol
     run(steps, alloc, &parts, retries)
 }
 
-fn run<S: Steps>(steps: &mut S, alloc: Global, parts: &Parts, retries: u64) -> Told
+fn run<S: Steps>(steps: &mut S, alloc: Global, parts: &Parts, retries: u64) -> SharedReply
     ensures { (more : List Call) × S.shows steps.old more steps.new × IsRun parts.now retries more result }
 {
     let Ok(copy) = parts_of(alloc, parts) else {
-        return Told::new(Reply::NoMemory);
+        return SharedReply::new(Reply::NoMemory);
     };
     let answer = ask(steps, Command::OneShot(copy, retries));
     match answer.sort() {
@@ -51,7 +51,7 @@ fn begin_anew<S: Steps>(steps: &mut S, levels: &mut Levels)
 }
 
 /// At most so many attempts and one more.
-fn attempts<S: Steps>(steps: &mut S, alloc: Global, parts: &[Part], retries: u64) -> Told
+fn attempts<S: Steps>(steps: &mut S, alloc: Global, parts: &[Part], retries: u64) -> SharedReply
     ensures { (more : List Call) × S.shows steps.old more steps.new × Runs parts.now retries more result }
 {
     let mut levels = Levels::new(alloc);
@@ -67,7 +67,7 @@ fn attempts<S: Steps>(steps: &mut S, alloc: Global, parts: &[Part], retries: u64
             steps,
             0,
             Answer {
-                reply: Told::new(Reply::NoMore),
+                reply: SharedReply::new(Reply::NoMore),
             },
         ),
     }

@@ -17,7 +17,7 @@ use crate::steps::Steps;
 use crate::turn::Turn;
 use std::alloc::{AllocError, Global};
 use tab_lists::Answers;
-use tab_model::{Command, Operation, Part, Reply, Told};
+use tab_model::{Command, Operation, Part, Reply, SharedReply};
 use tab_proto::answer_of;
 use tab_term::Term;
 
@@ -81,7 +81,7 @@ fn after_operation<S: Steps>(
     ensures { (more : List Call) × S.shows steps.old more steps.new × AfterOperation (sort_of answer.reply) answer.reply levels.old more (turn_of result levels.new) }
 {
     match answer.sort() {
-        Sort::Told => tell(steps, alloc, answer, levels),
+        Sort::Answered => tell(steps, alloc, answer, levels),
         Sort::Failed => end_level(steps, alloc, answer, levels),
         Sort::Restarted => Turn::Restart,
         Sort::Refused => stop(steps, levels.around(), answer),
@@ -101,7 +101,7 @@ fn after_wait<S: Steps>(
         Some(answer) => after_operation(steps, alloc, answer, levels),
         None => {
             let answer = Answer {
-                reply: Told::new(Reply::NoWait),
+                reply: SharedReply::new(Reply::NoWait),
             };
             stop(steps, levels.around(), answer)
         }

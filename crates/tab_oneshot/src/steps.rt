@@ -5,7 +5,7 @@ ghost use Rattle.tab_model.specs.Outcome.{is_abort};
 ghost use Rattle.tab_oneshot.specs.Calls.{Call, Asked, Waited, Again, answer_in, waited_for, IsNoWait};
 
 use std::alloc::AllocError;
-use tab_model::{Command, Told};
+use tab_model::{Command, SharedReply};
 
 /// A seat that commands are handed to, one after another.
 pub trait Steps {
@@ -13,13 +13,13 @@ pub trait Steps {
     ghost shows: { Self → List Call → Self → Type 0 };
 
     /// Hands a command in. An abort takes no memory.
-    fn step(&mut self, command: Command) -> Result<Told, AllocError>
+    fn step(&mut self, command: Command) -> Result<SharedReply, AllocError>
         ensures shown { shows self.old (Asked command (answer_in result) ∷ []) self.new }
         ensures abort { is_abort command ≡ true → IsOk result };
 
     /// Waits for the answer of the operation that was handed in last and was answered `Waiting`. None where the
     /// surroundings can't wait.
-    fn wait(&mut self) -> Option<Result<Told, AllocError>>
+    fn wait(&mut self) -> Option<Result<SharedReply, AllocError>>
         ensures shown { shows self.old (Waited (waited_for result) ∷ []) self.new }
         ensures waited { IsNoWait result };
 

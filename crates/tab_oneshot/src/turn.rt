@@ -1,4 +1,4 @@
-use tab_model::Told;
+use tab_model::SharedReply;
 
 /// What follows an answer.
 pub enum Turn {
@@ -7,7 +7,7 @@ pub enum Turn {
     /// What stands behind the end of the level.
     Skip,
     /// Nothing: this is the reply.
-    Over(Told),
+    Over(SharedReply),
     /// The first part again.
     Restart,
 }

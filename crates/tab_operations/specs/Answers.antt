@@ -1,4 +1,4 @@
--- What an operation answers on a lent table, with what its transaction left there (what it answers on one table alone: the
+-- What an operation answers on a committed table, with what its transaction left there (what it answers on one table alone: the
 -- definitions of tab_model).
 use Rattle.std.specs.Prelude.{◌≡◌, Some}
 use Rattle.tab_model.specs.declared.data.Operation.{Operation}
@@ -6,7 +6,7 @@ use Rattle.tab_model.specs.declared.data.Reply.{Reply}
 use Rattle.tab_model.specs.declared.data.Reply.TheVariants as reply
 use Rattle.tab_model.specs.Operations.{failure_at, answer_or}
 use Rattle.tab_model.specs.Tables.{Rows}
-use Rattle.tab_model.specs.Worlds.{Table, with_rows}
+use Rattle.tab_model.specs.Catalogs.{Table, with_rows}
 use Rattle.tab_txstore.specs.Merged.{IsSeen}
 use Rattle.tab_txstore.specs.Overlays.{Touched}
 use Rattle.tab_operations.specs.declared.answering.Answer.{Answer}
@@ -26,4 +26,4 @@ replied t o = answer_or (failure_at t o) (Some t) o
 
 -- the reply on the table as the transaction sees it
 abbrev pub Answers : Touched → Table → Operation → Reply → Type 0
-Answers xs lent o r = (seen : Rows) → IsSeen xs lent.rows seen → r ≡ replied (with_rows lent seen) o
+Answers xs committed o r = (seen : Rows) → IsSeen xs committed.rows seen → r ≡ replied (with_rows committed seen) o

@@ -1,4 +1,4 @@
-//! What operations answer on a lent table, as their transaction sees it.
+//! What operations answer on a committed table, as their transaction sees it.
 
 ghost use Rattle.std.specs.Prelude.{◌≡◌, IfOk};
 ghost use Rattle.tab_model.specs.declared.data.Operation.TheVariants as op;
@@ -43,21 +43,23 @@ impl Answer {
 pub fn answered(
     alloc: Global,
     store: &TxStore,
-    lent: &IndexedTable,
+    committed: &IndexedTable,
     operation: &Operation,
 ) -> Result<Answer, AllocError>
-    ensures { IfOk result (λ a. Answers (touched store.now.levels.now.overlay lent.now.def.name) lent.now operation.now (reply_of a)) }
+    ensures { IfOk result (λ a. Answers (touched store.now.levels.now.overlay committed.now.def.name) committed.now operation.now (reply_of a)) }
 {
     match operation {
-        Operation::Read(_, key) => Ok(Answer::Found(store.view_read(alloc, lent, key)?)),
-        Operation::ReadForWrite(_, key) => Ok(Answer::Found(store.view_read(alloc, lent, key)?)),
-        Operation::AllKeys(_) => Ok(Answer::Found(store.view_keys(alloc, lent)?)),
+        Operation::Read(_, key) => Ok(Answer::Found(store.view_read(alloc, committed, key)?)),
+        Operation::ReadForWrite(_, key) => Ok(Answer::Found(store.view_read(
+            alloc, committed, key,
+        )?)),
+        Operation::AllKeys(_) => Ok(Answer::Found(store.view_keys(alloc, committed)?)),
         Operation::IndexRead(name, value, attribute) => {
-            index_read(alloc, store, lent, name, value, attribute)
+            index_read(alloc, store, committed, name, value, attribute)
         }
-        Operation::MatchObject(pattern) => match_object(alloc, store, lent, pattern),
-        Operation::Write(row) => write(alloc, lent, row),
-        Operation::DeleteObject(row) => write(alloc, lent, row),
+        Operation::MatchObject(pattern) => match_object(alloc, store, committed, pattern),
+        Operation::Write(row) => write(alloc, committed, row),
+        Operation::DeleteObject(row) => write(alloc, committed, row),
         _ => Ok(Answer::Done),
     }
 }
@@ -65,17 +67,17 @@ pub fn answered(
 fn index_read(
     alloc: Global,
     store: &TxStore,
-    lent: &IndexedTable,
+    committed: &IndexedTable,
     name: &Atom,
     value: &Term,
     attribute: &Term,
 ) -> Result<Answer, AllocError>
-    ensures { IfOk result (λ a. Answers (touched store.now.levels.now.overlay lent.now.def.name) lent.now (op.IndexRead name.now value.now attribute.now) (reply_of a)) }
+    ensures { IfOk result (λ a. Answers (touched store.now.levels.now.overlay committed.now.def.name) committed.now (op.IndexRead name.now value.now attribute.now) (reply_of a)) }
 {
-    match position(lent.def(), attribute) {
-        Some(position) if has_index(lent.def(), position) => Ok(Answer::Found(store.view_index(
+    match position(committed.def(), attribute) {
+        Some(position) if has_index(committed.def(), position) => Ok(Answer::Found(store.view_index(
             alloc,
-            lent,
+            committed,
             position as u64,
             value,
         )?)),
@@ -89,31 +91,31 @@ fn index_read(
 fn match_object(
     alloc: Global,
     store: &TxStore,
-    lent: &IndexedTable,
+    committed: &IndexedTable,
     pattern: &Term,
 ) -> Result<Answer, AllocError>
-    ensures { IfOk result (λ a. Answers (touched store.now.levels.now.overlay lent.now.def.name) lent.now (op.MatchObject pattern.now) (reply_of a)) }
+    ensures { IfOk result (λ a. Answers (touched store.now.levels.now.overlay committed.now.def.name) committed.now (op.MatchObject pattern.now) (reply_of a)) }
 {
-    if !fits(lent.def(), pattern) {
-        return bad_type(alloc, lent, pattern);
+    if !fits(committed.def(), pattern) {
+        return bad_type(alloc, committed, pattern);
     }
-    Ok(Answer::Found(store.view_match(alloc, lent, pattern)?))
+    Ok(Answer::Found(store.view_match(alloc, committed, pattern)?))
 }
 
 /// A record that is to be written or deleted.
-fn write(alloc: Global, lent: &IndexedTable, row: &Term) -> Result<Answer, AllocError>
-    ensures write { IfOk result (λ a. reply_of a ≡ replied lent.now (op.Write row.now)) }
-    ensures delete { IfOk result (λ a. reply_of a ≡ replied lent.now (op.DeleteObject row.now)) }
+fn write(alloc: Global, committed: &IndexedTable, row: &Term) -> Result<Answer, AllocError>
+    ensures write { IfOk result (λ a. reply_of a ≡ replied committed.now (op.Write row.now)) }
+    ensures delete { IfOk result (λ a. reply_of a ≡ replied committed.now (op.DeleteObject row.now)) }
 {
-    if !fits(lent.def(), row) {
-        return bad_type(alloc, lent, row);
+    if !fits(committed.def(), row) {
+        return bad_type(alloc, committed, row);
     }
     Ok(Answer::Done)
 }
 
-fn bad_type(alloc: Global, lent: &IndexedTable, row: &Term) -> Result<Answer, AllocError>
-    ensures { IfOk result (λ a. reply_of a ≡ reply.BadType lent.now.def.name row.now) }
+fn bad_type(alloc: Global, committed: &IndexedTable, row: &Term) -> Result<Answer, AllocError>
+    ensures { IfOk result (λ a. reply_of a ≡ reply.BadType committed.now.def.name row.now) }
 {
-    let name = lent.def().name.try_clone(alloc)?;
+    let name = committed.def().name.try_clone(alloc)?;
     Ok(Answer::BadType(name, row.try_clone(alloc)?))
 }

@@ -11,8 +11,8 @@ ghost use Rattle.tab_model.specs.declared.data.Operation.TheVariants as op;
 use std::alloc::{AllocError, Global};
 use tab_index::element::{Nothing, key};
 use tab_model::{Lock, Mode, Operation, What};
+use tab_tables::tag;
 use tab_term::{Atom, Term, has_wildcard};
-use tab_world::tag;
 
 /// The table that an operation speaks of: where its record or pattern begins with no name, the nameless one.
 pub fn table_of<'a>(operation: &'a Operation, nameless: &'a Atom) -> &'a Atom

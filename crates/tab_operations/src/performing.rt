@@ -1,7 +1,7 @@
 ghost use Rattle.std.specs.Prelude.{◌≡◌, ℕ, IfOk, OnErr, Some, None};
 ghost use Rattle.tab_model.specs.Alone.{start, after, replies};
 ghost use Rattle.tab_model.specs.Operations.{table_of as table_of_operation, answer as answer_of};
-ghost use Rattle.tab_model.specs.Worlds.{find, IsOrderedWorld};
+ghost use Rattle.tab_model.specs.Catalogs.{find, IsOrderedCatalog};
 ghost use Rattle.tab_model.specs.declared.data.Move.TheVariants.{Do};
 ghost use Rattle.tab_model.specs.declared.data.Reply.TheVariants as reply;
 ghost use Rattle.tab_txstore.specs.Overlays.{touched};
@@ -12,10 +12,10 @@ use crate::answering::answered;
 use crate::asked::table_of;
 use std::alloc::{AllocError, Global};
 use tab_index::IndexedTable;
-use tab_model::{Operation, Reply, Told};
+use tab_model::{Operation, Reply, SharedReply};
+use tab_tables::Catalog;
 use tab_term::Atom;
 use tab_txstore::TxStore;
-use tab_world::World;
 
 /// An operation that waits for its place in its transaction's trace.
 pub struct Pending {
@@ -44,18 +44,18 @@ impl Pending {
 /// the trace.
 pub fn perform(
     alloc: Global,
-    world: &World,
+    catalog: &Catalog,
     store: &mut TxStore,
     pending: Pending,
-) -> Result<Told, AllocError>
-    ensures store { IfOk result (λ r. store.new ≡ store_next (find world.now (table_of_operation pending.operation)) store.old (Do pending.operation) (Some r)) }
-    ensures answer { IfOk result (λ r. (age : ℕ) → IsOrderedWorld world.now → Fits store.old world.now → replies (start world.now age) store.old.moves ≡ store.old.told → r ≡ answer_of (after (start world.now age) store.old.moves).now pending.operation) }
+) -> Result<SharedReply, AllocError>
+    ensures store { IfOk result (λ r. store.new ≡ store_next (find catalog.now (table_of_operation pending.operation)) store.old (Do pending.operation) (Some r)) }
+    ensures answer { IfOk result (λ r. (age : ℕ) → IsOrderedCatalog catalog.now → Fits store.old catalog.now → replies (start catalog.now age) store.old.moves ≡ store.old.told → r ≡ answer_of (after (start catalog.now age) store.old.moves).now pending.operation) }
     ensures err { OnErr result (store.new ≡ store.old) }
 {
     let nameless = Atom::from_short_text(alloc, "")?;
     let name = table_of(&pending.operation, &nameless);
-    match world.table(name) {
-        Some(lent) => perform_on(alloc, lent, store, pending),
+    match catalog.table(name) {
+        Some(committed) => perform_on(alloc, committed, store, pending),
         None => {
             let name = name.try_clone(alloc)?;
             fail(alloc, store, pending, name)
@@ -65,17 +65,17 @@ pub fn perform(
 
 fn perform_on(
     alloc: Global,
-    lent: &IndexedTable,
+    committed: &IndexedTable,
     store: &mut TxStore,
     pending: Pending,
-) -> Result<Told, AllocError>
-    ensures store { IfOk result (λ r. store.new ≡ store_next (Some lent.now) store.old (Do pending.operation) (Some r)) }
-    ensures answer { IfOk result (λ r. Answers (touched store.old.levels.now.overlay lent.now.def.name) lent.now pending.operation r) }
+) -> Result<SharedReply, AllocError>
+    ensures store { IfOk result (λ r. store.new ≡ store_next (Some committed.now) store.old (Do pending.operation) (Some r)) }
+    ensures answer { IfOk result (λ r. Answers (touched store.old.levels.now.overlay committed.now.def.name) committed.now pending.operation r) }
     ensures err { OnErr result (store.new ≡ store.old) }
 {
-    let answer = answered(alloc, store, lent, &pending.operation)?;
-    let (reply, told) = Told::pair(alloc, answer.into_reply())?;
-    store.make(alloc, lent, pending.into_operation(), told)?;
+    let answer = answered(alloc, store, committed, &pending.operation)?;
+    let (reply, told) = SharedReply::pair(alloc, answer.into_reply())?;
+    store.make(alloc, committed, pending.into_operation(), told)?;
     Ok(reply)
 }
 
@@ -85,12 +85,12 @@ fn fail(
     store: &mut TxStore,
     pending: Pending,
     name: Atom,
-) -> Result<Told, AllocError>
+) -> Result<SharedReply, AllocError>
     ensures store { IfOk result (λ r. store.new ≡ store_next None store.old (Do pending.operation) (Some r)) }
     ensures answer { IfOk result (λ r. r ≡ reply.NoTable name) }
     ensures err { OnErr result (store.new ≡ store.old) }
 {
-    let (reply, told) = Told::pair(alloc, Reply::NoTable(name))?;
+    let (reply, told) = SharedReply::pair(alloc, Reply::NoTable(name))?;
     store.fail(pending.into_operation(), told)?;
     Ok(reply)
 }

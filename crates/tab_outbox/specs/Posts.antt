@@ -2,7 +2,7 @@
 use Rattle.std.specs.Prelude.{◌≡◌, ℕ, List, ◌∷◌, Some, None}
 use Rattle.tab_model.specs.declared.data.Item.{Item}
 use Rattle.tab_model.specs.State.{Outbox}
-use Rattle.tab_model.specs.Outcome.{takable}
+use Rattle.tab_model.specs.Outcome.{items_to_take}
 use Rattle.tab_outbox.specs.declared.refused.Refused.{Refused}
 use Rattle.tab_outbox.specs.declared.refused.Refused.TheVariants.{Full, Gone}
 
@@ -18,7 +18,7 @@ IsFull (Gone x) = ⊥
 
 -- the first item that can be taken is taken
 pub record GivesFirst (old new : Outbox) (x : Item) : Type 0 where
-  pub first : takable old old.capacity ≡ x ∷ new.items
+  pub first : items_to_take old old.capacity ≡ x ∷ new.items
   pub refusals : new.refusals ≡ old.refusals
   pub capacity : new.capacity ≡ old.capacity
   pub mailbox : new.mailbox ≡ old.mailbox

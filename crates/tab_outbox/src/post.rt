@@ -2,7 +2,7 @@
 
 ghost use Rattle.std.specs.Prelude.{◌≡◌, [], ◌∷◌, OnOk, IfErr, IfSome, MatchOption, is_err, length, nat_le};
 ghost use Rattle.tab_model.specs.State.{Outbox};
-ghost use Rattle.tab_model.specs.Outcome.{pushed, refused, takable};
+ghost use Rattle.tab_model.specs.Outcome.{with_items, with_refusal, items_to_take};
 ghost use Rattle.tab_outbox.specs.Posts.{refused_item, GivesFirst};
 
 use crate::refused::Refused;
@@ -20,13 +20,13 @@ pub trait Post {
     fn put(&mut self, item: Item) -> Result<(), Refused>
         ensures stays { stays self.old self.new }
         ensures decided { IfSome (outbox self.old).capacity (λ c. is_err result ≡ nat_le c (length (outbox self.old).items)) }
-        ensures ok { OnOk result (outbox self.new ≡ pushed (outbox self.old) (item ∷ [])) }
-        ensures err { IfErr result (λ r. (refused_item r ≡ item) × (outbox self.new ≡ refused (outbox self.old))) };
+        ensures ok { OnOk result (outbox self.new ≡ with_items (outbox self.old) (item ∷ [])) }
+        ensures err { IfErr result (λ r. (refused_item r ≡ item) × (outbox self.new ≡ with_refusal (outbox self.old))) };
 
     /// Takes the first item. Of a post without a capacity of its own the items are taken at its other end.
     fn pull(&mut self) -> Option<Item>
         ensures stays { stays self.old self.new }
-        ensures item { MatchOption result ((takable (outbox self.old) (outbox self.old).capacity ≡ []) × (outbox self.new ≡ outbox self.old)) (GivesFirst (outbox self.old) (outbox self.new)) };
+        ensures item { MatchOption result ((items_to_take (outbox self.old) (outbox self.old).capacity ≡ []) × (outbox self.new ≡ outbox self.old)) (GivesFirst (outbox self.old) (outbox self.new)) };
 
     /// How many puts were refused, up to the greatest 64 bit number.
     fn refusals(&self) -> u64

@@ -46,7 +46,7 @@ impl RingPost {
 impl Post for RingPost {
     ghost use Rattle.std.specs.Prelude.{◌≡◌, [], ◌∷◌, length, nat_le, refl, OnOk, IfErr, is_err};
     ghost use Rattle.std.proofs.Common.{◌∙◌};
-    ghost use Rattle.tab_model.specs.Outcome.{pushed, refused};
+    ghost use Rattle.tab_model.specs.Outcome.{with_items, with_refusal};
     ghost use Rattle.tab_outbox.specs.Posts.{as_outbox, refused_item, IsFull};
 
     ghost outbox = { λ s. as_outbox s };
@@ -60,8 +60,8 @@ impl Post for RingPost {
     fn put(&mut self, item: Item) -> Result<(), Refused>
         ensures stays { self.new.capacity ≡ self.old.capacity }
         ensures decided { is_err result ≡ nat_le self.old.capacity (length self.old.items) }
-        ensures ok { OnOk result (as_outbox self.new ≡ pushed (as_outbox self.old) (item ∷ [])) }
-        ensures err { IfErr result (λ r. (refused_item r ≡ item) × (as_outbox self.new ≡ refused (as_outbox self.old))) }
+        ensures ok { OnOk result (as_outbox self.new ≡ with_items (as_outbox self.old) (item ∷ [])) }
+        ensures err { IfErr result (λ r. (refused_item r ≡ item) × (as_outbox self.new ≡ with_refusal (as_outbox self.old))) }
         ensures full { IfErr result IsFull }
     {
         match self.items.try_push_back(item) {

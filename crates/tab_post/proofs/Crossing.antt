@@ -13,7 +13,7 @@ use Rattle.tab_lists.specs.contracts.events.EventTerms as event_terms
 use Rattle.tab_lists.specs.contracts.shared_terms.SharedTerms as shared_terms
 use Rattle.tab_model.specs.contracts.data.Item as item
 use Rattle.tab_post.specs.contracts.post.ChannelPost as post
-use Rattle.tab_post.specs.contracts.rule.Hand as hand
+use Rattle.tab_post.specs.contracts.rule.PassView as pass_view
 use Rattle.crossbeam_channel.specs.contracts.flavors.array.Doing as doing
 use Rattle.crossbeam_channel.specs.contracts.flavors.array.Key as key
 use Rattle.atomic_table.specs.contracts.shared.Seat as seat
@@ -44,8 +44,8 @@ item_send =
       ),
     )
 
-pass_send : IsSend (seat.the_row (badge.the_row (key.the_row item.the_row)) (doing.the_row item.the_row hand.the_row))
-pass_send = seat_marks.the_send (badge.the_row (key.the_row item.the_row)) (doing.the_row item.the_row hand.the_row) (badge_marks.the_send (key.the_row item.the_row))
+pass_send : IsSend (seat.the_row (badge.the_row (key.the_row item.the_row)) (doing.the_row item.the_row pass_view.the_row))
+pass_send = seat_marks.the_send (badge.the_row (key.the_row item.the_row)) (doing.the_row item.the_row pass_view.the_row) (badge_marks.the_send (key.the_row item.the_row))
 
 pub ChannelPost-send : (R : RattleType) → IsSend R → IsSend (post.the_row R)
 ChannelPost-send R r =

@@ -23,7 +23,7 @@ module _ {R : Type 0} where
 
   -- how many items the mailbox's channel can hold
   abbrev pub capacity_of : ChannelPost R → ℕ
-  capacity_of p = ruled_capacity (sends_on p.line)
+  capacity_of p = ruled_capacity (sends_on p.channel)
 
   -- as a post, it shows all that was ever sent, and no capacity decides what it refuses
   abbrev pub as_outbox : ChannelPost R → Outbox
@@ -31,15 +31,15 @@ module _ {R : Type 0} where
 
   -- the two ends of one mailbox
   abbrev pub AreEnds : ChannelPost R → Inbox R → Type 0
-  AreEnds p i = receives_on i.line ≡ sends_on p.line
+  AreEnds p i = receives_on i.channel ≡ sends_on p.channel
 
   -- the second is the first after some calls
   abbrev pub IsSamePost : ChannelPost R → ChannelPost R → Type 0
-  IsSamePost a b = sends_on b.line ≡ sends_on a.line
+  IsSamePost a b = sends_on b.channel ≡ sends_on a.channel
 
   -- the second inbox is the first after some calls
   abbrev pub IsSameInbox : Inbox R → Inbox R → Type 0
-  IsSameInbox a b = receives_on b.line ≡ receives_on a.line
+  IsSameInbox a b = receives_on b.channel ≡ receives_on a.channel
 
   -- a mailbox into which nothing was put
   pub record AreNew (capacity : ℕ) (p : ChannelPost R) (i : Inbox R) : Type 0 where

@@ -5,7 +5,7 @@ ghost use Rattle.tab_post.specs.Ends.{AreEnds, AreNew};
 
 use crate::inbox::Inbox;
 use crate::post::ChannelPost;
-use crate::rule::{Ends, Hand, InOrder};
+use crate::rule::{Ends, InOrder, PassView};
 use crossbeam_channel::bounded_with;
 use std::alloc::{AllocError, Global};
 use std::sync::Wait;
@@ -21,20 +21,20 @@ pub fn mailbox<R: Wait + Copy>(
     ensures ends { IfOk result (λ r. AreEnds r.0 r.1) }
     ensures new { IfOk result (λ r. AreNew capacity r.0 r.1) }
 {
-    let (sender, receiver, mut pass) = bounded_with::<Item, Hand, InOrder, Global>(
+    let (sender, receiver, mut pass) = bounded_with::<Item, PassView, InOrder, Global>(
         alloc, capacity,
     )?;
     let taking = sender.another::<Ends>(&mut pass);
     Ok((
         ChannelPost {
             rt,
-            line: sender,
+            channel: sender,
             pass,
             refusals: 0,
         },
         Inbox {
             rt,
-            line: receiver,
+            channel: receiver,
             pass: taking,
         },
     ))

@@ -3,9 +3,9 @@
 ghost use Rattle.std.specs.Prelude.{◌≡◌, [], true, false};
 ghost use Rattle.crossbeam_channel.specs.Claims.{view, IsSeatAt};
 ghost use Rattle.crossbeam_channel.specs.Ends.{receives_on};
-ghost use Rattle.tab_post.specs.Rule.{hand};
+ghost use Rattle.tab_post.specs.Rule.{pass_view};
 
-use crate::rule::{Hand, InOrder, Taken};
+use crate::rule::{InOrder, PassView, Taken};
 use crossbeam_channel::{Pass, RuledReceiver};
 use std::sync::Wait;
 use tab_outbox::Item;
@@ -14,10 +14,10 @@ use tab_outbox::Item;
 #[derive(Drop)]
 pub struct Inbox<R: Wait> {
     pub(crate) rt: R,
-    pub(crate) line: RuledReceiver<Item, Hand, InOrder>,
-    pub(crate) pass: Pass<Item, Hand>,
-    ghost seated: { IsSeatAt (receives_on line) pass },
-    ghost role: { view pass ≡ hand false true [] (view pass).taken },
+    pub(crate) channel: RuledReceiver<Item, PassView, InOrder>,
+    pub(crate) pass: Pass<Item, PassView>,
+    ghost seated: { IsSeatAt (receives_on channel) pass },
+    ghost role: { view pass ≡ pass_view false true [] (view pass).taken },
 }
 
 impl<R: Wait> Inbox<R> {
@@ -29,7 +29,9 @@ impl<R: Wait> Inbox<R> {
         ensures next { MatchOption result (taken_by self.new ≡ taken_by self.old) (λ x. taken_by self.new ≡ taken_by self.old ++ x ∷ []) }
         ensures stays { IsSameInbox self.old self.new }
     {
-        self.line.recv_as::<Taken, R>(&self.rt, &mut self.pass).ok()
+        self.channel
+            .recv_as::<Taken, R>(&self.rt, &mut self.pass)
+            .ok()
     }
 
     /// The next item that was sent, where it is there already.
@@ -37,7 +39,7 @@ impl<R: Wait> Inbox<R> {
         ensures next { MatchOption result (taken_by self.new ≡ taken_by self.old) (λ x. taken_by self.new ≡ taken_by self.old ++ x ∷ []) }
         ensures stays { IsSameInbox self.old self.new }
     {
-        self.line
+        self.channel
             .try_recv_as::<Taken, R>(&self.rt, &mut self.pass)
             .ok()
     }

@@ -15,5 +15,5 @@ mod rule;
 pub use ends::mailbox;
 pub use inbox::Inbox;
 pub use meeting::meet;
-pub use post::{ChannelPost, Line};
-pub use rule::{Hand, InOrder};
+pub use post::{Channel, ChannelPost};
+pub use rule::{InOrder, PassView};

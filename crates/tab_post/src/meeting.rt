@@ -1,4 +1,4 @@
-//! Both ends of a mailbox in one hand.
+//! Both ends of a mailbox in one pass_view.
 
 ghost use Rattle.std.specs.Prelude.{◌≡◌};
 ghost use Rattle.tab_post.specs.Ends.{as_outbox, sent_by, taken_by, AreEnds, IsSamePost, IsSameInbox};
@@ -19,16 +19,19 @@ pub fn meet<R: Wait>(post: &mut ChannelPost<R>, inbox: &mut Inbox<R>) -> Met
     ensures met { Takes (sent_by post.new) (taken_by inbox.old) result (taken_by inbox.new) }
 {
     // The two passes become one of both ends, which learns how what was taken stands to what was sent.
-    let spare = post.line.another::<Idle>(&mut post.pass);
+    let spare = post.channel.another::<Idle>(&mut post.pass);
     let taking = mem::replace(&mut inbox.pass, spare);
-    post.line.absorb::<Ends>(&mut post.pass, taking);
-    match inbox.line.try_recv_as::<Meets, R>(&post.rt, &mut post.pass) {
+    post.channel.absorb::<Ends>(&mut post.pass, taking);
+    match inbox
+        .channel
+        .try_recv_as::<Meets, R>(&post.rt, &mut post.pass)
+    {
         Ok(item) => {
-            inbox.pass = post.line.another::<Ends>(&mut post.pass);
+            inbox.pass = post.channel.another::<Ends>(&mut post.pass);
             Met::Going(item)
         }
         Err(_) => {
-            inbox.pass = post.line.another::<Ends>(&mut post.pass);
+            inbox.pass = post.channel.another::<Ends>(&mut post.pass);
             Met::All
         }
     }

@@ -3,40 +3,40 @@
 ghost use Rattle.std.specs.Prelude.{◌≡◌, [], true, false};
 ghost use Rattle.crossbeam_channel.specs.Claims.{view, IsSeatAt};
 ghost use Rattle.crossbeam_channel.specs.Ends.{sends_on};
-ghost use Rattle.tab_post.specs.Rule.{hand};
+ghost use Rattle.tab_post.specs.Rule.{pass_view};
 
-use crate::rule::{Hand, InOrder, Sent};
+use crate::rule::{InOrder, PassView, Sent};
 use crossbeam_channel::{Pass, RuledSender, TrySendError};
 use std::sync::Wait;
 use tab_outbox::{Item, Post, Refused};
 
 /// What names a mailbox: its channel, as its sender knows it.
-pub type Line = RuledSender<Item, Hand, InOrder>;
+pub type Channel = RuledSender<Item, PassView, InOrder>;
 
 /// The sending end of a mailbox.
 #[derive(Drop)]
 pub struct ChannelPost<R: Wait> {
     pub(crate) rt: R,
-    pub(crate) line: Line,
-    pub(crate) pass: Pass<Item, Hand>,
+    pub(crate) channel: Channel,
+    pub(crate) pass: Pass<Item, PassView>,
     pub(crate) refusals: u64,
-    ghost seated: { IsSeatAt (sends_on line) pass },
-    ghost role: { view pass ≡ hand true false (view pass).sent [] },
+    ghost seated: { IsSeatAt (sends_on channel) pass },
+    ghost role: { view pass ≡ pass_view true false (view pass).sent [] },
 }
 
 impl<R: Wait> ChannelPost<R> {
     /// What names its mailbox.
-    pub fn line(&self) -> &Line
-        ensures { result.now ≡ self.now.line }
+    pub fn channel(&self) -> &Channel
+        ensures { result.now ≡ self.now.channel }
     {
-        &self.line
+        &self.channel
     }
 }
 
 impl<R: Wait> Post for ChannelPost<R> {
     ghost use Rattle.std.specs.Prelude.{◌≡◌, [], ◌∷◌, OnOk, IfErr, IfSome, IsNone, is_err, length, nat_le, refl};
     ghost use Rattle.std.proofs.Common.{◌∙◌};
-    ghost use Rattle.tab_model.specs.Outcome.{pushed, refused};
+    ghost use Rattle.tab_model.specs.Outcome.{with_items, with_refusal};
     ghost use Rattle.tab_outbox.specs.Posts.{refused_item, IsFull};
     ghost use Rattle.tab_post.specs.Ends.{as_outbox, sent_by, capacity_of, IsSamePost, WasFull};
 
@@ -52,12 +52,12 @@ impl<R: Wait> Post for ChannelPost<R> {
     fn put(&mut self, item: Item) -> Result<(), Refused>
         ensures stays { IsSamePost self.old self.new }
         ensures decided { IfSome (as_outbox self.old).capacity (λ c. is_err result ≡ nat_le c (length (as_outbox self.old).items)) }
-        ensures ok { OnOk result (as_outbox self.new ≡ pushed (as_outbox self.old) (item ∷ [])) }
-        ensures err { IfErr result (λ r. (refused_item r ≡ item) × (as_outbox self.new ≡ refused (as_outbox self.old))) }
+        ensures ok { OnOk result (as_outbox self.new ≡ with_items (as_outbox self.old) (item ∷ [])) }
+        ensures err { IfErr result (λ r. (refused_item r ≡ item) × (as_outbox self.new ≡ with_refusal (as_outbox self.old))) }
         ensures full { IfErr result (λ r. IsFull r → WasFull (capacity_of self.old) (sent_by self.old)) }
     {
         match self
-            .line
+            .channel
             .try_send_as::<Sent, R>(&self.rt, &mut self.pass, item)
         {
             Ok(()) => Ok(()),

@@ -4,7 +4,7 @@ use std::collections::LinkedList;
 use tab_outbox::Item;
 
 /// What a pass knows: which ends it stands for, what was sent by it and what was taken by it. No value of it is made.
-pub struct Hand {
+pub struct PassView {
     pub sends: bool,
     pub takes: bool,
     pub sent: LinkedList<Item>,
@@ -14,60 +14,60 @@ pub struct Hand {
 /// What was sent is what was taken, followed by what the channel holds.
 pub struct InOrder;
 
-impl Protocol<Item, Hand> for InOrder {
+impl Protocol<Item, PassView> for InOrder {
     ghost use Rattle.std.specs.Prelude.{true, []};
-    ghost use Rattle.tab_post.specs.Rule.{hand, Relayed};
+    ghost use Rattle.tab_post.specs.Rule.{pass_view, Relayed};
 
     ghost holds = { Relayed };
 
-    ghost first = { hand true true [] [] };
+    ghost first = { pass_view true true [] [] };
 }
 
 /// A pass of both ends is cut in two, and two are joined.
 pub struct Ends;
 
-impl Split<Hand> for Ends {
+impl Split<PassView> for Ends {
     ghost use Rattle.std.specs.Prelude.{true, false, []};
-    ghost use Rattle.tab_post.specs.Rule.{hand};
+    ghost use Rattle.tab_post.specs.Rule.{pass_view};
 
-    ghost left = { λ v. hand true false v.sent [] };
+    ghost left = { λ v. pass_view true false v.sent [] };
 
-    ghost right = { λ v. hand false true [] v.taken };
+    ghost right = { λ v. pass_view false true [] v.taken };
 }
 
-impl Join<Hand> for Ends {
+impl Join<PassView> for Ends {
     ghost use Rattle.std.specs.Prelude.{true, false, []};
-    ghost use Rattle.tab_post.specs.Rule.{hand};
+    ghost use Rattle.tab_post.specs.Rule.{pass_view};
 
-    ghost both = { λ v w. hand true true v.sent w.taken };
+    ghost both = { λ v w. pass_view true true v.sent w.taken };
 
-    ghost spent = { hand false false [] [] };
+    ghost spent = { pass_view false false [] [] };
 }
 
 /// A further pass, which stands for no end.
 pub struct Idle;
 
-impl Split<Hand> for Idle {
+impl Split<PassView> for Idle {
     ghost use Rattle.std.specs.Prelude.{false, []};
-    ghost use Rattle.tab_post.specs.Rule.{hand};
+    ghost use Rattle.tab_post.specs.Rule.{pass_view};
 
     ghost left = { λ v. v };
 
-    ghost right = { λ v. hand false false [] [] };
+    ghost right = { λ v. pass_view false false [] [] };
 }
 
 /// A send, which appends.
 pub struct Sent;
 
-impl Outcome<Item, Hand> for Sent {
+impl Outcome<Item, PassView> for Sent {
     ghost use Rattle.std.specs.Prelude.{◌≡◌, [], ◌∷◌, ◌++◌};
-    ghost use Rattle.tab_post.specs.Rule.{hand};
+    ghost use Rattle.tab_post.specs.Rule.{pass_view};
 
-    ghost then = { λ v x w. w ≡ hand v.sends v.takes (v.sent ++ x ∷ []) v.taken };
+    ghost then = { λ v x w. w ≡ pass_view v.sends v.takes (v.sent ++ x ∷ []) v.taken };
 }
 
 /// The channel was full, of the last items that were sent.
-impl Lesson<Item, Hand> for Sent {
+impl Lesson<Item, PassView> for Sent {
     ghost use Rattle.tab_post.specs.Rule.{EndsWith};
 
     ghost fact = { λ v items. EndsWith v.sent items };
@@ -76,15 +76,15 @@ impl Lesson<Item, Hand> for Sent {
 /// A receive, which takes the front.
 pub struct Taken;
 
-impl Outcome<Item, Hand> for Taken {
+impl Outcome<Item, PassView> for Taken {
     ghost use Rattle.std.specs.Prelude.{◌≡◌, [], ◌∷◌, ◌++◌};
-    ghost use Rattle.tab_post.specs.Rule.{hand};
+    ghost use Rattle.tab_post.specs.Rule.{pass_view};
 
-    ghost then = { λ v x w. w ≡ hand v.sends v.takes v.sent (v.taken ++ x ∷ []) };
+    ghost then = { λ v x w. w ≡ pass_view v.sends v.takes v.sent (v.taken ++ x ∷ []) };
 }
 
 /// A pass that takes alone learns nothing of an empty channel, since more may be sent at once.
-impl Lesson<Item, Hand> for Taken {
+impl Lesson<Item, PassView> for Taken {
     ghost use Rattle.std.specs.Prelude.{⊤};
 
     ghost fact = { λ v items. ⊤ };
@@ -93,16 +93,16 @@ impl Lesson<Item, Hand> for Taken {
 /// A receive by a pass of both ends.
 pub struct Meets;
 
-impl Outcome<Item, Hand> for Meets {
+impl Outcome<Item, PassView> for Meets {
     ghost use Rattle.std.specs.Prelude.{◌≡◌, [], ◌∷◌, ◌++◌};
     ghost use Rattle.tab_outbox.specs.Mailboxes.{StartsWith};
-    ghost use Rattle.tab_post.specs.Rule.{hand};
+    ghost use Rattle.tab_post.specs.Rule.{pass_view};
 
-    ghost then = { λ v x w. (w ≡ hand v.sends v.takes v.sent (v.taken ++ x ∷ [])) × StartsWith v.sent (v.taken ++ x ∷ []) };
+    ghost then = { λ v x w. (w ≡ pass_view v.sends v.takes v.sent (v.taken ++ x ∷ [])) × StartsWith v.sent (v.taken ++ x ∷ []) };
 }
 
 /// The channel was empty: all that was sent was taken.
-impl Lesson<Item, Hand> for Meets {
+impl Lesson<Item, PassView> for Meets {
     ghost use Rattle.std.specs.Prelude.{◌≡◌, ◌++◌};
 
     ghost fact = { λ v items. v.sent ≡ v.taken ++ items };

@@ -78,7 +78,7 @@ pub(crate) fn outline_of(reply: &Reply) -> Outline<'_>
         Reply::NotSubscribed(table) => told_in("error", "not_subscribed", named(table)),
         Reply::AtomicTerms(answers) => worded("atomic", Leaf::answers(answers)),
         Reply::Found(rows) => alone(Leaf::shared(rows)),
-        Reply::Told(info) => info_outline(info),
+        Reply::TableInfo(info) => info_outline(info),
         Reply::Taken(item) => item_outline(item),
         Reply::SystemLimit(limit) => {
             told_in("error", "system_limit", short(reply, limit_word(*limit)))

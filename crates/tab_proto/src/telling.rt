@@ -8,11 +8,11 @@ ghost use Rattle.tab_proto.specs.Replies.{reply_term, is_told};
 use crate::building::{name, pair, triple, word};
 use std::alloc::{AllocError, Global};
 use tab_lists::Answer;
-use tab_model::{Reply, Told};
+use tab_model::{Reply, SharedReply};
 
 /// The answer that a reply to an operation or to an abort is. A list is handed on as it stands:
 /// memory is taken for the reason of an abort alone.
-pub fn answer_of(alloc: Global, told: Told) -> Result<Answer, AllocError>
+pub fn answer_of(alloc: Global, told: SharedReply) -> Result<Answer, AllocError>
     requires { is_told told ≡ true }
     ensures { IfOk result (λ a. answer_term a ≡ reply_term told) }
 {

@@ -62,11 +62,11 @@ fn entry_with<'a>(records: &'a Map<Term, Records>, row: &Term) -> Option<&'a Ent
 pub fn entry_of(
     alloc: Global,
     row: &Term,
-    lent: Option<&Map<Term, Records>>,
+    lender: Option<&Map<Term, Records>>,
 ) -> Result<Entry<Term, Records>, AllocError>
     ensures { IfOk result (IsOnly (term row.now)) }
 {
-    if let Some(records) = lent {
+    if let Some(records) = lender {
         if let Some(entry) = entry_with(records, row) {
             return entry.try_clone();
         }

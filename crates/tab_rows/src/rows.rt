@@ -170,14 +170,14 @@ impl Rows {
         &mut self,
         alloc: Global,
         row: &Term,
-        lent: Option<&Map<Term, Records>>,
+        lender: Option<&Map<Term, Records>>,
     ) -> Result<(), AllocError>
         ensures ok { OnOk result (self.new ≡ (self.old.0, put_in self.old.0 self.old.1 (term row.now))) }
         ensures err { OnErr result (self.new ≡ self.old) }
     {
         match self.kind {
-            Kind::Set => self.set(alloc, row, lent),
-            Kind::Bag => self.add(alloc, row, lent),
+            Kind::Set => self.set(alloc, row, lender),
+            Kind::Bag => self.add(alloc, row, lender),
         }
     }
 
@@ -185,14 +185,14 @@ impl Rows {
         &mut self,
         alloc: Global,
         row: &Term,
-        lent: Option<&Map<Term, Records>>,
+        lender: Option<&Map<Term, Records>>,
     ) -> Result<(), AllocError>
         requires kind { self.old.0 ≡ Kind.Set }
         ensures ok { OnOk result (self.new ≡ (self.old.0, put_in self.old.0 self.old.1 (term row.now))) }
         ensures err { OnErr result (self.new ≡ self.old) }
     {
         let size = one_more(self.size)?;
-        let entry = entry_of(alloc, row, lent)?;
+        let entry = entry_of(alloc, row, lender)?;
         let before = replace(&mut self.records, alloc, entry)?;
         self.size = size - before;
         Ok(())
@@ -202,7 +202,7 @@ impl Rows {
         &mut self,
         alloc: Global,
         row: &Term,
-        lent: Option<&Map<Term, Records>>,
+        lender: Option<&Map<Term, Records>>,
     ) -> Result<(), AllocError>
         requires kind { self.old.0 ≡ Kind.Bag }
         ensures ok { OnOk result (self.new ≡ (self.old.0, put_in self.old.0 self.old.1 (term row.now))) }
@@ -210,7 +210,7 @@ impl Rows {
     {
         let key = copy_of_key(alloc, row)?;
         let Some(records) = self.records.get(&key) else {
-            return self.add_first(alloc, row, lent);
+            return self.add_first(alloc, row, lender);
         };
         if records.contains(row) {
             return Ok(());
@@ -226,7 +226,7 @@ impl Rows {
         &mut self,
         alloc: Global,
         row: &Term,
-        lent: Option<&Map<Term, Records>>,
+        lender: Option<&Map<Term, Records>>,
     ) -> Result<(), AllocError>
         requires kind { self.old.0 ≡ Kind.Bag }
         requires absent { at self.old.1 (key_of_row (term row.now)) ≡ [] }
@@ -234,7 +234,7 @@ impl Rows {
         ensures err { OnErr result (self.new ≡ self.old) }
     {
         let size = one_more(self.size)?;
-        let entry = entry_of(alloc, row, lent)?;
+        let entry = entry_of(alloc, row, lender)?;
         self.records.insert_entry(alloc, entry)?;
         self.size = size;
         Ok(())

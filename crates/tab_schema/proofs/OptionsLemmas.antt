@@ -5,7 +5,7 @@ use Rattle.tab_term.specs.Data.{PlainTerm}
 use Rattle.tab_term.specs.View.{term, terms}
 use Rattle.tab_term.specs.declared.term.Term.{Term}
 use Rattle.tab_model.specs.Names.{has_name}
-use Rattle.tab_model.specs.Definitions.{value_of, value_in, option_name, with_name, is_option, bad_option, is_new_name}
+use Rattle.tab_model.specs.Definitions.{value_of, value_in, option_name, with_name, is_named, bad_option, is_new_name}
 use Rattle.std.specs.Option.{option_copied}
 use Rattle.tab_schema.specs.Options.{first_value, option_term}
 
@@ -15,7 +15,7 @@ or_else other (Some t) = t
 
 pub value_is : (tab n : List ℕ) (other : PlainTerm) (os : List Term) → value_of tab n other (terms os) ≡ or_else other (first_value tab n os)
 value_is tab n other [] = refl
-value_is tab n other (o ∷ os) = cases (is_option n (option_name tab (term o))) (value_is tab n other os)
+value_is tab n other (o ∷ os) = cases (is_named n (option_name tab (term o))) (value_is tab n other os)
   where
     cases : (b : Bool) → value_of tab n other (terms os) ≡ or_else other (first_value tab n os)
         → (if b then value_in (term o) else value_of tab n other (terms os)) ≡ or_else other (if b then Some (value_in (term o)) else first_value tab n os)
@@ -46,9 +46,9 @@ is_among tab n seen (o ∷ os) = is_among tab n (with_name seen (option_name tab
     cases false true c v rest p = refl
     cases false false c v rest p = p
 
-    named : (m : Option (List ℕ)) → (has_name (with_name seen m) n || is_some (first_value tab n os)) ≡ (has_name seen n || is_some (if is_option n m then Some (value_in (term o)) else first_value tab n os))
+    named : (m : Option (List ℕ)) → (has_name (with_name seen m) n || is_some (first_value tab n os)) ≡ (has_name seen n || is_some (if is_named n m then Some (value_in (term o)) else first_value tab n os))
     named None = refl
-    named (Some s) = cases (is_option n (Some s)) (has_name seen n) (is_some (first_value tab n os)) (value_in (term o)) (first_value tab n os) refl
+    named (Some s) = cases (is_named n (Some s)) (has_name seen n) (is_some (first_value tab n os)) (value_in (term o)) (first_value tab n os) refl
 
 -- the option at n, where its name is known
 step_at : (tab n : List ℕ) (options : List Term) (i : ℕ) (o : Term) (b : Bool) → i < length options → o ≡ get_or options i o → option_name tab (term o) ≡ Some n → is_some (first_value tab n (take i options)) ≡ b

@@ -3,7 +3,7 @@ use Rattle.std.specs.Prelude.{ℕ, List, [], ◌∷◌, Option, Some, None, if�
 use Rattle.tab_term.specs.Data.{PlainTerm}
 use Rattle.tab_term.specs.View.{term}
 use Rattle.tab_term.specs.declared.term.Term.{Term}
-use Rattle.tab_model.specs.Definitions.{option_name, is_option, value_in}
+use Rattle.tab_model.specs.Definitions.{option_name, is_named, value_in}
 use Rattle.tab_schema.specs.declared.fault.DefFault.{DefFault}
 use Rattle.tab_schema.specs.declared.fault.DefFault.TheVariants.{Bad, NoMemory}
 
@@ -20,4 +20,4 @@ option_term (Some t) = Some (term t)
 -- the value of the first option of a name
 abbrev pub first_value : List ℕ → List ℕ → List Term → Option PlainTerm
 first_value tab n [] = None
-first_value tab n (o ∷ os) = if is_option n (option_name tab (term o)) then Some (value_in (term o)) else first_value tab n os
+first_value tab n (o ∷ os) = if is_named n (option_name tab (term o)) then Some (value_in (term o)) else first_value tab n os

@@ -5,7 +5,7 @@ ghost use Rattle.std.specs.Option.{option_copied};
 ghost use Rattle.tab_term.specs.Data.{atom as atom_of, list as list_of, pair};
 ghost use Rattle.tab_term.specs.Same.{same};
 ghost use Rattle.tab_term.specs.View.{term, terms};
-ghost use Rattle.tab_model.specs.Definitions.{parse_options as parsed, Good, Bad, bad_option as bad_option_of, option_name, value_in, value_of as value_in_options, is_option, is_value as is_value_of, kind_in, attributes_in as attributes_in_term, default_names, with_index};
+ghost use Rattle.tab_model.specs.Definitions.{parse_options as parsed, Good, Bad, bad_option as bad_option_of, option_name, value_in, value_of as value_in_options, is_named, is_value as is_value_of, kind_in, attributes_in as attributes_in_term, default_names, with_index_option};
 ghost use Rattle.tab_schema.specs.Options.{Blames, first_value, option_term};
 
 use crate::attributes::attributes_in;
@@ -144,8 +144,8 @@ fn default_attributes(alloc: Global) -> Result<Atoms, AllocError>
 /// last to the first, so that the fault that stays is the first one.
 fn indexed(alloc: Global, def: TableDef, entries: &[Term]) -> Result<TableDef, DefFault>
     requires { def.indexes ≡ [] }
-    ensures ok { IfOk result (λ d. with_index def (list_of (terms entries.now)) ≡ Good d) }
-    ensures bad { IfErr result (Blames (λ what. with_index def (list_of (terms entries.now)) ≡ Bad what)) }
+    ensures ok { IfOk result (λ d. with_index_option def (list_of (terms entries.now)) ≡ Good d) }
+    ensures bad { IfErr result (Blames (λ what. with_index_option def (list_of (terms entries.now)) ≡ Bad what)) }
 {
     let mut indexes = Vec::new(alloc);
     let mut fault = None;

@@ -14,13 +14,13 @@ use std::{io, thread};
 use tab_book::{JoinFault, Seat, Shared};
 use tab_model::{Limit, Reply};
 use tab_named::SeatInbox;
-use tab_names::House;
+use tab_names::Host;
 use tab_proto::append_reply;
 
 /// Accepts so many connections, and serves each until its session has ended. Ends when all have; with an error where an
 /// accept failed, which ends the accepting.
-pub fn serve<H: House + Threads + Send + Sync, G: Gate + Notes + Sync>(
-    house: &H,
+pub fn serve<H: Host + Threads + Send + Sync, G: Gate + Notes + Sync>(
+    host: &H,
     alloc: Global,
     listener: &TcpListener,
     shared: &Shared<H>,
@@ -28,20 +28,20 @@ pub fn serve<H: House + Threads + Send + Sync, G: Gate + Notes + Sync>(
     settings: Settings,
     gate: &G,
 ) -> io::Result<()> {
-    thread::scope(thread::scope_env(), house, |scope| {
+    thread::scope(thread::scope_env(), host, |scope| {
         for _ in 0..connections {
             let (stream, _peer) = listener.accept()?;
             let Ok(streams) = Streams::of(stream, settings) else {
                 continue;
             };
-            let Ok((seat, inbox)) = shared.join(house) else {
+            let Ok((seat, inbox)) = shared.join(host) else {
                 continue;
             };
             let started = scope.spawn(move || {
-                serve_connection(house, alloc, shared, &seat, inbox, streams, gate);
+                serve_connection(host, alloc, shared, &seat, inbox, streams, gate);
             });
             if started.is_err() {
-                shared.leave(house, &seat);
+                shared.leave(host, &seat);
             }
         }
         Ok(())
@@ -50,8 +50,8 @@ pub fn serve<H: House + Threads + Send + Sync, G: Gate + Notes + Sync>(
 
 /// Serves connections for good, at once as many as the book has room for sessions. One that finds no seat is told so and closed.
 /// Where an accept, a join or a thread is refused it says so, and goes on after a pause.
-pub fn serve_forever<H: House + Threads + Send + Sync, G: Gate + Notes + Sync>(
-    house: &H,
+pub fn serve_forever<H: Host + Threads + Send + Sync, G: Gate + Notes + Sync>(
+    host: &H,
     alloc: Global,
     listener: &TcpListener,
     shared: &Shared<H>,
@@ -59,13 +59,13 @@ pub fn serve_forever<H: House + Threads + Send + Sync, G: Gate + Notes + Sync>(
     gate: &G,
 ) {
     let mut troubles = Troubles::new(gate);
-    thread::scope(thread::scope_env(), house, |scope| {
-        for _ in house.forever() {
+    thread::scope(thread::scope_env(), host, |scope| {
+        for _ in host.forever() {
             let Ok(streams) = accepted(listener, settings) else {
-                troubles.tell(house, Note::NotAccepted);
+                troubles.tell(host, Note::NotAccepted);
                 continue;
             };
-            let (seat, inbox) = match shared.join(house) {
+            let (seat, inbox) = match shared.join(host) {
                 Ok(joined) => joined,
                 Err(JoinFault::Limit) => {
                     gate.note(Note::NoSeat);
@@ -73,16 +73,16 @@ pub fn serve_forever<H: House + Threads + Send + Sync, G: Gate + Notes + Sync>(
                     continue;
                 }
                 Err(JoinFault::NoMemory) => {
-                    troubles.tell(house, Note::NoMemory);
+                    troubles.tell(host, Note::NoMemory);
                     continue;
                 }
             };
             let started = scope.spawn(move || {
-                serve_connection(house, alloc, shared, &seat, inbox, streams, gate);
+                serve_connection(host, alloc, shared, &seat, inbox, streams, gate);
             });
             if started.is_err() {
-                shared.leave(house, &seat);
-                troubles.tell(house, Note::NoThread);
+                shared.leave(host, &seat);
+                troubles.tell(host, Note::NoThread);
                 continue;
             }
             troubles.are_over();
@@ -105,8 +105,8 @@ fn turn_away(alloc: Global, streams: Streams) {
 }
 
 /// Serves one session's connection until it has ended.
-fn serve_connection<H: House + Threads + Send + Sync, G: Gate + Notes + Sync>(
-    house: &H,
+fn serve_connection<H: Host + Threads + Send + Sync, G: Gate + Notes + Sync>(
+    host: &H,
     alloc: Global,
     shared: &Shared<H>,
     seat: &Seat,
@@ -116,9 +116,9 @@ fn serve_connection<H: House + Threads + Send + Sync, G: Gate + Notes + Sync>(
 ) {
     gate.note(Note::Started(seat.session()));
     let (connection, reader) = Connection::new(streams);
-    let ending = serve_streams(house, alloc, shared, seat, inbox, &connection, reader, gate);
-    shared.leave(house, seat);
-    if matches!(ending, Ending::Idle) || connection.has_stalled(house) {
+    let ending = serve_streams(host, alloc, shared, seat, inbox, &connection, reader, gate);
+    shared.leave(host, seat);
+    if matches!(ending, Ending::Idle) || connection.has_stalled(host) {
         gate.note(Note::Idle(seat.session()));
     }
     gate.note(Note::Ended(seat.session()));
@@ -126,8 +126,8 @@ fn serve_connection<H: House + Threads + Send + Sync, G: Gate + Notes + Sync>(
 
 /// Answers requests in this thread, beside one that sends events and one that watches. Nothing is answered where one of
 /// them can't be started.
-fn serve_streams<H: House + Threads + Send + Sync, G: Gate + Notes + Sync>(
-    house: &H,
+fn serve_streams<H: Host + Threads + Send + Sync, G: Gate + Notes + Sync>(
+    host: &H,
     alloc: Global,
     shared: &Shared<H>,
     seat: &Seat,
@@ -136,20 +136,20 @@ fn serve_streams<H: House + Threads + Send + Sync, G: Gate + Notes + Sync>(
     mut reader: TcpStream,
     gate: &G,
 ) -> Ending {
-    thread::scope(thread::scope_env(), house, |scope| {
-        let watching = scope.spawn(move || connection.watch_for(house, alloc, shared, seat));
+    thread::scope(thread::scope_env(), host, |scope| {
+        let watching = scope.spawn(move || connection.watch_for(host, alloc, shared, seat));
         if watching.is_err() {
             return Ending::Over;
         }
         let sending = scope.spawn(move || {
-            connection.send_events(house, alloc, shared, seat, &mut inbox, gate);
+            connection.send_events(host, alloc, shared, seat, &mut inbox, gate);
         });
         if sending.is_err() {
-            connection.watch.stop(house);
+            connection.watch.stop(host);
             return Ending::Over;
         }
         serve_session(
-            house,
+            host,
             alloc,
             shared,
             seat,

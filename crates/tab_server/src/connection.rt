@@ -12,7 +12,7 @@ use std::net::{Shutdown, TcpStream};
 use std::sync::Wait;
 use tab_book::{Seat, Shared};
 use tab_named::SeatInbox;
-use tab_names::House;
+use tab_names::Host;
 use tab_proto::Delivery;
 use tab_sink::FrameSink;
 
@@ -76,9 +76,9 @@ impl Connection {
     }
 
     /// Sends the session's events until it has left, and closes the connection.
-    pub fn send_events<H: House, N: Notes>(
+    pub fn send_events<H: Host, N: Notes>(
         &self,
-        house: &H,
+        host: &H,
         alloc: Global,
         shared: &Shared<H>,
         seat: &Seat,
@@ -86,7 +86,7 @@ impl Connection {
         notes: &N,
     ) {
         event_loop(
-            house,
+            host,
             alloc,
             shared,
             seat,
@@ -100,29 +100,29 @@ impl Connection {
 
     /// Waits, while a request waits for a lock, for the end of the stream, at which the session leaves, or for an abort that ends
     /// the wait. Where other requests stand in the stream neither is seen, but that the client has broken off.
-    pub fn watch_for<H: House>(&self, house: &H, alloc: Global, shared: &Shared<H>, seat: &Seat) {
-        for _ in house.forever() {
-            let Some(wait) = self.watch.wanted(house) else {
+    pub fn watch_for<H: Host>(&self, host: &H, alloc: Global, shared: &Shared<H>, seat: &Seat) {
+        for _ in host.forever() {
+            let Some(wait) = self.watch.wanted(host) else {
                 return;
             };
             match next_on(alloc, &self.stream, wait.hears) {
                 // An end that comes later, while no request waits, is for the thread that reads.
-                Next::End if self.watch.waits(house, wait) => {
-                    shared.leave(house, seat);
+                Next::End if self.watch.waits(host, wait) => {
+                    shared.leave(host, seat);
                     return;
                 }
                 Next::Abort => {
-                    if self.watch.abort(house, wait) {
+                    if self.watch.abort(host, wait) {
                         shared.wake(seat);
                     }
-                    self.watch.over(house, wait);
+                    self.watch.over(host, wait);
                 }
-                Next::Other | Next::Part
-                    if self.has_broken_off() && self.watch.waits(house, wait) => {
-                    shared.leave(house, seat);
-                    return;
-                }
-                Next::Other | Next::Part => pause(house),
+                Next::Other | Next::Part if self.has_broken_off() && self.watch.waits(host, wait) =>
+                    {
+                        shared.leave(host, seat);
+                        return;
+                    }
+                Next::Other | Next::Part => pause(host),
                 // It waits for longer than it may be idle, which is not by its own doing.
                 Next::End | Next::Nothing => {}
             }

@@ -10,14 +10,14 @@ use tab_book::{Drained, Seat, Shared};
 use tab_etf::event_len;
 use tab_model::Item;
 use tab_named::SeatInbox;
-use tab_names::House;
+use tab_names::Host;
 use tab_proto::{Delivery, append_item, append_overflow, write_item};
 use tab_sink::FrameSink;
 
 /// Sends what comes into the inbox, in order, until the session has left and nothing is left, or a write fails, or no
 /// memory is found for an event. Items that are there at once are written at once.
-pub fn event_loop<H: House, W: Write, N: Notes>(
-    house: &H,
+pub fn event_loop<H: Host, W: Write, N: Notes>(
+    host: &H,
     alloc: Global,
     shared: &Shared<H>,
     seat: &Seat,
@@ -27,7 +27,7 @@ pub fn event_loop<H: House, W: Write, N: Notes>(
     notes: &N,
 ) {
     let mut events = Events {
-        house,
+        host,
         shared,
         seat,
         inbox,
@@ -36,7 +36,7 @@ pub fn event_loop<H: House, W: Write, N: Notes>(
         notes,
         frames: Vec::new(alloc),
     };
-    for _ in house.forever() {
+    for _ in host.forever() {
         let Some(item) = events.inbox.receive() else {
             return;
         };
@@ -64,8 +64,8 @@ fn is_long(item: &Item) -> bool {
 
 /// The events of a session on their way to its connection.
 #[derive(Drop)]
-struct Events<'a, H: House, W: Write, N: Notes> {
-    house: &'a H,
+struct Events<'a, H: Host, W: Write, N: Notes> {
+    host: &'a H,
     shared: &'a Shared<H>,
     seat: &'a Seat,
     inbox: &'a mut SeatInbox<H>,
@@ -75,14 +75,14 @@ struct Events<'a, H: House, W: Write, N: Notes> {
     frames: Vec<u8>,
 }
 
-impl<'a, H: House, W: Write, N: Notes> Events<'a, H, W, N> {
+impl<'a, H: Host, W: Write, N: Notes> Events<'a, H, W, N> {
     /// Sends the item and all that is there behind it. A post refuses only where its mailbox is full, and what that held is
     /// received then before the inbox is found empty: where fewer items came than it may hold, nothing was refused, and the
     /// book need not be asked.
     fn send_from(&mut self, first: &Item) -> Result<(), Unwritten> {
         self.keep(first)?;
         let mut count: usize = 1;
-        for _ in self.house.forever() {
+        for _ in self.host.forever() {
             let Some(item) = self.inbox.try_receive() else {
                 break;
             };
@@ -97,8 +97,8 @@ impl<'a, H: House, W: Write, N: Notes> Events<'a, H, W, N> {
 
     /// Keeps what is left, and an overflow that was not told yet.
     fn keep_rest(&mut self) -> Result<(), Unwritten> {
-        for _ in self.house.forever() {
-            match self.shared.drained(self.house, self.seat, self.inbox) {
+        for _ in self.host.forever() {
+            match self.shared.drained(self.host, self.seat, self.inbox) {
                 Drained::Going(item) => self.keep(&item)?,
                 Drained::Overflow(number) => {
                     self.notes
@@ -128,7 +128,7 @@ impl<'a, H: House, W: Write, N: Notes> Events<'a, H, W, N> {
     /// Sends an item behind those that are kept, piece by piece.
     fn send_long(&mut self, item: &Item) -> Result<(), Unwritten> {
         let delivery = self.delivery;
-        let written = send_pieces(self.house, self.sink, &mut self.frames, |pieces| {
+        let written = send_pieces(self.host, self.sink, &mut self.frames, |pieces| {
             write_item(pieces, item, delivery)
         })?;
         self.notes.count(Count::Written, written);
@@ -137,7 +137,7 @@ impl<'a, H: House, W: Write, N: Notes> Events<'a, H, W, N> {
 
     /// Sends what is kept.
     fn send(&mut self) -> Result<(), Unwritten> {
-        self.sink.send(self.house, &self.frames)?;
+        self.sink.send(self.host, &self.frames)?;
         self.notes.count(Count::Written, self.frames.len() as u64);
         empty(&mut self.frames);
         Ok(())

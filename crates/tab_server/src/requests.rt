@@ -13,8 +13,8 @@ use std::alloc::Global;
 use std::io::{ErrorKind, Read, Write};
 use tab_book::{Held, Seat, Shared};
 use tab_etf::{EtfFault, Frame, FrameFault, Splitter, decode};
-use tab_model::{Command, Reply, Told};
-use tab_names::House;
+use tab_model::{Command, Reply, SharedReply};
+use tab_names::Host;
 use tab_oneshot::{Steps, one_shot};
 use tab_proto::{ProtoFault, read_command};
 use tab_sink::FrameSink;
@@ -25,9 +25,9 @@ const PIECE: usize = 65_536;
 
 /// What a session is served with.
 #[derive(Drop)]
-pub struct Served<'a, H: House, W: Write, G: Gate> {
+pub struct Served<'a, H: Host, W: Write, G: Gate> {
     pub alloc: Global,
-    pub house: &'a H,
+    pub host: &'a H,
     pub shared: &'a Shared<H>,
     pub seat: Seat,
     pub watch: &'a Watch,
@@ -51,8 +51,8 @@ pub enum Ending {
 
 /// Answers the requests of a session in order, until its stream ends, a read or a write fails, a frame is too long or no
 /// memory is found for a reply's, or a read takes too long while its transaction is open. Then the session leaves.
-pub fn serve_session<H: House, R: Read, W: Write, G: Gate>(
-    house: &H,
+pub fn serve_session<H: Host, R: Read, W: Write, G: Gate>(
+    host: &H,
     alloc: Global,
     shared: &Shared<H>,
     seat: &Seat,
@@ -64,7 +64,7 @@ pub fn serve_session<H: House, R: Read, W: Write, G: Gate>(
 ) -> Ending {
     let mut served = Served {
         alloc,
-        house,
+        host,
         shared,
         seat: *seat,
         watch,
@@ -75,12 +75,12 @@ pub fn serve_session<H: House, R: Read, W: Write, G: Gate>(
         skips: false,
     };
     let ending = served.all(reader);
-    shared.leave(house, seat);
-    watch.stop(house);
+    shared.leave(host, seat);
+    watch.stop(host);
     ending
 }
 
-impl<'a, H: House, W: Write, G: Gate> Served<'a, H, W, G> {
+impl<'a, H: Host, W: Write, G: Gate> Served<'a, H, W, G> {
     /// All requests, behind which no transaction is open.
     fn all<R: Read>(&mut self, reader: &mut R) -> Ending {
         let ending = match self.stream(reader) {
@@ -96,7 +96,7 @@ impl<'a, H: House, W: Write, G: Gate> Served<'a, H, W, G> {
         let Ok(mut piece) = vec![in self.alloc; 0u8; PIECE] else {
             return Err(Unwritten);
         };
-        for _ in self.house.forever() {
+        for _ in self.host.forever() {
             match reader.read(&mut piece) {
                 Ok(0) => return Ok(Ending::Over),
                 Ok(count) => {
@@ -118,7 +118,7 @@ impl<'a, H: House, W: Write, G: Gate> Served<'a, H, W, G> {
     fn ends_transaction(&mut self) -> bool {
         let reason = Term::List(Terms::from_vec(Vec::new(self.alloc)));
         let abort = Command::Abort(reason);
-        match self.shared.step(self.house, &self.seat, abort) {
+        match self.shared.step(self.host, &self.seat, abort) {
             Ok(told) => !matches!(told.reply(), Reply::NoTransaction),
             Err(_) => true,
         }
@@ -151,7 +151,7 @@ impl<'a, H: House, W: Write, G: Gate> Served<'a, H, W, G> {
 
     fn pass(&mut self, piece: &[u8]) {
         let mut rest = piece;
-        for _ in self.house.forever() {
+        for _ in self.host.forever() {
             if rest.is_empty() {
                 return;
             }
@@ -162,15 +162,15 @@ impl<'a, H: House, W: Write, G: Gate> Served<'a, H, W, G> {
     fn too_long(&mut self, splitter: &Splitter) -> Result<(), Unwritten> {
         self.frames(splitter.before_fault())?;
         self.answers.begin();
-        self.answers.keep(self.house, &Reply::BadTerm)?;
-        self.answers.write(self.house)?;
+        self.answers.keep(self.host, &Reply::BadTerm)?;
+        self.answers.write(self.host)?;
         Err(Unwritten)
     }
 
     /// Memory is short: takes the frames of a piece one by one. One that finds none still is told so, and read over.
     fn one_by_one(&mut self, splitter: &mut Splitter, piece: &[u8]) -> Result<(), Unwritten> {
         let mut rest = piece;
-        for _ in self.house.forever() {
+        for _ in self.host.forever() {
             if rest.is_empty() {
                 return Ok(());
             }
@@ -182,8 +182,8 @@ impl<'a, H: House, W: Write, G: Gate> Served<'a, H, W, G> {
                     *splitter = Splitter::new(self.alloc);
                     self.skips = !self.place.is_between();
                     self.answers.begin();
-                    self.answers.keep(self.house, &Reply::NoMemory)?;
-                    self.answers.write(self.house)?;
+                    self.answers.keep(self.host, &Reply::NoMemory)?;
+                    self.answers.write(self.host)?;
                 }
             }
             rest = &rest[count..];
@@ -195,32 +195,32 @@ impl<'a, H: House, W: Write, G: Gate> Served<'a, H, W, G> {
         for (place, frame) in frames.iter().enumerate() {
             self.answers.begin();
             let told = match frame {
-                Frame::Empty => Some(Told::new(Reply::BadTerm)),
+                Frame::Empty => Some(SharedReply::new(Reply::BadTerm)),
                 Frame::Payload(payload) => self.payload(payload, frames.get(place + 1)),
             };
             if let Some(told) = told {
-                self.answers.keep(self.house, told.reply())?;
+                self.answers.keep(self.host, told.reply())?;
             }
         }
-        self.answers.write(self.house)?;
+        self.answers.write(self.host)?;
         Ok(())
     }
 
     /// The reply to a payload, behind which this frame has come. None where an abort has ended its wait.
-    fn payload(&mut self, payload: &[u8], next: Option<&Frame>) -> Option<Told> {
+    fn payload(&mut self, payload: &[u8], next: Option<&Frame>) -> Option<SharedReply> {
         let held = match decode(self.alloc, payload) {
             Ok(held) => held,
-            Err(EtfFault::At(_, _)) => return Some(Told::new(Reply::BadTerm)),
-            Err(EtfFault::NoMemory) => return Some(Told::new(Reply::NoMemory)),
+            Err(EtfFault::At(_, _)) => return Some(SharedReply::new(Reply::BadTerm)),
+            Err(EtfFault::NoMemory) => return Some(SharedReply::new(Reply::NoMemory)),
         };
         match read_command(self.alloc, held) {
             Ok(command) => self.command(command, next),
-            Err(ProtoFault::BadCommand) => Some(Told::new(Reply::BadCommand)),
-            Err(ProtoFault::NoMemory) => Some(Told::new(Reply::NoMemory)),
+            Err(ProtoFault::BadCommand) => Some(SharedReply::new(Reply::BadCommand)),
+            Err(ProtoFault::NoMemory) => Some(SharedReply::new(Reply::NoMemory)),
         }
     }
 
-    fn command(&mut self, command: Command, next: Option<&Frame>) -> Option<Told> {
+    fn command(&mut self, command: Command, next: Option<&Frame>) -> Option<SharedReply> {
         let behind = self.behind(next);
         let kind = Kind::of(&command);
         self.levels.ask(kind, self.answers.counts());
@@ -233,7 +233,7 @@ impl<'a, H: House, W: Write, G: Gate> Served<'a, H, W, G> {
     }
 
     /// A command's reply, and whether an abort has ended its wait.
-    fn answered(&mut self, command: Command, behind: Behind) -> (Told, bool) {
+    fn answered(&mut self, command: Command, behind: Behind) -> (SharedReply, bool) {
         let alloc = self.alloc;
         let mut seated = self.seated(behind);
         let told = answer(&mut seated, alloc, command);
@@ -253,12 +253,12 @@ impl<'a, H: House, W: Write, G: Gate> Served<'a, H, W, G> {
     fn seated(&mut self, behind: Behind) -> Seated<'a, '_, H, W, G> {
         Seated {
             alloc: self.alloc,
-            house: self.house,
+            host: self.host,
             shared: self.shared,
             seat: self.seat,
             watch: self.watch,
             answers: &mut self.answers,
-            held: Held::new(self.house, self.shared),
+            held: Held::new(self.host, self.shared),
             behind,
             aborted: false,
         }
@@ -267,19 +267,19 @@ impl<'a, H: House, W: Write, G: Gate> Served<'a, H, W, G> {
 
 /// A one-shot is run by its driver; any other command is one step, whose answer it waits for. Who is told to restart
 /// rests first.
-fn answer<S: Steps>(steps: &mut S, alloc: Global, command: Command) -> Told {
+fn answer<S: Steps>(steps: &mut S, alloc: Global, command: Command) -> SharedReply {
     if matches!(command, Command::OneShot(..)) {
         return one_shot(steps, alloc, command);
     }
     let Ok(told) = steps.step(command) else {
-        return Told::new(Reply::NoMemory);
+        return SharedReply::new(Reply::NoMemory);
     };
     let told = match told.reply() {
         Reply::Waiting => steps.wait().unwrap_or(Ok(told)),
         _ => Ok(told),
     };
     let Ok(told) = told else {
-        return Told::new(Reply::NoMemory);
+        return SharedReply::new(Reply::NoMemory);
     };
     if matches!(told.reply(), Reply::Restart) {
         steps.again();

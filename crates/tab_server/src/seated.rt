@@ -11,8 +11,8 @@ use crate::watch::Watch;
 use std::alloc::{AllocError, Global};
 use std::io::Write;
 use tab_book::{Held, Rest, Seat, Shared, Step};
-use tab_model::{Command, Parts, Told};
-use tab_names::House;
+use tab_model::{Command, Parts, SharedReply};
+use tab_names::Host;
 use tab_oneshot::Steps;
 
 /// So many naps of 20 milliseconds a restarted transaction rests at most. A client that drives two connections from one thread
@@ -32,9 +32,9 @@ pub enum Behind {
 /// The seat of one connection. It holds the book from a step on until it waits, rests or gives the book back. Before it waits
 /// or rests, what was answered is written, and where that takes longer than a nap the stream is watched.
 #[derive(Drop)]
-pub struct Seated<'a, 'b, H: House, W: Write, G: Gate> {
+pub struct Seated<'a, 'b, H: Host, W: Write, G: Gate> {
     pub alloc: Global,
-    pub house: &'a H,
+    pub host: &'a H,
     pub shared: &'a Shared<H>,
     pub seat: Seat,
     pub watch: &'a Watch,
@@ -45,7 +45,7 @@ pub struct Seated<'a, 'b, H: House, W: Write, G: Gate> {
     pub aborted: bool,
 }
 
-impl<'a, 'b, H: House, W: Write, G: Gate> Seated<'a, 'b, H, W, G> {
+impl<'a, 'b, H: Host, W: Write, G: Gate> Seated<'a, 'b, H, W, G> {
     /// The book is held no more.
     pub fn give_back(&mut self) {
         self.held.give_back();
@@ -57,59 +57,59 @@ impl<'a, 'b, H: House, W: Write, G: Gate> Seated<'a, 'b, H, W, G> {
             return;
         }
         self.held.give_back();
-        if self.answers.write(self.house).is_err() || self.shared.rest(self.house, &self.seat, 1) {
+        if self.answers.write(self.host).is_err() || self.shared.rest(self.host, &self.seat, 1) {
             return;
         }
-        self.watch.begin(self.house, false);
-        let _over = self.shared.rest(self.house, &self.seat, NAPS - 1);
-        self.watch.end(self.house);
+        self.watch.begin(self.host, false);
+        let _over = self.shared.rest(self.host, &self.seat, NAPS - 1);
+        self.watch.end(self.host);
     }
 
     /// The answer of the request that waits; None where an abort ends its wait. Where memory is refused while it asks again the
     /// request is in the queue still, and a connection has no word for it: so it waits on, and asks again after a pause.
-    fn granted(&self) -> Option<Told>
+    fn granted(&self) -> Option<SharedReply>
         ensures { IfSome result (λ told. told ≢ reply.Waiting) }
     {
         let aborted = self.watch.aborted();
-        for _ in self.house.forever() {
-            if let Ok(told) = self.shared.retry_until(self.house, &self.seat, aborted) {
+        for _ in self.host.forever() {
+            if let Ok(told) = self.shared.retry_until(self.host, &self.seat, aborted) {
                 return told;
             }
-            pause(self.house);
+            pause(self.host);
         }
         unreachable!()
     }
 }
 
-impl<'a, 'b, H: House, W: Write, G: Gate> Steps for Seated<'a, 'b, H, W, G> {
+impl<'a, 'b, H: Host, W: Write, G: Gate> Steps for Seated<'a, 'b, H, W, G> {
     ghost shows = { λ x calls y. Unit {0} };
 
     ghost shows_none = { λ x. tt };
 
     ghost shows_on = { λ x y z first more a b. tt };
 
-    fn step(&mut self, command: Command) -> Result<Told, AllocError> {
+    fn step(&mut self, command: Command) -> Result<SharedReply, AllocError> {
         self.held
             .step(&self.seat, Step::Do(level_of(self.alloc, command)))
     }
 
     /// None where an abort has ended the wait, or no one is left to be answered.
-    fn wait(&mut self) -> Option<Result<Told, AllocError>> {
+    fn wait(&mut self) -> Option<Result<SharedReply, AllocError>> {
         self.held.give_back();
         self.answers.counts().count(Count::Waits, 1);
-        if self.answers.write(self.house).is_err() {
+        if self.answers.write(self.host).is_err() {
             return None;
         }
         if self.behind == Behind::Abort {
             self.aborted = true;
             return None;
         }
-        if let Ok(Some(told)) = self.shared.retry_for(self.house, &self.seat, 1) {
+        if let Ok(Some(told)) = self.shared.retry_for(self.host, &self.seat, 1) {
             return Some(Ok(told));
         }
-        self.watch.begin(self.house, self.behind == Behind::Stream);
+        self.watch.begin(self.host, self.behind == Behind::Stream);
         let told = self.granted();
-        self.watch.end(self.house);
+        self.watch.end(self.host);
         self.aborted = told.is_none();
         told.map(Ok)
     }

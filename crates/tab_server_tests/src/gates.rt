@@ -14,8 +14,8 @@ use std::time::{Clock, Duration};
 use std::{io, thread};
 use tab_book::{Book, Shared};
 use tab_model::Limits;
-use tab_names::{House, Naming, Opened};
-use tab_post::Line;
+use tab_names::{Host, Naming, Opened};
+use tab_post::Channel;
 use tab_server::{Count, Counts, Gate, Note, Notes, Settings, serve};
 
 pub const LIMITS: Limits = Limits {
@@ -98,8 +98,8 @@ fn ask<R: Net<Stream = TcpStream>>(rt: &R, address: SocketAddr) -> io::Result<bo
 }
 
 /// Counts a server that ended well.
-fn serve_all<H: House + Threads + Send + Sync, G: Gate + Notes + Sync>(
-    house: &H,
+fn serve_all<H: Host + Threads + Send + Sync, G: Gate + Notes + Sync>(
+    host: &H,
     alloc: Global,
     listener: &TcpListener,
     shared: &Shared<H>,
@@ -108,14 +108,14 @@ fn serve_all<H: House + Threads + Send + Sync, G: Gate + Notes + Sync>(
     served: &AtomicU64,
 ) {
     let plain = Settings::PLAIN;
-    if serve(house, alloc, listener, shared, count, plain, gate).is_ok() {
+    if serve(host, alloc, listener, shared, count, plain, gate).is_ok() {
         served.fetch_add(1, Ordering::SeqCst);
     }
 }
 
 /// Serves so many connections, beside clients that ask.
 fn beside<H, R, G>(
-    house: &H,
+    host: &H,
     rt: &R,
     alloc: Global,
     shared: &Shared<H>,
@@ -126,13 +126,13 @@ fn beside<H, R, G>(
     served: &AtomicU64,
 ) -> bool
 where
-    H: House + Threads + Send + Sync,
+    H: Host + Threads + Send + Sync,
     R: Net<Listener = TcpListener, Stream = TcpStream>,
     G: Gate + Notes + Sync,
 {
-    thread::scope(thread::scope_env(), house, |scope| {
+    thread::scope(thread::scope_env(), host, |scope| {
         let serving = scope.spawn(move || serve_all(
-            house, alloc, listener, shared, count, gate, served,
+            host, alloc, listener, shared, count, gate, served,
         ));
         if serving.is_err() {
             return false;
@@ -146,29 +146,29 @@ where
 
 /// On a book of its own: whether both are answered, and the server ends.
 fn run<H, R, G>(
-    house: H,
+    host: H,
     rt: &R,
     alloc: Global,
-    opened: Opened<Line>,
+    opened: Opened<Channel>,
     gate: &G,
 ) -> Result<bool, Fail>
 where
-    H: House + Threads + Send + Sync,
+    H: Host + Threads + Send + Sync,
     R: Net<Listener = TcpListener, Stream = TcpStream>,
     G: Gate + Notes + Sync,
     requires { opened ≡ H.book }
 {
     let listener = TcpListener::bind(rt, ("127.0.0.1", 0)).map_err(|_| "bind")?;
     let address = listener.local_addr().map_err(|_| "address")?;
-    let shared = Shared::new(Book::new(house, alloc, opened, LIMITS, 64)?);
+    let shared = Shared::new(Book::new(host, alloc, opened, LIMITS, 64)?);
     let served = AtomicU64::new(0);
     let right = beside(
-        &house, rt, alloc, &shared, gate, 2, &listener, address, &served,
+        &host, rt, alloc, &shared, gate, 2, &listener, address, &served,
     );
     Ok(right && served.load(Ordering::SeqCst) == 1)
 }
 
-fn run_named<J, R>(rt: &R, alloc: Global, opened: Opened<Line>) -> Result<bool, Fail>
+fn run_named<J, R>(rt: &R, alloc: Global, opened: Opened<Channel>) -> Result<bool, Fail>
 where
     J: Naming + Send + Sync,
     R: Net<Listener = TcpListener, Stream = TcpStream>

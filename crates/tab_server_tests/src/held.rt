@@ -12,14 +12,14 @@ use std::test::*;
 use std::thread::Threads;
 use std::{io, thread};
 use tab_book::{Book, Drained, Seat, Shared};
-use tab_fixtures::Shape::{Atom, Int, Tuple};
-use tab_fixtures::{Shape, atom, build};
 use tab_model::{Command, Level, Operation, Reply, Schema};
 use tab_named::SeatInbox;
-use tab_names::{House, Naming, Opened};
-use tab_post::Line;
+use tab_names::{Host, Naming, Opened};
+use tab_post::Channel;
 use tab_server::{Delivery, FrameSink, Open, event_loop};
 use tab_term::Terms;
+use tab_test_tools::Shape::{Atom, Int, Tuple};
+use tab_test_tools::{Shape, atom, build};
 
 /// What is written, and whether writes are held.
 #[derive(Drop)]
@@ -31,20 +31,20 @@ struct Pipe {
 
 /// Its first write waits until the pipe is open.
 #[derive(Drop)]
-struct Held<'a, H: House> {
-    house: &'a H,
+struct Held<'a, H: Host> {
+    host: &'a H,
     pipe: &'a Pipe,
 }
 
-impl<'a, H: House> Write for Held<'a, H> {
+impl<'a, H: Host> Write for Held<'a, H> {
     fn write(&mut self, buf: &[u8]) -> io::Result<usize> {
         self.pipe.reached.store(true, Ordering::SeqCst);
-        for _ in self.house.forever() {
+        for _ in self.host.forever() {
             if self.pipe.open.load(Ordering::SeqCst) {
                 break;
             }
         }
-        let mut written = self.pipe.written.lock(self.house);
+        let mut written = self.pipe.written.lock(self.host);
         written.extend_from_slice(buf)?;
         Ok(buf.len())
     }
@@ -73,8 +73,8 @@ fn is_committed(reply: &Reply, wanted: u64) -> bool {
 }
 
 /// Whether a record is written and committed, as the commit with this number.
-fn commit<H: House>(
-    house: &H,
+fn commit<H: Host>(
+    host: &H,
     alloc: Global,
     shared: &Shared<H>,
     seat: &Seat,
@@ -82,22 +82,22 @@ fn commit<H: House>(
     number: u64,
 ) -> Result<bool, AllocError> {
     let write = Command::Do(Operation::Write(build(alloc, record)?));
-    shared.call(house, seat, Command::Begin)?;
-    shared.call(house, seat, write)?;
-    let told = shared.call(house, seat, Command::Commit)?;
+    shared.call(host, seat, Command::Begin)?;
+    shared.call(host, seat, write)?;
+    let told = shared.call(host, seat, Command::Commit)?;
     Ok(is_committed(told.reply(), number))
 }
 
 /// How many items were there for a session; None where it overflowed or left.
-fn taken<H: House>(
-    house: &H,
+fn taken<H: Host>(
+    host: &H,
     shared: &Shared<H>,
     seat: &Seat,
     inbox: &mut SeatInbox<H>,
 ) -> Option<u32> {
     let mut count = 0u32;
-    for _ in house.forever() {
-        match shared.drained(house, seat, inbox) {
+    for _ in host.forever() {
+        match shared.drained(host, seat, inbox) {
             Drained::Going(_) => count = count.saturating_add(1),
             Drained::AllTaken => return Some(count),
             Drained::Overflow(_) | Drained::Left => return None,
@@ -107,8 +107,8 @@ fn taken<H: House>(
 }
 
 /// Waits until the event thread has reached its first write.
-fn wait_for_write<H: House>(house: &H, pipe: &Pipe) {
-    for _ in house.forever() {
+fn wait_for_write<H: Host>(host: &H, pipe: &Pipe) {
+    for _ in host.forever() {
         if pipe.reached.load(Ordering::SeqCst) {
             break;
         }
@@ -116,9 +116,9 @@ fn wait_for_write<H: House>(house: &H, pipe: &Pipe) {
 }
 
 /// Waits until so many bytes are written.
-fn wait_for<H: House>(house: &H, pipe: &Pipe, size: usize) {
-    for _ in house.forever() {
-        if pipe.written.lock(house).len() >= size {
+fn wait_for<H: Host>(host: &H, pipe: &Pipe, size: usize) {
+    for _ in host.forever() {
+        if pipe.written.lock(host).len() >= size {
             break;
         }
     }
@@ -126,8 +126,8 @@ fn wait_for<H: House>(house: &H, pipe: &Pipe, size: usize) {
 
 /// Three commits while the event thread is held, of which the writer itself gets each event; then what that thread writes,
 /// and the reader leaves.
-fn commit_all<H: House>(
-    house: &H,
+fn commit_all<H: Host>(
+    host: &H,
     alloc: Global,
     shared: &Shared<H>,
     writer: &Seat,
@@ -135,56 +135,54 @@ fn commit_all<H: House>(
     reader: &Seat,
     pipe: &Pipe,
 ) -> Result<bool, AllocError> {
-    wait_for_write(house, pipe);
-    let mut right = taken(house, shared, writer, &mut inbox) == Some(1);
+    wait_for_write(host, pipe);
+    let mut right = taken(host, shared, writer, &mut inbox) == Some(1);
     for (record, number) in RECORDS.iter().zip(1..) {
-        right &= commit(house, alloc, shared, writer, record, number)?;
-        right &= taken(house, shared, writer, &mut inbox) == Some(1);
+        right &= commit(host, alloc, shared, writer, record, number)?;
+        right &= taken(host, shared, writer, &mut inbox) == Some(1);
     }
     pipe.open.store(true, Ordering::SeqCst);
-    wait_for(house, pipe, FRAMES.len());
-    shared.leave(house, reader);
-    Ok(right && pipe.written.lock(house).as_slice() == FRAMES)
+    wait_for(host, pipe, FRAMES.len());
+    shared.leave(host, reader);
+    Ok(right && pipe.written.lock(host).as_slice() == FRAMES)
 }
 
-fn run<H: House + Threads + Send + Sync>(
-    house: H,
+fn run<H: Host + Threads + Send + Sync>(
+    host: H,
     alloc: Global,
-    opened: Opened<Line>,
+    opened: Opened<Channel>,
 ) -> Result<bool, Fail>
     requires { opened ≡ H.book }
 {
-    let shared = Shared::new(Book::new(house, alloc, opened, LIMITS, 2)?);
-    let (writer, others) = shared.join(&house).map_err(|_| "join")?;
-    let (reader, inbox) = shared.join(&house).map_err(|_| "join")?;
+    let shared = Shared::new(Book::new(host, alloc, opened, LIMITS, 2)?);
+    let (writer, others) = shared.join(&host).map_err(|_| "join")?;
+    let (reader, inbox) = shared.join(&host).map_err(|_| "join")?;
     let create = Schema::Create(atom(alloc, "t")?, Terms::from_vec(Vec::new(alloc)));
-    shared.call(&house, &writer, Command::Schema(create))?;
+    shared.call(&host, &writer, Command::Schema(create))?;
     for seat in [&writer, &reader] {
         let watch = Command::Subscribe(atom(alloc, "t")?, Level::Simple, false);
-        shared.call(&house, seat, watch)?;
+        shared.call(&host, seat, watch)?;
     }
     let pipe = Pipe {
         written: Mutex::new(Vec::new(alloc)),
         reached: AtomicBool::new(false),
         open: AtomicBool::new(false),
     };
-    Ok(side_by_side(
-        &house, alloc, &shared, &writer, others, reader, inbox, &pipe,
-    )?)
+    Ok(side_by_side(&host, alloc, &shared, &writer, others, reader, inbox, &pipe)?)
 }
 
 /// The reader's events, over the pipe.
-fn send_events<H: House>(
-    house: &H,
+fn send_events<H: Host>(
+    host: &H,
     alloc: Global,
     shared: &Shared<H>,
     reader: Seat,
     mut inbox: SeatInbox<H>,
     pipe: &Pipe,
 ) {
-    let sink = FrameSink::new(Held { house, pipe });
+    let sink = FrameSink::new(Held { host, pipe });
     event_loop(
-        house,
+        host,
         alloc,
         shared,
         &reader,
@@ -195,8 +193,8 @@ fn send_events<H: House>(
     );
 }
 
-fn side_by_side<H: House + Threads + Send + Sync>(
-    house: &H,
+fn side_by_side<H: Host + Threads + Send + Sync>(
+    host: &H,
     alloc: Global,
     shared: &Shared<H>,
     writer: &Seat,
@@ -205,19 +203,19 @@ fn side_by_side<H: House + Threads + Send + Sync>(
     inbox: SeatInbox<H>,
     pipe: &Pipe,
 ) -> Result<bool, AllocError> {
-    thread::scope(thread::scope_env(), house, |scope| {
-        let sending = scope.spawn(move || send_events(house, alloc, shared, reader, inbox, pipe));
+    thread::scope(thread::scope_env(), host, |scope| {
+        let sending = scope.spawn(move || send_events(host, alloc, shared, reader, inbox, pipe));
         if sending.is_err() {
             return Ok(false);
         }
-        commit_all(house, alloc, shared, writer, others, &reader, pipe)
+        commit_all(host, alloc, shared, writer, others, &reader, pipe)
     })
 }
 
 fn run_named<J: Naming + Send + Sync, R: Threads + Wait + Copy + Send + Sync>(
     rt: R,
     alloc: Global,
-    opened: Opened<Line>,
+    opened: Opened<Channel>,
 ) -> Result<bool, Fail>
     requires { opened ≡ J.book }
 {

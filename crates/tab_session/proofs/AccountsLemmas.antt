@@ -8,8 +8,8 @@ use Rattle.tab_model.specs.State.{State, IsSound}
 use Rattle.tab_model.specs.Reached.{IsRising}
 use Rattle.tab_model.specs.Outcome.{Ask, Outcome, outcome}
 use Rattle.tab_model.specs.Run as model
-use Rattle.tab_model.specs.Run.{entries, taken_now, JoinsEmpty, IsTied}
-use Rattle.tab_model.specs.Callers.{Callers, entry_told, told_one, told_entry, callers_after, log_told, AreHeard}
+use Rattle.tab_model.specs.Run.{entries, delivered_by, JoinsEmpty, IsTied}
+use Rattle.tab_model.specs.Callers.{Callers, entry_of_step, callers_after_one, entry_of_call, callers_after, log_of_replies, AreHeard}
 use Rattle.tab_model.proofs.CallersLemmas.{step_heard}
 use Rattle.tab_model.proofs.ReachedWaits.{step_rising}
 use Rattle.tab_model.proofs.SoundSteps.{step_sound}
@@ -22,15 +22,15 @@ abbrev pub hears_all : Callers → List Exchange → Callers
 hears_all ks xs = callers_after ks (calls_in xs) (replies_in xs)
 
 abbrev pub tells : Callers → List Exchange → List Entry
-tells ks xs = log_told ks (calls_in xs) (replies_in xs)
+tells ks xs = log_of_replies ks (calls_in xs) (replies_in xs)
 
 hears_both : (ks : Callers) (xs ys : List Exchange) → hears_all ks (xs ++ ys) ≡ hears_all (hears_all ks xs) ys
 hears_both ks [] ys = refl
-hears_both ks (x ∷ xs) ys = hears_both (told_one ks x.call x.reply) xs ys
+hears_both ks (x ∷ xs) ys = hears_both (callers_after_one ks x.call x.reply) xs ys
 
 tells_both : (ks : Callers) (xs ys : List Exchange) → tells ks (xs ++ ys) ≡ tells ks xs ++ tells (hears_all ks xs) ys
 tells_both ks [] ys = refl
-tells_both ks (x ∷ xs) ys = ap (λ es. entries (told_entry ks x.call x.reply) ++ es) (tells_both (told_one ks x.call x.reply) xs ys) ∙ sym (append_assoc (entries (told_entry ks x.call x.reply)) _ _)
+tells_both ks (x ∷ xs) ys = ap (λ es. entries (entry_of_call ks x.call x.reply) ++ es) (tells_both (callers_after_one ks x.call x.reply) xs ys) ∙ sym (append_assoc (entries (entry_of_call ks x.call x.reply)) _ _)
 
 pub record Leads (σ μ : State) (a : Account) (taken : ℕ → List Item) : Type 0 where
   pub sound : IsSound σ → IsSound μ
@@ -51,20 +51,20 @@ stays σ μ same = record {
 }
 
 -- one step
-pub steps : (σ μ : State) (n : ℕ) (a : Ask) (r : Reply) (made : IsStepMade σ n a r μ) → JoinsEmpty a → Leads σ μ (of_made σ n a r μ made) (λ m. taken_now m n r)
+pub steps : (σ μ : State) (n : ℕ) (a : Ask) (r : Reply) (made : IsStepMade σ n a r μ) → JoinsEmpty a → Leads σ μ (of_made σ n a r μ made) (λ m. delivered_by m n r)
 steps σ μ n a r made empty =
     let o = made.made in
     let c : model.Call = record { session = n; ask = a; over = made.over } in
     record {
       sound = λ k. subst IsSound (ap (λ (x : Outcome). x.state) o) (step_sound σ made.over n a k);
       rising = λ k h. subst IsRising (ap (λ (x : Outcome). x.state) o) (step_rising σ made.over n a k h);
-      tied = λ log before k t. subst (λ (x : Outcome). IsTied x.state (log ++ entries x.entry) (λ m. before m ++ taken_now m n x.reply)) o (step_tied σ log before made.over n a k empty t);
-      heard = λ ks h. subst (λ (x : Outcome). AreHeard x.state (told_one ks c x.reply)) o (step_heard σ ks c h).0;
-      told = λ ks h. sym (ap entries (entry_is ks (step_heard σ ks c h).1)) ∙ sym (append-nil (entries (told_entry ks c r)));
+      tied = λ log before k t. subst (λ (x : Outcome). IsTied x.state (log ++ entries x.entry) (λ m. before m ++ delivered_by m n x.reply)) o (step_tied σ log before made.over n a k empty t);
+      heard = λ ks h. subst (λ (x : Outcome). AreHeard x.state (callers_after_one ks c x.reply)) o (step_heard σ ks c h).0;
+      told = λ ks h. sym (ap entries (entry_is ks (step_heard σ ks c h).1)) ∙ sym (append-nil (entries (entry_of_call ks c r)));
     }
   where
-    entry_is : (ks : Callers) → entry_told n made.over (ks n) a (outcome σ made.over n a).reply ≡ (outcome σ made.over n a).entry → entry_told n made.over (ks n) a r ≡ made.entry
-    entry_is ks e = ap (λ (x : Outcome). entry_told n made.over (ks n) a x.reply) (sym made.made) ∙ e ∙ ap (λ (x : Outcome). x.entry) made.made
+    entry_is : (ks : Callers) → entry_of_step n made.over (ks n) a (outcome σ made.over n a).reply ≡ (outcome σ made.over n a).entry → entry_of_step n made.over (ks n) a r ≡ made.entry
+    entry_is ks e = ap (λ (x : Outcome). entry_of_step n made.over (ks n) a x.reply) (sym made.made) ∙ e ∙ ap (λ (x : Outcome). x.entry) made.made
 
 -- the one and then the other
 pub then_leads : (σ ρ μ : State) (a b : Account) (t u : ℕ → List Item) → Leads σ ρ a t → Leads ρ μ b u → Leads σ μ (joined a b) (λ m. t m ++ u m)

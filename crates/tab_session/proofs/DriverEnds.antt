@@ -12,13 +12,13 @@ use Rattle.tab_model.specs.declared.data.Command.{Command}
 use Rattle.tab_model.specs.declared.data.Command.TheVariants as command
 use Rattle.tab_model.specs.declared.data.Reply.{Reply}
 use Rattle.tab_model.specs.declared.data.Reply.TheVariants as reply
-use Rattle.tab_model.specs.Worlds.{World}
+use Rattle.tab_model.specs.Catalogs.{Catalog}
 use Rattle.tab_model.specs.Operations.{failure}
-use Rattle.tab_model.specs.Alone.{Mid, start, next, back_to, forgotten}
-use Rattle.tab_model.specs.State.{Transaction, Seat, Queued, State, seat_at, transaction_at, is_waiting, request_in, HasAge, OwnedBy, IsSound}
+use Rattle.tab_model.specs.Alone.{Mid, start, next, back_to, without_innermost}
+use Rattle.tab_model.specs.State.{Transaction, Session, Queued, State, session_at, transaction_at, is_waiting, request_in, HasAge, OwnedBy, IsSound}
 use Rattle.tab_model.specs.Reached.{IsRising}
-use Rattle.tab_model.specs.Outcome.{DoCommand, Outcome, outcome, by_seat, command_if}
-use Rattle.tab_model.proofs.Seats.{found, eq_true}
+use Rattle.tab_model.specs.Outcome.{DoCommand, Outcome, outcome, step_of, command_if}
+use Rattle.tab_model.proofs.SessionLists.{found, eq_true}
 use Rattle.tab_session.specs.StepsMade.{StepMadeOrRefused}
 use Rattle.tab_proto.specs.Replies.{reply_term}
 use Rattle.tab_proto.specs.Commands.{is_nested, is_command}
@@ -48,12 +48,12 @@ abbrev reason : Term
 reason = Int (pos 0)
 
 -- how many levels are open around the parts that are still to come
-abbrev around : ℕ → List World → ℕ
+abbrev around : ℕ → List Catalog → ℕ
 around zero ws = length ws
 around (suc j) ws = suc (around j ws)
 
 -- session n runs a one-shot on tables w, after k commits, by a transaction of age a
-module _ (n : ℕ) (w : World) (k a : ℕ) where
+module _ (n : ℕ) (w : Catalog) (k a : ℕ) where
   -- the attempt goes on behind the ends of so many levels: all parts come to what the parts that are left come to from here
   record Stands (parts : List Part) (all : Option alone.Commit) (skipped : ℕ) (levels : List PlainTerms) (μ : State) : Type 0 where
     pub m : Mid
@@ -72,20 +72,20 @@ module _ (n : ℕ) (w : World) (k a : ℕ) where
   abbrev Over : Reply → Reply → State → Type 0
   Over r last ν = (last ≡ r) × Outside n w k a ν
 
-  one_end : (ws : List World) (m : Mid) (σ : State) (r : Reply) (calls : List Call) (last : Reply) (ν : State) → m.saved ≡ ws → Within n w k a m σ
+  one_end : (ws : List Catalog) (m : Mid) (σ : State) (r : Reply) (calls : List Call) (last : Reply) (ν : State) → m.saved ≡ ws → Within n w k a m σ
       → ((μ : State) (rest : List Call) → Back n w k a ws m μ → Ends (length ws) r rest last → Ran n μ rest ν → Over r last ν)
       → Ends (suc (length ws)) r calls last → Ran n σ calls ν → Over r last ν
   one_end ws m σ r calls last ν e h then_on (x, rest, is, after) ran = after_step (subst (λ (cs : List Call). Ran n σ cs ν) is ran)
     where
       by_sort : (s : Sort) (μ : State) → Aborted n w k a s x m reason μ → Ended s x (λ ys. Ends (length ws) r ys last) rest last → Ran n μ rest ν → Over r last ν
-      by_sort sort.Aborted μ (told_so, left) f ran = then_on μ rest (subst (λ (vs : List World). Back n w k a vs m μ) e left) f ran
+      by_sort sort.Aborted μ (told_so, left) f ran = then_on μ rest (subst (λ (vs : List Catalog). Back n w k a vs m μ) e left) f ran
       by_sort s μ not_so f ran = absurd not_so
 
       after_step : Ran n σ (Asked (command.Abort reason) x ∷ rest) ν → Over r last ν
       after_step (μ, one, ran) = by_sort (sort_of x) μ (aborted n w k a σ μ m reason x h one) after ran
 
   -- a reply after which all open levels are ended stays the reply
-  ends : (ws : List World) (m : Mid) (σ : State) (r : Reply) (calls : List Call) (last : Reply) (ν : State) → m.saved ≡ ws → Within n w k a m σ → Ends (suc (length ws)) r calls last → Ran n σ calls ν → Over r last ν
+  ends : (ws : List Catalog) (m : Mid) (σ : State) (r : Reply) (calls : List Call) (last : Reply) (ν : State) → m.saved ≡ ws → Within n w k a m σ → Ends (suc (length ws)) r calls last → Ran n σ calls ν → Over r last ν
   ends [] m σ r calls last ν e h f ran = one_end [] m σ r calls last ν e h (λ μ rest left g ran. (g.1, subst (λ (τ : State). Outside n w k a τ) (sym (subst (λ (cs : List Call). Ran n μ cs ν) g.0 ran)) left)) f ran
   ends (v ∷ vs) m σ r calls last ν e h f ran = one_end (v ∷ vs) m σ r calls last ν e h (λ μ rest left g ran. ends vs (back_to m (v ∷ vs)) μ r rest last ν refl left.stands g ran) f ran
 
@@ -113,7 +113,7 @@ module _ (n : ℕ) (w : World) (k a : ℕ) where
     puts skipped r levels σ calls turn ν s (inl (e, f)) ran = leads turn _ σ ν calls e f ran s
     puts skipped r levels σ calls turn ν s (inr h) ran = stops reply.NoMemory levels s.m σ calls turn ν refl (sym (told_length (reply_term r) levels) ∙ s.length_is) s.inside.stands h ran
 
-    level_ends : (ws : List World) (r : Reply) (levels : List PlainTerms) (m : Mid) (σ : State) (calls : List Call) (turn : Turn) (ν : State) → m.saved ≡ ws → is_atomic r ≡ false → length levels ≡ suc (length ws) → all ≡ alone.ended (run_on parts) m r levels → is_nested (length ws) parts ≡ true
+    level_ends : (ws : List Catalog) (r : Reply) (levels : List PlainTerms) (m : Mid) (σ : State) (calls : List Call) (turn : Turn) (ν : State) → m.saved ≡ ws → is_atomic r ≡ false → length levels ≡ suc (length ws) → all ≡ alone.ended (run_on parts) m r levels → is_nested (length ws) parts ≡ true
         → Back n w k a ws m σ → LevelEnds r levels calls turn → Ran n σ calls ν → Leads turn ν
     level_ends ws r [] m σ calls turn ν e plain f g nested left h ran = absurd (omega (arith, f))
     level_ends [] r (ts ∷ []) m σ calls turn ν e plain f g nested left (none_left, is) ran = leads turn (IsOver r) σ ν calls none_left is ran (plain, left)
@@ -124,7 +124,7 @@ module _ (n : ℕ) (w : World) (k a : ℕ) where
           m = back_to m (v ∷ vs);
           inside = left;
           length_is = omega (arith, f);
-          alone_is = g ∙ ap (λ (ws : List World). run_on parts 1 (back_to m ws) (told (reply_term r) (us ∷ outer))) e;
+          alone_is = g ∙ ap (λ (ws : List Catalog). run_on parts 1 (back_to m ws) (told (reply_term r) (us ∷ outer))) e;
           nested = nested;
         }) h ran
 
@@ -133,14 +133,14 @@ module _ (n : ℕ) (w : World) (k a : ℕ) where
   module _ (parts : List Part) (levels : List PlainTerms) (m : Mid) (length_is : length levels ≡ suc (length m.saved)) where
     operated : (o : Operation) (s : Sort) (r : Reply) (σ : State) (calls : List Call) (turn : Turn) (ν : State) → sort_of r ≡ s → (s ≡ sort.Waits → ⊥) → is_nested (length m.saved) parts ≡ true
         → Did n w k a s r m o σ → AfterOperation s r levels calls turn → Ran n σ calls ν → Turned parts (run_on (part.Do o ∷ parts) 0 m levels) turn ν
-    operated o sort.Told r σ calls turn ν is quick nested (fits, same, inside) h ran =
+    operated o sort.Answered r σ calls turn ν is quick nested (fits, same, inside) h ran =
         let saved_is : (next m (move.Do o)).saved ≡ m.saved = ap (λ (b : Mid). b.saved) (if_false (is_some (failure m.now o)) _ _ fits) in
         puts parts _ 0 r levels σ calls turn ν (record {
           m = next m (move.Do o);
           inside = inside;
-          length_is = told_length (reply_term r) levels ∙ length_is ∙ ap (λ (ws : List World). suc (length ws)) (sym saved_is);
+          length_is = told_length (reply_term r) levels ∙ length_is ∙ ap (λ (ws : List Catalog). suc (length ws)) (sym saved_is);
           alone_is = if_false (is_some (failure m.now o)) _ _ fits ∙ ap (λ (x : Reply). run_on parts 0 (next m (move.Do o)) (told (reply_term x) levels)) (sym same);
-          nested = subst (λ (ws : List World). is_nested (length ws) parts ≡ true) (sym saved_is) nested;
+          nested = subst (λ (ws : List Catalog). is_nested (length ws) parts ≡ true) (sym saved_is) nested;
         }) h ran
     operated o sort.Failed r σ calls turn ν is quick nested (fails, same, left) h ran =
         level_ends parts _ m.saved r levels m σ calls turn ν refl (not_atomic r sort.Failed is (λ e. cc)) length_is
@@ -173,7 +173,7 @@ module _ (n : ℕ) (w : World) (k a : ℕ) where
     nests sort.Refused r σ calls turn ν is nested inside h ran = stops parts _ r levels m σ calls turn ν (not_atomic r sort.Refused is (λ e. cc)) length_is inside.stands h ran
     nests s r σ calls turn ν is nested not_so h ran = absurd not_so
 
-  joins : (parts : List Part) (v : World) (vs : List World) (r : Reply) (levels : List PlainTerms) (m : Mid) (σ : State) (calls : List Call) (turn : Turn) (ν : State) → length levels ≡ suc (suc (length vs)) → m.saved ≡ v ∷ vs
+  joins : (parts : List Part) (v : Catalog) (vs : List Catalog) (r : Reply) (levels : List PlainTerms) (m : Mid) (σ : State) (calls : List Call) (turn : Turn) (ν : State) → length levels ≡ suc (suc (length vs)) → m.saved ≡ v ∷ vs
       → is_nested (length vs) parts ≡ true → Inside n w k a (next m move.Close) σ → Joins r levels calls turn → Ran n σ calls ν → Turned parts (alone.closed (run_on parts) m levels) turn ν
   joins parts v vs r [] m σ calls turn ν e f nested inside h ran = absurd (omega (arith, e))
   joins parts v vs r (ts ∷ []) m σ calls turn ν e f nested inside h ran = absurd (omega (arith, e))
@@ -181,16 +181,16 @@ module _ (n : ℕ) (w : World) (k a : ℕ) where
       puts parts _ 0 (reply.AtomicTerms ts) (us ∷ outer) σ calls turn ν (record {
         m = next m move.Close;
         inside = inside;
-        length_is = omega (arith, e, ap (λ (ws : List World). length (forgotten ws)) f);
+        length_is = omega (arith, e, ap (λ (ws : List Catalog). length (without_innermost ws)) f);
         alone_is = refl;
-        nested = subst (λ (ws : List World). is_nested (length (forgotten ws)) parts ≡ true) (sym f) nested;
+        nested = subst (λ (ws : List Catalog). is_nested (length (without_innermost ws)) parts ≡ true) (sym f) nested;
       }) h ran
 
   module _ (parts : List Part) (levels : List PlainTerms) (m : Mid) (length_is : length levels ≡ suc (length m.saved)) where
-    inner : (ws : List World) (s : Sort) (r : Reply) (σ : State) (calls : List Call) (turn : Turn) (ν : State) → m.saved ≡ ws → sort_of r ≡ s → is_nested (length ws) (part.Close ∷ parts) ≡ true
+    inner : (ws : List Catalog) (s : Sort) (r : Reply) (σ : State) (calls : List Call) (turn : Turn) (ν : State) → m.saved ≡ ws → sort_of r ≡ s → is_nested (length ws) (part.Close ∷ parts) ≡ true
         → Closed n w k a s ws m σ → AfterInner s r levels calls turn → Ran n σ calls ν → Turned parts (run_on (part.Close ∷ parts) 0 m levels) turn ν
     inner [] s r σ calls turn ν e is nested closes h ran = cc
-    inner (v ∷ vs) sort.Joined r σ calls turn ν e is nested inside h ran = joins parts v vs r levels m σ calls turn ν (length_is ∙ ap (λ (ws : List World). suc (length ws)) e) e nested inside h ran
+    inner (v ∷ vs) sort.Joined r σ calls turn ν e is nested inside h ran = joins parts v vs r levels m σ calls turn ν (length_is ∙ ap (λ (ws : List Catalog). suc (length ws)) e) e nested inside h ran
     inner (v ∷ vs) sort.Refused r σ calls turn ν e is nested inside h ran = stops parts _ r levels m σ calls turn ν (not_atomic r sort.Refused is (λ e. cc)) length_is inside.stands h ran
     inner (v ∷ vs) s r σ calls turn ν e is nested not_so h ran = absurd not_so
 
@@ -233,11 +233,11 @@ module _ (n : ℕ) (w : World) (k a : ℕ) where
   committed sort.Committed r levels m all σ calls last ν e f is g closes (none_left, same) ran =
       inl (record { comes = record { replies = innermost levels; tables = m.now }; said = same; alone_is = g; left = none_called (Committed n w k a m.now) σ ν calls none_left ran closes })
   committed sort.Refused r levels m all σ calls last ν e f is g inside h ran =
-      let over = all_end levels m σ r calls last ν (e ∙ ap (λ (ws : List World). suc (length ws)) (sym f)) inside.stands h ran in
+      let over = all_end levels m σ r calls last ν (e ∙ ap (λ (ws : List Catalog). suc (length ws)) (sym f)) inside.stands h ran in
       inr (subst (λ (x : Reply). is_atomic x ≡ false) (sym over.0) (not_atomic r sort.Refused is (λ e. cc)), over.1)
   committed s r levels m all σ calls last ν e f is g not_so h ran = absurd not_so
 
-  none_open : (ws : List World) (skipped : ℕ) → is_nested (around skipped ws) [] ≡ true → (ws ≡ []) × (skipped ≡ 0)
+  none_open : (ws : List Catalog) (skipped : ℕ) → is_nested (around skipped ws) [] ≡ true → (ws ≡ []) × (skipped ≡ 0)
   none_open [] zero e = (refl, refl)
   none_open (v ∷ vs) zero e = cc
   none_open ws (suc j) e = cc
@@ -248,8 +248,8 @@ module _ (n : ℕ) (w : World) (k a : ℕ) where
       let on = subst (λ (cs : List Call). Ran n σ cs ν) e ran in
       let none_left = none_open s.m.saved skipped s.nested in
       subst (λ (o : Option Reply). Attempted all o ν) (sym is)
-      (committed (sort_of x) x levels s.m all on.0 rest last ν (s.length_is ∙ ap (λ (ws : List World). suc (length ws)) none_left.0) none_left.0 refl s.alone_is
-      (subst (λ (ws : List World). Closed n w k a (sort_of x) ws s.m on.0) none_left.0 (closed n w k a σ on.0 s.m x s.inside on.1)) h on.2)
+      (committed (sort_of x) x levels s.m all on.0 rest last ν (s.length_is ∙ ap (λ (ws : List Catalog). suc (length ws)) none_left.0) none_left.0 refl s.alone_is
+      (subst (λ (ws : List Catalog). Closed n w k a (sort_of x) ws s.m on.0) none_left.0 (closed n w k a σ on.0 s.m x s.inside on.1)) h on.2)
   attempted (p ∷ parts) zero levels all σ calls ending ν s (now, rest, turn, e, h, goes) ran =
       by_turn turn (λ j later μ t g. attempted parts j later all μ rest ending ν t g) parted.0
       (subst (λ (o : Option alone.Commit). Turned parts o turn parted.0) (sym s.alone_is) (served parts levels s.m s.length_is p σ now turn parted.0 s.inside s.nested h parted.1)) goes parted.2
@@ -339,11 +339,11 @@ RefusedSo σ o = IsRefused σ o.reply o.state
 
 waits : (σ : State) (over : List ℕ) (n : ℕ) (parts : List Part) (retries : ℕ) → is_waiting σ n ≡ true → RefusedSo σ (outcome σ over n (DoCommand (command.OneShot parts retries)))
 unfolding outcome
-waits σ over n parts retries e = cases (seat_at σ.seats n) refl
+waits σ over n parts retries e = cases (session_at σ.sessions n) refl
   where
-    cases : (x : Option Seat) → seat_at σ.seats n ≡ x → RefusedSo σ (by_seat σ over n (DoCommand (command.OneShot parts retries)) x)
+    cases : (x : Option Session) → session_at σ.sessions n ≡ x → RefusedSo σ (step_of σ over n (DoCommand (command.OneShot parts retries)) x)
     cases None f = record { plain = refl; not_opened = λ g. cc; same = refl }
-    cases (Some s) f = subst (λ (b : Bool). RefusedSo σ (command_if σ over s (command.OneShot parts retries) (b && true))) (sym (ap (is_waiting σ) (found σ.seats s n f) ∙ e)) (record { plain = refl; not_opened = λ g. cc; same = refl })
+    cases (Some s) f = subst (λ (b : Bool). RefusedSo σ (command_if σ over s (command.OneShot parts retries) (b && true))) (sym (ap (is_waiting σ) (found σ.sessions s n f) ∙ e)) (record { plain = refl; not_opened = λ g. cc; same = refl })
 
 refused : (σ μ : State) (n : ℕ) (parts : List Part) (retries : ℕ) (x : Reply) → is_waiting σ n ≡ true → StepMadeOrRefused σ n (DoCommand (command.OneShot parts retries)) x μ → IsRefused σ x μ
 refused σ μ n parts retries x e (inl made) = subst (RefusedSo σ) made.made (waits σ made.over n parts retries e)
@@ -370,7 +370,7 @@ leaves_of σ μ n parts r (inl done) = record {
   ends = inl (record {
     replies = done.comes.replies;
     said = done.said;
-    alone_is = done.alone_is ∙ ap (λ (v : World). Some (record { replies = done.comes.replies; tables = v })) (sym done.left.tables);
+    alone_is = done.alone_is ∙ ap (λ (v : Catalog). Some (record { replies = done.comes.replies; tables = v })) (sym done.left.tables);
     once = done.left.commits;
   });
 }

@@ -6,13 +6,13 @@ use Rattle.tab_model.specs.declared.data.Command.{Command}
 use Rattle.tab_model.specs.declared.data.Command.TheVariants as command
 use Rattle.tab_model.specs.declared.data.Entry.{Entry}
 use Rattle.tab_model.specs.declared.data.Entry.TheVariants.{Committed}
-use Rattle.tab_model.specs.Worlds.{World}
+use Rattle.tab_model.specs.Catalogs.{Catalog}
 use Rattle.tab_model.specs.Ages.{Answer, Granted, Wait, Die}
 use Rattle.tab_model.specs.Alone.{start, after, replies}
-use Rattle.tab_model.specs.State.{Transaction, Seat, State, seat_at, transaction_at, transaction_in, mid_of, age_in, moves_in, told_in_transaction, IsSound}
-use Rattle.tab_model.specs.Outcome.{DoCommand, Outcome, outcome, decided, within, operate, opened, nested, begin, one_shot, abort, commit_at, commit, do_command, command_if, by_seat}
+use Rattle.tab_model.specs.State.{Transaction, Session, State, session_at, transaction_at, transaction_in, mid_of, age_in, moves_in, replies_in, IsSound}
+use Rattle.tab_model.specs.Outcome.{DoCommand, Outcome, outcome, by_lock_answer, within_limit, operate, open_level_1, open_child, begin, one_shot, abort, commit_at, commit, do_command, command_if, step_of}
 use Rattle.tab_model.specs.Run.{entries}
-use Rattle.tab_model.proofs.Seats.{found}
+use Rattle.tab_model.proofs.SessionLists.{found}
 use Rattle.tab_model.proofs.SoundSteps.{step_sound}
 use Rattle.tab_oneshot.specs.Calls.{Call, Asked, Waited, Again}
 use Rattle.tab_oneshot.proofs.LastReplies.{is_handed, AllHanded}
@@ -35,12 +35,12 @@ record Enters (σ : State) (over : List ℕ) (n : ℕ) (o : Outcome) : Type 0 wh
 abbrev Does : State → List ℕ → ℕ → Outcome → Type 0
 Does σ over n o = Quiet σ o ⊎ Enters σ over n o
 
-module _ (σ : State) (over : List ℕ) (n : ℕ) (s : Seat) (here : seat_at σ.seats n ≡ Some s) where
-  opens : (b : Bool) → Quiet σ (opened σ s b)
+module _ (σ : State) (over : List ℕ) (n : ℕ) (s : Session) (here : session_at σ.sessions n ≡ Some s) where
+  opens : (b : Bool) → Quiet σ (open_level_1 σ s b)
   opens false = (refl, refl, refl)
   opens true = (refl, refl, refl)
 
-  nests : (t : Transaction) (a b : Bool) → Quiet σ (nested σ s t a b)
+  nests : (t : Transaction) (a b : Bool) → Quiet σ (open_child σ s t a b)
   nests t false b = (refl, refl, refl)
   nests t true false = (refl, refl, refl)
   nests t true true = (refl, refl, refl)
@@ -57,12 +57,12 @@ module _ (σ : State) (over : List ℕ) (n : ℕ) (s : Seat) (here : seat_at σ.
   aborts r None = (refl, refl, refl)
   aborts r (Some t) = (refl, refl, refl)
 
-  decides : (t : Transaction) (o : Operation) (a : Answer) → Quiet σ (decided σ s t o a)
+  decides : (t : Transaction) (o : Operation) (a : Answer) → Quiet σ (by_lock_answer σ s t o a)
   decides t o Granted = (refl, refl, refl)
   decides t o Wait = (refl, refl, refl)
   decides t o Die = (refl, refl, refl)
 
-  limits : (t : Transaction) (o : Operation) (b : Bool) → Quiet σ (within σ s t o b)
+  limits : (t : Transaction) (o : Operation) (b : Bool) → Quiet σ (within_limit σ s t o b)
   limits t o false = (refl, refl, refl)
   limits t o true = decides t o _
 
@@ -75,7 +75,7 @@ module _ (σ : State) (over : List ℕ) (n : ℕ) (s : Seat) (here : seat_at σ.
   commits_at t true e = inr (record {
     transaction = t;
     opened = ap transaction_in here ∙ e;
-    entry = ap (λ (j : ℕ). Some (Committed (σ.commits + 1) j t.age t.moves t.told over)) (found σ.seats s n here);
+    entry = ap (λ (j : ℕ). Some (Committed (σ.commits + 1) j t.age t.moves t.told over)) (found σ.sessions s n here);
     tables = refl;
     commits = omega arith;
   })
@@ -98,16 +98,16 @@ module _ (σ : State) (over : List ℕ) (n : ℕ) (s : Seat) (here : seat_at σ.
 
 steps : (σ : State) (over : List ℕ) (n : ℕ) (c : Command) → is_handed c ≡ true → Does σ over n (outcome σ over n (DoCommand c))
 unfolding outcome
-steps σ over n c h = cases (seat_at σ.seats n) refl
+steps σ over n c h = cases (session_at σ.sessions n) refl
   where
-    cases : (x : Option Seat) → seat_at σ.seats n ≡ x → Does σ over n (by_seat σ over n (DoCommand c) x)
+    cases : (x : Option Session) → session_at σ.sessions n ≡ x → Does σ over n (step_of σ over n (DoCommand c) x)
     cases None e = inl (refl, refl, refl)
     cases (Some s) e = commands σ over n s e c _ h
 
 -- ---- calls
 
 -- each entry is a commit of the session on what the one before it left, and the state is what the last left
-abbrev Logs : ℕ → World → ℕ → List Entry → State → Type 0
+abbrev Logs : ℕ → Catalog → ℕ → List Entry → State → Type 0
 Logs n w k [] μ = (μ.tables ≡ w) × (μ.commits ≡ k)
 Logs n w k (e ∷ es) μ = (c : IsCommitOf n w k e) × Logs n (after (start w c.age) c.moves).now (suc k) es μ
 
@@ -115,7 +115,7 @@ module _ (n : ℕ) (σ μ : State) (over : List ℕ) (log : List Entry) (sound :
   after_step : (o : Outcome) → Does σ over n o → Logs n o.state.tables o.state.commits log μ → Logs n σ.tables σ.commits (entries o.entry ++ log) μ
   after_step o (inl (none_entered, same, as_many)) h =
       subst (λ (x : Option Entry). Logs n σ.tables σ.commits (entries x ++ log) μ) (sym none_entered)
-      (subst (λ (w : World). Logs n w σ.commits log μ) same (subst (λ (k : ℕ). Logs n o.state.tables k log μ) as_many h))
+      (subst (λ (w : Catalog). Logs n w σ.commits log μ) same (subst (λ (k : ℕ). Logs n o.state.tables k log μ) as_many h))
   after_step o (inr e) h =
       subst (λ (x : Option Entry). Logs n σ.tables σ.commits (entries x ++ log) μ) (sym e.entry) (
         record {
@@ -124,9 +124,9 @@ module _ (n : ℕ) (σ μ : State) (over : List ℕ) (log : List Entry) (sound :
           told = e.transaction.told;
           over = over;
           is = ap (λ (j : ℕ). Committed j n e.transaction.age e.transaction.moves e.transaction.told over) (omega arith);
-          alone = subst (λ (x : Option Transaction). replies (start σ.tables (age_in x)) (moves_in x) ≡ told_in_transaction x) e.opened (sound.told n);
+          alone = subst (λ (x : Option Transaction). replies (start σ.tables (age_in x)) (moves_in x) ≡ replies_in x) e.opened (sound.told n);
         },
-        subst (λ (w : World). Logs n w (suc σ.commits) log μ) e.tables (subst (λ (k : ℕ). Logs n o.state.tables k log μ) e.commits h),
+        subst (λ (w : Catalog). Logs n w (suc σ.commits) log μ) e.tables (subst (λ (k : ℕ). Logs n o.state.tables k log μ) e.commits h),
       )
 
 logged : (n : ℕ) (σ μ : State) (calls : List Call) → IsSound σ → AllHanded calls → (ran : Ran n σ calls μ) → Logs n σ.tables σ.commits (of_calls n σ calls μ ran).log μ
@@ -139,7 +139,7 @@ logged n σ μ (Asked c r ∷ calls) sound (h, hs) (ρ, inr (takes, none_told, s
 logged n σ μ (Waited v ∷ calls) sound h (e, ran) = logged n σ μ calls sound h ran
 logged n σ μ (Again ∷ calls) sound h ran = logged n σ μ calls sound h ran
 
-counted : (n : ℕ) (w : World) (k : ℕ) (log : List Entry) (μ : State) → Logs n w k log μ → μ.commits ≡ length log + k
+counted : (n : ℕ) (w : Catalog) (k : ℕ) (log : List Entry) (μ : State) → Logs n w k log μ → μ.commits ≡ length log + k
 counted n w k [] μ h = omega (arith, h.1)
 counted n w k (e ∷ es) μ (c, h) = omega (arith, counted n (after (start w c.age) c.moves).now (suc k) es μ h)
 

@@ -151,7 +151,7 @@ module _ (n : ℕ) where
   level_ended r (ts ∷ us ∷ outer) σ e = put 1 r (us ∷ outer) σ (sym e)
 
   operated : (s : Sort) (r : Reply) (levels : List PlainTerms) (σ : Held) → Deepens s (length levels) (depth σ.now n) → OnceTurned σ (AfterOperation s r levels)
-  operated sort.Told r levels σ e = put 0 r levels σ (sym e)
+  operated sort.Answered r levels σ e = put 0 r levels σ (sym e)
   operated sort.Failed r levels σ e = level_ended r levels σ e
   operated sort.Restarted r levels σ e = here (IsOver reply.NoMemory) Kept σ Restarts e
   operated sort.Refused r levels σ e = stopped r levels σ (sym e)

@@ -12,14 +12,14 @@ use Rattle.tab_model.specs.declared.data.Part.{Part}
 use Rattle.tab_model.specs.declared.data.Reply.{Reply}
 use Rattle.tab_model.specs.declared.data.Reply.TheVariants as reply
 use Rattle.tab_model.specs.declared.data.Limit.TheVariants as limit
-use Rattle.tab_model.specs.Worlds.{World, find}
+use Rattle.tab_model.specs.Catalogs.{Catalog, find}
 use Rattle.tab_model.specs.Operations.{table_of, failure}
 use Rattle.tab_model.specs.Ages.{Answer, Granted, Wait, Die}
-use Rattle.tab_model.specs.Alone.{Mid, next, back, back_to, forgotten, told, start}
-use Rattle.tab_model.specs.State.{Transaction, Seat, State, seat_at, transaction_at, transaction_in, mid_of, is_waiting, without_request}
-use Rattle.tab_model.specs.Outcome.{DoCommand, Outcome, outcome, change, with_transaction, with_queue, ends, after_move, made, is_empty, decided, within, operate, opened, nested, begin, one_shot, abort, commit_at, commit, do_command, command_if, by_seat}
+use Rattle.tab_model.specs.Alone.{Mid, next, back, back_to, without_innermost, reply_to, start}
+use Rattle.tab_model.specs.State.{Transaction, Session, State, session_at, transaction_at, transaction_in, mid_of, is_waiting, without_request}
+use Rattle.tab_model.specs.Outcome.{DoCommand, Outcome, outcome, with_changed, with_transaction, with_queue, ends_transaction, after_move, make, is_empty, by_lock_answer, within_limit, operate, open_level_1, open_child, begin, one_shot, abort, commit_at, commit, do_command, command_if, step_of}
 use Rattle.tab_model.specs.Run.{item_of}
-use Rattle.tab_model.proofs.Seats.{found, seat_at-change, itself}
+use Rattle.tab_model.proofs.SessionLists.{found, session_at-change, itself}
 use Rattle.tab_model.proofs.OperationAnswers.{answers}
 use Rattle.tab_model.proofs.RefusalLaws.{after-more}
 use Rattle.tab_oneshot.specs.declared.answer.Sort.{Sort}
@@ -43,7 +43,7 @@ depth σ n = depth_in σ (transaction_at σ n)
 
 -- what an answer says of them
 abbrev pub Deepens : Sort → ℕ → ℕ → Type 0
-Deepens sort.Told d e = e ≡ d
+Deepens sort.Answered d e = e ≡ d
 Deepens sort.Failed d e = e ≡ less_one d
 Deepens sort.Aborted d e = e ≡ less_one d
 Deepens sort.Opened d e = e ≡ suc d
@@ -63,9 +63,9 @@ record Steps (n d : ℕ) (o : Outcome) : Type 0 where
 
 -- whether an operation fails is what its answer says
 abbrev Tells : Option Reply → Reply → Type 0
-Tells f r = ((is_some f ≡ true) × (sort_of r ≡ sort.Failed) ⊎ (is_some f ≡ false) × (sort_of r ≡ sort.Told)) × (item_of r ≡ [])
+Tells f r = ((is_some f ≡ true) × (sort_of r ≡ sort.Failed) ⊎ (is_some f ≡ false) × (sort_of r ≡ sort.Answered)) × (item_of r ≡ [])
 
-back_levels : (t : Transaction) (x : Move) (r : Option Reply) (σ : State) (ws : List World) → (mid_of σ t).saved ≡ ws → next (mid_of σ t) x ≡ back (mid_of σ t)
+back_levels : (t : Transaction) (x : Move) (r : Option Reply) (σ : State) (ws : List Catalog) → (mid_of σ t).saved ≡ ws → next (mid_of σ t) x ≡ back (mid_of σ t)
     → depth_in σ (after_move t x r (is_empty ws)) ≡ length ws
 back_levels t x r σ [] e f = refl
 back_levels t x r σ (w ∷ ws) e f = ap (λ (k : Mid). suc (length k.saved)) (after-more (start σ.tables t.age) t.moves x ∙ f) ∙ ap (λ vs. suc (length (back_to (mid_of σ t) vs).saved)) e
@@ -81,62 +81,62 @@ pub if_false : {A : Type 0} (b : Bool) (x y : A) → b ≡ false → (if b then 
 if_false true x y e = cc
 if_false false x y e = refl
 
-module _ (σ : State) (n : ℕ) (s : Seat) (here : seat_at σ.seats n ≡ Some s) where
-  pub placed : (o : Option Transaction) → transaction_in (seat_at (change σ.seats (with_transaction s o)) n) ≡ o
+module _ (σ : State) (n : ℕ) (s : Session) (here : session_at σ.sessions n ≡ Some s) where
+  pub placed : (o : Option Transaction) → transaction_in (session_at (with_changed σ.sessions (with_transaction s o)) n) ≡ o
   placed o = ap transaction_in
-      (seat_at-change σ.seats (with_transaction s o) s n (ap (seat_at σ.seats) (found σ.seats s n here) ∙ here)
-      ∙ ap (λ b. if b then Some (with_transaction s o) else seat_at σ.seats n) (ap (λ m. n == m) (found σ.seats s n here) ∙ itself n))
+      (session_at-change σ.sessions (with_transaction s o) s n (ap (session_at σ.sessions) (found σ.sessions s n here) ∙ here)
+      ∙ ap (λ b. if b then Some (with_transaction s o) else session_at σ.sessions n) (ap (λ m. n == m) (found σ.sessions s n here) ∙ itself n))
 
   -- what a move leaves of the levels is what the tables and the moves say
-  moved : (t : Transaction) (x : Move) (r : Reply) (d : ℕ) → Deepens (sort_of (made σ s t x r).reply) d (depth_in σ (after_move t x (told (mid_of σ t) x) (ends (mid_of σ t) x)))
-      → Deepens (sort_of (made σ s t x r).reply) d (depth (made σ s t x r).state n)
-  moved t x r d h = subst (λ (o : Option Transaction). Deepens (sort_of (made σ s t x r).reply) d (depth_in σ o)) (sym (placed _)) h
+  moved : (t : Transaction) (x : Move) (r : Reply) (d : ℕ) → Deepens (sort_of (make σ s t x r).reply) d (depth_in σ (after_move t x (reply_to (mid_of σ t) x) (ends_transaction (mid_of σ t) x)))
+      → Deepens (sort_of (make σ s t x r).reply) d (depth (make σ s t x r).state n)
+  moved t x r d h = subst (λ (o : Option Transaction). Deepens (sort_of (make σ s t x r).reply) d (depth_in σ o)) (sym (placed _)) h
 
-  operated : (t : Transaction) (o : Operation) → Steps n (depth_in σ (Some t)) (made σ s t (Do o) reply.Done)
+  operated : (t : Transaction) (o : Operation) → Steps n (depth_in σ (Some t)) (make σ s t (Do o) reply.Done)
   operated t o = by_failure (answers Tells (record { no_table = λ u. (inl (refl, refl), refl); bad_type = λ u r. (inl (refl, refl), refl); no_index = λ u a. (inl (refl, refl), refl); found = λ rs. (inr (refl, refl), refl); done = (inr (refl, refl), refl) }) (find (mid_of σ t).now (table_of o)) o)
     where
       m : Mid
       m = mid_of σ t
 
       told_now : Option Reply
-      told_now = told m (Do o)
+      told_now = reply_to m (Do o)
 
-      by_failure : Tells (failure m.now o) (made σ s t (Do o) reply.Done).reply → Steps n (depth_in σ (Some t)) (made σ s t (Do o) reply.Done)
+      by_failure : Tells (failure m.now o) (make σ s t (Do o) reply.Done).reply → Steps n (depth_in σ (Some t)) (make σ s t (Do o) reply.Done)
       by_failure (inl (fails, is), item) = record {
-        levels = moved t (Do o) reply.Done _ (subst (λ k. Deepens k (suc (length m.saved)) (depth_in σ (after_move t (Do o) told_now (ends m (Do o))))) (sym is)
+        levels = moved t (Do o) reply.Done _ (subst (λ k. Deepens k (suc (length m.saved)) (depth_in σ (after_move t (Do o) told_now (ends_transaction m (Do o))))) (sym is)
             (ap (λ b. depth_in σ (after_move t (Do o) told_now (b && is_empty m.saved))) fails ∙ back_levels t (Do o) told_now σ m.saved refl (if_true (is_some (failure m.now o)) _ _ fails)));
         item = item;
       }
       by_failure (inr (fits, is), item) = record {
-        levels = moved t (Do o) reply.Done _ (subst (λ k. Deepens k (suc (length m.saved)) (depth_in σ (after_move t (Do o) told_now (ends m (Do o))))) (sym is)
+        levels = moved t (Do o) reply.Done _ (subst (λ k. Deepens k (suc (length m.saved)) (depth_in σ (after_move t (Do o) told_now (ends_transaction m (Do o))))) (sym is)
             (ap (λ b. depth_in σ (after_move t (Do o) told_now (b && is_empty m.saved))) fits ∙ on_levels t (Do o) told_now σ _ (if_false (is_some (failure m.now o)) _ _ fits)));
         item = item;
       }
 
-  begun : (t : Transaction) → Steps n (depth_in σ (Some t)) (made σ s t Open reply.Done)
-  begun t = record { levels = moved t Open reply.Done (depth_in σ (Some t)) (on_levels t Open (told (mid_of σ t) Open) σ _ refl); item = refl }
+  begun : (t : Transaction) → Steps n (depth_in σ (Some t)) (make σ s t Open reply.Done)
+  begun t = record { levels = moved t Open reply.Done (depth_in σ (Some t)) (on_levels t Open (reply_to (mid_of σ t) Open) σ _ refl); item = refl }
 
-  joined : (t : Transaction) (ws : List World) → (mid_of σ t).saved ≡ ws → is_empty ws ≡ false → Steps n (depth_in σ (Some t)) (made σ s t Close reply.Done)
+  joined : (t : Transaction) (ws : List Catalog) → (mid_of σ t).saved ≡ ws → is_empty ws ≡ false → Steps n (depth_in σ (Some t)) (make σ s t Close reply.Done)
   joined t [] e f = cc
   joined t (w ∷ ws) e f = record {
-    levels = moved t Close reply.Done (depth_in σ (Some t)) (on_levels t Close (told (mid_of σ t) Close) σ _ refl ∙ ap (λ vs. suc (length (forgotten vs))) e ∙ sym (ap length e));
+    levels = moved t Close reply.Done (depth_in σ (Some t)) (on_levels t Close (reply_to (mid_of σ t) Close) σ _ refl ∙ ap (λ vs. suc (length (without_innermost vs))) e ∙ sym (ap length e));
     item = refl;
   }
 
-  undone : (t : Transaction) (r : Term) → Steps n (depth_in σ (Some t)) (made σ s t Undo (reply.UserAbort r))
-  undone t r = record { levels = moved t Undo (reply.UserAbort r) (depth_in σ (Some t)) (back_levels t Undo (told (mid_of σ t) Undo) σ (mid_of σ t).saved refl refl); item = refl }
+  undone : (t : Transaction) (r : Term) → Steps n (depth_in σ (Some t)) (make σ s t Undo (reply.UserAbort r))
+  undone t r = record { levels = moved t Undo (reply.UserAbort r) (depth_in σ (Some t)) (back_levels t Undo (reply_to (mid_of σ t) Undo) σ (mid_of σ t).saved refl refl); item = refl }
 
 -- ---- commands
 
 quiet : (σ : State) (n : ℕ) (o : Option Transaction) (r : Reply) → transaction_at σ n ≡ o → Deepens (sort_of r) (depth_in σ o) (depth_in σ o) → item_of r ≡ [] → Steps n (depth_in σ o) (record { state = σ; reply = r; entry = None })
 quiet σ n o r e h item = record { levels = subst (λ (x : Option Transaction). Deepens (sort_of r) (depth_in σ o) (depth_in σ x)) (sym e) h; item = item }
 
-module _ (σ : State) (over : List ℕ) (n : ℕ) (s : Seat) (here : seat_at σ.seats n ≡ Some s) where
-  opened_steps : (b : Bool) → s.transaction ≡ None → Steps n 0 (opened σ s b)
+module _ (σ : State) (over : List ℕ) (n : ℕ) (s : Session) (here : session_at σ.sessions n ≡ Some s) where
+  opened_steps : (b : Bool) → s.transaction ≡ None → Steps n 0 (open_level_1 σ s b)
   opened_steps false e = quiet σ n None (reply.SystemLimit limit.Ages) (ap transaction_in here ∙ e) refl refl
   opened_steps true e = record { levels = ap (depth_in σ) (placed σ n s here _); item = refl }
 
-  nested_steps : (t : Transaction) (a b : Bool) → s.transaction ≡ Some t → Steps n (depth_in σ (Some t)) (nested σ s t a b)
+  nested_steps : (t : Transaction) (a b : Bool) → s.transaction ≡ Some t → Steps n (depth_in σ (Some t)) (open_child σ s t a b)
   nested_steps t false b e = quiet σ n (Some t) _ (ap transaction_in here ∙ e) refl refl
   nested_steps t true false e = quiet σ n (Some t) _ (ap transaction_in here ∙ e) refl refl
   nested_steps t true true e = begun σ n s here t
@@ -161,12 +161,12 @@ module _ (σ : State) (over : List ℕ) (n : ℕ) (s : Seat) (here : seat_at σ.
   commit_steps None e = quiet σ n None _ (ap transaction_in here ∙ e) tt refl
   commit_steps (Some t) e = commit_at_steps t _ refl
 
-  decided_steps : (t : Transaction) (o : Operation) (a : Answer) → s.transaction ≡ Some t → Steps n (depth_in σ (Some t)) (decided σ s t o a)
+  decided_steps : (t : Transaction) (o : Operation) (a : Answer) → s.transaction ≡ Some t → Steps n (depth_in σ (Some t)) (by_lock_answer σ s t o a)
   decided_steps t o Granted e = operated σ n s here t o
   decided_steps t o Wait e = record { levels = ap (depth_in σ) (ap transaction_in here ∙ e); item = refl }
   decided_steps t o Die e = record { levels = ap (depth_in σ) (placed σ n s here _); item = refl }
 
-  within_steps : (t : Transaction) (o : Operation) (b : Bool) → s.transaction ≡ Some t → Steps n (depth_in σ (Some t)) (within σ s t o b)
+  within_steps : (t : Transaction) (o : Operation) (b : Bool) → s.transaction ≡ Some t → Steps n (depth_in σ (Some t)) (within_limit σ s t o b)
   within_steps t o false e = quiet σ n (Some t) _ (ap transaction_in here ∙ e) refl refl
   within_steps t o true e = decided_steps t o _ e
 
@@ -188,9 +188,9 @@ module _ (σ : State) (over : List ℕ) (n : ℕ) (s : Seat) (here : seat_at σ.
 
 steps : (σ : State) (over : List ℕ) (n : ℕ) (c : Command) → is_handed c ≡ true → Steps n (depth σ n) (outcome σ over n (DoCommand c))
 unfolding outcome
-steps σ over n c h = cases (seat_at σ.seats n) refl
+steps σ over n c h = cases (session_at σ.sessions n) refl
   where
-    cases : (x : Option Seat) → seat_at σ.seats n ≡ x → Steps n (depth_in σ (transaction_in x)) (by_seat σ over n (DoCommand c) x)
+    cases : (x : Option Session) → session_at σ.sessions n ≡ x → Steps n (depth_in σ (transaction_in x)) (step_of σ over n (DoCommand c) x)
     cases None e = quiet σ n None _ (ap transaction_in e) tt refl
     cases (Some s) e = command_steps σ over n s e c _ h
 
@@ -203,17 +203,17 @@ no_item σ over n c h = (steps σ over n c h).item
 -- an abort of an open level is answered so
 pub aborts : (σ : State) (over : List ℕ) (n : ℕ) (r : Term) → 1 ≤ depth σ n → (outcome σ over n (DoCommand (command.Abort r))).reply ≡ reply.UserAbort r
 unfolding outcome
-aborts σ over n r open_now = cases (seat_at σ.seats n) refl open_now
+aborts σ over n r open_now = cases (session_at σ.sessions n) refl open_now
   where
-    by_transaction : (s : Seat) (o : Option Transaction) → 1 ≤ depth_in σ o → (abort σ s r o).reply ≡ reply.UserAbort r
+    by_transaction : (s : Session) (o : Option Transaction) → 1 ≤ depth_in σ o → (abort σ s r o).reply ≡ reply.UserAbort r
     by_transaction s None h = absurd (omega arith)
     by_transaction s (Some t) h = refl
 
-    by_wait : (s : Seat) (b : Bool) → b ≡ false → 1 ≤ depth_in σ s.transaction → (command_if σ over s (command.Abort r) b).reply ≡ reply.UserAbort r
+    by_wait : (s : Session) (b : Bool) → b ≡ false → 1 ≤ depth_in σ s.transaction → (command_if σ over s (command.Abort r) b).reply ≡ reply.UserAbort r
     by_wait s true e h = cc
     by_wait s false e h = by_transaction s s.transaction h
 
-    cases : (x : Option Seat) → seat_at σ.seats n ≡ x → 1 ≤ depth_in σ (transaction_in x) → (by_seat σ over n (DoCommand (command.Abort r)) x).reply ≡ reply.UserAbort r
+    cases : (x : Option Session) → session_at σ.sessions n ≡ x → 1 ≤ depth_in σ (transaction_in x) → (step_of σ over n (DoCommand (command.Abort r)) x).reply ≡ reply.UserAbort r
     cases None e h = absurd (omega arith)
     cases (Some s) e h = by_wait s _ (and-false (is_waiting σ s.number)) h
 
@@ -224,20 +224,20 @@ OpensOne s d = Unit {0}
 -- a one-shot that is taken opens level 1
 pub opens : (σ : State) (over : List ℕ) (n : ℕ) (parts : List Part) (retries : ℕ) → sort_of (outcome σ over n (DoCommand (command.OneShot parts retries))).reply ≡ sort.Opened → depth (outcome σ over n (DoCommand (command.OneShot parts retries))).state n ≡ 1
 unfolding outcome
-opens σ over n parts retries is = subst (λ (k : Sort). OpensOne k (depth (by_seat σ over n (DoCommand (command.OneShot parts retries)) (seat_at σ.seats n)).state n)) is (cases (seat_at σ.seats n) refl)
+opens σ over n parts retries is = subst (λ (k : Sort). OpensOne k (depth (step_of σ over n (DoCommand (command.OneShot parts retries)) (session_at σ.sessions n)).state n)) is (cases (session_at σ.sessions n) refl)
   where
-    by_room : (s : Seat) (b : Bool) → seat_at σ.seats n ≡ Some s → OpensOne (sort_of (opened σ s b).reply) (depth (opened σ s b).state n)
+    by_room : (s : Session) (b : Bool) → session_at σ.sessions n ≡ Some s → OpensOne (sort_of (open_level_1 σ s b).reply) (depth (open_level_1 σ s b).state n)
     by_room s false e = tt
     by_room s true e = ap (depth_in σ) (placed σ n s e _)
 
-    by_transaction : (s : Seat) (o : Option Transaction) → seat_at σ.seats n ≡ Some s → OpensOne (sort_of (one_shot σ s o).reply) (depth (one_shot σ s o).state n)
+    by_transaction : (s : Session) (o : Option Transaction) → session_at σ.sessions n ≡ Some s → OpensOne (sort_of (one_shot σ s o).reply) (depth (one_shot σ s o).state n)
     by_transaction s None e = by_room s _ e
     by_transaction s (Some t) e = tt
 
-    by_wait : (s : Seat) (b : Bool) → seat_at σ.seats n ≡ Some s → OpensOne (sort_of (command_if σ over s (command.OneShot parts retries) b).reply) (depth (command_if σ over s (command.OneShot parts retries) b).state n)
+    by_wait : (s : Session) (b : Bool) → session_at σ.sessions n ≡ Some s → OpensOne (sort_of (command_if σ over s (command.OneShot parts retries) b).reply) (depth (command_if σ over s (command.OneShot parts retries) b).state n)
     by_wait s true e = tt
     by_wait s false e = by_transaction s s.transaction e
 
-    cases : (x : Option Seat) → seat_at σ.seats n ≡ x → OpensOne (sort_of (by_seat σ over n (DoCommand (command.OneShot parts retries)) x).reply) (depth (by_seat σ over n (DoCommand (command.OneShot parts retries)) x).state n)
+    cases : (x : Option Session) → session_at σ.sessions n ≡ x → OpensOne (sort_of (step_of σ over n (DoCommand (command.OneShot parts retries)) x).reply) (depth (step_of σ over n (DoCommand (command.OneShot parts retries)) x).state n)
     cases None e = tt
     cases (Some s) e = by_wait s _ e

@@ -12,7 +12,7 @@ use Rattle.tab_model.specs.declared.data.Reply.TheVariants as reply
 use Rattle.tab_model.specs.State.{State}
 use Rattle.tab_model.specs.Outcome.{Ask, DoCommand, Outcome, outcome}
 use Rattle.tab_model.specs.Refusals.{IsSole}
-use Rattle.tab_model.specs.Run.{item_of, taken_now, JoinsEmpty}
+use Rattle.tab_model.specs.Run.{item_of, delivered_by, JoinsEmpty}
 use Rattle.tab_model.proofs.SessionAlone.{stays_sole, no_wait, no_restart}
 use Rattle.tab_proto.specs.declared.request.Request.{Request}
 use Rattle.tab_proto.specs.declared.request.Request.TheVariants as request
@@ -39,7 +39,7 @@ use Rattle.std.proofs.lemmas.List.Elements.{All-nil, All-cons, All-head, All-tai
 abbrev GivesNone : Reply → Type 0
 GivesNone r = item_of r ≡ []
 
-none_taken : (m n : ℕ) (r : Reply) → GivesNone r → taken_now m n r ≡ []
+none_taken : (m n : ℕ) (r : Reply) → GivesNone r → delivered_by m n r ≡ []
 none_taken m n r e = cases (m == n)
   where
     cases : (b : Bool) → (if b then item_of r else []) ≡ []
@@ -51,7 +51,7 @@ gives_none σ μ n c r h (inl made) = ap item_of (sym (ap (λ o. Outcome.reply o
 gives_none σ μ n c r h (inr (takes, none, same)) = ap item_of none
 
 call_leads : (σ μ : State) (n : ℕ) (c : Command) (r : Reply) → is_handed c ≡ true → (one : StepMadeOrRefused σ n (DoCommand c) r μ) → Leads σ μ (of_step σ n (DoCommand c) r μ one) (λ m. [])
-call_leads σ μ n c r h (inl made) = leads_as σ μ _ (λ m. taken_now m n r) (λ m. []) (λ m. none_taken m n r (gives_none σ μ n c r h (inl made))) (steps σ μ n (DoCommand c) r made tt)
+call_leads σ μ n c r h (inl made) = leads_as σ μ _ (λ m. delivered_by m n r) (λ m. []) (λ m. none_taken m n r (gives_none σ μ n c r h (inl made))) (steps σ μ n (DoCommand c) r made tt)
 call_leads σ μ n c r h (inr (takes, none, same)) = stays σ μ same
 
 calls_lead : (n : ℕ) (σ μ : State) (calls : List Call) → AllHanded calls → (ran : Ran n σ calls μ) → Leads σ μ (of_calls n σ calls μ ran) (λ m. [])
@@ -66,8 +66,8 @@ calls_give_none n σ μ (Asked c r ∷ calls) (h, hs) (ρ, one, ran) = (gives_no
 calls_give_none n σ μ (Waited w ∷ calls) h (e, ran) = (subst (λ (x : Option Reply). Awaited GivesNone x) (sym e) tt, calls_give_none n σ μ calls h ran)
 calls_give_none n σ μ (Again ∷ calls) h ran = calls_give_none n σ μ calls h ran
 
-driven_leads : (σ μ : State) (n : ℕ) (c : Command) (r : Reply) (d : IsDriven σ n c r μ) → Leads σ μ (of_calls n σ d.calls μ d.ran) (λ m. taken_now m n r)
-driven_leads σ μ n c r d = leads_as σ μ _ (λ m. []) (λ m. taken_now m n r) (λ m. sym (none_taken m n r none)) (calls_lead n σ μ d.calls handed d.ran)
+driven_leads : (σ μ : State) (n : ℕ) (c : Command) (r : Reply) (d : IsDriven σ n c r μ) → Leads σ μ (of_calls n σ d.calls μ d.ran) (λ m. delivered_by m n r)
+driven_leads σ μ n c r d = leads_as σ μ _ (λ m. []) (λ m. delivered_by m n r) (λ m. sym (none_taken m n r none)) (calls_lead n σ μ d.calls handed d.ran)
   where
     handed : AllHanded d.calls
     handed = all_handed c d.calls r d.one_shot
@@ -76,8 +76,8 @@ driven_leads σ μ n c r d = leads_as σ μ _ (λ m. []) (λ m. taken_now m n r)
     none = last_reply GivesNone (record { no_memory = refl; no_wait = refl; no_more = refl; terms = λ ts. refl }) c d.calls r d.one_shot (calls_give_none n σ μ d.calls handed d.ran)
 
 -- an answer that changes nothing
-quiet_leads : (σ μ : State) (x : Answer) → μ ≡ σ → GivesNone x.reply → Leads σ μ nothing_done (λ m. taken_now m x.session x.reply)
-quiet_leads σ μ x same e = leads_as σ μ nothing_done (λ m. []) (λ m. taken_now m x.session x.reply) (λ m. sym (none_taken m x.session x.reply e)) (stays σ μ same)
+quiet_leads : (σ μ : State) (x : Answer) → μ ≡ σ → GivesNone x.reply → Leads σ μ nothing_done (λ m. delivered_by m x.session x.reply)
+quiet_leads σ μ x same e = leads_as σ μ nothing_done (λ m. []) (λ m. delivered_by m x.session x.reply) (λ m. sym (none_taken m x.session x.reply e)) (stays σ μ same)
 
 -- ---- an answer follows from its payload and the state
 
@@ -166,17 +166,17 @@ module _ (capacity : ℕ) where
   joins_empty request.Take = tt
   joins_empty (request.Do c) = tt
 
-  request_leads : (σ μ : State) (n : ℕ) (a : Request) (r : Reply) (made : IsMadeOf capacity σ n a r μ) → Leads σ μ (of_request capacity σ n a r μ made) (λ m. taken_now m n r)
+  request_leads : (σ μ : State) (n : ℕ) (a : Request) (r : Reply) (made : IsMadeOf capacity σ n a r μ) → Leads σ μ (of_request capacity σ n a r μ made) (λ m. delivered_by m n r)
   request_leads σ μ n a r (inl (one, made)) = steps σ μ n (ask_for capacity a) r made (joins_empty a)
   request_leads σ μ n (request.Do c) r (inr driven) = driven_leads σ μ n c r driven
   request_leads σ μ n a r (inr driven) = absurd driven
 
-  read_leads : (σ μ : State) (read : Result PlainTerm Stop) (x : Answer) (h : AnsweredRead capacity σ read x μ) → Leads σ μ (of_read capacity σ read x μ h) (λ m. taken_now m x.session x.reply)
+  read_leads : (σ μ : State) (read : Result PlainTerm Stop) (x : Answer) (h : AnsweredRead capacity σ read x μ) → Leads σ μ (of_read capacity σ read x μ h) (λ m. delivered_by m x.session x.reply)
   read_leads σ μ (Err f) x h = quiet_leads σ μ x h.1 (ap (λ y. item_of (Answer.reply y)) h.0)
   read_leads σ μ (Ok t) x (inl h) = quiet_leads σ μ x h.same (ap item_of h.reply)
   read_leads σ μ (Ok t) x (inr h) = request_leads σ μ x.session h.asked x.reply h.made
 
-  answer_leads : (σ μ : State) (p : List ℕ) (x : Answer) (h : Answered capacity σ p x μ) → Leads σ μ (of_answer capacity σ p x μ h) (λ m. taken_now m x.session x.reply)
+  answer_leads : (σ μ : State) (p : List ℕ) (x : Answer) (h : Answered capacity σ p x μ) → Leads σ μ (of_answer capacity σ p x μ h) (λ m. delivered_by m x.session x.reply)
   answer_leads σ μ p x (inl h) = read_leads σ μ (whole p) x h
   answer_leads σ μ p x (inr h) = quiet_leads σ μ x h.same (ap item_of h.reply)
 
@@ -185,7 +185,7 @@ module _ (capacity : ℕ) where
   ran_leads σ τ (p ∷ ps) [] ran = absurd ran
   ran_leads σ τ [] (x ∷ xs) ran = absurd ran
   ran_leads σ τ (p ∷ ps) (x ∷ xs) (μ, one, rest) =
-      then_leads σ μ τ (of_answer capacity σ p x μ one) (of_all capacity μ ps xs τ rest) (λ m. taken_now m x.session x.reply) (λ m. taken_by m xs) (answer_leads σ μ p x one) (ran_leads μ τ ps xs rest)
+      then_leads σ μ τ (of_answer capacity σ p x μ one) (of_all capacity μ ps xs τ rest) (λ m. delivered_by m x.session x.reply) (λ m. taken_by m xs) (answer_leads σ μ p x one) (ran_leads μ τ ps xs rest)
 
   pub run_leads : (σ : State) (ps : List (List ℕ)) (xs : List Answer) (s : IsRun capacity σ ps xs) → Leads σ s.last (account capacity σ ps xs s) (λ m. taken_by m xs)
   run_leads σ ps xs s = ran_leads σ s.last ps xs s.ran

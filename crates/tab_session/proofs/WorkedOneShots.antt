@@ -13,7 +13,7 @@ use Rattle.tab_model.specs.declared.data.Command.{Command}
 use Rattle.tab_model.specs.declared.data.Command.TheVariants as command
 use Rattle.tab_model.specs.declared.data.Reply.{Reply}
 use Rattle.tab_model.specs.declared.data.Reply.TheVariants as reply
-use Rattle.tab_model.specs.State.{State, new, transaction_at, held_by}
+use Rattle.tab_model.specs.State.{State, new, transaction_at, locks_held_by}
 use Rattle.tab_model.specs.Outcome.{DoCommand, outcome}
 use Rattle.tab_model.specs.Run.{Allowed, after_all}
 use Rattle.tab_model.proofs.WorkedFixtures.{record_of, rec, usual, joins, creates, begins, commits, writes}
@@ -323,7 +323,7 @@ row_nomore = record {
     restarts = (first, [], Restarts, refl, inl (reply.Restart, [], refl, (refl, refl)), (refl, refl))
 
 -- it holds no lock then, and waits for none
-pub row_no_lock : held_by (transaction_at given_up 2) ≡ []
+pub row_no_lock : locks_held_by (transaction_at given_up 2) ≡ []
 unfolding outcome canon int_contents
 row_no_lock = refl
 

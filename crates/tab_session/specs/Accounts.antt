@@ -9,7 +9,7 @@ use Rattle.tab_model.specs.declared.data.Move.{Move}
 use Rattle.tab_model.specs.declared.data.Entry.{Entry}
 use Rattle.tab_model.specs.declared.data.Entry.TheVariants.{Committed}
 use Rattle.tab_model.specs.declared.data.Reply.{Reply}
-use Rattle.tab_model.specs.Worlds.{World}
+use Rattle.tab_model.specs.Catalogs.{Catalog}
 use Rattle.tab_model.specs.Alone.{start, after, replies}
 use Rattle.tab_model.specs.State.{State}
 use Rattle.tab_model.specs.Outcome.{Ask, DoCommand}
@@ -104,7 +104,7 @@ module _ (capacity : ℕ) where
   account σ ps xs s = of_all σ ps xs s.last s.ran
 
 -- an entry that is a commit of this session, the next after so many, and told what it is told alone on these tables
-pub record IsCommitOf (n : ℕ) (w : World) (commits : ℕ) (e : Entry) : Type 0 where
+pub record IsCommitOf (n : ℕ) (w : Catalog) (commits : ℕ) (e : Entry) : Type 0 where
   pub age : ℕ
   pub moves : List Move
   pub told : List (Option Reply)

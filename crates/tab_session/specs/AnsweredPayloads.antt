@@ -13,7 +13,7 @@ use Rattle.tab_model.specs.Outcome.{Ask, Join, Leave, Retry, Take, DoCommand}
 use Rattle.tab_model.specs.declared.data.Reply.{Reply}
 use Rattle.tab_model.specs.declared.data.Reply.TheVariants.{BadTerm, BadCommand, NoMemory, Waiting, Restart}
 use Rattle.tab_model.specs.declared.data.Item.{Item}
-use Rattle.tab_model.specs.Run.{taken_now}
+use Rattle.tab_model.specs.Run.{delivered_by}
 use Rattle.tab_core.specs.Runs.{takes_no_memory}
 use Rattle.tab_proto.specs.declared.request.Request.{Request}
 use Rattle.tab_proto.specs.declared.request.Request.TheVariants as request
@@ -151,7 +151,7 @@ AreOf n ps = All (IsOf n) ps
 
 -- the items that a session took in a run
 abbrev pub taken_by : ℕ → List Answer → List Item
-taken_by m xs = flat_map (λ x. taken_now m x.session x.reply) xs
+taken_by m xs = flat_map (λ x. delivered_by m x.session x.reply) xs
 
 -- ---- the bytes of an answer
 

@@ -1,7 +1,7 @@
 pub mod StepsMade
 pub mod OneSessions
 pub mod PartsAlone
-pub mod OneSeats
+pub mod SoleSessions
 pub mod AnsweredPayloads
 pub mod Replays
 pub mod Bounded

@@ -7,7 +7,7 @@ use Rattle.tab_model.specs.declared.data.Part.TheVariants as part
 use Rattle.tab_model.specs.declared.data.Move.TheVariants.{Do, Open, Close}
 use Rattle.tab_model.specs.declared.data.Reply.{Reply}
 use Rattle.tab_model.specs.declared.data.Reply.TheVariants as reply
-use Rattle.tab_model.specs.Worlds.{World}
+use Rattle.tab_model.specs.Catalogs.{Catalog}
 use Rattle.tab_model.specs.Operations.{failure, answer}
 use Rattle.tab_model.specs.Alone.{Mid, start, next, back}
 use Rattle.tab_proto.specs.Replies.{reply_term}
@@ -16,7 +16,7 @@ use Rattle.tab_oneshot.specs.Attempts.{told, innermost, passed}
 -- what is answered to a one-shot that commits, and the tables that it leaves
 pub record Commit : Type 0 where
   pub replies : PlainTerms
-  pub tables : World
+  pub tables : Catalog
 
 -- the innermost level ends so: the level around it goes on behind what is left of it, and with level 1 all is undone
 abbrev pub ended : (ℕ → Mid → List PlainTerms → Option Commit) → Mid → Reply → List PlainTerms → Option Commit
@@ -39,5 +39,5 @@ run_on (part.Open ∷ parts) zero m levels = run_on parts 0 (next m Open) (none 
 run_on (part.Close ∷ parts) zero m levels = closed (run_on parts) m levels
 
 -- all parts, by a transaction of this age
-abbrev pub run_alone : List Part → World → ℕ → Option Commit
+abbrev pub run_alone : List Part → Catalog → ℕ → Option Commit
 run_alone parts w age = run_on parts 0 (start w age) (none ∷ [])

@@ -1,7 +1,7 @@
 -- A step of a core that a request asks for, made or refused for memory (this project's own rules).
 use Rattle.std.specs.Prelude.{◌≡◌, ℕ, List, [], false, Option, ◌⊎◌}
 use Rattle.tab_model.specs.State.{Outbox, State}
-use Rattle.tab_model.specs.Outcome.{Ask, Join, nothing, outcome}
+use Rattle.tab_model.specs.Outcome.{Ask, Join, step_without_entry, outcome}
 use Rattle.tab_model.specs.Run.{Allowed}
 use Rattle.tab_model.specs.declared.data.Entry.{Entry}
 use Rattle.tab_model.specs.declared.data.Reply.{Reply}
@@ -25,4 +25,4 @@ JoinTakesMemory σ session = (b : Outbox) → takes_no_memory σ session (Join b
 
 -- a join is told so, whatever the post, and changes nothing
 abbrev pub IsJoinRefused : State → ℕ → Reply → Type 0
-IsJoinRefused σ session r = (b : Outbox) → outcome σ [] session (Join b) ≡ nothing σ r
+IsJoinRefused σ session r = (b : Outbox) → outcome σ [] session (Join b) ≡ step_without_entry σ r

@@ -16,7 +16,7 @@ use crate::{Answer, Ended};
 use std::alloc::Global;
 use tab_core::{Core, Step};
 use tab_etf::{EncodeFault, EtfFault, FrameFault, Target, decode};
-use tab_model::{Command, Limit, Reply, Told};
+use tab_model::{Command, Limit, Reply, SharedReply};
 use tab_outbox::RingPost;
 use tab_proto::{ProtoFault, Request, append_reply, read_request, session_of, write_reply};
 use tab_term::Term;
@@ -31,11 +31,11 @@ pub fn answer(core: &mut Core<RingPost>, alloc: Global, outbox: usize, payload: 
         Ok(held) => answer_to(core, alloc, outbox, held),
         Err(EtfFault::At(_, _)) => Answer {
             session: 0,
-            reply: Told::new(Reply::BadTerm),
+            reply: SharedReply::new(Reply::BadTerm),
         },
         Err(EtfFault::NoMemory) => Answer {
             session: 0,
-            reply: Told::new(Reply::NoMemory),
+            reply: SharedReply::new(Reply::NoMemory),
         },
     }
 }
@@ -51,11 +51,11 @@ fn answer_to(core: &mut Core<RingPost>, alloc: Global, outbox: usize, held: Term
         },
         Err(ProtoFault::BadCommand) => Answer {
             session: number,
-            reply: Told::new(Reply::BadCommand),
+            reply: SharedReply::new(Reply::BadCommand),
         },
         Err(ProtoFault::NoMemory) => Answer {
             session: number,
-            reply: Told::new(Reply::NoMemory),
+            reply: SharedReply::new(Reply::NoMemory),
         },
     }
 }
@@ -77,7 +77,7 @@ fn reply_to(
     outbox: usize,
     session: u32,
     request: Request,
-) -> Told
+) -> SharedReply
     ensures { RepliesTo outbox core.old session request result core.new }
 {
     match request {
@@ -90,15 +90,15 @@ fn reply_to(
 }
 
 /// A session joins with a post of its own, which is made where the session may join.
-fn join(core: &mut Core<RingPost>, alloc: Global, outbox: usize, session: u32) -> Told
+fn join(core: &mut Core<RingPost>, alloc: Global, outbox: usize, session: u32) -> SharedReply
     ensures { StepMadeOrRefused core.old session (Join (empty_post outbox)) result core.new }
 {
     if let Some(refusal) = join_refusal(core, session) {
-        return Told::new(refusal);
+        return SharedReply::new(refusal);
     }
     match RingPost::with_capacity(alloc, outbox) {
         Ok(post) => reply_of(core, session, Step::Join(post)),
-        Err(_) => Told::new(Reply::NoMemory),
+        Err(_) => SharedReply::new(Reply::NoMemory),
     }
 }
 
@@ -123,7 +123,7 @@ fn reply_to_command(
     alloc: Global,
     session: u32,
     command: Command,
-) -> Told
+) -> SharedReply
     ensures { (outbox : ℕ) → RepliesTo outbox core.old session (request.Do command) result core.new }
 {
     if is_one_shot(&command) {
@@ -142,12 +142,12 @@ fn is_one_shot(command: &Command) -> bool
 }
 
 /// The reply of one step.
-fn reply_of(core: &mut Core<RingPost>, session: u32, step: Step<RingPost>) -> Told
+fn reply_of(core: &mut Core<RingPost>, session: u32, step: Step<RingPost>) -> SharedReply
     ensures { StepMadeOrRefused core.old session (ask_of as_outbox step) result core.new }
 {
     match core.step(session, step) {
         Ok(stepped) => stepped.into_reply(),
-        Err(_) => Told::new(Reply::NoMemory),
+        Err(_) => SharedReply::new(Reply::NoMemory),
     }
 }
 

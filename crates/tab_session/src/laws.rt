@@ -11,7 +11,7 @@ ghost use Rattle.tab_model.specs.declared.data.Reply.{Reply as ReplyOf};
 ghost use Rattle.tab_model.specs.declared.data.Reply.TheVariants as reply;
 ghost use Rattle.tab_model.specs.State.{State, IsSound, transaction_at, is_waiting};
 ghost use Rattle.tab_model.specs.Reached.{IsRising};
-ghost use Rattle.tab_model.specs.Callers.{Callers, callers_after, log_told, AreHeard};
+ghost use Rattle.tab_model.specs.Callers.{Callers, callers_after, log_of_replies, AreHeard};
 ghost use Rattle.tab_model.specs.Refusals.{IsSole};
 ghost use Rattle.tab_model.specs.Run.{IsTied};
 ghost use Rattle.tab_proto.specs.Commands.{is_command};
@@ -32,7 +32,7 @@ pub fn runs_have_a_history()
     ensures sound { (outbox : ℕ) (σ : State) (ps : List (List ℕ)) (xs : List AnswerOf) (s : IsRun outbox σ ps xs) → IsSound σ → IsSound s.last }
     ensures rising { (outbox : ℕ) (σ : State) (ps : List (List ℕ)) (xs : List AnswerOf) (s : IsRun outbox σ ps xs) → IsSound σ → IsRising σ → IsRising s.last }
     ensures tied { (outbox : ℕ) (σ : State) (ps : List (List ℕ)) (xs : List AnswerOf) (s : IsRun outbox σ ps xs) (log : List Entry) (taken : ℕ → List Item) → IsSound σ → IsTied σ log taken → IsTied s.last (log ++ (account outbox σ ps xs s).log) (λ m. taken m ++ taken_by m xs) }
-    ensures told { (outbox : ℕ) (σ : State) (ps : List (List ℕ)) (xs : List AnswerOf) (s : IsRun outbox σ ps xs) (ks : Callers) → AreHeard σ ks → let a = account outbox σ ps xs s in a.log ≡ log_told ks (calls_in a.exchanges) (replies_in a.exchanges) }
+    ensures told { (outbox : ℕ) (σ : State) (ps : List (List ℕ)) (xs : List AnswerOf) (s : IsRun outbox σ ps xs) (ks : Callers) → AreHeard σ ks → let a = account outbox σ ps xs s in a.log ≡ log_of_replies ks (calls_in a.exchanges) (replies_in a.exchanges) }
     ensures heard { (outbox : ℕ) (σ : State) (ps : List (List ℕ)) (xs : List AnswerOf) (s : IsRun outbox σ ps xs) (ks : Callers) → AreHeard σ ks → let a = account outbox σ ps xs s in AreHeard s.last (callers_after ks (calls_in a.exchanges) (replies_in a.exchanges)) }
 {}
 

@@ -1,4 +1,4 @@
-//! One session of a core, as the seat of a one-shot's driver.
+//! One session of a core, as a one-shot's driver uses it.
 
 ghost use Rattle.std.specs.Prelude.{◌≡◌, List, true, IsOk};
 ghost use Rattle.tab_model.specs.Outcome.{DoCommand, is_abort};
@@ -9,12 +9,16 @@ ghost use Rattle.tab_session.specs.StepsMade.{StepMadeOrRefused};
 
 use std::alloc::{AllocError, Global};
 use tab_core::{Core, Step};
-use tab_model::{Command, Told};
+use tab_model::{Command, SharedReply};
 use tab_oneshot::{Steps, one_shot};
 use tab_outbox::RingPost;
 
 /// A command of the session.
-fn hand_in(core: &mut Core<RingPost>, session: u32, command: Command) -> Result<Told, AllocError>
+fn hand_in(
+    core: &mut Core<RingPost>,
+    session: u32,
+    command: Command,
+) -> Result<SharedReply, AllocError>
     ensures made { StepMadeOrRefused core.old session (DoCommand command) (answer_in result) core.new }
     ensures abort { is_abort command ≡ true → IsOk result }
 {
@@ -24,14 +28,14 @@ fn hand_in(core: &mut Core<RingPost>, session: u32, command: Command) -> Result<
     }
 }
 
-/// The seat of one session, where no one can wait.
+/// One session, where no one can wait.
 pub struct OneSession<'a> {
     core: &'a mut Core<RingPost>,
     session: u32,
 }
 
 impl<'a> Steps for OneSession<'a> {
-    ghost use Rattle.tab_session.specs.OneSeats.{shown, shown_none, shown_on};
+    ghost use Rattle.tab_session.specs.SoleSessions.{shown, shown_none, shown_on};
 
     ghost shows = { shown };
 
@@ -39,11 +43,11 @@ impl<'a> Steps for OneSession<'a> {
 
     ghost shows_on = { shown_on };
 
-    fn step(&mut self, command: Command) -> Result<Told, AllocError> {
+    fn step(&mut self, command: Command) -> Result<SharedReply, AllocError> {
         hand_in(self.core, self.session, command)
     }
 
-    fn wait(&mut self) -> Option<Result<Told, AllocError>> {
+    fn wait(&mut self) -> Option<Result<SharedReply, AllocError>> {
         None
     }
 
@@ -51,15 +55,20 @@ impl<'a> Steps for OneSession<'a> {
 }
 
 /// Runs a one-shot on a session.
-pub fn drive(core: &mut Core<RingPost>, alloc: Global, session: u32, command: Command) -> Told
+pub fn drive(
+    core: &mut Core<RingPost>,
+    alloc: Global,
+    session: u32,
+    command: Command,
+) -> SharedReply
     requires { is_one_shot command ≡ true }
     ensures { (calls : List Call) × Ran session core.old calls core.new × IsOneShot command calls result }
 {
-    let mut seat = OneSession { core, session };
-    let reply = one_shot(&mut seat, alloc, command);
+    let mut slot = OneSession { core, session };
+    let reply = one_shot(&mut slot, alloc, command);
     let OneSession {
         core: _,
         session: _,
-    } = seat;
+    } = slot;
     reply
 }

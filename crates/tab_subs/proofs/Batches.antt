@@ -1,4 +1,4 @@
--- The events that a session is owed, one after another.
+-- The events that a session is due, one after another.
 use Rattle.std.proofs.Common.{◌≡◌, ◌≢◌, ◌+◌, ℕ, zero, suc, ◌<◌, ◌≤◌, List, [], ◌∷◌, ◌++◌, refl, sym, ap, ◌∙◌, drop, length, get_or, set, arith, add-one}
 use Rattle.std.specs.Prelude.{Option, Some, filter_map}
 use Rattle.std.proofs.lemmas.List.{append_assoc, append-nil}

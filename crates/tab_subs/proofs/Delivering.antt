@@ -114,7 +114,7 @@ decided_by_session over bs items (s ∷ ss) a d =
 
 -- ---- the loop
 
--- the subscribers before place i have received theirs, and the others are still owed what is due
+-- the subscribers before place i have received theirs, and the others are still due what is due
 pub record IsUnderWay (n : ℕ) (t : Option (List ℕ)) (items : List (List Item)) (old : List Subscriber) (over : List ℕ) (due : List (List Item)) (now : List Subscriber) (i : ℕ) : Type 0 where
   pub bits : List Bool
   pub given : (bs : List Bool) → given_by n (bits ++ bs) t items old ≡ take i now ++ given_by n bs t due (drop i now)
@@ -164,18 +164,18 @@ all_taken [] (suc i) le = refl
 all_taken (x ∷ ss) zero le = absurd (omega arith)
 all_taken (x ∷ ss) (suc i) le = ap (λ vs. x ∷ vs) (all_taken ss i (omega arith))
 
-pub all_given : (owed : Owed) (old : List Subscriber) (over : List ℕ) (due : List (List Item)) (now : List Subscriber) (i : ℕ) → length now ≤ i → Ascends (numbers old)
-    → IsUnderWay owed.number owed.ended owed.items old over due now i → Delivers owed old now over
-all_given owed old over due now i le up way = record {
+pub all_given : (expected : Owed) (old : List Subscriber) (over : List ℕ) (due : List (List Item)) (now : List Subscriber) (i : ℕ) → length now ≤ i → Ascends (numbers old)
+    → IsUnderWay expected.number expected.ended expected.items old over due now i → Delivers expected old now over
+all_given expected old over due now i le up way = record {
   over_are = sym over_bits ∙ who_refused over way.bits old same;
-  given = sym given_bits ∙ by_session over way.bits owed.number owed.ended owed.items old same;
-  decided = decided_by_session over way.bits owed.items old same bits_decided;
+  given = sym given_bits ∙ by_session over way.bits expected.number expected.ended expected.items old same;
+  decided = decided_by_session over way.bits expected.items old same bits_decided;
 }
   where
-    given_bits : given_by owed.number way.bits owed.ended owed.items old ≡ now
+    given_bits : given_by expected.number way.bits expected.ended expected.items old ≡ now
     given_bits =
-        ap (λ z. given_by owed.number z owed.ended owed.items old) (sym (append-nil way.bits)) ∙ way.given []
-        ∙ ap₂ (λ u v. u ++ given_by owed.number [] owed.ended due v) (all_taken now i le) (all_dropped now i le) ∙ append-nil now
+        ap (λ z. given_by expected.number z expected.ended expected.items old) (sym (append-nil way.bits)) ∙ way.given []
+        ∙ ap₂ (λ u v. u ++ given_by expected.number [] expected.ended due v) (all_taken now i le) (all_dropped now i le) ∙ append-nil now
 
     over_bits : refusing way.bits old ≡ over
     over_bits = ap (λ z. refusing z old) (sym (append-nil way.bits)) ∙ way.over_is [] ∙ ap (λ z. over ++ refusing [] z) (all_dropped now i le) ∙ append-nil over
@@ -183,8 +183,8 @@ all_given owed old over due now i le up way = record {
     same : Agree over way.bits old
     same = subst (λ o. Agree o way.bits old) over_bits (agree [] way.bits old (absent_none (numbers old)) up)
 
-    bits_decided : AreDecidedBy way.bits owed.items old
-    bits_decided = subst (λ z. AreDecidedBy z owed.items old) (append-nil way.bits) (way.decided [] (subst (AreDecidedBy [] due) (sym (all_dropped now i le)) tt))
+    bits_decided : AreDecidedBy way.bits expected.items old
+    bits_decided = subst (λ z. AreDecidedBy z expected.items old) (append-nil way.bits) (way.decided [] (subst (AreDecidedBy [] due) (sym (all_dropped now i le)) tt))
 
 pub step : (n : ℕ) (t : Option (List ℕ)) (items : List (List Item)) (old : List Subscriber) (over : List ℕ) (due : List (List Item)) (now : List Subscriber) (i : ℕ) (s y : Subscriber) (b : Bool) (over' : List ℕ) (due' : List (List Item))
     → i < length now → s ≡ get_or now i s → y ≡ received n b (first_of due) (unwatched t s) → IsDecided b (first_of due) s.outbox
@@ -200,9 +200,9 @@ pub same_numbers : (n : ℕ) (t : Option (List ℕ)) (items : List Item) (now : 
 same_numbers n t items now i s y b is new =
     map-set_same (λ (v : Subscriber). v.number) now i y s (ap (λ (v : Subscriber). v.number) new ∙ number-received n b items (unwatched t s) ∙ number-unwatched t s ∙ ap (λ (v : Subscriber). v.number) is)
 
-pub is_owed : (b : Bool) (o : Option Item) (x : Outbox) → IsDecided b (option_to_list o) x → b ≡ true → IsSome o
-is_owed b None x d e = absurd (false≢true (sym d ∙ e))
-is_owed b (Some i) x d e = refl
+pub is_expected : (b : Bool) (o : Option Item) (x : Outbox) → IsDecided b (option_to_list o) x → b ≡ true → IsSome o
+is_expected b None x d e = absurd (false≢true (sym d ∙ e))
+is_expected b (Some i) x d e = refl
 
 pub written_back : {X : Type 0} (xs ys : List X) (n : ℕ) → length xs ≡ n → take n (xs ++ ys) ≡ xs
 written_back xs ys n e = subst (λ m. take m (xs ++ ys) ≡ xs) e (whole xs ys)

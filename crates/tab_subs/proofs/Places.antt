@@ -8,16 +8,16 @@ use Rattle.tab_model.specs.State.{Watch}
 use Rattle.tab_subs.specs.declared.answers.Marked.{Marked}
 use Rattle.tab_subs.specs.declared.answers.Marked.TheVariants as mark
 use Rattle.std.specs.List.{list_any, filter}
-use Rattle.tab_subs.specs.Subscribers.{Subscriber, at, change, without, give, marked, is_full, Marks, numbers, Ascends, AllAbove, AllBelow, StandsAt}
-use Rattle.tab_model.specs.Outcome.{takable}
+use Rattle.tab_subs.specs.Subscribers.{Subscriber, at, change, without, give, marked, is_full, Marks, numbers, Ascends, AllAbove, AllBelow, IsHeldAt}
+use Rattle.tab_model.specs.Outcome.{items_to_take}
 use Rattle.tab_subs.specs.Subscribers as subs
 
-seat_there : (n : ℕ) (ss : List Subscriber) (i : ℕ) (s d : Subscriber) → i < length ss → list_any (λ x. x.number == n) (take i ss) ≡ false → s ≡ get_or ss i s → (s.number == n) ≡ true → at ss n ≡ Some (get_or ss i d)
-seat_there n [] i s d lt none is here = absurd (omega arith)
-seat_there n (x ∷ ss) zero s d lt none is here = λ j. if (ap (λ (v : Subscriber). v.number == n) (sym is) ∙ here) j then Some x else at ss n
-seat_there n (x ∷ ss) (suc i) s d lt none is here =
+session_there : (n : ℕ) (ss : List Subscriber) (i : ℕ) (s d : Subscriber) → i < length ss → list_any (λ x. x.number == n) (take i ss) ≡ false → s ≡ get_or ss i s → (s.number == n) ≡ true → at ss n ≡ Some (get_or ss i d)
+session_there n [] i s d lt none is here = absurd (omega arith)
+session_there n (x ∷ ss) zero s d lt none is here = λ j. if (ap (λ (v : Subscriber). v.number == n) (sym is) ∙ here) j then Some x else at ss n
+session_there n (x ∷ ss) (suc i) s d lt none is here =
     let p = or_parts (x.number == n) (list_any (λ v. v.number == n) (take i ss)) none in
-    (λ j. if p.0 j then Some x else at ss n) ∙ seat_there n ss i s d (omega arith) p.1 is here
+    (λ j. if p.0 j then Some x else at ss n) ∙ session_there n ss i s d (omega arith) p.1 is here
 
 number_there : (n : ℕ) (ss : List Subscriber) (i : ℕ) (s d : Subscriber) → i < length ss → s ≡ get_or ss i s → (s.number == n) ≡ true → (get_or ss i d).number ≡ n
 number_there n [] i s d lt is here = absurd (omega arith)
@@ -32,10 +32,10 @@ changed_there n (x ∷ ss) (suc i) s y lt none is here e =
     let p = or_parts (x.number == n) (list_any (λ v. v.number == n) (take i ss)) none in
     (λ j. if (ap (λ m. x.number == m) e ∙ p.0) j then y ∷ ss else x ∷ change ss y) ∙ ap (λ zs. x ∷ zs) (changed_there n ss i s y (omega arith) p.1 is here e)
 
-pub stands : (n : ℕ) (ss : List Subscriber) (i : ℕ) (s : Subscriber) → i < length ss → list_any (λ x. x.number == n) (take i ss) ≡ false → s ≡ get_or ss i s → (s.number == n) ≡ true → StandsAt ss n i
+pub stands : (n : ℕ) (ss : List Subscriber) (i : ℕ) (s : Subscriber) → i < length ss → list_any (λ x. x.number == n) (take i ss) ≡ false → s ≡ get_or ss i s → (s.number == n) ≡ true → IsHeldAt ss n i
 stands n ss i s lt none is here = record {
   within = lt;
-  seat = λ d. seat_there n ss i s d lt none is here;
+  slot = λ d. session_there n ss i s d lt none is here;
   number = λ d. number_there n ss i s d lt is here;
   changed = λ y e. changed_there n ss i s y lt none is here e;
 }
@@ -87,21 +87,21 @@ ascends_set ss i s y is same h =
     subst Ascends (sym (map-set_same (λ (v : Subscriber). v.number) ss i y s (same ∙ ap (λ (v : Subscriber). v.number) is))) h
 
 pub number-marked : (m : Marked) (ws : List Watch) (x : Item) (s : Subscriber) → (marked m ws x s).number ≡ s.number
-number-marked mark.Told ws x s = refl
+number-marked mark.Put ws x s = refl
 number-marked mark.Full ws x s = refl
 
 -- a mark at a session's place
-pub marks_there : (ss : List Subscriber) (n i : ℕ) (s y : Subscriber) (ws : Subscriber → List Watch) (x : Item) (m : Marked) → StandsAt ss n i → s ≡ get_or ss i s → y ≡ marked m (ws s) x s
+pub marks_there : (ss : List Subscriber) (n i : ℕ) (s y : Subscriber) (ws : Subscriber → List Watch) (x : Item) (m : Marked) → IsHeldAt ss n i → s ≡ get_or ss i s → y ≡ marked m (ws s) x s
     → IfSome s.outbox.capacity (λ c. is_full m ≡ nat_le c (length s.outbox.items)) → Marks ss (at ss n) ws x (Some m) (set ss i y)
 marks_there ss n i s y ws x m there is new decided =
-    subst (λ o. Marks ss o ws x (Some m) (set ss i y)) (sym (there.seat s ∙ ap Some (sym is)))
+    subst (λ o. Marks ss o ws x (Some m) (set ss i y)) (sym (there.slot s ∙ ap Some (sym is)))
     (sym (there.changed y number) ∙ ap (change ss) new, decided)
   where
     number : y.number ≡ n
     number = ap (λ (v : Subscriber). v.number) new ∙ number-marked m (ws s) x s ∙ ap (λ (v : Subscriber). v.number) is ∙ there.number s
 
 pub number-give : (s : Subscriber) → (subs.take s).0.number ≡ s.number
-number-give s = by (takable s.outbox s.outbox.capacity) s.overflow
+number-give s = by (items_to_take s.outbox s.outbox.capacity) s.overflow
   where
     by : (xs : List _) (l : Option ℕ) → (give s xs l).0.number ≡ s.number
     by [] None = refl

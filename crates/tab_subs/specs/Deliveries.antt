@@ -1,9 +1,9 @@
--- What is owed for a commit or for a table's deletion, and its delivery (this project's own).
+-- What is due for a commit or for a table's deletion, and its delivery (this project's own).
 use Rattle.std.specs.Prelude.{◌≡◌, ℕ, List, [], ◌∷◌, Bool, true, false, Option, Some, None, length, nat_le, IfSome}
 use Rattle.tab_model.specs.declared.data.Item.{Item}
 use Rattle.tab_model.specs.Log.{has_session}
 use Rattle.tab_model.specs.State.{Outbox, without_watch}
-use Rattle.tab_model.specs.Outcome.{pushed}
+use Rattle.tab_model.specs.Outcome.{with_items}
 use Rattle.tab_subs.specs.Subscribers.{Subscriber, overflowed, given}
 
 -- the number of an overflow, the items of each subscriber in their order, and the table that is gone
@@ -32,12 +32,12 @@ abbrev pub given_all : ℕ → List ℕ → Option (List ℕ) → List (List Ite
 given_all n over t items [] = []
 given_all n over t items (s ∷ ss) = given n over (first_of items) (unwatched t s) ∷ given_all n over t (rest_of items) ss
 
--- an item is refused where the post's capacity says so, if it has one; and nothing is refused where nothing is owed
+-- an item is refused where the post's capacity says so, if it has one; and nothing is refused where nothing is due
 abbrev pub IsDecided : Bool → List Item → Outbox → Type 0
 IsDecided b [] o = b ≡ false
 IsDecided b (x ∷ xs) o = IfSome o.capacity (λ c. b ≡ nat_le c (length o.items))
 
--- for each subscriber it is decided so whether it is in the list, by the items that are owed to it
+-- for each subscriber it is decided so whether it is in the list, by the items that are due to it
 abbrev pub AreDecided : List ℕ → List (List Item) → List Subscriber → Type 0
 AreDecided over items [] = Unit {0}
 AreDecided over items (s ∷ ss) = IsDecided (has_session over s.number) (first_of items) s.outbox × AreDecided over (rest_of items) ss
@@ -53,12 +53,12 @@ those_in over [] = []
 those_in over (s ∷ ss) = joined_if (has_session over s.number) s.number (those_in over ss)
 
 -- what a delivery leaves, and who overflowed in it
-pub record Delivers (owed : Owed) (old new : List Subscriber) (over : List ℕ) : Type 0 where
+pub record Delivers (expected : Owed) (old new : List Subscriber) (over : List ℕ) : Type 0 where
   pub over_are : over ≡ those_in over old
-  pub given : new ≡ given_all owed.number over owed.ended owed.items old
-  pub decided : AreDecided over owed.items old
+  pub given : new ≡ given_all expected.number over expected.ended expected.items old
+  pub decided : AreDecided over expected.items old
 
 -- one subscriber after its item, which its post refused or not
 abbrev pub received : ℕ → Bool → List Item → Subscriber → Subscriber
 received n true items s = overflowed n s
-received n false items s = record s { outbox = pushed s.outbox items }
+received n false items s = record s { outbox = with_items s.outbox items }

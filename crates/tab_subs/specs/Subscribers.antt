@@ -1,12 +1,12 @@
 -- The joined sessions: what each watches, and what its post shows (this project's own). The words are those of a core's
--- seats.
+-- sessions.
 use Rattle.std.specs.Prelude.{ℕ, ◌≡◌, ◌<◌, map, length, nat_le, IfSome, slice_index_or, slice_set, List, [], ◌∷◌, Bool, true, false, ◌==◌, if◌then◌else◌, Option, Some, None}
 use Rattle.tab_model.specs.declared.data.Item.{Item}
 use Rattle.tab_model.specs.declared.data.Level.{Level}
 use Rattle.tab_model.specs.declared.data.Level.TheVariants.{Simple, Detailed}
 use Rattle.tab_model.specs.Log.{has_session}
 use Rattle.tab_model.specs.State.{Outbox, Watch, level_in}
-use Rattle.tab_model.specs.Outcome.{pushed, refused, takable}
+use Rattle.tab_model.specs.Outcome.{with_items, with_refusal, items_to_take}
 use Rattle.tab_subs.specs.declared.answers.Taken.{Taken}
 use Rattle.tab_subs.specs.declared.answers.Taken.TheVariants as taken
 use Rattle.tab_subs.specs.declared.answers.Marked.{Marked}
@@ -40,23 +40,23 @@ without (x ∷ xs) n = if x.number == n then without xs n else x ∷ without xs 
 
 -- an item that the post refuses ends its subscriptions
 abbrev pub overflowed : ℕ → Subscriber → Subscriber
-overflowed n s = record { number = s.number; watching = []; outbox = refused s.outbox; overflow = Some n }
+overflowed n s = record { number = s.number; watching = []; outbox = with_refusal s.outbox; overflow = Some n }
 
 -- a subscriber after its items: overflowed where its number is in the list, else with them behind its outbox
 abbrev pub given : ℕ → List ℕ → List Item → Subscriber → Subscriber
 given n over items s =
     if has_session over s.number then overflowed n s
-    else record s { outbox = pushed s.outbox items }
+    else record s { outbox = with_items s.outbox items }
 
 -- a mark into the post, with what it then watches; or a refusal that the post counts
 abbrev pub marked : Marked → List Watch → Item → Subscriber → Subscriber
-marked mark.Full ws x s = record s { outbox = refused s.outbox }
-marked mark.Told ws x s = record s { watching = ws; outbox = pushed s.outbox (x ∷ []) }
+marked mark.Full ws x s = record s { outbox = with_refusal s.outbox }
+marked mark.Put ws x s = record s { watching = ws; outbox = with_items s.outbox (x ∷ []) }
 
 -- the mark found no room in the post
 abbrev pub is_full : Marked → Bool
 is_full mark.Full = true
-is_full mark.Told = false
+is_full mark.Put = false
 
 -- a mark, where the session is joined; a post's capacity decides where it has one
 abbrev pub Marks : List Subscriber → Option Subscriber → (Subscriber → List Watch) → Item → Option Marked → List Subscriber → Type 0
@@ -74,7 +74,7 @@ give s [] (Some n) = (record s { overflow = None }, taken.Overflow n)
 
 -- a Take: the subscriber after it, and what it is answered
 abbrev pub take : Subscriber → Subscriber × Taken
-take s = give s (takable s.outbox s.outbox.capacity) s.overflow
+take s = give s (items_to_take s.outbox s.outbox.capacity) s.overflow
 
 -- a Take by one of the subscribers, or by none: the list after it, and what it is answered
 abbrev pub taken_from : List Subscriber → Option Subscriber → List Subscriber × Option Taken
@@ -125,8 +125,8 @@ AllBelow n [] = Unit {0}
 AllBelow n (m ∷ ms) = (m < n) × AllBelow n ms
 
 -- the session stands at this place
-pub record StandsAt (ss : List Subscriber) (n i : ℕ) : Type 0 where
+pub record IsHeldAt (ss : List Subscriber) (n i : ℕ) : Type 0 where
   pub within : i < length ss
-  pub seat : (d : Subscriber) → at ss n ≡ Some (slice_index_or ss i d)
+  pub slot : (d : Subscriber) → at ss n ≡ Some (slice_index_or ss i d)
   pub number : (d : Subscriber) → (slice_index_or ss i d).number ≡ n
   pub changed : (s : Subscriber) → s.number ≡ n → change ss s ≡ slice_set ss i s

@@ -12,6 +12,6 @@ pub enum Taken {
 /// Whether a mark was put into the post, or refused by it.
 #[derive(Clone, Copy, Debug, PartialEq, Eq)]
 pub enum Marked {
-    Told,
+    Put,
     Full,
 }

@@ -1,12 +1,12 @@
 //! The sessions' subscriptions, each with the post that its items are put into.
 //!
-//! What is owed for a commit is prepared first, with all memory that it takes, and then delivered, which can't fail.
+//! What is due for a commit is prepared first, with all memory that it takes, and then delivered, which can't fail.
 
 #![tactic(auto)]
 
 mod answers;
 mod prepared;
-mod seat;
+mod session;
 mod shaped;
 mod subs;
 mod watched;

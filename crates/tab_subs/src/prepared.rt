@@ -1,4 +1,4 @@
-//! What is owed, ready to be delivered.
+//! What is due, ready to be delivered.
 
 ghost use Rattle.std.specs.Prelude.{◌≡◌, ◌+◌, ◌≤◌, map, option_to_list, IfOk, IsSome, length};
 ghost use Rattle.tab_subs.specs.Deliveries.{first_of, rest_of};

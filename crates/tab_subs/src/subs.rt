@@ -7,11 +7,11 @@ ghost use Rattle.tab_model.specs.declared.data.Item.TheVariants as Item;
 ghost use Rattle.tab_model.specs.declared.data.Ending.TheVariants as Ending;
 ghost use Rattle.tab_outbox.specs.Mailboxes.{Meets};
 ghost use Rattle.tab_subs.specs.Deliveries.{Delivers};
-ghost use Rattle.tab_subs.specs.Subscribers.{Subscriber, fresh, at, without, taken_from, level_of, overflow_of, watched, higher as higher_of, StandsAt, Marks, AllBelow, numbers};
+ghost use Rattle.tab_subs.specs.Subscribers.{Subscriber, fresh, at, without, taken_from, level_of, overflow_of, watched, higher as higher_of, IsHeldAt, Marks, AllBelow, numbers};
 
 use crate::answers::{Marked, Taken};
 use crate::prepared::{Prepared, next_due, with_room};
-use crate::seat::Seat;
+use crate::session::Session;
 use crate::shaped::Shaped;
 use std::alloc::{AllocError, Global};
 use std::collections::VecDeque;
@@ -25,7 +25,7 @@ use tab_term::Atom;
 /// The joined sessions, in the order of their numbers.
 #[derive(Drop)]
 pub struct Subs<P: Post> {
-    seats: Vec<Seat<P>>,
+    sessions: Vec<Session<P>>,
 }
 
 impl<P: Post> Model for Subs<P> {
@@ -38,9 +38,9 @@ impl<P: Post> Model for Subs<P> {
 
     ghost coded = { Prim.hlevel (codes, terms_code, pairs_code) };
 
-    ghost view = { λ a. a.seats.items };
+    ghost view = { λ a. a.sessions.items };
 
-    ghost invariant = { λ a. Ascends (numbers a.seats.items) };
+    ghost invariant = { λ a. Ascends (numbers a.sessions.items) };
 }
 
 impl<P: Post + Drop> Subs<P> {
@@ -49,7 +49,7 @@ impl<P: Post + Drop> Subs<P> {
         ensures { result ≡ [] }
     {
         Subs {
-            seats: Vec::new(alloc),
+            sessions: Vec::new(alloc),
         }
     }
 
@@ -59,8 +59,9 @@ impl<P: Post + Drop> Subs<P> {
         ensures ok { OnOk result (self.new ≡ self.old ++ fresh session (P.outbox post) ∷ []) }
         ensures err { OnErr result (self.new ≡ self.old) }
     {
-        self.seats.reserve(1)?;
-        self.seats.push_reserved(Seat::new(alloc, session, post));
+        self.sessions.reserve(1)?;
+        self.sessions
+            .push_reserved(Session::new(alloc, session, post));
         Ok(())
     }
 
@@ -68,14 +69,14 @@ impl<P: Post + Drop> Subs<P> {
     pub fn leave(&mut self, session: u64)
         ensures { self.new ≡ without self.old session }
     {
-        self.seats.retain(|seat| seat.number() != session);
+        self.sessions.retain(|slot| slot.number() != session);
     }
 
     fn place(&self, session: u64) -> Option<usize>
-        ensures { MatchOption result (at self.now session ≡ None) (StandsAt self.now session) }
+        ensures { MatchOption result (at self.now session ≡ None) (IsHeldAt self.now session) }
     {
-        for (place, seat) in self.seats.iter().enumerate() {
-            if seat.number() == session {
+        for (place, slot) in self.sessions.iter().enumerate() {
+            if slot.number() == session {
                 return Some(place);
             }
         }
@@ -89,7 +90,7 @@ impl<P: Post + Drop> Subs<P> {
         let Some(place) = self.place(session) else {
             return None;
         };
-        Some(self.seats[place].take())
+        Some(self.sessions[place].take())
     }
 
     /// The session watches the table, with its begin mark put into its post, which may refuse it. None of one that isn't
@@ -108,7 +109,7 @@ impl<P: Post + Drop> Subs<P> {
         let Some(place) = self.place(session) else {
             return Ok(None);
         };
-        let marked = self.seats[place].subscribe(alloc, table, level, dump)?;
+        let marked = self.sessions[place].subscribe(alloc, table, level, dump)?;
         Ok(Some(marked))
     }
 
@@ -126,7 +127,7 @@ impl<P: Post + Drop> Subs<P> {
         let Some(place) = self.place(session) else {
             return Ok(None);
         };
-        let marked = self.seats[place].unsubscribe(alloc, table)?;
+        let marked = self.sessions[place].unsubscribe(alloc, table)?;
         Ok(Some(marked))
     }
 
@@ -141,9 +142,9 @@ impl<P: Post + Drop> Subs<P> {
         ensures { IfOk result (λ p. p ≡ record { number = commit; items = map (λ s. batch_for (level_in s.watching) commit events.now) self.now; ended = None }) }
     {
         let mut shaped = unshaped(alloc, events)?;
-        let mut due = VecDeque::with_capacity(alloc, self.seats.len())?;
-        for seat in self.seats.iter() {
-            due.push_back(seat.batch(alloc, commit, &mut shaped)?)?;
+        let mut due = VecDeque::with_capacity(alloc, self.sessions.len())?;
+        for slot in self.sessions.iter() {
+            due.push_back(slot.batch(alloc, commit, &mut shaped)?)?;
         }
         with_room(alloc, commit, due, None)
     }
@@ -157,14 +158,14 @@ impl<P: Post + Drop> Subs<P> {
     ) -> Result<Prepared, AllocError>
         ensures { IfOk result (λ p. p ≡ record { number = commit; items = map (λ s. end_for (level_in s.watching) (Some table.now)) self.now; ended = Some table.now }) }
     {
-        let mut due = VecDeque::with_capacity(alloc, self.seats.len())?;
-        for seat in self.seats.iter() {
-            due.push_back(seat.end_mark(alloc, table)?)?;
+        let mut due = VecDeque::with_capacity(alloc, self.sessions.len())?;
+        for slot in self.sessions.iter() {
+            due.push_back(slot.end_mark(alloc, table)?)?;
         }
         with_room(alloc, commit, due, Some(table.try_clone(alloc)?))
     }
 
-    /// Puts what is owed, in the order of the sessions' numbers, and answers who overflowed: an item that a post refuses
+    /// Puts what is due, in the order of the sessions' numbers, and answers who overflowed: an item that a post refuses
     /// ends its session's subscriptions.
     pub fn deliver(&mut self, prepared: Prepared) -> Numbers
         ensures { Delivers prepared self.old self.new result }
@@ -175,12 +176,12 @@ impl<P: Post + Drop> Subs<P> {
             mut over,
             ended,
         } = prepared;
-        for seat in self.seats.iter_mut() {
-            let refused = seat.receive(number, next_due(&mut due), ended.as_ref());
+        for slot in self.sessions.iter_mut() {
+            let refused = slot.receive(number, next_due(&mut due), ended.as_ref());
             if !refused {
                 continue;
             }
-            over.push_reserved(seat.number());
+            over.push_reserved(slot.number());
         }
         Numbers { items: over }
     }
@@ -192,7 +193,7 @@ impl<P: Post + Drop> Subs<P> {
         let Some(place) = self.place(session) else {
             return None;
         };
-        self.seats[place].level(table)
+        self.sessions[place].level(table)
     }
 
     /// The post of a session that is joined.
@@ -202,7 +203,7 @@ impl<P: Post + Drop> Subs<P> {
         let Some(place) = self.place(session) else {
             return None;
         };
-        Some(self.seats[place].post())
+        Some(self.sessions[place].post())
     }
 
     /// The number of the session's overflow, where it was not told yet.
@@ -212,7 +213,7 @@ impl<P: Post + Drop> Subs<P> {
         let Some(place) = self.place(session) else {
             return None;
         };
-        self.seats[place].overflow()
+        self.sessions[place].overflow()
     }
 
     /// The highest level at which a session watches the table.
@@ -220,8 +221,8 @@ impl<P: Post + Drop> Subs<P> {
         ensures { result ≡ watched self.now table.now }
     {
         let mut highest = None;
-        for seat in self.seats.iter() {
-            highest = higher(highest, seat.level(table));
+        for slot in self.sessions.iter() {
+            highest = higher(highest, slot.level(table));
         }
         highest
     }
@@ -238,7 +239,7 @@ impl<P: Mailbox + Drop> Subs<P> {
         let Some(place) = self.place(session) else {
             return None;
         };
-        Some(self.seats[place].meet(end))
+        Some(self.sessions[place].meet(end))
     }
 }
 

@@ -11,7 +11,7 @@ use Rattle.tab_model.specs.declared.data.Reply.{Reply}
 use Rattle.tab_model.specs.Events.{is_failure}
 use Rattle.tab_model.specs.Operations.{change_of_op}
 use Rattle.tab_model.specs.State.{count_moves}
-use Rattle.tab_model.specs.Worlds.{Table}
+use Rattle.tab_model.specs.Catalogs.{Table}
 use Rattle.tab_txstore.specs.Overlays.{Overlay}
 use Rattle.tab_txstore.specs.Stores.{Level, Levels, dropped, nested, joined, ended_to, ended, changed, levels_next}
 use Rattle.tab_txstore.specs.Kept.{level, levels_onto, levels_of, Rises, IsCounted}

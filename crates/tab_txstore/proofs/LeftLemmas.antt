@@ -9,27 +9,27 @@ use Rattle.tab_model.specs.declared.data.Change.{Change}
 use Rattle.tab_model.specs.Names.{plain_terms, terms_list}
 use Rattle.tab_model.specs.Tables.{Rows, at}
 use Rattle.tab_model.specs.Operations.{key_of_change}
-use Rattle.tab_model.specs.Worlds.{Table}
+use Rattle.tab_model.specs.Catalogs.{Table}
 use Rattle.tab_model.specs.Shapes.{held}
 use Rattle.tab_model.proofs.ShapeLaws.{held_term}
 use Rattle.tab_lists.proofs.ListsLemmas.{plain-list}
-use Rattle.tab_txstore.specs.Overlays.{Touched, Overlay, touched_in, touched, or_lent, seen_at, left, touch}
+use Rattle.tab_txstore.specs.Overlays.{Touched, Overlay, touched_in, touched, or_committed, seen_at, left, touch}
 
 pub seen_found : (v : Overlay) (t : List ℕ) (rows : Rows) (q : Term) (ks : Touched) (ts : PlainTerms) → Some ks ≡ lookup bytes_cmp t v → Some ts ≡ lookup term_cmp q ks → ts ≡ plain_terms (seen_at (touched v t) rows (term q))
 seen_found v t rows q ks ts h e =
-    sym (plain-list ts) ∙ ap (λ z. plain_terms (or_lent z (at rows (term q)))) e
-    ∙ ap (λ z. plain_terms (or_lent (lookup term_cmp q (touched_in z)) (at rows (term q)))) h
-    ∙ ap (λ z. plain_terms (or_lent (lookup term_cmp z (touched v t)) (at rows (term q)))) (sym (held_term q))
+    sym (plain-list ts) ∙ ap (λ z. plain_terms (or_committed z (at rows (term q)))) e
+    ∙ ap (λ z. plain_terms (or_committed (lookup term_cmp q (touched_in z)) (at rows (term q)))) h
+    ∙ ap (λ z. plain_terms (or_committed (lookup term_cmp z (touched v t)) (at rows (term q)))) (sym (held_term q))
 
 -- no record of the key was touched, or none of the table
-pub seen_lent : (v : Overlay) (t : List ℕ) (rows : Rows) (q : Term) (ks : Touched) → Some ks ≡ lookup bytes_cmp t v → None ≡ lookup term_cmp q ks → at rows (term q) ≡ seen_at (touched v t) rows (term q)
-seen_lent v t rows q ks h e =
-    ap (λ z. or_lent z (at rows (term q))) e
-    ∙ ap (λ z. or_lent (lookup term_cmp q (touched_in z)) (at rows (term q))) h
-    ∙ ap (λ z. or_lent (lookup term_cmp z (touched v t)) (at rows (term q))) (sym (held_term q))
+pub seen_committed : (v : Overlay) (t : List ℕ) (rows : Rows) (q : Term) (ks : Touched) → Some ks ≡ lookup bytes_cmp t v → None ≡ lookup term_cmp q ks → at rows (term q) ≡ seen_at (touched v t) rows (term q)
+seen_committed v t rows q ks h e =
+    ap (λ z. or_committed z (at rows (term q))) e
+    ∙ ap (λ z. or_committed (lookup term_cmp q (touched_in z)) (at rows (term q))) h
+    ∙ ap (λ z. or_committed (lookup term_cmp z (touched v t)) (at rows (term q))) (sym (held_term q))
 
 pub seen_apart : (v : Overlay) (t : List ℕ) (rows : Rows) (q : Term) → None ≡ lookup bytes_cmp t v → at rows (term q) ≡ seen_at (touched v t) rows (term q)
-seen_apart v t rows q h = ap (λ z. or_lent (lookup term_cmp (held (term q)) (touched_in z)) (at rows (term q))) h
+seen_apart v t rows q h = ap (λ z. or_committed (lookup term_cmp (held (term q)) (touched_in z)) (at rows (term q))) h
 
 pub touch_made : (x : Table) (v : Overlay) (c : Change) (name : List ℕ) (key : Term) (seen after : PlainTerms) (keys keys' : Touched) (v' : Overlay)
     → name ≡ x.def.name → term key ≡ key_of_change c → seen ≡ plain_terms (seen_at (touched v x.def.name) x.rows (term key)) → after ≡ plain_terms (left x.def.kind (terms_list seen) c)

@@ -22,7 +22,7 @@ use Rattle.tab_model.specs.Tables.{Rows, key, has_key, at, keys}
 use Rattle.tab_model.specs.Shapes.{held}
 use Rattle.tab_model.proofs.ShapeLaws.{held_term, term_held}
 use Rattle.tab_model.proofs.TableLaws.{same_true, same_refl, same_lists}
-use Rattle.tab_txstore.specs.Overlays.{Touched, or_lent}
+use Rattle.tab_txstore.specs.Overlays.{Touched, or_committed}
 use Rattle.tab_txstore.specs.Merged.{merged, is_filled, filled_keys, IsSeen}
 
 -- the keys of entries
@@ -63,18 +63,18 @@ insert_first x (e ∷ es) a = ap (λ o. match_ordering o (x ∷ e ∷ es) (x ∷
 -- ---- what comes next
 
 -- the table's next key, where it is below all touched ones
-pub lent_first : (e : Term × PlainTerms) (xs es : Touched) → AllAbove term_cmp e.0 xs → merged xs (e ∷ es) ≡ e ∷ merged xs es
-lent_first e [] es a = refl
-lent_first e (x ∷ xs) es a =
-    ap (insert_entry term_cmp x) (lent_first e xs es a.1)
+pub committed_first : (e : Term × PlainTerms) (xs es : Touched) → AllAbove term_cmp e.0 xs → merged xs (e ∷ es) ≡ e ∷ merged xs es
+committed_first e [] es a = refl
+committed_first e (x ∷ xs) es a =
+    ap (insert_entry term_cmp x) (committed_first e xs es a.1)
     ∙ ap (λ o. match_ordering o (x ∷ e ∷ merged xs es) (x ∷ merged xs es) (e ∷ insert_entry term_cmp x (merged xs es))) (term_total.antisymm x.0 e.0 ∙ ap ordering_reverse a.0)
 
-pub lent_below : (e x : Term × PlainTerms) (xs es : Touched) → term_cmp e.0 x.0 ≡ Less → Ascends term_cmp (x ∷ xs) → merged (x ∷ xs) (e ∷ es) ≡ e ∷ merged (x ∷ xs) es
-lent_below e x xs es h s = lent_first e (x ∷ xs) es (h, below_all term_total e.0 x.0 xs h s.0)
+pub committed_below : (e x : Term × PlainTerms) (xs es : Touched) → term_cmp e.0 x.0 ≡ Less → Ascends term_cmp (x ∷ xs) → merged (x ∷ xs) (e ∷ es) ≡ e ∷ merged (x ∷ xs) es
+committed_below e x xs es h s = committed_first e (x ∷ xs) es (h, below_all term_total e.0 x.0 xs h s.0)
 
 pub both_equal : (e x : Term × PlainTerms) (xs es : Touched) → term_cmp e.0 x.0 ≡ Equal → Ascends term_cmp (x ∷ xs) → merged (x ∷ xs) (e ∷ es) ≡ x ∷ merged xs es
 both_equal e x xs es h s =
-    ap (insert_entry term_cmp x) (lent_first e xs es (at_all term_total e.0 x.0 xs h s.0))
+    ap (insert_entry term_cmp x) (committed_first e xs es (at_all term_total e.0 x.0 xs h s.0))
     ∙ ap (λ o. match_ordering o (x ∷ e ∷ merged xs es) (x ∷ merged xs es) (e ∷ insert_entry term_cmp x (merged xs es))) (term_total.antisymm x.0 e.0 ∙ ap ordering_reverse h)
 
 pub own_below : (e x : Term × PlainTerms) (xs es : Touched) → term_cmp e.0 x.0 ≡ Greater → Ascends term_cmp (x ∷ xs) → Ascends term_cmp (e ∷ es) → merged (x ∷ xs) (e ∷ es) ≡ x ∷ merged xs (e ∷ es)
@@ -136,13 +136,13 @@ none_each n Equal = refl
 none_each n Greater = refl
 
 lookup_merged : (xs es : Touched) (q : Term) (rows : Rows) → Ascends term_cmp xs → Ascends term_cmp es → at rows (term q) ≡ found_in (lookup term_cmp q es)
-    → found_in (lookup term_cmp q (merged xs es)) ≡ or_lent (lookup term_cmp q xs) (at rows (term q))
+    → found_in (lookup term_cmp q (merged xs es)) ≡ or_committed (lookup term_cmp q xs) (at rows (term q))
 lookup_merged [] es q rows s t h = sym h
 lookup_merged (x ∷ xs) es q rows s t h = ap found_in (lookup_insert term_total x (merged xs es) q (ascends_merged xs es t)) ∙ cases (lookup_merged xs es q rows s.1 t h) (term_cmp q x.0) refl
   where
-    cases : found_in (lookup term_cmp q (merged xs es)) ≡ or_lent (lookup term_cmp q xs) (at rows (term q)) → (o : Ordering) → term_cmp q x.0 ≡ o
-        → found_in (match_ordering o (lookup term_cmp q (merged xs es)) (Some x.1) (lookup term_cmp q (merged xs es))) ≡ or_lent (match_ordering o None (Some x.1) (lookup term_cmp q xs)) (at rows (term q))
-    cases ih Less k = ih ∙ ap (λ z. or_lent z (at rows (term q))) (lookup_above term_total q xs (below_all term_total q x.0 xs k s.0))
+    cases : found_in (lookup term_cmp q (merged xs es)) ≡ or_committed (lookup term_cmp q xs) (at rows (term q)) → (o : Ordering) → term_cmp q x.0 ≡ o
+        → found_in (match_ordering o (lookup term_cmp q (merged xs es)) (Some x.1) (lookup term_cmp q (merged xs es))) ≡ or_committed (match_ordering o None (Some x.1) (lookup term_cmp q xs)) (at rows (term q))
+    cases ih Less k = ih ∙ ap (λ z. or_committed z (at rows (term q))) (lookup_above term_total q xs (below_all term_total q x.0 xs k s.0))
     cases ih Equal k = refl
     cases ih Greater k = ih
 
@@ -232,7 +232,7 @@ seen_merged xs es seen s o h = (same_lists (joined (filled (merged xs es))) seen
     finds : (q : Term) → found_in (lookup term_cmp q (merged xs es)) ≡ at seen (term q)
     finds q =
         lookup_merged xs es q (joined es) s o.ascends (at-joined es q o.ascends o.keyed)
-        ∙ ap (λ z. or_lent (lookup term_cmp z xs) (at (joined es) (term q))) (sym (held_term q)) ∙ h.cells (term q)
+        ∙ ap (λ z. or_committed (lookup term_cmp z xs) (at (joined es) (term q))) (sym (held_term q)) ∙ h.cells (term q)
 
     up : Ascends term_cmp (filled (merged xs es))
     up = ascends_filled (merged xs es) (ascends_merged xs es o.ascends)

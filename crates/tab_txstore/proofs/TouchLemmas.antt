@@ -24,14 +24,14 @@ use Rattle.tab_model.specs.declared.data.Kind.TheVariants.{Set, Bag}
 use Rattle.tab_model.specs.declared.data.TableDef.{TableDef}
 use Rattle.tab_model.specs.Names.{plain_terms, terms_list}
 use Rattle.tab_model.specs.Tables.{Rows, key, at, insert, put_bag, apply, is_ordered}
-use Rattle.tab_model.specs.Operations.{table_of_change, key_of_change, change_table, change_world}
+use Rattle.tab_model.specs.Operations.{table_of_change, key_of_change, change_table, change_catalog}
 use Rattle.tab_model.specs.Shapes.{held}
-use Rattle.tab_model.specs.Worlds.{World, Table, find, with_rows, IsOrderedWorld}
+use Rattle.tab_model.specs.Catalogs.{Catalog, Table, find, with_rows, IsOrderedCatalog}
 use Rattle.tab_model.proofs.TableLaws.{same_true, same_refl}
 use Rattle.tab_model.proofs.ChangeLaws.{at-apply, ordered-apply, find-place, none_left, at_end}
 use Rattle.tab_model.proofs.ShapeLaws.{term_held}
 use Rattle.tab_model.proofs.RepliesStay.{find_name, eq_names}
-use Rattle.tab_txstore.specs.Overlays.{Touched, Overlay, touched_in, touched, or_lent, seen_at, left, touch_key, touch_in}
+use Rattle.tab_txstore.specs.Overlays.{Touched, Overlay, touched_in, touched, or_committed, seen_at, left, touch_key, touch_in}
 
 -- two keys, compared
 same_itself : (t : PlainTerm) → slice_cmp nat_cmp (canon t) (canon t) ≡ Equal
@@ -75,11 +75,11 @@ ShowsIn es (Some x) (Some y) = ShowsTable es x y
 ShowsIn es None (Some y) = ⊥
 ShowsIn es (Some x) None = ⊥
 
-pub record Shows (w : World) (v : Overlay) (n : World) : Type 0 where
+pub record Shows (w : Catalog) (v : Overlay) (n : Catalog) : Type 0 where
   pub ascends : Ascends bytes_cmp v
   pub tables : (t : List ℕ) → ShowsIn (touched v t) (find w t) (find n t)
 
-pub shows_nothing : (w : World) → IsOrderedWorld w → Shows w [] w
+pub shows_nothing : (w : Catalog) → IsOrderedCatalog w → Shows w [] w
 shows_nothing w o = record { ascends = tt; tables = λ t. cases t (find w t) refl }
   where
     cases : (t : List ℕ) (x : Option Table) → find w t ≡ x → ShowsIn [] x x
@@ -104,7 +104,7 @@ shows_touch_key es x y c a = record {
   def = a.def;
   ordered = ordered-apply y.def.kind y.rows c a.ordered;
   ascends = ascends_insert term_total (held (key_of_change c), here) es a.ascends;
-  cells = λ k. ap (λ z. or_lent z (at x.rows k)) (lookup_insert term_total (held (key_of_change c), here) es (held k) a.ascends)
+  cells = λ k. ap (λ z. or_committed z (at x.rows k)) (lookup_insert term_total (held (key_of_change c), here) es (held k) a.ascends)
       ∙ cases k (term_cmp (held k) (held (key_of_change c))) refl ∙ sym (at-apply y.def.kind y.rows c k a.ordered);
 }
   where
@@ -115,7 +115,7 @@ shows_touch_key es x y c a = record {
     made = round (left x.def.kind (seen_at es x.rows (key_of_change c)) c) ∙ (λ i. left (TableDef.kind (sym a.def i)) (a.cells (key_of_change c) i) c) ∙ left_is y.def.kind y.rows c
 
     cases : (k : PlainTerm) (o : Ordering) → term_cmp (held k) (held (key_of_change c)) ≡ o
-        → or_lent (match_ordering o (lookup term_cmp (held k) es) (Some here) (lookup term_cmp (held k) es)) (at x.rows k) ≡ (if same (key_of_change c) k then apply y.def.kind (at y.rows k) c else at y.rows k)
+        → or_committed (match_ordering o (lookup term_cmp (held k) es) (Some here) (lookup term_cmp (held k) es)) (at x.rows k) ≡ (if same (key_of_change c) k then apply y.def.kind (at y.rows k) c else at y.rows k)
     cases k Less h = a.cells k ∙ sym (ap (λ b. if b then apply y.def.kind (at y.rows k) c else at y.rows k) (other_key k (key_of_change c) Less h (λ g. cc)))
     cases k Greater h = a.cells k ∙ sym (ap (λ b. if b then apply y.def.kind (at y.rows k) c else at y.rows k) (other_key k (key_of_change c) Greater h (λ g. cc)))
     cases k Equal h =
@@ -123,7 +123,7 @@ shows_touch_key es x y c a = record {
         made ∙ ap (λ j. apply y.def.kind (at y.rows j) c) e
         ∙ sym (ap (λ b. if b then apply y.def.kind (at y.rows k) c else at y.rows k) (ap (λ j. same j k) e ∙ same_refl k))
 
-pub shows_touch : (w : World) (v : Overlay) (n : World) (c : Change) → Shows w v n → Shows w (touch_in (find w (table_of_change c)) v c) (change_world n c)
+pub shows_touch : (w : Catalog) (v : Overlay) (n : Catalog) (c : Change) → Shows w v n → Shows w (touch_in (find w (table_of_change c)) v c) (change_catalog n c)
 shows_touch w v n c a = cases (find w (table_of_change c)) refl (find n (table_of_change c)) refl (a.tables (table_of_change c))
   where
     cases : (x : Option Table) → find w (table_of_change c) ≡ x → (y : Option Table) → find n (table_of_change c) ≡ y → ShowsIn (touched v (table_of_change c)) x y → Shows w (touch_in x v c) (change_table n y c)
@@ -135,7 +135,7 @@ shows_touch w v n c a = cases (find w (table_of_change c)) refl (find n (table_o
         es : Touched
         es = touch_key x.def.kind x.rows (touched v (table_of_change c)) c
 
-        -- the lent table has the name that it was found by
+        -- the committed table has the name that it was found by
         named : touch_in (Some x) v c ≡ insert_entry bytes_cmp (table_of_change c, es) v
         named = ap (λ m. insert_entry bytes_cmp (m, touch_key x.def.kind x.rows (touched v m) c) v) (find_name w (table_of_change c) x e)
 

@@ -13,11 +13,11 @@ use Rattle.tab_model.specs.Names.{plain_terms, terms_list}
 use Rattle.tab_model.specs.Operations.{key_of_change}
 use Rattle.tab_model.specs.Shapes.{held}
 use Rattle.tab_model.specs.Tables.{at}
-use Rattle.tab_model.specs.Worlds.{Table}
+use Rattle.tab_model.specs.Catalogs.{Table}
 use Rattle.tab_txstore.specs.Kept.{Appends}
 use Rattle.tab_map.specs.Entries.{lookup, insert_entry}
 use Rattle.tab_map.specs.Revised.{revised_as, revised_at}
-use Rattle.tab_txstore.specs.Overlays.{Touched, Overlay, touched, touched_in, or_lent, seen_at, left, touch}
+use Rattle.tab_txstore.specs.Overlays.{Touched, Overlay, touched, touched_in, or_committed, seen_at, left, touch}
 use Rattle.tab_model.proofs.ShapeLaws.{held_term}
 
 there_as : (f : Touched → Touched) (t : List ℕ) (v : Overlay) (o : Option Touched) → is_some o ≡ true → revised_as bytes_cmp f t v o ≡ insert_entry bytes_cmp (t, f (touched_in o)) v
@@ -55,7 +55,7 @@ appended_touch x v k c r row name v' n kc rr a vs =
     ∙ ap (λ q. insert_entry term_cmp (q, plain_terms (left x.def.kind (seen_at (touched v x.def.name) x.rows (key_of_change c)) c)) (touched v x.def.name)) (sym (held_term k) ∙ ap held kc))
   where
     seen_is : seen_at (touched v x.def.name) x.rows (key_of_change c) ≡ terms_list a.records
-    seen_is = ap (λ q. seen_at (touched v x.def.name) x.rows q) (sym kc) ∙ ap (λ q. or_lent (lookup term_cmp q (touched v x.def.name)) (at x.rows (term k))) (held_term k) ∙ ap (λ o. or_lent o (at x.rows (term k))) a.there
+    seen_is = ap (λ q. seen_at (touched v x.def.name) x.rows q) (sym kc) ∙ ap (λ q. or_committed (lookup term_cmp q (touched v x.def.name)) (at x.rows (term k))) (held_term k) ∙ ap (λ o. or_committed o (at x.rows (term k))) a.there
 
     after : with_one a.records (term row) ≡ plain_terms (left x.def.kind (seen_at (touched v x.def.name) x.rows (key_of_change c)) c)
     after = ap (λ z. with_one a.records (term z)) rr

@@ -10,7 +10,7 @@ use Rattle.tab_map.proofs.EntriesLeftLemmas.{fewer}
 use denote.Ref.{Bor}
 use Rattle.tab_txstore.specs.Overlays.{Touched}
 use Rattle.tab_txstore.specs.Merged.{merged}
-use Rattle.tab_txstore.proofs.MergedLemmas.{lent_below, both_equal, own_below, own_alone}
+use Rattle.tab_txstore.proofs.MergedLemmas.{committed_below, both_equal, own_below, own_alone}
 
 abbrev pub Gives : Touched → Option (Bor (Term × PlainTerms)) → Touched → Type 0
 Gives s r t = MatchOption r ((s ≡ []) × (t ≡ [])) (λ x. s ≡ x.now ∷ t)
@@ -31,37 +31,37 @@ abbrev tail_of : Touched → Touched
 tail_of [] = []
 tail_of (e ∷ es) = es
 
-pub alone : (own lent own' : Touched) (r : Option (Bor (Term × PlainTerms))) → Ascends term_cmp own → lent ≡ [] → Gives own r own' → Gives (merged own lent) r (merged own' lent)
-alone own lent own' None s e h = ((λ i. merged (h.0 i) (e i)), (λ i. merged (h.1 i) (e i)))
-alone [] lent own' (Some x) s e h = cc
-alone (y ∷ own) lent own' (Some x) s e h = ap (merged (y ∷ own)) e ∙ own_alone y own s ∙ ap (on_tail (λ z. merged z [])) h ∙ sym (ap (λ z. x.now ∷ merged own' z) e)
+pub alone : (own committed own' : Touched) (r : Option (Bor (Term × PlainTerms))) → Ascends term_cmp own → committed ≡ [] → Gives own r own' → Gives (merged own committed) r (merged own' committed)
+alone own committed own' None s e h = ((λ i. merged (h.0 i) (e i)), (λ i. merged (h.1 i) (e i)))
+alone [] committed own' (Some x) s e h = cc
+alone (y ∷ own) committed own' (Some x) s e h = ap (merged (y ∷ own)) e ∙ own_alone y own s ∙ ap (on_tail (λ z. merged z [])) h ∙ sym (ap (λ z. x.now ∷ merged own' z) e)
 
-pub rest_alone : (own lent lent' : Touched) (r : Option (Bor (Term × PlainTerms))) → own ≡ [] → Gives lent r lent' → Gives (merged own lent) r (merged own lent')
-rest_alone own lent lent' None e h = ((λ i. merged (e i) (h.0 i)), (λ i. merged (e i) (h.1 i)))
-rest_alone own lent lent' (Some x) e h = ap (λ z. merged z lent) e ∙ h ∙ sym (ap (λ z. x.now ∷ merged z lent') e)
+pub rest_alone : (own committed lent' : Touched) (r : Option (Bor (Term × PlainTerms))) → own ≡ [] → Gives committed r lent' → Gives (merged own committed) r (merged own lent')
+rest_alone own committed lent' None e h = ((λ i. merged (e i) (h.0 i)), (λ i. merged (e i) (h.1 i)))
+rest_alone own committed lent' (Some x) e h = ap (λ z. merged z committed) e ∙ h ∙ sym (ap (λ z. x.now ∷ merged z lent') e)
 
 same_first : (a b : Term × PlainTerms) (es : Touched) → slice_get (a ∷ es) 0 ≡ Some b → a ≡ b
 same_first a b es h = cc
 
-pub less : (own lent lent' : Touched) (r : Option (Bor (Term × PlainTerms))) (e x : Term × PlainTerms) → slice_get lent 0 ≡ Some e → slice_get own 0 ≡ Some x → term_cmp e.0 x.0 ≡ Less → Ascends term_cmp own → Gives lent r lent' → Gives (merged own lent) r (merged own lent')
-less [] lent lent' r e x h k c s g = cc
+pub less : (own committed lent' : Touched) (r : Option (Bor (Term × PlainTerms))) (e x : Term × PlainTerms) → slice_get committed 0 ≡ Some e → slice_get own 0 ≡ Some x → term_cmp e.0 x.0 ≡ Less → Ascends term_cmp own → Gives committed r lent' → Gives (merged own committed) r (merged own lent')
+less [] committed lent' r e x h k c s g = cc
 less (y ∷ own) [] lent' r e x h k c s g = cc
-less (y ∷ own) (d ∷ lent) lent' None e x h k c s g = let z : d ∷ lent ≡ [] = g.0 in cc
-less (y ∷ own) (d ∷ lent) lent' (Some p) e x h k c s g =
-    lent_below d y own lent (ap₂ (λ (a b : Term × PlainTerms). term_cmp a.0 b.0) (same_first d e lent h) (same_first y x own k) ∙ c) s ∙ ap (on_tail (merged (y ∷ own))) g
+less (y ∷ own) (d ∷ committed) lent' None e x h k c s g = let z : d ∷ committed ≡ [] = g.0 in cc
+less (y ∷ own) (d ∷ committed) lent' (Some p) e x h k c s g =
+    committed_below d y own committed (ap₂ (λ (a b : Term × PlainTerms). term_cmp a.0 b.0) (same_first d e committed h) (same_first y x own k) ∙ c) s ∙ ap (on_tail (merged (y ∷ own))) g
 
-pub greater : (own lent own' : Touched) (r : Option (Bor (Term × PlainTerms))) (e x : Term × PlainTerms) → slice_get lent 0 ≡ Some e → slice_get own 0 ≡ Some x → term_cmp e.0 x.0 ≡ Greater → Ascends term_cmp own → Ascends term_cmp lent → Gives own r own' → Gives (merged own lent) r (merged own' lent)
-greater [] lent own' r e x h k c s t g = cc
+pub greater : (own committed own' : Touched) (r : Option (Bor (Term × PlainTerms))) (e x : Term × PlainTerms) → slice_get committed 0 ≡ Some e → slice_get own 0 ≡ Some x → term_cmp e.0 x.0 ≡ Greater → Ascends term_cmp own → Ascends term_cmp committed → Gives own r own' → Gives (merged own committed) r (merged own' committed)
+greater [] committed own' r e x h k c s t g = cc
 greater (y ∷ own) [] own' r e x h k c s t g = cc
-greater (y ∷ own) (d ∷ lent) own' None e x h k c s t g = let z : y ∷ own ≡ [] = g.0 in cc
-greater (y ∷ own) (d ∷ lent) own' (Some p) e x h k c s t g =
-    own_below d y own lent (ap₂ (λ (a b : Term × PlainTerms). term_cmp a.0 b.0) (same_first d e lent h) (same_first y x own k) ∙ c) s t ∙ ap (on_tail (λ z. merged z (d ∷ lent))) g
+greater (y ∷ own) (d ∷ committed) own' None e x h k c s t g = let z : y ∷ own ≡ [] = g.0 in cc
+greater (y ∷ own) (d ∷ committed) own' (Some p) e x h k c s t g =
+    own_below d y own committed (ap₂ (λ (a b : Term × PlainTerms). term_cmp a.0 b.0) (same_first d e committed h) (same_first y x own k) ∙ c) s t ∙ ap (on_tail (λ z. merged z (d ∷ committed))) g
 
-pub equal : (own lent own' lent' : Touched) (q r : Option (Bor (Term × PlainTerms))) (e x : Term × PlainTerms) → slice_get lent 0 ≡ Some e → slice_get own 0 ≡ Some x → term_cmp e.0 x.0 ≡ Equal → Ascends term_cmp own → Gives lent q lent' → Gives own r own' → Gives (merged own lent) r (merged own' lent')
-equal [] lent own' lent' q r e x h k c s f g = cc
+pub equal : (own committed own' lent' : Touched) (q r : Option (Bor (Term × PlainTerms))) (e x : Term × PlainTerms) → slice_get committed 0 ≡ Some e → slice_get own 0 ≡ Some x → term_cmp e.0 x.0 ≡ Equal → Ascends term_cmp own → Gives committed q lent' → Gives own r own' → Gives (merged own committed) r (merged own' lent')
+equal [] committed own' lent' q r e x h k c s f g = cc
 equal (y ∷ own) [] own' lent' q r e x h k c s f g = cc
-equal (y ∷ own) (d ∷ lent) own' lent' None r e x h k c s f g = let z : d ∷ lent ≡ [] = f.0 in cc
-equal (y ∷ own) (d ∷ lent) own' lent' (Some o) None e x h k c s f g = let z : y ∷ own ≡ [] = g.0 in cc
-equal (y ∷ own) (d ∷ lent) own' lent' (Some o) (Some p) e x h k c s f g =
-    both_equal d y own lent (ap₂ (λ (a b : Term × PlainTerms). term_cmp a.0 b.0) (same_first d e lent h) (same_first y x own k) ∙ c) s
+equal (y ∷ own) (d ∷ committed) own' lent' None r e x h k c s f g = let z : d ∷ committed ≡ [] = f.0 in cc
+equal (y ∷ own) (d ∷ committed) own' lent' (Some o) None e x h k c s f g = let z : y ∷ own ≡ [] = g.0 in cc
+equal (y ∷ own) (d ∷ committed) own' lent' (Some o) (Some p) e x h k c s f g =
+    both_equal d y own committed (ap₂ (λ (a b : Term × PlainTerms). term_cmp a.0 b.0) (same_first d e committed h) (same_first y x own k) ∙ c) s
     ∙ ap (λ z. y ∷ merged own z) (ap tail_of f) ∙ ap (on_tail (λ z. merged z lent')) g

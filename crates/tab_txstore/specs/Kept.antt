@@ -12,7 +12,7 @@ use Rattle.tab_model.specs.declared.data.Change.{Change}
 use Rattle.tab_model.specs.declared.data.Change.TheVariants.{Write}
 use Rattle.tab_model.specs.declared.data.Kind.TheVariants.{Bag}
 use Rattle.tab_model.specs.Names.{terms_list}
-use Rattle.tab_model.specs.Worlds.{Table}
+use Rattle.tab_model.specs.Catalogs.{Table}
 use Rattle.tab_model.specs.declared.data.Move.{Move}
 use Rattle.tab_model.specs.State.{count_moves}
 use Rattle.tab_txstore.specs.Overlays.{Overlay, touched}

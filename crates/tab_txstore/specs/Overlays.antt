@@ -16,7 +16,7 @@ use Rattle.tab_model.specs.Names.{plain_terms, terms_list}
 use Rattle.tab_model.specs.Tables.{Rows, at, delete_object}
 use Rattle.tab_model.specs.Operations.{key_of_change}
 use Rattle.tab_model.specs.Shapes.{held}
-use Rattle.tab_model.specs.Worlds.{Table}
+use Rattle.tab_model.specs.Catalogs.{Table}
 
 -- the touched keys of one table, each with what stands there now; a key whose records are gone stays, with none
 abbrev pub Touched : Type 0
@@ -35,14 +35,14 @@ touched_in (Some es) = es
 abbrev pub touched : Overlay → List ℕ → Touched
 touched v t = touched_in (lookup bytes_cmp t v)
 
--- the records that the transaction left, or those that the lent table has
-abbrev pub or_lent : Option PlainTerms → Rows → Rows
-or_lent None rows = rows
-or_lent (Some ts) rows = terms_list ts
+-- the records that the transaction left, or those that the committed table has
+abbrev pub or_committed : Option PlainTerms → Rows → Rows
+or_committed None rows = rows
+or_committed (Some ts) rows = terms_list ts
 
--- what stands at a key for the transaction: what it left there, else what the lent table has there
+-- what stands at a key for the transaction: what it left there, else what the committed table has there
 abbrev pub seen_at : Touched → Rows → PlainTerm → Rows
-seen_at es rows k = or_lent (lookup term_cmp (held k) es) (at rows k)
+seen_at es rows k = or_committed (lookup term_cmp (held k) es) (at rows k)
 
 -- a bag's records with one more, once
 abbrev pub with_row : Rows → PlainTerm → Rows
@@ -63,7 +63,7 @@ touch_key kind rows es c = insert_entry term_cmp (held (key_of_change c), plain_
 abbrev pub touch : Table → Overlay → Change → Overlay
 touch x v c = insert_entry bytes_cmp (x.def.name, touch_key x.def.kind x.rows (touched v x.def.name) c) v
 
--- a change of a lent table, if there is one; nothing changes where there is none
+-- a change of a committed table, if there is one; nothing changes where there is none
 abbrev pub touch_in : Option Table → Overlay → Change → Overlay
 touch_in None v c = v
 touch_in (Some x) v c = touch x v c

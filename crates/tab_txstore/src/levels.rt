@@ -105,15 +105,15 @@ impl Levels {
         updates
     }
 
-    /// A key of a lent table with what stands there. None where nothing does, and neither did the transaction touch it.
+    /// A key of a committed table with what stands there. None where nothing does, and neither did the transaction touch it.
     pub fn seen_entry<'a>(
         &'a self,
-        lent: &'a IndexedTable,
+        committed: &'a IndexedTable,
         key: &Term,
     ) -> Option<&'a Entry<Term, Records>>
-        ensures { MatchOption result (seen_at (touched self.now.now.overlay lent.now.def.name) lent.now.rows (term key.now) ≡ []) (λ e. e.now.1 ≡ plain_terms (seen_at (touched self.now.now.overlay lent.now.def.name) lent.now.rows (term key.now))) }
+        ensures { MatchOption result (seen_at (touched self.now.now.overlay committed.now.def.name) committed.now.rows (term key.now) ≡ []) (λ e. e.now.1 ≡ plain_terms (seen_at (touched self.now.now.overlay committed.now.def.name) committed.now.rows (term key.now))) }
     {
-        seen_entry(&self.overlay, lent, key)
+        seen_entry(&self.overlay, committed, key)
     }
 
     /// What stands at the touched keys, by table.
@@ -124,48 +124,48 @@ impl Levels {
     }
 
     /// The touched keys of a table, each with what stands there. None where no key of it was touched.
-    pub fn touched(&self, lent: &IndexedTable) -> Option<&Map<Term, Records>>
-        ensures { option_copied result ≡ lookup bytes_cmp lent.now.def.name self.now.now.overlay }
+    pub fn touched(&self, committed: &IndexedTable) -> Option<&Map<Term, Records>>
+        ensures { option_copied result ≡ lookup bytes_cmp committed.now.def.name self.now.now.overlay }
     {
-        self.overlay.get(&lent.def().name)
+        self.overlay.get(&committed.def().name)
     }
 
-    /// A lent table's walk with the touched keys among it, without memory.
-    pub fn merged<'a>(&'a self, lent: &'a IndexedTable) -> Merged<'a>
-        ensures { (es : Touched) × (joined_rows es ≡ lent.now.rows) × IsInOrder es × Ascends term_cmp (touched self.now.now.overlay lent.now.def.name) × (result ≡ merged_of (touched self.now.now.overlay lent.now.def.name) es) }
+    /// A committed table's walk with the touched keys among it, without memory.
+    pub fn merged<'a>(&'a self, committed: &'a IndexedTable) -> Merged<'a>
+        ensures { (es : Touched) × (joined_rows es ≡ committed.now.rows) × IsInOrder es × Ascends term_cmp (touched self.now.now.overlay committed.now.def.name) × (result ≡ merged_of (touched self.now.now.overlay committed.now.def.name) es) }
     {
-        let walk = lent.walk();
-        match self.overlay.get(&lent.def().name) {
+        let walk = committed.walk();
+        match self.overlay.get(&committed.def().name) {
             Some(keys) => Merged::new(keys.iter(), walk),
             None => Merged::new(walk.end(), walk),
         }
     }
 
-    /// A lent table's records by key with the touched keys among them, as a map that shares its entries with both. A key
+    /// A committed table's records by key with the touched keys among them, as a map that shares its entries with both. A key
     /// whose records were taken out is there, with none.
     pub fn by_key(
         &self,
         alloc: Global,
-        lent: &IndexedTable,
+        committed: &IndexedTable,
     ) -> Result<Map<Term, Records>, AllocError>
-        ensures { IfOk result (λ all. (es : Touched) × (joined_rows es ≡ lent.now.rows) × IsInOrder es × Ascends term_cmp (touched self.now.now.overlay lent.now.def.name) × (all ≡ merged_of (touched self.now.now.overlay lent.now.def.name) es)) }
+        ensures { IfOk result (λ all. (es : Touched) × (joined_rows es ≡ committed.now.rows) × IsInOrder es × Ascends term_cmp (touched self.now.now.overlay committed.now.def.name) × (all ≡ merged_of (touched self.now.now.overlay committed.now.def.name) es)) }
     {
-        let mut all = lent.records().share()?;
-        if let Some(own) = self.touched(lent) {
+        let mut all = committed.records().share()?;
+        if let Some(own) = self.touched(committed) {
             put_all(alloc, &mut all, own)?;
         }
         Ok(all)
     }
 
-    /// An operation that was made over its lent table, with its reply: its change, or where it failed the end of its level.
+    /// An operation that was made over its committed table, with its reply: its change, or where it failed the end of its level.
     pub fn operate(
         &mut self,
         alloc: Global,
-        lent: &IndexedTable,
+        committed: &IndexedTable,
         operation: &Operation,
         reply: &Reply,
     ) -> Result<(), AllocError>
-        ensures ok { OnOk result (self.new ≡ levels_next (Some lent.now) self.old (Do operation.now) (Some reply.now)) }
+        ensures ok { OnOk result (self.new ≡ levels_next (Some committed.now) self.old (Do operation.now) (Some reply.now)) }
         ensures err { OnErr result (self.new ≡ self.old) }
     {
         if is_failure(reply) {
@@ -173,18 +173,23 @@ impl Levels {
             return Ok(());
         }
         match change_of(alloc, operation)? {
-            Some(change) => self.change(alloc, lent, Draft { change }),
+            Some(change) => self.change(alloc, committed, Draft { change }),
             None => Ok(()),
         }
     }
 
-    /// Makes a change over a lent table.
-    fn change(&mut self, alloc: Global, lent: &IndexedTable, draft: Draft) -> Result<(), AllocError>
-        ensures ok { OnOk result (self.new ≡ changed (Some lent.now) self.old (Some draft.change)) }
+    /// Makes a change over a committed table.
+    fn change(
+        &mut self,
+        alloc: Global,
+        committed: &IndexedTable,
+        draft: Draft,
+    ) -> Result<(), AllocError>
+        ensures ok { OnOk result (self.new ≡ changed (Some committed.now) self.old (Some draft.change)) }
         ensures err { OnErr result (self.new ≡ self.old) }
     {
         self.updates.reserve(1)?;
-        touch(&mut self.overlay, alloc, lent, &draft.change)?;
+        touch(&mut self.overlay, alloc, committed, &draft.change)?;
         push_change(&mut self.updates, draft.into_change());
         Ok(())
     }

@@ -1,7 +1,7 @@
 //! A transaction's private store: what it did and was told, and what it left at the keys that it touched, over tables that
 //! are only lent.
 //!
-//! Contracts see the moves, their replies and the levels (specs/Stores). No call has a condition on the lent tables: what
+//! Contracts see the moves, their replies and the levels (specs/Stores). No call has a condition on the committed tables: what
 //! they must be, for the store to be that of its moves, is `Fits`, and the laws say what keeps it and what it gives.
 
 #![tactic(auto)]

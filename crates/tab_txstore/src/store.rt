@@ -19,7 +19,7 @@ use std::alloc::{AllocError, Global};
 use std::marker::Model;
 use tab_index::IndexedTable;
 use tab_map::{Entry, Map};
-use tab_model::{Change, Move, Moves, Operation, Replies, Reply, Told};
+use tab_model::{Change, Move, Moves, Operation, Replies, Reply, SharedReply};
 use tab_records::Records;
 use tab_term::{Atom, Term};
 
@@ -27,7 +27,7 @@ use tab_term::{Atom, Term};
 pub struct TxStore {
     // With room for the ends of the levels that are open.
     moves: Vec<Move>,
-    told: Vec<Option<Told>>,
+    told: Vec<Option<SharedReply>>,
     // Of the moves, those that count towards the limit.
     count: usize,
     levels: Levels,
@@ -75,7 +75,7 @@ pub struct Finished {
 /// An operation with its reply, which waits for its place.
 struct Made {
     operation: Operation,
-    reply: Told,
+    reply: SharedReply,
 }
 
 // A derived Drop would be taken apart, variant by variant, at each exit of each caller.
@@ -88,7 +88,7 @@ impl Drop for Made {
 }
 
 impl Made {
-    fn into_parts(self) -> (Operation, Told)
+    fn into_parts(self) -> (Operation, SharedReply)
         ensures { result ≡ (self.operation, self.reply) }
     {
         let Made { operation, reply } = self;
@@ -109,29 +109,34 @@ impl TxStore {
         }
     }
 
-    /// An operation that was made over its lent table, with its reply, which is taken as given. One that failed there ends
+    /// An operation that was made over its committed table, with its reply, which is taken as given. One that failed there ends
     /// its level.
     pub fn make(
         &mut self,
         alloc: Global,
-        lent: &IndexedTable,
+        committed: &IndexedTable,
         operation: Operation,
-        reply: Told,
+        reply: SharedReply,
     ) -> Result<(), AllocError>
-        ensures ok { OnOk result (self.new ≡ store_next (Some lent.now) self.old (Do operation) (Some reply)) }
+        ensures ok { OnOk result (self.new ≡ store_next (Some committed.now) self.old (Do operation) (Some reply)) }
         ensures err { OnErr result (self.new ≡ self.old) }
     {
-        self.put_made(alloc, lent, Made { operation, reply })
+        self.put_made(alloc, committed, Made { operation, reply })
     }
 
-    fn put_made(&mut self, alloc: Global, lent: &IndexedTable, made: Made) -> Result<(), AllocError>
-        ensures ok { OnOk result (self.new ≡ store_next (Some lent.now) self.old (Do made.operation) (Some made.reply)) }
+    fn put_made(
+        &mut self,
+        alloc: Global,
+        committed: &IndexedTable,
+        made: Made,
+    ) -> Result<(), AllocError>
+        ensures ok { OnOk result (self.new ≡ store_next (Some committed.now) self.old (Do made.operation) (Some made.reply)) }
         ensures err { OnErr result (self.new ≡ self.old) }
     {
         reserve(&mut self.moves, self.levels.depth(), 1)?;
         reserve_told(&mut self.told, self.levels.depth(), 1)?;
         self.levels
-            .operate(alloc, lent, &made.operation, made.reply.reply())?;
+            .operate(alloc, committed, &made.operation, made.reply.reply())?;
         let (operation, reply) = made.into_parts();
         put_move(&mut self.moves, Move::Do(operation));
         put_told(&mut self.told, Some(reply));
@@ -140,7 +145,7 @@ impl TxStore {
     }
 
     /// An operation that has no table, with its reply: its level ends.
-    pub fn fail(&mut self, operation: Operation, reply: Told) -> Result<(), AllocError>
+    pub fn fail(&mut self, operation: Operation, reply: SharedReply) -> Result<(), AllocError>
         requires { is_failure_of (Some reply) ≡ true }
         ensures ok { OnOk result (self.new ≡ store_next None self.old (Do operation) (Some reply)) }
         ensures err { OnErr result (self.new ≡ self.old) }
@@ -172,7 +177,7 @@ impl TxStore {
         reserve_told(&mut self.told, self.levels.depth(), 2)?;
         self.levels.nest()?;
         put_move(&mut self.moves, Move::Open);
-        put_told(&mut self.told, Some(Told::new(Reply::Tid(age))));
+        put_told(&mut self.told, Some(SharedReply::new(Reply::Tid(age))));
         self.count += 1;
         Ok(())
     }
@@ -183,7 +188,7 @@ impl TxStore {
         ensures { self.new ≡ store_next None self.old CloseOf (Some told_of.AtomicOk) }
     {
         put_move(&mut self.moves, Move::Close);
-        put_told(&mut self.told, Some(Told::new(Reply::AtomicOk)));
+        put_told(&mut self.told, Some(SharedReply::new(Reply::AtomicOk)));
         self.levels.join();
     }
 
@@ -254,40 +259,40 @@ impl TxStore {
         }
     }
 
-    // A key of a lent table with what stands there for the transaction. None where nothing does, and it wasn't touched.
+    // A key of a committed table with what stands there for the transaction. None where nothing does, and it wasn't touched.
     pub(crate) fn seen_entry<'a>(
         &'a self,
-        lent: &'a IndexedTable,
+        committed: &'a IndexedTable,
         key: &Term,
     ) -> Option<&'a Entry<Term, Records>>
-        ensures { MatchOption result (seen_at (touched self.now.levels.now.overlay lent.now.def.name) lent.now.rows (term key.now) ≡ []) (λ e. e.now.1 ≡ plain_terms (seen_at (touched self.now.levels.now.overlay lent.now.def.name) lent.now.rows (term key.now))) }
+        ensures { MatchOption result (seen_at (touched self.now.levels.now.overlay committed.now.def.name) committed.now.rows (term key.now) ≡ []) (λ e. e.now.1 ≡ plain_terms (seen_at (touched self.now.levels.now.overlay committed.now.def.name) committed.now.rows (term key.now))) }
     {
-        self.levels.seen_entry(lent, key)
+        self.levels.seen_entry(committed, key)
     }
 
-    // A lent table's walk with the touched keys among it, without memory.
-    pub(crate) fn merged<'a>(&'a self, lent: &'a IndexedTable) -> Merged<'a>
-        ensures { (es : Touched) × (joined_rows es ≡ lent.now.rows) × IsInOrder es × Ascends term_cmp (touched self.now.levels.now.overlay lent.now.def.name) × (result ≡ merged_of (touched self.now.levels.now.overlay lent.now.def.name) es) }
+    // A committed table's walk with the touched keys among it, without memory.
+    pub(crate) fn merged<'a>(&'a self, committed: &'a IndexedTable) -> Merged<'a>
+        ensures { (es : Touched) × (joined_rows es ≡ committed.now.rows) × IsInOrder es × Ascends term_cmp (touched self.now.levels.now.overlay committed.now.def.name) × (result ≡ merged_of (touched self.now.levels.now.overlay committed.now.def.name) es) }
     {
-        self.levels.merged(lent)
+        self.levels.merged(committed)
     }
 
-    // A lent table's records by key with the touched keys among them.
+    // A committed table's records by key with the touched keys among them.
     pub(crate) fn by_key(
         &self,
         alloc: Global,
-        lent: &IndexedTable,
+        committed: &IndexedTable,
     ) -> Result<Map<Term, Records>, AllocError>
-        ensures { IfOk result (λ all. (es : Touched) × (joined_rows es ≡ lent.now.rows) × IsInOrder es × Ascends term_cmp (touched self.now.levels.now.overlay lent.now.def.name) × (all ≡ merged_of (touched self.now.levels.now.overlay lent.now.def.name) es)) }
+        ensures { IfOk result (λ all. (es : Touched) × (joined_rows es ≡ committed.now.rows) × IsInOrder es × Ascends term_cmp (touched self.now.levels.now.overlay committed.now.def.name) × (all ≡ merged_of (touched self.now.levels.now.overlay committed.now.def.name) es)) }
     {
-        self.levels.by_key(alloc, lent)
+        self.levels.by_key(alloc, committed)
     }
 
     // The touched keys of the table, each with what stands there. None where no key of it was touched.
-    pub(crate) fn touched(&self, lent: &IndexedTable) -> Option<&Map<Term, Records>>
-        ensures { option_copied result ≡ lookup bytes_cmp lent.now.def.name self.now.levels.now.overlay }
+    pub(crate) fn touched(&self, committed: &IndexedTable) -> Option<&Map<Term, Records>>
+        ensures { option_copied result ≡ lookup bytes_cmp committed.now.def.name self.now.levels.now.overlay }
     {
-        self.levels.touched(lent)
+        self.levels.touched(committed)
     }
 }
 
@@ -300,7 +305,11 @@ fn reserve(moves: &mut Vec<Move>, depth: usize, more: usize) -> Result<(), Alloc
     moves.reserve(places(depth, more)?)
 }
 
-fn reserve_told(told: &mut Vec<Option<Told>>, depth: usize, more: usize) -> Result<(), AllocError>
+fn reserve_told(
+    told: &mut Vec<Option<SharedReply>>,
+    depth: usize,
+    more: usize,
+) -> Result<(), AllocError>
     ensures items { told.new.items ≡ told.old.items }
     ensures len { vec_len told.new ≡ vec_len told.old }
     ensures kept { vec_capacity told.old ≤ vec_capacity told.new }
@@ -325,7 +334,7 @@ fn put_move(moves: &mut Vec<Move>, next: Move)
     moves.push_reserved(next);
 }
 
-fn put_told(told: &mut Vec<Option<Told>>, next: Option<Told>)
+fn put_told(told: &mut Vec<Option<SharedReply>>, next: Option<SharedReply>)
     requires { vec_len told.old < vec_capacity told.old }
     ensures items { told.new.items ≡ told.old.items ++ next ∷ [] }
     ensures len { vec_len told.new ≡ vec_len told.old + 1 }

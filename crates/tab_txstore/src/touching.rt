@@ -68,41 +68,41 @@ impl Revise<Map<Term, Records>> for AppendAt {
     }
 }
 
-/// A key of a lent table with what stands there. None where nothing does, and neither did the transaction touch it.
+/// A key of a committed table with what stands there. None where nothing does, and neither did the transaction touch it.
 pub fn seen_entry<'a>(
     overlay: &'a Map<Atom, Map<Term, Records>>,
-    lent: &'a IndexedTable,
+    committed: &'a IndexedTable,
     key: &Term,
 ) -> Option<&'a Entry<Term, Records>>
-    ensures { MatchOption result (seen_at (touched overlay.now lent.now.def.name) lent.now.rows (term key.now) ≡ []) (λ e. e.now.1 ≡ plain_terms (seen_at (touched overlay.now lent.now.def.name) lent.now.rows (term key.now))) }
+    ensures { MatchOption result (seen_at (touched overlay.now committed.now.def.name) committed.now.rows (term key.now) ≡ []) (λ e. e.now.1 ≡ plain_terms (seen_at (touched overlay.now committed.now.def.name) committed.now.rows (term key.now))) }
 {
-    match overlay.get(&lent.def().name) {
+    match overlay.get(&committed.def().name) {
         Some(keys) => match keys.get_entry(key) {
             Some(entry) => Some(entry),
-            None => lent.entry(key),
+            None => committed.entry(key),
         },
-        None => lent.entry(key),
+        None => committed.entry(key),
     }
 }
 
-/// Makes a change over a lent table.
+/// Makes a change over a committed table.
 pub fn touch(
     overlay: &mut Map<Atom, Map<Term, Records>>,
     alloc: Global,
-    lent: &IndexedTable,
+    committed: &IndexedTable,
     change: &Change,
 ) -> Result<(), AllocError>
-    ensures ok { OnOk result (overlay.new ≡ touch_of lent.now overlay.old change.now) }
+    ensures ok { OnOk result (overlay.new ≡ touch_of committed.now overlay.old change.now) }
     ensures err { OnErr result (overlay.new ≡ overlay.old) }
 {
     let key = key_of(alloc, change)?;
-    let name = lent.def().name.try_clone(alloc)?;
-    if let Some(row) = appended(overlay, lent, &key, change) {
+    let name = committed.def().name.try_clone(alloc)?;
+    if let Some(row) = appended(overlay, committed, &key, change) {
         let row = row.try_clone(alloc)?;
         append(overlay, alloc, name, key, row)?;
         return Ok(());
     }
-    let records = left_at(overlay, alloc, lent, &key, change)?;
+    let records = left_at(overlay, alloc, committed, &key, change)?;
     put(overlay, alloc, name, key, records)?;
     Ok(())
 }
@@ -111,17 +111,17 @@ pub fn touch(
 fn left_at(
     overlay: &Map<Atom, Map<Term, Records>>,
     alloc: Global,
-    lent: &IndexedTable,
+    committed: &IndexedTable,
     key: &Term,
     change: &Change,
 ) -> Result<Records, AllocError>
-    ensures { IfOk result (λ after. after ≡ plain_terms (left_of lent.now.def.kind (terms_list (plain_terms (seen_at (touched overlay.now lent.now.def.name) lent.now.rows (term key.now)))) change.now)) }
+    ensures { IfOk result (λ after. after ≡ plain_terms (left_of committed.now.def.kind (terms_list (plain_terms (seen_at (touched overlay.now committed.now.def.name) committed.now.rows (term key.now)))) change.now)) }
 {
-    let kind = lent.def().kind;
+    let kind = committed.def().kind;
     if let (Kind::Set, Change::Write(row)) = (kind, change) {
         return Ok(Records::only(row.try_clone(alloc)?));
     }
-    match seen_entry(overlay, lent, key) {
+    match seen_entry(overlay, committed, key) {
         Some(entry) => left(alloc, kind, &entry.pair().1, change),
         None => left(alloc, kind, &Records::new(), change),
     }
@@ -130,19 +130,19 @@ fn left_at(
 // The record of a write that a bag puts after others, which were touched before.
 fn appended<'a>(
     overlay: &Map<Atom, Map<Term, Records>>,
-    lent: &IndexedTable,
+    committed: &IndexedTable,
     key: &Term,
     change: &'a Change,
 ) -> Option<&'a Term>
-    ensures { IfSome (option_copied result) (Appends lent.now overlay.now key.now change.now) }
+    ensures { IfSome (option_copied result) (Appends committed.now overlay.now key.now change.now) }
 {
     let Change::Write(row) = change else {
         return None;
     };
-    match lent.def().kind {
+    match committed.def().kind {
         Kind::Set => None,
         Kind::Bag => {
-            let records = overlay.get(&lent.def().name)?.get(key)?;
+            let records = overlay.get(&committed.def().name)?.get(key)?;
             if records.contains(row) {
                 return None;
             }

@@ -22,60 +22,64 @@ use tab_map::Set;
 use tab_term::{Term, Terms};
 
 impl TxStore {
-    /// What stands at a key of a lent table for the transaction, in the order of insertion. It is shared with the table, or
+    /// What stands at a key of a committed table for the transaction, in the order of insertion. It is shared with the table, or
     /// with the transaction, and takes no memory.
     pub fn view_read(
         &self,
         alloc: Global,
-        lent: &IndexedTable,
+        committed: &IndexedTable,
         key: &Term,
     ) -> Result<SharedTerms, AllocError>
-        ensures { IfOk result (λ records. records ≡ plain_terms (seen_at (touched self.now.levels.now.overlay lent.now.def.name) lent.now.rows (term key.now))) }
+        ensures { IfOk result (λ records. records ≡ plain_terms (seen_at (touched self.now.levels.now.overlay committed.now.def.name) committed.now.rows (term key.now))) }
     {
-        match self.seen_entry(lent, key) {
+        match self.seen_entry(committed, key) {
             Some(entry) => Ok(SharedTerms::from_entry(entry.try_clone()?)),
             None => Ok(SharedTerms::from_terms(Terms::from_vec(Vec::new(alloc)))),
         }
     }
 
-    /// The keys of a lent table as the transaction sees it, in their order. All but what it touched is shared with the
+    /// The keys of a committed table as the transaction sees it, in their order. All but what it touched is shared with the
     /// table.
-    pub fn view_keys(&self, alloc: Global, lent: &IndexedTable) -> Result<SharedTerms, AllocError>
-        ensures { IfOk result (λ all. (seen : List PlainTerm) → IsSeen (touched self.now.levels.now.overlay lent.now.def.name) lent.now.rows seen → all ≡ plain_terms (keys_of_rows seen)) }
+    pub fn view_keys(
+        &self,
+        alloc: Global,
+        committed: &IndexedTable,
+    ) -> Result<SharedTerms, AllocError>
+        ensures { IfOk result (λ all. (seen : List PlainTerm) → IsSeen (touched self.now.levels.now.overlay committed.now.def.name) committed.now.rows seen → all ≡ plain_terms (keys_of_rows seen)) }
     {
-        Ok(SharedTerms::from_keys(self.by_key(alloc, lent)?))
+        Ok(SharedTerms::from_keys(self.by_key(alloc, committed)?))
     }
 
-    /// The records that fit the pattern, of a lent table as the transaction sees it, in their order. They are shared with the
+    /// The records that fit the pattern, of a committed table as the transaction sees it, in their order. They are shared with the
     /// table, or with the transaction. Where no `'_'` stands in the pattern's key, no other key is looked at.
     pub fn view_match(
         &self,
         alloc: Global,
-        lent: &IndexedTable,
+        committed: &IndexedTable,
         pattern: &Term,
     ) -> Result<SharedTerms, AllocError>
-        ensures { IfOk result (λ all. (seen : List PlainTerm) → IsSeen (touched self.now.levels.now.overlay lent.now.def.name) lent.now.rows seen → all ≡ plain_terms (match_object seen (term pattern.now))) }
+        ensures { IfOk result (λ all. (seen : List PlainTerm) → IsSeen (touched self.now.levels.now.overlay committed.now.def.name) committed.now.rows seen → all ≡ plain_terms (match_object seen (term pattern.now))) }
     {
         let mut found = Vec::new(alloc);
         if let Some(key) = bound_key(pattern) {
-            if let Some(entry) = self.seen_entry(lent, key) {
+            if let Some(entry) = self.seen_entry(committed, key) {
                 push_matches(&mut found, entry, pattern)?;
             }
             return Ok(SharedTerms::from_picked(found));
         }
-        if self.all_fit(lent, pattern) {
-            return Ok(SharedTerms::from_records(self.by_key(alloc, lent)?));
+        if self.all_fit(committed, pattern) {
+            return Ok(SharedTerms::from_records(self.by_key(alloc, committed)?));
         }
-        for entry in self.merged(lent) {
+        for entry in self.merged(committed) {
             push_matches(&mut found, entry, pattern)?;
         }
         Ok(SharedTerms::from_picked(found))
     }
 
-    fn all_fit(&self, lent: &IndexedTable, pattern: &Term) -> bool
-        ensures { (seen : List PlainTerm) → IsSeen (touched self.now.levels.now.overlay lent.now.def.name) lent.now.rows seen → result ≡ list_all (matches (term pattern.now)) seen }
+    fn all_fit(&self, committed: &IndexedTable, pattern: &Term) -> bool
+        ensures { (seen : List PlainTerm) → IsSeen (touched self.now.levels.now.overlay committed.now.def.name) committed.now.rows seen → result ≡ list_all (matches (term pattern.now)) seen }
     {
-        for entry in self.merged(lent) {
+        for entry in self.merged(committed) {
             if !fits(entry, pattern) {
                 return false;
             }
@@ -83,24 +87,24 @@ impl TxStore {
         true
     }
 
-    /// The records that have the value at the position, of a lent table as the transaction sees it, in their order. They are
+    /// The records that have the value at the position, of a committed table as the transaction sees it, in their order. They are
     /// shared with the table, or with the transaction. Only keys that the index has with the value, and touched keys, are
     /// looked at; where the position has no index the table is walked.
     pub fn view_index(
         &self,
         alloc: Global,
-        lent: &IndexedTable,
+        committed: &IndexedTable,
         position: u64,
         value: &Term,
     ) -> Result<SharedTerms, AllocError>
-        ensures { IfOk result (λ all. (seen : List PlainTerm) → IsSeen (touched self.now.levels.now.overlay lent.now.def.name) lent.now.rows seen → all ≡ plain_terms (index_read seen position (term value.now))) }
+        ensures { IfOk result (λ all. (seen : List PlainTerm) → IsSeen (touched self.now.levels.now.overlay committed.now.def.name) committed.now.rows seen → all ≡ plain_terms (index_read seen position (term value.now))) }
     {
-        if let Some(keys) = lent.keys_with(position, value)? {
-            let keys = self.with_touched(alloc, lent, keys)?;
-            return self.read_keys(alloc, lent, &keys, position, value);
+        if let Some(keys) = committed.keys_with(position, value)? {
+            let keys = self.with_touched(alloc, committed, keys)?;
+            return self.read_keys(alloc, committed, &keys, position, value);
         }
         let mut found = Vec::new(alloc);
-        for entry in self.merged(lent) {
+        for entry in self.merged(committed) {
             push_with_value(alloc, &mut found, entry, position, value)?;
         }
         Ok(SharedTerms::from_picked(found))
@@ -110,12 +114,12 @@ impl TxStore {
     fn with_touched(
         &self,
         alloc: Global,
-        lent: &IndexedTable,
+        committed: &IndexedTable,
         mut keys: Set<Term>,
     ) -> Result<Set<Term>, AllocError>
-        ensures { IfOk result (λ all. HasBoth all keys (touched self.now.levels.now.overlay lent.now.def.name)) }
+        ensures { IfOk result (λ all. HasBoth all keys (touched self.now.levels.now.overlay committed.now.def.name)) }
     {
-        let Some(own) = self.touched(lent) else {
+        let Some(own) = self.touched(committed) else {
             return Ok(keys);
         };
         for entry in own.iter() {
@@ -132,16 +136,16 @@ impl TxStore {
     fn read_keys(
         &self,
         alloc: Global,
-        lent: &IndexedTable,
+        committed: &IndexedTable,
         keys: &Set<Term>,
         position: u64,
         value: &Term,
     ) -> Result<SharedTerms, AllocError>
-        ensures { IfOk result (λ all. (seen : List PlainTerm) → IsSeen (touched self.now.levels.now.overlay lent.now.def.name) lent.now.rows seen → Covers keys.now seen position (term value.now) → all ≡ plain_terms (index_read seen position (term value.now))) }
+        ensures { IfOk result (λ all. (seen : List PlainTerm) → IsSeen (touched self.now.levels.now.overlay committed.now.def.name) committed.now.rows seen → Covers keys.now seen position (term value.now) → all ≡ plain_terms (index_read seen position (term value.now))) }
     {
         let mut found = Vec::new(alloc);
         for key in keys.iter() {
-            if let Some(entry) = self.seen_entry(lent, key) {
+            if let Some(entry) = self.seen_entry(committed, key) {
                 push_with_value(alloc, &mut found, entry, position, value)?;
             }
         }

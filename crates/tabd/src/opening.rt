@@ -7,21 +7,21 @@ use crate::serving::Service;
 use std::alloc::{AllocError, Global};
 use tab_book::Book;
 use tab_model::Limits;
-use tab_names::{House, Opened};
-use tab_post::Line;
+use tab_names::{Host, Opened};
+use tab_post::Channel;
 
 /// No tables and no sessions, and the limits that the words and the program set.
-pub fn opened_book<H: House>(
-    house: H,
+pub fn opened_book<H: Host>(
+    host: H,
     alloc: Global,
-    opened: Opened<Line>,
+    opened: Opened<Channel>,
     service: &Service,
 ) -> Result<Book<H>, AllocError>
     requires { opened ≡ H.book }
     ensures { IfOk result (λ b. b ≡ book_of service.now) }
 {
     Book::new(
-        house,
+        host,
         alloc,
         opened,
         limits(service),

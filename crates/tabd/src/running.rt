@@ -19,7 +19,7 @@ use std::thread::Threads;
 use tab_etf::{Source, Target, give_all};
 use tab_metrics::Paged;
 use tab_names::{Naming, Opened};
-use tab_post::Line;
+use tab_post::Channel;
 use tab_server::{Gate, Notes};
 
 /// Does what the words ask for, and gives the program's exit status. On the errors stands the line of this end and nothing
@@ -27,7 +27,7 @@ use tab_server::{Gate, Notes};
 /// What a server says while it goes on it says to the gate.
 pub fn run<J, H, R, W, E, G>(
     rt: &H,
-    opened: Opened<Line>,
+    opened: Opened<Channel>,
     asked: Result<Run, Error>,
     input: &mut R,
     output: &mut W,
@@ -70,7 +70,7 @@ where
 /// Does what the words ask for.
 fn perform<J, H, R, W, G>(
     rt: &H,
-    opened: Opened<Line>,
+    opened: Opened<Channel>,
     words: Run,
     input: &mut R,
     output: &mut W,

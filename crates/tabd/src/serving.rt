@@ -18,8 +18,8 @@ use std::{io, thread};
 use tab_book::Shared;
 use tab_etf::{Target, give_all};
 use tab_metrics::{Closing, Paged, serve_pages};
-use tab_names::{House, Naming, Opened};
-use tab_post::Line;
+use tab_names::{Host, Naming, Opened};
+use tab_post::Channel;
 use tab_server::{Delivery, Gate, Notes, Settings, serve, serve_forever};
 
 /// The greatest number of a standard stream.
@@ -82,7 +82,7 @@ fn settings(delivery: Delivery, idle: Option<u32>, aborts: bool) -> Settings
 pub fn listen<J, R, W, G>(
     rt: R,
     alloc: Global,
-    opened: Opened<Line>,
+    opened: Opened<Channel>,
     service: Service,
     output: &mut W,
     gate: &G,
@@ -96,8 +96,8 @@ where
 {
     match listening(&rt, alloc, &service, output, gate) {
         Ok(listeners) => {
-            let house = (rt, PhantomData::<J>);
-            serve_on(house, alloc, opened, &listeners, service, gate)
+            let host = (rt, PhantomData::<J>);
+            serve_on(host, alloc, opened, &listeners, service, gate)
         }
         Err(ended) => End::Stopped(ended),
     }
@@ -168,24 +168,24 @@ fn bound<R: Net<Listener = TcpListener, Stream = TcpStream>>(
 }
 
 /// Serves clients, beside a thread for who asks for the counters.
-fn serve_on<H: House + Threads + Send + Sync, G: Gate + Notes + Paged + Sync>(
-    house: H,
+fn serve_on<H: Host + Threads + Send + Sync, G: Gate + Notes + Paged + Sync>(
+    host: H,
     alloc: Global,
-    opened: Opened<Line>,
+    opened: Opened<Channel>,
     listeners: &Listeners,
     service: Service,
     gate: &G,
 ) -> End
     requires { opened ≡ H.book }
 {
-    let Ok(book) = opened_book(house, alloc, opened, &service) else {
+    let Ok(book) = opened_book(host, alloc, opened, &service) else {
         return End::Stopped(Ended::NoMemory);
     };
     let shared = Shared::new(book);
     let closing = Closing::new();
     match &listeners.pages {
         Some(pages) => beside_pages(
-            &house,
+            &host,
             alloc,
             &listeners.clients,
             pages,
@@ -194,12 +194,12 @@ fn serve_on<H: House + Threads + Send + Sync, G: Gate + Notes + Paged + Sync>(
             gate,
             &closing,
         ),
-        None => serve_clients(&house, alloc, &listeners.clients, &shared, service, gate),
+        None => serve_clients(&host, alloc, &listeners.clients, &shared, service, gate),
     }
 }
 
-fn beside_pages<H: House + Threads + Send + Sync, G: Gate + Notes + Paged + Sync>(
-    house: &H,
+fn beside_pages<H: Host + Threads + Send + Sync, G: Gate + Notes + Paged + Sync>(
+    host: &H,
     alloc: Global,
     clients: &TcpListener,
     pages: &TcpListener,
@@ -208,19 +208,19 @@ fn beside_pages<H: House + Threads + Send + Sync, G: Gate + Notes + Paged + Sync
     gate: &G,
     closing: &Closing,
 ) -> End {
-    thread::scope(thread::scope_env(), house, |scope| {
-        let started = scope.spawn(move || serve_pages(house, alloc, pages, shared, gate, closing));
+    thread::scope(thread::scope_env(), host, |scope| {
+        let started = scope.spawn(move || serve_pages(host, alloc, pages, shared, gate, closing));
         if started.is_err() {
             return End::Stopped(Ended::NoMemory);
         }
-        let end = serve_clients(house, alloc, clients, shared, service, gate);
+        let end = serve_clients(host, alloc, clients, shared, service, gate);
         closing.close();
         end
     })
 }
 
-fn serve_clients<H: House + Threads + Send + Sync, G: Gate + Notes + Sync>(
-    house: &H,
+fn serve_clients<H: Host + Threads + Send + Sync, G: Gate + Notes + Sync>(
+    host: &H,
     alloc: Global,
     clients: &TcpListener,
     shared: &Shared<H>,
@@ -229,11 +229,11 @@ fn serve_clients<H: House + Threads + Send + Sync, G: Gate + Notes + Sync>(
 ) -> End {
     let settings = settings(service.delivery, service.idle, service.aborts);
     if service.forever {
-        serve_forever(house, alloc, clients, shared, settings, gate);
+        serve_forever(host, alloc, clients, shared, settings, gate);
         return End::Done;
     }
     let connections = service.sizes.connections;
-    match serve(house, alloc, clients, shared, connections, settings, gate) {
+    match serve(host, alloc, clients, shared, connections, settings, gate) {
         Ok(()) => End::Done,
         Err(error) => {
             gate.fault(&error);

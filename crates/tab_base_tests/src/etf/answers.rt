@@ -3,9 +3,9 @@
 use std::alloc::{AllocError, Global};
 use std::test::Fail;
 use tab_etf::{Body, Leaf, Outline, append_frame, append_outline, are_within, decode};
-use tab_fixtures::bytes;
 use tab_lists::{Answer, Answers, SharedTerms};
 use tab_term::{Term, Terms};
+use tab_test_tools::bytes;
 
 /// An answer in few words. Its terms are numbers.
 enum Shape {

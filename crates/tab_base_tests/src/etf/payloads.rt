@@ -3,8 +3,8 @@
 use std::alloc::Global;
 use std::test::Fail;
 use tab_etf::{EtfFault, Fault, append_frame, decode, encode, encoded_len};
-use tab_fixtures::bytes;
 use tab_term::{Atom, Bytes, Term, Terms};
+use tab_test_tools::bytes;
 
 /// Payloads as hexadecimal digits, `63*6801` for two bytes 63 times, that are written back as they are.
 static SPELLED: [&str; 18] = [

@@ -5,7 +5,7 @@ use std::test::Fail;
 use tab_etf::{
     Broken, Counted, Frame, FrameFault, Splitter, Target, decode, read_frame, write_frame,
 };
-use tab_fixtures::{Device, bytes};
+use tab_test_tools::{Device, bytes};
 
 /// Payloads of terms, and none; the frames of all, one after the other, are 214 bytes.
 static PAYLOADS: [&str; 7] = [

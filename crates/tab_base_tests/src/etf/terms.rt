@@ -3,9 +3,9 @@
 use std::alloc::Global;
 use std::test::Fail;
 use tab_etf::decode;
-use tab_fixtures::bytes;
 use tab_key::Abbreviate;
 use tab_term::{Atom, Term, has_wildcard, matches};
+use tab_test_tools::bytes;
 
 /// Terms, ascending by the bytes of their spellings, as a program in another language spelled and sorted them.
 static ASCENDING: [&str; 60] = [

@@ -7,7 +7,7 @@ use Rattle.tab_model.specs.State.{State}
 use Rattle.tab_manager.specs.Outermost.{outermost}
 use Rattle.tab_core.specs.Owing.{Owes, are_watched}
 use Rattle.tab_core.specs.Runs.{StepsTo}
-use Rattle.tab_core.specs.Seats.{state_with}
+use Rattle.tab_core.specs.SessionLists.{state_with}
 use Rattle.tab_core.proofs.StepsLemmas.{inner_commit_makes, unwatched_commit_makes, same_result, ok_sees, none_of, nothing_due, unwatched_of, commits_of}
 use Rattle.tab_core.proofs.TellsLemmas.{seen_commit_free}
 use Rattle.tab_core.proofs.Core.commit.Goals as goal

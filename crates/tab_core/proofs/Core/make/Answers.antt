@@ -1,7 +1,7 @@
 use Rattle.std.proofs.Common.{◌≡◌, IfOk, true, sym, subst}
 use Rattle.tab_model.specs.Outcome.{Retry}
 use Rattle.tab_core.specs.Runs.{ask_of, StepsTo, takes_no_memory}
-use Rattle.tab_core.specs.Seats.{state_with}
+use Rattle.tab_core.specs.SessionLists.{state_with}
 use Rattle.tab_core.proofs.StepsLemmas.{retry_makes, same_result, ok_sees}
 use Rattle.tab_core.proofs.TellsLemmas.{seen_retry_free}
 use Rattle.tab_core.proofs.Core.make.Goals as goal

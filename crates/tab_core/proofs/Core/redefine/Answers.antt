@@ -40,7 +40,7 @@ invariant_of-self-then-is_none g c = record {
 
 pub returns-then-is_none-clause-done : goal.returns-then-is_none-clause-done
 returns-then-is_none-clause-done g c =
-    subst (λ (μ : State). StepsTo μ c.args.session (DoCommand (command.Schema c.args.schema)) c.in_ok-stepped.stepped (Rattle.tab_core.specs.Seats.state_with c.self.inside.subs c.step-2.new.self)) c.self.view_is
+    subst (λ (μ : State). StepsTo μ c.args.session (DoCommand (command.Schema c.args.schema)) c.in_ok-stepped.stepped (Rattle.tab_core.specs.SessionLists.state_with c.self.inside.subs c.step-2.new.self)) c.self.view_is
     (refused_schema_makes c.self.inside.subs c.self.inside.manager c.self.invariant c.args.session c.in_ok-stepped.stepped c.step-2.new.self c.args.schema c.in_ok-stepped.ensures.done (none_is _ c.if-is_none.ensures)).0
 
 pub invariant_of-self-2 : goal.invariant_of-self-2
@@ -52,5 +52,5 @@ invariant_of-self-2 g c = record {
 
 pub returns-clause-done : goal.returns-clause-done
 returns-clause-done g c =
-    subst (λ (μ : State). StepsTo μ c.args.session (DoCommand (command.Schema c.args.schema)) c.with_overflowed.result (Rattle.tab_core.specs.Seats.state_with c.deliver-over.new.self c.step-2.new.self)) c.self.view_is
+    subst (λ (μ : State). StepsTo μ c.args.session (DoCommand (command.Schema c.args.schema)) c.with_overflowed.result (Rattle.tab_core.specs.SessionLists.state_with c.deliver-over.new.self c.step-2.new.self)) c.self.view_is
     (removes c.self.inside.subs c.self.inside.manager c.self.invariant c.args.session c.in_ok-stepped.stepped c.step-2.new.self c.args.schema c.in-Remove.table c.in-Remove.is c.in_ok-stepped.ensures.done c.if-is_none.ensures c.deliver-over.new.self c.deliver-over.result c.in_ok-prepared.prepared c.in_ok-number.number c.in_ok-prepared.ensures c.in_ok-number.ensures c.deliver-over.ensures c.with_overflowed.result c.with_overflowed.ensures).0

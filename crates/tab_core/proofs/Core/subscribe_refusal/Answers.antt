@@ -2,7 +2,7 @@ use Rattle.std.proofs.Common.{sym, ap, ◌∙◌, refl, Some, None}
 use Rattle.std.specs.Prelude.{is_some}
 use Rattle.tab_model.specs.declared.data.Reply.TheVariants as reply
 use Rattle.tab_model.specs.Outcome.{subscribe_refusal}
-use Rattle.tab_model.specs.Worlds.{find}
+use Rattle.tab_model.specs.Catalogs.{find}
 use Rattle.tab_core.proofs.MarksLemmas.{seen, unseen, free, copied_is_some, overflow_untold, no_table, subscribed_already, may_subscribe}
 use Rattle.tab_manager.proofs.StepsLemmas.{differ}
 use Rattle.tab_core.proofs.TellsLemmas.{subscribe_told}

@@ -13,4 +13,4 @@ invariant_of-self g c = record {
 pub returns : goal.returns
 returns g c =
     let made = (take_makes c.self.inside.subs c.self.inside.manager c.self.invariant c.args.session c.take-taken.new.self c.take-taken.result c.take-taken.ensures c.taken_reply.result c.taken_reply.ensures).0 in
-    subst (λ (σ : State). Rattle.tab_core.specs.Runs.StepsTo σ c.args.session Rattle.tab_model.specs.Outcome.Take c.taken_reply.result (Rattle.tab_core.specs.Seats.state_with c.take-taken.new.self c.self.inside.manager)) c.self.view_is made
+    subst (λ (σ : State). Rattle.tab_core.specs.Runs.StepsTo σ c.args.session Rattle.tab_model.specs.Outcome.Take c.taken_reply.result (Rattle.tab_core.specs.SessionLists.state_with c.take-taken.new.self c.self.inside.manager)) c.self.view_is made

@@ -7,7 +7,7 @@ use Rattle.tab_term.specs.Order.{bytes_cmp}
 use Rattle.tab_locks.specs.Members.{Drops}
 use Rattle.tab_locks.specs.Filled.{HasNoneEmpty}
 use Rattle.tab_locks.specs.Plain.{is_write, lock_of, part_of}
-use Rattle.tab_locks.specs.Spots.{Spot, locks_in, stands_on, stands_at}
+use Rattle.tab_locks.specs.Spots.{Spot, locks_in, stands_on, holds_at}
 use Rattle.tab_locks.proofs.Passing.{none_there}
 use Rattle.tab_locks.proofs.TableLocks.{dropped_put, dropped_last, dropped_none, none_in}
 use Rattle.tab_locks.proofs.Filled.{filled_inserted, filled_without}
@@ -44,7 +44,7 @@ pub returns-in-Err-clause-dropped : goal.returns-in-Err-clause-dropped
 returns-in-Err-clause-dropped c =
     let es = c.args.tables.now.entries in
     let same : c.entry.follows.lender-at-none.entries ≡ es = subst (λ r. OnErr r (c.entry.follows.lender-at-none.entries ≡ es)) c.in-Err.is c.entry.follows.holds-at-none in
-    subst (λ (new : Entries). Drops (stands_at c.args.age (lock_of c.args.lock)) (locks_in es) (locks_in new)) (sym same) (none_in c.args.age c.args.lock.table (part_of c.args.lock.what) (is_write c.args.lock.mode) es c.in-Err.ensures.absent)
+    subst (λ (new : Entries). Drops (holds_at c.args.age (lock_of c.args.lock)) (locks_in es) (locks_in new)) (sym same) (none_in c.args.age c.args.lock.table (part_of c.args.lock.what) (is_write c.args.lock.mode) es c.in-Err.ensures.absent)
 
 pub returns-else-is_occupied-clause-filled : goal.returns-else-is_occupied-clause-filled
 returns-else-is_occupied-clause-filled c =

@@ -1,11 +1,11 @@
 use Rattle.std.proofs.Common.{◌≡◌, refl, ap, ◌∙◌}
 use Rattle.tab_model.specs.declared.data.Reply.{Reply}
-use Rattle.tab_model.specs.Refusals.{AsBefore, standing, LeavesAll}
+use Rattle.tab_model.specs.Refusals.{AsBefore, effect_of_reply, LeavesAll}
 use Rattle.tab_model.proofs.RefusalLaws.{as_before}
 use Rattle.tab_model.proofs.laws.a_refusal_leaves_all.Goals as goal
 
-leaves : (r : Reply) → standing r ≡ AsBefore → LeavesAll r
-leaves r h σ over n a e = as_before σ over n a (ap standing e ∙ h)
+leaves : (r : Reply) → effect_of_reply r ≡ AsBefore → LeavesAll r
+leaves r h σ over n a e = as_before σ over n a (ap effect_of_reply e ∙ h)
 
 pub returns-clause-bad_session : goal.returns-clause-bad_session
 returns-clause-bad_session c = leaves _ refl

@@ -7,10 +7,10 @@ use Rattle.tab_operations.proofs.answering.answered.Goals as goal
 
 pub returns-in-Write : goal.returns-in-Write
 returns-in-Write c =
-    subst (λ o. IfOk c.write.result (λ a. Answers (touched c.args.store.now.levels.now.overlay c.args.lent.now.def.name) c.args.lent.now o (reply_of a))) (sym c.in-Write.is)
-    (IfOk-weaker c.write.result _ _ (λ a. written _ c.args.lent.now c.in-Write.row (reply_of a)) c.write.ensures.write)
+    subst (λ o. IfOk c.write.result (λ a. Answers (touched c.args.store.now.levels.now.overlay c.args.committed.now.def.name) c.args.committed.now o (reply_of a))) (sym c.in-Write.is)
+    (IfOk-weaker c.write.result _ _ (λ a. written _ c.args.committed.now c.in-Write.row (reply_of a)) c.write.ensures.write)
 
 pub returns-in-DeleteObject : goal.returns-in-DeleteObject
 returns-in-DeleteObject c =
-    subst (λ o. IfOk c.write-in-DeleteObject.result (λ a. Answers (touched c.args.store.now.levels.now.overlay c.args.lent.now.def.name) c.args.lent.now o (reply_of a))) (sym c.in-DeleteObject.is)
-    (IfOk-weaker c.write-in-DeleteObject.result _ _ (λ a. object_deleted _ c.args.lent.now c.in-DeleteObject.row (reply_of a)) c.write-in-DeleteObject.ensures.delete)
+    subst (λ o. IfOk c.write-in-DeleteObject.result (λ a. Answers (touched c.args.store.now.levels.now.overlay c.args.committed.now.def.name) c.args.committed.now o (reply_of a))) (sym c.in-DeleteObject.is)
+    (IfOk-weaker c.write-in-DeleteObject.result _ _ (λ a. object_deleted _ c.args.committed.now c.in-DeleteObject.row (reply_of a)) c.write-in-DeleteObject.ensures.delete)

@@ -1,6 +1,6 @@
 use Rattle.std.proofs.Common.{subst, sym}
 use Rattle.tab_model.specs.History.{Base, IsHistory}
-use Rattle.tab_model.specs.Worlds.{World}
+use Rattle.tab_model.specs.Catalogs.{Catalog}
 use Rattle.tab_model.proofs.StandingLemmas.{history_of}
 use Rattle.tab_book.proofs.Keeping.{audits}
 use Rattle.tab_book.proofs.book.Book.audit.Goals as goal
@@ -11,5 +11,5 @@ returns g c =
     let k = c.self.invariant in
     audits c.audit.result _
     (subst (λ (b : Base). IsHistory b j.entries c.tables.result.now) (sym c.base.ensures)
-    (subst (λ (w : World). IsHistory j.base j.entries w) (sym c.tables.ensures) (history_of k.past j.base j.entries c.self.inside.core k.stands)))
+    (subst (λ (w : Catalog). IsHistory j.base j.entries w) (sym c.tables.ensures) (history_of k.past j.base j.entries c.self.inside.core k.stands)))
     c.audit.ensures

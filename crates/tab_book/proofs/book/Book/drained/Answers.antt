@@ -1,5 +1,5 @@
 use Rattle.std.proofs.Common.{◌≡◌, Some, subst, sym}
-use Rattle.tab_model.specs.State.{Seat, State, seat_at}
+use Rattle.tab_model.specs.State.{Session, State, session_at}
 use Rattle.tab_named.specs.Ends.{mailbox_of, received}
 use Rattle.tab_book.specs.declared.step.Drained.TheVariants.{AllTaken}
 use Rattle.tab_book.specs.Inboxes.{Drains}
@@ -9,7 +9,7 @@ use Rattle.tab_book.proofs.book.Book.drained.Goals as goal
 
 pub told_overflow-requires : goal.told_overflow-requires
 told_overflow-requires g c =
-    subst (λ (σ : State). (s : Seat) × (seat_at σ.seats c.args.session ≡ Some s)) (sym c.meet.ensures.same)
+    subst (λ (σ : State). (s : Session) × (session_at σ.sessions c.args.session ≡ Some s)) (sym c.meet.ensures.same)
     (taken_there_at (record { state = c.self.inside.core; journal = c.self.inside.journal }) c.args.session _ _ _ c.meet.result c.in-Some-All.field-0 c.in-Some-All.is c.in-Some-All.field-0-is c.meet.ensures.met)
 
 pub returns-in-Some-Apart-clause-drained : goal.returns-in-Some-Apart-clause-drained

@@ -1,6 +1,6 @@
 use Rattle.std.proofs.Common.{◌∙◌, refl, sym}
 use Rattle.tab_model.specs.declared.data.Reply.TheVariants as reply
-use Rattle.tab_manager.specs.Seats.{state_of}
+use Rattle.tab_manager.specs.SessionLists.{state_of}
 use Rattle.tab_manager.proofs.Answering.{waiting_default, waits_as, without_entry}
 use Rattle.tab_manager.proofs.machine.Machine.command.Goals as goal
 

@@ -1,11 +1,11 @@
 use Rattle.std.proofs.Common.{◌+◌, refl, ap, ◌∙◌, arith, get_or, set}
 use Rattle.arrayvec.specs.ArrayVec.{with_items}
 use Rattle.tab_model.specs.declared.data.Reply.TheVariants as reply
-use Rattle.tab_manager.specs.Seats.{state_of}
+use Rattle.tab_manager.specs.SessionLists.{state_of}
 use Rattle.tab_manager.specs.Works as works
 use Rattle.tab_manager.proofs.Places.{refilled}
 use Rattle.tab_manager.proofs.Keeping as keep
-use Rattle.tab_manager.proofs.Keeping.{the_seat, parts}
+use Rattle.tab_manager.proofs.Keeping.{the_session, parts}
 use Rattle.tab_manager.proofs.LevelEnds as ending
 use Rattle.tab_manager.proofs.Answering as answering
 use Rattle.tab_manager.proofs.StepsLemmas as steps
@@ -27,10 +27,10 @@ returns-then-depth-gt0 c =
     let t = c.in-Some.transaction in
     let open_t = keep.found m n i c.requires.there c.deref.result.now c.index-deref-place.result c.deref.ensures.0 c.in-Some.is in
     let same = keep.read m n i c.requires.there c.deref_mut.result.now c.index-deref_mut-place.result c.deref_mut.ensures.value in
-    let all = ending.join_exit m n i c.requires.kept c.requires.there t open_t c.join_level.new.seat (parts m (with_items m.seats (set c.deref_mut.result.now i c.join_level.new.seat)) m.ages m.queue) c.requires.idle
+    let all = ending.join_exit m n i c.requires.kept c.requires.there t open_t c.join_level.new.slot (parts m (with_items m.sessions (set c.deref_mut.result.now i c.join_level.new.slot)) m.ages m.queue) c.requires.idle
     (answering.above_zero _ (omega (arith, c.if-depth-gt0.true, c.depth.ensures))) (c.join_level.ensures ∙ ap works.joined same)
-    (record { world = refl; seats = refilled m.seats.items _ i c.join_level.new.seat c.deref_mut.ensures.value; queue = refl; limits = refl; begun = refl; commits = refl; greatest = refl }) refl in
-    record { ok = all.0 ∙ answering.without_entry (state_of (parts m (with_items m.seats (set c.deref_mut.result.now i c.join_level.new.seat)) m.ages m.queue)) reply.AtomicOk c.without_entry-then-depth-gt0.result c.without_entry-then-depth-gt0.ensures; free = λ h. refl; told = λ h. refl; err = tt; kept = all.1 }
+    (record { catalog = refl; sessions = refilled m.sessions.items _ i c.join_level.new.slot c.deref_mut.ensures.value; queue = refl; limits = refl; begun = refl; commits = refl; greatest = refl }) refl in
+    record { ok = all.0 ∙ answering.without_entry (state_of (parts m (with_items m.sessions (set c.deref_mut.result.now i c.join_level.new.slot)) m.ages m.queue)) reply.AtomicOk c.without_entry-then-depth-gt0.result c.without_entry-then-depth-gt0.ensures; free = λ h. refl; told = λ h. refl; err = tt; kept = all.1 }
 
 pub returns-in_err-commit_to-clause-free : goal.returns-in_err-commit_to-clause-free
 returns-in_err-commit_to-clause-free c =
@@ -60,9 +60,9 @@ returns c =
     let open_t = keep.found m n i c.requires.there c.deref.result.now c.index-deref-place.result c.deref.ensures.0 c.in-Some.is in
     let same = keep.read m n i c.requires.there c.deref_mut-2.result.now c.index-deref_mut-place-2.result c.deref_mut-2.ensures.value in
     let all = answering.commit_exit m n i c.requires.kept c.requires.there t open_t c.requires.idle (answering.zero_is _ (omega (arith, c.if-depth-gt0.false, c.depth.ensures)))
-    (get_or c.deref_mut-2.result.now i c.index-deref_mut-place-2.result) c.finish-finished.new.seat c.finish-finished.result
-    (record m { world = c.commit_to.new.world; seats = with_items m.seats (set c.deref_mut-2.result.now i c.finish-finished.new.seat); ages = c.finish-finished.new.ages; commits = m.commits + 1 })
-    same c.finish-finished.ensures.seat c.finish-finished.ensures.told c.in_ok-commit_to.ensures.ok (refilled m.seats.items _ i c.finish-finished.new.seat c.deref_mut-2.ensures.value) refl refl refl refl refl c.finish-finished.ensures.ages in
+    (get_or c.deref_mut-2.result.now i c.index-deref_mut-place-2.result) c.finish-finished.new.slot c.finish-finished.result
+    (record m { catalog = c.commit_to.new.catalog; sessions = with_items m.sessions (set c.deref_mut-2.result.now i c.finish-finished.new.slot); ages = c.finish-finished.new.ages; commits = m.commits + 1 })
+    same c.finish-finished.ensures.slot c.finish-finished.ensures.told c.in_ok-commit_to.ensures.ok (refilled m.sessions.items _ i c.finish-finished.new.slot c.deref_mut-2.ensures.value) refl refl refl refl refl c.finish-finished.ensures.ages in
     record { ok = all.0; free = λ h. refl; told = λ h. refl; err = tt; kept = all.1 }
 
 pub returns-in_err-commit_to-clause-told : goal.returns-in_err-commit_to-clause-told

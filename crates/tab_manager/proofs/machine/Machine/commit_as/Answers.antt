@@ -1,10 +1,10 @@
 use Rattle.std.proofs.Common.{◌≡◌, ◌+◌, ◌<◌, ◌≤◌, ℕ, true, false, refl, sym, ap, ◌∙◌, subst, arith, Some, None, get_or, set}
 use Rattle.arrayvec.specs.ArrayVec.{with_items}
-use Rattle.tab_manager.specs.declared.seat.Seat as code
-use Rattle.tab_manager.specs.Seats.{state_of}
+use Rattle.tab_manager.specs.declared.session.Session as code
+use Rattle.tab_manager.specs.SessionLists.{state_of}
 use Rattle.tab_manager.proofs.Places.{refilled}
 use Rattle.tab_manager.proofs.Keeping as keep
-use Rattle.tab_manager.proofs.Keeping.{the_seat}
+use Rattle.tab_manager.proofs.Keeping.{the_session}
 use Rattle.tab_manager.proofs.Answering as answering
 use Rattle.tab_manager.proofs.OutermostLemmas as lemmas
 use Rattle.tab_manager.proofs.machine.Machine.commit_as.Goals as goal
@@ -30,7 +30,7 @@ finish-requires c =
     let i = c.in-Some.place in
     let e = lemmas.is_ending m n i c.requires.kept c.in-Some.ensures c.requires.there.0 c.requires.there.1 in
     let same = keep.read m n i c.in-Some.ensures c.deref_mut.result.now c.index-deref_mut-place.result c.deref_mut.ensures.value in
-    lemmas.is_open _ e.held (ap (λ (x : code.Seat). x.transaction) same ∙ e.opened)
+    lemmas.is_open _ e.held (ap (λ (x : code.Session). x.transaction) same ∙ e.opened)
 
 pub returns : goal.returns
 returns c =
@@ -41,7 +41,7 @@ returns c =
     let e = lemmas.is_ending m n i c.requires.kept there c.requires.there.0 c.requires.there.1 in
     let same = keep.read m n i there c.deref_mut.result.now c.index-deref_mut-place.result c.deref_mut.ensures.value in
     let all = answering.commit_exit m n i c.requires.kept there e.held e.opened e.idle e.deep
-    (get_or c.deref_mut.result.now i c.index-deref_mut-place.result) c.finish.new.seat c.finish.result
-    (record m { world = c.args.world; seats = with_items m.seats (set c.deref_mut.result.now i c.finish.new.seat); ages = c.finish.new.ages; commits = m.commits + 1 })
-    same c.finish.ensures.seat c.finish.ensures.told (c.requires.there.2 ∙ lemmas.updates_are m n i c.requires.kept there c.requires.there.0 e) (refilled m.seats.items _ i c.finish.new.seat c.deref_mut.ensures.value) refl refl refl refl refl c.finish.ensures.ages in
+    (get_or c.deref_mut.result.now i c.index-deref_mut-place.result) c.finish.new.slot c.finish.result
+    (record m { catalog = c.args.catalog; sessions = with_items m.sessions (set c.deref_mut.result.now i c.finish.new.slot); ages = c.finish.new.ages; commits = m.commits + 1 })
+    same c.finish.ensures.slot c.finish.ensures.told (c.requires.there.2 ∙ lemmas.updates_are m n i c.requires.kept there c.requires.there.0 e) (refilled m.sessions.items _ i c.finish.new.slot c.deref_mut.ensures.value) refl refl refl refl refl c.finish.ensures.ages in
     record { done = all.0; kept = all.1 }

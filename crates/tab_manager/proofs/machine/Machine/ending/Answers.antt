@@ -1,8 +1,8 @@
 use Rattle.std.proofs.Common.{sym, ap, ◌∙◌, arith}
-use Rattle.tab_manager.specs.declared.seat.Seat as code
-use Rattle.tab_manager.specs.Seats.{state_of}
+use Rattle.tab_manager.specs.declared.session.Session as code
+use Rattle.tab_manager.specs.SessionLists.{state_of}
 use Rattle.tab_manager.proofs.Keeping as keep
-use Rattle.tab_manager.proofs.Keeping.{the_seat}
+use Rattle.tab_manager.proofs.Keeping.{the_session}
 use Rattle.tab_manager.proofs.Answering as answering
 use Rattle.tab_manager.proofs.OutermostLemmas as lemmas
 use Rattle.tab_manager.proofs.machine.Machine.ending.Goals as goal

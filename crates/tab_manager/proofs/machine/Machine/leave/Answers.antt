@@ -1,12 +1,12 @@
 use Rattle.std.proofs.Common.{refl, ap, ◌∙◌, set, not, rules}
 use Rattle.std.specs.Prelude.{◌==◌, remove}
 use Rattle.std.proofs.lemmas.Fn.{filter_same}
-use Rattle.tab_manager.specs.declared.seat.Seat as code
+use Rattle.tab_manager.specs.declared.session.Session as code
 use Rattle.tab_manager.specs.declared.queue.Request as request
 use Rattle.tab_manager.specs.Works as works
 use Rattle.tab_manager.proofs.Places.{refilled}
 use Rattle.tab_manager.proofs.Keeping as keep
-use Rattle.tab_manager.proofs.Keeping.{the_seat, parts}
+use Rattle.tab_manager.proofs.Keeping.{the_session, parts}
 use Rattle.tab_manager.proofs.LevelEnds as ending
 use Rattle.tab_manager.proofs.machine.Machine.leave.Goals as goal
 
@@ -17,7 +17,7 @@ returns c =
     let i = c.args.place in
     let same = keep.read m n i c.requires.there c.deref_mut.result.now c.index-deref_mut-place.result c.deref_mut.ensures.value in
     let all = ending.leave_exit m n i c.requires.kept c.requires.there (parts m c.remove.new.self c.end_if.new.ages c.retain.new.self) refl refl refl refl refl
-    (c.remove.ensures.items ∙ ap (λ ss. remove ss i) (refilled m.seats.items _ i c.end_if.new.seat c.deref_mut.ensures.value ∙ ap (set m.seats.items i) (c.end_if.ensures.seat ∙ ap works.ended same)))
+    (c.remove.ensures.items ∙ ap (λ ss. remove ss i) (refilled m.sessions.items _ i c.end_if.new.slot c.deref_mut.ensures.value ∙ ap (set m.sessions.items i) (c.end_if.ensures.slot ∙ ap works.ended same)))
     (filter_same _ (λ (x : request.Request). not (x.session == n)) _ (λ x b f t. search rules) _ _ c.retain.ensures.filtered)
-    (c.end_if.ensures.ages ∙ ap (λ (x : code.Seat). works.forgotten_if m.ages x.transaction) same) in
+    (c.end_if.ensures.ages ∙ ap (λ (x : code.Session). works.forgotten_if m.ages x.transaction) same) in
     record { ok = all.0; kept = all.1 }

@@ -1,6 +1,6 @@
 use Rattle.std.proofs.Common.{◌≡◌, ◌+◌, ℕ, suc, length, sym, ap, ◌∙◌, arith}
 use Rattle.std.specs.Prelude.{◌^◌, ◌-◌, min}
-use Rattle.tab_manager.specs.declared.seat.Seat as code
+use Rattle.tab_manager.specs.declared.session.Session as code
 use Rattle.tab_manager.proofs.Keeping as keep
 use Rattle.tab_manager.proofs.OutermostLemmas as lemmas
 use Rattle.tab_manager.proofs.machine.Machine.levels_at.Goals as goal

@@ -1,8 +1,8 @@
 use Rattle.std.proofs.Common.{sym, ◌∙◌, subst}
 use Rattle.tab_model.specs.declared.data.Reply.TheVariants as reply
-use Rattle.tab_manager.specs.Seats.{state_of}
+use Rattle.tab_manager.specs.SessionLists.{state_of}
 use Rattle.tab_manager.proofs.Keeping as keep
-use Rattle.tab_manager.proofs.Keeping.{the_seat, parts}
+use Rattle.tab_manager.proofs.Keeping.{the_session, parts}
 use Rattle.tab_manager.proofs.Answering as answering
 use Rattle.tab_manager.proofs.StepsLemmas as steps
 use Rattle.tab_manager.proofs.machine.Machine.schema.Goals as goal
@@ -21,7 +21,7 @@ returns-in-Refused-clause-ok c =
     let m = c.args.self.now in
     let n = c.args.session in
     let i = c.args.place in
-    answering.schema_refused m n i c.requires.there (keep.found m n i c.requires.there c.deref.result.now c.index-deref-place.result c.deref.ensures.0 (keep.none_of _ (sym c.if-is_some.ensures))) c.requires.idle c.args.asked.schema c.in-Refused.reply (subst (Rattle.tab_world.specs.Redefines.Redefines m.world c.args.asked.schema) c.in-Refused.is c.in_ok-reply.ensures)
+    answering.schema_refused m n i c.requires.there (keep.found m n i c.requires.there c.deref.result.now c.index-deref-place.result c.deref.ensures.0 (keep.none_of _ (sym c.if-is_some.ensures))) c.requires.idle c.args.asked.schema c.in-Refused.reply (subst (Rattle.tab_tables.specs.Redefines.Redefines m.catalog c.args.asked.schema) c.in-Refused.is c.in_ok-reply.ensures)
     ∙ answering.without_entry (state_of m) c.in-Refused.reply c.without_entry-in-Refused.result c.without_entry-in-Refused.ensures
 
 pub returns-in_err-reply-clause-told : goal.returns-in_err-reply-clause-told

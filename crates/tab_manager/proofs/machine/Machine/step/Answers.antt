@@ -1,9 +1,9 @@
 use Rattle.std.proofs.Common.{[], ap, ◌∙◌}
 use Rattle.tab_model.specs.declared.data.Reply.TheVariants as reply
 use Rattle.tab_model.specs.Outcome.{outcome}
-use Rattle.tab_manager.specs.Seats.{state_of}
+use Rattle.tab_manager.specs.SessionLists.{state_of}
 use Rattle.tab_manager.proofs.Keeping as keep
-use Rattle.tab_manager.proofs.Keeping.{the_seat, parts}
+use Rattle.tab_manager.proofs.Keeping.{the_session, parts}
 use Rattle.tab_manager.proofs.Answering as answering
 use Rattle.tab_manager.proofs.machine.Machine.step.Goals as goal
 

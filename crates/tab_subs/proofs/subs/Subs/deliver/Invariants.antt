@@ -4,9 +4,9 @@ use Rattle.tab_subs.specs.Subscribers.{numbers}
 use Rattle.tab_subs.proofs.Delivering.{IsUnderWay}
 use Rattle.tab_subs.proofs.subs.Subs.deliver.Given as goal
 
-abbrev pub invariant-loop-seat : goal.invariant-loop-seat
-invariant-loop-seat g l = record {
-  same : numbers l.seat-items ≡ numbers l.fn.self;
-  way : IsUnderWay l.number l.ended l.fn.prepared.items l.fn.self l.over.items (map option_to_list l.due.items) l.seat-items l.seat-index;
+abbrev pub invariant-loop-slot : goal.invariant-loop-slot
+invariant-loop-slot g l = record {
+  same : numbers l.slot-items ≡ numbers l.fn.self;
+  way : IsUnderWay l.number l.ended l.fn.prepared.items l.fn.self l.over.items (map option_to_list l.due.items) l.slot-items l.slot-index;
   room : vec_len l.over + length l.due.items ≤ vec_capacity l.over;
 }

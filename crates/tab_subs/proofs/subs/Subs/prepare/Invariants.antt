@@ -5,8 +5,8 @@ use Rattle.tab_model.specs.State.{level_in}
 use Rattle.tab_subs.specs.Subscribers.{Subscriber}
 use Rattle.tab_subs.proofs.subs.Subs.prepare.Given as goal
 
-abbrev pub invariant-loop-seat : goal.invariant-loop-seat
-invariant-loop-seat g l = record {
+abbrev pub invariant-loop-slot : goal.invariant-loop-slot
+invariant-loop-slot g l = record {
   same : l.shaped.items ≡ l.events;
-  due : map option_to_list l.due.items ++ map (λ (s : Subscriber). batch_for (level_in s.watching) l.commit l.events) (drop l.seat-index l.seat-items) ≡ map (λ (s : Subscriber). batch_for (level_in s.watching) l.commit l.events) l.seat-items;
+  due : map option_to_list l.due.items ++ map (λ (s : Subscriber). batch_for (level_in s.watching) l.commit l.events) (drop l.slot-index l.slot-items) ≡ map (λ (s : Subscriber). batch_for (level_in s.watching) l.commit l.events) l.slot-items;
 }

@@ -5,5 +5,5 @@ use Rattle.tab_model.specs.State.{level_in}
 use Rattle.tab_subs.specs.Subscribers.{Subscriber}
 use Rattle.tab_subs.proofs.subs.Subs.prepare_end.Given as goal
 
-abbrev pub invariant-loop-seat : goal.invariant-loop-seat
-invariant-loop-seat g l = map option_to_list l.due.items ++ map (λ (s : Subscriber). end_for (level_in s.watching) (Some l.table)) (drop l.seat-index l.seat-items) ≡ map (λ (s : Subscriber). end_for (level_in s.watching) (Some l.table)) l.seat-items
+abbrev pub invariant-loop-slot : goal.invariant-loop-slot
+invariant-loop-slot g l = map option_to_list l.due.items ++ map (λ (s : Subscriber). end_for (level_in s.watching) (Some l.table)) (drop l.slot-index l.slot-items) ≡ map (λ (s : Subscriber). end_for (level_in s.watching) (Some l.table)) l.slot-items

@@ -17,4 +17,4 @@ returns-clause-ok c =
     let u = c.args.draft.change in
     touch_levels c.touch.new.overlay us c.push_change.new.changes.items u xs (c.push_change.ensures ∙ ap₂ (λ us u. us ++ u ∷ []) c.in_ok-reserve.ensures.items c.into_change.ensures) c.self.invariant
     ∙ ap (λ w. let l : Levels = record { now = record { overlay = w; updates = us ++ u ∷ [] }; saved = levels_onto us [] xs } in l) c.in_ok-touch.ensures.ok
-    ∙ ap (λ (l : Levels). changed (Some c.args.lent.now) l (Some u)) c.self.view_is
+    ∙ ap (λ (l : Levels). changed (Some c.args.committed.now) l (Some u)) c.self.view_is

@@ -8,4 +8,4 @@ use Rattle.tab_txstore.proofs.levels.Levels.touched.Goals as goal
 pub returns : goal.returns
 returns c =
     c.get.ensures.value ∙ ap (λ (d : TableDef). lookup bytes_cmp d.name c.self.inside.overlay) c.def.ensures
-    ∙ ap (λ (l : Levels). lookup bytes_cmp c.args.lent.now.def.name l.now.overlay) c.self.view_is
+    ∙ ap (λ (l : Levels). lookup bytes_cmp c.args.committed.now.def.name l.now.overlay) c.self.view_is

@@ -12,7 +12,7 @@ returns-then-not-fits c seen h =
     let m = c.merged-entry-items.ensures in
     let p = term c.args.pattern.now in
     let whole = c.into_iter-entry-iterator.result in
-    let seen_is = whole_seen whole (touched c.args.self.now.levels.now.overlay c.args.lent.now.def.name) m.0 c.args.lent.now.rows seen (c.into_iter-entry-iterator.ensures.into_iter_gives ∙ m.4) m.1 m.2 m.3 h in
+    let seen_is = whole_seen whole (touched c.args.self.now.levels.now.overlay c.args.committed.now.def.name) m.0 c.args.committed.now.rows seen (c.into_iter-entry-iterator.ensures.into_iter_gives ∙ m.4) m.1 m.2 m.3 h in
     sym (ap (list_all (matches p)) (sym seen_is) ∙ one_differs c.loop-entry.entry-iterator c.next.new.self whole c.in-Some.entry.now p c.in-Some.ensures.steps (sym c.fits.ensures ∙ c.if-not-fits.true) c.loop-entry.invariant)
 
 pub returns : goal.returns
@@ -20,5 +20,5 @@ returns c seen h =
     let m = c.merged-entry-items.ensures in
     let p = term c.args.pattern.now in
     let whole = c.into_iter-entry-iterator.result in
-    let seen_is = whole_seen whole (touched c.args.self.now.levels.now.overlay c.args.lent.now.def.name) m.0 c.args.lent.now.rows seen (c.into_iter-entry-iterator.ensures.into_iter_gives ∙ m.4) m.1 m.2 m.3 h in
+    let seen_is = whole_seen whole (touched c.args.self.now.levels.now.overlay c.args.committed.now.def.name) m.0 c.args.committed.now.rows seen (c.into_iter-entry-iterator.ensures.into_iter_gives ∙ m.4) m.1 m.2 m.3 h in
     sym (ap (list_all (matches p)) (sym seen_is) ∙ sym c.loop-entry.invariant ∙ ap (λ es. list_all (matches p) (joined es)) c.in-None.ensures.steps.0)

@@ -16,7 +16,7 @@ loop-key-preserved-in-Continue-1 c seen h =
     let k = c.in-Some.key.now in
     let found = c.loop-key.found.items in
     next_answers seen p x found c.push_with_value.new.found.items k c.loop-key.key-iterator c.next.new.self _ c.in-Some.ensures.steps
-    (c.in_ok-push_with_value.ensures ∙ ap (λ z. found ++ index_read z p x) (ap terms_list c.in-Some-seen_entry.ensures ∙ round (seen_at (touched c.args.self.now.levels.now.overlay c.args.lent.now.def.name) c.args.lent.now.rows (term k)) ∙ h.cells (term k)))
+    (c.in_ok-push_with_value.ensures ∙ ap (λ z. found ++ index_read z p x) (ap terms_list c.in-Some-seen_entry.ensures ∙ round (seen_at (touched c.args.self.now.levels.now.overlay c.args.committed.now.def.name) c.args.committed.now.rows (term k)) ∙ h.cells (term k)))
     (c.loop-key.invariant seen h)
 
 pub returns : goal.returns

@@ -24,6 +24,6 @@ spawn-started-requires-send-F g c κs within =
     let H = copied 0 g.row.H in
     let send = copied_send 0 g.row.H c.requires.1.0 in
     let sync = copied_sync 0 g.row.H c.requires.1.1 in
-    let sent = closure_send (ShrRef (named 5) κs.1.1.1.1.1.0 H ∷ _ ∷ ShrRef (named 6) κs.1.1.1.1.1.1.0 (shared.the_row H g.H.Naming g.H.House g.H.Wait g.H.Clone) ∷ ShrRef (named 7) κs.1.1.1.1.1.1.1.0 seat.the_row ∷ ShrRef (named 8) κs.1.1.1.1.1.1.1.1.0 word.the_row ∷ [])
-    (shr_send _ _ _ sync, (heap_send, (shr_send _ _ _ (Shared-sync H g.H.Naming g.H.House g.H.Wait g.H.Clone send), (shr_send _ _ _ seat-sync, (shr_send _ _ _ word-sync, tt))))) in
+    let sent = closure_send (ShrRef (named 5) κs.1.1.1.1.1.0 H ∷ _ ∷ ShrRef (named 6) κs.1.1.1.1.1.1.0 (shared.the_row H g.H.Naming g.H.Host g.H.Wait g.H.Clone) ∷ ShrRef (named 7) κs.1.1.1.1.1.1.1.0 seat.the_row ∷ ShrRef (named 8) κs.1.1.1.1.1.1.1.1.0 word.the_row ∷ [])
+    (shr_send _ _ _ sync, (heap_send, (shr_send _ _ _ (Shared-sync H g.H.Naming g.H.Host g.H.Wait g.H.Clone send), (shr_send _ _ _ seat-sync, (shr_send _ _ _ word-sync, tt))))) in
     record { owned = sent.owned; leaving = sent.leaving }

@@ -20,6 +20,6 @@ spawn-started-requires-send-F g c κs within =
     let H = copied 0 g.row.H in
     let send = copied_send 0 g.row.H c.requires.1.1.0 in
     let sync = copied_sync 0 g.row.H c.requires.1.1.1 in
-    let sent = closure_send (ShrRef (named 5) κs.1.1.1.1.1.0 H ∷ _ ∷ ShrRef (named 6) κs.1.1.1.1.1.1.0 (shared.the_row H g.H.Naming g.H.House g.H.Wait g.H.Clone) ∷ seat.the_row ∷ inbox.the_row H g.H.Naming ∷ streams.the_row ∷ ShrRef (named 7) κs.1.1.1.1.1.1.1.0 (param 1 g.row.G) ∷ [])
-    (shr_send _ _ _ sync, (heap_send, (shr_send _ _ _ (Shared-sync H g.H.Naming g.H.House g.H.Wait g.H.Clone send), (seat-send, (SeatInbox-send H g.H.Naming send, (streams-send, (shr_send _ _ _ (param_sync 1 g.row.G c.requires.1.1.2), tt))))))) in
+    let sent = closure_send (ShrRef (named 5) κs.1.1.1.1.1.0 H ∷ _ ∷ ShrRef (named 6) κs.1.1.1.1.1.1.0 (shared.the_row H g.H.Naming g.H.Host g.H.Wait g.H.Clone) ∷ seat.the_row ∷ inbox.the_row H g.H.Naming ∷ streams.the_row ∷ ShrRef (named 7) κs.1.1.1.1.1.1.1.0 (param 1 g.row.G) ∷ [])
+    (shr_send _ _ _ sync, (heap_send, (shr_send _ _ _ (Shared-sync H g.H.Naming g.H.Host g.H.Wait g.H.Clone send), (seat-send, (SeatInbox-send H g.H.Naming send, (streams-send, (shr_send _ _ _ (param_sync 1 g.row.G c.requires.1.1.2), tt))))))) in
     record { owned = sent.owned; leaving = sent.leaving }

@@ -20,8 +20,8 @@ spawn-watching-requires-send-F g c κs within =
     let H = copied 0 g.row.H in
     let send = copied_send 0 g.row.H c.requires.1.1.0 in
     let sync = copied_sync 0 g.row.H c.requires.1.1.1 in
-    let sent = closure_send (ShrRef (named 5) κs.1.1.1.1.1.0 connection.the_row ∷ ShrRef (named 6) κs.1.1.1.1.1.1.0 H ∷ _ ∷ ShrRef (named 7) κs.1.1.1.1.1.1.1.0 (shared.the_row H g.H.Naming g.H.House g.H.Wait g.H.Clone) ∷ ShrRef (named 8) κs.1.1.1.1.1.1.1.1.0 seat.the_row ∷ [])
-    (shr_send _ _ _ connection-sync, (shr_send _ _ _ sync, (heap_send, (shr_send _ _ _ (Shared-sync H g.H.Naming g.H.House g.H.Wait g.H.Clone send), (shr_send _ _ _ seat-sync, tt))))) in
+    let sent = closure_send (ShrRef (named 5) κs.1.1.1.1.1.0 connection.the_row ∷ ShrRef (named 6) κs.1.1.1.1.1.1.0 H ∷ _ ∷ ShrRef (named 7) κs.1.1.1.1.1.1.1.0 (shared.the_row H g.H.Naming g.H.Host g.H.Wait g.H.Clone) ∷ ShrRef (named 8) κs.1.1.1.1.1.1.1.1.0 seat.the_row ∷ [])
+    (shr_send _ _ _ connection-sync, (shr_send _ _ _ sync, (heap_send, (shr_send _ _ _ (Shared-sync H g.H.Naming g.H.Host g.H.Wait g.H.Clone send), (shr_send _ _ _ seat-sync, tt))))) in
     record { owned = sent.owned; leaving = sent.leaving }
 
 pub spawn-sending-requires-send-F : goal.spawn-sending-requires-send-F
@@ -29,6 +29,6 @@ spawn-sending-requires-send-F g c κs within =
     let H = copied 0 g.row.H in
     let send = copied_send 0 g.row.H c.requires.1.1.0 in
     let sync = copied_sync 0 g.row.H c.requires.1.1.1 in
-    let sent = closure_send (ShrRef (named 5) κs.1.1.1.1.1.0 connection.the_row ∷ ShrRef (named 6) κs.1.1.1.1.1.1.0 H ∷ _ ∷ ShrRef (named 7) κs.1.1.1.1.1.1.1.0 (shared.the_row H g.H.Naming g.H.House g.H.Wait g.H.Clone) ∷ ShrRef (named 8) κs.1.1.1.1.1.1.1.1.0 seat.the_row ∷ inbox.the_row H g.H.Naming ∷ ShrRef (named 9) κs.1.1.1.1.1.1.1.1.1.0 (param 1 g.row.G) ∷ [])
-    (shr_send _ _ _ connection-sync, (shr_send _ _ _ sync, (heap_send, (shr_send _ _ _ (Shared-sync H g.H.Naming g.H.House g.H.Wait g.H.Clone send), (shr_send _ _ _ seat-sync, (SeatInbox-send H g.H.Naming send, (shr_send _ _ _ (param_sync 1 g.row.G c.requires.1.1.2), tt))))))) in
+    let sent = closure_send (ShrRef (named 5) κs.1.1.1.1.1.0 connection.the_row ∷ ShrRef (named 6) κs.1.1.1.1.1.1.0 H ∷ _ ∷ ShrRef (named 7) κs.1.1.1.1.1.1.1.0 (shared.the_row H g.H.Naming g.H.Host g.H.Wait g.H.Clone) ∷ ShrRef (named 8) κs.1.1.1.1.1.1.1.1.0 seat.the_row ∷ inbox.the_row H g.H.Naming ∷ ShrRef (named 9) κs.1.1.1.1.1.1.1.1.1.0 (param 1 g.row.G) ∷ [])
+    (shr_send _ _ _ connection-sync, (shr_send _ _ _ sync, (heap_send, (shr_send _ _ _ (Shared-sync H g.H.Naming g.H.Host g.H.Wait g.H.Clone send), (shr_send _ _ _ seat-sync, (SeatInbox-send H g.H.Naming send, (shr_send _ _ _ (param_sync 1 g.row.G c.requires.1.1.2), tt))))))) in
     record { owned = sent.owned; leaving = sent.leaving }

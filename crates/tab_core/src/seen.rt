@@ -1,0 +1,84 @@
+//! What a core's sessions are, as its caller sees them.
+
+ghost use Rattle.std.specs.Prelude.{◌≡◌, ◌^◌, ◌-◌, ◌&&◌, [], false, length, min, nat_lt, option_map};
+ghost use Rattle.tab_model.specs.Standing.{is_joined, levels_of};
+ghost use Rattle.tab_model.specs.State.{is_waiting, session_at};
+ghost use Rattle.tab_outbox.specs.Mailboxes.{Meets};
+
+use crate::Core;
+use arrayvec::ArrayVec;
+use tab_manager::{Rest, SESSIONS};
+use tab_outbox::{Mailbox, Met, Post};
+
+impl<P: Post + Drop> Core<P> {
+    /// Whether a session of this number is joined.
+    pub fn joined(&self, session: u64) -> bool
+        ensures { result ≡ is_joined self.now session }
+    {
+        self.subs.post(session).is_some()
+    }
+
+    /// Whether the session waits for a lock.
+    pub fn waits(&self, session: u32) -> bool
+        ensures { result ≡ is_waiting self.now session }
+    {
+        self.manager.waits(session)
+    }
+
+    /// How the session's rest stands: whether it was restarted for a lock that is not free yet.
+    pub fn rest(&self, session: u32) -> Rest {
+        self.manager.rest(session)
+    }
+
+    /// The sessions that wait and would be granted their lock now, or rest and may go on.
+    pub fn ready(&self) -> ArrayVec<u32, SESSIONS> {
+        self.manager.ready()
+    }
+
+    /// Whether some session waits or rests.
+    pub fn has_waiters(&self) -> bool
+        ensures { result ≡ false → self.now.queue ≡ [] }
+    {
+        self.manager.has_waiters()
+    }
+
+    /// Whether the session's number and the limit of sessions let it join.
+    pub fn admits(&self, session: u32) -> bool
+        ensures { result ≡ (nat_lt self.now.greatest session && nat_lt (length self.now.sessions) self.now.limits.sessions) }
+    {
+        self.manager.admits(session)
+    }
+
+    /// The greatest number that has joined.
+    pub fn greatest(&self) -> u32
+        ensures { result ≡ self.now.greatest }
+    {
+        self.manager.greatest()
+    }
+
+    /// How many levels the session has open, up to the greatest 64 bit number.
+    pub fn levels(&self, session: u32) -> u64
+        ensures { result ≡ min (levels_of self.now session) (2 ^ 64 - 1) }
+    {
+        self.manager.levels(session)
+    }
+
+    /// The post of a session that is joined.
+    pub fn post(&self, session: u32) -> Option<&P>
+        ensures { option_map (λ p. P.outbox p.now) result ≡ option_map (λ s. s.outbox) (session_at self.now.sessions session) }
+    {
+        self.subs.post(session as u64)
+    }
+}
+
+impl<P: Mailbox + Drop> Core<P> {
+    /// Takes one item more at the other end of the session's post, or shows that all that was put is taken. None of a
+    /// session that isn't joined.
+    pub fn meet(&mut self, session: u32, end: &mut P::End) -> Option<Met>
+        ensures same { self.new ≡ self.old }
+        ensures end { P.mailbox end.new ≡ P.mailbox end.old }
+        ensures met { Meets (option_map (λ s. s.outbox) (session_at self.old.sessions session)) (P.mailbox end.old) (P.taken end.old) result (P.taken end.new) }
+    {
+        self.subs.meet(session as u64, end)
+    }
+}

@@ -1,0 +1,54 @@
+//! A joined session, with its open transaction.
+
+ghost use Rattle.std.specs.Prelude.{◌≡◌};
+
+use tab_txstore::TxStore;
+
+/// An open transaction: its age, and what it did since its begin or its last restart.
+pub(crate) struct Transaction {
+    pub age: u64,
+    pub store: TxStore,
+}
+
+// A derived Drop would be taken apart, field by field, at each exit of each caller.
+impl Drop for Transaction {
+    fn drop(self) {
+        let Transaction { age: _, store } = self;
+        drop(store);
+    }
+}
+
+impl Transaction {
+    pub fn into_parts(self) -> (u64, TxStore)
+        ensures { result ≡ (self.age, self.store) }
+    {
+        let Transaction { age, store } = self;
+        (age, store)
+    }
+}
+
+/// A joined session.
+pub(crate) struct Session {
+    pub number: u32,
+    pub transaction: Option<Transaction>,
+}
+
+impl Drop for Session {
+    fn drop(self) {
+        let Session {
+            number: _,
+            transaction,
+        } = self;
+        drop(transaction);
+    }
+}
+
+// The places of sessions that no one has taken.
+impl Default for Session {
+    fn default() -> Session {
+        Session {
+            number: 0,
+            transaction: None,
+        }
+    }
+}

@@ -1,0 +1,112 @@
+//! A reply that stands once for all who hold it.
+
+ghost use Rattle.std.specs.Prelude.{◌≡◌, IfOk, MatchResult, false};
+ghost use Rattle.tab_model.specs.declared.data.Reply.TheVariants as reply;
+ghost use Rattle.tab_model.specs.Shared.{is_found};
+
+use crate::data::Reply;
+use std::alloc::{AllocError, Global};
+use std::marker::Model;
+use std::sync::Arc;
+use tab_lists::SharedTerms;
+
+/// A reply, alone or shared. It can be read, and nothing but a list be taken out, since others may
+/// read it too.
+pub struct SharedReply {
+    owned: Owned,
+}
+
+#[derive(Drop)]
+enum Owned {
+    Own(Reply),
+    Shared(Arc<Reply, Global>),
+}
+
+impl Model for SharedReply {
+    ghost use Rattle.tab_model.specs.declared.data.Reply.{Reply};
+    ghost use Rattle.std.specs.Coded.{codes};
+    ghost use Rattle.tab_term.specs.Code.{terms_code, pairs_code};
+
+    ghost Value = { Reply };
+
+    ghost coded = { Prim.hlevel (codes, terms_code, pairs_code) };
+
+    ghost use Rattle.tab_model.specs.Shared.{reply_in, IsOwned};
+
+    ghost view = { λ a. reply_in a.owned };
+
+    ghost invariant = { λ a. IsOwned a.owned };
+}
+
+// A derived Drop would be taken apart, variant by variant, at each exit of each caller.
+impl Drop for SharedReply {
+    fn drop(self) {
+        let SharedReply { owned } = self;
+        drop(owned);
+    }
+}
+
+impl SharedReply {
+    /// A reply that is shared with no one. Takes no memory.
+    pub fn new(reply: Reply) -> SharedReply
+        ensures { result ≡ reply }
+    {
+        SharedReply {
+            owned: Owned::Own(reply),
+        }
+    }
+
+    /// The same reply twice: the parts that it has stand once, and go with the last of the two. `Done` takes no memory.
+    /// A list is shared by itself, so that each of the two can hand it on.
+    pub fn pair(alloc: Global, reply: Reply) -> Result<(SharedReply, SharedReply), AllocError>
+        ensures { IfOk result (λ both. (both.0 ≡ reply) × (both.1 ≡ reply)) }
+    {
+        if matches!(&reply, Reply::Done) {
+            return Ok((SharedReply::new(Reply::Done), SharedReply::new(Reply::Done)));
+        }
+        match reply.into_found() {
+            Ok(rows) => {
+                let (one, other) = rows.pair(alloc)?;
+                Ok((
+                    SharedReply::new(Reply::Found(one)),
+                    SharedReply::new(Reply::Found(other)),
+                ))
+            }
+            Err(reply) => {
+                let one = Arc::new(alloc, reply)?;
+                let other = Arc::try_clone(&one)?;
+                Ok((SharedReply::of_shared(one), SharedReply::of_shared(other)))
+            }
+        }
+    }
+
+    fn of_shared(reply: Arc<Reply, Global>) -> SharedReply
+        requires { is_found reply.value ≡ false }
+        ensures { result ≡ reply.value }
+    {
+        SharedReply {
+            owned: Owned::Shared(reply),
+        }
+    }
+
+    /// The reply itself.
+    pub fn reply(&self) -> &Reply
+        ensures { result.now ≡ self.now }
+    {
+        match &self.owned {
+            Owned::Own(reply) => reply,
+            Owned::Shared(reply) => reply,
+        }
+    }
+
+    /// The list of a reply that found one, without a copy. Any other reply is given back.
+    pub fn into_found(self) -> Result<SharedTerms, SharedReply>
+        ensures { MatchResult result (λ rows. self ≡ reply.Found rows) (λ told. (told ≡ self) × (is_found self ≡ false)) }
+    {
+        let SharedReply { owned } = self;
+        match owned {
+            Owned::Own(reply) => reply.into_found().map_err(SharedReply::new),
+            Owned::Shared(reply) => Err(SharedReply::of_shared(reply)),
+        }
+    }
+}

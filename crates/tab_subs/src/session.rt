@@ -1,0 +1,199 @@
+//! A session with what it watches and the post that it takes from.
+
+ghost use Rattle.std.specs.Prelude.{◌≡◌, ◌∷◌, Some, None, IfOk, IfSome, OnOk, OnErr, length, nat_le};
+ghost use Rattle.tab_model.specs.Slices.{batch_for, end_for};
+ghost use Rattle.tab_model.specs.State.{level_in, without_watch};
+ghost use Rattle.tab_model.specs.declared.data.Item.TheVariants as Item;
+ghost use Rattle.tab_model.specs.declared.data.Ending.TheVariants as Ending;
+ghost use Rattle.std.specs.Prelude.{option_to_list};
+ghost use Rattle.std.specs.Option.{option_copied};
+ghost use Rattle.tab_outbox.specs.Mailboxes.{Tells};
+ghost use Rattle.tab_subs.specs.Deliveries.{received, unwatched, IsDecided};
+ghost use Rattle.tab_subs.specs.Subscribers.{fresh, take as take_of, marked, is_full};
+
+use crate::answers::{Marked, Taken};
+use crate::shaped::Shaped;
+use crate::watched::{Watched, forget, level_of};
+use std::alloc::{AllocError, Global};
+use std::marker::Model;
+use tab_events::{Item, Level};
+use tab_lists::{EventTerms, SharedTerms};
+use tab_model::Ending;
+use tab_outbox::{Mailbox, Met, Post};
+use tab_term::Atom;
+
+/// A session's subscriptions and its post.
+#[derive(Drop)]
+pub struct Session<P: Post> {
+    number: u64,
+    watching: Vec<Watched>,
+    // The number of an overflow that the session was not told yet.
+    overflow: Option<u64>,
+    post: P,
+}
+
+impl<P: Post> Model for Session<P> {
+    ghost use Rattle.std.specs.Coded.{codes};
+    ghost use Rattle.tab_term.specs.Code.{terms_code, pairs_code};
+    ghost use Rattle.tab_subs.specs.Subscribers.{Subscriber};
+
+    ghost Value = { Subscriber };
+
+    ghost coded = { Prim.hlevel (codes, terms_code, pairs_code) };
+
+    ghost view = { λ a. record { number = a.number; watching = a.watching.items; outbox = P.outbox a.post; overflow = a.overflow } };
+}
+
+impl<P: Post + Drop> Session<P> {
+    /// Of a session that has just joined.
+    pub fn new(alloc: Global, number: u64, post: P) -> Session<P>
+        ensures { result ≡ fresh number (P.outbox post) }
+    {
+        Session {
+            number,
+            watching: Vec::new(alloc),
+            overflow: None,
+            post,
+        }
+    }
+
+    /// The session's number.
+    pub fn number(&self) -> u64
+        ensures { result ≡ self.now.number }
+    {
+        self.number
+    }
+
+    /// Where its items are put.
+    pub fn post(&self) -> &P
+        ensures { P.outbox result.now ≡ self.now.outbox }
+    {
+        &self.post
+    }
+
+    /// The commit from which on its items are lost, where it was not told so yet.
+    pub fn overflow(&self) -> Option<u64>
+        ensures { result ≡ self.now.overflow }
+    {
+        self.overflow
+    }
+
+    /// How it watches the table; None where it does not.
+    pub fn level(&self, table: &Atom) -> Option<Level>
+        ensures { result ≡ level_in self.now.watching table.now }
+    {
+        level_of(&self.watching, table)
+    }
+
+    /// Takes its next item, or tells its overflow once all items are taken.
+    pub fn take(&mut self) -> Taken
+        ensures { (self.new, result) ≡ take_of self.old }
+    {
+        if let Some(item) = self.post.pull() {
+            return Taken::Item(item);
+        }
+        match self.overflow.take() {
+            Some(number) => Taken::Overflow(number),
+            None => Taken::Empty,
+        }
+    }
+
+    /// Watches the table, with its begin mark put.
+    pub fn subscribe(
+        &mut self,
+        alloc: Global,
+        table: Atom,
+        level: Level,
+        dump: Option<SharedTerms>,
+    ) -> Result<Marked, AllocError>
+        ensures ok { IfOk result (λ m. self.new ≡ marked m (record { table = table; level = level } ∷ self.old.watching) (Item.Began table level dump) self.old) }
+        ensures decided { IfOk result (λ m. IfSome self.old.outbox.capacity (λ c. is_full m ≡ nat_le c (length self.old.outbox.items))) }
+        ensures err { OnErr result (self.new ≡ self.old) }
+    {
+        let named = table.try_clone(alloc)?;
+        self.watching.insert(0, Watched { table, level })?;
+        if self.post.put(Item::Began(named, level, dump)).is_err() {
+            self.watching.remove(0);
+            return Ok(Marked::Full);
+        }
+        Ok(Marked::Put)
+    }
+
+    /// Watches the table no more, with its end mark put.
+    pub fn unsubscribe(&mut self, alloc: Global, table: &Atom) -> Result<Marked, AllocError>
+        ensures ok { IfOk result (λ m. self.new ≡ marked m (without_watch self.old.watching table.now) (Item.Ended table.now Ending.Unsubscribed) self.old) }
+        ensures decided { IfOk result (λ m. IfSome self.old.outbox.capacity (λ c. is_full m ≡ nat_le c (length self.old.outbox.items))) }
+        ensures err { OnErr result (self.new ≡ self.old) }
+    {
+        let mark = Item::Ended(table.try_clone(alloc)?, Ending::Unsubscribed);
+        if self.post.put(mark).is_err() {
+            return Ok(Marked::Full);
+        }
+        forget(&mut self.watching, table);
+        Ok(Marked::Put)
+    }
+
+    /// Puts an item that is due, unless the post refuses it, which ends all subscriptions. Where a table is gone, it is
+    /// watched no more. Answers whether the item was refused.
+    pub fn receive(&mut self, number: u64, item: Option<Item>, ended: Option<&Atom>) -> bool
+        ensures received { self.new ≡ received number result (option_to_list item) (unwatched (option_copied ended.entry) self.old) }
+        ensures decided { IsDecided result (option_to_list item) self.old.outbox }
+    {
+        if let Some(table) = ended {
+            forget(&mut self.watching, table);
+        }
+        let Some(item) = item else {
+            return false;
+        };
+        if self.post.put(item).is_ok() {
+            return false;
+        }
+        self.watching.clear();
+        self.overflow = Some(number);
+        true
+    }
+
+    /// The events of a commit that the session is due, at its levels.
+    pub fn batch(
+        &self,
+        alloc: Global,
+        commit: u64,
+        events: &mut Vec<Shaped<'_>>,
+    ) -> Result<Option<Item>, AllocError>
+        ensures item { IfOk result (λ item. option_to_list item ≡ batch_for (level_in self.now.watching) commit events.old.items) }
+        ensures events { OnOk result (events.new.items ≡ events.old.items) }
+    {
+        let mut told = EventTerms::new(alloc);
+        for event in events.iter_mut() {
+            let Some(level) = self.level(event.table()) else {
+                continue;
+            };
+            told.push(event.told(alloc, level)?)?;
+        }
+        if told.is_empty() {
+            return Ok(None);
+        }
+        Ok(Some(Item::Batch(commit, told)))
+    }
+
+    /// The mark of a table's deletion, where the session watches it.
+    pub fn end_mark(&self, alloc: Global, table: &Atom) -> Result<Option<Item>, AllocError>
+        ensures { IfOk result (λ item. option_to_list item ≡ end_for (level_in self.now.watching) (Some table.now)) }
+    {
+        if self.level(table).is_none() {
+            return Ok(None);
+        }
+        Ok(Some(Item::Ended(table.try_clone(alloc)?, Ending::Deleted)))
+    }
+}
+
+impl<P: Mailbox + Drop> Session<P> {
+    /// Takes one item more at the post's other end, or shows that all that was put is taken.
+    pub fn meet(&mut self, end: &mut P::End) -> Met
+        ensures same { self.new ≡ self.old }
+        ensures end { P.mailbox end.new ≡ P.mailbox end.old }
+        ensures met { Tells self.old.outbox (P.mailbox end.old) (P.taken end.old) result (P.taken end.new) }
+    {
+        self.post.meet(end)
+    }
+}

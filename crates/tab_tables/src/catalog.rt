@@ -1,0 +1,166 @@
+ghost use Rattle.std.specs.Prelude.{◌≡◌, [], IfOk, OnOk, OnErr, nat_lt, length};
+ghost use Rattle.std.specs.Option.{option_copied};
+ghost use Rattle.tab_model.specs.Catalogs.{find, place, without as without_table};
+ghost use Rattle.tab_model.specs.Events.{change_all};
+ghost use Rattle.tab_model.specs.Operations.{change_catalog};
+ghost use Rattle.tab_tables.specs.Named.{catalog_of};
+
+use crate::altered::Altered;
+use crate::changing::Changing;
+use crate::lender::Lender;
+use crate::tags::table_of_change;
+use std::alloc::{AllocError, Global};
+use std::marker::Model;
+use tab_index::IndexedTable;
+use tab_map::{Iter, Map};
+use tab_model::Change;
+use tab_term::Atom;
+
+/// All tables, by name. Sharing them takes constant time.
+#[derive(Drop)]
+pub struct Catalog {
+    by_name: Map<Atom, IndexedTable>,
+}
+
+impl Model for Catalog {
+    ghost use Rattle.std.specs.Coded.{codes};
+    ghost use Rattle.tab_term.specs.Code.{term_code};
+    ghost use Rattle.tab_model.specs.Catalogs.{Catalog as CatalogOf};
+    ghost use Rattle.tab_tables.specs.Named.{catalog_of, AreNamed};
+
+    ghost Value = { CatalogOf };
+
+    ghost coded = { Prim.hlevel (codes, term_code) };
+
+    ghost view = { λ a. catalog_of a.by_name };
+
+    ghost invariant = { λ a. AreNamed a.by_name };
+}
+
+impl Catalog {
+    /// No tables.
+    pub fn empty() -> Catalog
+        ensures { result ≡ [] }
+    {
+        Catalog {
+            by_name: Map::new(),
+        }
+    }
+
+    /// The same tables, in constant time.
+    pub fn share(&self) -> Result<Catalog, AllocError>
+        ensures { IfOk result (λ catalog. catalog ≡ self.now) }
+    {
+        Ok(Catalog {
+            by_name: self.by_name.share()?,
+        })
+    }
+
+    /// The table of this name.
+    pub fn table(&self, name: &Atom) -> Option<&IndexedTable>
+        ensures { option_copied result ≡ find self.now name.now }
+    {
+        self.by_name.get(name)
+    }
+
+    /// The tables in the order of their names.
+    pub fn tables<'a>(&'a self) -> Iter<'a, Atom, IndexedTable>
+        ensures { catalog_of result ≡ self.now }
+    {
+        self.by_name.iter()
+    }
+
+    /// The tables with this one in the place of the one of its name, or among them. These stay as they were.
+    pub fn placed(&self, alloc: Global, table: IndexedTable) -> Result<Catalog, AllocError>
+        ensures { IfOk result (λ catalog. catalog ≡ place self.now table) }
+    {
+        self.share()?.with(alloc, table)
+    }
+
+    /// The tables with this one in the place of the one of its name, or among them, in place where nothing is shared. An
+    /// error drops the tables.
+    pub fn with(self, alloc: Global, table: IndexedTable) -> Result<Catalog, AllocError>
+        ensures { IfOk result (λ catalog. catalog ≡ place self table) }
+    {
+        let Catalog { mut by_name } = self;
+        let name = table.def().name.try_clone(alloc)?;
+        by_name.insert(alloc, name, table)?;
+        Ok(Catalog { by_name })
+    }
+
+    /// The tables after the changes, in turn. These stay as they were, and share with the new ones all that did not change.
+    /// Of changes of one table that follow one another only the first makes a new version of it.
+    pub fn updated(
+        &self,
+        alloc: Global,
+        changes: &[Change],
+        lender: &Lender<'_>,
+    ) -> Result<Catalog, AllocError>
+        ensures { IfOk result (λ catalog. catalog ≡ change_all self.now changes.now) }
+    {
+        let nameless = Atom::from_short_text(alloc, "")?;
+        let mut changing = Changing::new(self.share()?);
+        for change in changes {
+            changing = changing.changed(alloc, change, &nameless, lender)?;
+        }
+        changing.into_catalog(alloc)
+    }
+
+    /// Makes the changes, in turn. Only one of a table without indexes is made in place: the tables of several stay until
+    /// memory for all of them is there.
+    pub fn update(
+        &mut self,
+        alloc: Global,
+        changes: &[Change],
+        lender: &Lender<'_>,
+    ) -> Result<(), AllocError>
+        ensures ok { OnOk result (self.new ≡ change_all self.old changes.now) }
+        ensures err { OnErr result (self.new ≡ self.old) }
+    {
+        match changes {
+            [change] => self.change(alloc, change, lender)?,
+            _ => *self = self.updated(alloc, changes, lender)?,
+        }
+        Ok(())
+    }
+
+    fn change(
+        &mut self,
+        alloc: Global,
+        change: &Change,
+        lender: &Lender<'_>,
+    ) -> Result<(), AllocError>
+        ensures ok { OnOk result (self.new ≡ change_catalog self.old change.now) }
+        ensures err { OnErr result (self.new ≡ self.old) }
+    {
+        let nameless = Atom::from_short_text(alloc, "")?;
+        let name = table_of_change(change, &nameless).try_clone(alloc)?;
+        let records = lender.records(&name);
+        self.by_name
+            .revise(alloc, name, Altered { change, records })?;
+        Ok(())
+    }
+
+    /// The tables without the one of this name. These stay as they were.
+    pub fn without(&self, alloc: Global, name: &Atom) -> Result<Catalog, AllocError>
+        ensures { IfOk result (λ catalog. catalog ≡ without_table self.now name.now) }
+    {
+        Ok(Catalog {
+            by_name: self.by_name.removed(alloc, name)?,
+        })
+    }
+
+    /// Whether there are fewer tables than the limit.
+    pub fn has_room(&self, limit: u64) -> bool
+        ensures { result ≡ nat_lt (length self.now) limit }
+    {
+        let mut room = limit;
+        for _table in self.by_name.iter() {
+            if room == 0 {
+                return false;
+            }
+            room -= 1;
+        }
+        room > 0
+    }
+}

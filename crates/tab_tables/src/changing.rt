@@ -1,0 +1,105 @@
+//! Tables on their way through changes.
+
+ghost use Rattle.std.specs.Prelude.{◌≡◌, [], IfOk};
+ghost use Rattle.tab_model.specs.Operations.{table_of_change as table_of, change_catalog};
+
+use crate::catalog::Catalog;
+use crate::lender::Lender;
+use crate::tags::table_of_change;
+use std::alloc::{AllocError, Global};
+use std::marker::Model;
+use std::slice;
+use tab_index::IndexedTable;
+use tab_model::Change;
+use tab_term::Atom;
+
+/// All tables, and a newer version of one of them that isn't in its place yet: while changes are of one table, it alone is
+/// changed, in place where nothing is shared.
+#[derive(Drop)]
+pub struct Changing {
+    pub(crate) catalog: Catalog,
+    pub(crate) newer: Option<IndexedTable>,
+}
+
+impl Model for Changing {
+    ghost use Rattle.std.specs.Coded.{codes};
+    ghost use Rattle.tab_term.specs.Code.{term_code};
+    ghost use Rattle.tab_model.specs.Catalogs.{Catalog as CatalogOf};
+    ghost use Rattle.tab_tables.specs.Newer.{with_newer};
+
+    ghost Value = { CatalogOf };
+
+    ghost coded = { Prim.hlevel (codes, term_code) };
+
+    ghost view = { λ a. with_newer a.catalog a.newer };
+}
+
+impl Changing {
+    pub fn new(catalog: Catalog) -> Changing
+        ensures { result ≡ catalog }
+    {
+        Changing {
+            catalog,
+            newer: None,
+        }
+    }
+
+    /// The tables after one more change. An error drops them.
+    pub fn changed(
+        self,
+        alloc: Global,
+        change: &Change,
+        nameless: &Atom,
+        lender: &Lender<'_>,
+    ) -> Result<Changing, AllocError>
+        requires { nameless.now ≡ [] }
+        ensures { IfOk result (λ next. next ≡ change_catalog self change.now) }
+    {
+        let Changing { catalog, newer } = self;
+        let name = table_of_change(change, nameless);
+        let Some(table) = newer else {
+            return Changing::started(alloc, catalog, name, change, lender);
+        };
+        if table.def().name == *name {
+            let records = lender.records(name);
+            let table = table.applied(alloc, slice::from_ref(change), records)?;
+            return Ok(Changing {
+                catalog,
+                newer: Some(table),
+            });
+        }
+        Changing::started(alloc, catalog.with(alloc, table)?, name, change, lender)
+    }
+
+    // The tables after a change of this one, whose new version shares what does not change.
+    fn started(
+        alloc: Global,
+        catalog: Catalog,
+        name: &Atom,
+        change: &Change,
+        lender: &Lender<'_>,
+    ) -> Result<Changing, AllocError>
+        requires { name.now ≡ table_of change.now }
+        ensures { IfOk result (λ next. next ≡ change_catalog catalog change.now) }
+    {
+        let newer = match catalog.table(name) {
+            Some(table) => {
+                let records = lender.records(name);
+                Some(table.updated(alloc, slice::from_ref(change), records)?)
+            }
+            None => None,
+        };
+        Ok(Changing { catalog, newer })
+    }
+
+    /// The tables, once the last change is made.
+    pub fn into_catalog(self, alloc: Global) -> Result<Catalog, AllocError>
+        ensures { IfOk result (λ catalog. catalog ≡ self) }
+    {
+        let Changing { catalog, newer } = self;
+        match newer {
+            Some(table) => catalog.with(alloc, table),
+            None => Ok(catalog),
+        }
+    }
+}
