@@ -48,14 +48,23 @@ fn numbers(alloc: Global, all: &[i128]) -> Result<Terms, AllocError> {
     Ok(Terms::from_vec(terms))
 }
 
-/// Records of these numbers, one after another. One alone stands by itself.
+/// Records of these numbers, one after another. One alone stands by itself. Several share what a lender of the same has.
 fn records_of(alloc: Global, all: &[i128]) -> Result<Records, AllocError> {
+    let lender = records_over(alloc, all, None)?;
+    records_over(alloc, all, Some(&lender))
+}
+
+fn records_over(
+    alloc: Global,
+    all: &[i128],
+    lender: Option<&Records>,
+) -> Result<Records, AllocError> {
     let [first, rest @ ..] = all else {
         return Ok(Records::new());
     };
     let mut records = Records::only(Term::Int(*first));
     for number in rest {
-        records.insert(alloc, Term::Int(*number))?;
+        records.insert(alloc, &Term::Int(*number), lender)?;
     }
     Ok(records)
 }
@@ -86,7 +95,7 @@ fn revise(alloc: Global, map: &mut Map<Term, Records>) -> Result<(), AllocError>
         return Ok(());
     };
     let mut left = records.without(alloc, &Term::Int(11))?;
-    left.insert(alloc, Term::Int(17))?;
+    left.insert(alloc, &Term::Int(17), Some(records))?;
     map.insert(alloc, Term::Int(1), left)
 }
 

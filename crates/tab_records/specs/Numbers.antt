@@ -41,3 +41,7 @@ pub record IsNumbered (es : List Entry) (numbers : List (Term × ℕ)) (next cou
   pub below : AllBelow next es
   pub counted : count ≡ length es
   pub found : (row : Term) → lookup term_cmp row numbers ≡ number_of (term row) es
+
+-- the entry of a record by its number
+abbrev pub IsEntryOf : PlainTerm → ℕ → Entry → Type 0
+IsEntryOf row number e = (e.0 ≡ number) × (term e.1.0 ≡ row) × (e.1.1 ≡ number)

@@ -1,10 +1,11 @@
 //! Several records of a key, by the numbers of their writes.
 
-ghost use Rattle.std.specs.Prelude.{◌≡◌, [], ◌∷◌, ◌++◌, IfOk, OnOk, OnErr, MatchOption, length, not, false};
+ghost use Rattle.std.specs.Prelude.{◌≡◌, [], ◌∷◌, ◌++◌, IfOk, IfSome, OnOk, OnErr, MatchOption, length, not, false};
 ghost use Rattle.std.specs.List.{filter, list_any};
+ghost use Rattle.std.specs.Option.{option_copied};
 ghost use Rattle.tab_term.specs.Same.{same};
 ghost use Rattle.tab_term.specs.View.{term};
-ghost use Rattle.tab_records.specs.Numbers.{records_in, IsNumbered};
+ghost use Rattle.tab_records.specs.Numbers.{records_in, IsEntryOf, IsNumbered};
 
 use std::alloc::{AllocError, Global};
 use std::marker::Model;
@@ -103,10 +104,16 @@ impl Numbered {
         }
     }
 
-    /// One record more, behind the others, in O(log n). A list that shares them stays as it is.
-    pub fn push(&mut self, alloc: Global, row: Term) -> Result<(), AllocError>
-        requires { list_any (same (term row)) self.old ≡ false }
-        ensures ok { OnOk result (self.new ≡ self.old ++ term row ∷ []) }
+    /// One record more, behind the others, in O(log n). A list that shares them stays as it is. Where a lender has the record
+    /// by the same number, its entries are shared in place of a copy.
+    pub fn push(
+        &mut self,
+        alloc: Global,
+        row: &Term,
+        lender: Option<&Numbered>,
+    ) -> Result<(), AllocError>
+        requires { list_any (same (term row.now)) self.old ≡ false }
+        ensures ok { OnOk result (self.new ≡ self.old ++ term row.now ∷ []) }
         ensures err { OnErr result (self.new ≡ self.old) }
     {
         let Numbers {
@@ -114,15 +121,15 @@ impl Numbered {
             next,
             count,
         } = numbers_of(&self.by_number, &self.numbers)?;
-        let entry = Entry::new(alloc, (row, next))?;
-        by_record.insert_entry(alloc, entry.try_clone()?)?;
+        let entry = entry_of(alloc, row, next, lender)?;
+        by_record.insert_entry(alloc, entry.pair().1.try_clone()?)?;
         let more = Numbers {
             by_record,
             next: next.checked_add(1).ok_or(AllocError)?,
             count: count.checked_add(1).ok_or(AllocError)?,
         };
         let more = Arc::new(alloc, more)?;
-        self.by_number.insert(alloc, next, entry)?;
+        self.by_number.insert_entry(alloc, entry)?;
         self.numbers = Some(more);
         Ok(())
     }
@@ -149,6 +156,41 @@ impl Numbered {
             numbers: Some(Arc::new(alloc, less)?),
         })
     }
+}
+
+/// The record's entry by this number: the lender's, where it has it, or a new one.
+fn entry_of(
+    alloc: Global,
+    row: &Term,
+    number: u64,
+    lender: Option<&Numbered>,
+) -> Result<Entry<u64, Entry<Term, u64>>, AllocError>
+    ensures { IfOk result (IsEntryOf (term row.now) number) }
+{
+    if let Some(lender) = lender {
+        if let Some(entry) = entry_with(lender, row, number) {
+            return entry.try_clone();
+        }
+    }
+    let entry = Entry::new(alloc, (row.try_clone(alloc)?, number))?;
+    Entry::new(alloc, (number, entry))
+}
+
+/// The record's entry by this number, where it is among these.
+fn entry_with<'a>(
+    records: &'a Numbered,
+    row: &Term,
+    number: u64,
+) -> Option<&'a Entry<u64, Entry<Term, u64>>>
+    ensures { IfSome (option_copied result) (IsEntryOf (term row.now) number) }
+{
+    let entry = records.by_number.get_entry(&number)?;
+    let (place, held) = entry.pair();
+    let (record, own) = held.pair();
+    if *place == number && *own == number && record == row {
+        return Some(entry);
+    }
+    None
 }
 
 /// The number of each of these records, beside those that are kept.

@@ -141,16 +141,23 @@ impl Records {
         }
     }
 
-    /// One record more, behind the others, unless an equal one is among them. Lists that share them stay as they are.
-    pub fn insert(&mut self, alloc: Global, row: Term) -> Result<(), AllocError>
-        ensures ok { OnOk result (self.new ≡ with_one self.old (term row)) }
+    /// One record more, behind the others, unless an equal one is among them. Lists that share them stay as they are. Where a
+    /// lender has the record at the same place of its own, it is shared in place of a copy.
+    pub fn insert(
+        &mut self,
+        alloc: Global,
+        row: &Term,
+        lender: Option<&Records>,
+    ) -> Result<(), AllocError>
+        ensures ok { OnOk result (self.new ≡ with_one self.old (term row.now)) }
         ensures err { OnErr result (self.new ≡ self.old) }
     {
+        let lender = numbered_of(lender);
         match &mut self.form {
-            Form::One(only) if row == *only => {}
-            Form::One(only) => self.form = Form::Many(both(alloc, only, row)?),
-            Form::Many(records) if records.contains(&row) => {}
-            Form::Many(records) => records.push(alloc, row)?,
+            Form::One(only) if row == only => {}
+            Form::One(only) => self.form = Form::Many(both(alloc, only, row, lender)?),
+            Form::Many(records) if records.contains(row) => {}
+            Form::Many(records) => records.push(alloc, row, lender)?,
         }
         Ok(())
     }
@@ -169,13 +176,29 @@ impl Records {
     }
 }
 
-/// A copy of the first, and the second behind it.
-fn both(alloc: Global, first: &Term, second: Term) -> Result<Numbered, AllocError>
-    requires { same (term second) (term first.now) ≡ false }
-    ensures { IfOk result (λ all. all ≡ term first.now ∷ term second ∷ []) }
+/// Several records, where they are given.
+fn numbered_of(records: Option<&Records>) -> Option<&Numbered> {
+    match records {
+        Some(records) => match &records.form {
+            Form::One(_) => None,
+            Form::Many(records) => Some(records),
+        },
+        None => None,
+    }
+}
+
+/// The first, and the second behind it: the lender's, where it has them, or copies.
+fn both(
+    alloc: Global,
+    first: &Term,
+    second: &Term,
+    lender: Option<&Numbered>,
+) -> Result<Numbered, AllocError>
+    requires { same (term second.now) (term first.now) ≡ false }
+    ensures { IfOk result (λ all. all ≡ term first.now ∷ term second.now ∷ []) }
 {
     let mut records = Numbered::new();
-    records.push(alloc, first.try_clone(alloc)?)?;
-    records.push(alloc, second)?;
+    records.push(alloc, first, lender)?;
+    records.push(alloc, second, lender)?;
     Ok(records)
 }

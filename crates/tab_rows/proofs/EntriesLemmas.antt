@@ -1,5 +1,5 @@
 -- Records of which there is one.
-use Rattle.std.proofs.Common.{◌≡◌, List, [], ◌∷◌, refl, sym, ap, ◌∙◌, arith}
+use Rattle.std.proofs.Common.{◌≡◌, [], ◌∷◌, arith}
 use Rattle.tab_term.specs.Data.{PlainTerm, PlainTerms, none, one_more, count}
 use Rattle.tab_model.specs.Names.{terms_list}
 use Rattle.tab_records.specs.Forms.{first_of}

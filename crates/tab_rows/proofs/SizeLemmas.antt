@@ -1,5 +1,5 @@
 -- How many records there are in all, of a key, and after a change of one key.
-use Rattle.std.proofs.Common.{◌≡◌, ℕ, suc, ◌+◌, ◌-◌, ◌≤◌, List, [], ◌∷◌, Bool, true, false, not, length, length-append, refl, sym, ap, ◌∙◌, Some, None, Less, Equal, Greater, arith}
+use Rattle.std.proofs.Common.{◌≡◌, ℕ, suc, ◌+◌, ◌-◌, ◌≤◌, List, [], ◌∷◌, Bool, true, false, not, length, length-append, refl, ap, ◌∙◌, Some, None, Less, Equal, Greater, arith}
 use Rattle.std.specs.Prelude.{if◌then◌else◌}
 use Rattle.std.specs.List.{filter}
 use Rattle.std.specs.Ordering.{match_ordering}
@@ -9,7 +9,7 @@ use Rattle.tab_term.specs.Data.{PlainTerm, PlainTerms, none, one_more, count}
 use Rattle.tab_term.specs.Order.{term_cmp}
 use Rattle.tab_term.specs.Same.{same}
 use Rattle.tab_map.specs.Entries.{lookup, insert_entry, remove_entry}
-use Rattle.tab_model.specs.Names.{plain_terms, terms_list}
+use Rattle.tab_model.specs.Names.{terms_list}
 use Rattle.tab_model.specs.Tables.{Rows, has_key, at, delete_object}
 use Rattle.tab_rows.specs.Joined.{Entry, joined, IsKept}
 use Rattle.tab_rows.proofs.Cells.{found_in, at-joined}

@@ -10,20 +10,22 @@ use tab_term::Term;
 
 /// Puts a record after the others of its key, unless an equal one is among them.
 #[derive(Drop)]
-pub struct Append {
-    pub row: Term,
+pub struct Append<'a> {
+    pub row: &'a Term,
+    /// Records of the key that are lent.
+    pub lender: Option<&'a Records>,
 }
 
-impl Revise<Records> for Append {
-    ghost becomes = { λ a records. with_one records (term a.row) };
+impl<'a> Revise<Records> for Append<'a> {
+    ghost becomes = { λ a records. with_one records (term a.row.now) };
 
     fn revise(self, alloc: Global, records: &mut Records) -> Result<(), AllocError> {
-        records.insert(alloc, self.row)
+        records.insert(alloc, self.row, self.lender)
     }
 
     fn revised(self, alloc: Global, records: &Records) -> Result<Records, AllocError> {
         let mut all = records.try_clone(alloc)?;
-        all.insert(alloc, self.row)?;
+        all.insert(alloc, self.row, self.lender)?;
         Ok(all)
     }
 }

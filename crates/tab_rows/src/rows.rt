@@ -164,8 +164,8 @@ impl Rows {
     }
 
     /// Writes a record. In a set it takes the place of its key's records; in a bag it comes after them, and where an
-    /// equal record is there already, nothing moves. Where another table lends its records, and this one is the only one of
-    /// its key in both, the entry is shared in place of a copy.
+    /// equal record is there already, nothing moves. Where another table lends its records, and has this one at the same place
+    /// of its key, the entry is shared in place of a copy.
     pub fn put(
         &mut self,
         alloc: Global,
@@ -216,8 +216,11 @@ impl Rows {
             return Ok(());
         }
         let size = one_more(self.size)?;
-        let copy = row.try_clone(alloc)?;
-        self.records.revise(alloc, key, Append { row: copy })?;
+        let lender = match lender {
+            Some(records) => records.get(&key),
+            None => None,
+        };
+        self.records.revise(alloc, key, Append { row, lender })?;
         self.size = size;
         Ok(())
     }

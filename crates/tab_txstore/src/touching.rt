@@ -54,7 +54,11 @@ impl Revise<Map<Term, Records>> for AppendAt {
     ghost becomes = { λ a keys. revised_at term_cmp (λ records. with_one records (term a.row)) a.key keys };
 
     fn revise(self, alloc: Global, keys: &mut Map<Term, Records>) -> Result<(), AllocError> {
-        keys.revise(alloc, self.key, Append { row: self.row })
+        let append = Append {
+            row: &self.row,
+            lender: None,
+        };
+        keys.revise(alloc, self.key, append)
     }
 
     fn revised(
@@ -63,7 +67,11 @@ impl Revise<Map<Term, Records>> for AppendAt {
         keys: &Map<Term, Records>,
     ) -> Result<Map<Term, Records>, AllocError> {
         let mut keys = keys.share()?;
-        keys.revise(alloc, self.key, Append { row: self.row })?;
+        let append = Append {
+            row: &self.row,
+            lender: None,
+        };
+        keys.revise(alloc, self.key, append)?;
         Ok(keys)
     }
 }

@@ -19,6 +19,5 @@ returns-then-contains c =
 pub returns : goal.returns
 returns c =
     c.in_ok-insert.ensures.ok
-    ∙ ap (λ ts. with_one ts (term c.in_ok-try_clone.field-0)) c.in_ok-all.ensures
-    ∙ ap (λ t. with_one c.args.records.now (term t)) c.in_ok-try_clone.ensures
+    ∙ ap (λ ts. with_one ts (term c.args.row.now)) c.in_ok-all.ensures
     ∙ either c.args.records.now (term c.args.row.now) _

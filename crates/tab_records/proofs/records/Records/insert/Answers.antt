@@ -11,7 +11,7 @@ use Rattle.tab_records.proofs.records.Records.insert.Goals as goal
 pub returns-in-Many-clause-ok : goal.returns-in-Many-clause-ok
 returns-in-Many-clause-ok c =
     let all = c.args.self.now in
-    let row = term c.args.row in
+    let row = term c.args.row.now in
     let view = sym (ap records_of c.in-Many.is) ∙ c.self.view_is in
     let there = sym c.if-contains.true ∙ c.contains.ensures ∙ ap (list_any (same row)) (sym (list-plain _) ∙ ap terms_list view) in
     view ∙ ap (λ b. if b then all else plain_terms (terms_list all ++ row ∷ [])) there
@@ -19,7 +19,7 @@ returns-in-Many-clause-ok c =
 pub returns-in_ok-push-in-Many-2-clause-ok : goal.returns-in_ok-push-in-Many-2-clause-ok
 returns-in_ok-push-in-Many-2-clause-ok c =
     let all = c.args.self.now in
-    let row = term c.args.row in
+    let row = term c.args.row.now in
     let one = sym (list-plain _) ∙ ap terms_list (sym (ap records_of c.in-Many.is) ∙ c.self.view_is) in
     ap plain_terms c.in_ok-push-in-Many-2.ensures.ok ∙ ap (λ ts. plain_terms (ts ++ row ∷ [])) one
     ∙ ap (λ b. if b then all else plain_terms (terms_list all ++ row ∷ [])) (sym c.if-contains.false ∙ c.contains.ensures ∙ ap (list_any (same row)) one)

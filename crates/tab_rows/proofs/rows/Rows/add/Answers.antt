@@ -1,16 +1,13 @@
 use Rattle.std.proofs.Common.{◌∷◌, [], length, length-append, ap, sym, ◌∙◌, subst, arith}
 use Rattle.std.specs.Prelude.{if◌then◌else◌}
-use Rattle.std.specs.List.{list_any}
 use Rattle.std.specs.Option.{option_copied}
 use Rattle.tab_term.specs.Order.{term_cmp}
-use Rattle.tab_term.specs.Same.{same}
 use Rattle.tab_term.specs.View.{term}
 use Rattle.tab_map.specs.Entries.{insert_entry}
 use Rattle.tab_map.specs.Revised.{revised_as}
 use Rattle.tab_records.specs.Forms.{with_one}
 use Rattle.tab_model.specs.Names.{terms_list}
-use Rattle.tab_model.specs.Tables.{at, key, put}
-use Rattle.tab_model.specs.declared.data.Kind.TheVariants.{Bag}
+use Rattle.tab_model.specs.Tables.{at, put}
 use Rattle.tab_rows.specs.Joined.{joined, followed_by, IsKept}
 use Rattle.tab_rows.proofs.Cells.{Writes, found_in, at-joined, at_found, put_there, put_new, followed}
 use Rattle.tab_rows.proofs.SizeLemmas.{counted_insert, at_within}
@@ -36,16 +33,14 @@ returns-then-contains-clause-ok c =
 pub invariant_of-self-2 : goal.invariant_of-self-2
 invariant_of-self-2 c =
     let es = c.self.inside.records in
-    let copy = c.in_ok-copy.copy in
-    let row = term copy in
-    let is = ap term c.in_ok-copy.ensures in
+    let row = term c.args.row.now in
     let found = ap option_copied (sym c.in-Some.is) ∙ c.get.ensures.value in
     let before = at_found es c.in_ok-key.key c.in-Some.records.now c.self.invariant.order found in
-    let keyed = c.in_ok-key.ensures ∙ ap key (sym is) in
-    let absent = sym c.if-contains.false ∙ c.contains.ensures ∙ ap (λ r. list_any (same r) (terms_list c.in-Some.records.now)) (sym is) in
+    let keyed = c.in_ok-key.ensures in
+    let absent = sym c.if-contains.false ∙ c.contains.ensures in
     let more = followed c.in-Some.records.now row in
     let inserted = ap (λ b. insert_entry term_cmp (c.in_ok-key.key, if b then c.in-Some.records.now else followed_by c.in-Some.records.now row) es) (sym absent) in
-    let written = put_new es c.in_ok-key.key copy c.in-Some.records.now (followed_by c.in-Some.records.now row) keyed c.self.invariant.order before absent more in
+    let written = put_new es c.in_ok-key.key c.args.row.now c.in-Some.records.now (followed_by c.in-Some.records.now row) keyed c.self.invariant.order before absent more in
     let here = ap length (sym (ap found_in (sym found)) ∙ sym (at-joined es c.in_ok-key.key c.self.invariant.order.ascends c.self.invariant.order.keyed)) in
     let one_more = ap length more ∙ length-append (terms_list c.in-Some.records.now) (row ∷ []) in
     subst (λ es. IsKept es c.in_ok-size.size) (sym (c.in_ok-revise.ensures.ok ∙ ap (revised_as term_cmp (λ ts. with_one ts row) c.in_ok-key.key es) (sym found) ∙ inserted)) record {
@@ -57,16 +52,13 @@ invariant_of-self-2 c =
 pub returns-clause-ok : goal.returns-clause-ok
 returns-clause-ok c =
     let es = c.self.inside.records in
-    let copy = c.in_ok-copy.copy in
-    let row = term copy in
-    let is = ap term c.in_ok-copy.ensures in
+    let row = term c.args.row.now in
     let found = ap option_copied (sym c.in-Some.is) ∙ c.get.ensures.value in
     let before = at_found es c.in_ok-key.key c.in-Some.records.now c.self.invariant.order found in
-    let keyed = c.in_ok-key.ensures ∙ ap key (sym is) in
-    let absent = sym c.if-contains.false ∙ c.contains.ensures ∙ ap (λ r. list_any (same r) (terms_list c.in-Some.records.now)) (sym is) in
+    let keyed = c.in_ok-key.ensures in
+    let absent = sym c.if-contains.false ∙ c.contains.ensures in
     let inserted = ap (λ b. insert_entry term_cmp (c.in_ok-key.key, if b then c.in-Some.records.now else followed_by c.in-Some.records.now row) es) (sym absent) in
-    let written = put_new es c.in_ok-key.key copy c.in-Some.records.now (followed_by c.in-Some.records.now row) keyed c.self.invariant.order before absent (followed c.in-Some.records.now row) in
+    let written = put_new es c.in_ok-key.key c.args.row.now c.in-Some.records.now (followed_by c.in-Some.records.now row) keyed c.self.invariant.order before absent (followed c.in-Some.records.now row) in
     ap (λ rows. (c.self.inside.kind, rows)) (ap joined (c.in_ok-revise.ensures.ok ∙ ap (revised_as term_cmp (λ ts. with_one ts row) c.in_ok-key.key es) (sym found) ∙ inserted) ∙ Writes.list written)
-    ∙ ap (λ r. (c.self.inside.kind, put Bag (joined es) r)) is
     ∙ ap (λ k. (c.self.inside.kind, put k (joined es) (term c.args.row.now))) (sym (ap (λ v. v.0) c.self.view_is ∙ c.requires.kind))
     ∙ ap (λ v. (v.0, put v.0 v.1 (term c.args.row.now))) c.self.view_is

@@ -1,5 +1,4 @@
 use Rattle.std.proofs.Common.{◌≡◌, ◌+◌, ◌-◌, [], length, refl, ap, sym, ◌∙◌, subst, arith}
-use Rattle.std.proofs.lemmas.Bool.{eqb-true, eqb-false}
 use Rattle.tab_term.specs.Data.{count}
 use Rattle.tab_term.specs.View.{term}
 use Rattle.tab_model.specs.Names.{plain_terms, terms_list}
