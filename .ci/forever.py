@@ -3,7 +3,7 @@
 
     forever.py PROGRAM
 
-Each case has a server of its own. One line tells each case that differs; the last line is `N passed, M failed`, and the status 1
+Each case has a server of its own: one at a port, and where the two kinds of socket may differ one at a socket file too. One line tells each case that differs; the last line is `N passed, M failed`, and the status 1
 where one failed.
 """
 
@@ -13,6 +13,7 @@ import resource
 import socket
 import subprocess
 import sys
+import tempfile
 import threading
 import time
 
@@ -27,13 +28,16 @@ LONGEST = 60
 
 
 class Server:
-    """With so many seats, so many descriptors where that is said, and further words. Its journal is soon full, and grows no more."""
+    """At a port, or at the socket file of a path, with so many seats, so many descriptors where that is said, and further words.
+    Its journal is soon full, and grows no more."""
 
-    def __init__(self, program, seats, files=None, more=()):
-        words = [program, "serve", "--port", "0", "--connections", str(seats), "--forever", "--journal", "16", *more]
+    def __init__(self, program, seats, files=None, more=(), path=None):
+        where = ["--socket", path] if path else ["--port", "0"]
+        words = [program, "serve", *where, "--connections", str(seats), "--forever", "--journal", "16", *more]
         limit = (lambda: resource.setrlimit(resource.RLIMIT_NOFILE, (files, files))) if files else None
         self.process = subprocess.Popen(words, stdout=subprocess.PIPE, stderr=subprocess.PIPE, text=True, preexec_fn=limit)
-        self.port = int(self.process.stdout.readline().rsplit(":", 1)[1])
+        line = self.process.stdout.readline()
+        self.place = line.removeprefix("listening on ").removesuffix("\n") if path else int(line.rsplit(":", 1)[1])
 
         # A line that never comes would be waited for without an end.
         self.limit = threading.Timer(LONGEST, self.process.kill)
@@ -48,19 +52,19 @@ class Server:
         self.process.communicate()
 
     def connect(self, small=False):
-        return Connection(self.port, small)
+        return Connection(self.place, small)
 
     def seated(self):
         """A connection that has a seat, as soon as one is free, and its first reply."""
         end = time.monotonic() + PATIENCE
         while time.monotonic() < end:
             connection = self.connect()
-            connection.send("begin")
             try:
+                connection.send("begin")
                 if (found := connection.receive()) != LIMIT:
                     return connection, found[1]
-            except OSError:
-                # It was closed before the request was read.
+            except (OSError, ValueError):
+                # It was closed before the request was sent, or read, or answered.
                 pass
             connection.close()
             time.sleep(0.01)
@@ -185,7 +189,9 @@ def stalled(server):
         script((writer, ("transaction", [write(number % 5, b"v" * 4000)], 0), ("atomic", [OK])))
     other, found = server.seated()
     same("the seat", found[0], "tid")
-    same("what it said", server.ended(), "tabd: session 1 was idle\n")
+    # It says so once the seat is free.
+    same("what it said", server.process.stderr.readline(), "tabd: session 1 was idle\n")
+    same("what it said besides", server.ended(), "")
 
 
 def logged(server):
@@ -224,6 +230,21 @@ def broken_off_behind_a_wait(server):
     script((third, "begin", ("tid", 3)))
     same("what it held", at_last(third, ("wread", ("t", 2))), [])
     script((younger, "commit", ("atomic", 1)))
+    same("what it said", server.ended(), "")
+
+
+def half_closed_behind_a_wait(server):
+    """Who sends nothing more while it waits, with a further request unread, has not broken off: it is told both replies."""
+    older, younger = server.connect(), server.connect()
+    script((older, CREATE, ATOMIC), (older, "begin", ("tid", 1)), (younger, "begin", ("tid", 2)), (younger, write(1, "b"), OK))
+    older.socket.sendall(frame(("read", "t", 1)))
+    waits(older)
+    older.socket.sendall(frame(("read", "t", 3)))
+    older.socket.shutdown(socket.SHUT_WR)
+    waits(older)
+    script((younger, "commit", ("atomic", 1)))
+    same("the replies", [older.receive()[1] for _ in range(2)], [[("t", 1, "b")], []])
+    same("its end", older.stream.read(), b"")
     same("what it said", server.ended(), "")
 
 
@@ -333,6 +354,7 @@ CASES = [
     ("a reader that takes nothing", 2, None, stalled, "--idle", "1"),
     ("a log", 2, None, logged, "--log", "--outbox", "16"),
     ("broken off behind a wait", 3, None, broken_off_behind_a_wait),
+    ("half closed behind a wait", 2, None, half_closed_behind_a_wait),
     ("an abort ends a wait", 2, None, abort_ends_a_wait, "--abort-waits"),
     ("an abort in the same piece", 2, None, abort_in_the_same_piece, "--abort-waits"),
     ("others are answered behind", 2, None, others_are_answered_behind, "--abort-waits"),
@@ -342,23 +364,44 @@ CASES = [
 ]
 
 
-def fault(program, name, seats, files, case, *more):
+# Those that are run at a socket file too: what waits, breaks off, is idle, or leaves a descriptor.
+AT_A_FILE = [
+    the_ninth_is_told,
+    tables_outlive_connections,
+    a_thousand_through_a_seat,
+    no_descriptor_is_left,
+    idle,
+    stalled,
+    logged,
+    broken_off_behind_a_wait,
+    half_closed_behind_a_wait,
+    abort_ends_a_wait,
+    abort_in_the_same_piece,
+    abort_beside_a_commit,
+]
+
+
+def fault(program, path, name, seats, files, case, *more):
+    where = f"{name} at a file" if path else name
     try:
-        with Server(program, seats, files, more) as server:
+        with Server(program, seats, files, more, path) as server:
             case(server)
         return None
     except (Differs, OSError, ValueError) as error:
-        return f"{name}: {type(error).__name__} {error}"
+        return f"{where}: {type(error).__name__} {error}"
 
 
 def main():
     if len(sys.argv) != 2:
         sys.exit(__doc__)
     program = os.path.abspath(sys.argv[1])
-    faults = [found for case in CASES if (found := fault(program, *case))]
+    with tempfile.TemporaryDirectory() as folder:
+        places = [(None, case) for case in CASES]
+        places += [(os.path.join(folder, str(number)), case) for number, case in enumerate(CASES) if case[3] in AT_A_FILE]
+        faults = [found for path, case in places if (found := fault(program, path, *case))]
     for line in faults:
         print(line)
-    print(f"{len(CASES) - len(faults)} passed, {len(faults)} failed")
+    print(f"{len(places) - len(faults)} passed, {len(faults)} failed")
     sys.exit(1 if faults else 0)
 
 

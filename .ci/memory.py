@@ -36,7 +36,7 @@ class Held(Server):
     remark = ""
 
     def __init__(self, program, *words):
-        self.process, self.port = serve(program, 64, ["--forever", *words])
+        self.process, self.place = serve(program, 64, ["--forever", *words])
         self.limit = threading.Timer(LONGEST, self.process.kill)
 
     def kilobytes(self, name="VmRSS"):

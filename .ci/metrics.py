@@ -48,7 +48,7 @@ class Metered(Server):
         self.pages = int(re.fullmatch(r"metrics on 127\.0\.0\.1:(\d+)\n", self.process.stdout.readline())[1])
 
     def connect(self, small=False):
-        return Client(self.port, small)
+        return Client(self.place, small)
 
     def ask(self, method="GET", path="/metrics"):
         """The status, the kind and the text."""

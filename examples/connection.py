@@ -12,16 +12,22 @@ PATIENCE = 10
 
 
 class Connection:
-    """Where the room is small, little stands between the server and who does not read."""
+    """To a port, or to the path of a socket file. Where the room is small, little stands between the server and who does not read;
+    of a socket file the server's own room decides."""
 
-    def __init__(self, port, small=False):
-        self.socket = socket.socket()
-        self.socket.settimeout(PATIENCE)
-        if small:
-            self.socket.setsockopt(socket.SOL_SOCKET, socket.SO_RCVBUF, 4096)
-            self.socket.setsockopt(socket.IPPROTO_TCP, socket.TCP_MAXSEG, 536)
-        self.socket.connect(("127.0.0.1", port))
-        self.socket.setsockopt(socket.IPPROTO_TCP, socket.TCP_NODELAY, 1)
+    def __init__(self, place, small=False):
+        if isinstance(place, str):
+            self.socket = socket.socket(socket.AF_UNIX)
+            self.socket.settimeout(PATIENCE)
+            self.socket.connect(place)
+        else:
+            self.socket = socket.socket()
+            self.socket.settimeout(PATIENCE)
+            if small:
+                self.socket.setsockopt(socket.SOL_SOCKET, socket.SO_RCVBUF, 4096)
+                self.socket.setsockopt(socket.IPPROTO_TCP, socket.TCP_MAXSEG, 536)
+            self.socket.connect(("127.0.0.1", place))
+            self.socket.setsockopt(socket.IPPROTO_TCP, socket.TCP_NODELAY, 1)
         self.stream = self.socket.makefile("rb")
         self.events = deque()
 

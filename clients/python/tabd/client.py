@@ -18,7 +18,7 @@ Value = TypeVar("Value")
 
 
 class Client:
-    """A client of the server at a port, for any number of threads.
+    """A client of the server at a port, or at the path of a socket file, for any number of threads.
 
     It has at most `connections` connections, without those of `events` and mirrors: one for each thread that is in a transaction, others
     wait. `timeout` is how many seconds a reply may take, a wait for a lock too; without it a client waits as long as it takes.
@@ -28,7 +28,7 @@ class Client:
 
     def __init__(
         self,
-        port: int,
+        port: Union[int, str],
         host: str = "127.0.0.1",
         connections: int = 8,
         timeout: Optional[float] = None,

@@ -9,7 +9,7 @@ import socket
 import struct
 import threading
 import time
-from typing import Any, Callable, Deque, Iterator, List, Optional, Tuple
+from typing import Any, Callable, Deque, Iterator, List, Optional, Tuple, Union
 
 from .errors import Closed, NotConnected, NotServed, TimedOut, refusal
 from .events import Item, item_of
@@ -35,20 +35,36 @@ def _frame(request: Term) -> bytes:
     return struct.pack(">I", len(payload)) + payload
 
 
+def _opened(host: str, port: Union[int, str]) -> socket.socket:
+    """To a port of the host, or to the path of a socket file."""
+    if isinstance(port, str):
+        opened = socket.socket(socket.AF_UNIX)
+        opened.settimeout(OPENING_SECONDS)
+        try:
+            opened.connect(port)
+        except OSError:
+            opened.close()
+            raise
+        return opened
+    opened = socket.create_connection((host, port), OPENING_SECONDS)
+    opened.setsockopt(socket.IPPROTO_TCP, socket.TCP_NODELAY, 1)
+    return opened
+
+
 class Connection:
     """A session of the server. One request is under way at a time: the next is sent behind the last one's reply, since what is
     sent ahead of a restart would be done in the restarted transaction, without what came before it."""
 
-    def __init__(self, host: str, port: int, timeout: Optional[float]) -> None:
+    def __init__(self, host: str, port: Union[int, str], timeout: Optional[float]) -> None:
         self.timeout, self.buffer, self.closed = timeout, bytearray(), False
         # How many requests were given up.
         self.given_up = 0
         self.told: Deque[Item] = collections.deque()
         try:
-            self.socket = socket.create_connection((host, port), OPENING_SECONDS)
+            self.socket = _opened(host, port)
         except OSError as error:
-            raise NotConnected(f"no connection to {host}:{port}: {error}") from error
-        self.socket.setsockopt(socket.IPPROTO_TCP, socket.TCP_NODELAY, 1)
+            where = port if isinstance(port, str) else f"{host}:{port}"
+            raise NotConnected(f"no connection to {where}: {error}") from error
         self._greet()
 
     def _greet(self) -> None:

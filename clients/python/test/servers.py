@@ -22,10 +22,11 @@ QUIET = 0.05
 
 
 class Server:
-    """The program, serving at a port: one that the system chooses, or the one given."""
+    """The program, serving at a port, one that the system chooses or the one given, or at a socket file."""
 
-    def __init__(self, *words: str, connections: int = 16, port: int = 0) -> None:
-        words = (PROGRAM, "serve", "--port", str(port), "--connections", str(connections), *words)
+    def __init__(self, *words: str, connections: int = 16, port: int = 0, path: str = "") -> None:
+        where = ("--socket", path) if path else ("--port", str(port))
+        words = (PROGRAM, "serve", *where, "--connections", str(connections), *words)
         # After a kill the port may not be free at once.
         for _ in range(100):
             self.process = subprocess.Popen(words, stdout=subprocess.PIPE, stderr=subprocess.DEVNULL, text=True)
@@ -35,7 +36,7 @@ class Server:
                 break
             self.kill()
             time.sleep(0.1)
-        self.port = int(line.rsplit(":", 1)[1])
+        self.port = 0 if path else int(line.rsplit(":", 1)[1])
 
     def kill(self) -> None:
         self.process.kill()

@@ -2,6 +2,8 @@
 
 from __future__ import annotations
 
+import os
+import tempfile
 import threading
 import time
 import unittest
@@ -245,6 +247,25 @@ class Tables(unittest.TestCase):
         leave.set()
         thread.join()
         self.assertEqual(hasty.run(lambda t: [t.read("t", key) for key in (1, 2, 3)]), [[("t", 1, 1)], [], [("t", 3, 3)]])
+
+
+class AtASocketFile(unittest.TestCase):
+    def setUp(self) -> None:
+        self.folder = tempfile.TemporaryDirectory()
+        self.addCleanup(self.folder.cleanup)
+        self.path = os.path.join(self.folder.name, "socket")
+
+    def test_a_transaction_and_events(self) -> None:
+        with Server(path=self.path), tabd.Client(self.path) as client:
+            table = client.create_table("t")
+            with client.transaction() as t:
+                t.write(("t", 1, "a"))
+            with table.events(dump=True) as events:
+                self.assertEqual(next(events), tabd.Begin("t", [("t", 1, "a")]))
+
+    def test_no_server(self) -> None:
+        with self.assertRaisesRegex(tabd.NotConnected, self.path):
+            tabd.Client(self.path).create_table("t")
 
 
 if __name__ == "__main__":

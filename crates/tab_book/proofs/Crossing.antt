@@ -43,7 +43,7 @@ use Rattle.tab_locks.proofs.holders.Holders.TheSendSync as holders_marks
 use Rattle.tab_waitdie.specs.contracts.ages.Ages as ages
 use Rattle.tab_manager.specs.contracts.Manager as manager
 use Rattle.tab_manager.specs.contracts.machine.Machine as machine
-use Rattle.tab_manager.specs.contracts.session.Seat as seat
+use Rattle.tab_manager.specs.contracts.session.Session as seat
 use Rattle.tab_manager.specs.contracts.session.Transaction as transaction
 use Rattle.tab_manager.specs.contracts.queue.Request as request
 use Rattle.tab_journal.specs.contracts.base.Base as base

@@ -23,7 +23,7 @@ use Rattle.std.specs.Option.{unwrap_or}
 use Rattle.std.proofs.lemmas.Map.Steps.{set_value_same}
 use Rattle.tab_locks.proofs.PutEntry.{put_found}
 use Rattle.tab_locks.proofs.Passing.{or_swap, any_never}
-use Rattle.tab_model.proofs.Seats.{itself}
+use Rattle.tab_model.proofs.SessionLists.{itself}
 
 abbrev pub Entries : Type 0
 Entries = List (ℕ × Vec code.Lock)

@@ -15,7 +15,7 @@ use Rattle.std.proofs.lemmas.Slice.Eq.{bytes_eq-Decides}
 use Rattle.tab_model.specs.declared.data.Lock as code
 use Rattle.tab_model.specs.Locks.{Part, All, Key, Lock}
 use Rattle.tab_model.specs.Ages.{Owned}
-use Rattle.tab_model.proofs.Seats.{itself}
+use Rattle.tab_model.proofs.SessionLists.{itself}
 use Rattle.tab_model.proofs.TableLaws.{same_true}
 use Rattle.tab_locks.specs.Members.{SameMembers, Drops}
 use Rattle.tab_locks.specs.Plain.{lock_of}

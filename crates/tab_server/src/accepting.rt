@@ -2,12 +2,13 @@
 
 use crate::connection::{Connection, Streams};
 use crate::gate::{Gate, Note, Notes};
+use crate::listener::Listener;
 use crate::requests::{Ending, serve_session};
 use crate::settings::Settings;
 use crate::troubles::Troubles;
 use std::alloc::Global;
 use std::io::Write;
-use std::net::{TcpListener, TcpStream};
+use std::net::TcpStream;
 use std::sync::Wait;
 use std::thread::Threads;
 use std::{io, thread};
@@ -22,7 +23,7 @@ use tab_proto::append_reply;
 pub fn serve<H: Host + Threads + Send + Sync, G: Gate + Notes + Sync>(
     host: &H,
     alloc: Global,
-    listener: &TcpListener,
+    listener: &Listener,
     shared: &Shared<H>,
     connections: u32,
     settings: Settings,
@@ -30,8 +31,8 @@ pub fn serve<H: Host + Threads + Send + Sync, G: Gate + Notes + Sync>(
 ) -> io::Result<()> {
     thread::scope(thread::scope_env(), host, |scope| {
         for _ in 0..connections {
-            let (stream, _peer) = listener.accept()?;
-            let Ok(streams) = Streams::of(stream, settings) else {
+            let accepted = listener.accept()?;
+            let Ok(streams) = Streams::of(accepted, settings) else {
                 continue;
             };
             let Ok((seat, inbox)) = shared.join(host) else {
@@ -53,7 +54,7 @@ pub fn serve<H: Host + Threads + Send + Sync, G: Gate + Notes + Sync>(
 pub fn serve_forever<H: Host + Threads + Send + Sync, G: Gate + Notes + Sync>(
     host: &H,
     alloc: Global,
-    listener: &TcpListener,
+    listener: &Listener,
     shared: &Shared<H>,
     settings: Settings,
     gate: &G,
@@ -90,9 +91,8 @@ pub fn serve_forever<H: Host + Threads + Send + Sync, G: Gate + Notes + Sync>(
     });
 }
 
-fn accepted(listener: &TcpListener, settings: Settings) -> io::Result<Streams> {
-    let (stream, _peer) = listener.accept()?;
-    Streams::of(stream, settings)
+fn accepted(listener: &Listener, settings: Settings) -> io::Result<Streams> {
+    Streams::of(listener.accept()?, settings)
 }
 
 /// Who finds no seat is told so, and closed.

@@ -2,13 +2,14 @@
 
 use crate::events::event_loop;
 use crate::gate::Notes;
+use crate::listener::{Accepted, Family};
 use crate::next::{Next, next_on};
 use crate::settings::Settings;
 use crate::troubles::pause;
 use crate::watch::Watch;
 use std::alloc::Global;
 use std::io;
-use std::net::{Shutdown, TcpStream};
+use std::net::TcpStream;
 use std::sync::Wait;
 use tab_book::{Seat, Shared};
 use tab_named::SeatInbox;
@@ -25,6 +26,7 @@ pub struct Connection {
     /// Whether an abort ends the wait of the operation before it.
     pub aborts: bool,
     stream: TcpStream,
+    family: Family,
 }
 
 /// A connection's stream, once to read from it, once to write to it and once to watch it, and how events are sent on it.
@@ -33,14 +35,16 @@ pub struct Streams {
     reader: TcpStream,
     writer: TcpStream,
     stream: TcpStream,
+    family: Family,
     delivery: Delivery,
     aborts: bool,
 }
 
 impl Streams {
     /// An error where no descriptor is left for one, or a limit of time can't be set.
-    pub fn of(stream: TcpStream, settings: Settings) -> io::Result<Streams> {
-        let _delayed = stream.set_nodelay(true);
+    pub fn of(accepted: Accepted, settings: Settings) -> io::Result<Streams> {
+        let Accepted { stream, family } = accepted;
+        family.set_nodelay(&stream);
         if settings.idle.is_some() {
             stream.set_read_timeout(settings.idle)?;
             stream.set_write_timeout(settings.idle)?;
@@ -49,6 +53,7 @@ impl Streams {
             reader: stream.try_clone()?,
             writer: stream.try_clone()?,
             stream,
+            family,
             delivery: settings.delivery,
             aborts: settings.aborts,
         })
@@ -62,6 +67,7 @@ impl Connection {
             reader,
             writer,
             stream,
+            family,
             delivery,
             aborts,
         } = streams;
@@ -71,6 +77,7 @@ impl Connection {
             delivery,
             aborts,
             stream,
+            family,
         };
         (connection, reader)
     }
@@ -95,7 +102,7 @@ impl Connection {
             self.delivery,
             notes,
         );
-        self.close();
+        self.family.close(&self.stream);
     }
 
     /// Waits, while a request waits for a lock, for the end of the stream, at which the session leaves, or for an abort that ends
@@ -136,13 +143,7 @@ impl Connection {
             && !self.has_broken_off()
     }
 
-    /// Whether the connection was reset. What was sent before may be read still.
     fn has_broken_off(&self) -> bool {
-        self.stream.peer_addr().is_err()
-    }
-
-    /// Nothing more is read or written, so that the thread that reads ends.
-    fn close(&self) {
-        let _closed = self.stream.shutdown(Shutdown::Both);
+        self.family.has_broken_off(&self.stream)
     }
 }

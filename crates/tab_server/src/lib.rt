@@ -1,4 +1,4 @@
-//! The server: connections over sockets, each a session of a book that all share.
+//! The server: connections over sockets of TCP or of Unix, each a session of a book that all share.
 //!
 //! Three threads serve a connection: one reads its requests and answers them, one sends it its events, and one watches its
 //! stream while a request waits for a lock. The first two share the sink, whose lock is never taken while the book's is held.
@@ -12,6 +12,7 @@ mod events;
 mod gate;
 mod kept;
 mod levels;
+mod listener;
 mod next;
 mod pieces;
 mod place;
@@ -24,6 +25,7 @@ mod watch;
 pub use accepting::{serve, serve_forever};
 pub use events::event_loop;
 pub use gate::{Count, Counts, Gate, Note, Notes, Open};
+pub use listener::Listener;
 pub use requests::{Ending, serve_session};
 pub use settings::Settings;
 pub use tab_proto::Delivery;

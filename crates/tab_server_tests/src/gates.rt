@@ -16,7 +16,7 @@ use tab_book::{Book, Shared};
 use tab_model::Limits;
 use tab_names::{Host, Naming, Opened};
 use tab_post::Channel;
-use tab_server::{Count, Counts, Gate, Note, Notes, Settings, serve};
+use tab_server::{Count, Counts, Gate, Listener, Note, Notes, Settings, serve};
 
 pub const LIMITS: Limits = Limits {
     sessions: 64,
@@ -101,7 +101,7 @@ fn ask<R: Net<Stream = TcpStream>>(rt: &R, address: SocketAddr) -> io::Result<bo
 fn serve_all<H: Host + Threads + Send + Sync, G: Gate + Notes + Sync>(
     host: &H,
     alloc: Global,
-    listener: &TcpListener,
+    listener: &Listener,
     shared: &Shared<H>,
     count: u32,
     gate: &G,
@@ -121,7 +121,7 @@ fn beside<H, R, G>(
     shared: &Shared<H>,
     gate: &G,
     count: u32,
-    listener: &TcpListener,
+    listener: &Listener,
     address: SocketAddr,
     served: &AtomicU64,
 ) -> bool
@@ -160,6 +160,7 @@ where
 {
     let listener = TcpListener::bind(rt, ("127.0.0.1", 0)).map_err(|_| "bind")?;
     let address = listener.local_addr().map_err(|_| "address")?;
+    let listener = Listener::Tcp(listener);
     let shared = Shared::new(Book::new(host, alloc, opened, LIMITS, 64)?);
     let served = AtomicU64::new(0);
     let right = beside(

@@ -54,11 +54,12 @@ impl Revise<Map<Term, Records>> for AppendAt {
     ghost becomes = { λ a keys. revised_at term_cmp (λ records. with_one records (term a.row)) a.key keys };
 
     fn revise(self, alloc: Global, keys: &mut Map<Term, Records>) -> Result<(), AllocError> {
+        let AppendAt { key, row } = self;
         let append = Append {
-            row: &self.row,
+            row: &row,
             lender: None,
         };
-        keys.revise(alloc, self.key, append)
+        keys.revise(alloc, key, append)
     }
 
     fn revised(
@@ -67,11 +68,12 @@ impl Revise<Map<Term, Records>> for AppendAt {
         keys: &Map<Term, Records>,
     ) -> Result<Map<Term, Records>, AllocError> {
         let mut keys = keys.share()?;
+        let AppendAt { key, row } = self;
         let append = Append {
-            row: &self.row,
+            row: &row,
             lender: None,
         };
-        keys.revise(alloc, self.key, append)?;
+        keys.revise(alloc, key, append)?;
         Ok(keys)
     }
 }

@@ -1,10 +1,11 @@
 -- What the parser's getters read, by the rows of its matches.
-use Rattle.std.proofs.Common.{◌≡◌, ◌∙◌, ◌<◌, ◌≤◌, ◌^◌, ℕ, List, Option, Some, None, ap, sym, refl, subst, arith}
+use Rattle.std.proofs.Common.{◌≡◌, ◌∙◌, ◌<◌, ◌≤◌, ◌^◌, ℕ, List, [], ◌∷◌, Option, Some, None, ap, sym, refl, subst, arith, inl, inr}
 use Rattle.std.specs.Prelude.{Result, Ok, Err, IsErrAnd}
 use Rattle.clap.specs.declared.error.Error.{Error}
 use Rattle.std.specs.Str.Parse.{ParsesUnsigned}
 use Rattle.clap.proofs.WalkLemmas.{one_text-rows}
 use Rattle.clap.specs.declared.parser.matches.Found.{Found}
+use Rattle.clap.specs.Kinds.{or_else}
 use Rattle.clap.specs.Words.{FailsBy, HasKind, IsUnsignedIn, Kinds, ReadsOne, Row, Text, one_text, rows_of}
 use Rattle.tabd.specs.Asked.{IsNumberOf, MayBeNumberOf, number_in}
 
@@ -57,6 +58,12 @@ none_out_of_range name low high rows n m out = record {
       let most = i.3 in
       absurd (out (omega (arith, same, least)) (omega (arith, same, most)));
 }
+
+-- what refused the words first is what they are refused by
+pub first_kind : (kinds next : Kinds) (e : Error) → HasKind kinds e → HasKind (or_else kinds next) e
+first_kind [] next e (inl h) = inl h
+first_kind [] next e (inr h) = absurd h
+first_kind (k ∷ ks) next e h = h
 
 -- what refused the words is handed on
 pub handed_on : {T : Type 0} (kinds : Kinds) (e : Error) (r : Result T Error) → IsErrAnd r (λ y. y ≡ e) → HasKind kinds e → FailsBy kinds r

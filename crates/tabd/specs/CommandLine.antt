@@ -10,6 +10,10 @@ use Rattle.clap.specs.declared.builder.value_parser.ValueParser.TheVariants.{Sig
 abbrev pub number_rule : Text → ℕ → ℕ → Rule
 number_rule name least most = record (new_rule name) { long = Some name; action = Some Set; value_names = 1; parser = Some (Signed (pos least) (pos most)) }
 
+-- an option with any text
+abbrev pub text_rule : Text → Rule
+text_rule name = record (new_rule name) { long = Some name; action = Some Set; value_names = 1 }
+
 -- an option that is given or not
 abbrev pub flag_rule : Text → Rule
 flag_rule name = record (new_rule name) { long = Some name; action = Some SetTrue }
@@ -31,10 +35,10 @@ with_rules a (r ∷ rules) = with_rules (with_rule a r) rules
 abbrev pub replay_line : App
 replay_line = with_rules (new_app (codes "replay")) (outbox_rule ∷ [])
 
--- `serve` with its options, of which port and connections have to be given
+-- `serve` with its options, of which connections has to be given; of port and socket `address_fault` of Asked speaks
 abbrev pub serve_line : App
 serve_line = with_rules (new_app (codes "serve"))
-    (required (number_rule (codes "port") 0 65535) ∷ required (number_rule (codes "connections") 1 64) ∷ outbox_rule ∷ number_rule (codes "journal") 16 65536
+    (number_rule (codes "port") 0 65535 ∷ text_rule (codes "socket") ∷ required (number_rule (codes "connections") 1 64) ∷ outbox_rule ∷ number_rule (codes "journal") 16 65536
     ∷ flag_rule (codes "forever") ∷ flag_rule (codes "batches") ∷ number_rule (codes "idle") 1 86400 ∷ flag_rule (codes "log") ∷ number_rule (codes "metrics") 0 65535 ∷ flag_rule (codes "abort-waits") ∷ [])
 
 -- the program with its version, which wants a command

@@ -77,7 +77,7 @@ streams i o f g = record { input = i; output = o; input_faults = f; output_fault
 -- what holds of a replay, by how many items each session's post holds, and what of a server
 abbrev pub OfRun : Run → (ℕ → Type 0) → Type 0 → Type 0
 OfRun (Replay outbox) replays serves = replays outbox
-OfRun (Serve s) replays serves = serves
+OfRun (Serve a s) replays serves = serves
 
 -- the program replayed its input onto its output, and ends by a device fault exactly where one rose
 abbrev pub Plays : ℕ → Streams → Streams → End → Type 0

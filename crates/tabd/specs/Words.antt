@@ -15,4 +15,4 @@ IsIdle s = (1 ≤ s) × (s ≤ 86400)
 -- the numbers of a run are in their ranges
 abbrev pub AreInRange : Run → Type 0
 AreInRange (Replay outbox) = (1 ≤ outbox) × (outbox ≤ 65536)
-AreInRange (Serve s) = AreSizes s.sizes × IfSome s.idle IsIdle
+AreInRange (Serve a s) = AreSizes s.sizes × IfSome s.idle IsIdle

@@ -2,7 +2,7 @@
 
 ghost use Rattle.std.specs.Prelude.{◌≡◌, IfOk, false, codes};
 ghost use Rattle.clap.specs.Words.{app_of, rule_of};
-ghost use Rattle.tabd.specs.CommandLine.{command_line, flag_rule, has_globals, number_rule, outbox_rule, replay_line, required, serve_line};
+ghost use Rattle.tabd.specs.CommandLine.{command_line, flag_rule, has_globals, number_rule, outbox_rule, replay_line, required, serve_line, text_rule};
 
 use clap::{Arg, ArgAction, Command, value_parser};
 use std::alloc::{AllocError, Global};
@@ -36,16 +36,30 @@ fn outbox<'a>(alloc: Global) -> Arg<'a>
 }
 
 fn port<'a>(alloc: Global) -> Arg<'a>
-    ensures rule { rule_of result ≡ required (number_rule (codes "port") 0 65535) }
+    ensures rule { rule_of result ≡ number_rule (codes "port") 0 65535 }
     ensures own { result.global ≡ false }
 {
     Arg::new(alloc, "port")
         .long("port")
         .value_name("PORT")
-        .help("The port on 127.0.0.1; 0 lets the system choose one")
-        .required(true)
+        .help(
+            "The port on 127.0.0.1, to which any user of the machine may connect; 0 lets the system choose one",
+        )
         .action(ArgAction::Set)
         .value_parser(value_parser!(u16))
+}
+
+fn socket<'a>(alloc: Global) -> Arg<'a>
+    ensures rule { rule_of result ≡ text_rule (codes "socket") }
+    ensures own { result.global ≡ false }
+{
+    Arg::new(alloc, "socket")
+        .long("socket")
+        .value_name("PATH")
+        .help(
+            "In place of --port the path of a socket file, of 107 bytes at most, to which may connect who may write the file",
+        )
+        .action(ArgAction::Set)
 }
 
 fn connections<'a>(alloc: Global) -> Arg<'a>
@@ -128,8 +142,9 @@ fn serve<'a>(alloc: Global) -> Result<Command<'a>, AllocError>
     ensures own { IfOk result (λ c. has_globals c ≡ false) }
 {
     Command::new(alloc, "serve")
-        .about("Serves each connection to a port as a session")
+        .about("Serves each connection to a port or a socket file as a session")
         .arg(port(alloc))?
+        .arg(socket(alloc))?
         .arg(connections(alloc))?
         .arg(outbox(alloc))?
         .arg(journal(alloc))?

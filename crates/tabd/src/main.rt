@@ -1,12 +1,14 @@
 //! The program: tables served over frames.
 #![tactic(auto)]
 
+mod address;
 mod command_line;
 mod ending;
 mod lines;
 mod opening;
 mod running;
 mod serving;
+mod socket_file;
 mod words;
 
 use lines::{Lines, Log};
@@ -24,8 +26,8 @@ fn main(rt: HostRuntime) -> ExitCode {
     let mut output = Counted::new(rt.stdout());
     let mut errors = Counted::new(rt.stderr());
     let wanted = asked(&rt);
-    let (log, meters) = match wanted {
-        Ok(Run::Serve(service)) => (service.log, service.metrics.map(|_| Meters::new())),
+    let (log, meters) = match &wanted {
+        Ok(Run::Serve(_, service)) => (service.log, service.metrics.map(|_| Meters::new())),
         _ => (Log::Brief, None),
     };
     let lines = Lines::new(rt, rt.alloc(), log, meters, Counted::new(rt.stderr()));

@@ -14,6 +14,7 @@ use clap::Error;
 use std::alloc::Global;
 use std::net::{Net, TcpListener, TcpStream};
 use std::process::ExitCode;
+use std::rt::Files;
 use std::sync::Wait;
 use std::thread::Threads;
 use tab_etf::{Source, Target, give_all};
@@ -38,6 +39,7 @@ where
     J: Naming + Send + Sync,
     H: AllocGlobal
         + Net<Listener = TcpListener, Stream = TcpStream>
+        + Files
         + Threads
         + Wait
         + Copy
@@ -80,6 +82,7 @@ where
     J: Naming + Send + Sync,
     H: AllocGlobal
         + Net<Listener = TcpListener, Stream = TcpStream>
+        + Files
         + Threads
         + Wait
         + Copy
@@ -93,8 +96,8 @@ where
 {
     match words {
         Run::Replay { outbox } => play(rt.alloc(), input, output, outbox),
-        Run::Serve(service) => {
-            listen::<J, H, W, G>(*rt, rt.alloc(), opened, service, output, gate)
+        Run::Serve(address, service) => {
+            listen::<J, H, W, G>(*rt, rt.alloc(), opened, &address, service, output, gate)
         }
     }
 }

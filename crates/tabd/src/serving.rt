@@ -4,13 +4,14 @@ ghost use Rattle.std.specs.Prelude.{◌≡◌, ◌≤◌, ◌*◌, option_map};
 ghost use Rattle.std.specs.Duration.{as_nanos};
 
 use crate::Ended;
+use crate::address::{Address, Place, listen_at, listen_on};
 use crate::ending::End;
 use crate::lines::Log;
 use crate::opening::opened_book;
 use std::alloc::{AllocError, Global};
 use std::marker::PhantomData;
-use std::net::{Net, SocketAddr, TcpListener, TcpStream};
-use std::os::fd::{AsRawFd, RawFd};
+use std::net::{Net, TcpListener, TcpStream};
+use std::rt::Files;
 use std::sync::Wait;
 use std::thread::Threads;
 use std::time::Duration;
@@ -20,10 +21,7 @@ use tab_etf::{Target, give_all};
 use tab_metrics::{Closing, Paged, serve_pages};
 use tab_names::{Host, Naming, Opened};
 use tab_post::Channel;
-use tab_server::{Delivery, Gate, Notes, Settings, serve, serve_forever};
-
-/// The greatest number of a standard stream.
-const STANDARD_ERROR: RawFd = 2;
+use tab_server::{Delivery, Gate, Listener, Notes, Settings, serve, serve_forever};
 
 /// What a server is given: how many connections it accepts, how many items wait for a session, how many entries stand.
 #[derive(Clone, Copy)]
@@ -39,8 +37,6 @@ pub struct Sizes {
 /// How the server is run.
 #[derive(Clone, Copy)]
 pub struct Service {
-    /// 0 lets the system choose one.
-    pub port: u16,
     pub sizes: Sizes,
     /// A connection that ends makes room for another.
     pub forever: bool,
@@ -52,13 +48,6 @@ pub struct Service {
     pub metrics: Option<u16>,
     /// An abort ends the wait of the operation before it, which is told nothing then.
     pub aborts: bool,
-}
-
-/// Where clients connect, and who asks for the counters.
-#[derive(Drop)]
-struct Listeners {
-    clients: TcpListener,
-    pages: Option<TcpListener>,
 }
 
 /// How connections are served, by what the words say.
@@ -78,11 +67,48 @@ fn settings(delivery: Delivery, idle: Option<u32>, aborts: bool) -> Settings
     }
 }
 
-/// Listens on the port, says so, and serves: until all sessions have ended, or for good.
+/// Listens at the address, says so, and serves: until all sessions have ended, or for good. A socket file is removed at the end.
 pub fn listen<J, R, W, G>(
     rt: R,
     alloc: Global,
     opened: Opened<Channel>,
+    address: &Address,
+    service: Service,
+    output: &mut W,
+    gate: &G,
+) -> End
+where
+    J: Naming + Send + Sync,
+    R: Net<Listener = TcpListener, Stream = TcpStream>
+        + Files
+        + Threads
+        + Wait
+        + Copy
+        + Send
+        + Sync,
+    W: Target,
+    G: Gate + Notes + Paged + Sync,
+    requires { opened ≡ J.book }
+{
+    match listen_at(&rt, address) {
+        Ok((clients, place)) => {
+            let end = serve_at::<J, R, W, G>(
+                rt, alloc, opened, &clients, &place, service, output, gate,
+            );
+            place.close(&rt);
+            end
+        }
+        Err(error) => End::Stopped(refused(&error, gate)),
+    }
+}
+
+/// Listens for who asks for the counters too, says where, and serves.
+fn serve_at<J, R, W, G>(
+    rt: R,
+    alloc: Global,
+    opened: Opened<Channel>,
+    clients: &Listener,
+    place: &Place<'_>,
     service: Service,
     output: &mut W,
     gate: &G,
@@ -94,77 +120,63 @@ where
     G: Gate + Notes + Paged + Sync,
     requires { opened ≡ J.book }
 {
-    match listening(&rt, alloc, &service, output, gate) {
-        Ok(listeners) => {
+    match pages_beside(&rt, alloc, place, service.metrics, output, gate) {
+        Ok(pages) => {
             let host = (rt, PhantomData::<J>);
-            serve_on(host, alloc, opened, &listeners, service, gate)
+            serve_on(host, alloc, opened, clients, &pages, service, gate)
         }
         Err(ended) => End::Stopped(ended),
     }
 }
 
-/// Says which ports they are, at once, so that clients can connect.
-fn listening<R, W, N>(
+/// Says where it listens, at once, so that clients can connect.
+fn pages_beside<R, W, N>(
     rt: &R,
     alloc: Global,
-    service: &Service,
+    place: &Place<'_>,
+    metrics: Option<u16>,
     output: &mut W,
     notes: &N,
-) -> Result<Listeners, Ended>
+) -> Result<Option<TcpListener>, Ended>
 where
     R: Net<Listener = TcpListener, Stream = TcpStream>,
     W: Target,
     N: Notes,
 {
-    let (clients, port) = listener(rt, service.port, notes)?;
-    let pages = match service.metrics {
-        Some(port) => Some(listener(rt, port, notes)?),
+    let pages = match metrics {
+        Some(port) => Some(listen_on(rt, port).map_err(|error| refused(&error, notes))?),
         None => None,
     };
-    say(alloc, output, "listening", port)?;
+    match place {
+        Place::Port(port) => say_port(alloc, output, "listening", *port)?,
+        Place::File(file) => say_path(alloc, output, file.path())?,
+    }
     let pages = match pages {
         Some((pages, port)) => {
-            say(alloc, output, "metrics", port)?;
+            say_port(alloc, output, "metrics", port)?;
             Some(pages)
         }
         None => None,
     };
     output.flush()?;
-    Ok(Listeners { clients, pages })
+    Ok(pages)
 }
 
-/// A listener and its port.
-fn listener<R: Net<Listener = TcpListener, Stream = TcpStream>, N: Notes>(
-    rt: &R,
-    port: u16,
-    notes: &N,
-) -> Result<(TcpListener, u16), Ended> {
-    match bound(rt, port) {
-        Ok((listener, address)) => Ok((listener, address.port())),
-        Err(error) => {
-            notes.fault(&error);
-            Err(Ended::Device)
-        }
-    }
+fn refused<N: Notes>(error: &io::Error, notes: &N) -> Ended {
+    notes.fault(error);
+    Ended::Device
 }
 
-fn say<W: Target>(alloc: Global, output: &mut W, what: &str, port: u16) -> Result<(), Ended> {
+fn say_port<W: Target>(alloc: Global, output: &mut W, what: &str, port: u16) -> Result<(), Ended> {
     let line = format!(in alloc; "{what} on 127.0.0.1:{port}\n").map_err(|_| Ended::NoMemory)?;
     give_all(output, line.as_bytes())?;
     Ok(())
 }
 
-fn bound<R: Net<Listener = TcpListener, Stream = TcpStream>>(
-    rt: &R,
-    port: u16,
-) -> io::Result<(TcpListener, SocketAddr)> {
-    let listener = TcpListener::bind(rt, ("127.0.0.1", port))?;
-    // A socket gets the least number that is free: what is put on a standard stream that is closed would go to a client.
-    if listener.as_raw_fd() <= STANDARD_ERROR {
-        return Err(io::Error::other("a standard stream is closed"));
-    }
-    let address = listener.local_addr()?;
-    Ok((listener, address))
+fn say_path<W: Target>(alloc: Global, output: &mut W, path: &str) -> Result<(), Ended> {
+    let line = format!(in alloc; "listening on {path}\n").map_err(|_| Ended::NoMemory)?;
+    give_all(output, line.as_bytes())?;
+    Ok(())
 }
 
 /// Serves clients, beside a thread for who asks for the counters.
@@ -172,7 +184,8 @@ fn serve_on<H: Host + Threads + Send + Sync, G: Gate + Notes + Paged + Sync>(
     host: H,
     alloc: Global,
     opened: Opened<Channel>,
-    listeners: &Listeners,
+    clients: &Listener,
+    pages: &Option<TcpListener>,
     service: Service,
     gate: &G,
 ) -> End
@@ -183,25 +196,18 @@ fn serve_on<H: Host + Threads + Send + Sync, G: Gate + Notes + Paged + Sync>(
     };
     let shared = Shared::new(book);
     let closing = Closing::new();
-    match &listeners.pages {
+    match pages {
         Some(pages) => beside_pages(
-            &host,
-            alloc,
-            &listeners.clients,
-            pages,
-            &shared,
-            service,
-            gate,
-            &closing,
+            &host, alloc, clients, pages, &shared, service, gate, &closing,
         ),
-        None => serve_clients(&host, alloc, &listeners.clients, &shared, service, gate),
+        None => serve_clients(&host, alloc, clients, &shared, service, gate),
     }
 }
 
 fn beside_pages<H: Host + Threads + Send + Sync, G: Gate + Notes + Paged + Sync>(
     host: &H,
     alloc: Global,
-    clients: &TcpListener,
+    clients: &Listener,
     pages: &TcpListener,
     shared: &Shared<H>,
     service: Service,
@@ -222,7 +228,7 @@ fn beside_pages<H: Host + Threads + Send + Sync, G: Gate + Notes + Paged + Sync>
 fn serve_clients<H: Host + Threads + Send + Sync, G: Gate + Notes + Sync>(
     host: &H,
     alloc: Global,
-    clients: &TcpListener,
+    clients: &Listener,
     shared: &Shared<H>,
     service: Service,
     gate: &G,

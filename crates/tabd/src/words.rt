@@ -1,11 +1,13 @@
 //! The words of the command line.
 
-ghost use Rattle.std.specs.Prelude.{◌≤◌, ℕ, List, IfOk, IfSome, map, codes};
-ghost use Rattle.clap.specs.Words.{FailsBy, fault_of, found_of, rows_of, subcommand_of, subcommand_rows_of};
-ghost use Rattle.tabd.specs.Asked.{IsAskedBy, IsFlagOf, IsNumberOf, IsServiceOf, MayBeNumberOf, is_batches, is_full};
+ghost use Rattle.std.specs.Prelude.{◌≡◌, ◌≤◌, ℕ, List, [], ◌∷◌, IfOk, IfSome, IsErrAnd, map, option_map, codes};
+ghost use Rattle.clap.specs.Words.{FailsBy, HasKind, fault_of, first_of, found_of, rows_of, subcommand_of, subcommand_rows_of};
+ghost use Rattle.clap.specs.Kinds.{or_else};
+ghost use Rattle.tabd.specs.Asked.{IsAddressOf, IsAskedBy, IsFlagOf, IsNumberOf, IsServiceOf, MayBeNumberOf, address_fault, address_kinds, is_batches, is_full};
 ghost use Rattle.tabd.specs.CommandLine.{command_line};
 ghost use Rattle.tabd.specs.Words.{AreInRange, AreSizes, IsIdle};
 
+use crate::address::Address;
 use crate::command_line::command;
 use crate::lines::Log;
 use crate::serving::{Service, Sizes};
@@ -18,37 +20,78 @@ use std::rt::Env;
 use tab_server::Delivery;
 
 /// What the words ask for.
-#[derive(Clone, Copy)]
+#[derive(Drop)]
 pub enum Run {
     /// Each session's post holds so many items.
     Replay { outbox: u32 },
-    Serve(Service),
+    Serve(Address, Service),
 }
 
 /// What these words ask for. The first is the program's name.
 pub fn read_words<'a, S: AsStr>(alloc: Global, words: &'a [S]) -> Result<Run, Error>
     ensures range { IfOk result AreInRange }
     ensures asked { IfOk result (IsAskedBy (subcommand_of command_line (map S.text words.entry.now))) }
-    ensures fails { FailsBy (fault_of command_line (map S.text words.entry.now)) result }
+    ensures fails { FailsBy (or_else (fault_of command_line (map S.text words.entry.now)) (address_fault (subcommand_of command_line (map S.text words.entry.now)))) result }
 {
     let matches = command(alloc)?.try_get_matches_from(words)?;
-    Ok(run_of(&matches))
+    run_of(alloc, &matches)
 }
 
 /// What these matches ask for.
-fn run_of(matches: &ArgMatches<'_>) -> Run
-    ensures range { AreInRange result }
-    ensures asked { IsAskedBy (subcommand_rows_of matches.now) result }
+fn run_of(alloc: Global, matches: &ArgMatches<'_>) -> Result<Run, Error>
+    ensures range { IfOk result AreInRange }
+    ensures asked { IfOk result (IsAskedBy (subcommand_rows_of matches.now)) }
+    ensures fails { FailsBy (address_fault (subcommand_rows_of matches.now)) result }
 {
     if let Some(serve) = matches.subcommand_matches("serve") {
-        return Run::Serve(service(serve));
+        let address = address(alloc, serve)?;
+        return Ok(Run::Serve(address, service(serve)));
     }
-    Run::Replay {
+    Ok(Run::Replay {
         outbox: match matches.subcommand_matches("replay") {
             Some(replay) => number(replay, "outbox", 1, 65_536, 64),
             None => 64,
         },
+    })
+}
+
+/// Where clients are to connect. The parser itself has no rule of one option on another: docs/DECISIONS.md says why.
+fn address(alloc: Global, matches: &ArgMatches<'_>) -> Result<Address, Error>
+    ensures asked { IfOk result (IsAddressOf (rows_of (found_of matches.now))) }
+    ensures fails { FailsBy (address_kinds (first_of (codes "port") (rows_of (found_of matches.now))) (first_of (codes "socket") (rows_of (found_of matches.now)))) result }
+{
+    match (written(matches, "port"), written(matches, "socket")) {
+        (None, None) => refused(
+            alloc,
+            ErrorKind::MissingRequiredArgument,
+            "one of --port <PORT> and --socket <PATH> has to be given",
+        ),
+        (Some(_), Some(_)) => refused(
+            alloc,
+            ErrorKind::ArgumentConflict,
+            "only one of --port <PORT> and --socket <PATH> can be given",
+        ),
+        (Some(_), None) => Ok(Address::Port(port(matches))),
+        (None, Some(path)) if path.is_empty() => refused(
+            alloc,
+            ErrorKind::ValueValidation,
+            "the path of --socket <PATH> is empty",
+        ),
+        (None, Some(path)) => Ok(Address::Socket(String::from_str(alloc, path)?)),
     }
+}
+
+/// The text of an option as it was written, where it is given.
+fn written<'a>(matches: &ArgMatches<'a>, name: &str) -> Option<&'a str>
+    ensures { option_map (λ text. text.now) result ≡ first_of name.now (rows_of (found_of matches.now)) }
+{
+    matches.get_str(name)
+}
+
+fn refused(alloc: Global, kind: ErrorKind, message: &str) -> Result<Address, Error>
+    ensures { IsErrAnd result (HasKind (kind ∷ [])) }
+{
+    Err(command(alloc)?.error(kind, message)?)
 }
 
 fn service(matches: &ArgMatches<'_>) -> Service
@@ -56,7 +99,6 @@ fn service(matches: &ArgMatches<'_>) -> Service
     ensures asked { IsServiceOf (rows_of (found_of matches.now)) result }
 {
     Service {
-        port: port(matches),
         sizes: sizes(matches),
         forever: is_given(matches, "forever"),
         delivery: delivery(matches),

@@ -1,5 +1,5 @@
 use Rattle.std.proofs.Common.{sym}
-use Rattle.tab_manager.specs.Seats.{state_of}
+use Rattle.tab_manager.specs.SessionLists.{state_of}
 use Rattle.tab_manager.proofs.OutermostLemmas as lemmas
 use Rattle.tab_manager.proofs.machine.Machine.outermost.Goals as goal
 

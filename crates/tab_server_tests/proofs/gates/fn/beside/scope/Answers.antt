@@ -8,10 +8,10 @@ use denote.Param.Send.{IsSync, sendable, plain_send, shr_send, copied_send, copi
 use denote.Param.SendFields.{declared_sync, as_row_sync}
 use Rattle.std.specs.contracts.sync.atomic.AtomicU64 as word
 use Rattle.std.proofs.Crossing.{crosses, send as heap_send}
-use Rattle.std.specs.contracts.net.tcp.TcpListener as listener
 use Rattle.tab_book.proofs.Closures.{closure_send}
 use Rattle.tab_book.proofs.Crossing.{Shared-sync}
 use Rattle.tab_book.specs.contracts.shared.Shared as shared
+use Rattle.tab_server.specs.contracts.listener.Listener as listener
 use Rattle.tab_server_tests.proofs.gates.fn.beside.scope.Goals as goal
 
 word-sync : IsSync word.the_row

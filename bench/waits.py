@@ -1,0 +1,194 @@
+#!/usr/bin/env python3
+"""How long one client can make another of `tabd serve` wait, with Python's standard library alone.
+
+    waits.py PROGRAM [ROUNDS]    as waits.py crates/tabd/out/tabd 3
+
+Each row has a server of its own. While one client does what the row names, so many times (3), another process reads one record of another
+table, again and again, in a one-shot each. The row has how often it read, and of its reads the median and the longest, in milliseconds: with
+nothing beside first, which is what the machine and the client take. The longest is that of all rounds, so other work on the machine moves it.
+"""
+
+import multiprocessing
+import os
+import sys
+import time
+
+HERE = os.path.dirname(os.path.abspath(__file__))
+sys.path.insert(0, os.path.join(HERE, "..", ".ci"))
+from memory import (  # noqa: E402
+    ALL_KEYS,
+    ALL_RECORDS,
+    DUMP,
+    MEGABYTE,
+    NO_MORE,
+    WATCHED,
+    Held,
+    ask_long,
+    bag_record,
+    fill,
+    long_reads,
+    long_record,
+    payload,
+    size_of,
+    small_record,
+    table,
+)
+from server import ATOMIC, HERE_OK, OK, Connection, same, script  # noqa: E402
+
+RECORDS, BAGGED, WRITES, DUMPS, READS, WATCHERS = 100_000, 6_000, 899, 32, 999, 60
+# A read's own record, in a table of its own.
+READ = (("transaction", [("read", "other", 1)], 0), ("atomic", [[("other", 1, 1)]]))
+# A one-shot that is told much takes so many seconds at most.
+PATIENCE = 60
+
+
+def read_on(place, ready, done, found):
+    """Reads until the other is done; how long each read took."""
+    reader, waited = Connection(place), []
+    reader.socket.settimeout(PATIENCE)
+    ready.set()
+    while not done.is_set() or len(waited) < 2:
+        begun = time.monotonic()
+        script((reader, *READ))
+        waited.append(time.monotonic() - begun)
+    found.put(waited)
+
+
+def beside(server, work):
+    """How long each read took that was made while this was done."""
+    ready, done, found = multiprocessing.Event(), multiprocessing.Event(), multiprocessing.Queue()
+    reader = multiprocessing.Process(target=read_on, args=(server.place, ready, done, found))
+    reader.start()
+    ready.wait()
+    try:
+        work()
+    finally:
+        done.set()
+    waited = found.get()
+    reader.join()
+    return waited
+
+
+def nothing(server, client):
+    return lambda: time.sleep(1)
+
+
+def asks(request, size):
+    """A request, of whose reply it is looked only whether it has so many bytes."""
+    return lambda server, client: lambda: ask_long(client, request, size)
+
+
+def long_transactions(server, client):
+    return lambda: long_reads(6, 500)(server, client)
+
+
+def many_dumps(server, client):
+    """A session subscribes with a dump and ends that, so often, and takes all of it as it comes."""
+
+    def work():
+        client.send(DUMP)
+        for _ in range(DUMPS):
+            for request in (NO_MORE, DUMP):
+                payload(client)
+                payload(client)
+                client.send(request)
+        payload(client)
+        payload(client)
+        script_end(client)
+
+    return work
+
+
+def script_end(client):
+    client.send(NO_MORE)
+    payload(client)
+    payload(client)
+
+
+def watched(server, client, count, request, size, events):
+    """A one-shot, told in detail to so many that read nothing meanwhile, and take it behind it."""
+    mirrors = [server.connect() for _ in range(count)]
+    for mirror in mirrors:
+        script((mirror, ("subscribe", WATCHED), HERE_OK))
+        same("begin marker", mirror.event()[0], "mnesia_table_begin")
+
+    def work():
+        ask_long(client, request, size)
+        for mirror in mirrors:
+            for _ in range(events):
+                payload(mirror)
+            script((mirror, NO_MORE, HERE_OK))
+            mirror.event()
+            mirror.close()
+
+    return work
+
+
+def bag_writes(server, client):
+    """To a bag's key that has them already but for the first time: they are deleted before."""
+    rows = [bag_record(BAGGED + number) for number in range(WRITES)]
+    script((client, ("transaction", [("delete_object", row) for row in rows], 0), ("atomic", [OK] * WRITES)))
+    request = ("transaction", [("write", row) for row in rows], 0)
+    return watched(server, client, 1, request, size_of(("atomic", [OK] * WRITES)), WRITES)
+
+
+def bag_deletions(server, client):
+    rows = [bag_record(number) for number in range(WRITES)]
+    script((client, ("transaction", [("write", row) for row in rows], 0), ("atomic", [OK] * WRITES)))
+    request = ("transaction", [("delete_object", row) for row in rows], 0)
+    return watched(server, client, 1, request, size_of(("atomic", [OK] * WRITES)), WRITES)
+
+
+def many_watch(server, client):
+    request = ("transaction", [("write", small_record(key)) for key in range(READS)], 0)
+    return watched(server, client, WATCHERS, request, size_of(("atomic", [OK] * READS)), READS)
+
+
+def rows():
+    """What, how its table is made, and what is done each time."""
+    small, one_key = table(small_record, RECORDS, 500), table(bag_record, BAGGED, 500, [("type", "bag")])
+    keys, records = list(range(RECORDS)), [small_record(key) for key in range(RECORDS)]
+    indexed = [("t", key, 7) for key in range(RECORDS)]
+
+    def with_index(client):
+        script((client, ("create_table", "t", [("index", ["val"])]), ATOMIC))
+        fill(client, lambda key: indexed[key], RECORDS, 500)
+
+    yield "nothing", small, nothing
+    yield "6 transactions of 500 reads of a record of 1 MB", table(long_record(MEGABYTE), 1), long_transactions
+    yield f"all_keys, {RECORDS} records", small, asks(("transaction", [ALL_KEYS], 0), size_of(("atomic", [keys])))
+    yield f"match_object that finds all, {RECORDS} records", small, asks(("transaction", [ALL_RECORDS], 0), size_of(("atomic", [records])))
+    none = ("match_object", ("t", "_", "none"))
+    yield f"match_object that finds none, {RECORDS} records", small, asks(("transaction", [none], 0), size_of(("atomic", [[]])))
+    half = ("match_object", ("t", "_", 7))
+    mixed = [("t", key, 7 + key % 2) for key in range(RECORDS)]
+    yield (f"match_object that finds half, {RECORDS} records", table(lambda key: mixed[key], RECORDS, 500),
+           asks(("transaction", [half], 0), size_of(("atomic", [mixed[::2]]))))
+    yield f"index_read that finds all, {RECORDS} records", with_index, asks(("transaction", [("index_read", "t", 7, "val")], 0), size_of(("atomic", [indexed])))
+    yield f"a one-shot of {READS} all_keys, {RECORDS} records", small, asks(("transaction", [ALL_KEYS] * READS, 0), size_of(("atomic", [keys] * READS)))
+    yield f"{DUMPS} dumps, {RECORDS} records", small, many_dumps
+    yield f"a one-shot of {WRITES} writes to a bag's key of {BAGGED}, told in detail", one_key, bag_writes
+    yield f"a one-shot of {WRITES} deletions there, told in detail", one_key, bag_deletions
+    yield f"a one-shot of {READS} writes, told in detail to {WATCHERS}", small, many_watch
+
+
+def main():
+    if len(sys.argv) not in (2, 3):
+        sys.exit(__doc__)
+    rounds = int(sys.argv[2]) if len(sys.argv) == 3 else 3
+    print("what | reads | median | longest")
+    for what, make, prepare in rows():
+        waited = []
+        with Held(os.path.abspath(sys.argv[1])) as server:
+            client = server.connect()
+            client.socket.settimeout(PATIENCE)
+            script((client, ("create_table", "other", []), ATOMIC), (client, ("transaction", [("write", ("other", 1, 1))], 0), ("atomic", [OK])))
+            make(client)
+            for _ in range(rounds):
+                waited += beside(server, prepare(server, client))
+        waited.sort()
+        print(f"{what} | {len(waited)} | {waited[len(waited) // 2] * 1000:.2f} | {waited[-1] * 1000:.1f}", flush=True)
+
+
+if __name__ == "__main__":
+    main()
