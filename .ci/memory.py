@@ -4,11 +4,12 @@
     memory.py PROGRAM
 
 What is read is shared with the table: what the journal's entries were told, and what waits in an outbox, takes little beside the table, and is
-given back when the last of them lets it go. bench/memory.py measures more of it. Each case has a server of its own. One line tells each case
+given back when the last of them lets it go; what is not shared finds no memory where the system gives none. bench/memory.py measures more of it. Each case has a server of its own. One line tells each case
 that differs; the last line is `N passed, M failed`, and the status 1 where one failed.
 """
 
 import os
+import resource
 import sys
 import threading
 import time
@@ -280,33 +281,60 @@ def bag_writes(records, count):
     return hold
 
 
-def rows(count):
+def of_ten(number):
+    """One of ten of its key."""
+    return ("t", number // 10, number)
+
+
+def rows(record, count):
     """A table of so many, which the tables that the journal starts from have too."""
 
     def hold(server, client):
-        fill(client, small_record, count, 500)
+        fill(client, record, count, 500)
         commit_nothing(client)
         return server.kilobytes()
 
     return hold
 
 
+# What the system gives a server beside what it has: some of the answers below, and not all of them.
+ROOM = 60_000_000
+
+
+def no_more_memory(server):
+    """What one client asks for finds no memory, and is told so; others are served, nothing has changed, and with more memory it is answered."""
+    client, other = server.connect(), server.connect()
+    records = [("t", key, key % 2) for key in range(20_000)]
+    table(lambda key: records[key], len(records), 500)(client)
+    asked = ("transaction", [("match_object", ("t", "_", 1))] * 999, 0)
+    resource.prlimit(server.process.pid, resource.RLIMIT_AS, (server.kilobytes("VmSize") * 1024 + ROOM, resource.RLIM_INFINITY))
+    for number in range(3):
+        script(
+            (client, asked, ("error", "no_memory")),
+            (other, ("transaction", [write(0, number), ("read", "t", 0)], 0), ("atomic", [OK, [("t", 0, number)]])),
+        )
+    resource.prlimit(server.process.pid, resource.RLIMIT_AS, (resource.RLIM_INFINITY, resource.RLIM_INFINITY))
+    ask_long(client, asked, size_of(("atomic", [[record for record in records if record[2] == 1]] * 999)))
+
+
 # Thirty megabytes.
 LONG, MANY = long_record(100_000), 300
 # A name, a bound in kilobytes, and further words of the server: one that copies what it tells holds more than 150,000 in each, one
-# that builds an item before it sends it some 30,000 in each that is on its way, and one whose journal copies its rows more than 70,000.
+# that builds an item before it sends it some 30,000 in each that is on its way, and one whose journal copies its rows some 70,000.
 CASES = [
     ("reads of a long record", within(30_000, table(long_record(MEGABYTE), 1), long_reads(1, 200))),
     ("all keys", within(30_000, table(small_record, 20_000), whole_reads(ALL_KEYS, list(range(20_000)), 300))),
     ("all keys behind a write", within(30_000, table(small_record, 20_000), whole_reads(ALL_KEYS, list(range(20_000)), 300, True))),
     ("match_object of all", within(30_000, table(small_record, 20_000), whole_reads(ALL_RECORDS, list(map(small_record, range(20_000))), 100))),
     ("a one-shot's answers", within(30_000, table(small_record, 20_000), answers(300, list(range(20_000))))),
-    ("rows of a server", within(58_000, table(small_record, 1), rows(100_000)), "--journal", "16"),
+    ("rows of a server", within(58_000, table(small_record, 1), rows(small_record, 100_000)), "--journal", "16"),
+    ("rows of a bag", within(55_000, table(of_ten, 1, options=[("type", "bag")]), rows(of_ten, 100_000)), "--journal", "16"),
     ("dumps in an outbox", within(30_000, table(long_record(100_000), 50), dumps(32, [long_record(100_000)(key) for key in range(50)]))),
     ("a dump on its way", within(8_000, table(LONG, MANY), dumps(1, list(map(LONG, range(MANY)))))),
     ("old records on their way", within(8_000, table(LONG, MANY), old_records(LONG, MANY))),
     ("writes to a bag's key", within(30_000, table(bag_record, 3_000, options=[("type", "bag")]), bag_writes(3_000, 100))),
     ("the last lets go", let_go),
+    ("no more memory", no_more_memory),
 ]
 
 

@@ -1,0 +1,2 @@
+pub mod MirrorsLemmas
+pub mod SpellingLemmas

@@ -1,0 +1,5 @@
+pub mod Faults
+pub mod Payloads
+pub mod Replies
+pub mod Mirrors
+pub mod Endings

@@ -1,0 +1,27 @@
+//! One command of a session of a core.
+
+ghost use Rattle.std.specs.Prelude.{◌≡◌, IfOk, OnErr};
+ghost use Rattle.tab_model.specs.State.{IsSound};
+ghost use Rattle.tab_uses.specs.Replies.{IsAnswered};
+
+use std::alloc::AllocError;
+use tab_core::{Core, Step};
+use tab_model::{Command, SharedReply};
+use tab_outbox::Post;
+
+/// What the session is told. A refusal is a reply too; the error is that of memory alone, and the command may be asked
+/// again.
+///
+/// Of a one-shot this is the begin of its transaction.
+pub fn reply_to<P: Post + Drop>(
+    core: &mut Core<P>,
+    session: u32,
+    command: Command,
+) -> Result<SharedReply, AllocError>
+    ensures answered { IfOk result (λ r. IsAnswered core.old session command r core.new) }
+    ensures err { OnErr result (core.new ≡ core.old) }
+    ensures sound { IsSound core.new }
+{
+    let stepped = core.step(session, Step::Do(command))?;
+    Ok(stepped.into_reply())
+}

@@ -1,0 +1,55 @@
+//! A run of steps, and a command behind it.
+
+use crate::{core_after, reply_to};
+use std::alloc::{AllocError, Global};
+use std::test::Fail;
+use tab_core::{Core, Step};
+use tab_model::{Command, Limits, Reply, SharedReply};
+use tab_outbox::RingPost;
+
+static LIMITS: Limits = Limits {
+    sessions: 1,
+    nesting: 1,
+    operations: 3,
+    tables: 2,
+    ages: 9223372036854775807,
+    journal: 1024,
+};
+
+/// A session joins, begins, and commits.
+fn run(alloc: Global) -> Result<(Core<RingPost>, Vec<SharedReply>), AllocError> {
+    let mut steps = Vec::with_capacity(alloc, 3)?;
+    let post = RingPost::with_capacity(alloc, 2)?;
+    steps.push_reserved((1, Step::Join(post)));
+    steps.push_reserved((1, Step::Do(Command::Begin)));
+    steps.push_reserved((1, Step::Do(Command::Commit)));
+    core_after(alloc, LIMITS, steps)
+}
+
+/// What a reply is in one number.
+fn number(told: &SharedReply) -> u64 {
+    match told.reply() {
+        Reply::Done => 10,
+        Reply::NoTransaction => 11,
+        Reply::Tid(age) => age.saturating_add(20),
+        Reply::Atomic(commit) => commit.saturating_add(30),
+        _ => 0,
+    }
+}
+
+#[test]
+fn steps_are_answered(rt: HostRuntime) -> Result<(), Fail> {
+    let (mut core, told) = run(rt.alloc())?;
+    let right = match told.as_slice() {
+        [joined, begun, committed] => {
+            number(joined) == 10 && number(begun) == 21 && number(committed) == 31
+        }
+        _ => false,
+    };
+    assert!(rt; right, "join, begin, commit");
+    let refused = reply_to(&mut core, 1, Command::Commit)?;
+    assert!(rt; number(&refused) == 11, "no transaction is open");
+    let begun = reply_to(&mut core, 1, Command::Begin)?;
+    assert!(rt; number(&begun) == 22, "the second begin");
+    Ok(())
+}

@@ -1,0 +1,91 @@
+//! A write in a transaction of its own, at a book that others use meanwhile.
+
+ghost use Rattle.std.specs.Prelude.{◌≡◌, false, IfOk};
+ghost use Rattle.tab_uses.specs.Endings.{is_commit};
+
+use std::alloc::{AllocError, Global};
+use tab_book::{Seat, Shared};
+use tab_model::{Command, Operation, Reply};
+use tab_names::Host;
+use tab_term::Term;
+
+/// How a write ended.
+#[derive(Clone, Copy, Debug, PartialEq, Eq)]
+pub enum Ending {
+    /// It is committed: the number of its commit, from 1 on.
+    Commit(u64),
+    /// It was refused, as a record of no table is.
+    Refusal,
+    /// It was told to restart each time.
+    Restart,
+}
+
+/// So many naps of 20 milliseconds who was told to restart rests at most.
+const NAPS: u32 = 50;
+
+/// Writes the record in a transaction of its own. The session has none open, neither before nor after it. Where the
+/// write is told to restart, the session rests and asks it once more, at most so many times in all; a lock that younger
+/// ones hold is waited for, without an end.
+///
+/// At the error memory was refused, and nothing is written.
+// What others do meanwhile decides what the book answers, and so the calls of `Shared` say nothing of it: this says no
+// more than that no write is committed which was never asked. Whoever wants to know what stands there now holds the book
+// (`Shared::hold`), and has the contracts of `Book`.
+pub fn write_alone<H: Host>(
+    host: &H,
+    alloc: Global,
+    shared: &Shared<H>,
+    seat: &Seat,
+    row: &Term,
+    attempts: u32,
+) -> Result<Ending, AllocError>
+    ensures { attempts ≡ 0 → IfOk result (λ e. is_commit e ≡ false) }
+{
+    let begun = shared.call(host, seat, Command::Begin)?;
+    if !matches!(begun.reply(), Reply::Tid(_)) {
+        return Ok(Ending::Refusal);
+    }
+    let ending = ending_of(host, alloc, shared, seat, row, attempts);
+    if !matches!(ending, Ok(Ending::Commit(_))) {
+        give_up(host, shared, seat);
+    }
+    ending
+}
+
+fn ending_of<H: Host>(
+    host: &H,
+    alloc: Global,
+    shared: &Shared<H>,
+    seat: &Seat,
+    row: &Term,
+    attempts: u32,
+) -> Result<Ending, AllocError>
+    ensures { attempts ≡ 0 → IfOk result (λ e. is_commit e ≡ false) }
+{
+    for _ in 0..attempts {
+        let write = Command::Do(Operation::Write(row.try_clone(alloc)?));
+        match shared.call(host, seat, write)?.reply() {
+            Reply::Done => return commit(host, shared, seat),
+            Reply::Restart => {
+                shared.rest(host, seat, NAPS);
+            }
+            _ => return Ok(Ending::Refusal),
+        }
+    }
+    Ok(Ending::Restart)
+}
+
+fn commit<H: Host>(host: &H, shared: &Shared<H>, seat: &Seat) -> Result<Ending, AllocError> {
+    match shared.call(host, seat, Command::Commit)?.reply() {
+        Reply::Atomic(number) => Ok(Ending::Commit(*number)),
+        _ => Ok(Ending::Refusal),
+    }
+}
+
+/// Ends the transaction, where one is open. No memory is needed for it: an abort is never refused.
+fn give_up<H: Host>(host: &H, shared: &Shared<H>, seat: &Seat) {
+    match shared.step(host, seat, Command::Abort(Term::Int(0))) {
+        Ok(told) => drop(told),
+        Err(_) => unreachable!(),
+    }
+}
