@@ -1,11 +1,12 @@
 #!/usr/bin/env python3
 """How long one client can make another of `tabd serve` wait, with Python's standard library alone.
 
-    waits.py PROGRAM [ROUNDS]    as waits.py crates/tabd/out/tabd 3
+    waits.py PROGRAM [ROUNDS [CLIENTS]]    as waits.py crates/tabd/out/tabd 3 16
 
 Each row has a server of its own. While one client does what the row names, so many times (3), another process reads one record of another
 table, again and again, in a one-shot each. The row has how often it read, and of its reads the median and the longest, in milliseconds: with
 nothing beside first, which is what the machine and the client take. The longest is that of all rounds, so other work on the machine moves it.
+Where more CLIENTS than one are given, so many ask at once, and only the rows whose request each of them can make stand there.
 """
 
 import multiprocessing
@@ -33,7 +34,7 @@ from memory import (  # noqa: E402
     small_record,
     table,
 )
-from server import ATOMIC, HERE_OK, OK, Connection, same, script  # noqa: E402
+from server import ATOMIC, HERE_OK, OK, Connection, same, script, side_by_side  # noqa: E402
 
 RECORDS, BAGGED, WRITES, DUMPS, READS, WATCHERS = 100_000, 6_000, 899, 32, 999, 60
 # A read's own record, in a table of its own.
@@ -75,7 +76,20 @@ def nothing(server, client):
 
 def asks(request, size):
     """A request, of whose reply it is looked only whether it has so many bytes."""
-    return lambda server, client: lambda: ask_long(client, request, size)
+
+    def ask(server, client):
+        return lambda: ask_long(client, request, size)
+
+    return ask
+
+
+def at_once(server, client, prepare, count):
+    """So many clients that each do this."""
+    clients = [client, *(server.connect() for _ in range(count - 1))]
+    for other in clients:
+        other.socket.settimeout(PATIENCE)
+    works = [prepare(server, other) for other in clients]
+    return lambda: side_by_side([(work, ()) for work in works])
 
 
 def long_transactions(server, client):
@@ -144,7 +158,7 @@ def many_watch(server, client):
     return watched(server, client, WATCHERS, request, size_of(("atomic", [OK] * READS)), READS)
 
 
-def rows():
+def rows(alone):
     """What, how its table is made, and what is done each time."""
     small, one_key = table(small_record, RECORDS, 500), table(bag_record, BAGGED, 500, [("type", "bag")])
     keys, records = list(range(RECORDS)), [small_record(key) for key in range(RECORDS)]
@@ -155,7 +169,8 @@ def rows():
         fill(client, lambda key: indexed[key], RECORDS, 500)
 
     yield "nothing", small, nothing
-    yield "6 transactions of 500 reads of a record of 1 MB", table(long_record(MEGABYTE), 1), long_transactions
+    if alone:
+        yield "6 transactions of 500 reads of a record of 1 MB", table(long_record(MEGABYTE), 1), long_transactions
     yield f"all_keys, {RECORDS} records", small, asks(("transaction", [ALL_KEYS], 0), size_of(("atomic", [keys])))
     yield f"match_object that finds all, {RECORDS} records", small, asks(("transaction", [ALL_RECORDS], 0), size_of(("atomic", [records])))
     none = ("match_object", ("t", "_", "none"))
@@ -165,6 +180,8 @@ def rows():
     yield (f"match_object that finds half, {RECORDS} records", table(lambda key: mixed[key], RECORDS, 500),
            asks(("transaction", [half], 0), size_of(("atomic", [mixed[::2]]))))
     yield f"index_read that finds all, {RECORDS} records", with_index, asks(("transaction", [("index_read", "t", 7, "val")], 0), size_of(("atomic", [indexed])))
+    if not alone:
+        return
     yield f"a one-shot of {READS} all_keys, {RECORDS} records", small, asks(("transaction", [ALL_KEYS] * READS, 0), size_of(("atomic", [keys] * READS)))
     yield f"{DUMPS} dumps, {RECORDS} records", small, many_dumps
     yield f"a one-shot of {WRITES} writes to a bag's key of {BAGGED}, told in detail", one_key, bag_writes
@@ -173,11 +190,11 @@ def rows():
 
 
 def main():
-    if len(sys.argv) not in (2, 3):
+    if len(sys.argv) not in (2, 3, 4):
         sys.exit(__doc__)
-    rounds = int(sys.argv[2]) if len(sys.argv) == 3 else 3
+    rounds, count = [int(word) for word in sys.argv[2:]] + [3, 1][len(sys.argv) - 2 :]
     print("what | reads | median | longest")
-    for what, make, prepare in rows():
+    for what, make, prepare in rows(count == 1):
         waited = []
         with Held(os.path.abspath(sys.argv[1])) as server:
             client = server.connect()
@@ -185,7 +202,7 @@ def main():
             script((client, ("create_table", "other", []), ATOMIC), (client, ("transaction", [("write", ("other", 1, 1))], 0), ("atomic", [OK])))
             make(client)
             for _ in range(rounds):
-                waited += beside(server, prepare(server, client))
+                waited += beside(server, at_once(server, client, prepare, count))
         waited.sort()
         print(f"{what} | {len(waited)} | {waited[len(waited) // 2] * 1000:.2f} | {waited[-1] * 1000:.1f}", flush=True)
 
