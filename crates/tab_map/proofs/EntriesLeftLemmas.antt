@@ -1,17 +1,15 @@
 -- What an iterator has left, from each place of a map's entries on.
-use Rattle.std.proofs.Common.{◌≡◌, List, [], ◌∷◌, ◌++◌, refl, sym, ap, ◌∙◌, subst, Option, Some, slice_get, length, ◌<◌, ◌≤◌, arith}
+use Rattle.std.proofs.Common.{◌≡◌, List, [], ◌∷◌, ◌++◌, refl, sym, ap, ◌∙◌, subst, Some, slice_get, length, ◌<◌, arith}
 use Rattle.std.specs.declared.cmp.Ordering.{Ordering}
 use Rattle.std.specs.declared.cmp.Ordering.TheVariants.{Less, Equal, Greater}
 use Rattle.std.specs.Ordering.{match_ordering}
 use Rattle.std.specs.Cmp.{IsTotalOrder}
-use Rattle.std.specs.Option.{option_copied}
-use denote.Ref.{Bor}
 use Rattle.std.proofs.lemmas.Cmp.{tied_itself}
 use Rattle.tab_map.specs.Entries.{entries_from, entries_above, Ascends}
 use Rattle.tab_map.specs.declared.ahead.Ahead.{Ahead}
-use Rattle.tab_map.specs.Ahead.{Begins, AreAhead}
+use Rattle.tab_map.specs.Ahead.{AreAhead, first_known}
 use Rattle.tab_map.specs.InOrder.{entries_left}
-use Rattle.tab_map.proofs.AheadLemmas.{begins_first, begins_more}
+use Rattle.tab_map.proofs.AheadLemmas.{ahead_first}
 use Rattle.tab_map.proofs.AscendsLemmas.{above_later}
 
 module _ {K V : Type 0} (cmp : K → K → Ordering) where
@@ -34,6 +32,10 @@ module _ {K V : Type 0} (cmp : K → K → Ordering) where
         | Greater ↦ let h = from_last k es in (e ∷ h.0, ap (λ z. e ∷ z) h.1)
       ]
 
+  -- at the end none is left
+  pub left_none : (es left : List (K × V)) → left ≡ [] → entries_left cmp es (slice_get left 0) ≡ left
+  left_none es left p = ap (λ z. entries_left cmp es (slice_get z 0)) p ∙ sym p
+
 module _ {K V : Type 0} {cmp : K → K → Ordering} (o : IsTotalOrder cmp) where
   left_at : (l t : List (K × V)) → Ascends cmp (l ++ t) → entries_left cmp (l ++ t) (slice_get t 0) ≡ t
   left_at l [] s = refl
@@ -53,23 +55,21 @@ module _ {K V : Type 0} {cmp : K → K → Ordering} (o : IsTotalOrder cmp) wher
       subst (λ z. Ascends cmp z → entries_left cmp z (slice_get (entries_from cmp k es) 0) ≡ entries_from cmp k es) h.1 (left_at h.0 (entries_from cmp k es)) s
 
   -- what is left is what is ahead
-  pub left_is : (es xs : List (K × V)) (a : Ahead K V) → entries_left cmp es (slice_get xs 0) ≡ xs → AreAhead a xs → entries_left cmp es (option_copied a.next) ≡ xs
-  left_is es xs a p f = ap (entries_left cmp es) (begins_first (option_copied a.next) a.row.now xs f) ∙ p
+  pub left_is : (es xs : List (K × V)) (a : Ahead K V) → entries_left cmp es (slice_get xs 0) ≡ xs → AreAhead a xs → entries_left cmp es (first_known a) ≡ xs
+  left_is es xs a p f = ap (entries_left cmp es) (ahead_first a xs f) ∙ p
 
-  pub left_ahead : (es xs : List (K × V)) (a : Ahead K V) → entries_left cmp es (slice_get xs 0) ≡ xs → AreAhead a xs → AreAhead a (entries_left cmp es (option_copied a.next))
+  pub left_ahead : (es xs : List (K × V)) (a : Ahead K V) → entries_left cmp es (slice_get xs 0) ≡ xs → AreAhead a xs → AreAhead a (entries_left cmp es (first_known a))
   left_ahead es xs a p f = subst (AreAhead a) (sym (left_is es xs a p f)) f
 
-  -- a step of the iterator over e, which came next, to what is ahead then
-  pub left_step : (es now : List (K × V)) (next : Option (Bor (K × V))) (e : Bor (K × V)) (a : Ahead K V) → Ascends cmp es → entries_left cmp es (option_copied next) ≡ now → next ≡ Some e → AreAhead a (entries_above cmp e.now.0 es) → now ≡ e.now ∷ entries_left cmp es (option_copied a.next)
-  left_step es now next e a s view_is is f =
-      sym view_is ∙ ap (λ z. entries_left cmp es (option_copied z)) is ∙ ap (λ z. e.now ∷ z) (sym (left_is es (entries_above cmp e.now.0 es) a (left_above e.now.0 es s) f))
+  -- behind e, which came next, the entries above it are left
+  pub left_behind : (es rest : List (K × V)) (a : Ahead K V) (e : K × V) → AreAhead a (entries_left cmp es (first_known a)) → entries_left cmp es (first_known a) ≡ e ∷ rest → rest ≡ entries_above cmp e.0 es
+  left_behind es rest a e f p =
+      let q : first_known a ≡ Some e = ahead_first a (entries_left cmp es (first_known a)) f ∙ ap (λ z. slice_get z 0) p in
+      let r : e ∷ entries_above cmp e.0 es ≡ e ∷ rest = sym (ap (entries_left cmp es) q) ∙ p in
+      cc
 
-  -- the row behind e is above e
-  pub row_above : (es : List (K × V)) (a b : Ahead K V) (e : Bor (K × V)) → a.next ≡ Some e → AreAhead a (entries_left cmp es (option_copied a.next)) → AreAhead b a.row.now → 1 ≤ length a.row.now → AreAhead b (entries_above cmp e.now.0 es)
-  row_above es a b e p f g some =
-      let h = subst (λ z. Begins (option_copied z) a.row.now (entries_left cmp es (option_copied z))) p f in
-      let q : entries_above cmp e.now.0 es ≡ a.row.now ++ h.0 = cc (h.1) in
-      subst (AreAhead b) (sym q) (begins_more (option_copied b.next) b.row.now a.row.now h.0 g some)
+  pub left_rest : (es rest : List (K × V)) (e : K × V) → Ascends cmp es → rest ≡ entries_above cmp e.0 es → entries_left cmp es (slice_get rest 0) ≡ rest
+  left_rest es rest e s p = subst (λ z. entries_left cmp es (slice_get z 0) ≡ z) (sym p) (left_above e.0 es s)
 
 pub fewer : {A : Type 0} (xs ys : List A) (x : A) → xs ≡ x ∷ ys → length ys < length xs
 fewer xs ys x p = rw p (omega arith)

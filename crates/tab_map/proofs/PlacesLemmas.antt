@@ -25,7 +25,7 @@ module _ {A : Type 0} where
   get_next [] e m = refl
   get_next (x ∷ l) e m = get_next l e m
 
-  drop_next : (l : List A) (e : A) (m : List A) → drop (suc (length l)) (l ++ e ∷ m) ≡ m
+  pub drop_next : (l : List A) (e : A) (m : List A) → drop (suc (length l)) (l ++ e ∷ m) ≡ m
   drop_next [] e m = refl
   drop_next (x ∷ l) e m = drop_next l e m
 

@@ -1,52 +1,121 @@
 //! Where a walk over a map stands.
-ghost use Rattle.std.specs.Prelude.{List, ◌∷◌, ◌++◌};
-ghost use Rattle.tab_map.specs.Ahead.{AreAhead};
+ghost use Rattle.std.specs.Prelude.{◌≡◌, ◌≤◌, List, [], ◌++◌, IsTrue, length, drop};
+ghost use Rattle.std.specs.Option.{option_copied};
+ghost use Rattle.tab_map.specs.Ahead.{AreAhead, MayBeAhead, Steps, behind, first_known};
 
 use crate::entry::Entry;
+use crate::{Branch, Map, Node};
 use tab_key::Abbreviate;
 
-/// What is ahead in a map: the entry that comes next, and the entries of its row behind it. The entry of a branch
-/// stands in no row, so none are behind it.
+/// What is ahead in a map: the entries of a row, and behind them what is known of the node above the row.
 #[derive(Drop)]
 pub struct Ahead<'a, K: Abbreviate, V> {
-    pub next: Option<&'a Entry<K, V>>,
     pub row: &'a [Entry<K, V>],
+    /// Nothing comes behind the row, where no node is given.
+    pub node: Option<Siblings<'a, K, V>>,
+}
+
+/// The branches of a node from the one above a row on, and the node's last child. Where no branch is left, more
+/// entries may come, of which nothing is known.
+#[derive(Drop)]
+pub struct Siblings<'a, K: Abbreviate, V> {
+    branches: &'a [Branch<K, V>],
+    last: &'a Map<K, V>,
+}
+
+impl<'a, K: Abbreviate + Drop, V: Drop> Siblings<'a, K, V> {
+    /// The branches of a node from this place on.
+    pub fn new(node: &'a Node<K, V>, n: usize) -> Siblings<'a, K, V>
+        requires { n ≤ length node.now.branches.items }
+        ensures branches { result.branches.now ≡ drop n node.now.branches.items }
+        ensures last { result.last.now ≡ node.now.last }
+    {
+        Siblings {
+            branches: &node.branches[n..],
+            last: &node.last,
+        }
+    }
 }
 
 impl<'a, K: Abbreviate + Drop, V: Drop> Ahead<'a, K, V> {
-    /// What the entries of a row, or those from one of them on, begin with.
-    pub fn in_row(items: &'a [Entry<K, V>]) -> Ahead<'a, K, V>
-        ensures { AreAhead result items.now }
+    /// The entries of a row, or those from one of them on, and nothing behind them.
+    pub fn in_row(row: &'a [Entry<K, V>]) -> Ahead<'a, K, V>
+        ensures { AreAhead result row.now }
     {
-        match items {
-            [] => Ahead {
-                next: None,
-                row: items,
-            },
-            [next, row @ ..] => Ahead {
-                next: Some(next),
-                row,
+        Ahead { row, node: None }
+    }
+
+    /// What is ahead below the first branch of these, then the branch's entry and what comes behind it.
+    pub fn then(mut self, siblings: Siblings<'a, K, V>) -> Ahead<'a, K, V>
+        ensures ahead { (below : List (K × V)) → AreAhead self.entry below → 1 ≤ length siblings.entry.branches.now → AreAhead result (below ++ behind siblings.entry.branches.now siblings.entry.last.now) }
+        ensures more { (below after : List (K × V)) → AreAhead self.entry below → MayBeAhead result (below ++ behind siblings.entry.branches.now siblings.entry.last.now ++ after) }
+    {
+        if self.node.is_none() {
+            self.node = Some(siblings);
+        }
+        self
+    }
+
+    /// The entry that comes next.
+    pub fn first(&self) -> Option<&'a Entry<K, V>>
+        ensures { option_copied result ≡ first_known self.now }
+    {
+        if let [entry, ..] = self.row {
+            return Some(entry);
+        }
+        match &self.node {
+            None => None,
+            Some(node) => match node.branches {
+                [] => None,
+                [branch, ..] => Some(&branch.entry),
             },
         }
     }
 
-    /// The entry of a branch.
-    pub fn entry(entry: &'a Entry<K, V>) -> Ahead<'a, K, V>
-        ensures { (after : List (K × V)) → AreAhead result (entry.now ∷ after) }
+    /// Steps over the entry that comes next, and gives it.
+    pub fn step(&mut self) -> Option<&'a Entry<K, V>>
+        ensures { (es : List (K × V)) → AreAhead self.old es → Steps (option_copied result) self.new es }
     {
-        Ahead {
-            next: Some(entry),
-            row: &[],
+        match self.row {
+            [entry, row @ ..] => {
+                self.row = row;
+                Some(entry)
+            }
+            [] => self.step_to_child(),
         }
     }
 
-    /// What is ahead below a branch, or the branch's entry, where nothing is.
-    pub fn or_entry(self, entry: &'a Entry<K, V>) -> Ahead<'a, K, V>
-        ensures { (below after : List (K × V)) → AreAhead self.entry below → AreAhead result (below ++ entry.now ∷ after) }
+    // At the end of a row the entry of its branch comes next, and behind that what is below the next branch, or the last
+    // child.
+    fn step_to_child(&mut self) -> Option<&'a Entry<K, V>>
+        requires { length self.old.row.now ≡ 0 }
+        ensures { (es : List (K × V)) → AreAhead self.old es → Steps (option_copied result) self.new es }
     {
-        match self.next {
-            None => Ahead::entry(entry),
-            Some(_) => self,
+        let Some(node) = &self.node else {
+            return None;
+        };
+        let [branch, branches @ ..] = node.branches else {
+            return None;
+        };
+        let last = node.last;
+        let child = match branches {
+            [] => last,
+            [next, ..] => &next.below,
+        };
+        *self = child.start().then(Siblings { branches, last });
+        Some(&branch.entry)
+    }
+
+    /// Whether the entry that comes next is known, or none comes.
+    pub fn is_known(&self) -> bool
+        ensures { (es : List (K × V)) → IsTrue result → MayBeAhead self.now es → AreAhead self.now es }
+    {
+        if !self.row.is_empty() {
+            return true;
+        }
+        match &self.node {
+            None => true,
+            Some(node) => !node.branches.is_empty(),
         }
     }
 }

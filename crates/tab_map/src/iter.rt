@@ -1,4 +1,9 @@
 //! Iterators over a map's entries, which take no memory.
+//!
+//! A step takes the next entry of a row. At the end of the row it takes the entry of the row's branch, and goes on to what
+//! is below the next branch of the same node, or to the node's last child. Behind the last child it searches the map for
+//! the first entry above the last one, in O(log n): no comparison of keys comes but there, once in some hundreds of
+//! entries.
 ghost use Rattle.std.specs.Prelude.{◌≡◌, [], slice_get};
 ghost use Rattle.std.specs.Iterator.{YieldsFirstRef, item_count};
 ghost use Rattle.std.specs.Option.{option_copied};
@@ -12,9 +17,6 @@ use std::marker::Model;
 use tab_key::Abbreviate;
 
 /// The entries of a map in the order of their keys, seen as the list of those that are left.
-///
-/// Within a row a step takes the entry behind the last one. At the end of a row, and from the entry of a branch, it
-/// searches the map for the first entry above the last one, in O(log n).
 #[derive(Drop)]
 pub struct Iter<'a, K: Abbreviate, V> {
     map: &'a Map<K, V>,
@@ -26,15 +28,14 @@ impl<'a, K: Abbreviate, V> Model for Iter<'a, K, V> {
 
     ghost Value = { List (K × V) };
 
-    ghost use Rattle.std.specs.Option.{option_copied};
+    ghost use Rattle.tab_map.specs.Ahead.{AreAhead, first_known};
     ghost use Rattle.tab_map.specs.InOrder.{entries_left};
 
-    ghost view = { λ it. entries_left K.cmp it.map.now (option_copied it.ahead.next) };
+    ghost view = { λ it. entries_left K.cmp it.map.now (first_known it.ahead) };
 
     ghost use Rattle.tab_map.specs.Entries.{Ascends};
-    ghost use Rattle.tab_map.specs.Ahead.{AreAhead};
 
-    ghost invariant = { λ it. Ascends K.cmp it.map.now × AreAhead it.ahead (entries_left K.cmp it.map.now (option_copied it.ahead.next)) };
+    ghost invariant = { λ it. Ascends K.cmp it.map.now × AreAhead it.ahead (entries_left K.cmp it.map.now (first_known it.ahead)) };
 }
 
 impl<K: Abbreviate + Drop, V: Drop> Map<K, V> {
@@ -66,7 +67,7 @@ impl<'a, K: Abbreviate + Drop, V: Drop> Iter<'a, K, V> {
     pub fn peek(&self) -> Option<&'a Entry<K, V>>
         ensures { option_copied result ≡ slice_get self.now 0 }
     {
-        self.ahead.next
+        self.ahead.first()
     }
 
     /// An iterator over the same map that is at its end.
@@ -88,11 +89,10 @@ impl<'a, K: Abbreviate + Drop, V: Drop> Iterator for Iter<'a, K, V> {
     ghost remaining = { item_count (λ left. left) };
 
     fn next(&mut self) -> Option<&'a Entry<K, V>> {
-        let entry = self.ahead.next?;
-        self.ahead = match self.ahead.row {
-            [] => self.map.next_above(&entry.sought()),
-            row => Ahead::in_row(row),
-        };
+        let entry = self.ahead.step()?;
+        if !self.ahead.is_known() {
+            self.ahead = self.map.next_above(&entry.sought());
+        }
         Some(entry)
     }
 }

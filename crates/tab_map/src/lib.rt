@@ -27,7 +27,7 @@ mod row;
 mod set;
 mod split;
 
-use ahead::Ahead;
+use ahead::{Ahead, Siblings};
 pub use entry::Entry;
 use entry::Sought;
 pub use iter::Iter;
@@ -240,7 +240,7 @@ impl<K: Abbreviate + Drop, V: Drop> Map<K, V> {
         ensures entry { option_copied result ≡ slice_get self.now 0 }
         ensures ascends { Ascends K.cmp self.now }
     {
-        self.start().next
+        self.start().first()
     }
 
     // The whole map is ahead.
@@ -253,7 +253,7 @@ impl<K: Abbreviate + Drop, V: Drop> Map<K, V> {
             Tree::Leaf(items) => Ahead::in_row(items.as_slice()),
             Tree::Node(node) => match node.branches.as_slice() {
                 [] => Ahead::in_row(&[]),
-                [branch, ..] => branch.below.start().or_entry(&branch.entry),
+                [branch, ..] => branch.below.start().then(Siblings::new(node, 0)),
             },
         }
     }
@@ -263,7 +263,7 @@ impl<K: Abbreviate + Drop, V: Drop> Map<K, V> {
         ensures entry { option_copied result ≡ slice_get (entries_from K.cmp key.now self.now) 0 }
         ensures ascends { Ascends K.cmp self.now }
     {
-        self.next_from(&Sought::new(key)).next
+        self.next_from(&Sought::new(key)).first()
     }
 
     fn next_from(&self, sought: &Sought<K>) -> Ahead<'_, K, V>
@@ -274,9 +274,9 @@ impl<K: Abbreviate + Drop, V: Drop> Map<K, V> {
             Tree::Empty => Ahead::in_row(&[]),
             Tree::Leaf(items) => row::next_from(items.as_slice(), sought),
             Tree::Node(node) => match branches::place(&node.branches, sought) {
-                Ok(n) => Ahead::entry(&node.branches[n].entry),
+                Ok(n) => Ahead::in_row(&[]).then(Siblings::new(node, n)),
                 Err(n) => match node.branches.get(n) {
-                    Some(branch) => branch.below.next_from(sought).or_entry(&branch.entry),
+                    Some(branch) => branch.below.next_from(sought).then(Siblings::new(node, n)),
                     None => node.last.next_from(sought),
                 },
             },
@@ -288,7 +288,7 @@ impl<K: Abbreviate + Drop, V: Drop> Map<K, V> {
         ensures entry { option_copied result ≡ slice_get (entries_above K.cmp key.now self.now) 0 }
         ensures ascends { Ascends K.cmp self.now }
     {
-        self.next_above(&Sought::new(key)).next
+        self.next_above(&Sought::new(key)).first()
     }
 
     fn next_above(&self, sought: &Sought<K>) -> Ahead<'_, K, V>
@@ -300,11 +300,11 @@ impl<K: Abbreviate + Drop, V: Drop> Map<K, V> {
             Tree::Leaf(items) => row::next_above(items.as_slice(), sought),
             Tree::Node(node) => match branches::place(&node.branches, sought) {
                 Ok(n) => match node.branches.get(n + 1) {
-                    Some(branch) => branch.below.start().or_entry(&branch.entry),
+                    Some(branch) => branch.below.start().then(Siblings::new(node, n + 1)),
                     None => node.last.start(),
                 },
                 Err(n) => match node.branches.get(n) {
-                    Some(branch) => branch.below.next_above(sought).or_entry(&branch.entry),
+                    Some(branch) => branch.below.next_above(sought).then(Siblings::new(node, n)),
                     None => node.last.next_above(sought),
                 },
             },
