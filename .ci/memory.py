@@ -26,6 +26,7 @@ SETTLED = 0.3
 LONGEST = 100
 MEGABYTE = 1_000_000
 ALL_KEYS, ALL_RECORDS = ("all_keys", "t"), ("match_object", ("t", "_", "_"))
+HALF, BY_INDEX, INDEXED = ("match_object", ("t", "_", 0)), ("index_read", "t", 0, "val"), [("index", ["val"])]
 WATCHED = ("table", "t", "detailed")
 DUMP, NO_MORE = ("subscribe", WATCHED, "dump"), ("unsubscribe", WATCHED)
 
@@ -87,6 +88,10 @@ def fill(client, record, count, each):
 
 def small_record(key):
     return ("t", key, key)
+
+
+def halved(key):
+    return ("t", key, key % 2)
 
 
 def long_record(size):
@@ -297,24 +302,37 @@ def rows(record, count):
     return hold
 
 
-# What the system gives a server beside what it has: some of the answers below, and not all of them.
+# What the system gives a server beside what it has: some of the writes below, and not all of them.
 ROOM = 60_000_000
 
 
+def writes_until_refused(client):
+    """Of a megabyte each, in the transaction that is open: how many are made."""
+    for key in range(1, 1_000):
+        reply = client.ask(("write", ("t", key, bytes(MEGABYTE))))
+        if reply != OK:
+            same(f"write {key}", reply, ("error", "no_memory"))
+            return key - 1
+    raise Differs("no write was refused")
+
+
 def no_more_memory(server):
-    """What one client asks for finds no memory, and is told so; others are served, nothing has changed, and with more memory it is answered."""
+    """A write that finds no memory is told so. Aborted, its transaction gives back what it held: others are served, and nothing has
+    changed. With more memory it is made."""
     client, other = server.connect(), server.connect()
-    records = [("t", key, key % 2) for key in range(20_000)]
-    table(lambda key: records[key], len(records), 500)(client)
-    asked = ("transaction", [("match_object", ("t", "_", 1))] * 999, 0)
+    script((client, CREATE, ATOMIC))
     resource.prlimit(server.process.pid, resource.RLIMIT_AS, (server.kilobytes("VmSize") * 1024 + ROOM, resource.RLIM_INFINITY))
     for number in range(3):
+        same("begin", client.ask("begin")[0], "tid")
+        same("writes", 20 < (made := writes_until_refused(client)), True)
         script(
-            (client, asked, ("error", "no_memory")),
-            (other, ("transaction", [write(0, number), ("read", "t", 0)], 0), ("atomic", [OK, [("t", 0, number)]])),
+            (client, ("abort", "r"), ("aborted", "r")),
+            (other, ("transaction", [write(0, number), ("all_keys", "t"), ("read", "t", 0)], 0), ("atomic", [OK, [0], [("t", 0, number)]])),
         )
     resource.prlimit(server.process.pid, resource.RLIMIT_AS, (resource.RLIM_INFINITY, resource.RLIM_INFINITY))
-    ask_long(client, asked, size_of(("atomic", [[record for record in records if record[2] == 1]] * 999)))
+    same("begin", client.ask("begin")[0], "tid")
+    script(*((client, ("write", ("t", key, bytes(MEGABYTE))), OK) for key in range(1, made + 20)))
+    same("commit", client.ask("commit")[0], "atomic")
 
 
 # Thirty megabytes.
@@ -326,6 +344,8 @@ CASES = [
     ("all keys", within(30_000, table(small_record, 20_000), whole_reads(ALL_KEYS, list(range(20_000)), 300))),
     ("all keys behind a write", within(30_000, table(small_record, 20_000), whole_reads(ALL_KEYS, list(range(20_000)), 300, True))),
     ("match_object of all", within(30_000, table(small_record, 20_000), whole_reads(ALL_RECORDS, list(map(small_record, range(20_000))), 100))),
+    ("match_object of half", within(30_000, table(halved, 20_000, options=INDEXED), whole_reads(HALF, list(map(halved, range(0, 20_000, 2))), 300))),
+    ("index_read of half", within(30_000, table(halved, 20_000, options=INDEXED), whole_reads(BY_INDEX, list(map(halved, range(0, 20_000, 2))), 300))),
     ("a one-shot's answers", within(30_000, table(small_record, 20_000), answers(300, list(range(20_000))))),
     ("rows of a server", within(58_000, table(small_record, 1), rows(small_record, 100_000)), "--journal", "16"),
     ("rows of a bag", within(55_000, table(of_ten, 1, options=[("type", "bag")]), rows(of_ten, 100_000)), "--journal", "16"),

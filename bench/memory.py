@@ -18,6 +18,9 @@ sys.path.insert(0, os.path.join(HERE, "..", ".ci"))
 from memory import (  # noqa: E402
     ALL_KEYS,
     ALL_RECORDS,
+    BY_INDEX,
+    HALF,
+    INDEXED,
     MEGABYTE,
     WATCHED,
     Held,
@@ -28,6 +31,7 @@ from memory import (  # noqa: E402
     commit_nothing,
     dumps,
     fill,
+    halved,
     long_reads,
     long_record,
     measured,
@@ -41,6 +45,8 @@ from server import HERE_OK, OK, same, script, side_by_side  # noqa: E402
 from frames import spell  # noqa: E402
 
 RECORDS, TRANSACTIONS, SCANS, DUMPS, READERS, ASKED = 100_000, 1_024, 64, 32, 12, 100
+# As many as a transaction may have, but one.
+OPERATIONS = 999
 # Records of the key of a bag, and the writes of a one-shot there.
 BAGGED, WRITES = 6_000, 899
 # A one-shot that tells much takes so many seconds at most.
@@ -121,6 +127,18 @@ def persons(record, count):
     return hold
 
 
+def full_journal(operation, reply):
+    """As many one-shots as the journal has entries, of this operation as often as a transaction may have one."""
+    request, size = ("transaction", [operation] * OPERATIONS, 0), size_of(("atomic", [reply] * OPERATIONS))
+
+    def hold(server, client):
+        for _ in range(TRANSACTIONS):
+            ask_long(client, request, size)
+        return server.kilobytes()
+
+    return hold
+
+
 def of_long(size, count, hold, times):
     """A table of long records, and what holds all of them so often."""
     record = long_record(size)
@@ -135,6 +153,16 @@ def rows():
     for what, request, answer, count in (("all_keys", ALL_KEYS, keys, TRANSACTIONS), ("match_object", ALL_RECORDS, records, SCANS)):
         for writes in (False, True):
             yield f"{count} transactions of {'a write and ' * writes}{what}, {RECORDS} records", [], small, whole_reads(request, answer, count, writes)
+    halves, found = table(halved, RECORDS, options=INDEXED), [halved(key) for key in range(0, RECORDS, 2)]
+    for what, request in (("match_object", HALF), ("index_read", BY_INDEX)):
+        yield f"{SCANS} transactions of {what} that finds half, {RECORDS} records", [], halves, whole_reads(request, found, SCANS)
+    few = table(small_record, 10)
+    for what, operation, reply in (
+        ("reads", ("read", "t", 1), [small_record(1)]),
+        ("writes", ("write", small_record(1)), OK),
+        ("match_object that find none", ("match_object", ("t", "_", "none")), []),
+    ):
+        yield f"{TRANSACTIONS} one-shots of {OPERATIONS} {what}", [], few, full_journal(operation, reply)
     yield f"a one-shot of {ASKED} all_keys, {RECORDS} records, at its peak", [], small, answers(ASKED, keys)
     for size, count in ((100_000, 300), (1_000, 30_000)):
         yield f"{DUMPS} dumps of 30 MB in an outbox, {count} records", [], *of_long(size, count, dumps, DUMPS)

@@ -9,6 +9,7 @@ nothing beside first, which is what the machine and the client take. The longest
 Where more CLIENTS than one are given, so many ask at once, and only the rows whose request each of them can make stand there.
 """
 
+import itertools
 import multiprocessing
 import os
 import sys
@@ -36,9 +37,11 @@ from memory import (  # noqa: E402
 )
 from server import ATOMIC, HERE_OK, OK, Connection, same, script, side_by_side  # noqa: E402
 
-RECORDS, BAGGED, WRITES, DUMPS, READS, WATCHERS = 100_000, 6_000, 899, 32, 999, 60
+RECORDS, BAGGED, WRITES, DUMPS, READS, FINDS, WATCHERS = 100_000, 6_000, 899, 32, 999, 99, 60
 # A read's own record, in a table of its own.
 READ = (("transaction", [("read", "other", 1)], 0), ("atomic", [[("other", 1, 1)]]))
+# Which keys are a client's own.
+OWN = itertools.count()
 # A one-shot that is told much takes so many seconds at most.
 PATIENCE = 60
 
@@ -153,6 +156,20 @@ def bag_deletions(server, client):
     return watched(server, client, 1, request, size_of(("atomic", [OK] * WRITES)), WRITES)
 
 
+def own_writes(server, client):
+    """To keys of its own, so that no two wait for each other's locks."""
+    first = next(OWN) * READS
+    request = ("transaction", [("write", small_record(first + number)) for number in range(READS)], 0)
+    return lambda: ask_long(client, request, size_of(("atomic", [OK] * READS)))
+
+
+def index_again(server, client):
+    def work():
+        script((client, ("add_table_index", "t", "val"), ATOMIC), (client, ("del_table_index", "t", "val"), ATOMIC))
+
+    return work
+
+
 def many_watch(server, client):
     request = ("transaction", [("write", small_record(key)) for key in range(READS)], 0)
     return watched(server, client, WATCHERS, request, size_of(("atomic", [OK] * READS)), READS)
@@ -180,8 +197,12 @@ def rows(alone):
     yield (f"match_object that finds half, {RECORDS} records", table(lambda key: mixed[key], RECORDS, 500),
            asks(("transaction", [half], 0), size_of(("atomic", [mixed[::2]]))))
     yield f"index_read that finds all, {RECORDS} records", with_index, asks(("transaction", [("index_read", "t", 7, "val")], 0), size_of(("atomic", [indexed])))
+    yield f"a one-shot of {READS} writes, {RECORDS} records", small, own_writes
     if not alone:
         return
+    yield f"an index is added and taken away, {RECORDS} records", small, index_again
+    yield (f"a one-shot of {FINDS} match_object that find half, {RECORDS} records", table(lambda key: mixed[key], RECORDS, 500),
+           asks(("transaction", [half] * FINDS, 0), size_of(("atomic", [mixed[::2]] * FINDS))))
     yield f"a one-shot of {READS} all_keys, {RECORDS} records", small, asks(("transaction", [ALL_KEYS] * READS, 0), size_of(("atomic", [keys] * READS)))
     yield f"{DUMPS} dumps, {RECORDS} records", small, many_dumps
     yield f"a one-shot of {WRITES} writes to a bag's key of {BAGGED}, told in detail", one_key, bag_writes

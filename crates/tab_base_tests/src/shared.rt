@@ -3,19 +3,36 @@
 
 use std::alloc::{AllocError, Global};
 use std::test::Fail;
-use tab_lists::{SharedRecord, SharedTerms};
-use tab_map::{Entry, Map};
+use tab_lists::{AtKeys, Condition, Scope, SharedTerms, Snapshot};
+use tab_map::{Map, Set};
 use tab_records::Records;
-use tab_term::{Term, Terms};
+use tab_term::{Atom, Term, Terms};
 
 /// How a list is made. Its terms are numbers.
 enum Form {
     Own(&'static [i128]),
-    /// The records at these keys and places, where they stand.
-    Picked(&'static [(i128, usize)]),
     Entry(i128),
+    /// The keys that a transaction sees.
     Keys,
     Records,
+    Found(At, Wanted),
+}
+
+/// Where records are looked for, as a transaction sees them.
+enum At {
+    Key(i128),
+    All,
+    Keys(&'static [i128]),
+}
+
+/// Which records are found.
+enum Wanted {
+    Any,
+    Number(i128),
+    /// Those that have the empty list as their second element, as what is no tuple has.
+    Nil,
+    /// Those that have a number there.
+    NumberThere,
 }
 
 /// The records, by key, of a map that has the keys from 1 to 99.
@@ -24,20 +41,43 @@ static BEFORE: [(i128, &[i128]); 2] = [(1, &[11, 12]), (3, &[31])];
 /// What is inserted when it changes. Key 3 is removed.
 static CHANGES: [(i128, &[i128]); 2] = [(1, &[19]), (2, &[21, 22])];
 
+/// What a transaction left at the keys that it touched.
+static OWN: [(i128, &[i128]); 3] = [(2, &[25]), (3, &[]), (100, &[71])];
+
 /// Lists with what they give, and what one gives that is made when the map has changed.
-static LISTS: [(Form, &[i128], &[i128]); 8] = [
+static LISTS: [(Form, &[i128], &[i128]); 16] = [
     (Form::Own(&[3, 1, 2]), &[3, 1, 2], &[3, 1, 2]),
-    (
-        Form::Picked(&[(1, 1), (3, 0), (1, 0)]),
-        &[12, 31, 11],
-        &[19],
-    ),
-    (Form::Picked(&[]), &[], &[]),
     (Form::Entry(1), &[11, 12], &[19]),
     (Form::Entry(2), &[], &[21, 22]),
     (Form::Entry(3), &[31], &[]),
-    (Form::Keys, &[1, 3], &[1, 2]),
+    (Form::Keys, &[1, 2, 100], &[1, 2, 100]),
     (Form::Records, &[11, 12, 31], &[19, 21, 22]),
+    (Form::Found(At::Key(1), Wanted::Any), &[11, 12], &[19]),
+    (Form::Found(At::Key(1), Wanted::Number(12)), &[12], &[]),
+    (Form::Found(At::Key(1), Wanted::Nil), &[11, 12], &[19]),
+    (
+        Form::Found(At::All, Wanted::Any),
+        &[11, 12, 25, 71],
+        &[19, 25, 71],
+    ),
+    (Form::Found(At::All, Wanted::Number(31)), &[], &[]),
+    (Form::Found(At::All, Wanted::Number(25)), &[25], &[25]),
+    (Form::Found(At::All, Wanted::NumberThere), &[], &[]),
+    (
+        Form::Found(At::Keys(&[1, 3, 5, 101]), Wanted::Any),
+        &[11, 12, 25, 71],
+        &[19, 25, 71],
+    ),
+    (
+        Form::Found(At::Keys(&[5, 100]), Wanted::Any),
+        &[25, 71],
+        &[25, 71],
+    ),
+    (
+        Form::Found(At::Keys(&[1, 2]), Wanted::Number(12)),
+        &[12],
+        &[],
+    ),
 ];
 
 fn numbers(alloc: Global, all: &[i128]) -> Result<Terms, AllocError> {
@@ -105,35 +145,47 @@ fn change(alloc: Global, map: &mut Map<Term, Records>) -> Result<(), AllocError>
     map.remove(alloc, &Term::Int(3))
 }
 
-fn push_record(
-    records: &mut Vec<SharedRecord>,
-    entry: &Entry<Term, Records>,
-    place: usize,
-) -> Result<(), AllocError> {
-    let record = match entry.pair().1.by_number() {
-        Some(records) => match records.iter().nth(place) {
-            Some(entry) => SharedRecord::numbered(&entry.pair().1)?,
-            None => return Ok(()),
-        },
-        None if place == 0 => SharedRecord::first(entry)?,
-        None => return Ok(()),
-    };
-    records.push(record)?;
-    Ok(())
+/// The map as a transaction sees it.
+fn snapshot(alloc: Global, map: &Map<Term, Records>) -> Result<Snapshot, AllocError> {
+    let mut own = Map::new();
+    insert_all(alloc, &mut own, &OWN)?;
+    Ok(Snapshot::new(own, map.share()?))
 }
 
-fn picked(
+fn condition(alloc: Global, wanted: &Wanted) -> Result<Condition, AllocError> {
+    match wanted {
+        Wanted::Any => {
+            let wildcard = Atom::new(String::from_str(alloc, "_")?).map_err(|_| AllocError)?;
+            Ok(Condition::Matches(Term::Atom(wildcard)))
+        }
+        Wanted::Number(number) => Ok(Condition::Matches(Term::Int(*number))),
+        Wanted::Nil => Ok(Condition::Has(2, Term::List(numbers(alloc, &[])?))),
+        Wanted::NumberThere => Ok(Condition::Has(2, Term::Int(1))),
+    }
+}
+
+fn found(
     alloc: Global,
     map: &Map<Term, Records>,
-    places: &[(i128, usize)],
+    at: &At,
+    wanted: &Wanted,
 ) -> Result<SharedTerms, AllocError> {
-    let mut records = Vec::new(alloc);
-    for (key, place) in places {
-        if let Some(entry) = map.get_entry(&Term::Int(*key)) {
-            push_record(&mut records, entry, *place)?;
+    let scope = match at {
+        At::Key(key) => match map.get_entry(&Term::Int(*key)) {
+            Some(entry) => Scope::Key(entry.try_clone()?),
+            None => return Ok(SharedTerms::from_terms(numbers(alloc, &[])?)),
+        },
+        At::All => Scope::All(snapshot(alloc, map)?),
+        At::Keys(all) => {
+            let mut keys = Set::new();
+            for key in *all {
+                keys.insert(alloc, Term::Int(*key))?;
+            }
+            let snapshot = snapshot(alloc, map)?;
+            Scope::Keys(AtKeys { keys, snapshot })
         }
-    }
-    Ok(SharedTerms::from_picked(records))
+    };
+    SharedTerms::from_query(alloc, scope, condition(alloc, wanted)?)
 }
 
 fn list_of(
@@ -143,26 +195,18 @@ fn list_of(
 ) -> Result<SharedTerms, AllocError> {
     match form {
         Form::Own(all) => Ok(SharedTerms::from_terms(numbers(alloc, all)?)),
-        Form::Picked(places) => picked(alloc, map, places),
         Form::Entry(key) => match map.get_entry(&Term::Int(*key)) {
             Some(entry) => Ok(SharedTerms::from_entry(entry.try_clone()?)),
             None => Ok(SharedTerms::from_terms(numbers(alloc, &[])?)),
         },
-        Form::Keys => Ok(SharedTerms::from_keys(map.share()?)),
+        Form::Keys => Ok(SharedTerms::from_keys(snapshot(alloc, map)?)),
         Form::Records => Ok(SharedTerms::from_records(map.share()?)),
+        Form::Found(at, wanted) => found(alloc, map, at, wanted),
     }
 }
 
-/// Whether the list counts these, up to each number that is asked for.
-fn counts(list: &SharedTerms, wanted: &[i128]) -> bool {
-    (0..4usize).all(|most| list.count_up_to(most) == wanted.len().min(most))
-}
-
-/// Whether the list gives these numbers, in this order, and no more, and counts them.
+/// Whether the list gives these numbers, in this order, and no more.
 fn gives(list: &SharedTerms, wanted: &[i128]) -> bool {
-    if !counts(list, wanted) {
-        return false;
-    }
     let mut terms = list.iter();
     for number in wanted {
         match terms.next() {

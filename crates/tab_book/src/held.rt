@@ -9,23 +9,20 @@ use crate::step::Step;
 use std::alloc::AllocError;
 use std::sync::MutexGuard;
 use tab_core::Rest;
-use tab_model::{Reply, SharedReply};
+use tab_model::SharedReply;
 use tab_names::Host;
 
-/// So many steps, and so many records that they were told, are made under one hold.
+/// So many steps are made under one hold.
 const STEPS: usize = 1_000;
 
-const RECORDS: usize = 1_000;
-
 /// A session's hold of a shared book, from a step on until it is given back. Steps under one hold stand together: no other
-/// session's step is between them. It gives itself back after a thousand steps or records, so that others are not kept long.
+/// session's step is between them. It gives itself back after a thousand steps, so that others are not kept long.
 #[derive(Drop)]
 pub struct Held<'a, H: Host> {
     host: &'a H,
     shared: &'a Shared<H>,
     book: Option<MutexGuard<'a, Book<H>>>,
     steps: usize,
-    records: usize,
     /// Whether one of the steps may let another session go on.
     releases: bool,
 }
@@ -38,7 +35,6 @@ impl<'a, H: Host> Held<'a, H> {
             shared,
             book: None,
             steps: 0,
-            records: 0,
             releases: false,
         }
     }
@@ -47,7 +43,7 @@ impl<'a, H: Host> Held<'a, H> {
     pub fn step(&mut self, seat: &Seat, step: Step) -> Result<SharedReply, AllocError>
         ensures { is_never_refused step ≡ true → IsOk result }
     {
-        if self.steps >= STEPS || self.records >= RECORDS {
+        if self.steps >= STEPS {
             self.give_back();
         }
         let mut book = match self.book.take() {
@@ -58,9 +54,6 @@ impl<'a, H: Host> Held<'a, H> {
         self.book = Some(book);
         let answered = answered?;
         self.steps = self.steps.saturating_add(1);
-        self.records = self
-            .records
-            .saturating_add(records_of(answered.told.reply()));
         self.releases |= answered.releases;
         Ok(answered.told)
     }
@@ -76,19 +69,10 @@ impl<'a, H: Host> Held<'a, H> {
     /// The book is held no more, and those are woken that may go on since.
     pub fn give_back(&mut self) {
         self.steps = 0;
-        self.records = 0;
         let releases = self.releases;
         self.releases = false;
         if let Some(book) = self.book.take() {
             self.shared.let_go(book, releases);
         }
-    }
-}
-
-/// What was found says how long it was looked for while the book was held.
-fn records_of(reply: &Reply) -> usize {
-    match reply {
-        Reply::Found(records) => records.count_up_to(RECORDS),
-        _ => 0,
     }
 }

@@ -5,17 +5,15 @@ ghost use Rattle.std.specs.List.{filter, list_any};
 ghost use Rattle.tab_term.specs.Order.{term_cmp};
 ghost use Rattle.tab_term.specs.Same.{same};
 ghost use Rattle.tab_term.specs.View.{term, terms};
-ghost use Rattle.tab_model.specs.Names.{plain_terms, terms_list};
 ghost use Rattle.tab_model.specs.Tables.{Rows as RowsOf, key as key_of_row, apply, put as put_in, delete as delete_in, delete_object as delete_object_in, is_ordered};
-ghost use Rattle.tab_model.specs.WholeTables.{element as element_of, index_read};
+ghost use Rattle.tab_model.specs.WholeTables.{element as element_of};
 ghost use Rattle.tab_model.specs.declared.data.Kind.TheVariants as kind;
 ghost use Rattle.tab_map.specs.Entries.{lookup, Ascends};
+ghost use Rattle.tab_map.specs.KeyList.{KeysAscend};
 ghost use Rattle.tab_index.specs.IndexOf.{keys_in, IsIndexOf, IsWith, IsWithout, has_value};
 
 use crate::element::{Nothing, element, key};
-use crate::matching::push_with_value;
 use std::alloc::{AllocError, Global};
-use tab_lists::SharedTerms;
 use tab_map::{Map, Set};
 use tab_model::{Change, Kind};
 use tab_records::Iter;
@@ -61,11 +59,12 @@ impl Index {
     /// The keys of the value, which share all with the index.
     pub fn keys_of(&self, value: &Term) -> Result<Set<Term>, AllocError>
         ensures keys { IfOk result (λ keys. keys ≡ keys_in (lookup term_cmp value.now self.now.keys)) }
+        ensures in_order { IfOk result (λ keys. KeysAscend term_cmp keys) }
         ensures ascends { Ascends term_cmp self.now.keys }
     {
         match self.keys.get(value) {
-            Some(keys) => keys.share(),
-            None => Ok(Set::new()),
+            Some(keys) if !keys.is_empty() => keys.share(),
+            _ => Ok(Set::new()),
         }
     }
 
@@ -229,24 +228,5 @@ impl Index {
             Change::Delete(_, key) => self.forget(alloc, rows, key),
             Change::DeleteObject(row) => self.forget_object(alloc, rows, row),
         }
-    }
-
-    /// The records that have the value: by keys, and of each key in the order of their insertion. They are shared with the
-    /// table.
-    pub fn read(&self, alloc: Global, rows: &Rows, value: &Term) -> Result<SharedTerms, AllocError>
-        requires index { IsIndexOf rows.now.1 self.now.position self.now.keys }
-        requires ordered { is_ordered rows.now.1 ≡ true }
-        ensures { IfOk result (λ found. found ≡ plain_terms (index_read rows.now.1 self.now.position (term value.now))) }
-    {
-        let mut found = Vec::new(alloc);
-        let Some(keys) = self.keys.get(value) else {
-            return Ok(SharedTerms::from_picked(found));
-        };
-        for key in keys.iter() {
-            if let Some(entry) = rows.entry(key) {
-                push_with_value(alloc, &mut found, entry, self.position, value)?;
-            }
-        }
-        Ok(SharedTerms::from_picked(found))
     }
 }

@@ -11,5 +11,5 @@ mod indexes;
 mod matching;
 mod table;
 
-pub use matching::{bound_key, fits, push_matches, push_with_value};
+pub use matching::{bound_key, fits};
 pub use table::IndexedTable;

@@ -1,19 +1,19 @@
 ghost use Rattle.std.specs.Prelude.{◌≡◌, [], IfOk, IfSome, MatchOption, OnOk, OnErr, is_some, true, if◌then◌else◌, Some, None, length, map};
 ghost use Rattle.std.specs.List.{All};
 ghost use Rattle.std.specs.Option.{option_copied};
+ghost use Rattle.tab_term.specs.Order.{term_cmp};
 ghost use Rattle.tab_term.specs.View.{term, terms};
 ghost use Rattle.tab_model.specs.Names.{plain_terms};
-ghost use Rattle.tab_model.specs.Tables.{at, keys as keys_of_rows, apply as apply_in, applied as applied_in, is_ordered};
-ghost use Rattle.tab_model.specs.WholeTables.{index_read as index_read_in, match_object as match_object_in};
+ghost use Rattle.tab_model.specs.Tables.{at, apply as apply_in, applied as applied_in, is_ordered};
 ghost use Rattle.tab_model.specs.Definitions.{has_number, with_indexes, add_number, less_number};
 ghost use Rattle.tab_model.specs.Catalogs.{with_rows, with_def};
 ghost use Rattle.tab_rows.specs.Joined.{joined, IsInOrder};
+ghost use Rattle.tab_map.specs.KeyList.{KeysAscend};
 ghost use Rattle.tab_index.specs.IndexOf.{AreKeysWith, IsIndexOf};
 ghost use Rattle.tab_index.specs.Indexed.{positions, AreIndexesOf};
 
 use crate::index::Index;
 use crate::indexes::{empty_indexes, new_place, other_indexes, positions_of, shared_indexes};
-use crate::matching;
 use std::alloc::{AllocError, Global};
 use std::marker::Model;
 use std::slice;
@@ -107,13 +107,6 @@ impl IndexedTable {
         self.rows.walk()
     }
 
-    /// The keys, each once, in their order. All is shared with the table, and no memory taken.
-    pub fn keys(&self) -> Result<SharedTerms, AllocError>
-        ensures { IfOk result (λ keys. keys ≡ plain_terms (keys_of_rows self.now.rows)) }
-    {
-        self.rows.keys()
-    }
-
     /// The keys, each with its records in the order of their insertion.
     pub fn records(&self) -> &Map<Term, Records>
         ensures records { joined result.now ≡ self.now.rows }
@@ -143,27 +136,12 @@ impl IndexedTable {
         self.rows.read(alloc, key)
     }
 
-    /// The records that have the value at the position: by keys, and of each key in the order of their insertion. They are shared
-    /// with the table. None where the position has no index.
-    pub fn index_read(
-        &self,
-        alloc: Global,
-        position: u64,
-        value: &Term,
-    ) -> Result<Option<SharedTerms>, AllocError>
-        ensures { IfOk result (λ found. found ≡ (if has_number self.now.def.indexes position then Some (plain_terms (index_read_in self.now.rows position (term value.now))) else None)) }
-    {
-        match self.index_at(position) {
-            Some(index) => Ok(Some(index.read(alloc, &self.rows, value)?)),
-            None => Ok(None),
-        }
-    }
-
     /// The keys of which a record has the value at the position, as a set that shares all with the index. None where the
     /// position has no index.
     pub fn keys_with(&self, position: u64, value: &Term) -> Result<Option<Set<Term>>, AllocError>
         ensures indexed { IfOk result (λ keys. is_some keys ≡ has_number self.now.def.indexes position) }
         ensures keys { IfOk result (λ keys. IfSome keys (AreKeysWith self.now.rows position (term value.now))) }
+        ensures in_order { IfOk result (λ keys. IfSome keys (KeysAscend term_cmp)) }
     {
         match self.index_at(position) {
             Some(index) => Ok(Some(index.keys_of(value)?)),
@@ -181,14 +159,6 @@ impl IndexedTable {
             }
         }
         None
-    }
-
-    /// The records that fit the pattern: by keys, and of each key in the order of their insertion. They are shared with the
-    /// table. Where no `'_'` stands in the pattern's key, no other key is looked at.
-    pub fn match_object(&self, alloc: Global, pattern: &Term) -> Result<SharedTerms, AllocError>
-        ensures { IfOk result (λ found. found ≡ plain_terms (match_object_in self.now.rows (term pattern.now))) }
-    {
-        matching::match_object(alloc, &self.rows, pattern)
     }
 
     /// The table with an index at the position, which is made in one walk. Where there is one already, the same table.

@@ -1,8 +1,10 @@
 -- Lists of terms and answers may cross threads and be shared by them, as what they hold may. The ring of answers has the law
 -- where each of its layers does.
+use denote.RattleType.{RattleType}
 use denote.Param.Send.{IsSend, IsSync, sendable}
 use denote.Param.SendFields.{as_row_send, as_row_sync, declared_send, declared_sync, variants_send, variants_sync}
 use Rattle.std.proofs.Crossing.{Vec-send, Vec-sync, Arc-send, Arc-sync}
+use Rattle.tab_map.specs.contracts.set.Set as set
 use Rattle.tab_map.proofs.Crossing.{Entry-send, Entry-sync, Map-send, Map-sync}
 use Rattle.tab_records.proofs.Crossing.{Records-send, Records-sync}
 use Rattle.tab_term.proofs.Crossing.{Term-send, Term-sync, Terms-send, Terms-sync}
@@ -11,21 +13,55 @@ use Rattle.tab_term.proofs.atom.Atom.TheSendSync as atom_marks
 use Rattle.tab_lists.specs.contracts.answers.Answers as answers
 use Rattle.tab_lists.specs.contracts.events.EventTerm as event_term
 use Rattle.tab_lists.specs.contracts.events.EventTerms as event_terms
-use Rattle.tab_lists.specs.contracts.record.SharedRecord as shared_record
+use Rattle.tab_lists.specs.contracts.condition.Condition as condition
+use Rattle.tab_lists.specs.contracts.query.Query as query
+use Rattle.tab_lists.specs.contracts.query.Scope as scope
+use Rattle.tab_lists.specs.contracts.query.AtKeys as at_keys
+use Rattle.tab_lists.specs.contracts.snapshot.Snapshot as snapshot
 use Rattle.tab_lists.specs.contracts.shared_terms.Form as form
 use Rattle.tab_lists.specs.contracts.shared_terms.SharedTerms as shared_terms
 
-SharedRecord-send : IsSend shared_record.the_row
-SharedRecord-send = search (sendable, Entry-send, declared_send, as_row_send, Term-send, Term-sync, Records-send, Records-sync) depth 20
+Set-send : (K : RattleType) (a : _) (o : _) (e : _) (p : _) → IsSend K → IsSync K → IsSend (set.the_row K a o e p)
+Set-send K a o e p sk yk = search (sendable, declared_send, as_row_send, Map-send) depth 20
 
-SharedRecord-sync : IsSync shared_record.the_row
-SharedRecord-sync = search (sendable, Entry-sync, declared_sync, as_row_sync, Term-send, Term-sync, Records-send, Records-sync) depth 20
+Set-sync : (K : RattleType) (a : _) (o : _) (e : _) (p : _) → IsSend K → IsSync K → IsSync (set.the_row K a o e p)
+Set-sync K a o e p sk yk = search (sendable, declared_sync, as_row_sync, Map-sync) depth 20
+
+Condition-send : IsSend condition.the_row
+Condition-send = search (sendable, declared_send, as_row_send, variants_send, Term-send) depth 20
+
+Condition-sync : IsSync condition.the_row
+Condition-sync = search (sendable, declared_sync, as_row_sync, variants_sync, Term-sync) depth 20
+
+Snapshot-send : IsSend snapshot.the_row
+Snapshot-send = search (sendable, Map-send, declared_send, as_row_send, Term-send, Term-sync, Records-send, Records-sync) depth 20
+
+Snapshot-sync : IsSync snapshot.the_row
+Snapshot-sync = search (sendable, Map-sync, declared_sync, as_row_sync, Term-send, Term-sync, Records-send, Records-sync) depth 20
+
+AtKeys-send : IsSend at_keys.the_row
+AtKeys-send = search (sendable, Set-send, declared_send, as_row_send, Term-send, Term-sync, Snapshot-send) depth 20
+
+AtKeys-sync : IsSync at_keys.the_row
+AtKeys-sync = search (sendable, Set-sync, declared_sync, as_row_sync, Term-send, Term-sync, Snapshot-sync) depth 20
+
+Scope-send : IsSend scope.the_row
+Scope-send = search (sendable, Entry-send, declared_send, as_row_send, variants_send, Term-send, Term-sync, Records-send, Records-sync, Snapshot-send, AtKeys-send) depth 20
+
+Scope-sync : IsSync scope.the_row
+Scope-sync = search (sendable, Entry-sync, declared_sync, as_row_sync, variants_sync, Term-send, Term-sync, Records-send, Records-sync, Snapshot-sync, AtKeys-sync) depth 20
+
+Query-send : IsSend query.the_row
+Query-send = search (sendable, declared_send, as_row_send, Scope-send, Condition-send) depth 20
+
+Query-sync : IsSync query.the_row
+Query-sync = search (sendable, declared_sync, as_row_sync, Scope-sync, Condition-sync) depth 20
 
 Form-send : IsSend form.the_row
-Form-send = search (sendable, Vec-send, Entry-send, Map-send, declared_send, as_row_send, Term-send, Term-sync, Terms-send, Records-send, Records-sync, SharedRecord-send) depth 20
+Form-send = search (sendable, Entry-send, Arc-send, declared_send, as_row_send, variants_send, Term-send, Term-sync, Terms-send, Records-send, Records-sync, Snapshot-send, Query-send, Query-sync) depth 20
 
 Form-sync : IsSync form.the_row
-Form-sync = search (sendable, Vec-sync, Entry-sync, Map-sync, declared_sync, as_row_sync, Term-send, Term-sync, Terms-sync, Records-send, Records-sync, SharedRecord-sync) depth 20
+Form-sync = search (sendable, Entry-sync, Arc-sync, declared_sync, as_row_sync, variants_sync, Term-send, Term-sync, Terms-sync, Records-send, Records-sync, Snapshot-sync, Query-send, Query-sync) depth 20
 
 pub SharedTerms-send : IsSend shared_terms.the_row
 SharedTerms-send = search (sendable, Arc-send, declared_send, as_row_send, variants_send, Form-send, Form-sync) depth 20

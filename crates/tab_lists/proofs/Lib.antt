@@ -1,4 +1,6 @@
 pub mod ListsLemmas
 pub mod AnswersLemmas
 pub mod EventsLemmas
+pub mod MergedLemmas
+pub mod WalkLemmas
 pub mod Crossing

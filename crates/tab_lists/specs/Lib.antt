@@ -1,5 +1,7 @@
 pub mod ByKey
-pub mod Records
+pub mod Elements
+pub mod Conditions
+pub mod Snapshots
 pub mod Lists
 pub mod Answers
 pub mod AnswersFall

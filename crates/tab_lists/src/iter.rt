@@ -1,48 +1,58 @@
 //! A walk over a list of terms, which takes no memory.
 
-ghost use Rattle.std.specs.Prelude.{◌≡◌, [], ◌∷◌, ◌++◌, ◌<◌, length, MatchOption, IfSome};
+ghost use Rattle.std.specs.Prelude.{◌≡◌, [], ◌∷◌, ◌++◌, ◌<◌, MatchOption, IfSome};
 ghost use Rattle.std.specs.Iterator.{YieldsFirstBy, item_count};
+ghost use Rattle.std.specs.Option.{option_copied};
 ghost use Rattle.tab_term.specs.Data.{terms_list};
 ghost use Rattle.tab_term.specs.View.{term, terms};
 ghost use Rattle.tab_lists.specs.ByKey.{filled_keys, joined};
-ghost use Rattle.tab_lists.specs.Lists.{rest_of, steps_left};
+ghost use Rattle.tab_lists.specs.Conditions.{chosen};
+ghost use Rattle.tab_lists.specs.Lists.{found_by, rest_of, records_left, steps_left};
+ghost use Rattle.tab_lists.specs.Snapshots.{records_in};
 
-use crate::record::SharedRecord;
+use crate::condition::Condition;
+use crate::merged::Merged;
+use crate::query::{Query, Scope};
 use std::iter::FusedIterator;
 use std::marker::Model;
-use std::slice;
-use tab_records::Records;
 use tab_term::Term;
 
 /// The terms of a list in their order, seen as the list of those that are left.
 #[derive(Drop)]
 pub struct Iter<'a> {
-    // What is left of the terms that were come to last.
-    near: tab_records::Iter<'a>,
-    rest: Rest<'a>,
+    walk: Walk<'a>,
 }
 
-/// The terms behind those.
+/// What is walked over.
 #[derive(Drop)]
-pub enum Rest<'a> {
-    Nothing,
-    Picked(&'a [SharedRecord]),
-    Keys(tab_map::Iter<'a, Term, Records>),
-    Records(tab_map::Iter<'a, Term, Records>),
+pub enum Walk<'a> {
+    Keys(Merged<'a>),
+    Records(RecordWalk<'a>),
+}
+
+/// A walk over records.
+#[derive(Drop)]
+pub struct RecordWalk<'a> {
+    // What is left of those that were come to last.
+    near: tab_records::Iter<'a>,
+    // Those behind them.
+    rest: Option<Merged<'a>>,
+    // Only what meets it is given.
+    condition: Option<&'a Condition>,
 }
 
 impl<'a> Model for Iter<'a> {
-    ghost use Rattle.std.specs.Prelude.{List, ◌++◌};
+    ghost use Rattle.std.specs.Prelude.{List};
     ghost use Rattle.tab_term.specs.Code.{term_code};
     ghost use Rattle.std.specs.Coded.{codes};
     ghost use Rattle.tab_term.specs.Data.{PlainTerm};
-    ghost use Rattle.tab_lists.specs.Lists.{rest_of};
+    ghost use Rattle.tab_lists.specs.Lists.{left_to};
 
     ghost Value = { List PlainTerm };
 
     ghost coded = { Prim.hlevel (codes, term_code) };
 
-    ghost view = { λ a. a.near ++ rest_of a.rest };
+    ghost view = { λ a. left_to a.walk };
 }
 
 impl<'a> Iter<'a> {
@@ -56,76 +66,110 @@ impl<'a> Iter<'a> {
         ensures { result ≡ near.entry }
     {
         Iter {
-            near,
-            rest: Rest::Nothing,
+            walk: Walk::Records(RecordWalk {
+                near,
+                rest: None,
+                condition: None,
+            }),
         }
     }
 
-    pub(crate) fn over_picked(records: &'a [SharedRecord]) -> Iter<'a>
-        ensures { result ≡ records.now }
-    {
-        Iter {
-            near: tab_records::Iter::over(&[]),
-            rest: Rest::Picked(records),
-        }
-    }
-
-    pub(crate) fn over_keys(entries: tab_map::Iter<'a, Term, Records>) -> Iter<'a>
+    pub(crate) fn over_keys(entries: Merged<'a>) -> Iter<'a>
         ensures { result ≡ filled_keys entries.entry }
     {
         Iter {
-            near: tab_records::Iter::over(&[]),
-            rest: Rest::Keys(entries),
+            walk: Walk::Keys(entries),
         }
     }
 
-    pub(crate) fn over_records(entries: tab_map::Iter<'a, Term, Records>) -> Iter<'a>
+    pub(crate) fn over_records(entries: Merged<'a>) -> Iter<'a>
         ensures { result ≡ joined entries.entry }
     {
         Iter {
-            near: tab_records::Iter::over(&[]),
-            rest: Rest::Records(entries),
+            walk: Walk::Records(RecordWalk {
+                near: tab_records::Iter::over(&[]),
+                rest: Some(entries),
+                condition: None,
+            }),
         }
     }
-}
 
-impl<'a> Rest<'a> {
-    // The terms that come next, which stand together.
-    fn take(&mut self) -> Option<tab_records::Iter<'a>>
-        ensures terms { MatchOption result ((rest_of self.old ≡ []) × (rest_of self.new ≡ [])) (λ near. rest_of self.old ≡ near ++ rest_of self.new) }
-        ensures fewer { IfSome result (λ _. steps_left self.new < steps_left self.old) }
+    pub(crate) fn over_query(query: &'a Query) -> Iter<'a>
+        ensures { result ≡ found_by query.now }
     {
-        match self {
-            Rest::Nothing => None,
-            Rest::Picked(records) => {
-                let (first, others) = records.split_first()?;
-                *records = others;
-                Some(one(first.as_term()))
-            }
-            Rest::Keys(entries) => Some(one(next_filled(entries)?)),
-            Rest::Records(entries) => Some(entries.next()?.pair().1.iter()),
+        let (near, rest) = looked_at(&query.scope);
+        Iter {
+            walk: Walk::Records(RecordWalk {
+                near,
+                rest,
+                condition: Some(&query.condition),
+            }),
         }
     }
 }
 
-fn one(only: &Term) -> tab_records::Iter<'_>
-    ensures { result ≡ term only.now ∷ [] }
+// The records of a query's scope.
+fn looked_at(scope: &Scope) -> (tab_records::Iter<'_>, Option<Merged<'_>>)
+    ensures { result.0 ++ rest_of result.1 ≡ records_in scope.now }
 {
-    tab_records::Iter::over(slice::from_ref(only))
+    let none = tab_records::Iter::over(&[]);
+    match scope {
+        Scope::Key(entry) => (entry.pair().1.iter(), None),
+        Scope::All(snapshot) => (none, Some(snapshot.walk())),
+        Scope::Keys(at) => (none, Some(at.snapshot.walk_at(&at.keys))),
+    }
 }
 
 // The next key at which records stand.
-fn next_filled<'a>(entries: &mut tab_map::Iter<'a, Term, Records>) -> Option<&'a Term>
-    ensures keys { MatchOption result ((filled_keys entries.old ≡ []) × (filled_keys entries.new ≡ [])) (λ key. filled_keys entries.old ≡ term key.now ∷ filled_keys entries.new) }
-    ensures fewer { IfSome result (λ _. length entries.new < length entries.old) }
+fn next_filled<'a>(entries: &mut Merged<'a>) -> Option<&'a Term>
+    ensures { MatchOption result ((filled_keys entries.old ≡ []) × (filled_keys entries.new ≡ [])) (λ key. filled_keys entries.old ≡ term key.now ∷ filled_keys entries.new) }
 {
-    while let Some(entry) = entries.next() {
-        let (key, records) = entry.pair();
+    while let Some((key, records)) = entries.take() {
         if records.first().is_some() {
             return Some(key);
         }
     }
     None
+}
+
+// The first of these terms that meets the condition, where there is one.
+fn next_chosen<'a>(
+    near: &mut tab_records::Iter<'a>,
+    condition: Option<&Condition>,
+) -> Option<&'a Term>
+    ensures { MatchOption result ((chosen (option_copied condition.entry) near.old ≡ []) × (near.new ≡ [])) (λ first. chosen (option_copied condition.entry) near.old ≡ term first.now ∷ chosen (option_copied condition.entry) near.new) }
+{
+    let Some(condition) = condition else {
+        return near.next();
+    };
+    while let Some(first) = near.next() {
+        if condition.is_met_by(first) {
+            return Some(first);
+        }
+    }
+    None
+}
+
+// The records that come next, which stand together.
+fn next_records<'a>(rest: &mut Option<Merged<'a>>) -> Option<tab_records::Iter<'a>>
+    ensures terms { MatchOption result ((rest_of rest.old ≡ []) × (rest_of rest.new ≡ [])) (λ near. rest_of rest.old ≡ near ++ rest_of rest.new) }
+    ensures fewer { IfSome result (λ _. steps_left rest.new < steps_left rest.old) }
+{
+    let (_, records) = rest.as_mut()?.take()?;
+    Some(records.iter())
+}
+
+impl<'a> RecordWalk<'a> {
+    fn take(&mut self) -> Option<&'a Term>
+        ensures { MatchOption result ((records_left self.old ≡ []) × (records_left self.new ≡ [])) (λ first. records_left self.old ≡ term first.now ∷ records_left self.new) }
+    {
+        loop {
+            if let Some(first) = next_chosen(&mut self.near, self.condition) {
+                return Some(first);
+            }
+            self.near = next_records(&mut self.rest)?;
+        }
+    }
 }
 
 impl<'a> Iterator for Iter<'a> {
@@ -136,11 +180,9 @@ impl<'a> Iterator for Iter<'a> {
     ghost remaining = { item_count (λ left. left) };
 
     fn next(&mut self) -> Option<&'a Term> {
-        loop {
-            if let Some(first) = self.near.next() {
-                return Some(first);
-            }
-            self.near = self.rest.take()?;
+        match &mut self.walk {
+            Walk::Keys(entries) => next_filled(entries),
+            Walk::Records(records) => records.take(),
         }
     }
 }

@@ -6,13 +6,18 @@
 #![tactic(auto)]
 
 mod answers;
+mod condition;
 mod events;
 mod iter;
-mod record;
+mod merged;
+mod query;
 mod shared_terms;
+mod snapshot;
 
 pub use answers::{Answer, Answers};
+pub use condition::Condition;
 pub use events::{Detail, EventTerm, EventTerms, SharedEvent, Tag};
 pub use iter::Iter;
-pub use record::SharedRecord;
+pub use query::{AtKeys, Scope};
 pub use shared_terms::SharedTerms;
+pub use snapshot::Snapshot;

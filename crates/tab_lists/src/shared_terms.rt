@@ -1,12 +1,17 @@
 //! A list of terms, in the form in which whoever made it had them.
 
-ghost use Rattle.std.specs.Prelude.{◌≡◌, IfOk, min};
-ghost use Rattle.tab_term.specs.Data.{plain_terms, count};
+ghost use Rattle.std.specs.Prelude.{◌≡◌, IfOk};
+ghost use Rattle.std.specs.List.{filter};
+ghost use Rattle.tab_term.specs.Data.{plain_terms};
 ghost use Rattle.tab_lists.specs.ByKey.{filled_keys, joined};
+ghost use Rattle.tab_lists.specs.Conditions.{meets};
 ghost use Rattle.tab_lists.specs.Lists.{listed, owned_list};
+ghost use Rattle.tab_lists.specs.Snapshots.{entries_of, records_in};
 
+use crate::condition::Condition;
 use crate::iter::Iter;
-use crate::record::SharedRecord;
+use crate::query::{Query, Scope};
+use crate::snapshot::Snapshot;
 use std::alloc::{AllocError, Global};
 use std::marker::Model;
 use std::sync::Arc;
@@ -32,14 +37,14 @@ pub enum Owned {
 pub enum Form {
     /// No one.
     Own(Terms),
-    /// The table that has these records at some keys.
-    Picked(Vec<SharedRecord>),
     /// The table that has these records at one key.
     Entry(Entry<Term, Records>),
     /// The table that has these keys, those at which records stand.
-    Keys(Map<Term, Records>),
+    Keys(Snapshot),
     /// The table that has these records.
-    Records(Map<Term, Records>),
+    Records(Snapshot),
+    /// The table of which a query finds these records, anew at each walk.
+    Found(Arc<Query, Global>),
 }
 
 // A derived drop would be taken apart, variant by variant, at each exit of each function that holds a list.
@@ -47,9 +52,9 @@ impl Drop for Form {
     fn drop(self) {
         match self {
             Form::Own(terms) => drop(terms),
-            Form::Picked(records) => drop(records),
             Form::Entry(entry) => drop(entry),
-            Form::Keys(map) | Form::Records(map) => drop(map),
+            Form::Keys(snapshot) | Form::Records(snapshot) => drop(snapshot),
+            Form::Found(query) => drop(query),
         }
     }
 }
@@ -117,13 +122,6 @@ impl SharedTerms {
         SharedTerms::of_form(Form::Own(terms))
     }
 
-    /// These records, each of which a table may hold. Takes no memory.
-    pub fn from_picked(records: Vec<SharedRecord>) -> SharedTerms
-        ensures { result ≡ plain_terms records.items }
-    {
-        SharedTerms::of_form(Form::Picked(records))
-    }
-
     /// The records of a key, which a table may hold. Takes no memory.
     pub fn from_entry(entry: Entry<Term, Records>) -> SharedTerms
         ensures { result ≡ entry.1 }
@@ -131,18 +129,31 @@ impl SharedTerms {
         SharedTerms::of_form(Form::Entry(entry))
     }
 
-    /// The keys at which records stand, which a table may hold. Takes no memory.
-    pub fn from_keys(records: Map<Term, Records>) -> SharedTerms
-        ensures { result ≡ plain_terms (filled_keys records) }
+    /// The keys at which records stand. Takes no memory.
+    pub fn from_keys(snapshot: Snapshot) -> SharedTerms
+        ensures { result ≡ plain_terms (filled_keys (entries_of snapshot)) }
     {
-        SharedTerms::of_form(Form::Keys(records))
+        SharedTerms::of_form(Form::Keys(snapshot))
     }
 
     /// The records of all keys, which a table may hold. Takes no memory.
     pub fn from_records(records: Map<Term, Records>) -> SharedTerms
         ensures { result ≡ plain_terms (joined records) }
     {
-        SharedTerms::of_form(Form::Records(records))
+        SharedTerms::of_form(Form::Records(Snapshot::new(Map::new(), records)))
+    }
+
+    /// Those of the records that meet the condition. They are looked for at each walk, and take no memory, however many they
+    /// are.
+    pub fn from_query(
+        alloc: Global,
+        scope: Scope,
+        condition: Condition,
+    ) -> Result<SharedTerms, AllocError>
+        ensures { IfOk result (λ found. found ≡ plain_terms (filter (meets condition) (records_in scope))) }
+    {
+        let query = Arc::new(alloc, Query { scope, condition })?;
+        Ok(SharedTerms::of_form(Form::Found(query)))
     }
 
     /// The terms, in their order.
@@ -151,25 +162,11 @@ impl SharedTerms {
     {
         match self.form() {
             Form::Own(terms) => Iter::over(terms.as_slice()),
-            Form::Picked(records) => Iter::over_picked(records.as_slice()),
             Form::Entry(entry) => Iter::over_records_of(entry.pair().1.iter()),
-            Form::Keys(map) => Iter::over_keys(map.iter()),
-            Form::Records(map) => Iter::over_records(map.iter()),
+            Form::Keys(snapshot) => Iter::over_keys(snapshot.walk()),
+            Form::Records(snapshot) => Iter::over_records(snapshot.walk()),
+            Form::Found(query) => Iter::over_query(query),
         }
-    }
-
-    /// How many terms there are, counted up to this number: more are not looked at.
-    pub fn count_up_to(&self, most: usize) -> usize
-        ensures { result ≡ min (count self.now) most }
-    {
-        let mut counted = 0;
-        for _term in self.iter() {
-            if counted == most {
-                return most;
-            }
-            counted += 1;
-        }
-        counted
     }
 
     /// The same list. What others may hold too is shared; what no one else holds is copied.
@@ -178,10 +175,7 @@ impl SharedTerms {
     {
         match &self.owned {
             Owned::Shared(form) => Ok(SharedTerms::of_shared(Arc::try_clone(form)?)),
-            Owned::Alone(Form::Entry(entry)) => Ok(SharedTerms::from_entry(entry.try_clone()?)),
-            Owned::Alone(Form::Keys(map)) => Ok(SharedTerms::from_keys(map.share()?)),
-            Owned::Alone(Form::Records(map)) => Ok(SharedTerms::from_records(map.share()?)),
-            Owned::Alone(_) => Ok(SharedTerms::from_terms(self.to_terms(alloc)?)),
+            Owned::Alone(form) => Ok(SharedTerms::of_form(form.try_clone(alloc)?)),
         }
     }
 
@@ -194,6 +188,21 @@ impl SharedTerms {
             copies.push(term.try_clone(alloc)?)?;
         }
         Ok(Terms::from_vec(copies))
+    }
+}
+
+impl Form {
+    // Own terms are copied.
+    fn try_clone(&self, alloc: Global) -> Result<Form, AllocError>
+        ensures { IfOk result (λ copy. listed copy ≡ listed self.now) }
+    {
+        match self {
+            Form::Own(terms) => Ok(Form::Own(terms.try_clone(alloc)?)),
+            Form::Entry(entry) => Ok(Form::Entry(entry.try_clone()?)),
+            Form::Keys(snapshot) => Ok(Form::Keys(snapshot.share()?)),
+            Form::Records(snapshot) => Ok(Form::Records(snapshot.share()?)),
+            Form::Found(query) => Ok(Form::Found(Arc::try_clone(query)?)),
+        }
     }
 }
 

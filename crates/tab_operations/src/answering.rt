@@ -53,7 +53,7 @@ pub fn answered(
         Operation::ReadForWrite(_, key) => Ok(Answer::Found(store.view_read(
             alloc, committed, key,
         )?)),
-        Operation::AllKeys(_) => Ok(Answer::Found(store.view_keys(alloc, committed)?)),
+        Operation::AllKeys(_) => Ok(Answer::Found(store.view_keys(committed)?)),
         Operation::IndexRead(name, value, attribute) => {
             index_read(alloc, store, committed, name, value, attribute)
         }

@@ -1,4 +1,3 @@
 pub mod Cells
 pub mod SizeLemmas
-pub mod KeysLemmas
 pub mod EntriesLemmas

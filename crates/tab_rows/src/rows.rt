@@ -6,7 +6,7 @@ ghost use Rattle.tab_map.specs.Entries.{insert_entry};
 ghost use Rattle.tab_term.specs.Order.{term_cmp};
 ghost use Rattle.tab_term.specs.View.{term, terms};
 ghost use Rattle.tab_model.specs.Names.{plain_terms, terms_list};
-ghost use Rattle.tab_model.specs.Tables.{at, key as key_of_row, put as put_in, delete as delete_in, delete_object as delete_object_in, keys as keys_of_rows};
+ghost use Rattle.tab_model.specs.Tables.{at, key as key_of_row, put as put_in, delete as delete_in, delete_object as delete_object_in};
 ghost use Rattle.tab_rows.specs.Joined.{joined, IsInOrder};
 
 use crate::append::Append;
@@ -99,13 +99,6 @@ impl Rows {
         ensures order { IsInOrder result }
     {
         self.records.iter()
-    }
-
-    /// The keys, each once, in their order. All is shared with this, and no memory taken.
-    pub fn keys(&self) -> Result<SharedTerms, AllocError>
-        ensures { IfOk result (λ keys. keys ≡ plain_terms (keys_of_rows self.now.1)) }
-    {
-        Ok(SharedTerms::from_keys(self.records.share()?))
     }
 
     /// The keys, each with its records in the order of their insertion.

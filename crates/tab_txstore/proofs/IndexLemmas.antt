@@ -1,86 +1,118 @@
--- The records of an index's keys and of the touched ones: all that the transaction sees with the value.
-use Rattle.std.proofs.Common.{◌≡◌, ℕ, List, [], ◌∷◌, Bool, true, false, ◌||◌, refl, sym, ap, ◌∙◌, subst, Some, None, Ordering, Less, Equal, Greater}
+-- The records at an index's keys and at the touched ones: among them are all that the transaction sees with the value.
+use Rattle.std.proofs.Common.{◌≡◌, ℕ, List, [], ◌∷◌, Bool, true, false, refl, sym, ap, ◌∙◌, subst, Option, Some, None, Ordering, Less, Equal, Greater}
 use Rattle.std.specs.Prelude.{if◌then◌else◌}
+use Rattle.std.specs.List.{filter, list_any}
 use Rattle.std.specs.Ordering.{match_ordering}
-use Rattle.std.proofs.lemmas.Bool.{false≢true}
 use Rattle.tab_term.specs.declared.term.Term.{Term}
 use Rattle.tab_term.specs.Data.{PlainTerm, PlainTerms}
 use Rattle.tab_term.specs.Order.{term_cmp}
 use Rattle.tab_term.specs.OrderLaws.{canon_same}
-use Rattle.tab_term.specs.Same.{same}
 use Rattle.tab_term.specs.View.{term}
-use Rattle.tab_map.specs.Entries.{lookup, Ascends}
-use Rattle.tab_map.specs.KeyList.{contains_key, insert_key, KeysAscend}
+use Rattle.tab_term.proofs.Total.{term_total}
+use Rattle.tab_map.specs.Entries.{lookup, Ascends, AllAbove}
+use Rattle.tab_map.specs.KeyList.{contains_key, KeysAscend}
+use Rattle.tab_records.proofs.LookUps.{lookup_above, below_all, at_all}
+use Rattle.tab_lists.specs.ByKey.{entry_onto, at_keys}
+use Rattle.tab_lists.proofs.MergedLemmas.{above_keys, ascends_keys, ascends_merged}
+use Rattle.tab_model.specs.Names.{terms_list}
 use Rattle.tab_model.specs.Shapes.{held}
-use Rattle.tab_model.specs.Tables.{Rows, has_key, at, is_ordered}
+use Rattle.tab_model.specs.Tables.{Rows, has_key, at}
 use Rattle.tab_model.specs.WholeTables.{index_read}
 use Rattle.tab_model.proofs.ShapeLaws.{held_term, term_held}
-use Rattle.tab_model.proofs.TableLaws.{same_refl, same_lists, ordered-filter}
-use Rattle.tab_index.specs.IndexOf.{has_value}
-use Rattle.tab_index.proofs.IndexOfLemmas.{contains_insert}
-use Rattle.tab_index.proofs.ReadLemmas.{answers, ascends-answers, found_answers, none_left, swapped}
-use Rattle.tab_rows.specs.Joined.{joined, AllKeyed}
+use Rattle.tab_model.proofs.TableLaws.{same_lists, ordered-filter}
+use Rattle.tab_index.specs.IndexOf.{has_value, AreKeysWith}
+use Rattle.tab_rows.specs.Joined.{joined, AllKeyed, IsInOrder}
 use Rattle.tab_rows.proofs.Cells.{found_in, at-joined, ordered-joined}
-use Rattle.tab_txstore.specs.Overlays.{Touched}
-use Rattle.tab_txstore.specs.Merged.{Covers}
+use Rattle.tab_txstore.specs.Overlays.{Touched, or_committed}
+use Rattle.tab_txstore.specs.Merged.{merged, IsSeen}
+use Rattle.tab_txstore.proofs.FilterLemmas.{none_left, swapped}
 use Rattle.tab_txstore.proofs.MatchLemmas.{joined_filled}
-use Rattle.tab_txstore.proofs.MergedLemmas.{filled, ascends_filled, lookup_filled, keyed_by, found_some}
+use Rattle.tab_txstore.proofs.MergedLemmas.{or_else, lookup_both, filled, ascends_filled, lookup_filled, keyed_by}
 
--- ---- keys
+-- ---- some of a table's keys
 
 one_key : (j k : Term) → term_cmp j k ≡ Equal → j ≡ k
 one_key j k e = sym (held_term j) ∙ ap held (canon_same (term j) (term k) e) ∙ held_term k
 
--- a touched key that is there, then the others
-kept_before : (k : Term) (e : Term × PlainTerms) (es : Touched) → (term_cmp k e.0 ≡ Equal → false ≡ true) → lookup term_cmp k es ≡ None → lookup term_cmp k (e ∷ es) ≡ None
-kept_before k e es apart h = cases (term_cmp k e.0) refl
+-- what is found at a key, where it is one of these
+abbrev found_at : Bool → Option PlainTerms → Option PlainTerms
+found_at b o = if b then o else None
+
+lookup_keys : (ks : List Term) (es : Touched) (q : Term) → KeysAscend term_cmp ks → lookup term_cmp q (at_keys ks es) ≡ found_at (contains_key term_cmp q ks) (lookup term_cmp q es)
+lookup_keys [] es q s = refl
+lookup_keys (k ∷ ks) es q s = cases (lookup_keys ks es q s.1) (lookup term_cmp k es) refl (term_cmp q k) refl
   where
-    cases : (o : Ordering) → term_cmp k e.0 ≡ o → match_ordering o None (Some e.1) (lookup term_cmp k es) ≡ None
-    cases Less f = refl
-    cases Equal f = absurd (false≢true (apart f))
-    cases Greater f = h
+    low : AllAbove term_cmp k (at_keys ks es)
+    low = above_keys k ks es s.0
 
-abbrev pub Leads : List Term → Touched → List Term → Touched → Type 0
-Leads ks es all xs = (k : Term) → contains_key term_cmp k ks ≡ false → lookup term_cmp k es ≡ None → (contains_key term_cmp k all ≡ false) × (lookup term_cmp k xs ≡ None)
+    below : term_cmp q k ≡ Less → lookup term_cmp q (at_keys ks es) ≡ None
+    below e = lookup_above term_total q (at_keys ks es) (below_all term_total q k (at_keys ks es) e low)
 
-pub leads_there : (ks all : List Term) (before after xs : Touched) (e : Term × PlainTerms) → before ≡ e ∷ after → true ≡ contains_key term_cmp e.0 ks → Leads ks before all xs → Leads ks after all xs
-leads_there ks all before after xs e is there h k out none =
-    h k out (ap (lookup term_cmp k) is ∙ kept_before k e after (λ f. sym out ∙ ap (λ j. contains_key term_cmp j ks) (one_key k e.0 f) ∙ sym there) none)
+    here : term_cmp q k ≡ Equal → lookup term_cmp q (at_keys ks es) ≡ None
+    here e = lookup_above term_total q (at_keys ks es) (at_all term_total q k (at_keys ks es) e low)
 
-pub leads_put : (ks new all : List Term) (before after xs : Touched) (e : Term × PlainTerms) (k : Term) → before ≡ e ∷ after → k ≡ e.0 → new ≡ insert_key term_cmp k ks → KeysAscend term_cmp ks → Leads ks before all xs → Leads new after all xs
-leads_put ks new all before after xs e j is copy put s h k out none = cases (same (term k) (term e.0)) (contains_key term_cmp k ks) refl refl both
-  where
-    both : (same (term k) (term e.0) || contains_key term_cmp k ks) ≡ false
-    both = sym (contains_insert k e.0 ks s) ∙ ap (λ z. contains_key term_cmp k (insert_key term_cmp z ks)) (sym copy) ∙ ap (contains_key term_cmp k) (sym put) ∙ out
+    there : (o : Option PlainTerms) → lookup term_cmp k es ≡ o → term_cmp q k ≡ Equal → lookup term_cmp q es ≡ o
+    there o h e = ap (λ j. lookup term_cmp j es) (one_key q k e) ∙ h
 
-    cases : (a b : Bool) → same (term k) (term e.0) ≡ a → contains_key term_cmp k ks ≡ b → (a || b) ≡ false → (contains_key term_cmp k all ≡ false) × (lookup term_cmp k xs ≡ None)
-    cases true b f g n = absurd (false≢true (sym n))
-    cases false true f g n = absurd (false≢true (sym n))
-    cases false false f g n =
-        h k g (ap (lookup term_cmp k) is ∙ kept_before k e after (λ o. sym f ∙ ap (λ z. same z (term e.0)) (canon_same (term k) (term e.0) o) ∙ same_refl (term e.0)) none)
+    cases : lookup term_cmp q (at_keys ks es) ≡ found_at (contains_key term_cmp q ks) (lookup term_cmp q es) → (o : Option PlainTerms) → lookup term_cmp k es ≡ o → (c : Ordering) → term_cmp q k ≡ c
+        → lookup term_cmp q (entry_onto k o (at_keys ks es)) ≡ found_at (match_ordering c false true (contains_key term_cmp q ks)) (lookup term_cmp q es)
+    cases ih None h Less e = below e
+    cases ih None h Equal e = here e ∙ sym (there None h e)
+    cases ih None h Greater e = ih
+    cases ih (Some ts) h Less e = ap (λ c. match_ordering c None (Some ts) (lookup term_cmp q (at_keys ks es))) e
+    cases ih (Some ts) h Equal e = ap (λ c. match_ordering c None (Some ts) (lookup term_cmp q (at_keys ks es))) e ∙ sym (there (Some ts) h e)
+    cases ih (Some ts) h Greater e = ap (λ c. match_ordering c None (Some ts) (lookup term_cmp q (at_keys ks es))) e ∙ ih
 
 -- ---- records
 
-pub covered : (rows : Rows) (p : ℕ) (x : PlainTerm) (ks : List Term) → is_ordered rows ≡ true → KeysAscend term_cmp ks → Covers ks rows p x → joined (answers rows p x ks) ≡ index_read rows p x
-covered rows p x ks o s h =
-    sym (joined_filled (answers rows p x ks)) ∙ same_lists (joined (filled (answers rows p x ks))) (index_read rows p x) (ordered-joined (filled (answers rows p x ks)) up keyed) (ordered-filter (has_value p x) rows o)
-    (λ k. subst (λ (j : PlainTerm). at (joined (filled (answers rows p x ks))) j ≡ at (index_read rows p x) j) (term_held k) (cells (held k)))
-  where
-    asc : Ascends term_cmp (answers rows p x ks)
-    asc = ascends-answers rows p x ks s
+module _ (xs es : Touched) (ks : List Term) (seen : Rows) (p : ℕ) (x : PlainTerm) (o : IsInOrder es) (s : Ascends term_cmp xs) (t : KeysAscend term_cmp ks) (keys : AreKeysWith (joined es) p x ks) (h : IsSeen xs (joined es) seen) where
+  abbrev whole : Touched
+  whole = merged xs (at_keys ks es)
 
-    up : Ascends term_cmp (filled (answers rows p x ks))
-    up = ascends_filled (answers rows p x ks) asc
+  found : (q : Term) → lookup term_cmp q whole ≡ or_else (lookup term_cmp q xs) (found_at (contains_key term_cmp q ks) (lookup term_cmp q es))
+  found q = lookup_both xs (at_keys ks es) q s (ascends_keys ks es t) ∙ ap (or_else (lookup term_cmp q xs)) (lookup_keys ks es q t)
 
-    cell : (q : Term) (b : Bool) → contains_key term_cmp q ks ≡ b → (if b then index_read (at rows (term q)) p x else []) ≡ index_read (at rows (term q)) p x
-    cell q true e = refl
-    cell q false e = sym (none_left (has_value p x) (at rows (term q)) (h q e))
+  -- what is seen at a key
+  seen_here : (q : Term) (own : Option PlainTerms) → lookup term_cmp q xs ≡ own → or_committed own (found_in (lookup term_cmp q es)) ≡ at seen (term q)
+  seen_here q own e =
+      ap (or_committed own) (sym (at-joined es q o.ascends o.keyed)) ∙ ap (λ z. or_committed z (at (joined es) (term q))) (sym e)
+      ∙ ap (λ z. or_committed (lookup term_cmp z xs) (at (joined es) (term q))) (sym (held_term q)) ∙ h.cells (term q)
 
-    reads : (q : Term) → found_in (lookup term_cmp q (answers rows p x ks)) ≡ at (index_read rows p x) (term q)
-    reads q = found_answers rows p x q ks ∙ cell q (contains_key term_cmp q ks) refl ∙ sym (swapped (has_value p x) (has_key (term q)) rows)
+  keyed : (q : Term) (ts : PlainTerms) → lookup term_cmp q whole ≡ Some ts → terms_list ts ≡ at seen (term q)
+  keyed q ts e = cases (lookup term_cmp q xs) refl (contains_key term_cmp q ks) (lookup term_cmp q es) refl (sym (found q) ∙ e)
+    where
+      cases : (own : Option PlainTerms) → lookup term_cmp q xs ≡ own → (b : Bool) (c : Option PlainTerms) → lookup term_cmp q es ≡ c → or_else own (found_at b c) ≡ Some ts → terms_list ts ≡ at seen (term q)
+      cases (Some us) f b c g i = sym (ap found_in i) ∙ seen_here q (Some us) f
+      cases None f true c g i = sym (ap found_in i) ∙ ap found_in (sym g) ∙ seen_here q None f
+      cases None f false c g i = cc
 
-    keyed : AllKeyed (filled (answers rows p x ks))
-    keyed = keyed_by (answers rows p x ks) (index_read rows p x) asc (λ q ts e. sym (found_some (lookup term_cmp q (answers rows p x ks)) ts e) ∙ reads q)
+  up : Ascends term_cmp (filled whole)
+  up = ascends_filled whole (ascends_merged xs (at_keys ks es) (ascends_keys ks es t))
 
-    cells : (q : Term) → at (joined (filled (answers rows p x ks))) (term q) ≡ at (index_read rows p x) (term q)
-    cells q = at-joined (filled (answers rows p x ks)) q up keyed ∙ lookup_filled (answers rows p x ks) q asc ∙ reads q
+  all_keyed : AllKeyed (filled whole)
+  all_keyed = keyed_by whole seen (ascends_merged xs (at_keys ks es) (ascends_keys ks es t)) keyed
+
+  -- at each key those that are seen with the value are found
+  cell : (q : Term) → filter (has_value p x) (at (joined (filled whole)) (term q)) ≡ filter (has_value p x) (at seen (term q))
+  cell q =
+      ap (filter (has_value p x)) (at-joined (filled whole) q up all_keyed ∙ lookup_filled whole q (ascends_merged xs (at_keys ks es) (ascends_keys ks es t)) ∙ ap found_in (found q))
+      ∙ cases (lookup term_cmp q xs) refl (contains_key term_cmp q ks) refl
+    where
+      cases : (own : Option PlainTerms) → lookup term_cmp q xs ≡ own → (b : Bool) → contains_key term_cmp q ks ≡ b
+          → filter (has_value p x) (found_in (or_else own (found_at b (lookup term_cmp q es)))) ≡ filter (has_value p x) (at seen (term q))
+      cases (Some us) f b g = ap (filter (has_value p x)) (seen_here q (Some us) f)
+      cases None f true g = ap (filter (has_value p x)) (seen_here q None f)
+      cases None f false g =
+          sym (none_left (has_value p x) (at (joined es) (term q)) (sym (keys q) ∙ g))
+          ∙ ap (filter (has_value p x)) (at-joined es q o.ascends o.keyed ∙ seen_here q None f)
+
+  found_seen : filter (has_value p x) (joined whole) ≡ index_read seen p x
+  found_seen =
+      ap (filter (has_value p x)) (sym (joined_filled whole))
+      ∙ same_lists (filter (has_value p x) (joined (filled whole))) (index_read seen p x) (ordered-filter (has_value p x) (joined (filled whole)) (ordered-joined (filled whole) up all_keyed)) (ordered-filter (has_value p x) seen h.ordered)
+      (λ k. swapped (has_value p x) (has_key k) (joined (filled whole)) ∙ subst (λ (j : PlainTerm). filter (has_value p x) (at (joined (filled whole)) j) ≡ filter (has_value p x) (at seen j)) (term_held k) (cell (held k)) ∙ sym (swapped (has_value p x) (has_key k) seen))
+
+pub index_seen : (xs es : Touched) (ks : List Term) (rows seen : Rows) (p : ℕ) (x : PlainTerm) → joined es ≡ rows → IsInOrder es → Ascends term_cmp xs → KeysAscend term_cmp ks → AreKeysWith rows p x ks → IsSeen xs rows seen
+    → filter (has_value p x) (joined (merged xs (at_keys ks es))) ≡ index_read seen p x
+index_seen xs es ks rows seen p x j o s t keys h =
+    found_seen xs es ks seen p x o s t (subst (λ (rs : Rows). AreKeysWith rs p x ks) (sym j) keys) (subst (λ (rs : Rows). IsSeen xs rs seen) (sym j) h)

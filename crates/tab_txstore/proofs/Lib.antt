@@ -3,7 +3,7 @@ pub mod FitsLemmas
 pub mod KeptLemmas
 pub mod LeftLemmas
 pub mod MergedLemmas
-pub mod WalkLemmas
+pub mod FilterLemmas
 pub mod MatchLemmas
 pub mod TouchingLemmas
 pub mod IndexLemmas

@@ -23,14 +23,6 @@ use Rattle.tab_txstore.specs.Overlays.{Touched, seen_at}
 use Rattle.tab_txstore.specs.Merged.{merged, is_filled, IsSeen}
 use Rattle.tab_txstore.proofs.MergedLemmas.{filled, seen_merged, not_filled}
 
-pub entry_step : (found new : Rows) (before after : Touched) (e : Term × PlainTerms) (p : PlainTerm) → before ≡ e ∷ after → new ≡ found ++ match_object (terms_list e.1) p
-    → new ++ match_object (joined after) p ≡ found ++ match_object (joined before) p
-entry_step found new before after e p h a =
-    ap (λ z. z ++ match_object (joined after) p) a
-    ∙ append_assoc found (match_object (terms_list e.1) p) (match_object (joined after) p)
-    ∙ ap (λ z. found ++ z) (sym (filter-append (matches p) (terms_list e.1) (joined after)))
-    ∙ sym (ap (λ z. found ++ match_object (joined z) p) h)
-
 pub joined_filled : (es : Touched) → joined (filled es) ≡ joined es
 joined_filled [] = refl
 joined_filled (e ∷ es) = cases (joined_filled es) (is_filled e.1) refl
@@ -44,32 +36,6 @@ pub whole_seen : (whole xs es : Touched) (rows seen : Rows) → whole ≡ merged
 whole_seen whole xs es rows seen w j o s h =
     ap joined w ∙ sym (joined_filled (merged xs es)) ∙ (seen_merged xs es seen s o (subst (λ (rs : Rows). IsSeen xs rs seen) (sym j) h)).0
 
-pub match_end : (found : Rows) (left whole : Touched) (xs es : Touched) (rows seen : Rows) (p : PlainTerm) → left ≡ [] → found ++ match_object (joined left) p ≡ match_object (joined whole) p → whole ≡ merged xs es
-    → joined es ≡ rows → IsInOrder es → Ascends term_cmp xs → IsSeen xs rows seen → found ≡ match_object seen p
-match_end found left whole xs es rows seen p e inv w j o s h =
-    sym (append-nil found) ∙ sym (ap (λ z. found ++ match_object (joined z) p) e) ∙ inv ∙ ap (λ z. match_object z p) (whole_seen whole xs es rows seen w j o s h)
-
--- a record of the entry that is come to does not fit
-pub one_differs : (before after whole : Touched) (e : Term × PlainTerms) (p : PlainTerm) → before ≡ e ∷ after → list_all (matches p) (terms_list e.1) ≡ false → list_all (matches p) (joined before) ≡ list_all (matches p) (joined whole)
-    → list_all (matches p) (joined whole) ≡ false
-one_differs before after whole e p h f inv =
-    sym inv ∙ ap (λ es. list_all (matches p) (joined es)) h ∙ list_all-append (matches p) (terms_list e.1) (joined after) ∙ and_left (list_all (matches p) (terms_list e.1)) (list_all (matches p) (joined after)) f
-
 -- a pattern whose answers all have one key
 pub match_at : (found : Rows) (xs : Touched) (rows seen : Rows) (p k : PlainTerm) → found ≡ match_object (seen_at xs rows k) p → bound_key p ≡ Some k → IsSeen xs rows seen → found ≡ match_object seen p
 match_at found xs rows seen p k f b h = f ∙ ap (λ z. match_object z p) (h.cells k) ∙ at_bound_key p k seen b
-
--- ---- the same for a value at a position
-
-pub value_entry : (found new : Rows) (before after : Touched) (e : Term × PlainTerms) (n : ℕ) (v : PlainTerm) → before ≡ e ∷ after → new ≡ found ++ index_read (terms_list e.1) n v
-    → new ++ index_read (joined after) n v ≡ found ++ index_read (joined before) n v
-value_entry found new before after e n v h a =
-    ap (λ z. z ++ index_read (joined after) n v) a
-    ∙ append_assoc found (index_read (terms_list e.1) n v) (index_read (joined after) n v)
-    ∙ ap (λ z. found ++ z) (sym (filter-append (λ x. same (element n x) v) (terms_list e.1) (joined after)))
-    ∙ sym (ap (λ z. found ++ index_read (joined z) n v) h)
-
-pub value_end : (found : Rows) (left whole : Touched) (xs es : Touched) (rows seen : Rows) (n : ℕ) (v : PlainTerm) → left ≡ [] → found ++ index_read (joined left) n v ≡ index_read (joined whole) n v → whole ≡ merged xs es
-    → joined es ≡ rows → IsInOrder es → Ascends term_cmp xs → IsSeen xs rows seen → found ≡ index_read seen n v
-value_end found left whole xs es rows seen n v e inv w j o s h =
-    sym (append-nil found) ∙ sym (ap (λ z. found ++ index_read (joined z) n v) e) ∙ inv ∙ ap (λ z. index_read z n v) (whole_seen whole xs es rows seen w j o s h)

@@ -14,6 +14,7 @@ use Rattle.tab_term.specs.View.{term}
 use Rattle.tab_term.proofs.Total.{term_total}
 use Rattle.tab_map.specs.Entries.{lookup, insert_entry, AllAbove, Ascends}
 use Rattle.tab_map.proofs.AscendsLemmas.{ascends_insert}
+use Rattle.tab_lists.proofs.MergedLemmas.{ascends_merged}
 use Rattle.tab_rows.specs.Joined.{joined, IsKeyed, AllKeyed, IsInOrder}
 use Rattle.tab_records.proofs.LookUps.{lookup_insert, lookup_above, below_all, at_all, above_below}
 use Rattle.tab_rows.proofs.Cells.{at-joined, ordered-joined, found_in}
@@ -37,114 +38,30 @@ apart_keys k j h = cases (same (term k) (term j)) refl
     cases false e = refl
     cases true e = let n : Less ≡ Equal = sym h ∙ ap (λ z. Rattle.std.specs.Cmp.Lexicographic.slice_cmp Rattle.std.specs.Ordering.nat_cmp (Rattle.tab_term.specs.Canon.canon (term k)) (Rattle.tab_term.specs.Canon.canon z)) (sym (same_true (term k) (term j) e)) ∙ Rattle.std.proofs.lemmas.Cmp.tied_itself term_total k in cc
 
--- ---- order
-
-above_insert : (q : Term) (x : Term × PlainTerms) (es : Touched) → term_cmp q x.0 ≡ Less → AllAbove term_cmp q es → AllAbove term_cmp q (insert_entry term_cmp x es)
-above_insert q x [] h a = (h, tt)
-above_insert q x (e ∷ es) h a = cases (above_insert q x es h a.1) (term_cmp x.0 e.0)
-  where
-    cases : AllAbove term_cmp q (insert_entry term_cmp x es) → (o : Ordering) → AllAbove term_cmp q (match_ordering o (x ∷ e ∷ es) (x ∷ es) (e ∷ insert_entry term_cmp x es))
-    cases ih Less = (h, a)
-    cases ih Equal = (h, a.1)
-    cases ih Greater = (a.0, ih)
-
-above_merged : (q : Term) (xs es : Touched) → AllAbove term_cmp q xs → AllAbove term_cmp q es → AllAbove term_cmp q (merged xs es)
-above_merged q [] es h a = a
-above_merged q (x ∷ xs) es h a = above_insert q x (merged xs es) h.0 (above_merged q xs es h.1 a)
-
-ascends_merged : (xs es : Touched) → Ascends term_cmp es → Ascends term_cmp (merged xs es)
-ascends_merged [] es s = s
-ascends_merged (x ∷ xs) es s = ascends_insert term_total x (merged xs es) (ascends_merged xs es s)
-
-insert_first : (x : Term × PlainTerms) (es : Touched) → AllAbove term_cmp x.0 es → insert_entry term_cmp x es ≡ x ∷ es
-insert_first x [] a = refl
-insert_first x (e ∷ es) a = ap (λ o. match_ordering o (x ∷ e ∷ es) (x ∷ es) (e ∷ insert_entry term_cmp x es)) a.0
-
--- ---- what comes next
-
--- the table's next key, where it is below all touched ones
-pub committed_first : (e : Term × PlainTerms) (xs es : Touched) → AllAbove term_cmp e.0 xs → merged xs (e ∷ es) ≡ e ∷ merged xs es
-committed_first e [] es a = refl
-committed_first e (x ∷ xs) es a =
-    ap (insert_entry term_cmp x) (committed_first e xs es a.1)
-    ∙ ap (λ o. match_ordering o (x ∷ e ∷ merged xs es) (x ∷ merged xs es) (e ∷ insert_entry term_cmp x (merged xs es))) (term_total.antisymm x.0 e.0 ∙ ap ordering_reverse a.0)
-
-pub committed_below : (e x : Term × PlainTerms) (xs es : Touched) → term_cmp e.0 x.0 ≡ Less → Ascends term_cmp (x ∷ xs) → merged (x ∷ xs) (e ∷ es) ≡ e ∷ merged (x ∷ xs) es
-committed_below e x xs es h s = committed_first e (x ∷ xs) es (h, below_all term_total e.0 x.0 xs h s.0)
-
-pub both_equal : (e x : Term × PlainTerms) (xs es : Touched) → term_cmp e.0 x.0 ≡ Equal → Ascends term_cmp (x ∷ xs) → merged (x ∷ xs) (e ∷ es) ≡ x ∷ merged xs es
-both_equal e x xs es h s =
-    ap (insert_entry term_cmp x) (committed_first e xs es (at_all term_total e.0 x.0 xs h s.0))
-    ∙ ap (λ o. match_ordering o (x ∷ e ∷ merged xs es) (x ∷ merged xs es) (e ∷ insert_entry term_cmp x (merged xs es))) (term_total.antisymm x.0 e.0 ∙ ap ordering_reverse h)
-
-pub own_below : (e x : Term × PlainTerms) (xs es : Touched) → term_cmp e.0 x.0 ≡ Greater → Ascends term_cmp (x ∷ xs) → Ascends term_cmp (e ∷ es) → merged (x ∷ xs) (e ∷ es) ≡ x ∷ merged xs (e ∷ es)
-own_below e x xs es h s t =
-    let low : term_cmp x.0 e.0 ≡ Less = above_below term_total e.0 x.0 h in
-    insert_first x (merged xs (e ∷ es)) (above_merged x.0 xs (e ∷ es) s.0 (low, below_all term_total x.0 e.0 es low t.0))
-
-pub own_alone : (x : Term × PlainTerms) (xs : Touched) → Ascends term_cmp (x ∷ xs) → merged (x ∷ xs) [] ≡ x ∷ merged xs []
-own_alone x xs s = insert_first x (merged xs []) (above_merged x.0 xs [] s.0 tt)
-
--- ---- touched keys put among the table's, the first of them first
-
-put_twice : (x y : Term × PlainTerms) (es : Touched) → term_cmp x.0 y.0 ≡ Less → insert_entry term_cmp y (insert_entry term_cmp x es) ≡ insert_entry term_cmp x (insert_entry term_cmp y es)
-put_twice x y [] h =
-    ap (λ o. match_ordering o (y ∷ x ∷ []) (y ∷ []) (x ∷ y ∷ [])) (term_total.antisymm y.0 x.0 ∙ ap ordering_reverse h)
-    ∙ sym (ap (λ o. match_ordering o (x ∷ y ∷ []) (x ∷ []) (y ∷ x ∷ [])) h)
-put_twice x y (e ∷ es) h = cases (put_twice x y es h) (term_cmp x.0 e.0) refl (term_cmp y.0 e.0) refl
-  where
-    above : term_cmp y.0 x.0 ≡ Greater
-    above = term_total.antisymm y.0 x.0 ∙ ap ordering_reverse h
-
-    passes : (b : Ordering) → term_cmp y.0 e.0 ≡ b → term_cmp e.0 y.0 ≡ Less → b ≡ Greater
-    passes b l low = sym l ∙ term_total.antisymm y.0 e.0 ∙ ap ordering_reverse low
-
-    first : (b : Ordering) → term_cmp y.0 e.0 ≡ b → insert_entry term_cmp y (x ∷ e ∷ es) ≡ x ∷ match_ordering b (y ∷ e ∷ es) (y ∷ es) (e ∷ insert_entry term_cmp y es)
-    first b l = ap (λ o. match_ordering o (y ∷ x ∷ e ∷ es) (y ∷ e ∷ es) (x ∷ insert_entry term_cmp y (e ∷ es))) above ∙ ap (λ o. x ∷ match_ordering o (y ∷ e ∷ es) (y ∷ es) (e ∷ insert_entry term_cmp y es)) l
-
-    cases : insert_entry term_cmp y (insert_entry term_cmp x es) ≡ insert_entry term_cmp x (insert_entry term_cmp y es) → (a : Ordering) → term_cmp x.0 e.0 ≡ a → (b : Ordering) → term_cmp y.0 e.0 ≡ b
-        → insert_entry term_cmp y (match_ordering a (x ∷ e ∷ es) (x ∷ es) (e ∷ insert_entry term_cmp x es)) ≡ insert_entry term_cmp x (match_ordering b (y ∷ e ∷ es) (y ∷ es) (e ∷ insert_entry term_cmp y es))
-    cases ih Less k Less l = first Less l ∙ sym (ap (λ o. match_ordering o (x ∷ y ∷ e ∷ es) (x ∷ e ∷ es) (y ∷ insert_entry term_cmp x (e ∷ es))) h)
-    cases ih Less k Equal l = first Equal l ∙ sym (ap (λ o. match_ordering o (x ∷ y ∷ es) (x ∷ es) (y ∷ insert_entry term_cmp x es)) h)
-    cases ih Less k Greater l = first Greater l ∙ sym (ap (λ o. match_ordering o (x ∷ e ∷ insert_entry term_cmp y es) (x ∷ insert_entry term_cmp y es) (e ∷ insert_entry term_cmp x (insert_entry term_cmp y es))) k)
-    cases ih Equal k Less l = let n : Less ≡ Greater = passes Less l (sym (term_total.congr x.0 e.0 y.0 k) ∙ h) in cc
-    cases ih Equal k Equal l = let n : Equal ≡ Greater = passes Equal l (sym (term_total.congr x.0 e.0 y.0 k) ∙ h) in cc
-    cases ih Equal k Greater l =
-        ap (λ o. match_ordering o (y ∷ x ∷ es) (y ∷ es) (x ∷ insert_entry term_cmp y es)) above
-        ∙ sym (ap (λ o. match_ordering o (x ∷ e ∷ insert_entry term_cmp y es) (x ∷ insert_entry term_cmp y es) (e ∷ insert_entry term_cmp x (insert_entry term_cmp y es))) k)
-    cases ih Greater k Less l = let n : Less ≡ Greater = passes Less l (term_total.trans e.0 x.0 y.0 (above_below term_total x.0 e.0 k) h) in cc
-    cases ih Greater k Equal l = let n : Equal ≡ Greater = passes Equal l (term_total.trans e.0 x.0 y.0 (above_below term_total x.0 e.0 k) h) in cc
-    cases ih Greater k Greater l =
-        ap (λ o. match_ordering o (y ∷ e ∷ insert_entry term_cmp x es) (y ∷ insert_entry term_cmp x es) (e ∷ insert_entry term_cmp y (insert_entry term_cmp x es))) l
-        ∙ ap (λ z. e ∷ z) ih
-        ∙ sym (ap (λ o. match_ordering o (x ∷ e ∷ insert_entry term_cmp y es) (x ∷ insert_entry term_cmp y es) (e ∷ insert_entry term_cmp x (insert_entry term_cmp y es))) k)
-
-merged_put : (x : Term × PlainTerms) (xs es : Touched) → AllAbove term_cmp x.0 xs → merged xs (insert_entry term_cmp x es) ≡ insert_entry term_cmp x (merged xs es)
-merged_put x [] es a = refl
-merged_put x (y ∷ ys) es a = ap (insert_entry term_cmp y) (merged_put x ys es a.1) ∙ put_twice x y (merged ys es) a.0
-
-pub put_step : (x : Term × PlainTerms) (left after all new whole : Touched) → left ≡ x ∷ after → Ascends term_cmp left → new ≡ insert_entry term_cmp x all → merged left all ≡ whole → (merged after new ≡ whole) × Ascends term_cmp after
-put_step x left after all new whole is s n before =
-    let both : Ascends term_cmp (x ∷ after) = subst (Ascends term_cmp) is s in
-    (ap (merged after) n ∙ merged_put x after all both.0 ∙ sym (ap (λ z. merged z all) is) ∙ before, both.1)
-
 -- ---- it is the table as the transaction sees it
 
-none_each : {V : Type 0} (n : Option V) (b : Ordering) → n ≡ match_ordering b n n n
-none_each n Less = refl
-none_each n Equal = refl
-none_each n Greater = refl
+-- what the first of two gives, else what the second gives
+abbrev pub or_else : Option PlainTerms → Option PlainTerms → Option PlainTerms
+or_else None o = o
+or_else (Some ts) o = Some ts
+
+pub lookup_both : (xs es : Touched) (q : Term) → Ascends term_cmp xs → Ascends term_cmp es → lookup term_cmp q (merged xs es) ≡ or_else (lookup term_cmp q xs) (lookup term_cmp q es)
+lookup_both [] es q s t = refl
+lookup_both (x ∷ xs) es q s t = lookup_insert term_total x (merged xs es) q (ascends_merged xs es t) ∙ cases (lookup_both xs es q s.1 t) (term_cmp q x.0) refl
+  where
+    cases : lookup term_cmp q (merged xs es) ≡ or_else (lookup term_cmp q xs) (lookup term_cmp q es) → (o : Ordering) → term_cmp q x.0 ≡ o
+        → match_ordering o (lookup term_cmp q (merged xs es)) (Some x.1) (lookup term_cmp q (merged xs es)) ≡ or_else (match_ordering o None (Some x.1) (lookup term_cmp q xs)) (lookup term_cmp q es)
+    cases ih Less k = ih ∙ ap (λ z. or_else z (lookup term_cmp q es)) (lookup_above term_total q xs (below_all term_total q x.0 xs k s.0))
+    cases ih Equal k = refl
+    cases ih Greater k = ih
 
 lookup_merged : (xs es : Touched) (q : Term) (rows : Rows) → Ascends term_cmp xs → Ascends term_cmp es → at rows (term q) ≡ found_in (lookup term_cmp q es)
     → found_in (lookup term_cmp q (merged xs es)) ≡ or_committed (lookup term_cmp q xs) (at rows (term q))
-lookup_merged [] es q rows s t h = sym h
-lookup_merged (x ∷ xs) es q rows s t h = ap found_in (lookup_insert term_total x (merged xs es) q (ascends_merged xs es t)) ∙ cases (lookup_merged xs es q rows s.1 t h) (term_cmp q x.0) refl
+lookup_merged xs es q rows s t h = ap found_in (lookup_both xs es q s t) ∙ cases (lookup term_cmp q xs)
   where
-    cases : found_in (lookup term_cmp q (merged xs es)) ≡ or_committed (lookup term_cmp q xs) (at rows (term q)) → (o : Ordering) → term_cmp q x.0 ≡ o
-        → found_in (match_ordering o (lookup term_cmp q (merged xs es)) (Some x.1) (lookup term_cmp q (merged xs es))) ≡ or_committed (match_ordering o None (Some x.1) (lookup term_cmp q xs)) (at rows (term q))
-    cases ih Less k = ih ∙ ap (λ z. or_committed z (at rows (term q))) (lookup_above term_total q xs (below_all term_total q x.0 xs k s.0))
-    cases ih Equal k = refl
-    cases ih Greater k = ih
+    cases : (o : Option PlainTerms) → found_in (or_else o (lookup term_cmp q es)) ≡ or_committed o (at rows (term q))
+    cases None = sym h
+    cases (Some ts) = refl
 
 abbrev pub filled : Touched → Touched
 filled [] = []

@@ -1,22 +1,21 @@
 //! What a transaction left at the keys that it touched, level by level.
 ghost use Rattle.std.specs.Prelude.{◌≡◌, ◌<◌, [], ◌∷◌, ◌++◌, IfOk, MatchOption, OnOk, OnErr, Some, length, vec_len, vec_capacity};
 ghost use Rattle.std.specs.Option.{option_copied};
-ghost use Rattle.tab_term.specs.Order.{bytes_cmp, term_cmp};
+ghost use Rattle.tab_term.specs.Order.{bytes_cmp};
 ghost use Rattle.tab_term.specs.View.{term};
-ghost use Rattle.tab_map.specs.Entries.{Ascends, lookup};
-ghost use Rattle.tab_rows.specs.Joined.{IsInOrder, joined as joined_rows};
+ghost use Rattle.tab_map.specs.Entries.{lookup};
 ghost use Rattle.tab_model.specs.Names.{plain_terms};
 ghost use Rattle.tab_model.specs.declared.data.Move.TheVariants.{Do};
-ghost use Rattle.tab_txstore.specs.Merged.{merged as merged_of};
-ghost use Rattle.tab_txstore.specs.Overlays.{Touched, touched, seen_at};
+ghost use Rattle.tab_txstore.specs.Merged.{IsSnapshot};
+ghost use Rattle.tab_txstore.specs.Overlays.{touched, seen_at};
 ghost use Rattle.tab_txstore.specs.Stores.{no_levels, nested, joined, ended, changed, levels_next};
 
 use crate::change::{change_of, is_failure};
-use crate::merged::{Merged, put_all};
 use crate::touching::{seen_entry, touch};
 use std::alloc::{AllocError, Global};
 use std::marker::Model;
 use tab_index::IndexedTable;
+use tab_lists::Snapshot;
 use tab_map::{Entry, Map};
 use tab_model::{Change, Operation, Reply};
 use tab_records::Records;
@@ -130,31 +129,15 @@ impl Levels {
         self.overlay.get(&committed.def().name)
     }
 
-    /// A committed table's walk with the touched keys among it, without memory.
-    pub fn merged<'a>(&'a self, committed: &'a IndexedTable) -> Merged<'a>
-        ensures { (es : Touched) × (joined_rows es ≡ committed.now.rows) × IsInOrder es × Ascends term_cmp (touched self.now.now.overlay committed.now.def.name) × (result ≡ merged_of (touched self.now.now.overlay committed.now.def.name) es) }
+    /// A committed table as the transaction sees it. It takes no memory.
+    pub fn snapshot(&self, committed: &IndexedTable) -> Result<Snapshot, AllocError>
+        ensures { IfOk result (λ s. IsSnapshot (touched self.now.now.overlay committed.now.def.name) committed.now.rows s) }
     {
-        let walk = committed.walk();
-        match self.overlay.get(&committed.def().name) {
-            Some(keys) => Merged::new(keys.iter(), walk),
-            None => Merged::new(walk.end(), walk),
-        }
-    }
-
-    /// A committed table's records by key with the touched keys among them, as a map that shares its entries with both. A key
-    /// whose records were taken out is there, with none.
-    pub fn by_key(
-        &self,
-        alloc: Global,
-        committed: &IndexedTable,
-    ) -> Result<Map<Term, Records>, AllocError>
-        ensures { IfOk result (λ all. (es : Touched) × (joined_rows es ≡ committed.now.rows) × IsInOrder es × Ascends term_cmp (touched self.now.now.overlay committed.now.def.name) × (all ≡ merged_of (touched self.now.now.overlay committed.now.def.name) es)) }
-    {
-        let mut all = committed.records().share()?;
-        if let Some(own) = self.touched(committed) {
-            put_all(alloc, &mut all, own)?;
-        }
-        Ok(all)
+        let own = match self.touched(committed) {
+            Some(own) if !own.is_empty() => own.share()?,
+            _ => Map::new(),
+        };
+        Ok(Snapshot::new(own, committed.records().share()?))
     }
 
     /// An operation that was made over its committed table, with its reply: its change, or where it failed the end of its level.

@@ -10,7 +10,6 @@ mod change;
 mod laws;
 mod left;
 mod levels;
-mod merged;
 mod store;
 mod touching;
 mod views;

@@ -1,23 +1,19 @@
 ghost use Rattle.std.specs.Prelude.{◌≡◌, ◌<◌, ◌≤◌, ◌+◌, [], ◌∷◌, ◌++◌, IfOk, MatchOption, OnOk, OnErr, Some, None, true, length, vec_len, vec_capacity};
-ghost use Rattle.std.specs.Option.{option_copied};
 ghost use Rattle.tab_term.specs.View.{term, terms};
 ghost use Rattle.tab_model.specs.Names.{plain_terms};
 ghost use Rattle.tab_model.specs.declared.data.Move.TheVariants.{Do, Open as OpenOf, Close as CloseOf, Undo as UndoOf};
 ghost use Rattle.tab_model.specs.declared.data.Reply.TheVariants as told_of;
 ghost use Rattle.tab_model.specs.Events.{is_failure as is_failure_of};
 ghost use Rattle.tab_model.specs.State.{count_moves};
-ghost use Rattle.tab_term.specs.Order.{bytes_cmp, term_cmp};
-ghost use Rattle.tab_map.specs.Entries.{Ascends, lookup};
-ghost use Rattle.tab_rows.specs.Joined.{IsInOrder, joined as joined_rows};
-ghost use Rattle.tab_txstore.specs.Merged.{merged as merged_of};
-ghost use Rattle.tab_txstore.specs.Overlays.{Touched, touched, seen_at};
+ghost use Rattle.tab_txstore.specs.Merged.{IsSnapshot};
+ghost use Rattle.tab_txstore.specs.Overlays.{touched, seen_at};
 ghost use Rattle.tab_txstore.specs.Stores.{no_store, store_next};
 
 use crate::levels::Levels;
-use crate::merged::Merged;
 use std::alloc::{AllocError, Global};
 use std::marker::Model;
 use tab_index::IndexedTable;
+use tab_lists::Snapshot;
 use tab_map::{Entry, Map};
 use tab_model::{Change, Move, Moves, Operation, Replies, Reply, SharedReply};
 use tab_records::Records;
@@ -270,29 +266,11 @@ impl TxStore {
         self.levels.seen_entry(committed, key)
     }
 
-    // A committed table's walk with the touched keys among it, without memory.
-    pub(crate) fn merged<'a>(&'a self, committed: &'a IndexedTable) -> Merged<'a>
-        ensures { (es : Touched) × (joined_rows es ≡ committed.now.rows) × IsInOrder es × Ascends term_cmp (touched self.now.levels.now.overlay committed.now.def.name) × (result ≡ merged_of (touched self.now.levels.now.overlay committed.now.def.name) es) }
+    // A committed table as the transaction sees it.
+    pub(crate) fn snapshot(&self, committed: &IndexedTable) -> Result<Snapshot, AllocError>
+        ensures { IfOk result (λ s. IsSnapshot (touched self.now.levels.now.overlay committed.now.def.name) committed.now.rows s) }
     {
-        self.levels.merged(committed)
-    }
-
-    // A committed table's records by key with the touched keys among them.
-    pub(crate) fn by_key(
-        &self,
-        alloc: Global,
-        committed: &IndexedTable,
-    ) -> Result<Map<Term, Records>, AllocError>
-        ensures { IfOk result (λ all. (es : Touched) × (joined_rows es ≡ committed.now.rows) × IsInOrder es × Ascends term_cmp (touched self.now.levels.now.overlay committed.now.def.name) × (all ≡ merged_of (touched self.now.levels.now.overlay committed.now.def.name) es)) }
-    {
-        self.levels.by_key(alloc, committed)
-    }
-
-    // The touched keys of the table, each with what stands there. None where no key of it was touched.
-    pub(crate) fn touched(&self, committed: &IndexedTable) -> Option<&Map<Term, Records>>
-        ensures { option_copied result ≡ lookup bytes_cmp committed.now.def.name self.now.levels.now.overlay }
-    {
-        self.levels.touched(committed)
+        self.levels.snapshot(committed)
     }
 }
 

@@ -1,0 +1,177 @@
+//! The keys of a table and those that a transaction touched, in one walk in the order of the keys, without memory.
+
+ghost use Rattle.std.specs.Prelude.{◌≡◌};
+ghost use Rattle.tab_term.specs.Order.{term_cmp};
+ghost use Rattle.tab_map.specs.Entries.{Ascends};
+ghost use Rattle.tab_map.specs.KeyList.{KeysAscend};
+ghost use Rattle.tab_lists.specs.ByKey.{merged, at_keys};
+ghost use Rattle.tab_lists.specs.Lists.{Gives, left_of};
+
+use std::cmp::Ordering;
+use std::marker::Model;
+use tab_map::{Iter, Keys, Map};
+use tab_records::Records;
+use tab_term::Term;
+
+/// The committed entries that a walk has not come to, seen as their list. The first of them can be looked at.
+#[derive(Drop)]
+pub struct Committed<'a> {
+    next: Option<(&'a Term, &'a Records)>,
+    left: Left<'a>,
+}
+
+/// The entries behind the first.
+#[derive(Drop)]
+pub enum Left<'a> {
+    All(Iter<'a, Term, Records>),
+    At(Picked<'a>),
+}
+
+/// The entries of a map at keys that are left.
+#[derive(Drop)]
+pub struct Picked<'a> {
+    keys: Keys<'a, Term>,
+    entries: &'a Map<Term, Records>,
+}
+
+impl<'a> Model for Committed<'a> {
+    ghost use Rattle.std.specs.Prelude.{List};
+    ghost use Rattle.std.specs.Coded.{codes};
+    ghost use Rattle.tab_term.specs.Code.{term_code, terms_code, pairs_code};
+    ghost use Rattle.tab_lists.specs.ByKey.{Entry};
+    ghost use Rattle.tab_lists.specs.Lists.{ahead, left_of};
+
+    ghost Value = { List Entry };
+
+    ghost coded = { Prim.hlevel (codes, term_code, terms_code, pairs_code) };
+
+    ghost view = { λ a. ahead a.next (left_of a.left) };
+}
+
+impl<'a> Left<'a> {
+    fn take(&mut self) -> Option<(&'a Term, &'a Records)>
+        ensures { Gives (left_of self.old) result (left_of self.new) }
+    {
+        match self {
+            Left::All(entries) => next_of(entries),
+            Left::At(entries) => entries.take(),
+        }
+    }
+}
+
+fn next_of<'a>(entries: &mut Iter<'a, Term, Records>) -> Option<(&'a Term, &'a Records)>
+    ensures { Gives entries.old result entries.new }
+{
+    let (key, records) = entries.next()?.pair();
+    Some((key, records))
+}
+
+impl<'a> Picked<'a> {
+    fn take(&mut self) -> Option<(&'a Term, &'a Records)>
+        ensures { Gives (at_keys self.old.keys self.old.entries.now) result (at_keys self.new.keys self.new.entries.now) }
+    {
+        while let Some(key) = self.keys.next() {
+            if let Some(records) = self.entries.get(key) {
+                return Some((key, records));
+            }
+        }
+        None
+    }
+}
+
+impl<'a> Committed<'a> {
+    fn new(mut left: Left<'a>) -> Committed<'a>
+        ensures { result ≡ left_of left.entry }
+    {
+        let next = left.take();
+        Committed { next, left }
+    }
+
+    fn take(&mut self) -> Option<(&'a Term, &'a Records)>
+        ensures { Gives self.old result self.new }
+    {
+        let first = self.next?;
+        self.next = self.left.take();
+        Some(first)
+    }
+}
+
+/// The keys of a table as a transaction sees it, each with its records, seen as the list of those that are left. A key
+/// whose records the transaction took out is there, with none.
+#[derive(Drop)]
+pub struct Merged<'a> {
+    own: Iter<'a, Term, Records>,
+    committed: Committed<'a>,
+}
+
+impl<'a> Model for Merged<'a> {
+    ghost use Rattle.std.specs.Prelude.{List};
+    ghost use Rattle.std.specs.Coded.{codes};
+    ghost use Rattle.tab_term.specs.Code.{term_code, terms_code, pairs_code};
+    ghost use Rattle.tab_lists.specs.ByKey.{Entry};
+
+    ghost Value = { List Entry };
+
+    ghost coded = { Prim.hlevel (codes, term_code, terms_code, pairs_code) };
+
+    ghost use Rattle.tab_term.specs.Order.{term_cmp};
+    ghost use Rattle.tab_map.specs.Entries.{Ascends};
+    ghost use Rattle.tab_lists.specs.ByKey.{merged};
+
+    ghost view = { λ a. merged a.own a.committed };
+
+    ghost invariant = { λ a. Ascends term_cmp a.own × Ascends term_cmp a.committed };
+}
+
+impl<'a> Merged<'a> {
+    /// A transaction's own keys among those of the table.
+    pub fn over_all(own: Iter<'a, Term, Records>, committed: Iter<'a, Term, Records>) -> Merged<'a>
+        requires own { Ascends term_cmp own }
+        requires committed { Ascends term_cmp committed }
+        ensures { result ≡ merged own.entry committed.entry }
+    {
+        Merged {
+            own,
+            committed: Committed::new(Left::All(committed)),
+        }
+    }
+
+    /// A transaction's own keys among those of the keys that the table has.
+    pub fn over_keys(
+        own: Iter<'a, Term, Records>,
+        keys: Keys<'a, Term>,
+        committed: &'a Map<Term, Records>,
+    ) -> Merged<'a>
+        requires own { Ascends term_cmp own }
+        requires keys { KeysAscend term_cmp keys }
+        ensures { result ≡ merged own.entry (at_keys keys.entry committed.now) }
+    {
+        Merged {
+            own,
+            committed: Committed::new(Left::At(Picked {
+                keys,
+                entries: committed,
+            })),
+        }
+    }
+
+    /// The key that comes next, with its records.
+    pub fn take(&mut self) -> Option<(&'a Term, &'a Records)>
+        ensures { Gives self.old result self.new }
+    {
+        let Some((key, _)) = self.committed.next else {
+            return next_of(&mut self.own);
+        };
+        let Some(own) = self.own.peek() else {
+            return self.committed.take();
+        };
+        match key.cmp(&own.pair().0) {
+            Ordering::Less => self.committed.take(),
+            Ordering::Equal => {
+                let _replaced = self.committed.take();
+                next_of(&mut self.own)
+            }
+            Ordering::Greater => next_of(&mut self.own),
+        }
+    }
+}
