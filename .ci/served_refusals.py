@@ -381,6 +381,9 @@ RECORDS = [(2, ("transaction", [("write", ("u", key, "v")) for key in range(5)],
 IN_W = [(2, ("transaction", [("write", ("w", key, "v")) for key in range(3)], 0), ("atomic", [OK] * 3))]
 IN_RECORDS = [*RECORDS, (1, "begin", ("tid", 2)), (1, write(1, "a"), OK)]
 ALL = [("u", key, "v") for key in range(5)]
+# Of so many terms, none of which is long, that its frame grows again and again.
+LONG = ("u", 6, list(range(1_000, 31_000)))
+IN_LONG = [(2, ("transaction", [("write", LONG)], 0), ("atomic", [OK])), (1, "begin", ("tid", 2)), (1, write(1, "a"), OK)]
 INNER = ("transaction", [("write", ("u", 1, "b")), ("abort", "why")])
 DEEP = ("transaction", [("write", ("u", 1, "a")), ("transaction", [("transaction", [("write", ("u", 2, "b"))])]), ("read", "u", 1)], 2)
 DEEP_TOLD = ("atomic", [OK, ("atomic", [("atomic", [OK])]), [("u", 1, "a")]])
@@ -400,6 +403,7 @@ CASES = [
     Case("a delete of a record", IN_RECORDS, ("delete_object", ("u", 1, "v")), OK, True),
     Case("all keys", IN_RECORDS, ("all_keys", "u"), list(range(5)), True),
     Case("a match", IN_RECORDS, ("match_object", ("u", "_", "v")), ALL, True),
+    Case("a long read", IN_LONG, ("read", "u", 6), [LONG], True),
     Case("a table's lock", IN_U, ("write_lock_table", "u"), OK, True),
     Case("a read of no table", [(1, "begin", TID), (1, "begin", TID)], ("read", "nosuch", 1), ("aborted", ("no_exists", "nosuch")), True),
     Case("a write that waits", WAITS, ("write", ("u", 1, "a")), OK, True, True),

@@ -4,9 +4,12 @@
 use std::alloc::{AllocError, Global};
 use std::test::Fail;
 use tab_etf::{Counted, decode};
-use tab_lists::{EventTerm, EventTerms, SharedEvent, SharedTerms, Tag};
+use tab_lists::{Answer, Answers, EventTerm, EventTerms, SharedEvent, SharedTerms, Tag};
 use tab_model::{Command, Ending, Item, Level, Reply, SharedReply};
-use tab_proto::{Delivery, append_item, append_reply, command, term_of, write_item, write_reply};
+use tab_proto::{
+    Delivery, append_item, append_reply, append_reply_within, command, term_of, write_item,
+    write_reply,
+};
 use tab_term::{Atom, Term, Terms};
 
 /// Payloads of every command.
@@ -171,5 +174,109 @@ fn replies_are_spelled(rt: HostRuntime) -> Result<(), Fail> {
         device.into_inner().as_slice(),
         b"\0\0\0\x0e\x83h\x02w\x05replyk\0\x01\x03".as_slice()
     );
+    Ok(())
+}
+
+/// What stands before a reply that is added.
+const BEFORE: &[u8] = b"before";
+
+/// Lists, and the frames of the replies that hold them: of no elements, of bytes, and of others.
+static FOUND: [(&[u8], &[u8]); 5] = [
+    (b"\x83j", b"\0\0\0\x0b\x83h\x02w\x05replyj"),
+    (
+        b"\x83k\0\x02\x03\xff",
+        b"\0\0\0\x0f\x83h\x02w\x05replyk\0\x02\x03\xff",
+    ),
+    (
+        b"\x83l\0\0\0\x01w\x01aj",
+        b"\0\0\0\x13\x83h\x02w\x05replyl\0\0\0\x01w\x01aj",
+    ),
+    (
+        b"\x83l\0\0\0\x02a\x03b\0\0\x01\0j",
+        b"\0\0\0\x17\x83h\x02w\x05replyl\0\0\0\x02a\x03b\0\0\x01\0j",
+    ),
+    (
+        b"\x83l\0\0\0\x02jk\0\x01\x01j",
+        b"\0\0\0\x15\x83h\x02w\x05replyl\0\0\0\x02jk\0\x01\x01j",
+    ),
+];
+
+/// The list that a payload is.
+fn list_in(alloc: Global, payload: &[u8]) -> Result<SharedTerms, Fail> {
+    match decode(alloc, payload)?.into_list() {
+        Some(terms) => Ok(SharedTerms::from_terms(terms)),
+        None => Ok(SharedTerms::from_terms(Terms::from_vec(Vec::new(alloc)))),
+    }
+}
+
+/// Whether the frame of a reply is added behind bytes where there is room for it, and nothing where a byte less has room.
+fn is_within(alloc: Global, reply: &Reply, frame: &[u8]) -> Result<bool, Fail> {
+    let mut out = Vec::from_slice(alloc, BEFORE)?;
+    let shorter = append_reply_within(None, reply, frame.len().saturating_sub(1), &mut out)?;
+    let kept = out.as_slice() == BEFORE;
+    let whole = append_reply_within(None, reply, frame.len(), &mut out)?;
+    Ok(!shorter && kept && whole && out.get(..6) == Some(BEFORE) && out.get(6..) == Some(frame))
+}
+
+#[test]
+fn lists_are_added_within_a_bound(rt: HostRuntime) -> Result<(), Fail> {
+    let alloc = rt.alloc();
+    for (line, (payload, frame)) in FOUND.iter().enumerate() {
+        let reply = Reply::Found(list_in(alloc, payload)?);
+        assert!(rt; is_within(alloc, &reply, frame)?, "line {line}");
+    }
+    Ok(())
+}
+
+/// `ok`, two lists, an abort, and a child that found nothing.
+fn some_answers(alloc: Global) -> Result<Answers, Fail> {
+    let mut inner = Answers::new(alloc);
+    inner.push(Answer::Found(list_in(alloc, b"\x83j")?))?;
+    let mut answers = Answers::new(alloc);
+    answers.push(Answer::Done)?;
+    answers.push(Answer::Found(list_in(alloc, b"\x83k\0\x01\x03")?))?;
+    answers.push(Answer::Found(list_in(alloc, b"\x83l\0\0\0\x01w\x01aj")?))?;
+    answers.push(Answer::Aborted(Term::Int(7)))?;
+    answers.push(Answer::Atomic(inner))?;
+    Ok(answers)
+}
+
+#[test]
+fn answers_are_added_within_a_bound(rt: HostRuntime) -> Result<(), Fail> {
+    let alloc = rt.alloc();
+    let none = Reply::AtomicTerms(Answers::new(alloc));
+    assert!(rt;
+        is_within(
+            alloc,
+            &none,
+            b"\0\0\0\x15\x83h\x02w\x05replyh\x02w\x06atomicj"
+        )?
+    );
+    let some = Reply::AtomicTerms(some_answers(alloc)?);
+    let frame =
+        b"\0\0\0\x49\x83h\x02w\x05replyh\x02w\x06atomicl\0\0\0\x05w\x02okk\0\x01\x03l\0\0\0\x01w\x01ajh\x02w\x07aborteda\x07h\x02w\x06atomicl\0\0\0\x01jjj";
+    assert!(rt; is_within(alloc, &some, frame)?);
+    Ok(())
+}
+
+/// A list of more bytes than a string has room for, and a reply that holds no list, which has no bound.
+#[test]
+fn long_lists_and_short_replies_are_added(rt: HostRuntime) -> Result<(), Fail> {
+    let alloc = rt.alloc();
+    let mut terms = Vec::new(alloc);
+    for _ in 0..65_536 {
+        terms.push(Term::Int(1))?;
+    }
+    let reply = Reply::Found(SharedTerms::from_terms(Terms::from_vec(terms)));
+    let mut within = Vec::new(alloc);
+    assert!(rt; append_reply_within(Some(7), &reply, 200_000, &mut within)?);
+    let mut measured = Vec::new(alloc);
+    append_reply(Some(7), &reply, &mut measured)?;
+    assert!(rt; within.as_slice() == measured.as_slice());
+    assert!(rt; !append_reply_within(Some(7), &reply, 65_536, &mut within)?);
+    assert!(rt; within.as_slice() == measured.as_slice());
+    within.clear();
+    assert!(rt; append_reply_within(None, &Reply::Done, 0, &mut within)?);
+    assert!(rt; within.as_slice() == b"\0\0\0\x0e\x83h\x02w\x05replyw\x02ok".as_slice());
     Ok(())
 }

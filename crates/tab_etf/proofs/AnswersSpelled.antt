@@ -15,13 +15,6 @@ use Rattle.tab_etf.proofs.SharedElements.{count_canons}
 
 -- ---- a list
 
-field_within : (n : ℕ) → n < 2 ^ 64 → length (length_field n) ≤ 12
-field_within n h =
-    elim (cases_lt n 4294967295) [
-      | inl lt ↦ omega (arith, Lengths.field_short n lt)
-      | inr le ↦ omega (arith, Lengths.field_long n le h)
-    ]
-
 -- there are answers, or there are none
 pub some_in : (xs : List Answer) {b : Bool} → b ≡ (length xs == 0) → b ≡ false → 0 < length xs
 some_in [] e f = absurd (true≢false (sym e ∙ f))
@@ -75,27 +68,15 @@ answer_within [] i x h e = absurd (omega (arith, h))
 answer_within (y ∷ ys) zero x h e = rw e (omega (arith, length-append (canon (answer_term y)) (canons (answers ys))))
 answer_within (y ∷ ys) (suc i) x h e = omega (arith, answer_within ys i x (omega (arith, h)) e, length-append (canon (answer_term y)) (canons (answers ys)))
 
--- what a list has besides its elements
-pub list_around : (ts : PlainTerms) → length (canons ts) ≤ 4294967295 → length (canon (list ts)) ≤ length (canons ts) + 14
-list_around ts h =
-    let counted : count ts ≤ length (canons ts) = count_canons ts in
-    let field : length (length_field (count ts)) ≤ 12 = field_within (count ts) (omega (arith, h, counted)) in
-    by_tag (list_tag ts == 106) (list_tag ts == 107) refl refl field counted
-  where
-    by_tag : (p q : Bool) → (list_tag ts == 106) ≡ p → (list_tag ts == 107) ≡ q → length (length_field (count ts)) ≤ 12 → count ts ≤ length (canons ts)
-        → length (canon (list ts)) ≤ length (canons ts) + 14
-    by_tag true q e f field counted = omega (arith, Lengths.empty_length ts ts (count ts) refl refl (eqb-true _ _ e))
-    by_tag false true e f field counted = omega (arith, counted, Lengths.bytes_length ts ts (count ts) refl refl (eqb-true _ _ f))
-    by_tag false false e f field counted = omega (arith, field, Lengths.others_length ts ts (count ts) refl refl (eqb-false _ _ e) (eqb-false _ _ f))
-
--- ---- what is left of a room
-
--- behind so many bytes
-pub some_sub : (r : Option ℕ) (room n m : ℕ) → SomeIff r (n ≤ room) (room - n) → m ≤ n → IfSome r (λ left. m + left ≤ room)
-some_sub None room n m h e = tt
-some_sub (Some left) room n m h e = omega (arith, h, e)
-
--- behind more, of a larger room
-pub some_weaker : (r : Option ℕ) (n room m limit : ℕ) → IfSome r (λ left. n + left ≤ room) → (n ≤ room → m + room ≤ n + limit) → IfSome r (λ left. m + left ≤ limit)
-some_weaker None n room m limit h f = tt
-some_weaker (Some left) n room m limit h f = omega (arith, h, f (omega (arith, h)))
+-- the answers before it and itself are no longer than all
+pub answers_upto : (xs : List Answer) (i : ℕ) (x : Answer) → i < length xs → x ≡ get_or xs i x → length (canons (answers (take i xs))) + length (canon (answer_term x)) ≤ length (canons (answers xs))
+unfolding canon
+answers_upto [] i x h e = absurd (omega (arith, h))
+answers_upto (y ∷ ys) zero x h e = rw e (omega (arith, length-append (canon (answer_term y)) (canons (answers ys))))
+answers_upto (y ∷ ys) (suc i) x h e =
+    omega (
+      arith,
+      answers_upto ys i x (omega (arith, h)) e,
+      length-append (canon (answer_term y)) (canons (answers ys)),
+      length-append (canon (answer_term y)) (canons (answers (take i ys))),
+    )

@@ -1,7 +1,7 @@
 -- Which spelling is the canonical one, by cases.
 use Rattle.std.proofs.Common.{◌≡◌, ◌≢◌, ℕ, ◌^◌, ◌<◌, ◌≤◌, ℤ, Bool, true, false, List, [], ◌∷◌, ◌++◌, length, refl, unsigned_abs, arith, ltb, ◌==◌, nat_lt, if◌then◌else◌, ◌&&◌}
 use Rattle.std.specs.Int.{w16, w32, w64, to_be_bytes, cast_unsigned}
-use Rattle.std.proofs.lemmas.Bool.{and_parts, le-ltb, lt-ltb, ltb-true}
+use Rattle.std.proofs.lemmas.Bool.{and_parts, eqb-true, le-ltb, lt-ltb, ltb-true}
 use Rattle.tab_term.specs.Canon.{is_byte, fits_four, int_tag, int_contents, sign_of, magnitude, length_field, atom_tag, atom_length_field, tuple_tag, arity_field, all_bytes, bytes_of, list_tag, list_contents, canons}
 use Rattle.tab_term.specs.Data.{PlainTerms, count}
 
@@ -79,6 +79,16 @@ at_others true q a b n m = absurd (n refl)
 at_others false true a b n m = absurd (m refl)
 at_others false false a b n m = refl
 
+at_empty : (p q : Bool) → tag_at p q ≡ 106 → p ≡ true
+at_empty true q e = refl
+at_empty false true e = absurd (omega arith)
+at_empty false false e = absurd (omega arith)
+
+at_string : (p q : Bool) → tag_at p q ≢ 106 → tag_at p q ≢ 108 → tag_at p q ≡ 107
+at_string true q n m = absurd (n refl)
+at_string false true n m = refl
+at_string false false n m = absurd (m refl)
+
 module _ (ts : PlainTerms) where
   abbrev written : List ℕ
   written = list_tag ts ∷ list_contents ts (canons ts)
@@ -109,3 +119,9 @@ module _ (ts : PlainTerms) where
   pub list_others : list_tag ts ≢ 106 → list_tag ts ≢ 107 → written ≡ 108 ∷ as_terms
   unfolding list_contents
   list_others n m = at_others (count ts == 0) (nat_lt (count ts) (2 ^ 16) && all_bytes ts) as_bytes as_terms n m
+
+  pub list_empty : list_tag ts ≡ 106 → count ts ≡ 0
+  list_empty e = eqb-true (count ts) 0 (at_empty (count ts == 0) (nat_lt (count ts) (2 ^ 16) && all_bytes ts) e)
+
+  pub list_string : list_tag ts ≢ 106 → list_tag ts ≢ 108 → list_tag ts ≡ 107
+  list_string n m = at_string (count ts == 0) (nat_lt (count ts) (2 ^ 16) && all_bytes ts) n m

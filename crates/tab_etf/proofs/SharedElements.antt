@@ -1,5 +1,5 @@
 -- A list of shared terms is gone over: what is done, and what is left of it.
-use Rattle.std.proofs.Common.{◌≡◌, ◌≢◌, ℕ, ◌+◌, ◌-◌, ◌^◌, ◌<◌, ◌≤◌, min, List, [], ◌∷◌, ◌++◌, length, Option, refl, sym, ap, ◌∙◌, arith, append_assoc, append-nil, length-append, true, false, ltb, ◌==◌, inl, inr}
+use Rattle.std.proofs.Common.{◌≡◌, ◌≢◌, ℕ, ◌+◌, ◌-◌, ◌^◌, ◌<◌, ◌≤◌, min, List, [], ◌∷◌, ◌++◌, length, Option, refl, sym, ap, ◌∙◌, arith, append_assoc, append-nil, length-append, Bool, true, false, ◌&&◌, ltb, ◌==◌, inl, inr}
 use Rattle.std.proofs.lemmas.Bool.{and_parts, cases_lt, le-ltb, ne_eqb}
 use Rattle.tab_term.specs.Data.{PlainTerm, int, atom, tuple, list, bin, map, PlainTerms, none, one_more, plain_terms, count}
 use Rattle.tab_term.specs.Canon.{is_byte_term, all_bytes, length_field, list_tag, canon, canons}
@@ -31,6 +31,10 @@ canons_first before after t e = ap (λ ts. canons (plain_terms ts)) e
 pub canons_end : (left : List PlainTerm) → left ≡ [] → canons (plain_terms left) ≡ []
 unfolding canon
 canons_end left e = ap (λ ts. canons (plain_terms ts)) e
+
+pub and_assoc : (a b c : Bool) → ((a && b) && c) ≡ (a && (b && c))
+and_assoc true b c = refl
+and_assoc false b c = refl
 
 pub all_bytes_first : (before after : List PlainTerm) (t : PlainTerm) → before ≡ t ∷ after → all_bytes (plain_terms before) ≡ true → (is_byte_term t ≡ true) × (all_bytes (plain_terms after) ≡ true)
 all_bytes_first before after t e h = and_parts (is_byte_term t) (all_bytes (plain_terms after)) (sym (ap (λ ts. all_bytes (plain_terms ts)) e) ∙ h)

@@ -11,3 +11,4 @@ pub mod Fronts
 pub mod Arrivals
 pub mod Measures
 pub mod Outlines
+pub mod Listings

@@ -1,6 +1,6 @@
 //! The answers of a transaction: how they are written, and how long that is.
 
-ghost use Rattle.std.specs.Prelude.{◌≡◌, ◌≤◌, ◌+◌, ◌++◌, ◌∷◌, length, min, true, IfSome};
+ghost use Rattle.std.specs.Prelude.{◌≡◌, ◌≤◌, ◌+◌, ◌∷◌, length, min};
 ghost use Rattle.tab_term.specs.Canon.{canon, canons};
 ghost use Rattle.tab_term.specs.Data.{atom, list};
 ghost use Rattle.tab_lists.specs.Answers.{answer_term, answers as terms_of};
@@ -11,7 +11,7 @@ use crate::measuring::{atom_len, field_len, spelled_len};
 use crate::shared::{measure_of, put_shared, shared_len};
 use crate::spelling::{put, put_atom, put_tagged};
 use crate::writer::Writer;
-use tab_lists::{Answer, Answers, SharedTerms};
+use tab_lists::{Answer, Answers};
 use tab_term::spelling::{LIST_EXT, NIL_EXT, SMALL_TUPLE_EXT};
 
 // ---- how long they are
@@ -58,70 +58,6 @@ fn all_len(items: &[Answer]) -> u64
         sum = sum.saturating_add(answer_len(answer));
     }
     sum
-}
-
-// ---- whether they are long
-
-/// What a list has besides its elements at the most: its tag, its count, and its tail.
-const AROUND: u64 = 14;
-
-/// Whether the list of the answers takes no more bytes than these. It stops where it may take more,
-/// and may say so of one that takes fewer: a list counts with all of its elements and fourteen
-/// bytes besides, also one that is written as a string.
-pub fn are_within(answers: &Answers, most: u64) -> bool
-    requires { most ≤ 4294967295 }
-    ensures { result ≡ true → length (canon (list answers.now)) ≤ most }
-{
-    behind_answers(answers, most).is_some()
-}
-
-// Each of these gives what is left of a room behind what it looks at, or None where that may take
-// more.
-
-#[cycle(room)]
-fn behind_answers(answers: &Answers, room: u64) -> Option<u64>
-    requires { room ≤ 4294967295 }
-    ensures { IfSome result (λ left. length (canon (list answers.now)) + left ≤ room) }
-{
-    behind_all(answers.as_slice(), room.checked_sub(AROUND)?)
-}
-
-#[cycle(room)]
-fn behind_answer(answer: &Answer, room: u64) -> Option<u64>
-    requires { room ≤ 4294967295 }
-    ensures { IfSome result (λ left. length (canon (answer_term answer.now)) + left ≤ room) }
-{
-    match answer {
-        Answer::Done => room.checked_sub(atom_len("ok".len())),
-        Answer::Found(rows) => behind_rows(rows, room.checked_sub(AROUND)?),
-        Answer::Aborted(reason) => room
-            .checked_sub(word_len("aborted"))?
-            .checked_sub(spelled_len(reason)),
-        Answer::Atomic(inner) => behind_answers(inner, room.checked_sub(word_len("atomic"))?),
-    }
-}
-
-#[cycle(room)]
-fn behind_all(items: &[Answer], room: u64) -> Option<u64>
-    requires { room ≤ 4294967295 }
-    ensures { IfSome result (λ left. length (canons (terms_of items.now)) + left ≤ room) }
-{
-    let mut left = room;
-    for answer in items {
-        left = behind_answer(answer, left)?;
-    }
-    Some(left)
-}
-
-fn behind_rows(rows: &SharedTerms, room: u64) -> Option<u64>
-    requires { room ≤ 4294967295 }
-    ensures { IfSome result (λ left. length (canons rows.now) + left ≤ room) }
-{
-    let mut left = room;
-    for row in rows.iter() {
-        left = left.checked_sub(spelled_len(row))?;
-    }
-    Some(left)
 }
 
 // ---- how they are written

@@ -36,6 +36,13 @@ impl<T> Counted<T> {
         self.faults
     }
 
+    /// The reader or writer, which stays where it is.
+    pub(crate) fn inner(&self) -> &T
+        ensures { result.now ≡ self.now.inner }
+    {
+        &self.inner
+    }
+
     /// The reader or writer itself.
     pub fn into_inner(self) -> T
         ensures { result ≡ self.inner }

@@ -105,7 +105,12 @@ pub fn write_outline<W: Target>(device: &mut W, outline: &Outline) -> Result<(),
 }
 
 /// Adds bytes and the spelling behind them, so many bytes together. On an error the bytes are as before.
-fn append(outline: &Outline, head: &[u8], len: usize, out: &mut Vec<u8>) -> Result<(), AllocError>
+pub(crate) fn append(
+    outline: &Outline,
+    head: &[u8],
+    len: usize,
+    out: &mut Vec<u8>,
+) -> Result<(), AllocError>
     requires { OfOutline IsWritable outline.now }
     ensures ok { OnOk result (out.new.items ≡ out.old.items ++ (head.now ++ canon (outline_term outline.now))) }
     ensures err { OnErr result (out.new.items ≡ out.old.items) }

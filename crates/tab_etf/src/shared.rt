@@ -24,6 +24,21 @@ pub struct Measure {
     pub len: u64,
 }
 
+/// The tag of a list that was gone over.
+pub fn tag_of(_ts: &SharedTerms, counted: usize, bytes: bool) -> u8
+    requires count { counted ≡ min (count _ts.now) usize.MAX }
+    requires bytes { bytes ≡ all_bytes _ts.now }
+    ensures { result ≡ list_tag _ts.now }
+{
+    if counted == 0 {
+        NIL_EXT
+    } else if counted < 0x1_0000 && bytes {
+        STRING_EXT
+    } else {
+        LIST_EXT
+    }
+}
+
 /// Goes over the list once, which has neither a count of its elements nor their lengths.
 pub fn measure_of(ts: &SharedTerms) -> Measure
     ensures tag { result.tag ≡ list_tag ts.now }
@@ -38,13 +53,7 @@ pub fn measure_of(ts: &SharedTerms) -> Measure
         len = len.saturating_add(spelled_len(t));
         bytes &= is_byte_term(t);
     }
-    let tag = if count == 0 {
-        NIL_EXT
-    } else if count < 0x1_0000 && bytes {
-        STRING_EXT
-    } else {
-        LIST_EXT
-    };
+    let tag = tag_of(ts, count, bytes);
     Measure { tag, count, len }
 }
 

@@ -17,11 +17,20 @@ use tab_term::spelling::{
 use tab_term::{Pairs, Term, Terms};
 
 /// A tag and four bytes, to be put at once.
-fn tagged(tag: u8, n: u32) -> [u8; 5]
+pub fn tagged(tag: u8, n: u32) -> [u8; 5]
     ensures { result ≡ tag ∷ to_be_bytes w32 n }
 {
     let [a, b, c, d] = n.to_be_bytes();
     [tag, a, b, c, d]
+}
+
+/// A tag and a byte.
+#[tactic(auto, using(crate::proofs::WritingLemmas::writes_then))]
+fn put_two<W: Target>(writer: &mut Writer<W>, tag: u8, byte: u8)
+    ensures { Writes W.contents W.faults writer.old writer.new (tag ∷ byte ∷ []) }
+{
+    writer.put_byte(tag);
+    writer.put_byte(byte);
 }
 
 // ---- integers
@@ -56,7 +65,7 @@ pub fn put_int<W: Target>(writer: &mut Writer<W>, z: i128)
     ensures { Writes W.contents W.faults writer.old writer.new (int_tag z ∷ int_contents z) }
 {
     if is_byte(z) {
-        writer.put(&[SMALL_INTEGER_EXT, one_byte(z)]);
+        put_two(writer, SMALL_INTEGER_EXT, one_byte(z));
     } else if fits_four(z) {
         writer.put(&tagged(INTEGER_EXT, four_bytes_of(z)));
     } else {
@@ -84,7 +93,7 @@ fn put_atom_head<W: Target>(writer: &mut Writer<W>, n: usize)
     ensures { Writes W.contents W.faults writer.old writer.new (atom_tag n ∷ atom_length_field n) }
 {
     if n < 256 {
-        writer.put(&[SMALL_ATOM_UTF8_EXT, n as u8]);
+        put_two(writer, SMALL_ATOM_UTF8_EXT, n as u8);
     } else {
         writer.put(&[ATOM_UTF8_EXT]);
         writer.put(&(n as u16).to_be_bytes());
@@ -97,7 +106,7 @@ pub fn put_tuple_head<W: Target>(writer: &mut Writer<W>, n: usize)
     ensures { Writes W.contents W.faults writer.old writer.new (tuple_tag n ∷ arity_field n) }
 {
     if n < 256 {
-        writer.put(&[SMALL_TUPLE_EXT, n as u8]);
+        put_two(writer, SMALL_TUPLE_EXT, n as u8);
     } else {
         writer.put(&[LARGE_TUPLE_EXT]);
         put_length(writer, n);

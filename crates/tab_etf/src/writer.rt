@@ -47,6 +47,13 @@ impl<'a, W: Target> Writer<'a, W> {
         self.failed
     }
 
+    /// The device, which has the bytes that were handed over.
+    pub fn device(&self) -> &W
+        ensures { result.now ≡ self.now.device.now }
+    {
+        self.device
+    }
+
     /// Hands over all bytes that wait.
     pub fn write_out(&mut self)
         ensures writes { Writes W.contents W.faults self.old self.new [] }

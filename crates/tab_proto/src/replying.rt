@@ -1,18 +1,20 @@
 //! Replies, written without a term being built.
 
-ghost use Rattle.std.specs.Prelude.{codes, pos, ◌≡◌, ◌≤◌, ◌<◌, ◌++◌, ◌∷◌, ◌↔◌, length, OnOk, OnErr, IfErr, Err, Option, Some, ℕ};
+ghost use Rattle.std.specs.Prelude.{codes, pos, ◌≡◌, ◌≤◌, ◌<◌, ◌*◌, ◌++◌, ◌∷◌, false, min, ◌↔◌, [], length, if◌then◌else◌, OnOk, OnErr, IfOk, IfErr, Err, Option, Some, ℕ};
 ghost use Rattle.std.specs.Io.KnownBytes.{Appends};
 ghost use Rattle.tab_term.specs.Canon.{canon};
 ghost use Rattle.tab_term.specs.Data.{atom, int, list, pair as pair_of, triple as triple_of};
 ghost use Rattle.tab_term.specs.View.{term};
 ghost use Rattle.tab_etf.specs.Frames.{frame};
-ghost use Rattle.tab_etf.specs.Outlines.{leaf_term, outline_term, IsShort, IsShortOutline};
+ghost use Rattle.tab_etf.specs.Outlines.{leaf_term, outline_term, IsShort, IsShortOutline, IsWritable};
 ghost use Rattle.tab_etf.specs.Writing.{IsUnwritten};
+ghost use Rattle.tab_model.specs.declared.data.Reply.{Reply as ReplyOf};
 ghost use Rattle.tab_proto.specs.Commands.{level_word as level_word_of};
 ghost use Rattle.tab_proto.specs.Replies.{reply_term as reply_term_of, item_term as item_term_of, info_term as info_term_of, limit_word as limit_word_of, kind_word as kind_word_of, ending_word as ending_word_of, response, IsOutlineOf};
 
 use tab_etf::{
-    Body, EncodeFault, FrameFault, Leaf, Outline, Target, append_outline, write_outline,
+    Body, EncodeFault, FrameFault, Leaf, Outline, Target, Unmeasured, append_outline,
+    append_pair_within, write_outline,
 };
 use tab_lists::SharedTerms;
 use tab_model::{Ending, Item, Kind, Level, Limit, Reply, TableInfo};
@@ -46,14 +48,50 @@ pub fn append_reply(
     append_outline(&response_of(session, reply), out)
 }
 
+/// Adds the frame that `write_reply` writes, in one walk of each list that the reply holds.
+///
+/// On false the frame takes more than so many bytes, where a list counts with each of its elements, also one that is written as a
+/// string. Of a reply that holds no list it is never told. On false and on an error the bytes are as before.
+pub fn append_reply_within(
+    session: Option<u32>,
+    reply: &Reply,
+    most: usize,
+    out: &mut Vec<u8>,
+) -> Result<bool, EncodeFault>
+    ensures ok { IfOk result (λ within. out.new.items ≡ out.old.items ++ (if within then frame (131 ∷ canon (response session reply.now)) else [])) }
+    ensures over { IfOk result (λ within. within ≡ false → min most 4294967295 < 2 * length (frame (131 ∷ canon (response session reply.now)))) }
+    ensures too_long { result ≡ Err EncodeFault.TooLong → 4294967295 < length (131 ∷ canon (response session reply.now)) }
+    ensures err { OnErr result (out.new.items ≡ out.old.items) }
+{
+    let value = match reply {
+        Reply::Found(rows) => Unmeasured::List(rows),
+        Reply::AtomicTerms(answers) => Unmeasured::Atomic(answers),
+        _ => {
+            append_reply(session, reply, out)?;
+            return Ok(true);
+        }
+    };
+    let within = append_pair_within(&first_of(reply, session), &value, most, out)?;
+    Ok(within)
+}
+
+/// The number of the session, or `reply` where none is named.
+fn first_of<'a>(_reply: &'a Reply, session: Option<u32>) -> Leaf<'a>
+    ensures term { (r : ReplyOf) → response session r ≡ pair_of (leaf_term result) (reply_term_of r) }
+    ensures short { IsShort result }
+    ensures fits { IsWritable result }
+{
+    match session {
+        Some(session) => Leaf::Number(u64::from(session)),
+        None => Leaf::Word("reply"),
+    }
+}
+
 fn response_of(session: Option<u32>, reply: &Reply) -> Outline<'_>
     ensures term { outline_term result ≡ response session reply.now }
     ensures short { IsShortOutline result }
 {
-    let first = match session {
-        Some(session) => Leaf::Number(u64::from(session)),
-        None => Leaf::Word("reply"),
-    };
+    let first = first_of(reply, session);
     let told = outline_of(reply);
     Outline {
         first: Some(first),

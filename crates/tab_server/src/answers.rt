@@ -3,14 +3,14 @@
 ghost use Rattle.std.specs.Prelude.{◌≡◌, OnOk};
 
 use crate::gate::{Count, Gate};
-use crate::kept::{KEPT, empty};
-use crate::pieces::{reaches, send_pieces};
+use crate::kept::{KEPT, LONG, empty};
+use crate::pieces::send_pieces;
 use std::alloc::Global;
 use std::io::Write;
 use std::sync::Wait;
-use tab_etf::{Broken, EncodeFault, FrameFault, are_within};
+use tab_etf::{Broken, EncodeFault, FrameFault};
 use tab_model::Reply;
-use tab_proto::{append_reply, write_reply};
+use tab_proto::{append_reply_within, write_reply};
 use tab_sink::FrameSink;
 
 /// Replies of a session, in order: requests that came in one piece are answered in one write.
@@ -47,16 +47,6 @@ impl From<FrameFault> for Unwritten {
     }
 }
 
-/// Whether a reply is longer than what is kept before it is written. Only what holds records can be much longer than a request.
-fn is_long(reply: &Reply) -> bool {
-    let mut len = 0;
-    match reply {
-        Reply::Found(terms) => terms.iter().any(|term| reaches(&mut len, term)),
-        Reply::AtomicTerms(answers) => !are_within(answers, KEPT as u64),
-        _ => false,
-    }
-}
-
 impl<'a, W: Write, G: Gate> Answers<'a, W, G> {
     /// None yet.
     pub fn new(
@@ -88,10 +78,10 @@ impl<'a, W: Write, G: Gate> Answers<'a, W, G> {
 
     /// Keeps the reply to it, until some are written at once.
     pub fn keep<R: Wait>(&mut self, rt: &R, reply: &Reply) -> Result<(), Unwritten> {
-        if is_long(reply) {
+        // Where no memory is found to keep it in, it may still go in pieces.
+        let is_kept = append_reply_within(None, reply, LONG, &mut self.frames).unwrap_or(false);
+        if !is_kept {
             self.send_long(rt, reply)?;
-        } else {
-            append_reply(None, reply, &mut self.frames)?;
         }
         self.answered = self.answered.saturating_add(1);
         if self.frames.len() >= KEPT {
@@ -102,6 +92,8 @@ impl<'a, W: Write, G: Gate> Answers<'a, W, G> {
 
     /// Sends a reply behind those that are kept, piece by piece.
     fn send_long<R: Wait>(&mut self, rt: &R, reply: &Reply) -> Result<(), Unwritten> {
+        // What the frame took that was not kept would stay for as long as the reply is on its way.
+        self.frames.shrink_to(3 * KEPT);
         let written = send_pieces(rt, self.sink, &mut self.frames, |pieces| {
             write_reply(pieces, None, reply)
         })?;

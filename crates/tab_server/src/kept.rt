@@ -8,6 +8,9 @@ pub const KEPT: usize = 65_536;
 /// Room for so many bytes stays for the frames that come next.
 const ROOM: usize = 4 * KEPT;
 
+/// A reply of more bytes goes piece by piece.
+pub const LONG: usize = ROOM;
+
 /// Empties what was written, and gives back what a long frame took.
 pub fn empty(frames: &mut Vec<u8>)
     ensures items { frames.new.items ≡ [] }

@@ -1,13 +1,11 @@
 -- How a payload is answered, and the bytes of an answer (this project's own rules).
-use Rattle.std.specs.Prelude.{◌≡◌, ◌≢◌, ℕ, Bool, true, false, not, ◌<◌, List, [], ◌∷◌, length, Some, None, Result, Ok, Err, ◌⊎◌}
+use Rattle.std.specs.Prelude.{◌≡◌, ◌≢◌, ℕ, Bool, true, false, not, List, [], ◌∷◌, Some, None, Result, Ok, Err, ◌⊎◌}
 use Rattle.std.specs.List.{All, flat_map}
 use Rattle.tab_term.specs.Data.{PlainTerm}
 use Rattle.tab_term.specs.Canon.{canon}
 use Rattle.tab_etf.specs.Frames.{frame}
 use Rattle.tab_etf.specs.Reading.{whole}
 use Rattle.tab_etf.specs.declared.fault.Stop.{Stop}
-use Rattle.tab_etf.specs.declared.encoding.EncodeFault.{EncodeFault}
-use Rattle.tab_etf.specs.declared.encoding.EncodeFault.TheVariants as puts
 use Rattle.tab_model.specs.State.{Outbox, State}
 use Rattle.tab_model.specs.Outcome.{Ask, Join, Leave, Retry, Take, DoCommand}
 use Rattle.tab_model.specs.declared.data.Reply.{Reply}
@@ -162,8 +160,3 @@ answer_payload x = 131 ∷ canon (response (Some x.session) x.reply)
 -- the payload of an answer behind its length
 unfoldable pub answer_frame : Answer → List ℕ
 answer_frame x = frame (answer_payload x)
-
--- why an answer's frame was not put: its payload is too long for a length of four bytes, or memory was refused
-abbrev pub NotPut : Answer → EncodeFault → Type 0
-NotPut x puts.TooLong = 4294967295 < length (answer_payload x)
-NotPut x puts.NoMemory = Unit {0}

@@ -1,6 +1,6 @@
 //! One payload, and how it is answered.
 
-ghost use Rattle.std.specs.Prelude.{◌≡◌, ◌++◌, ◌⊎◌, ℕ, [], IfErr, MatchOption, OnOk, OnErr};
+ghost use Rattle.std.specs.Prelude.{◌≡◌, ◌++◌, ◌⊎◌, ℕ, [], MatchOption, OnOk, OnErr};
 ghost use Rattle.tab_term.specs.View.{term};
 ghost use Rattle.tab_model.specs.Outcome.{Join};
 ghost use Rattle.tab_core.specs.Runs.{ask_of};
@@ -8,17 +8,17 @@ ghost use Rattle.tab_outbox.specs.Posts.{as_outbox};
 ghost use Rattle.tab_proto.specs.declared.request.Request.TheVariants as request;
 ghost use Rattle.tab_oneshot.specs.OneShots.{is_one_shot as is_one_shot_command};
 ghost use Rattle.tab_session.specs.StepsMade.{IsJoinRefused, JoinTakesMemory, StepMadeOrRefused};
-ghost use Rattle.tab_session.specs.AnsweredPayloads.{IsNumberOf, Answered, AnsweredTerm, RefusedTerm, RepliesTo, answer_frame, empty_post, NotPut};
+ghost use Rattle.tab_session.specs.AnsweredPayloads.{IsNumberOf, Answered, AnsweredTerm, RefusedTerm, RepliesTo, answer_frame, empty_post};
 ghost use Rattle.tab_session.specs.Replays.{Handed, OneFault};
 
 use crate::one_session::drive;
 use crate::{Answer, Ended};
 use std::alloc::Global;
 use tab_core::{Core, Step};
-use tab_etf::{EncodeFault, EtfFault, FrameFault, Target, decode};
+use tab_etf::{EtfFault, FrameFault, Target, decode};
 use tab_model::{Command, Limit, Reply, SharedReply};
 use tab_outbox::RingPost;
-use tab_proto::{ProtoFault, Request, append_reply, read_request, session_of, write_reply};
+use tab_proto::{ProtoFault, Request, append_reply_within, read_request, session_of, write_reply};
 use tab_term::Term;
 
 /// Answers a payload: what is no term is BadTerm under 0, and a term that asks nothing is BadCommand, under the number in
@@ -151,14 +151,20 @@ fn reply_of(core: &mut Core<RingPost>, session: u32, step: Step<RingPost>) -> Sh
     }
 }
 
-/// Adds the frame of `{Session, Reply}`. On an error the bytes are as before.
+/// A frame is not kept: no memory was found for it, or it is long.
+#[derive(Clone, Copy, Debug, PartialEq, Eq)]
+pub struct Unkept;
+
+/// Adds the frame of `{Session, Reply}`, where that takes no more than so many bytes, or holds no list. On an error the bytes are as before.
 #[tactic(auto, unfolding(crate::specs::AnsweredPayloads::answer_frame))]
-pub fn put_answer(answer: &Answer, out: &mut Vec<u8>) -> Result<(), EncodeFault>
+pub fn put_answer(answer: &Answer, most: usize, out: &mut Vec<u8>) -> Result<(), Unkept>
     ensures ok { OnOk result (out.new.items ≡ out.old.items ++ answer_frame answer.now) }
-    ensures err { IfErr result (λ e. NotPut answer.now e) }
     ensures same { OnErr result (out.new.items ≡ out.old.items) }
 {
-    append_reply(Some(answer.session), answer.reply.reply(), out)
+    match append_reply_within(Some(answer.session), answer.reply.reply(), most, out) {
+        Ok(true) => Ok(()),
+        Ok(false) | Err(_) => Err(Unkept),
+    }
 }
 
 /// Writes the frame of `{Session, Reply}`, and takes no memory.

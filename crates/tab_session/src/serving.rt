@@ -16,6 +16,9 @@ use tab_outbox::RingPost;
 /// So many bytes of replies are kept before they are written.
 const KEPT: usize = 65_536;
 
+/// A frame of more bytes is written by itself.
+const LONG: usize = 4 * KEPT;
+
 fn payload_in(frame: &Frame) -> &[u8]
     ensures { result.now ≡ payload_of frame.now }
 {
@@ -25,13 +28,13 @@ fn payload_in(frame: &Frame) -> &[u8]
     }
 }
 
-/// Keeps the frame of a reply until there are some to be written at once. Where no memory is found to keep it in, what is kept
-/// is written, and then this frame by itself.
+/// Keeps the frame of a reply until there are some to be written at once. Where it is long, or no memory is found to keep it in, what is
+/// kept is written, and then this frame by itself.
 fn put<W: Target>(answer: &Answer, buffer: &mut Vec<u8>, output: &mut W) -> Result<(), Ended>
     ensures handed { Handed answer.now (W.contents output.old) (W.contents output.new) buffer.old.items buffer.new.items result }
     ensures faults { OneFault (W.faults output.old) (W.faults output.new) result }
 {
-    match put_answer(answer, buffer) {
+    match put_answer(answer, LONG, buffer) {
         Ok(()) => {
             if buffer.len() >= KEPT {
                 give_all(output, buffer)?;

@@ -2,7 +2,7 @@
 
 use std::alloc::{AllocError, Global};
 use std::test::Fail;
-use tab_etf::{Body, Leaf, Outline, append_frame, append_outline, are_within, decode};
+use tab_etf::{Body, Leaf, Outline, append_frame, append_outline, decode};
 use tab_lists::{Answer, Answers, SharedTerms};
 use tab_term::{Term, Terms};
 use tab_test_tools::bytes;
@@ -102,13 +102,6 @@ fn are_spelled(alloc: Global, answers: &Answers, payload: &[u8]) -> Result<bool,
     Ok(told.as_slice() == built.as_slice() && told.get(4..) == Some(payload))
 }
 
-/// Whether the answers are found to be longer than what is shorter than they are by a byte, and not
-/// longer than ten thousand.
-fn are_measured(answers: &Answers, payload: &[u8]) -> bool {
-    let len = (payload.len() as u64).saturating_sub(1).min(1000);
-    are_within(answers, 10_000) && !are_within(answers, len.saturating_sub(1))
-}
-
 #[test]
 fn answers_are_spelled_as_their_terms(rt: HostRuntime) -> Result<(), Fail> {
     let alloc = rt.alloc();
@@ -116,7 +109,6 @@ fn answers_are_spelled_as_their_terms(rt: HostRuntime) -> Result<(), Fail> {
         let payload = bytes(alloc, text)?;
         let all = answers(alloc, shapes)?;
         assert!(rt; are_spelled(alloc, &all, &payload)?, "line {line}");
-        assert!(rt; are_measured(&all, &payload), "line {line}");
     }
     Ok(())
 }

@@ -1,13 +1,9 @@
-use Rattle.std.proofs.Common.{◌≡◌, ap, sym, ◌∙◌, refl, arith, length, length-append, Bool, true, false, ◌&&◌}
+use Rattle.std.proofs.Common.{ap, sym, ◌∙◌, arith, length, length-append, ◌&&◌}
 use Rattle.tab_term.specs.Canon.{all_bytes, canon, canons}
 use Rattle.tab_term.specs.Data.{plain_terms, count as count_of}
 use Rattle.tab_term.specs.View.{term}
-use Rattle.tab_etf.proofs.SharedElements.{canons_first, canons_end}
+use Rattle.tab_etf.proofs.SharedElements.{and_assoc, canons_first, canons_end}
 use Rattle.tab_etf.proofs.shared.measure_of.Goals as goal
-
-both : (a b c : Bool) → ((a && b) && c) ≡ (a && (b && c))
-both true b c = refl
-both false b c = refl
 
 pub loop-t-preserved : goal.loop-t-preserved
 loop-t-preserved c =
@@ -20,14 +16,8 @@ loop-t-preserved c =
       count = omega (arith, c.loop-t.invariant.count, c.loop-t.invariant.most, c.saturating_add-count.ensures, ap (λ ts. count_of (plain_terms ts)) steps);
       longest = omega (arith, c.saturating_add-len.ensures);
       len = omega (arith, c.loop-t.invariant.len, c.loop-t.invariant.longest, c.spelled_len.ensures, c.saturating_add-len.ensures, ap length (canons_first c.loop-t.t-iterator c.next.new.self t steps), length-append (canon t) (canons (plain_terms c.next.new.self)));
-      bytes = both b c.is_byte_term-bytes.result left ∙ ap (λ z. b && (z && left)) c.is_byte_term-bytes.ensures ∙ ap (λ ts. b && all_bytes (plain_terms ts)) (sym steps) ∙ c.loop-t.invariant.bytes;
+      bytes = and_assoc b c.is_byte_term-bytes.result left ∙ ap (λ z. b && (z && left)) c.is_byte_term-bytes.ensures ∙ ap (λ ts. b && all_bytes (plain_terms ts)) (sym steps) ∙ c.loop-t.invariant.bytes;
     }
 
-pub returns-then-count-eq0-clause-len : goal.returns-then-count-eq0-clause-len
-returns-then-count-eq0-clause-len c = omega (arith, c.loop-t.invariant.len, c.loop-t.invariant.longest, ap length (canons_end c.loop-t.t-iterator c.in-None.ensures.steps.0))
-
-pub returns-then-bytes-clause-len : goal.returns-then-bytes-clause-len
-returns-then-bytes-clause-len c = omega (arith, c.loop-t.invariant.len, c.loop-t.invariant.longest, ap length (canons_end c.loop-t.t-iterator c.in-None.ensures.steps.0))
-
-pub returns-else-count-lt65536-clause-len : goal.returns-else-count-lt65536-clause-len
-returns-else-count-lt65536-clause-len c = omega (arith, c.loop-t.invariant.len, c.loop-t.invariant.longest, ap length (canons_end c.loop-t.t-iterator c.in-None.ensures.steps.0))
+pub returns-clause-len : goal.returns-clause-len
+returns-clause-len c = omega (arith, c.loop-t.invariant.len, c.loop-t.invariant.longest, ap length (canons_end c.loop-t.t-iterator c.in-None.ensures.steps.0))
