@@ -1,6 +1,6 @@
 //! A core over mailboxes, and its journal.
 
-ghost use Rattle.std.specs.Prelude.{◌≡◌, ◌≤◌, ◌+◌, [], true, IfOk, IfErr, OnOk, OnErr};
+ghost use Rattle.std.specs.Prelude.{◌≡◌, ◌≤◌, ◌+◌, [], IsTrue, IfOk, IfErr, OnOk, OnErr};
 ghost use Rattle.tab_model.specs.History.{empty as empty_base};
 ghost use Rattle.tab_model.specs.State.{new as new_state, IsSound};
 ghost use Rattle.tab_named.specs.Ends.{as_outbox, mailbox_of, received};
@@ -60,7 +60,12 @@ impl<H: Host> Book<H> {
         requires sessions { limits.sessions ≤ 64 }
         requires journal { 1 ≤ limits.journal }
         requires name { opened ≡ H.book }
-        ensures { IfOk result (λ b. b ≡ record { state = new_state limits; journal = record { base = empty_base; entries = []; limit = limits.journal } }) }
+        ensures { IfOk result
+            (λ b. b ≡ record {
+              state = new_state limits;
+              journal =
+                  record { base = empty_base; entries = []; limit = limits.journal };
+            }) }
     {
         let (register, prefix) = opened.named::<H>();
         let journal = Journal::with_limit(alloc, limits.journal as usize)?;
@@ -93,7 +98,7 @@ impl<H: Host> Book<H> {
 
     /// True: the entries are run again from the base, which takes as long as the transactions did.
     pub fn audit(&self) -> Result<bool, AllocError>
-        ensures { IfOk result (λ is. is ≡ true) }
+        ensures { IfOk result (λ is. IsTrue is) }
     {
         self.journal
             .audit(self.alloc, self.journal.base(), self.core.tables())
@@ -101,7 +106,8 @@ impl<H: Host> Book<H> {
 
     /// A session joins with this mailbox, whose receiving end is given out. It is no mailbox of a session that sits.
     pub fn join(&mut self, mailbox: NewMailbox<H>) -> Result<(u32, SeatInbox<H>), JoinFault>
-        ensures ok { IfOk result (λ r. Joins self.old r.0 (mailbox_of r.1) (received r.1) self.new) }
+        ensures ok { IfOk result
+            (λ r. Joins self.old r.0 (mailbox_of r.1) (received r.1) self.new) }
         ensures err { IfErr result (λ e. Refuses self.old e self.new) }
         ensures posts { KeepsPosts self.old.state self.new.state }
     {
@@ -149,7 +155,7 @@ fn seat<H: Host>(
     post: SeatPost<H>,
 ) -> Result<(), AllocError>
     requires sound { IsSound core.old }
-    requires room { has_room_of core.old ≡ true }
+    requires room { IsTrue (has_room_of core.old) }
     requires number { session ≡ core.old.greatest + 1 }
     ensures ok { OnOk result (core.new ≡ with_session core.old session (as_outbox post)) }
     ensures err { OnErr result (core.new ≡ core.old) }

@@ -1,6 +1,6 @@
 //! Several steps of one session under one hold of the lock.
 
-ghost use Rattle.std.specs.Prelude.{◌≡◌, true, IsOk};
+ghost use Rattle.std.specs.Prelude.{◌≡◌, IsTrue, IsOk};
 ghost use Rattle.tab_book.specs.Steps.{is_never_refused};
 
 use crate::book::Book;
@@ -41,7 +41,7 @@ impl<'a, H: Host> Held<'a, H> {
 
     /// A step of the session; the book stays held.
     pub fn step(&mut self, seat: &Seat, step: Step) -> Result<SharedReply, AllocError>
-        ensures { is_never_refused step ≡ true → IsOk result }
+        ensures { IsTrue (is_never_refused step) → IsOk result }
     {
         if self.steps >= STEPS {
             self.give_back();

@@ -17,7 +17,8 @@ use tab_outbox::Met;
 impl<H: Host> Book<H> {
     /// Takes one item more at the session's inbox, or shows that all is taken, with an overflow that was not told yet.
     pub fn drained(&mut self, session: u32, inbox: &mut SeatInbox<H>) -> Drained
-        ensures drained { Drains self.old session (mailbox_of inbox.old) (received inbox.old) result (received inbox.new) self.new }
+        ensures drained { Drains self.old session (mailbox_of inbox.old) (received inbox.old) result
+            (received inbox.new) self.new }
         ensures mailbox { mailbox_of inbox.new ≡ mailbox_of inbox.old }
         ensures posts { KeepsPosts self.old.state self.new.state }
     {
@@ -32,7 +33,8 @@ impl<H: Host> Book<H> {
     /// Of a joined session of which all is taken: the overflow that it was not told yet.
     fn told_overflow(&mut self, session: u32) -> Drained
         requires { (s : Session) × (session_at self.old.state.sessions session ≡ Some s) }
-        ensures told { (s : Session) × (session_at self.old.state.sessions session ≡ Some s) × TellsOverflow self.old session s.overflow result self.new }
+        ensures told { (s : Session) × (session_at self.old.state.sessions session ≡ Some s)
+            × TellsOverflow self.old session s.overflow result self.new }
         ensures posts { KeepsPosts self.old.state self.new.state }
     {
         let Ok(stepped) = self.core.step(session, Step::Take) else {

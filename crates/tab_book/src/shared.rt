@@ -1,6 +1,6 @@
 //! A book that threads share.
 
-ghost use Rattle.std.specs.Prelude.{◌≡◌, ◌≢◌, ◌≤◌, [], true, IfOk, IfSome, IsOk};
+ghost use Rattle.std.specs.Prelude.{◌≡◌, ◌≢◌, ◌≤◌, [], IsTrue, IfOk, IfSome, IsOk};
 ghost use Rattle.tab_model.specs.declared.data.Reply.TheVariants as reply;
 ghost use Rattle.tab_model.specs.Outcome.{is_abort};
 ghost use Rattle.tab_named.specs.Ends.{received};
@@ -129,7 +129,7 @@ impl<H: Host> Shared<H> {
 
     /// A command of the session, once: it is told `Waiting` where it has to wait for a lock.
     pub fn step(&self, host: &H, seat: &Seat, command: Command) -> Result<SharedReply, AllocError>
-        ensures { is_abort command ≡ true → IsOk result }
+        ensures { IsTrue (is_abort command) → IsOk result }
     {
         self.make(host, seat, Step::Do(command))
     }
@@ -257,7 +257,7 @@ impl<H: Host> Shared<H> {
 
     /// A step, after which those are woken that may go on since.
     fn make(&self, host: &H, seat: &Seat, step: Step) -> Result<SharedReply, AllocError>
-        ensures { is_never_refused step ≡ true → IsOk result }
+        ensures { IsTrue (is_never_refused step) → IsOk result }
     {
         let mut book = self.hold(host);
         let answered = book.step(seat.session, step)?;

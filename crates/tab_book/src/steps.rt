@@ -1,6 +1,6 @@
 //! Steps of a book.
 
-ghost use Rattle.std.specs.Prelude.{◌≡◌, ◌≢◌, ◌<◌, ◌&&◌, [], true, false, IfOk, IfSome, IsOk, MatchOption, OnOk, OnErr, is_some, length};
+ghost use Rattle.std.specs.Prelude.{◌≡◌, ◌≢◌, ◌<◌, ◌&&◌, [], IsTrue, IsFalse, IfOk, IfSome, IsOk, MatchOption, OnOk, OnErr, is_some, length};
 ghost use Rattle.tab_model.specs.declared.data.Reply.TheVariants.{Restart};
 ghost use Rattle.tab_model.specs.State.{Outbox, is_waiting, transaction_at};
 ghost use Rattle.tab_model.specs.Run.{entries};
@@ -30,10 +30,13 @@ impl<H: Host> Book<H> {
     /// changed.
     pub fn step(&mut self, session: u32, step: Step) -> Result<Answered, AllocError>
         ensures done { IfOk result (λ r. StepsTo self.old session (ask_of step) r.told self.new) }
-        ensures free { takes_no_memory self.old.state session (ask_of step) ≡ true → (is_full self.old.journal && may_enter_of self.old.state session (ask_of step)) ≡ false → IsOk result }
+        ensures free { IsTrue (takes_no_memory self.old.state session (ask_of step))
+            → IsFalse (is_full self.old.journal && may_enter_of self.old.state session
+            (ask_of step)) → IsOk result }
         ensures err { OnErr result (MayFold self.old session (ask_of step) self.new) }
         ensures posts { KeepsPosts self.old.state self.new.state }
-        ensures releases { IfOk result (λ r. SaysReleases r.releases self.old.state self.new.state) }
+        ensures releases { IfOk result
+            (λ r. SaysReleases r.releases self.old.state self.new.state) }
     {
         let before = self.standing(session);
         let retries = retries(&step);
@@ -44,7 +47,9 @@ impl<H: Host> Book<H> {
 
     fn told(&mut self, session: u32, step: Step) -> Result<SharedReply, AllocError>
         ensures done { IfOk result (λ r. StepsTo self.old session (ask_of step) r self.new) }
-        ensures free { takes_no_memory self.old.state session (ask_of step) ≡ true → (is_full self.old.journal && may_enter_of self.old.state session (ask_of step)) ≡ false → IsOk result }
+        ensures free { IsTrue (takes_no_memory self.old.state session (ask_of step))
+            → IsFalse (is_full self.old.journal && may_enter_of self.old.state session
+            (ask_of step)) → IsOk result }
         ensures err { OnErr result (MayFold self.old session (ask_of step) self.new) }
         ensures posts { KeepsPosts self.old.state self.new.state }
     {
@@ -56,7 +61,9 @@ impl<H: Host> Book<H> {
 
     /// None where no one waits or rests, so that nothing that is let go of matters to others.
     fn standing(&self, session: u32) -> Option<Standing>
-        ensures { MatchOption result (self.now.state.queue ≡ []) (λ s. (s.open ≡ is_some (transaction_at self.now.state session)) × (s.waits ≡ is_waiting self.now.state session)) }
+        ensures { MatchOption result (self.now.state.queue ≡ [])
+            (λ s. (s.open ≡ is_some (transaction_at self.now.state session))
+            × (s.waits ≡ is_waiting self.now.state session)) }
     {
         if !self.core.has_waiters() {
             return None;
@@ -76,9 +83,13 @@ impl<H: Host> Book<H> {
     /// Whether a step after which the session was told so may let others go on: its transaction ended or was restarted, or
     /// its queued request was dropped. A retry that is answered holds the lock from then on, so it makes way for no one.
     fn lets_go(&self, session: u32, before: Option<Standing>, retries: bool, reply: &Reply) -> bool
-        ensures ended { IfSome before (λ b. b.open ≡ true → is_some (transaction_at self.now.state session) ≡ false → result ≡ true) }
-        ensures dropped { IfSome before (λ b. retries ≡ false → b.waits ≡ true → is_waiting self.now.state session ≡ false → result ≡ true) }
-        ensures restarted { IfSome before (λ b. reply.now ≡ Restart → result ≡ true) }
+        ensures ended { IfSome before
+            (λ b. IsTrue b.open → IsFalse (is_some (transaction_at self.now.state session))
+            → IsTrue result) }
+        ensures dropped { IfSome before
+            (λ b. IsFalse retries → IsTrue b.waits → IsFalse (is_waiting self.now.state session)
+            → IsTrue result) }
+        ensures restarted { IfSome before (λ b. reply.now ≡ Restart → IsTrue result) }
     {
         let Some(before) = before else {
             return false;
@@ -89,9 +100,11 @@ impl<H: Host> Book<H> {
     }
 
     fn make(&mut self, session: u32, step: Step) -> Result<SharedReply, AllocError>
-        requires room { may_enter_of self.old.state session (ask_of step) ≡ true → length self.old.journal.entries < self.old.journal.limit }
-        ensures done { IfOk result (λ r. StepsFrom self.old.state self.old.journal session (ask_of step) r self.new) }
-        ensures free { takes_no_memory self.old.state session (ask_of step) ≡ true → IsOk result }
+        requires room { IsTrue (may_enter_of self.old.state session (ask_of step))
+            → length self.old.journal.entries < self.old.journal.limit }
+        ensures done { IfOk result
+            (λ r. StepsFrom self.old.state self.old.journal session (ask_of step) r self.new) }
+        ensures free { IsTrue (takes_no_memory self.old.state session (ask_of step)) → IsOk result }
         ensures err { OnErr result (self.new ≡ self.old) }
         ensures posts { KeepsPosts self.old.state self.new.state }
     {
@@ -106,8 +119,13 @@ impl<H: Host> Book<H> {
 
     /// The oldest entry is folded into the base.
     fn fold(&mut self) -> Result<(), AllocError>
-        requires full { is_full self.old.journal ≡ true }
-        ensures ok { OnOk result (self.new ≡ record { state = self.old.state; journal = folded self.old.state self.old.journal }) }
+        requires full { IsTrue (is_full self.old.journal) }
+        ensures ok { OnOk result
+            (self.new ≡ record {
+              state = self.old.state;
+              journal = folded self.old.state
+                  self.old.journal;
+            }) }
         ensures room { OnOk result (length self.new.journal.entries < self.new.journal.limit) }
         ensures err { OnErr result (self.new ≡ self.old) }
     {

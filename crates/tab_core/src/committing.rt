@@ -1,6 +1,6 @@
 //! Outermost commits and schema commands, with what they owe to who watches.
 
-ghost use Rattle.std.specs.Prelude.{◌≡◌, ◌+◌, ◌∷◌, ◌++◌, [], IfOk, IsOk, OnOk, OnErr, true};
+ghost use Rattle.std.specs.Prelude.{◌≡◌, ◌+◌, ◌∷◌, ◌++◌, [], IfOk, IsOk, OnOk, OnErr, IsTrue};
 ghost use Rattle.std.specs.List.{filter};
 ghost use Rattle.tab_model.specs.declared.data.Command.TheVariants as command;
 ghost use Rattle.tab_model.specs.Outcome.{DoCommand};
@@ -48,8 +48,10 @@ impl Updated {
 impl<P: Post + Drop> Core<P> {
     /// All growths come first, then the tables move in, the locks go and the batches are put: from there nothing fails.
     pub(crate) fn commit(&mut self, session: u32) -> Result<Stepped, AllocError>
-        ensures done { IfOk result (λ s. StepsTo self.old session (DoCommand command.Commit) s self.new) }
-        ensures free { takes_no_memory self.old session (DoCommand command.Commit) ≡ true → IsOk result }
+        ensures done { IfOk result
+            (λ s. StepsTo self.old session (DoCommand command.Commit) s self.new) }
+        ensures free { IsTrue (takes_no_memory self.old session (DoCommand command.Commit))
+            → IsOk result }
         ensures err { OnErr result (self.new ≡ self.old) }
     {
         let Some(ending) = self.manager.outermost(session) else {
@@ -69,8 +71,10 @@ impl<P: Post + Drop> Core<P> {
 
     /// What the session itself refuses is looked for before any memory is taken.
     pub(crate) fn schema(&mut self, session: u32, schema: Schema) -> Result<Stepped, AllocError>
-        ensures done { IfOk result (λ s. StepsTo self.old session (DoCommand (command.Schema schema)) s self.new) }
-        ensures free { takes_no_memory self.old session (DoCommand (command.Schema schema)) ≡ true → IsOk result }
+        ensures done { IfOk result
+            (λ s. StepsTo self.old session (DoCommand (command.Schema schema)) s self.new) }
+        ensures free { IsTrue (takes_no_memory self.old session (DoCommand (command.Schema schema)))
+            → IsOk result }
         ensures err { OnErr result (self.new ≡ self.old) }
     {
         if let Some(refusal) = self.schema_refusal(session) {
@@ -81,7 +85,8 @@ impl<P: Post + Drop> Core<P> {
 
     /// What refuses a schema command before its table is looked at.
     fn schema_refusal(&self, session: u32) -> Option<Reply>
-        ensures { result ≡ refused_by self.now session inside_refusal (session_at self.now.sessions session) }
+        ensures { result
+            ≡ refused_by self.now session inside_refusal (session_at self.now.sessions session) }
     {
         if let Some(refusal) = self.session_refusal(session) {
             return Some(refusal);
@@ -94,7 +99,8 @@ impl<P: Post + Drop> Core<P> {
 
     /// A table's deletion owes end marks; no other schema command owes anything.
     fn redefine(&mut self, session: u32, schema: Schema) -> Result<Stepped, AllocError>
-        ensures done { IfOk result (λ s. StepsTo self.old session (DoCommand (command.Schema schema)) s self.new) }
+        ensures done { IfOk result
+            (λ s. StepsTo self.old session (DoCommand (command.Schema schema)) s self.new) }
         ensures err { OnErr result (self.new ≡ self.old) }
     {
         let Schema::Remove(table) = &schema else {
@@ -125,7 +131,9 @@ fn deliver_commit<P: Post + Drop>(
 ) -> Result<Stepped, AllocError>
     requires kept { IsKept subs.old manager.old }
     requires ends { Commits manager.old subs.old session updated }
-    ensures done { IfOk result (λ s. StepsTo (state_with subs.old manager.old) session (DoCommand command.Commit) s (state_with subs.new manager.new)) }
+    ensures done { IfOk result
+        (λ s. StepsTo (state_with subs.old manager.old) session (DoCommand command.Commit) s
+        (state_with subs.new manager.new)) }
     ensures kept { IsKept subs.new manager.new }
     ensures err { OnErr result (state_with subs.new manager.new ≡ state_with subs.old manager.old) }
 {
@@ -220,7 +228,10 @@ fn push_watched<P: Post + Drop>(
     nameless: &Atom,
 ) -> Result<(), AllocError>
     requires { nameless.now ≡ [] }
-    ensures { OnOk result (events.new.items ≡ events.old.items ++ filter (is_watched subs.now) (event_of changing.now age change.now ∷ [])) }
+    ensures { OnOk result
+        (events.new.items
+        ≡ events.old.items
+        ++ filter (is_watched subs.now) (event_of changing.now age change.now ∷ [])) }
 {
     if subs.watched(table_of_change(change, nameless)).is_none() {
         return Ok(());

@@ -5,7 +5,7 @@
 
 #![tactic(auto)]
 
-ghost use Rattle.std.specs.Prelude.{◌≡◌, ◌≤◌, ◌++◌, ℕ, List, IfOk, IsOk, OnErr, true};
+ghost use Rattle.std.specs.Prelude.{◌≡◌, ◌≤◌, ◌++◌, ℕ, List, IfOk, IsOk, OnErr, IsTrue};
 ghost use Rattle.tab_model.specs.declared.data.Entry.{Entry as EntryOf};
 ghost use Rattle.tab_model.specs.declared.data.Item.{Item as ItemOf};
 ghost use Rattle.tab_model.specs.State.{new, IsSound};
@@ -73,8 +73,10 @@ impl<P: Post + Drop> Core<P> {
 
     /// One step of a session, whole or, where memory that it takes is refused, not at all.
     pub fn step(&mut self, session: u32, step: Step<P>) -> Result<Stepped, AllocError>
-        ensures done { IfOk result (λ s. StepsTo self.old session (ask_of P.outbox step) s self.new) }
-        ensures free { takes_no_memory self.old session (ask_of P.outbox step) ≡ true → IsOk result }
+        ensures done { IfOk result
+            (λ s. StepsTo self.old session (ask_of P.outbox step) s self.new) }
+        ensures free { IsTrue (takes_no_memory self.old session (ask_of P.outbox step))
+            → IsOk result }
         ensures err { OnErr result (self.new ≡ self.old) }
         ensures sound { IsSound self.new }
         ensures rising { IsRising self.new }
@@ -86,8 +88,10 @@ impl<P: Post + Drop> Core<P> {
     }
 
     fn make(&mut self, session: u32, step: Step<P>) -> Result<Stepped, AllocError>
-        ensures done { IfOk result (λ s. StepsTo self.old session (ask_of P.outbox step) s self.new) }
-        ensures free { takes_no_memory self.old session (ask_of P.outbox step) ≡ true → IsOk result }
+        ensures done { IfOk result
+            (λ s. StepsTo self.old session (ask_of P.outbox step) s self.new) }
+        ensures free { IsTrue (takes_no_memory self.old session (ask_of P.outbox step))
+            → IsOk result }
         ensures err { OnErr result (self.new ≡ self.old) }
     {
         match step {
@@ -101,7 +105,7 @@ impl<P: Post + Drop> Core<P> {
 
     fn command(&mut self, session: u32, command: Command) -> Result<Stepped, AllocError>
         ensures done { IfOk result (λ s. StepsTo self.old session (DoCommand command) s self.new) }
-        ensures free { takes_no_memory self.old session (DoCommand command) ≡ true → IsOk result }
+        ensures free { IsTrue (takes_no_memory self.old session (DoCommand command)) → IsOk result }
         ensures err { OnErr result (self.new ≡ self.old) }
     {
         match command {
@@ -139,7 +143,8 @@ impl<P: Post + Drop> Core<P> {
 
     /// One step of a session, and its reply, which is NoMemory where memory was refused.
     fn step_reply(&mut self, session: u32, step: Step<P>) -> SharedReply
-        ensures { (log : List EntryOf) × StepsOrNoMemory self.old (session, ask_of P.outbox step) result log self.new }
+        ensures { (log : List EntryOf)
+            × StepsOrNoMemory self.old (session, ask_of P.outbox step) result log self.new }
     {
         match self.step(session, step) {
             Ok(stepped) => stepped.into_reply(),

@@ -1,6 +1,6 @@
 //! What a core's sessions are, as its caller sees them.
 
-ghost use Rattle.std.specs.Prelude.{◌≡◌, ◌^◌, ◌-◌, ◌&&◌, [], false, length, min, nat_lt, option_map};
+ghost use Rattle.std.specs.Prelude.{◌≡◌, ◌^◌, ◌-◌, ◌&&◌, [], IsFalse, length, min, nat_lt, option_map};
 ghost use Rattle.tab_model.specs.Standing.{is_joined, levels_of};
 ghost use Rattle.tab_model.specs.State.{is_waiting, session_at};
 ghost use Rattle.tab_outbox.specs.Mailboxes.{Meets};
@@ -37,14 +37,16 @@ impl<P: Post + Drop> Core<P> {
 
     /// Whether some session waits or rests.
     pub fn has_waiters(&self) -> bool
-        ensures { result ≡ false → self.now.queue ≡ [] }
+        ensures { IsFalse result → self.now.queue ≡ [] }
     {
         self.manager.has_waiters()
     }
 
     /// Whether the session's number and the limit of sessions let it join.
     pub fn admits(&self, session: u32) -> bool
-        ensures { result ≡ (nat_lt self.now.greatest session && nat_lt (length self.now.sessions) self.now.limits.sessions) }
+        ensures { result
+            ≡ (nat_lt self.now.greatest session && nat_lt
+            (length self.now.sessions) self.now.limits.sessions) }
     {
         self.manager.admits(session)
     }
@@ -65,7 +67,8 @@ impl<P: Post + Drop> Core<P> {
 
     /// The post of a session that is joined.
     pub fn post(&self, session: u32) -> Option<&P>
-        ensures { option_map (λ p. P.outbox p.now) result ≡ option_map (λ s. s.outbox) (session_at self.now.sessions session) }
+        ensures { option_map (λ p. P.outbox p.now) result
+            ≡ option_map (λ s. s.outbox) (session_at self.now.sessions session) }
     {
         self.subs.post(session as u64)
     }
@@ -77,7 +80,8 @@ impl<P: Mailbox + Drop> Core<P> {
     pub fn meet(&mut self, session: u32, end: &mut P::End) -> Option<Met>
         ensures same { self.new ≡ self.old }
         ensures end { P.mailbox end.new ≡ P.mailbox end.old }
-        ensures met { Meets (option_map (λ s. s.outbox) (session_at self.old.sessions session)) (P.mailbox end.old) (P.taken end.old) result (P.taken end.new) }
+        ensures met { Meets (option_map (λ s. s.outbox) (session_at self.old.sessions session))
+            (P.mailbox end.old) (P.taken end.old) result (P.taken end.new) }
     {
         self.subs.meet(session as u64, end)
     }

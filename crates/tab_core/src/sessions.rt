@@ -1,6 +1,6 @@
 //! Sessions join, take and leave.
 
-ghost use Rattle.std.specs.Prelude.{◌≡◌, true, IfOk, IsOk, OnErr};
+ghost use Rattle.std.specs.Prelude.{◌≡◌, IsTrue, IfOk, IsOk, OnErr};
 ghost use Rattle.tab_model.specs.Outcome.{Join, Leave, Take};
 ghost use Rattle.tab_core.specs.Runs.{StepsTo, takes_no_memory};
 ghost use Rattle.tab_core.specs.Subscribing.{taken_reply as taken_reply_of};
@@ -14,8 +14,10 @@ use tab_subs::Taken;
 
 impl<P: Post + Drop> Core<P> {
     pub(crate) fn join(&mut self, session: u32, post: P) -> Result<Stepped, AllocError>
-        ensures done { IfOk result (λ s. StepsTo self.old session (Join (P.outbox post)) s self.new) }
-        ensures free { takes_no_memory self.old session (Join (P.outbox post)) ≡ true → IsOk result }
+        ensures done { IfOk result
+            (λ s. StepsTo self.old session (Join (P.outbox post)) s self.new) }
+        ensures free { IsTrue (takes_no_memory self.old session (Join (P.outbox post)))
+            → IsOk result }
         ensures err { OnErr result (self.new ≡ self.old) }
     {
         if !self.manager.admits(session) {

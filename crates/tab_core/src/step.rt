@@ -23,7 +23,12 @@ pub enum Step<P> {
 
 /// The step with those whose posts refused its items.
 pub(crate) fn with_overflowed(stepped: Stepped, over: Numbers) -> Stepped
-    ensures { result ≡ record { reply = stepped.reply; entry = option_map (with_overflowed_of over) stepped.entry } }
+    ensures { result
+        ≡ record {
+          reply = stepped.reply;
+          entry = option_map
+              (with_overflowed_of over) stepped.entry;
+        } }
 {
     let Stepped { reply, entry } = stepped;
     let Some(entry) = entry else {

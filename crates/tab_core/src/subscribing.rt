@@ -1,6 +1,6 @@
 //! Subscriptions begin and end.
 
-ghost use Rattle.std.specs.Prelude.{◌≡◌, Bool, None, IfOk, IsOk, OnErr, true};
+ghost use Rattle.std.specs.Prelude.{◌≡◌, Bool, None, IfOk, IsOk, OnErr, IsTrue};
 ghost use Rattle.tab_model.specs.declared.data.Command.TheVariants as command;
 ghost use Rattle.tab_model.specs.declared.data.Level.{Level as LevelOf};
 ghost use Rattle.tab_model.specs.Outcome.{DoCommand, is_at as is_at_of, subscribe_refusal as subscribe_refusal_of};
@@ -29,8 +29,12 @@ impl<P: Post + Drop> Core<P> {
         level: Level,
         dump: bool,
     ) -> Result<Stepped, AllocError>
-        ensures done { IfOk result (λ s. StepsTo self.old session (DoCommand (command.Subscribe table level dump)) s self.new) }
-        ensures free { takes_no_memory self.old session (DoCommand (command.Subscribe table level dump)) ≡ true → IsOk result }
+        ensures done { IfOk result
+            (λ s. StepsTo self.old session
+            (DoCommand (command.Subscribe table level dump)) s self.new) }
+        ensures free { IsTrue
+            (takes_no_memory self.old session (DoCommand (command.Subscribe table level dump)))
+            → IsOk result }
         ensures err { OnErr result (self.new ≡ self.old) }
     {
         if let Some(refusal) = self.subscribe_refusal(session, &table)? {
@@ -54,8 +58,13 @@ impl<P: Post + Drop> Core<P> {
 
     /// What refuses a subscription but its post.
     fn subscribe_refusal(&self, session: u32, table: &Atom) -> Result<Option<Reply>, AllocError>
-        ensures ok { IfOk result (λ refusal. refusal ≡ refused_by self.now session (λ s. subscribe_refusal_of self.now s table.now) (session_at self.now.sessions session)) }
-        ensures free { (l : LevelOf) (dump : Bool) → is_told_for_none self.now session (DoCommand (command.Subscribe table.now l dump)) ≡ true → IsOk result }
+        ensures ok { IfOk result
+            (λ refusal. refusal
+            ≡ refused_by self.now session (λ s. subscribe_refusal_of self.now s table.now)
+            (session_at self.now.sessions session)) }
+        ensures free { (l : LevelOf) (dump : Bool)
+            → IsTrue (is_told_for_none self.now session
+            (DoCommand (command.Subscribe table.now l dump))) → IsOk result }
     {
         if let Some(refusal) = self.session_refusal(session) {
             return Ok(Some(refusal));
@@ -74,7 +83,8 @@ impl<P: Post + Drop> Core<P> {
 
     /// A command of a session that has not joined, or that waits.
     pub(crate) fn session_refusal(&self, session: u32) -> Option<Reply>
-        ensures { result ≡ refused_by self.now session (λ s. None) (session_at self.now.sessions session) }
+        ensures { result
+            ≡ refused_by self.now session (λ s. None) (session_at self.now.sessions session) }
     {
         if !self.manager.joined(session) {
             return Some(Reply::BadSession);
@@ -92,8 +102,12 @@ impl<P: Post + Drop> Core<P> {
         table: Atom,
         level: Level,
     ) -> Result<Stepped, AllocError>
-        ensures done { IfOk result (λ s. StepsTo self.old session (DoCommand (command.Unsubscribe table level)) s self.new) }
-        ensures free { takes_no_memory self.old session (DoCommand (command.Unsubscribe table level)) ≡ true → IsOk result }
+        ensures done { IfOk result
+            (λ s. StepsTo self.old session
+            (DoCommand (command.Unsubscribe table level)) s self.new) }
+        ensures free { IsTrue
+            (takes_no_memory self.old session (DoCommand (command.Unsubscribe table level)))
+            → IsOk result }
         ensures err { OnErr result (self.new ≡ self.old) }
     {
         if let Some(refusal) = self.unsubscribe_refusal(session, &table, level)? {
@@ -110,8 +124,13 @@ impl<P: Post + Drop> Core<P> {
         table: &Atom,
         level: Level,
     ) -> Result<Option<Reply>, AllocError>
-        ensures ok { IfOk result (λ refusal. refusal ≡ refused_by self.now session (unsubscribe_refusal_of table.now level) (session_at self.now.sessions session)) }
-        ensures free { is_told_for_none self.now session (DoCommand (command.Unsubscribe table.now level)) ≡ true → IsOk result }
+        ensures ok { IfOk result
+            (λ refusal. refusal
+            ≡ refused_by self.now session (unsubscribe_refusal_of table.now level)
+            (session_at self.now.sessions session)) }
+        ensures free { IsTrue
+            (is_told_for_none self.now session (DoCommand (command.Unsubscribe table.now level)))
+            → IsOk result }
     {
         if let Some(refusal) = self.session_refusal(session) {
             return Ok(Some(refusal));

@@ -1,6 +1,6 @@
 //! A session that is played: its answers are written down beforehand, and so is what it is to be asked.
 
-ghost use Rattle.std.specs.Prelude.{◌≡◌, ◌≢◌, true, IsOk};
+ghost use Rattle.std.specs.Prelude.{◌≡◌, ◌≢◌, IsTrue, IsOk};
 ghost use Rattle.tab_model.specs.Outcome.{is_abort};
 ghost use Rattle.tab_model.specs.declared.data.Reply.TheVariants as reply;
 
@@ -110,7 +110,7 @@ fn is_free(command: &Command) -> bool
 
 /// An abort is never refused for memory.
 fn told(alloc: Global, letter: u8, is_free: bool) -> Result<SharedReply, AllocError>
-    ensures { is_free ≡ true → IsOk result }
+    ensures { IsTrue is_free → IsOk result }
 {
     if is_free {
         return Ok(SharedReply::new(reply_of(alloc, letter)));

@@ -1,6 +1,6 @@
 //! Readers and writers of the standard library as devices.
 
-ghost use Rattle.std.specs.Prelude.{◌≡◌, ◌+◌, min, true};
+ghost use Rattle.std.specs.Prelude.{◌≡◌, ◌+◌, min, IsTrue};
 
 use crate::device::{Broken, Source, Target};
 use std::io::{Read, Write};
@@ -20,7 +20,7 @@ impl<T> Counted<T> {
     pub fn new(inner: T) -> Counted<T>
         ensures inner { result.inner ≡ inner }
         ensures faults { result.faults ≡ 0 }
-        ensures flushed { result.flushed ≡ true }
+        ensures flushed { IsTrue result.flushed }
     {
         Counted {
             inner,

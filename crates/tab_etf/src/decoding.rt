@@ -92,7 +92,10 @@ fn pair_of<'a>(
     run: &mut Run,
     bytes: &'a [u8],
 ) -> Result<&'a [u8], ReadError>
-    ensures { (es : List Entry) (go_on : PlainPairs × List ℕ → Result (PlainPairs × List ℕ) Stop) → Holds run.old es → GoesOn (λ x. x.now) go_on run.new result (put_all no_pair es (pair_then (term_at levels) go_on bytes.now)) }
+    ensures { (es : List Entry) (go_on : PlainPairs × List ℕ → Result (PlainPairs × List ℕ) Stop)
+        → Holds run.old es
+        → GoesOn (λ x. x.now) go_on run.new result
+        (put_all no_pair es (pair_then (term_at levels) go_on bytes.now)) }
 {
     let (key, rest) = term_of(alloc, levels, bytes)?;
     run.note(&key, bytes.len())?;
@@ -111,7 +114,8 @@ fn run_of<'a>(
     bytes: &'a [u8],
 ) -> Result<&'a [u8], ReadError>
     requires { Holds run.old [] }
-    ensures { Ran (λ x. x.now) run.new result (pairs_from (term_at levels) count no_pair bytes.now) }
+    ensures { Ran (λ x. x.now) run.new result
+        (pairs_from (term_at levels) count no_pair bytes.now) }
 {
     let mut rest = bytes;
     for _ in 0..count {
@@ -140,7 +144,8 @@ fn behind_of(
     tag: u8,
     bytes: &[u8],
 ) -> Result<(Term, &[u8]), ReadError>
-    ensures { Gives (λ x. (term x.0, x.1.now)) result (behind (term_at levels) (levels == 0) tag bytes.now) }
+    ensures { Gives (λ x. (term x.0, x.1.now)) result
+        (behind (term_at levels) (levels == 0) tag bytes.now) }
 {
     match tag {
         SMALL_TUPLE_EXT => small_tuple_of(alloc, levels, bytes),
@@ -201,8 +206,10 @@ fn placed(alloc: Global, payload: &[u8]) -> Result<Term, EtfFault>
 ///
 /// A list, tuple or map reserves no place for an element by its count alone. The keys of a map may come in any order.
 pub fn decode(alloc: Global, payload: &[u8]) -> Result<Term, EtfFault>
-    ensures found { IfOk result (λ t. (b : List ℕ) × (payload.now ≡ 131 ∷ b) × Spells (term t) b × (depth (term t) ≤ 64)) }
-    ensures only { (t : PlainTerm) (b : List ℕ) → payload.now ≡ 131 ∷ b → Spells t b → depth t ≤ 64 → Decodes term (length payload.now) result (Ok t) }
+    ensures found { IfOk result
+        (λ t. (b : List ℕ) × (payload.now ≡ 131 ∷ b) × Spells (term t) b × (depth (term t) ≤ 64)) }
+    ensures only { (t : PlainTerm) (b : List ℕ) → payload.now ≡ 131 ∷ b → Spells t b → depth t ≤ 64
+        → Decodes term (length payload.now) result (Ok t) }
 
     // Which fault it is, and where.
     ensures exact { Decodes term (length payload.now) result (whole payload.now) }
@@ -212,5 +219,6 @@ pub fn decode(alloc: Global, payload: &[u8]) -> Result<Term, EtfFault>
 
 /// No spelling begins another, and one byte list spells one term.
 pub fn spellings_are_apart()
-    ensures { (s t : PlainTerm) (a b x y : List ℕ) → Spells s a → Spells t b → a ++ x ≡ b ++ y → (a ≡ b) × (s ≡ t) }
+    ensures { (s t : PlainTerm) (a b x y : List ℕ) → Spells s a → Spells t b → a ++ x ≡ b ++ y
+        → (a ≡ b) × (s ≡ t) }
 {}

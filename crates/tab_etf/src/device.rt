@@ -1,6 +1,6 @@
 //! Devices that bytes are read from and written to, and what they say of their faults.
 
-ghost use Rattle.std.specs.Prelude.{◌≡◌, ◌+◌, ◌<◌, ◌≤◌, ℕ, List, Option, Bool, true, min, take, length, OnOk, OnErr, IfOk};
+ghost use Rattle.std.specs.Prelude.{◌≡◌, ◌+◌, ◌<◌, ◌≤◌, ℕ, List, Option, Bool, IsTrue, min, take, length, OnOk, OnErr, IfOk};
 ghost use Rattle.std.specs.Io.KnownBytes.{Appends, Keeps, ReadConsumes, WriteAppends};
 
 use thiserror::Error;
@@ -50,7 +50,7 @@ pub trait Target {
 
     fn flush(&mut self) -> Result<(), Broken>
         ensures bytes { Keeps (contents self.old) (contents self.new) }
-        ensures flushed { OnOk result (is_flushed self.new ≡ true) }
+        ensures flushed { OnOk result (IsTrue (is_flushed self.new)) }
         ensures same { OnOk result (faults self.new ≡ faults self.old) }
         ensures rose { OnErr result (faults self.new ≡ min (faults self.old + 1) u64.MAX) };
 }
@@ -59,7 +59,8 @@ pub trait Target {
 pub fn give_all<W: Target>(device: &mut W, bytes: &[u8]) -> Result<(), Broken>
     ensures ok { OnOk result (Appends (W.contents device.old) (W.contents device.new) bytes.now) }
     ensures same { OnOk result (W.faults device.new ≡ W.faults device.old) }
-    ensures part { OnErr result ((n : ℕ) × Appends (W.contents device.old) (W.contents device.new) (take n bytes.now)) }
+    ensures part { OnErr result
+        ((n : ℕ) × Appends (W.contents device.old) (W.contents device.new) (take n bytes.now)) }
     ensures rose { OnErr result (W.faults device.new ≡ min (W.faults device.old + 1) u64.MAX) }
 {
     let mut at = 0;

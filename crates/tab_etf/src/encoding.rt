@@ -55,9 +55,13 @@ fn held(value: &Term) -> Outline<'_>
 /// Writes these bytes and the spelling behind them; where that fails, a beginning of them.
 fn spell<W: Target>(device: &mut W, head: &[u8], outline: &Outline) -> Result<(), Broken>
     requires { OfOutline IsWritable outline.now }
-    ensures ok { OnOk result (Appends (W.contents device.old) (W.contents device.new) (head.now ++ canon (outline_term outline.now))) }
+    ensures ok { OnOk result
+        (Appends (W.contents device.old) (W.contents device.new)
+        (head.now ++ canon (outline_term outline.now))) }
     ensures same { OnOk result (W.faults device.new ≡ W.faults device.old) }
-    ensures part { OnErr result ((n : ℕ) × Appends (W.contents device.old) (W.contents device.new) (take n (head.now ++ canon (outline_term outline.now)))) }
+    ensures part { OnErr result
+        ((n : ℕ) × Appends (W.contents device.old) (W.contents device.new)
+        (take n (head.now ++ canon (outline_term outline.now)))) }
     ensures rose { OnErr result (W.faults device.new ≡ min (W.faults device.old + 1) u64.MAX) }
 {
     let mut writer = Writer::new(device);
@@ -83,9 +87,13 @@ fn frame_head(len: u32) -> [u8; 5]
 /// It takes no memory: pieces of at most 512 bytes wait on the stack. At `Device` a beginning of the
 /// frame is written; at `FrameTooLong` nothing is.
 pub fn write_frame<W: Target>(device: &mut W, value: &Term) -> Result<(), FrameFault>
-    ensures ok { OnOk result (Appends (W.contents device.old) (W.contents device.new) (frame (131 ∷ canon (term value.now)))) }
+    ensures ok { OnOk result
+        (Appends (W.contents device.old) (W.contents device.new)
+        (frame (131 ∷ canon (term value.now)))) }
     ensures same { OnOk result (W.faults device.new ≡ W.faults device.old) }
-    ensures err { IfErr result (λ e. IsUnwritten e (131 ∷ canon (term value.now)) (W.contents device.old) (W.contents device.new) (W.faults device.old) (W.faults device.new)) }
+    ensures err { IfErr result
+        (λ e. IsUnwritten e (131 ∷ canon (term value.now)) (W.contents device.old)
+        (W.contents device.new) (W.faults device.old) (W.faults device.new)) }
 {
     write_outline(device, &held(value))
 }
@@ -93,9 +101,13 @@ pub fn write_frame<W: Target>(device: &mut W, value: &Term) -> Result<(), FrameF
 /// Writes the frame of a term that is given by its parts, as `write_frame` writes one that was built.
 pub fn write_outline<W: Target>(device: &mut W, outline: &Outline) -> Result<(), FrameFault>
     requires { IsShortOutline outline.now }
-    ensures ok { OnOk result (Appends (W.contents device.old) (W.contents device.new) (frame (131 ∷ canon (outline_term outline.now)))) }
+    ensures ok { OnOk result
+        (Appends (W.contents device.old) (W.contents device.new)
+        (frame (131 ∷ canon (outline_term outline.now)))) }
     ensures same { OnOk result (W.faults device.new ≡ W.faults device.old) }
-    ensures err { IfErr result (λ e. IsUnwritten e (131 ∷ canon (outline_term outline.now)) (W.contents device.old) (W.contents device.new) (W.faults device.old) (W.faults device.new)) }
+    ensures err { IfErr result
+        (λ e. IsUnwritten e (131 ∷ canon (outline_term outline.now)) (W.contents device.old)
+        (W.contents device.new) (W.faults device.old) (W.faults device.new)) }
 {
     let Some(len) = outline_len(outline) else {
         return Err(FrameFault::FrameTooLong(u32::MAX));
@@ -112,7 +124,8 @@ pub(crate) fn append(
     out: &mut Vec<u8>,
 ) -> Result<(), AllocError>
     requires { OfOutline IsWritable outline.now }
-    ensures ok { OnOk result (out.new.items ≡ out.old.items ++ (head.now ++ canon (outline_term outline.now))) }
+    ensures ok { OnOk result
+        (out.new.items ≡ out.old.items ++ (head.now ++ canon (outline_term outline.now))) }
     ensures err { OnErr result (out.new.items ≡ out.old.items) }
 {
     let start = out.len();
@@ -141,7 +154,8 @@ pub fn append_spelling(value: &Term, out: &mut Vec<u8>) -> Result<(), AllocError
 /// On an error the bytes are as before. `TooLong` goes before `NoMemory`.
 pub fn encode(value: &Term, out: &mut Vec<u8>) -> Result<(), EncodeFault>
     ensures ok { OnOk result (out.new.items ≡ out.old.items ++ 131 ∷ canon (term value.now)) }
-    ensures too_long { (result ≡ Err EncodeFault.TooLong) ↔ (4294967295 < length (131 ∷ canon (term value.now))) }
+    ensures too_long { (result ≡ Err EncodeFault.TooLong)
+        ↔ (4294967295 < length (131 ∷ canon (term value.now))) }
     ensures err { OnErr result (out.new.items ≡ out.old.items) }
 {
     let Some(len) = encoded_len(value) else {
@@ -155,8 +169,10 @@ pub fn encode(value: &Term, out: &mut Vec<u8>) -> Result<(), EncodeFault>
 ///
 /// On an error the bytes are as before. `TooLong` goes before `NoMemory`.
 pub fn append_frame(value: &Term, out: &mut Vec<u8>) -> Result<(), EncodeFault>
-    ensures ok { OnOk result (out.new.items ≡ out.old.items ++ frame (131 ∷ canon (term value.now))) }
-    ensures too_long { (result ≡ Err EncodeFault.TooLong) ↔ (4294967295 < length (131 ∷ canon (term value.now))) }
+    ensures ok { OnOk result
+        (out.new.items ≡ out.old.items ++ frame (131 ∷ canon (term value.now))) }
+    ensures too_long { (result ≡ Err EncodeFault.TooLong)
+        ↔ (4294967295 < length (131 ∷ canon (term value.now))) }
     ensures err { OnErr result (out.new.items ≡ out.old.items) }
 {
     append_outline(&held(value), out)
@@ -165,8 +181,10 @@ pub fn append_frame(value: &Term, out: &mut Vec<u8>) -> Result<(), EncodeFault>
 /// Adds the frame of a term that is given by its parts, as `append_frame` adds that of one that was built.
 pub fn append_outline(outline: &Outline, out: &mut Vec<u8>) -> Result<(), EncodeFault>
     requires { IsShortOutline outline.now }
-    ensures ok { OnOk result (out.new.items ≡ out.old.items ++ frame (131 ∷ canon (outline_term outline.now))) }
-    ensures too_long { (result ≡ Err EncodeFault.TooLong) ↔ (4294967295 < length (131 ∷ canon (outline_term outline.now))) }
+    ensures ok { OnOk result
+        (out.new.items ≡ out.old.items ++ frame (131 ∷ canon (outline_term outline.now))) }
+    ensures too_long { (result ≡ Err EncodeFault.TooLong)
+        ↔ (4294967295 < length (131 ∷ canon (outline_term outline.now))) }
     ensures err { OnErr result (out.new.items ≡ out.old.items) }
 {
     let Some(len) = outline_len(outline) else {

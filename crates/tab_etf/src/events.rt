@@ -64,7 +64,9 @@ fn body_len(event: &EventTerm) -> u64
 
 /// How many bytes the table and the records before take.
 fn detail_len(detail: &Detail) -> u64
-    ensures { result ≡ min (length (canon (atom detail.now.table)) + length (canon (list detail.now.old))) u64.MAX }
+    ensures { result
+        ≡ min (length (canon (atom detail.now.table)) + length (canon (list detail.now.old)))
+        u64.MAX }
 {
     shared_len(&detail.old, measure_of(&detail.old)).saturating_add(atom_len(
         detail.table.as_str().len(),
@@ -125,7 +127,8 @@ pub fn put_event<W: Target>(writer: &mut Writer<W>, event: &EventTerm)
 
 /// Writes `{Tag, What, Id}`.
 fn put_simple<W: Target>(writer: &mut Writer<W>, event: &EventTerm)
-    ensures { Writes W.contents W.faults writer.old writer.new (canon (triple (atom (tag_word event.now.tag)) (term event.now.what) (tid event.now.age))) }
+    ensures { Writes W.contents W.faults writer.old writer.new
+        (canon (triple (atom (tag_word event.now.tag)) (term event.now.what) (tid event.now.age))) }
 {
     writer.put(&[SMALL_TUPLE_EXT, 3]);
     put_atom(writer, event.tag.word());
@@ -136,7 +139,9 @@ fn put_simple<W: Target>(writer: &mut Writer<W>, event: &EventTerm)
 /// Writes `{Tag, Tab, What, Old, Id}`.
 fn put_detailed<W: Target>(writer: &mut Writer<W>, event: &EventTerm, detail: &Detail)
     requires { length (canon (list detail.now.old)) ≤ 4294967295 }
-    ensures { Writes W.contents W.faults writer.old writer.new (canon (five (atom (tag_word event.now.tag)) (atom detail.now.table) (term event.now.what) (list detail.now.old) (tid event.now.age))) }
+    ensures { Writes W.contents W.faults writer.old writer.new
+        (canon (five (atom (tag_word event.now.tag)) (atom detail.now.table) (term event.now.what)
+        (list detail.now.old) (tid event.now.age))) }
 {
     writer.put(&[SMALL_TUPLE_EXT, 5]);
     put_atom(writer, event.tag.word());

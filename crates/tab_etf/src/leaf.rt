@@ -110,7 +110,8 @@ const TOP: u128 = 0x8000_0000_0000_0000_0000_0000_0000_0000;
 
 /// The number of these bytes, least significant first, unless it is over 2^127.
 fn magnitude_of(bytes: &[u8]) -> Option<u128>
-    ensures { MatchOption result (2 ^ 127 < low_value bytes.now) (λ m. (m ≡ low_value bytes.now) × (m ≤ 2 ^ 127)) }
+    ensures { MatchOption result (2 ^ 127 < low_value bytes.now)
+        (λ m. (m ≡ low_value bytes.now) × (m ≤ 2 ^ 127)) }
 {
     let mut m: u128 = 0;
     let mut i = bytes.len();

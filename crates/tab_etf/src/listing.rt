@@ -1,6 +1,6 @@
 //! Lists that are appended in one walk: their count is put in once it is known.
 
-ghost use Rattle.std.specs.Prelude.{◌≡◌, ◌≢◌, ◌⊎◌, ◌<◌, ◌≤◌, ◌+◌, ◌^◌, ◌++◌, ◌∷◌, [], List, ℕ, true, Some, None, min, length, take, drop, vec_len, if◌then◌else◌, MatchOption, IfSome, IfNone, IfOk, OnOk, OnErr, false};
+ghost use Rattle.std.specs.Prelude.{◌≡◌, ◌≢◌, ◌⊎◌, ◌<◌, ◌≤◌, ◌+◌, ◌^◌, ◌++◌, ◌∷◌, [], List, ℕ, true, Some, None, min, length, take, drop, vec_len, if◌then◌else◌, MatchOption, IfSome, IfNone, IfOk, OnOk, OnErr, IsFalse};
 ghost use Rattle.std.specs.Int.{w32, to_be_bytes};
 ghost use Rattle.tab_term.specs.Canon.{canon, canons, all_bytes, list_tag};
 ghost use Rattle.tab_term.specs.Data.{count, list};
@@ -31,8 +31,11 @@ struct Found {
 fn put_within(writer: &mut Writer<Counted<Vec<u8>>>, ts: &SharedTerms, most: usize) -> Option<Found>
     ensures found { IfSome result (λ found. IsCounted found ts.now) }
     ensures all { IfSome result (λ _. Writes held faults_of writer.old writer.new (canons ts.now)) }
-    ensures part { (s : List ℕ) × Writes held faults_of writer.old writer.new s × (length s ≤ length (canons ts.now)) }
-    ensures over { IfNone result ((most < length writer.new.device.now.inner.items) ⊎ (4294967295 ≤ length (canons ts.now))) }
+    ensures part { (s : List ℕ) × Writes held faults_of writer.old writer.new s
+        × (length s ≤ length (canons ts.now)) }
+    ensures over { IfNone result
+        ((most < length writer.new.device.now.inner.items)
+        ⊎ (4294967295 ≤ length (canons ts.now))) }
 {
     let mut count: usize = 0;
     let mut bytes = true;
@@ -58,9 +61,13 @@ fn spell_uncounted(
     most: usize,
 ) -> Result<Option<Found>, Broken>
     ensures found { IfOk result (λ walked. IfSome walked (λ found. IsCounted found ts.now)) }
-    ensures all { IfOk result (λ walked. IfSome walked (λ _. device.new.inner.items ≡ device.old.inner.items ++ uncounted ts.now)) }
+    ensures all { IfOk result
+        (λ walked. IfSome walked
+        (λ _. device.new.inner.items ≡ device.old.inner.items ++ uncounted ts.now)) }
     ensures part { (s : List ℕ) × (device.new.inner.items ≡ device.old.inner.items ++ s) }
-    ensures over { IfOk result (λ walked. IfNone walked (IsOver most (length device.old.inner.items) (length (canons ts.now)))) }
+    ensures over { IfOk result
+        (λ walked. IfNone walked
+        (IsOver most (length device.old.inner.items) (length (canons ts.now)))) }
 {
     let mut writer = Writer::new(device);
     writer.put(&[LIST_EXT, 0, 0, 0, 0]);
@@ -80,9 +87,11 @@ fn append_uncounted(
     out: &mut Vec<u8>,
 ) -> Result<Option<Found>, Broken>
     ensures found { IfOk result (λ walked. IfSome walked (λ found. IsCounted found ts.now)) }
-    ensures all { IfOk result (λ walked. IfSome walked (λ _. out.new.items ≡ out.old.items ++ uncounted ts.now)) }
+    ensures all { IfOk result
+        (λ walked. IfSome walked (λ _. out.new.items ≡ out.old.items ++ uncounted ts.now)) }
     ensures part { (s : List ℕ) × (out.new.items ≡ out.old.items ++ s) }
-    ensures over { IfOk result (λ walked. IfNone walked (IsOver most (length out.old.items) (length (canons ts.now)))) }
+    ensures over { IfOk result
+        (λ walked. IfNone walked (IsOver most (length out.old.items) (length (canons ts.now)))) }
 {
     let alloc = *out.allocator();
     let mut device = Counted::new(std::mem::replace(out, Vec::new(alloc)));
@@ -94,7 +103,8 @@ fn append_uncounted(
 /// Puts a number of four bytes in the place of four bytes.
 pub fn put_number(out: &mut Vec<u8>, at: usize, n: u32)
     requires { at + 4 ≤ vec_len out.old }
-    ensures { out.new.items ≡ take at out.old.items ++ (to_be_bytes w32 n ++ drop (at + 4) out.old.items) }
+    ensures { out.new.items
+        ≡ take at out.old.items ++ (to_be_bytes w32 n ++ drop (at + 4) out.old.items) }
 {
     out[at..at + 4].copy_from_slice(&n.to_be_bytes());
 }
@@ -122,8 +132,11 @@ fn append_short(ts: &SharedTerms, found: Found, out: &mut Vec<u8>) -> Result<(),
 ///
 /// It goes over the list once, and once more where that is written as a string.
 pub fn append_list(ts: &SharedTerms, most: usize, out: &mut Vec<u8>) -> Result<bool, AllocError>
-    ensures ok { IfOk result (λ within. out.new.items ≡ out.old.items ++ (if within then canon (list ts.now) else [])) }
-    ensures over { IfOk result (λ within. within ≡ false → IsPast most (length out.old.items) (length (canon (list ts.now)))) }
+    ensures ok { IfOk result
+        (λ within. out.new.items ≡ out.old.items ++ (if within then canon (list ts.now) else [])) }
+    ensures over { IfOk result
+        (λ within. IsFalse within
+        → IsPast most (length out.old.items) (length (canon (list ts.now)))) }
     ensures err { OnErr result (out.new.items ≡ out.old.items) }
 {
     let at = out.len();

@@ -127,7 +127,8 @@ fn pairs_len(ps: &[(Term, Term)]) -> u64
 
 /// How long a term's payload is: the byte 131 and the canonical spelling. None where it passes 4,294,967,295 bytes.
 pub fn encoded_len(value: &Term) -> Option<u64>
-    ensures { MatchOption result (4294967295 < length (131 ∷ canon (term value.now))) (λ n. (n ≡ length (131 ∷ canon (term value.now))) × (n ≤ 4294967295)) }
+    ensures { MatchOption result (4294967295 < length (131 ∷ canon (term value.now)))
+        (λ n. (n ≡ length (131 ∷ canon (term value.now))) × (n ≤ 4294967295)) }
 {
     let len = spelled_len(value).saturating_add(1);
     if len <= LONGEST { Some(len) } else { None }

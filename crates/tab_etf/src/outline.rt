@@ -206,7 +206,8 @@ fn body_len(body: &Body) -> u64
 #[tactic(auto, using(crate::proofs::OutlinesLemmas::outline_length))]
 pub fn outline_len(outline: &Outline) -> Option<u64>
     requires { IsShortOutline outline.now }
-    ensures len { MatchOption result (4294967295 < length (131 ∷ canon (outline_term outline.now))) (λ n. (n ≡ length (131 ∷ canon (outline_term outline.now))) × (n ≤ 4294967295)) }
+    ensures len { MatchOption result (4294967295 < length (131 ∷ canon (outline_term outline.now)))
+        (λ n. (n ≡ length (131 ∷ canon (outline_term outline.now))) × (n ≤ 4294967295)) }
     ensures fits { IfSome result (λ _. OfOutline IsWritable outline.now) }
 {
     let len = head_len(&outline.first)

@@ -1,6 +1,6 @@
 //! Frames from a reader, one at a time.
 
-ghost use Rattle.std.specs.Prelude.{◌≡◌, ◌<◌, ◌≤◌, ◌+◌, ◌++◌, List, ℕ, min, length, take, OnOk, OnErr, IfOk, IfSome, false};
+ghost use Rattle.std.specs.Prelude.{◌≡◌, ◌<◌, ◌≤◌, ◌+◌, ◌++◌, List, ℕ, min, length, take, OnOk, OnErr, IfOk, IfSome, IsFalse};
 ghost use Rattle.std.specs.Io.KnownBytes.{Consumes, IsAtEnd};
 ghost use Rattle.tab_etf.specs.Arrivals.{ReadsFrame, ReadsPayload, CountsFaults};
 ghost use Rattle.tab_etf.specs.Frames.{IsTold};
@@ -16,10 +16,12 @@ const CHUNK: usize = 4096;
 /// Reads until the buffer is full or the stream ends, and returns how many bytes came.
 fn fill<R: Source>(reader: &mut R, buf: &mut [u8]) -> Result<usize, Broken>
     ensures bound { IfOk result (λ n. n ≤ length buf.new) }
-    ensures bytes { IfOk result (λ n. Consumes (R.remaining reader.old) (R.remaining reader.new) (take n buf.new)) }
+    ensures bytes { IfOk result
+        (λ n. Consumes (R.remaining reader.old) (R.remaining reader.new) (take n buf.new)) }
     ensures end { IfOk result (λ n. n < length buf.new → IsAtEnd (R.remaining reader.new)) }
     ensures same { OnOk result (R.faults reader.new ≡ R.faults reader.old) }
-    ensures part { OnErr result ((got : List ℕ) × Consumes (R.remaining reader.old) (R.remaining reader.new) got) }
+    ensures part { OnErr result
+        ((got : List ℕ) × Consumes (R.remaining reader.old) (R.remaining reader.new) got) }
     ensures rose { OnErr result (R.faults reader.new ≡ min (R.faults reader.old + 1) u64.MAX) }
 {
     let mut at = 0;
@@ -35,7 +37,7 @@ fn fill<R: Source>(reader: &mut R, buf: &mut [u8]) -> Result<usize, Broken>
 
 /// Adds bytes to those that are kept, unless some are lost, and returns whether some are lost then.
 fn keep(kept: &mut Vec<u8>, lost: bool, bytes: &[u8]) -> bool
-    ensures { result ≡ false → (lost ≡ false) × (kept.new.items ≡ kept.old.items ++ bytes.now) }
+    ensures { IsFalse result → (IsFalse lost) × (kept.new.items ≡ kept.old.items ++ bytes.now) }
 {
     if lost {
         return true;

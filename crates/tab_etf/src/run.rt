@@ -52,8 +52,13 @@ impl Run {
 
     /// Notes the next key, before its value is read.
     pub fn note(&mut self, key: &Term, left: usize) -> Result<(), AllocError>
-        ensures spelled { OnOk result (self.new.spelled.items ≡ self.old.spelled.items ++ canon (term key.now)) }
-        ensures keys { OnOk result (self.new.keys.items ≡ self.old.keys.items ++ next_key self.old.spelled.items self.new.spelled.items left (length self.old.keys.items) ∷ []) }
+        ensures spelled { OnOk result
+            (self.new.spelled.items ≡ self.old.spelled.items ++ canon (term key.now)) }
+        ensures keys { OnOk result
+            (self.new.keys.items
+            ≡ self.old.keys.items
+            ++ next_key self.old.spelled.items self.new.spelled.items left
+            (length self.old.keys.items) ∷ []) }
         ensures pairs { OnOk result (self.new.pairs.items ≡ self.old.pairs.items) }
     {
         let start = self.spelled.len();
@@ -71,7 +76,8 @@ impl Run {
 
     /// Adds the pair whose key was noted last.
     pub fn push(&mut self, key: Term, value: Term) -> Result<(), AllocError>
-        ensures pairs { OnOk result (self.new.pairs.items ≡ self.old.pairs.items ++ (key, value) ∷ []) }
+        ensures pairs { OnOk result
+            (self.new.pairs.items ≡ self.old.pairs.items ++ (key, value) ∷ []) }
         ensures keys { OnOk result (self.new.keys.items ≡ self.old.keys.items) }
         ensures spelled { OnOk result (self.new.spelled.items ≡ self.old.spelled.items) }
     {
@@ -105,7 +111,8 @@ fn sort_keys(spelled: &[u8], keys: &mut [Key])
 }
 
 fn are_alike(spelled: &[u8], first: &Key, second: &Key) -> bool
-    ensures { IsTrue result ↔ (spelling_at spelled.now first.now ≡ spelling_at spelled.now second.now) }
+    ensures { IsTrue result
+        ↔ (spelling_at spelled.now first.now ≡ spelling_at spelled.now second.now) }
 {
     spelling(spelled, first) == spelling(spelled, second)
 }
@@ -149,7 +156,10 @@ fn ranks_of(alloc: Global, keys: &[Key]) -> Result<Vec<usize>, AllocError>
 fn arrange(pairs: &mut [(Term, Term)], ranks: &mut [usize])
     requires len { length ranks.old ≡ length pairs.old }
     requires ranks { AreRanked ranks.old }
-    ensures { (sorted : List (Term × Term)) → length sorted ≡ length pairs.old → ((k : ℕ) (d : Term × Term) → k < length pairs.old → slice_index_or sorted (slice_index ranks.old k) d ≡ slice_index_or pairs.old k d) → pairs.new ≡ sorted }
+    ensures { (sorted : List (Term × Term)) → length sorted ≡ length pairs.old
+        → ((k : ℕ) (d : Term × Term) → k < length pairs.old
+        → slice_index_or sorted (slice_index ranks.old k) d ≡ slice_index_or pairs.old k d)
+        → pairs.new ≡ sorted }
 {
     let mut i = 0;
     while i < ranks.len() {
@@ -187,7 +197,8 @@ fn sort_and_find(spelled: &[u8], keys: &mut [Key]) -> Option<Key>
 /// The pairs in ascending order of their keys, unless one key stands there twice.
 fn ordered(alloc: Global, run: Run) -> Result<Pairs, ReadError>
     requires { (es : List Entry) × Holds run es }
-    ensures { (es : List Entry) → Holds run es → Gives (λ ps. ps) result (put_all no_pair es (λ ps. Ok ps)) }
+    ensures { (es : List Entry) → Holds run es
+        → Gives (λ ps. ps) result (put_all no_pair es (λ ps. Ok ps)) }
 {
     let Run {
         pairs,
@@ -215,7 +226,8 @@ fn earlier_stop(found: Option<Key>, at: Stop) -> Stop
 
 /// The first fault, where the reading came to this one.
 fn first_fault(run: Run, at: Stop) -> Stop
-    ensures { (es : List Entry) → AreNoted run.spelled.items run.keys.items es → IsFirstFault es at result }
+    ensures { (es : List Entry) → AreNoted run.spelled.items run.keys.items es
+        → IsFirstFault es at result }
 {
     let Run {
         pairs: _,
@@ -227,7 +239,8 @@ fn first_fault(run: Run, at: Stop) -> Stop
 
 /// The first fault, where the reading ended with this error. Without memory there is none to be told.
 fn first_error(run: Run, error: ReadError) -> ReadError
-    ensures { (answer : Result (PlainPairs × List ℕ) Stop) → Ran (λ (x : List ℕ). x) run (Err error) answer → Fails result answer }
+    ensures { (answer : Result (PlainPairs × List ℕ) Stop)
+        → Ran (λ (x : List ℕ). x) run (Err error) answer → Fails result answer }
 {
     match error {
         ReadError::At(at) => ReadError::At(first_fault(run, at)),
@@ -242,7 +255,8 @@ pub fn settled(
     read: Result<&[u8], ReadError>,
 ) -> Result<(Pairs, &[u8]), ReadError>
     requires { (answer : Result (PlainPairs × List ℕ) Stop) × Ran (λ x. x.now) run read answer }
-    ensures { (answer : Result (PlainPairs × List ℕ) Stop) → Ran (λ x. x.now) run read.entry answer → Gives (λ x. (x.0, x.1.now)) result answer }
+    ensures { (answer : Result (PlainPairs × List ℕ) Stop) → Ran (λ x. x.now) run read.entry answer
+        → Gives (λ x. (x.0, x.1.now)) result answer }
 {
     match read {
         Ok(rest) => Ok((ordered(alloc, run)?, rest)),

@@ -1,6 +1,6 @@
 //! Lists of terms that are shared: how they are written, and how long that is.
 
-ghost use Rattle.std.specs.Prelude.{◌≡◌, ◌<◌, ◌^◌, ◌++◌, ◌∷◌, length, min, true};
+ghost use Rattle.std.specs.Prelude.{◌≡◌, ◌<◌, ◌^◌, ◌++◌, ◌∷◌, length, min, IsTrue};
 ghost use Rattle.std.specs.Int.{w16, to_be_bytes};
 ghost use Rattle.tab_term.specs.Canon.{all_bytes, bytes_of, canon, canons, list_tag, list_contents};
 ghost use Rattle.tab_term.specs.Data.{count, list};
@@ -58,7 +58,7 @@ pub fn measure_of(ts: &SharedTerms) -> Measure
 }
 
 fn put_bytes<W: Target>(writer: &mut Writer<W>, ts: &SharedTerms)
-    requires { all_bytes ts.now ≡ true }
+    requires { IsTrue (all_bytes ts.now) }
     ensures { Writes W.contents W.faults writer.old writer.new (bytes_of ts.now) }
 {
     for t in ts.iter() {
@@ -68,8 +68,9 @@ fn put_bytes<W: Target>(writer: &mut Writer<W>, ts: &SharedTerms)
 
 #[tactic(auto, using(crate::proofs::WritingLemmas::writes_then))]
 fn put_string<W: Target>(writer: &mut Writer<W>, ts: &SharedTerms, len: u16)
-    requires { all_bytes ts.now ≡ true }
-    ensures { Writes W.contents W.faults writer.old writer.new (107 ∷ to_be_bytes w16 len ++ bytes_of ts.now) }
+    requires { IsTrue (all_bytes ts.now) }
+    ensures { Writes W.contents W.faults writer.old writer.new
+        (107 ∷ to_be_bytes w16 len ++ bytes_of ts.now) }
 {
     writer.put(&[STRING_EXT]);
     writer.put(&len.to_be_bytes());
@@ -88,7 +89,8 @@ fn put_all<W: Target>(writer: &mut Writer<W>, ts: &SharedTerms)
 pub fn put_shared<W: Target>(writer: &mut Writer<W>, ts: &SharedTerms, measure: Measure)
     requires measure { IsMeasure measure ts.now }
     requires fits { count ts.now < 2 ^ 64 }
-    ensures { Writes W.contents W.faults writer.old writer.new (list_tag ts.now ∷ list_contents ts.now (canons ts.now)) }
+    ensures { Writes W.contents W.faults writer.old writer.new
+        (list_tag ts.now ∷ list_contents ts.now (canons ts.now)) }
 {
     match measure.tag {
         NIL_EXT => writer.put(&[NIL_EXT]),

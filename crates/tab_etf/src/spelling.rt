@@ -1,6 +1,6 @@
 //! The canonical spelling of a term, piece by piece.
 
-ghost use Rattle.std.specs.Prelude.{◌≡◌, ◌<◌, ◌+◌, ◌^◌, ◌++◌, ◌∷◌, [], List, ℕ, length, true, unsigned_abs};
+ghost use Rattle.std.specs.Prelude.{◌≡◌, ◌<◌, ◌+◌, ◌^◌, ◌++◌, ◌∷◌, [], List, ℕ, length, IsTrue, unsigned_abs};
 ghost use Rattle.tab_term.specs.Canon.{is_byte as is_byte_of, int_tag, int_contents, sign_of, magnitude, length_field, atom_tag, atom_length_field, tuple_tag, arity_field, is_byte_term, byte_of, all_bytes, bytes_of, list_tag as list_tag_of, list_contents, canon, canons, pair_canons};
 ghost use Rattle.std.specs.Int.{w16, w32, to_be_bytes};
 ghost use Rattle.tab_term.specs.Data.{count, pair_count};
@@ -36,7 +36,7 @@ fn put_two<W: Target>(writer: &mut Writer<W>, tag: u8, byte: u8)
 // ---- integers
 
 fn one_byte(z: i128) -> u8
-    requires { is_byte_of z ≡ true }
+    requires { IsTrue (is_byte_of z) }
     ensures { result ≡ unsigned_abs z }
 {
     z as u8
@@ -45,7 +45,8 @@ fn one_byte(z: i128) -> u8
 #[tactic(auto, using(crate::proofs::WritingLemmas::writes_then))]
 fn put_digits<W: Target>(writer: &mut Writer<W>, sign: u8, digits: &[u8])
     requires { length digits.now < 256 }
-    ensures { Writes W.contents W.faults writer.old writer.new (110 ∷ length digits.now ∷ sign ∷ digits.now) }
+    ensures { Writes W.contents W.faults writer.old writer.new
+        (110 ∷ length digits.now ∷ sign ∷ digits.now) }
 {
     writer.put(&[SMALL_BIG_EXT, digits.len() as u8, sign]);
     writer.put(digits);
@@ -53,7 +54,8 @@ fn put_digits<W: Target>(writer: &mut Writer<W>, sign: u8, digits: &[u8])
 
 #[tactic(auto, using(crate::proofs::WritingLemmas::writes_then))]
 fn put_big<W: Target>(writer: &mut Writer<W>, z: i128)
-    ensures { Writes W.contents W.faults writer.old writer.new (110 ∷ length (magnitude (unsigned_abs z)) ∷ sign_of z ∷ magnitude (unsigned_abs z)) }
+    ensures { Writes W.contents W.faults writer.old writer.new
+        (110 ∷ length (magnitude (unsigned_abs z)) ∷ sign_of z ∷ magnitude (unsigned_abs z)) }
 {
     let bytes = low_first(z.unsigned_abs());
     put_digits(writer, sign_byte(z), significant_of(&bytes));
@@ -130,7 +132,8 @@ pub fn put_tagged<W: Target>(writer: &mut Writer<W>, tag: u8, n: usize)
 #[tactic(auto, using(crate::proofs::WritingLemmas::writes_then))]
 pub fn put_atom<W: Target>(writer: &mut Writer<W>, text: &str)
     requires { length text.now < 2 ^ 16 }
-    ensures { Writes W.contents W.faults writer.old writer.new (atom_tag (length text.now) ∷ atom_length_field (length text.now) ++ text.now) }
+    ensures { Writes W.contents W.faults writer.old writer.new
+        (atom_tag (length text.now) ∷ atom_length_field (length text.now) ++ text.now) }
 {
     put_atom_head(writer, text.len());
     writer.put(text.as_bytes());
@@ -138,7 +141,8 @@ pub fn put_atom<W: Target>(writer: &mut Writer<W>, text: &str)
 
 #[tactic(auto, using(crate::proofs::WritingLemmas::writes_then))]
 fn put_binary<W: Target>(writer: &mut Writer<W>, bytes: &[u8])
-    ensures { Writes W.contents W.faults writer.old writer.new (109 ∷ length_field (length bytes.now) ++ bytes.now) }
+    ensures { Writes W.contents W.faults writer.old writer.new
+        (109 ∷ length_field (length bytes.now) ++ bytes.now) }
 {
     put_tagged(writer, BINARY_EXT, bytes.len());
     writer.put(bytes);
@@ -148,7 +152,7 @@ fn put_binary<W: Target>(writer: &mut Writer<W>, bytes: &[u8])
 
 /// The number of an integer that one byte holds.
 pub fn byte_in(t: &Term) -> u8
-    requires { is_byte_term (term t.now) ≡ true }
+    requires { IsTrue (is_byte_term (term t.now)) }
     ensures { result ≡ byte_of (term t.now) }
 {
     match t {
@@ -158,7 +162,7 @@ pub fn byte_in(t: &Term) -> u8
 }
 
 fn put_bytes<W: Target>(writer: &mut Writer<W>, ts: &[Term])
-    requires { all_bytes (terms ts.now) ≡ true }
+    requires { IsTrue (all_bytes (terms ts.now)) }
     ensures { Writes W.contents W.faults writer.old writer.new (bytes_of (terms ts.now)) }
 {
     for t in ts {
@@ -168,9 +172,10 @@ fn put_bytes<W: Target>(writer: &mut Writer<W>, ts: &[Term])
 
 #[tactic(auto, using(crate::proofs::WritingLemmas::writes_then))]
 fn put_string<W: Target>(writer: &mut Writer<W>, ts: &[Term])
-    requires bytes { all_bytes (terms ts.now) ≡ true }
+    requires bytes { IsTrue (all_bytes (terms ts.now)) }
     requires short { length ts.now < 2 ^ 16 }
-    ensures { Writes W.contents W.faults writer.old writer.new (107 ∷ to_be_bytes w16 (length ts.now) ++ bytes_of (terms ts.now)) }
+    ensures { Writes W.contents W.faults writer.old writer.new
+        (107 ∷ to_be_bytes w16 (length ts.now) ++ bytes_of (terms ts.now)) }
 {
     writer.put(&[STRING_EXT]);
     writer.put(&(ts.len() as u16).to_be_bytes());
@@ -198,7 +203,8 @@ pub fn put<W: Target>(writer: &mut Writer<W>, t: &Term)
 #[cycle(put)]
 #[tactic(auto, using(crate::proofs::WritingLemmas::writes_then))]
 fn put_tuple<W: Target>(writer: &mut Writer<W>, ts: &Terms)
-    ensures { Writes W.contents W.faults writer.old writer.new (tuple_tag (count ts.now) ∷ arity_field (count ts.now) ++ canons ts.now) }
+    ensures { Writes W.contents W.faults writer.old writer.new
+        (tuple_tag (count ts.now) ∷ arity_field (count ts.now) ++ canons ts.now) }
 {
     let items = ts.as_slice();
     put_tuple_head(writer, items.len());
@@ -209,7 +215,8 @@ fn put_tuple<W: Target>(writer: &mut Writer<W>, ts: &Terms)
 #[cycle(put)]
 #[tactic(auto, using(crate::proofs::WritingLemmas::writes_then))]
 pub fn put_list<W: Target>(writer: &mut Writer<W>, ts: &Terms)
-    ensures { Writes W.contents W.faults writer.old writer.new (list_tag_of ts.now ∷ list_contents ts.now (canons ts.now)) }
+    ensures { Writes W.contents W.faults writer.old writer.new
+        (list_tag_of ts.now ∷ list_contents ts.now (canons ts.now)) }
 {
     let items = ts.as_slice();
     match list_tag(ts) {
@@ -226,7 +233,8 @@ pub fn put_list<W: Target>(writer: &mut Writer<W>, ts: &Terms)
 #[cycle(put)]
 #[tactic(auto, using(crate::proofs::WritingLemmas::writes_then))]
 fn put_map<W: Target>(writer: &mut Writer<W>, ps: &Pairs)
-    ensures { Writes W.contents W.faults writer.old writer.new (116 ∷ length_field (pair_count ps.now) ++ pair_canons ps.now) }
+    ensures { Writes W.contents W.faults writer.old writer.new
+        (116 ∷ length_field (pair_count ps.now) ++ pair_canons ps.now) }
 {
     let items = ps.as_slice();
     put_tagged(writer, MAP_EXT, items.len());

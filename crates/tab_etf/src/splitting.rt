@@ -63,10 +63,13 @@ struct Parts {
 
 #[tactic(auto, using(crate::proofs::Cuts::goes_none))]
 fn split(alloc: Global, bytes: &[u8]) -> Result<Parts, AllocError>
-    ensures stream { IfOk result (λ x. GoesOn bytes.now (contents x.frames.items) (drop x.used bytes.now)) }
+    ensures stream { IfOk result
+        (λ x. GoesOn bytes.now (contents x.frames.items) (drop x.used bytes.now)) }
     ensures told { IfOk result (λ x. AreTold x.frames.items) }
     ensures within { IfOk result (λ x. x.used ≤ length bytes.now) }
-    ensures over { IfOk result (λ x. MatchOption x.over (front (drop x.used bytes.now) ≡ None) (λ n. IsOver (length_next (drop x.used bytes.now)) n)) }
+    ensures over { IfOk result
+        (λ x. MatchOption x.over (front (drop x.used bytes.now) ≡ None)
+        (λ n. IsOver (length_next (drop x.used bytes.now)) n)) }
 {
     let mut frames = Vec::new(alloc);
     let mut used = 0;
@@ -99,9 +102,12 @@ struct Found {
 
 /// Takes the whole frames from the front. An `Err` leaves the bytes as they were.
 fn cut(alloc: Global, bytes: &mut Vec<u8>) -> Result<Found, AllocError>
-    ensures stream { IfOk result (λ x. GoesOn bytes.old.items (contents x.frames.items) bytes.new.items) }
+    ensures stream { IfOk result
+        (λ x. GoesOn bytes.old.items (contents x.frames.items) bytes.new.items) }
     ensures told { IfOk result (λ x. AreTold x.frames.items) }
-    ensures over { IfOk result (λ x. MatchOption x.over (front bytes.new.items ≡ None) (λ n. IsOver (length_next bytes.new.items) n)) }
+    ensures over { IfOk result
+        (λ x. MatchOption x.over (front bytes.new.items ≡ None)
+        (λ n. IsOver (length_next bytes.new.items) n)) }
     ensures err { OnErr result (bytes.new.items ≡ bytes.old.items) }
 {
     let Parts { frames, used, over } = split(alloc, bytes)?;
@@ -127,7 +133,8 @@ impl Model for Splitter {
 
     ghost Value = { Held };
 
-    ghost view = { λ a. record { rest = a.rest.items; over = a.over; before = contents a.before.items } };
+    ghost view = { λ a.
+        record { rest = a.rest.items; over = a.over; before = contents a.before.items } };
 
     ghost use Rattle.std.specs.Prelude.{◌≡◌, None};
     ghost use Rattle.tab_etf.specs.Streams.{front};
@@ -156,7 +163,8 @@ impl Splitter {
     /// changes nothing: the same piece may be fed again.
     #[tactic(auto, using(crate::proofs::Cuts::stops_over))]
     pub fn feed(&mut self, piece: &[u8]) -> Result<Vec<Frame>, FrameFault>
-        ensures ok { IfOk result (λ given. IsGoing self.old self.new piece.now (contents given.items)) }
+        ensures ok { IfOk result
+            (λ given. IsGoing self.old self.new piece.now (contents given.items)) }
         ensures told { IfOk result (λ given. AreTold given.items) }
         ensures err { IfErr result (λ e. IsStopped e self.old self.new piece.now) }
     {
@@ -191,7 +199,8 @@ impl Splitter {
     pub fn finish(&self) -> Result<(), FrameFault>
         ensures found { self.now.over ≡ None → payloads self.now.rest ≡ [] }
         ensures ok { OnOk result ((self.now.over ≡ None) × (rest_of self.now.rest ≡ [])) }
-        ensures err { IfErr result (λ e. (e ≡ CutOff) × (self.now.over ≡ None → rest_of self.now.rest ≢ [])) }
+        ensures err { IfErr result
+            (λ e. (e ≡ CutOff) × (self.now.over ≡ None → rest_of self.now.rest ≢ [])) }
     {
         match self.over {
             Some(_) => Err(FrameFault::CutOff),
@@ -217,5 +226,7 @@ fn end_of(rest: &[u8]) -> Result<(), FrameFault>
 /// What the payloads of a stream are: those of its first frames, up to where no whole frame stands.
 pub fn payloads_are_framed()
     ensures first { (bytes : List ℕ) → All (λ b. b < 256) bytes → AreFirstFrames bytes }
-    ensures only { (ps : List (List ℕ)) (rest : List ℕ) → AreWithin ps → (payloads (frames ps ++ rest) ≡ ps ++ payloads rest) × (rest_of (frames ps ++ rest) ≡ rest_of rest) }
+    ensures only { (ps : List (List ℕ)) (rest : List ℕ) → AreWithin ps
+        → (payloads (frames ps ++ rest) ≡ ps ++ payloads rest)
+        × (rest_of (frames ps ++ rest) ≡ rest_of rest) }
 {}

@@ -1,6 +1,6 @@
 //! Frames that are appended in one walk of the lists that they hold: the length of the frame is put in once it is known.
 
-ghost use Rattle.std.specs.Prelude.{◌≡◌, ◌<◌, ◌≤◌, ◌*◌, ◌++◌, ◌∷◌, [], true, false, min, length, if◌then◌else◌, IfOk, OnErr, codes};
+ghost use Rattle.std.specs.Prelude.{◌≡◌, ◌<◌, ◌≤◌, ◌*◌, ◌++◌, ◌∷◌, [], IsTrue, IsFalse, min, length, if◌then◌else◌, IfOk, OnErr, codes};
 ghost use Rattle.tab_term.specs.Canon.{canon, canons};
 ghost use Rattle.tab_term.specs.Data.{atom, list, pair};
 ghost use Rattle.tab_term.specs.View.{term};
@@ -39,7 +39,9 @@ pub enum Unmeasured<'a> {
 
 /// Adds `{aborted, Reason}`.
 fn append_aborted(reason: &Term, out: &mut Vec<u8>) -> Result<(), AllocError>
-    ensures ok { IfOk result (λ _. out.new.items ≡ out.old.items ++ canon (pair (atom (codes "aborted")) (term reason.now))) }
+    ensures ok { IfOk result
+        (λ _. out.new.items
+        ≡ out.old.items ++ canon (pair (atom (codes "aborted")) (term reason.now))) }
     ensures err { OnErr result (out.new.items ≡ out.old.items) }
 {
     let aborted = Outline {
@@ -55,8 +57,11 @@ fn append_aborted(reason: &Term, out: &mut Vec<u8>) -> Result<(), AllocError>
 
 #[cycle(append)]
 fn append_answers(answers: &Answers, most: usize, out: &mut Vec<u8>) -> Result<bool, AllocError>
-    ensures ok { IfOk result (λ within. within ≡ true → out.new.items ≡ out.old.items ++ canon (list answers.now)) }
-    ensures over { IfOk result (λ within. within ≡ false → IsPast most (length out.old.items) (length (canon (list answers.now)))) }
+    ensures ok { IfOk result
+        (λ within. IsTrue within → out.new.items ≡ out.old.items ++ canon (list answers.now)) }
+    ensures over { IfOk result
+        (λ within. IsFalse within
+        → IsPast most (length out.old.items) (length (canon (list answers.now)))) }
     ensures part { Adds out.old.items out.new.items }
 {
     let items = answers.as_slice();
@@ -77,8 +82,12 @@ fn append_answers(answers: &Answers, most: usize, out: &mut Vec<u8>) -> Result<b
 
 #[cycle(append)]
 fn append_answer(answer: &Answer, most: usize, out: &mut Vec<u8>) -> Result<bool, AllocError>
-    ensures ok { IfOk result (λ within. within ≡ true → out.new.items ≡ out.old.items ++ canon (answer_term answer.now)) }
-    ensures over { IfOk result (λ within. within ≡ false → IsPast most (length out.old.items) (length (canon (answer_term answer.now)))) }
+    ensures ok { IfOk result
+        (λ within. IsTrue within
+        → out.new.items ≡ out.old.items ++ canon (answer_term answer.now)) }
+    ensures over { IfOk result
+        (λ within. IsFalse within
+        → IsPast most (length out.old.items) (length (canon (answer_term answer.now)))) }
     ensures part { Adds out.old.items out.new.items }
 {
     match answer {
@@ -100,8 +109,11 @@ fn append_answer(answer: &Answer, most: usize, out: &mut Vec<u8>) -> Result<bool
 
 #[cycle(append)]
 fn append_all(items: &[Answer], most: usize, out: &mut Vec<u8>) -> Result<bool, AllocError>
-    ensures ok { IfOk result (λ within. within ≡ true → out.new.items ≡ out.old.items ++ canons (terms_of items.now)) }
-    ensures over { IfOk result (λ within. within ≡ false → IsPast most (length out.old.items) (length (canons (terms_of items.now)))) }
+    ensures ok { IfOk result
+        (λ within. IsTrue within → out.new.items ≡ out.old.items ++ canons (terms_of items.now)) }
+    ensures over { IfOk result
+        (λ within. IsFalse within
+        → IsPast most (length out.old.items) (length (canons (terms_of items.now)))) }
     ensures part { Adds out.old.items out.new.items }
 {
     for answer in items {
@@ -113,8 +125,12 @@ fn append_all(items: &[Answer], most: usize, out: &mut Vec<u8>) -> Result<bool, 
 }
 
 fn append_value(value: &Unmeasured, most: usize, out: &mut Vec<u8>) -> Result<bool, AllocError>
-    ensures ok { IfOk result (λ within. within ≡ true → out.new.items ≡ out.old.items ++ canon (unmeasured_term value.now)) }
-    ensures over { IfOk result (λ within. within ≡ false → IsPast most (length out.old.items) (length (canon (unmeasured_term value.now)))) }
+    ensures ok { IfOk result
+        (λ within. IsTrue within
+        → out.new.items ≡ out.old.items ++ canon (unmeasured_term value.now)) }
+    ensures over { IfOk result
+        (λ within. IsFalse within
+        → IsPast most (length out.old.items) (length (canon (unmeasured_term value.now)))) }
     ensures part { Adds out.old.items out.new.items }
 {
     match value {
@@ -136,9 +152,20 @@ pub fn append_pair_within(
     out: &mut Vec<u8>,
 ) -> Result<bool, AllocError>
     requires { IsWritable first.now }
-    ensures ok { IfOk result (λ within. out.new.items ≡ out.old.items ++ (if within then frame (131 ∷ canon (pair (leaf_term first.now) (unmeasured_term value.now))) else [])) }
-    ensures within { IfOk result (λ within. within ≡ true → length (frame (131 ∷ canon (pair (leaf_term first.now) (unmeasured_term value.now)))) ≤ most) }
-    ensures over { IfOk result (λ within. within ≡ false → min most 4294967295 < 2 * length (frame (131 ∷ canon (pair (leaf_term first.now) (unmeasured_term value.now))))) }
+    ensures ok { IfOk result
+        (λ within. out.new.items
+        ≡ out.old.items
+        ++ (if within then frame
+        (131 ∷ canon (pair (leaf_term first.now) (unmeasured_term value.now))) else [])) }
+    ensures within { IfOk result
+        (λ within. IsTrue within
+        → length (frame (131 ∷ canon (pair (leaf_term first.now) (unmeasured_term value.now))))
+        ≤ most) }
+    ensures over { IfOk result
+        (λ within. IsFalse within
+        → min most 4294967295
+        < 2 * length (frame
+        (131 ∷ canon (pair (leaf_term first.now) (unmeasured_term value.now))))) }
     ensures err { OnErr result (out.new.items ≡ out.old.items) }
 {
     let start = out.len();

@@ -12,7 +12,8 @@ const ROOM: usize = 512;
 /// Writes bytes to a device that has not failed, and returns whether it has failed then.
 #[tactic(auto, using(crate::proofs::WritingLemmas::hands_broken, crate::proofs::WritingLemmas::hands_sent, crate::proofs::WritingLemmas::hands_lost))]
 fn hand_over<W: Target>(failed: bool, device: &mut W, bytes: &[u8]) -> bool
-    ensures { Hands failed (W.faults device.old) (W.contents device.old) result (W.faults device.new) (W.contents device.new) bytes.now }
+    ensures { Hands failed (W.faults device.old) (W.contents device.old) result
+        (W.faults device.new) (W.contents device.new) bytes.now }
 {
     if failed {
         return true;
@@ -31,7 +32,13 @@ pub struct Writer<'a, W> {
 impl<'a, W: Target> Writer<'a, W> {
     pub fn new(device: &'a mut W) -> Writer<'a, W>
         ensures same { result.device.ghost_name ≡ device.entry.ghost_name }
-        ensures output { output W.contents W.faults result ≡ record { failed = false; faults = W.faults device.old; sent = W.contents device.old; kept = [] } }
+        ensures output { output W.contents W.faults result
+            ≡ record {
+              failed = false;
+              faults = W.faults device.old;
+              sent = W.contents device.old;
+              kept = [];
+            } }
     {
         Writer {
             device,

@@ -11,7 +11,8 @@ use tab_term::{Atom, Term};
 
 /// The records of a dump mark of the table: `{mnesia_table_begin, Tab, Level, Records}`.
 pub fn dumped<'a>(table: &Atom, told: &'a Term) -> Option<&'a [Term]>
-    ensures { option_map (λ rs. terms_list (terms rs)) (option_copied result) ≡ dumped_of table.now (term told.now) }
+    ensures { option_map (λ rs. terms_list (terms rs)) (option_copied result)
+        ≡ dumped_of table.now (term told.now) }
 {
     let Term::Tuple(parts) = told else {
         return None;
@@ -56,7 +57,8 @@ pub fn is_end_mark(table: &Atom, told: &Term) -> bool
 }
 
 fn rows_in<'a>(table: &Atom, records: &'a Term) -> Option<&'a [Term]>
-    ensures { option_map (λ rs. terms_list (terms rs)) (option_copied result) ≡ rows_in_term table.now (term records.now) }
+    ensures { option_map (λ rs. terms_list (terms rs)) (option_copied result)
+        ≡ rows_in_term table.now (term records.now) }
 {
     let Term::List(records) = records else {
         return None;

@@ -36,7 +36,8 @@ impl Model for Mirror {
 
     ghost coded = { Prim.hlevel (codes, term_code) };
 
-    ghost view = { λ a. record { table = a.table; kind = a.kind; rows = option_map (λ rows. rows.1) a.rows } };
+    ghost view = { λ a.
+        record { table = a.table; kind = a.kind; rows = option_map (λ rows. rows.1) a.rows } };
 
     ghost invariant = { λ a. IfSome a.rows (λ rows. rows.0 ≡ a.kind) };
 }
@@ -77,7 +78,9 @@ impl Mirror {
     /// nothing.
     pub fn feed(&mut self, alloc: Global, told: &Term) -> Result<Mirrored, AllocError>
         ensures table { (self.new.table ≡ self.old.table) × (self.new.kind ≡ self.old.kind) }
-        ensures ok { IfOk result (λ m. (self.new.rows, m) ≡ fed self.old.table self.old.kind self.old.rows (term told.now)) }
+        ensures ok { IfOk result
+            (λ m. (self.new.rows, m)
+            ≡ fed self.old.table self.old.kind self.old.rows (term told.now)) }
         ensures err { OnErr result (self.new ≡ self.old) }
     {
         if let Some(records) = dumped(&self.table, told) {
@@ -93,7 +96,10 @@ impl Mirror {
 
     fn follow(&mut self, alloc: Global, told: &Term) -> Result<Mirrored, AllocError>
         ensures table { (self.new.table ≡ self.old.table) × (self.new.kind ≡ self.old.kind) }
-        ensures ok { IfOk result (λ m. (self.new.rows, m) ≡ changed self.old.kind self.old.rows (in_table_of self.old.table (change_of_term (term told.now)))) }
+        ensures ok { IfOk result
+            (λ m. (self.new.rows, m)
+            ≡ changed self.old.kind self.old.rows
+            (in_table_of self.old.table (change_of_term (term told.now)))) }
         ensures err { OnErr result (self.new ≡ self.old) }
     {
         let Some(rows) = &mut self.rows else {
@@ -108,7 +114,8 @@ impl Mirror {
 }
 
 fn rows_of(alloc: Global, kind: Kind, records: &[Term]) -> Result<Rows, AllocError>
-    ensures { IfOk result (λ rows. rows ≡ (kind, put_all kind [] (terms_list (terms records.now)))) }
+    ensures { IfOk result
+        (λ rows. rows ≡ (kind, put_all kind [] (terms_list (terms records.now)))) }
 {
     let mut rows = Rows::new(kind);
     for row in records {

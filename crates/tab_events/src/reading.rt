@@ -25,7 +25,9 @@ pub fn change_of(alloc: Global, shaped: &Term) -> Result<Option<Change>, AllocEr
 }
 
 fn change_in(alloc: Global, word: &str, body: &[Term]) -> Result<Option<Change>, AllocError>
-    ensures { IfOk result (λ c. c ≡ change_in_event (one_more (atom word.now) (one_more (tuple (terms body.now)) none))) }
+    ensures { IfOk result
+        (λ c. c ≡ change_in_event
+        (one_more (atom word.now) (one_more (tuple (terms body.now)) none))) }
 {
     if word != "mnesia_table_event" {
         return Ok(None);
@@ -68,7 +70,9 @@ fn detailed_body(
     old: &Term,
     id: &Term,
 ) -> Result<Option<Change>, AllocError>
-    ensures { IfOk result (λ c. c ≡ detailed_body_of word.now (term table.now) (term what.now) (term old.now) (term id.now)) }
+    ensures { IfOk result
+        (λ c. c ≡ detailed_body_of word.now (term table.now) (term what.now) (term old.now)
+        (term id.now)) }
 {
     let (Term::Atom(table), Term::List(_)) = (table, old) else {
         return Ok(None);

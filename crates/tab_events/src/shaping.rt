@@ -34,7 +34,9 @@ fn simple(alloc: Global, change: &Change, age: u64) -> Result<EventTerm, AllocEr
 
 /// The deletion of a record has the tag of a key's.
 fn detailed(alloc: Global, event: &Event) -> Result<EventTerm, AllocError>
-    ensures { IfOk result (λ t. event_body t ≡ detailed_of event.now.change event.now.tab event.now.old event.now.age) }
+    ensures { IfOk result
+        (λ t. event_body t
+        ≡ detailed_of event.now.change event.now.tab event.now.old event.now.age) }
 {
     let (tag, what) = match &event.change {
         Change::Write(row) => (Tag::Write, row.try_clone(alloc)?),

@@ -58,7 +58,8 @@ impl Index {
 
     /// The keys of the value, which share all with the index.
     pub fn keys_of(&self, value: &Term) -> Result<Set<Term>, AllocError>
-        ensures keys { IfOk result (λ keys. keys ≡ keys_in (lookup term_cmp value.now self.now.keys)) }
+        ensures keys { IfOk result
+            (λ keys. keys ≡ keys_in (lookup term_cmp value.now self.now.keys)) }
         ensures in_order { IfOk result (λ keys. KeysAscend term_cmp keys) }
         ensures ascends { Ascends term_cmp self.now.keys }
     {
@@ -71,7 +72,8 @@ impl Index {
     /// Puts the key to the value.
     fn put(&mut self, alloc: Global, value: &Term, key: &Term) -> Result<(), AllocError>
         ensures position { self.new.position ≡ self.old.position }
-        ensures ok { OnOk result (IsWith self.old.keys self.new.keys (term value.now) (term key.now)) }
+        ensures ok { OnOk result
+            (IsWith self.old.keys self.new.keys (term value.now) (term key.now)) }
     {
         let mut keys = self.keys_of(value)?;
         if keys.contains(key) {
@@ -84,7 +86,8 @@ impl Index {
     /// Takes the key from the value, and a value that has no other key with it.
     fn take(&mut self, alloc: Global, value: &Term, key: &Term) -> Result<(), AllocError>
         ensures position { self.new.position ≡ self.old.position }
-        ensures ok { OnOk result (IsWithout self.old.keys self.new.keys (term value.now) (term key.now)) }
+        ensures ok { OnOk result
+            (IsWithout self.old.keys self.new.keys (term value.now) (term key.now)) }
     {
         let Some(keys) = self.keys.get(value) else {
             return Ok(());
@@ -103,7 +106,9 @@ impl Index {
     /// Adds what a record has at the position.
     pub fn add(&mut self, alloc: Global, row: &Term) -> Result<(), AllocError>
         ensures position { self.new.position ≡ self.old.position }
-        ensures ok { OnOk result (IsWith self.old.keys self.new.keys (element_of self.old.position (term row.now)) (key_of_row (term row.now))) }
+        ensures ok { OnOk result
+            (IsWith self.old.keys self.new.keys (element_of self.old.position (term row.now))
+            (key_of_row (term row.now))) }
     {
         let nothing = Nothing::new(alloc);
         self.put(
@@ -128,7 +133,9 @@ impl Index {
     // Adds what each of these records has at the position.
     fn add_all(&mut self, alloc: Global, records: Iter<'_>) -> Result<(), AllocError>
         ensures position { self.new.position ≡ self.old.position }
-        ensures ok { OnOk result ((rows : RowsOf) → IsIndexOf rows self.old.position self.old.keys → IsIndexOf (rows ++ records.entry) self.new.position self.new.keys) }
+        ensures ok { OnOk result
+            ((rows : RowsOf) → IsIndexOf rows self.old.position self.old.keys
+            → IsIndexOf (rows ++ records.entry) self.new.position self.new.keys) }
     {
         for row in records {
             self.add(alloc, row)?;
@@ -140,7 +147,8 @@ impl Index {
     fn forget(&mut self, alloc: Global, rows: &Rows, key: &Term) -> Result<(), AllocError>
         requires { IsIndexOf rows.now.1 self.old.position self.old.keys }
         ensures position { self.new.position ≡ self.old.position }
-        ensures ok { OnOk result (IsIndexOf (delete_in rows.now.1 (term key.now)) self.new.position self.new.keys) }
+        ensures ok { OnOk result
+            (IsIndexOf (delete_in rows.now.1 (term key.now)) self.new.position self.new.keys) }
     {
         let nothing = Nothing::new(alloc);
         for row in rows.at(key) {
@@ -152,9 +160,11 @@ impl Index {
     // A set's write, whose record takes the place of its key's records.
     fn replace(&mut self, alloc: Global, rows: &Rows, row: &Term) -> Result<(), AllocError>
         requires index { IsIndexOf rows.now.1 self.old.position self.old.keys }
-        requires ordered { is_ordered rows.now.1 ≡ true }
+        requires ordered { IsTrue (is_ordered rows.now.1) }
         ensures position { self.new.position ≡ self.old.position }
-        ensures ok { OnOk result (IsIndexOf (put_in kind.Set rows.now.1 (term row.now)) self.new.position self.new.keys) }
+        ensures ok { OnOk result
+            (IsIndexOf (put_in kind.Set rows.now.1 (term row.now)) self.new.position
+            self.new.keys) }
     {
         let nothing = Nothing::new(alloc);
         let key = key(row, &nothing);
@@ -171,7 +181,8 @@ impl Index {
 
     // Whether there is one record, and it has the value.
     fn has_only(&self, mut records: Iter<'_>, value: &Term, nothing: &Nothing) -> bool
-        ensures { IsTrue result → map (element_of self.now.position) records.entry ≡ term value.now ∷ [] }
+        ensures { IsTrue result
+            → map (element_of self.now.position) records.entry ≡ term value.now ∷ [] }
     {
         let Some(first) = records.next() else {
             return false;
@@ -185,9 +196,11 @@ impl Index {
     // A deletion of a record. The key stays where another of its records has the value.
     fn forget_object(&mut self, alloc: Global, rows: &Rows, row: &Term) -> Result<(), AllocError>
         requires index { IsIndexOf rows.now.1 self.old.position self.old.keys }
-        requires ordered { is_ordered rows.now.1 ≡ true }
+        requires ordered { IsTrue (is_ordered rows.now.1) }
         ensures position { self.new.position ≡ self.old.position }
-        ensures ok { OnOk result (IsIndexOf (delete_object_in rows.now.1 (term row.now)) self.new.position self.new.keys) }
+        ensures ok { OnOk result
+            (IsIndexOf (delete_object_in rows.now.1 (term row.now)) self.new.position
+            self.new.keys) }
     {
         let nothing = Nothing::new(alloc);
         let key = key(row, &nothing);
@@ -200,7 +213,9 @@ impl Index {
 
     // Whether a record that isn't this one has the value.
     fn has_another(&self, records: Iter<'_>, row: &Term, value: &Term, nothing: &Nothing) -> bool
-        ensures { result ≡ list_any (has_value self.now.position (term value.now)) (delete_object_in records.entry (term row.now)) }
+        ensures { result
+            ≡ list_any (has_value self.now.position (term value.now))
+            (delete_object_in records.entry (term row.now)) }
     {
         for other in records {
             if row == other {
@@ -216,9 +231,10 @@ impl Index {
     /// Makes the index of `rows` that of the rows after the change.
     pub fn change(&mut self, alloc: Global, rows: &Rows, change: &Change) -> Result<(), AllocError>
         requires index { IsIndexOf rows.now.1 self.old.position self.old.keys }
-        requires ordered { is_ordered rows.now.1 ≡ true }
+        requires ordered { IsTrue (is_ordered rows.now.1) }
         ensures position { self.new.position ≡ self.old.position }
-        ensures ok { OnOk result (IsIndexOf (apply rows.now.0 rows.now.1 change.now) self.new.position self.new.keys) }
+        ensures ok { OnOk result
+            (IsIndexOf (apply rows.now.0 rows.now.1 change.now) self.new.position self.new.keys) }
     {
         match change {
             Change::Write(row) => match rows.kind() {

@@ -34,7 +34,9 @@ pub fn shared_indexes(alloc: Global, indexes: &[Index]) -> Result<Vec<Index>, Al
 
 /// Where the index of a new position belongs. None where the position is there.
 pub fn new_place(indexes: &[Index], position: u64) -> Option<usize>
-    ensures { MatchOption result (add_number position (positions indexes.now) ≡ positions indexes.now) (λ n. IsPlace indexes.now position n) }
+    ensures { MatchOption result
+        (add_number position (positions indexes.now) ≡ positions indexes.now)
+        (λ n. IsPlace indexes.now position n) }
 {
     for (n, index) in indexes.iter().enumerate() {
         if index.position == position {
@@ -53,8 +55,11 @@ pub fn other_indexes(
     indexes: &[Index],
     position: u64,
 ) -> Result<Vec<Index>, AllocError>
-    ensures positions { IfOk result (λ others. positions others.items ≡ less_number position (positions indexes.now)) }
-    ensures indexes { IfOk result (λ others. (rows : RowsOf) → AreIndexesOf rows indexes.now → AreIndexesOf rows others.items) }
+    ensures positions { IfOk result
+        (λ others. positions others.items ≡ less_number position (positions indexes.now)) }
+    ensures indexes { IfOk result
+        (λ others. (rows : RowsOf) → AreIndexesOf rows indexes.now
+        → AreIndexesOf rows others.items) }
 {
     let mut others = Vec::with_capacity(alloc, indexes.len())?;
     for index in indexes {

@@ -1,4 +1,4 @@
-ghost use Rattle.std.specs.Prelude.{◌≡◌, [], IfOk, IfSome, MatchOption, OnOk, OnErr, is_some, true, if◌then◌else◌, Some, None, length, map};
+ghost use Rattle.std.specs.Prelude.{◌≡◌, [], IfOk, IfSome, MatchOption, OnOk, OnErr, is_some, IsTrue, if◌then◌else◌, Some, None, length, map};
 ghost use Rattle.std.specs.List.{All};
 ghost use Rattle.std.specs.Option.{option_copied};
 ghost use Rattle.tab_term.specs.Order.{term_cmp};
@@ -117,7 +117,8 @@ impl IndexedTable {
 
     /// The key with its records, in the order of their insertion. None where it has none.
     pub fn entry(&self, key: &Term) -> Option<&Entry<Term, Records>>
-        ensures { MatchOption result (at self.now.rows (term key.now) ≡ []) (λ e. e.now.1 ≡ plain_terms (at self.now.rows (term key.now))) }
+        ensures { MatchOption result (at self.now.rows (term key.now) ≡ [])
+            (λ e. e.now.1 ≡ plain_terms (at self.now.rows (term key.now))) }
     {
         self.rows.entry(key)
     }
@@ -139,8 +140,10 @@ impl IndexedTable {
     /// The keys of which a record has the value at the position, as a set that shares all with the index. None where the
     /// position has no index.
     pub fn keys_with(&self, position: u64, value: &Term) -> Result<Option<Set<Term>>, AllocError>
-        ensures indexed { IfOk result (λ keys. is_some keys ≡ has_number self.now.def.indexes position) }
-        ensures keys { IfOk result (λ keys. IfSome keys (AreKeysWith self.now.rows position (term value.now))) }
+        ensures indexed { IfOk result
+            (λ keys. is_some keys ≡ has_number self.now.def.indexes position) }
+        ensures keys { IfOk result
+            (λ keys. IfSome keys (AreKeysWith self.now.rows position (term value.now))) }
         ensures in_order { IfOk result (λ keys. IfSome keys (KeysAscend term_cmp)) }
     {
         match self.index_at(position) {
@@ -151,7 +154,8 @@ impl IndexedTable {
 
     fn index_at(&self, position: u64) -> Option<&Index>
         ensures found { is_some result ≡ has_number self.now.def.indexes position }
-        ensures index { IfSome (option_copied result) (λ index. (index.position ≡ position) × IsIndexOf self.now.rows position index.keys) }
+        ensures index { IfSome (option_copied result)
+            (λ index. (index.position ≡ position) × IsIndexOf self.now.rows position index.keys) }
     {
         for index in &self.indexes {
             if index.position == position {
@@ -163,7 +167,10 @@ impl IndexedTable {
 
     /// The table with an index at the position, which is made in one walk. Where there is one already, the same table.
     pub fn add_index(&self, alloc: Global, position: u64) -> Result<IndexedTable, AllocError>
-        ensures { IfOk result (λ table. table ≡ with_def self.now (with_indexes self.now.def (add_number position self.now.def.indexes))) }
+        ensures { IfOk result
+            (λ table. table
+            ≡ with_def self.now
+            (with_indexes self.now.def (add_number position self.now.def.indexes))) }
     {
         let Some(place) = new_place(&self.indexes, position) else {
             return self.share(alloc);
@@ -176,7 +183,10 @@ impl IndexedTable {
 
     /// The table without an index at the position.
     pub fn del_index(&self, alloc: Global, position: u64) -> Result<IndexedTable, AllocError>
-        ensures { IfOk result (λ table. table ≡ with_def self.now (with_indexes self.now.def (less_number position self.now.def.indexes))) }
+        ensures { IfOk result
+            (λ table. table
+            ≡ with_def self.now
+            (with_indexes self.now.def (less_number position self.now.def.indexes))) }
     {
         let indexes = other_indexes(alloc, &self.indexes, position)?;
         self.with_indexes(alloc, indexes)
@@ -184,7 +194,9 @@ impl IndexedTable {
 
     fn with_indexes(&self, alloc: Global, indexes: Vec<Index>) -> Result<IndexedTable, AllocError>
         requires { AreIndexesOf self.now.rows indexes.items }
-        ensures { IfOk result (λ table. table ≡ with_def self.now (with_indexes self.now.def (positions indexes.items))) }
+        ensures { IfOk result
+            (λ table. table
+            ≡ with_def self.now (with_indexes self.now.def (positions indexes.items))) }
     {
         let numbers = positions_of(alloc, &indexes)?;
         let def = with_positions(alloc, &self.def, numbers)?;
@@ -203,7 +215,9 @@ impl IndexedTable {
         changes: &[Change],
         lender: Option<&Map<Term, Records>>,
     ) -> Result<IndexedTable, AllocError>
-        ensures { IfOk result (λ table. table ≡ with_rows self.now (applied_in self.now.def.kind self.now.rows changes.now)) }
+        ensures { IfOk result
+            (λ table. table
+            ≡ with_rows self.now (applied_in self.now.def.kind self.now.rows changes.now)) }
     {
         self.share(alloc)?.applied(alloc, changes, lender)
     }
@@ -216,7 +230,8 @@ impl IndexedTable {
         changes: &[Change],
         lender: Option<&Map<Term, Records>>,
     ) -> Result<IndexedTable, AllocError>
-        ensures { IfOk result (λ table. table ≡ with_rows self (applied_in self.def.kind self.rows changes.now)) }
+        ensures { IfOk result
+            (λ table. table ≡ with_rows self (applied_in self.def.kind self.rows changes.now)) }
     {
         let IndexedTable {
             def,
@@ -238,7 +253,8 @@ impl IndexedTable {
         change: &Change,
         lender: Option<&Map<Term, Records>>,
     ) -> Result<(), AllocError>
-        ensures ok { OnOk result (self.new ≡ with_rows self.old (apply_in self.old.def.kind self.old.rows change.now)) }
+        ensures ok { OnOk result
+            (self.new ≡ with_rows self.old (apply_in self.old.def.kind self.old.rows change.now)) }
         ensures err { OnErr result (self.new ≡ self.old) }
     {
         if self.indexes.is_empty() {
@@ -257,9 +273,10 @@ fn change_indexes(
     change: &Change,
 ) -> Result<(), AllocError>
     requires indexes { AreIndexesOf rows.now.1 indexes.old.items }
-    requires ordered { is_ordered rows.now.1 ≡ true }
+    requires ordered { IsTrue (is_ordered rows.now.1) }
     ensures positions { OnOk result (positions indexes.new.items ≡ positions indexes.old.items) }
-    ensures indexes { OnOk result (AreIndexesOf (apply_in rows.now.0 rows.now.1 change.now) indexes.new.items) }
+    ensures indexes { OnOk result
+        (AreIndexesOf (apply_in rows.now.0 rows.now.1 change.now) indexes.new.items) }
 {
     for index in indexes.iter_mut() {
         index.change(alloc, rows, change)?;

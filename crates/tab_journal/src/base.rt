@@ -30,7 +30,8 @@ impl Model for Base {
 
     ghost coded = { Prim.hlevel (codes, term_code) };
 
-    ghost view = { λ a. record { tables = a.tables; commits = a.commits; subscriptions = a.subscriptions.items } };
+    ghost view = { λ a.
+        record { tables = a.tables; commits = a.commits; subscriptions = a.subscriptions.items } };
 
     ghost use Rattle.tab_model.specs.Catalogs.{IsOrderedCatalog};
 
@@ -140,7 +141,10 @@ pub fn number_after(commits: u64, entry: &Entry) -> u64
 }
 
 fn redefined(alloc: Global, tables: &Catalog, command: &Schema) -> Result<Catalog, AllocError>
-    ensures { IfOk result (λ catalog. catalog ≡ unless_refused (schema_refusal tables.now command.now) (schema_effect tables.now command.now) tables.now) }
+    ensures { IfOk result
+        (λ catalog. catalog
+        ≡ unless_refused (schema_refusal tables.now command.now)
+        (schema_effect tables.now command.now) tables.now) }
 {
     match redefine(alloc, tables, command)? {
         Redefined::Done(catalog) => Ok(catalog),

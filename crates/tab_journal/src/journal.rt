@@ -31,7 +31,8 @@ impl Model for Journal {
 
     ghost coded = { Prim.hlevel (codes, term_code, terms_code, pairs_code) };
 
-    ghost view = { λ a. record { base = a.base; entries = a.entries.items; limit = a.entries.capacity } };
+    ghost view = { λ a.
+        record { base = a.base; entries = a.entries.items; limit = a.entries.capacity } };
 
     ghost invariant = { λ a. length a.entries.items ≤ a.entries.capacity };
 }
@@ -40,7 +41,8 @@ impl Journal {
     /// No entries yet, from no tables; at most `limit` of them at a time.
     pub fn with_limit(alloc: Global, limit: usize) -> Result<Journal, AllocError>
         requires { 1 ≤ limit }
-        ensures { IfOk result (λ journal. journal ≡ record { base = empty_base; entries = []; limit = limit }) }
+        ensures { IfOk result
+            (λ journal. journal ≡ record { base = empty_base; entries = []; limit = limit }) }
     {
         Ok(Journal {
             base: Base::empty(alloc),
@@ -58,7 +60,8 @@ impl Journal {
     /// Puts an entry behind the others, or hands it back. Takes no memory.
     pub fn try_push(&mut self, entry: Entry) -> Result<(), Entry>
         ensures full { IsOk result ↔ (length self.old.entries < self.old.limit) }
-        ensures ok { OnOk result (self.new ≡ record self.old { entries = self.old.entries ++ entry ∷ [] }) }
+        ensures ok { OnOk result
+            (self.new ≡ record self.old { entries = self.old.entries ++ entry ∷ [] }) }
         ensures err { IfErr result (λ back. (back ≡ entry) × (self.new ≡ self.old)) }
     {
         self.entries.try_push_back(entry)

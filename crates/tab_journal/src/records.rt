@@ -42,7 +42,8 @@ impl<'a> Records<'a> {
 
     /// The next record.
     pub fn take(&mut self) -> Option<&'a Term>
-        ensures { MatchOption result ((self.old ≡ []) × (self.new ≡ [])) (λ row. self.old ≡ term row.now ∷ self.new) }
+        ensures { MatchOption result ((self.old ≡ []) × (self.new ≡ []))
+            (λ row. self.old ≡ term row.now ∷ self.new) }
     {
         loop {
             if let Some(first) = self.left.next() {

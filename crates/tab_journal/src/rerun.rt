@@ -41,7 +41,8 @@ impl Model for Midst {
 
     ghost view = { λ a. record { age = a.age; now = a.now; saved = a.saved.items; base = a.base } };
 
-    ghost invariant = { λ a. IsOrderedCatalog a.now × AllOrdered a.saved.items × IsOrderedCatalog a.base };
+    ghost invariant = { λ a. IsOrderedCatalog a.now × AllOrdered a.saved.items
+        × IsOrderedCatalog a.base };
 }
 
 // A derived Drop would be taken apart, field by field, at each exit of each caller.

@@ -143,7 +143,8 @@ fn is_same_kind(one: Kind, other: Kind) -> bool
 }
 
 fn has_same_name(one: &TableDef, other: &TableDef) -> bool
-    ensures { result ≡ (bytes_eq one.now.name other.now.name && same_kind one.now.kind other.now.kind) }
+    ensures { result
+        ≡ (bytes_eq one.now.name other.now.name && same_kind one.now.kind other.now.kind) }
 {
     if one.name == other.name {
         return is_same_kind(one.kind, other.kind);
@@ -152,7 +153,9 @@ fn has_same_name(one: &TableDef, other: &TableDef) -> bool
 }
 
 fn has_same_attributes(one: &TableDef, other: &TableDef) -> bool
-    ensures { result ≡ (same_names one.now.attributes other.now.attributes && same_numbers one.now.indexes other.now.indexes) }
+    ensures { result
+        ≡ (same_names one.now.attributes other.now.attributes && same_numbers one.now.indexes
+        other.now.indexes) }
 {
     if are_same_names(
         one.attributes.items.as_slice(),

@@ -74,14 +74,17 @@ fn outlasts(subscription: &Subscription, overflowed: &[u64], gone: Option<&Atom>
 
 /// Keeps the subscriptions that outlast an entry in which these sessions overflowed and this table was deleted.
 pub fn keep(subscriptions: &mut Vec<Subscription>, overflowed: &[u64], gone: Option<&Atom>)
-    ensures { subscriptions.new.items ≡ filter (outlasts_entry overflowed.now (option_copied gone.entry)) subscriptions.old.items }
+    ensures { subscriptions.new.items
+        ≡ filter (outlasts_entry overflowed.now (option_copied gone.entry))
+        subscriptions.old.items }
 {
     subscriptions.retain(|subscription| outlasts(subscription, overflowed, gone));
 }
 
 /// Takes a session's subscription to a table out.
 pub fn unsubscribe(subscriptions: &mut Vec<Subscription>, session: u64, table: &Atom)
-    ensures { subscriptions.new.items ≡ filter (λ x. not (is_subscription_of session table.now x)) subscriptions.old.items }
+    ensures { subscriptions.new.items
+        ≡ filter (λ x. not (is_subscription_of session table.now x)) subscriptions.old.items }
 {
     subscriptions.retain(|subscription| !is_of(subscription, session, table));
 }
@@ -94,7 +97,10 @@ pub fn subscribe(
     table: &Atom,
     level: Level,
 ) -> Result<(), AllocError>
-    ensures ok { OnOk result (subscriptions.new.items ≡ with_subscription true subscriptions.old.items (record { session = session; table = table.now; level = level })) }
+    ensures ok { OnOk result
+        (subscriptions.new.items
+        ≡ with_subscription true subscriptions.old.items
+        (record { session = session; table = table.now; level = level })) }
     ensures err { OnErr result (subscriptions.new.items ≡ subscriptions.old.items) }
 {
     let name = table.try_clone(alloc)?;
@@ -110,7 +116,8 @@ pub fn subscribe(
 
 /// Drops the subscriptions of a session.
 pub fn forget(subscriptions: &mut Vec<Subscription>, session: u64)
-    ensures { subscriptions.new.items ≡ filter (λ (x : SubscriptionOf). not (x.session == session)) subscriptions.old.items }
+    ensures { subscriptions.new.items
+        ≡ filter (λ (x : SubscriptionOf). not (x.session == session)) subscriptions.old.items }
 {
     subscriptions.retain(|subscription| subscription.session != session);
 }

@@ -86,7 +86,8 @@ impl Answers {
     /// One answer more, behind the others. Takes no memory where its place is reserved.
     #[tactic(auto, using(crate::proofs::AnswersLemmas::answers_push))]
     pub fn push(&mut self, answer: Answer) -> Result<(), AllocError>
-        ensures { OnOk result (self.new ≡ plain_terms (terms_list self.old ++ answer_term answer ∷ [])) }
+        ensures { OnOk result
+            (self.new ≡ plain_terms (terms_list self.old ++ answer_term answer ∷ [])) }
     {
         self.items.push(answer)?;
         Ok(())

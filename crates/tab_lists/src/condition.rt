@@ -49,7 +49,8 @@ fn has_value(row: &Term, position: u64, value: &Term) -> bool
 }
 
 fn elements(row: &Term) -> &[Term]
-    ensures { (position : ℕ) → nth (position - 1) (terms result.now) ≡ element position (term row.now) }
+    ensures { (position : ℕ)
+        → nth (position - 1) (terms result.now) ≡ element position (term row.now) }
 {
     match row {
         Term::Tuple(elements) => elements.as_slice(),

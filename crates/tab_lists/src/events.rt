@@ -83,7 +83,14 @@ impl EventTerm {
 
     /// Of a detailed event. Takes no memory.
     pub fn detailed(tag: Tag, table: Atom, what: Term, old: SharedTerms, age: u64) -> EventTerm
-        ensures { result ≡ record { tag = tag; what = what; detail = Some (record { table = table; old = old }); age = age } }
+        ensures { result
+            ≡ record {
+              tag = tag;
+              what = what;
+              detail = Some
+                  (record { table = table; old = old });
+              age = age;
+            } }
     {
         EventTerm {
             tag,
@@ -183,7 +190,8 @@ impl EventTerms {
     /// One event more, behind the others.
     #[tactic(auto, using(crate::proofs::EventsLemmas::events_push))]
     pub fn push(&mut self, event: SharedEvent) -> Result<(), AllocError>
-        ensures { OnOk result (self.new ≡ plain_terms (terms_list self.old ++ event_term event ∷ [])) }
+        ensures { OnOk result
+            (self.new ≡ plain_terms (terms_list self.old ++ event_term event ∷ [])) }
     {
         self.items.push(event)?;
         Ok(())

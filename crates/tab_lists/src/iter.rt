@@ -122,7 +122,8 @@ fn looked_at(scope: &Scope) -> (tab_records::Iter<'_>, Option<Merged<'_>>)
 
 // The next key at which records stand.
 fn next_filled<'a>(entries: &mut Merged<'a>) -> Option<&'a Term>
-    ensures { MatchOption result ((filled_keys entries.old ≡ []) × (filled_keys entries.new ≡ [])) (λ key. filled_keys entries.old ≡ term key.now ∷ filled_keys entries.new) }
+    ensures { MatchOption result ((filled_keys entries.old ≡ []) × (filled_keys entries.new ≡ []))
+        (λ key. filled_keys entries.old ≡ term key.now ∷ filled_keys entries.new) }
 {
     while let Some((key, records)) = entries.take() {
         if records.first().is_some() {
@@ -137,7 +138,10 @@ fn next_chosen<'a>(
     near: &mut tab_records::Iter<'a>,
     condition: Option<&Condition>,
 ) -> Option<&'a Term>
-    ensures { MatchOption result ((chosen (option_copied condition.entry) near.old ≡ []) × (near.new ≡ [])) (λ first. chosen (option_copied condition.entry) near.old ≡ term first.now ∷ chosen (option_copied condition.entry) near.new) }
+    ensures { MatchOption result
+        ((chosen (option_copied condition.entry) near.old ≡ []) × (near.new ≡ []))
+        (λ first. chosen (option_copied condition.entry) near.old
+        ≡ term first.now ∷ chosen (option_copied condition.entry) near.new) }
 {
     let Some(condition) = condition else {
         return near.next();
@@ -152,7 +156,8 @@ fn next_chosen<'a>(
 
 // The records that come next, which stand together.
 fn next_records<'a>(rest: &mut Option<Merged<'a>>) -> Option<tab_records::Iter<'a>>
-    ensures terms { MatchOption result ((rest_of rest.old ≡ []) × (rest_of rest.new ≡ [])) (λ near. rest_of rest.old ≡ near ++ rest_of rest.new) }
+    ensures terms { MatchOption result ((rest_of rest.old ≡ []) × (rest_of rest.new ≡ []))
+        (λ near. rest_of rest.old ≡ near ++ rest_of rest.new) }
     ensures fewer { IfSome result (λ _. steps_left rest.new < steps_left rest.old) }
 {
     let (_, records) = rest.as_mut()?.take()?;
@@ -161,7 +166,8 @@ fn next_records<'a>(rest: &mut Option<Merged<'a>>) -> Option<tab_records::Iter<'
 
 impl<'a> RecordWalk<'a> {
     fn take(&mut self) -> Option<&'a Term>
-        ensures { MatchOption result ((records_left self.old ≡ []) × (records_left self.new ≡ [])) (λ first. records_left self.old ≡ term first.now ∷ records_left self.new) }
+        ensures { MatchOption result ((records_left self.old ≡ []) × (records_left self.new ≡ []))
+            (λ first. records_left self.old ≡ term first.now ∷ records_left self.new) }
     {
         loop {
             if let Some(first) = next_chosen(&mut self.near, self.condition) {

@@ -68,7 +68,8 @@ fn next_of<'a>(entries: &mut Iter<'a, Term, Records>) -> Option<(&'a Term, &'a R
 
 impl<'a> Picked<'a> {
     fn take(&mut self) -> Option<(&'a Term, &'a Records)>
-        ensures { Gives (at_keys self.old.keys self.old.entries.now) result (at_keys self.new.keys self.new.entries.now) }
+        ensures { Gives (at_keys self.old.keys self.old.entries.now) result
+            (at_keys self.new.keys self.new.entries.now) }
     {
         while let Some(key) = self.keys.next() {
             if let Some(records) = self.entries.get(key) {

@@ -150,7 +150,8 @@ impl SharedTerms {
         scope: Scope,
         condition: Condition,
     ) -> Result<SharedTerms, AllocError>
-        ensures { IfOk result (λ found. found ≡ plain_terms (filter (meets condition) (records_in scope))) }
+        ensures { IfOk result
+            (λ found. found ≡ plain_terms (filter (meets condition) (records_in scope))) }
     {
         let query = Arc::new(alloc, Query { scope, condition })?;
         Ok(SharedTerms::of_form(Form::Found(query)))

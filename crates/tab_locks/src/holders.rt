@@ -51,7 +51,8 @@ impl Holders {
 
     /// Whether a holder stands in this relation to who asks.
     pub fn any(&self, question: Question) -> bool
-        ensures { result ≡ list_any (fits question.relation (question.age, question.write)) self.now }
+        ensures { result
+            ≡ list_any (fits question.relation (question.age, question.write)) self.now }
     {
         any_of(&self.held, question)
     }

@@ -1,4 +1,4 @@
-ghost use Rattle.std.specs.Prelude.{◌≡◌, [], OnOk, OnErr, false};
+ghost use Rattle.std.specs.Prelude.{◌≡◌, [], OnOk, OnErr, IsFalse};
 ghost use Rattle.std.specs.BTreeMap.{IsOrdered};
 ghost use Rattle.std.specs.List.{list_any};
 ghost use Rattle.std.specs.Str.{bytes_eq};
@@ -97,7 +97,8 @@ impl Index {
     /// The same where no one holds a lock on what this one is on, and else nothing: one search tells and adds.
     pub fn add_free(&mut self, alloc: Global, age: u64, lock: &Lock) -> Result<(), Hindrance>
         ensures ok { OnOk result (HasMore (age, lock_of lock.now) self.old self.new) }
-        ensures free { OnOk result (list_any (meets_at (age, lock_of lock.now)) self.old ≡ false) }
+        ensures free { OnOk result
+            (IsFalse (list_any (meets_at (age, lock_of lock.now)) self.old)) }
         ensures err { OnErr result (SameMembers self.old self.new) }
     {
         match self.tables.get_mut(&lock.table) {
@@ -117,7 +118,8 @@ impl Index {
 /// Takes an owner away from the table and part of a lock, in one search of each, and the table where that was the last one.
 fn take(tables: &mut BTreeMap<Atom, OnTable>, alloc: Global, age: u64, lock: Lock)
     requires { HasNoneEmpty tables.old.entries }
-    ensures dropped { Drops (holds_at age (lock_of lock)) (locks_in tables.old.entries) (locks_in tables.new.entries) }
+    ensures dropped { Drops (holds_at age (lock_of lock)) (locks_in tables.old.entries)
+        (locks_in tables.new.entries) }
     ensures filled { HasNoneEmpty tables.new.entries }
     ensures ordered { IsOrdered bytes_cmp tables.new }
 {

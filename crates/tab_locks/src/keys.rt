@@ -1,4 +1,4 @@
-ghost use Rattle.std.specs.Prelude.{◌≡◌, ◌&&◌, [], OnOk, OnErr, true, false};
+ghost use Rattle.std.specs.Prelude.{◌≡◌, ◌&&◌, [], OnOk, OnErr, true, IsFalse};
 ghost use Rattle.std.specs.BTreeMap.{values, IsOrdered};
 ghost use Rattle.std.specs.List.{list_any};
 ghost use Rattle.tab_term.specs.Same.{same};
@@ -59,14 +59,18 @@ impl Keys {
 
     /// Looks at every key that is locked.
     pub fn any_key(&self, question: Question) -> bool
-        ensures { result ≡ list_any (λ s. fits question.relation (question.age, question.write) s.1) self.now }
+        ensures { result
+            ≡ list_any (λ s. fits question.relation (question.age, question.write) s.1) self.now }
     {
         any_of(&self.holders, question)
     }
 
     /// Looks at that key alone.
     pub fn any_at(&self, question: Question, key: &Term) -> bool
-        ensures { result ≡ list_any (λ s. same (term key.now) s.0 && fits question.relation (question.age, question.write) s.1) self.now }
+        ensures { result
+            ≡ list_any (λ s.
+            same (term key.now) s.0 && fits question.relation
+            (question.age, question.write) s.1) self.now }
     {
         match self.holders.get(key) {
             Some(holders) => holders.any(question),
@@ -108,7 +112,7 @@ impl Keys {
         write: bool,
     ) -> Result<(), Hindrance>
         ensures ok { OnOk result (HasMore (term key.now, (age, write)) self.old self.new) }
-        ensures free { OnOk result (list_any (λ s. same (term key.now) s.0) self.old ≡ false) }
+        ensures free { OnOk result (IsFalse (list_any (λ s. same (term key.now) s.0) self.old)) }
         ensures err { OnErr result (SameMembers self.old self.new) }
     {
         let alone = Holders::only(alloc, age, write)?;
@@ -135,7 +139,9 @@ impl Keys {
 }
 
 fn any_of(holders: &BTreeMap<Term, Holders>, question: Question) -> bool
-    ensures { result ≡ list_any (λ v. list_any (fits question.relation (question.age, question.write)) v) (values holders.now) }
+    ensures { result
+        ≡ list_any (λ v. list_any (fits question.relation (question.age, question.write)) v)
+        (values holders.now) }
 {
     holders.values().any(|at_key| at_key.any(question))
 }
@@ -143,7 +149,8 @@ fn any_of(holders: &BTreeMap<Term, Holders>, question: Question) -> bool
 /// Takes an owner away from a key, in one search, and the key itself where that was the last one.
 fn take(holders: &mut BTreeMap<Term, Holders>, alloc: Global, key: Term, age: u64, write: bool)
     requires { HasNoneEmpty holders.old.entries }
-    ensures dropped { Drops (stands_on_key (term key) (age, write)) (key_spots holders.old.entries) (key_spots holders.new.entries) }
+    ensures dropped { Drops (stands_on_key (term key) (age, write)) (key_spots holders.old.entries)
+        (key_spots holders.new.entries) }
     ensures filled { HasNoneEmpty holders.new.entries }
     ensures ordered { IsOrdered term_cmp holders.new }
 {

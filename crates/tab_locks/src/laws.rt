@@ -6,5 +6,6 @@ ghost use Rattle.tab_locks.specs.Placed.{placed};
 /// A law: a lock more is one member more of the list, wherever it stands in it.
 #[tactic(auto, using(crate::proofs::Listing::any_placed))]
 pub fn a_lock_more_is_one_member_more()
-    ensures { (p : Owned → Bool) (x : Owned) (held : List Owned) → list_any p (placed x held) ≡ (p x || list_any p held) }
+    ensures { (p : Owned → Bool) (x : Owned) (held : List Owned)
+        → list_any p (placed x held) ≡ (p x || list_any p held) }
 {}

@@ -1,4 +1,4 @@
-ghost use Rattle.std.specs.Prelude.{◌≡◌, [], ◌∷◌, ◌++◌, is_ok, if◌then◌else◌, OnOk, OnErr, IfOk, IfErr, false};
+ghost use Rattle.std.specs.Prelude.{◌≡◌, [], ◌∷◌, ◌++◌, is_ok, if◌then◌else◌, OnOk, OnErr, IfOk, IfErr, IsFalse};
 ghost use Rattle.std.specs.List.{list_any};
 ghost use Rattle.std.specs.Str.{bytes_eq};
 ghost use Rattle.tab_model.specs.Ages.{covers_own, without};
@@ -136,7 +136,8 @@ impl LockTable {
     /// Holds a lock where one of its owner's serves for it, or no one's is in conflict with it. Mostly no one holds a lock there, and
     /// then to ask and to hold is one search. To tell of a conflict takes no memory that may be refused.
     pub fn ask(&mut self, age: u64, lock: Lock) -> Result<Asked, AllocError>
-        ensures answer { IfOk result (λ a. conflict_in a ≡ in_the_way (age, lock_of lock) self.old) }
+        ensures answer { IfOk result
+            (λ a. conflict_in a ≡ in_the_way (age, lock_of lock) self.old) }
         ensures after { IfOk result (λ a. self.new ≡ after_asked (age, lock_of lock) self.old a) }
         ensures undo { IfOk result (λ a. a ≡ Held → without_last age self.new ≡ self.old) }
         ensures back { IfOk result (GivesBack lock) }
@@ -167,7 +168,7 @@ impl LockTable {
     fn hold_free(&mut self, age: u64, lock: Lock) -> Result<(), Lock>
         ensures ok { OnOk result (self.new ≡ placed (age, lock_of lock) self.old) }
         ensures undo { OnOk result (without_last age self.new ≡ self.old) }
-        ensures free { OnOk result (list_any (meets_at (age, lock_of lock)) self.old ≡ false) }
+        ensures free { OnOk result (IsFalse (list_any (meets_at (age, lock_of lock)) self.old)) }
         ensures err { OnErr result (self.new ≡ self.old) }
         ensures back { IfErr result (λ l. l ≡ lock) }
     {
@@ -213,7 +214,8 @@ fn keep(
     age: u64,
     lock: Lock,
 ) -> Result<(), AllocError>
-    ensures locks { locks.new.items ≡ (if is_ok result then locks.old.items ++ lock ∷ [] else locks.old.items) }
+    ensures locks { locks.new.items
+        ≡ (if is_ok result then locks.old.items ++ lock ∷ [] else locks.old.items) }
     ensures ok { OnOk result (HasMore (age, lock_of lock) index.old index.new) }
     ensures err { OnErr result (SameMembers index.old index.new) }
 {
@@ -231,9 +233,10 @@ fn keep_free(
     age: u64,
     lock: Lock,
 ) -> Result<(), Lock>
-    ensures locks { locks.new.items ≡ (if is_ok result then locks.old.items ++ lock ∷ [] else locks.old.items) }
+    ensures locks { locks.new.items
+        ≡ (if is_ok result then locks.old.items ++ lock ∷ [] else locks.old.items) }
     ensures ok { OnOk result (HasMore (age, lock_of lock) index.old index.new) }
-    ensures free { OnOk result (list_any (meets_at (age, lock_of lock)) index.old ≡ false) }
+    ensures free { OnOk result (IsFalse (list_any (meets_at (age, lock_of lock)) index.old)) }
     ensures err { OnErr result (SameMembers index.old index.new) }
     ensures back { IfErr result (λ l. l ≡ lock) }
 {

@@ -1,4 +1,4 @@
-ghost use Rattle.std.specs.Prelude.{◌≡◌, ◌&&◌, [], OnOk, OnErr, IfOk, true, false};
+ghost use Rattle.std.specs.Prelude.{◌≡◌, ◌&&◌, [], OnOk, OnErr, IfOk, true, IsFalse};
 ghost use Rattle.std.specs.List.{list_any};
 ghost use Rattle.tab_model.specs.Locks.{meets};
 ghost use Rattle.tab_locks.specs.Plain.{part_of};
@@ -62,7 +62,10 @@ impl OnTable {
 
     /// Looks at the locks on all of the table, and at those on the key, or on every key where the question is about all.
     pub fn any(&self, question: Question, what: &What) -> bool
-        ensures { result ≡ list_any (λ s. reaches question.relation (part_of what.now) s.0 && fits question.relation (question.age, question.write) s.1) self.now }
+        ensures { result
+            ≡ list_any (λ s.
+            reaches question.relation (part_of what.now) s.0 && fits question.relation
+            (question.age, question.write) s.1) self.now }
     {
         if self.all.any(question) {
             return true;
@@ -99,7 +102,8 @@ impl OnTable {
         write: bool,
     ) -> Result<(), Hindrance>
         ensures ok { OnOk result (HasMore (part_of what.now, (age, write)) self.old self.new) }
-        ensures free { OnOk result (list_any (λ s. meets (part_of what.now) s.0) self.old ≡ false) }
+        ensures free { OnOk result
+            (IsFalse (list_any (λ s. meets (part_of what.now) s.0) self.old)) }
         ensures err { OnErr result (SameMembers self.old self.new) }
     {
         if self.all.is_occupied() {

@@ -1,6 +1,6 @@
 //! Outermost commits.
 
-ghost use Rattle.std.specs.Prelude.{◌≡◌, Some, false, option_map};
+ghost use Rattle.std.specs.Prelude.{◌≡◌, Some, IsFalse, option_map};
 ghost use Rattle.tab_model.specs.declared.data.Command.TheVariants as command;
 ghost use Rattle.tab_model.specs.Events.{change_all, surviving};
 ghost use Rattle.tab_model.specs.State.{Transaction as Opened, is_waiting};
@@ -28,7 +28,8 @@ impl Machine {
     /// The end of the session's transaction, where level 1 alone is open and nothing waits.
     pub fn outermost(&self, session: u32) -> Option<Ending<'_>>
         requires kept { IsKept self.now }
-        ensures { option_map told_of result ≡ option_map ending_of (outermost (state_of self.now) session) }
+        ensures { option_map told_of result
+            ≡ option_map ending_of (outermost (state_of self.now) session) }
     {
         if self.waits(session) {
             return None;
@@ -43,8 +44,9 @@ impl Machine {
     fn ending(&self, session: u32, place: usize) -> Option<Ending<'_>>
         requires kept { IsKept self.now }
         requires there { IsHeldAt self.now.sessions.items session place }
-        requires idle { is_waiting (state_of self.now) session ≡ false }
-        ensures { option_map told_of result ≡ option_map ending_of (outermost (state_of self.now) session) }
+        requires idle { IsFalse (is_waiting (state_of self.now) session) }
+        ensures { option_map told_of result
+            ≡ option_map ending_of (outermost (state_of self.now) session) }
     {
         let Some(transaction) = &self.sessions[place].transaction else {
             return None;
@@ -62,8 +64,10 @@ impl Machine {
     /// The tables have the transaction's updates. From here nothing fails.
     pub fn commit_as(&mut self, session: u32, catalog: Catalog) -> Stepped
         requires kept { IsKept self.old }
-        requires there { (t : Opened) × (outermost (state_of self.old) session ≡ Some t) × (catalog ≡ change_all self.old.catalog (surviving t.moves t.told)) }
-        ensures done { StepsTo (state_of self.old) session (DoCommand command.Commit) result (state_of self.new) }
+        requires there { (t : Opened) × (outermost (state_of self.old) session ≡ Some t)
+            × (catalog ≡ change_all self.old.catalog (surviving t.moves t.told)) }
+        ensures done { StepsTo (state_of self.old) session (DoCommand command.Commit) result
+            (state_of self.new) }
         ensures kept { IsKept self.new }
     {
         let Some(place) = self.place(session) else {

@@ -1,6 +1,6 @@
 //! The levels of a transaction: their begins and ends.
 
-ghost use Rattle.std.specs.Prelude.{◌≡◌, ◌<◌, ◌==◌, ℕ, List, [], IfOk, IsOk, IsSome, IfSome, OnOk, OnErr, None, false, true, length, if◌then◌else◌};
+ghost use Rattle.std.specs.Prelude.{◌≡◌, ◌<◌, ◌==◌, ℕ, List, [], IfOk, IsOk, IsSome, IfSome, OnOk, OnErr, None, IsFalse, IsTrue, length, if◌then◌else◌};
 ghost use Rattle.tab_model.specs.declared.data.Command.TheVariants as command;
 ghost use Rattle.tab_model.specs.declared.data.Part.{Part};
 ghost use Rattle.tab_model.specs.Events.{change_all};
@@ -27,10 +27,13 @@ impl Machine {
     pub fn begin(&mut self, session: u32, place: usize) -> Result<Reply, AllocError>
         requires kept { IsKept self.old }
         requires there { IsHeldAt self.old.sessions.items session place }
-        requires idle { is_waiting (state_of self.old) session ≡ false }
-        ensures ok { IfOk result (λ r. outcome (state_of self.old) [] session (DoCommand command.Begin) ≡ step_without_entry (state_of self.new) r) }
+        requires idle { IsFalse (is_waiting (state_of self.old) session) }
+        ensures ok { IfOk result
+            (λ r. outcome (state_of self.old) [] session (DoCommand command.Begin)
+            ≡ step_without_entry (state_of self.new) r) }
         ensures free { transaction_at (state_of self.old) session ≡ None → IsOk result }
-        ensures told { is_told_for_none (state_of self.old) session (DoCommand command.Begin) ≡ true → IsOk result }
+        ensures told { IsTrue
+            (is_told_for_none (state_of self.old) session (DoCommand command.Begin)) → IsOk result }
         ensures err { OnErr result (state_of self.new ≡ state_of self.old) }
         ensures kept { IsKept self.new }
     {
@@ -52,8 +55,11 @@ impl Machine {
     pub fn one_shot(&mut self, session: u32, place: usize) -> Result<Reply, AllocError>
         requires kept { IsKept self.old }
         requires there { IsHeldAt self.old.sessions.items session place }
-        requires idle { is_waiting (state_of self.old) session ≡ false }
-        ensures ok { IfOk result (λ r. (parts : List Part) (retries : ℕ) → outcome (state_of self.old) [] session (DoCommand (command.OneShot parts retries)) ≡ step_without_entry (state_of self.new) r) }
+        requires idle { IsFalse (is_waiting (state_of self.old) session) }
+        ensures ok { IfOk result
+            (λ r. (parts : List Part) (retries : ℕ)
+            → outcome (state_of self.old) [] session (DoCommand (command.OneShot parts retries))
+            ≡ step_without_entry (state_of self.new) r) }
         ensures free { IsOk result }
         ensures err { OnErr result (state_of self.new ≡ state_of self.old) }
         ensures kept { IsKept self.new }
@@ -68,10 +74,14 @@ impl Machine {
     pub fn commit(&mut self, session: u32, place: usize) -> Result<Stepped, AllocError>
         requires kept { IsKept self.old }
         requires there { IsHeldAt self.old.sessions.items session place }
-        requires idle { is_waiting (state_of self.old) session ≡ false }
-        ensures ok { IfOk result (λ s. outcome (state_of self.old) [] session (DoCommand command.Commit) ≡ record { state = state_of self.new; reply = s.reply; entry = s.entry }) }
-        ensures free { is_empty (moves_at (state_of self.old) session) ≡ true → IsOk result }
-        ensures told { is_told_for_none (state_of self.old) session (DoCommand command.Commit) ≡ true → IsOk result }
+        requires idle { IsFalse (is_waiting (state_of self.old) session) }
+        ensures ok { IfOk result
+            (λ s. outcome (state_of self.old) [] session (DoCommand command.Commit)
+            ≡ record { state = state_of self.new; reply = s.reply; entry = s.entry }) }
+        ensures free { IsTrue (is_empty (moves_at (state_of self.old) session)) → IsOk result }
+        ensures told { IsTrue
+            (is_told_for_none (state_of self.old) session (DoCommand command.Commit))
+            → IsOk result }
         ensures err { OnErr result (state_of self.new ≡ state_of self.old) }
         ensures kept { IsKept self.new }
     {
@@ -97,7 +107,8 @@ impl Machine {
     pub fn abort(&mut self, session: u32, place: usize, reason: Term) -> Reply
         requires kept { IsKept self.old }
         requires there { IsHeldAt self.old.sessions.items session place }
-        ensures ok { outcome (state_of self.old) [] session (DoCommand (command.Abort reason)) ≡ step_without_entry (state_of self.new) result }
+        ensures ok { outcome (state_of self.old) [] session (DoCommand (command.Abort reason))
+            ≡ step_without_entry (state_of self.new) result }
         ensures kept { IsKept self.new }
     {
         if self.sessions[place].transaction.is_none() {
@@ -113,8 +124,10 @@ impl Machine {
 fn nest(limits: &Limits, slot: &mut Session) -> Result<Reply, AllocError>
     requires { IsSome slot.old.transaction }
     ensures number { slot.new.number ≡ slot.old.number }
-    ensures ok { IfSome slot.old.transaction (λ t. IfOk result (NestsTo limits.now t slot.new.transaction)) }
-    ensures free { IfSome slot.old.transaction (λ t. has_level limits.now t ≡ false → IsOk result) }
+    ensures ok { IfSome slot.old.transaction
+        (λ t. IfOk result (NestsTo limits.now t slot.new.transaction)) }
+    ensures free { IfSome slot.old.transaction
+        (λ t. IsFalse (has_level limits.now t) → IsOk result) }
     ensures err { OnErr result (slot.new.transaction ≡ slot.old.transaction) }
 {
     let Some(transaction) = &mut slot.transaction else {
@@ -125,7 +138,7 @@ fn nest(limits: &Limits, slot: &mut Session) -> Result<Reply, AllocError>
 
 fn nest_in(limits: &Limits, transaction: &mut Transaction) -> Result<Reply, AllocError>
     ensures ok { IfOk result (Nests limits.now transaction.old transaction.new) }
-    ensures free { has_level limits.now transaction.old ≡ false → IsOk result }
+    ensures free { IsFalse (has_level limits.now transaction.old) → IsOk result }
     ensures err { OnErr result (transaction.new ≡ transaction.old) }
 {
     if transaction.store.depth() as u64 >= limits.nesting.saturating_sub(1) {
@@ -211,7 +224,9 @@ fn undo(slot: &mut Session, ages: &mut Ages)
 /// Undoes a child; true of level 1, which stays.
 fn undo_level(transaction: &mut Transaction) -> bool
     ensures over { result ≡ (length transaction.old.store.levels.saved == 0) }
-    ensures store { transaction.new ≡ (if length transaction.old.store.levels.saved == 0 then transaction.old else undone transaction.old) }
+    ensures store { transaction.new
+        ≡ (if length transaction.old.store.levels.saved == 0 then transaction.old else undone
+        transaction.old) }
 {
     if transaction.store.depth() == 0 {
         return true;

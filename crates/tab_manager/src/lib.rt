@@ -5,7 +5,7 @@
 
 #![tactic(auto)]
 
-ghost use Rattle.std.specs.Prelude.{◌≡◌, ◌≤◌, ◌^◌, ◌-◌, ◌&&◌, [], IfOk, IsOk, OnErr, Some, true, false, is_some, length, min, nat_lt, option_map};
+ghost use Rattle.std.specs.Prelude.{◌≡◌, ◌≤◌, ◌^◌, ◌-◌, ◌&&◌, [], IfOk, IsOk, OnErr, Some, IsTrue, IsFalse, is_some, length, min, nat_lt, option_map};
 ghost use Rattle.tab_model.specs.declared.data.Command.TheVariants as command;
 ghost use Rattle.tab_model.specs.Events.{change_all, surviving};
 ghost use Rattle.tab_model.specs.Outcome.{DoCommand};
@@ -77,9 +77,9 @@ impl Manager {
 
     /// One step of a session, whole or, where memory that it takes is refused, not at all.
     pub fn step(&mut self, session: u32, step: Step) -> Result<Stepped, AllocError>
-        requires { is_quiet_step step ≡ true }
+        requires { IsTrue (is_quiet_step step) }
         ensures done { IfOk result (λ s. StepsTo self.old session (ask_of step) s self.new) }
-        ensures free { takes_no_memory self.old session (ask_of step) ≡ true → IsOk result }
+        ensures free { IsTrue (takes_no_memory self.old session (ask_of step)) → IsOk result }
         ensures err { OnErr result (self.new ≡ self.old) }
         ensures sound { IsSound self.new }
         ensures rising { IsRising self.new }
@@ -97,7 +97,8 @@ impl Manager {
 
     /// The outermost commit of the session, whose changes the caller has made to the tables.
     pub fn commit(&mut self, session: u32, tables: Catalog) -> Stepped
-        requires { (t : Transaction) × (outermost self.old session ≡ Some t) × (tables ≡ change_all self.old.tables (surviving t.moves t.told)) }
+        requires { (t : Transaction) × (outermost self.old session ≡ Some t)
+            × (tables ≡ change_all self.old.tables (surviving t.moves t.told)) }
         ensures done { StepsTo self.old session (DoCommand command.Commit) result self.new }
         ensures sound { IsSound self.new }
         ensures rising { IsRising self.new }
@@ -145,7 +146,7 @@ impl Manager {
 
     /// Whether some session waits or rests.
     pub fn has_waiters(&self) -> bool
-        ensures { result ≡ false → self.now.queue ≡ [] }
+        ensures { IsFalse result → self.now.queue ≡ [] }
     {
         self.machine.has_waiters()
     }
@@ -166,7 +167,9 @@ impl Manager {
 
     /// Whether the session's number and the limit of sessions let it join.
     pub fn admits(&self, session: u32) -> bool
-        ensures { result ≡ (nat_lt self.now.greatest session && nat_lt (length self.now.sessions) self.now.limits.sessions) }
+        ensures { result
+            ≡ (nat_lt self.now.greatest session && nat_lt
+            (length self.now.sessions) self.now.limits.sessions) }
     {
         self.machine.admits(session)
     }

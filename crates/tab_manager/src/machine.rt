@@ -1,6 +1,6 @@
 //! The parts of a manager, and its steps.
 
-ghost use Rattle.std.specs.Prelude.{◌≡◌, ◌≤◌, [], Some, None, IfOk, IsOk, OnErr, MatchOption, false, true};
+ghost use Rattle.std.specs.Prelude.{◌≡◌, ◌≤◌, [], Some, None, IfOk, IsOk, OnErr, MatchOption, IsFalse, IsTrue};
 ghost use Rattle.tab_model.specs.State.{new, is_waiting};
 ghost use Rattle.tab_model.specs.Outcome.{DoCommand, step_without_entry, outcome};
 ghost use Rattle.tab_manager.specs.Steps.{StepsTo, ask_of, is_quiet_step, asks_for_none, is_told_for_none};
@@ -78,7 +78,8 @@ impl Machine {
 
     /// A session's place in the list, if it has joined.
     pub fn place(&self, session: u32) -> Option<usize>
-        ensures { MatchOption result (at self.now.sessions.items session ≡ None) (IsHeldAt self.now.sessions.items session) }
+        ensures { MatchOption result (at self.now.sessions.items session ≡ None)
+            (IsHeldAt self.now.sessions.items session) }
     {
         for (place, slot) in self.sessions.iter().enumerate() {
             if slot.number == session {
@@ -89,11 +90,14 @@ impl Machine {
     }
 
     pub fn step(&mut self, session: u32, step: Step) -> Result<Stepped, AllocError>
-        requires quiet { is_quiet_step step ≡ true }
+        requires quiet { IsTrue (is_quiet_step step) }
         requires kept { IsKept self.old }
-        ensures done { IfOk result (λ s. StepsTo (state_of self.old) session (ask_of step) s (state_of self.new)) }
-        ensures free { asks_for_none (state_of self.old) session (ask_of step) ≡ true → IsOk result }
-        ensures told { is_told_for_none (state_of self.old) session (ask_of step) ≡ true → IsOk result }
+        ensures done { IfOk result
+            (λ s. StepsTo (state_of self.old) session (ask_of step) s (state_of self.new)) }
+        ensures free { IsTrue (asks_for_none (state_of self.old) session (ask_of step))
+            → IsOk result }
+        ensures told { IsTrue (is_told_for_none (state_of self.old) session (ask_of step))
+            → IsOk result }
         ensures err { OnErr result (state_of self.new ≡ state_of self.old) }
         ensures kept { IsKept self.new }
     {
@@ -110,12 +114,16 @@ impl Machine {
 
     /// A command of a joined session.
     fn command(&mut self, session: u32, place: usize, asked: Asked) -> Result<Stepped, AllocError>
-        requires quiet { is_quiet asked.command ≡ true }
+        requires quiet { IsTrue (is_quiet asked.command) }
         requires kept { IsKept self.old }
         requires there { IsHeldAt self.old.sessions.items session place }
-        ensures done { IfOk result (λ s. outcome (state_of self.old) [] session (DoCommand asked.command) ≡ record { state = state_of self.new; reply = s.reply; entry = s.entry }) }
-        ensures free { asks_for_none (state_of self.old) session (DoCommand asked.command) ≡ true → IsOk result }
-        ensures told { is_told_for_none (state_of self.old) session (DoCommand asked.command) ≡ true → IsOk result }
+        ensures done { IfOk result
+            (λ s. outcome (state_of self.old) [] session (DoCommand asked.command)
+            ≡ record { state = state_of self.new; reply = s.reply; entry = s.entry }) }
+        ensures free { IsTrue (asks_for_none (state_of self.old) session (DoCommand asked.command))
+            → IsOk result }
+        ensures told { IsTrue
+            (is_told_for_none (state_of self.old) session (DoCommand asked.command)) → IsOk result }
         ensures err { OnErr result (state_of self.new ≡ state_of self.old) }
         ensures kept { IsKept self.new }
     {
@@ -136,13 +144,17 @@ impl Machine {
         place: usize,
         asked: Asked,
     ) -> Result<Stepped, AllocError>
-        requires quiet { is_quiet asked.command ≡ true }
+        requires quiet { IsTrue (is_quiet asked.command) }
         requires kept { IsKept self.old }
         requires there { IsHeldAt self.old.sessions.items session place }
-        requires idle { is_waiting (state_of self.old) session ≡ false }
-        ensures done { IfOk result (λ s. outcome (state_of self.old) [] session (DoCommand asked.command) ≡ record { state = state_of self.new; reply = s.reply; entry = s.entry }) }
-        ensures free { asks_for_none (state_of self.old) session (DoCommand asked.command) ≡ true → IsOk result }
-        ensures told { is_told_for_none (state_of self.old) session (DoCommand asked.command) ≡ true → IsOk result }
+        requires idle { IsFalse (is_waiting (state_of self.old) session) }
+        ensures done { IfOk result
+            (λ s. outcome (state_of self.old) [] session (DoCommand asked.command)
+            ≡ record { state = state_of self.new; reply = s.reply; entry = s.entry }) }
+        ensures free { IsTrue (asks_for_none (state_of self.old) session (DoCommand asked.command))
+            → IsOk result }
+        ensures told { IsTrue
+            (is_told_for_none (state_of self.old) session (DoCommand asked.command)) → IsOk result }
         ensures err { OnErr result (state_of self.new ≡ state_of self.old) }
         ensures kept { IsKept self.new }
     {
@@ -172,7 +184,8 @@ impl Machine {
     fn stranger(&mut self, session: u32, step: &Step) -> Reply
         requires kept { IsKept self.old }
         requires stranger { at self.old.sessions.items session ≡ None }
-        ensures done { outcome (state_of self.old) [] session (ask_of step.now) ≡ step_without_entry (state_of self.new) result }
+        ensures done { outcome (state_of self.old) [] session (ask_of step.now)
+            ≡ step_without_entry (state_of self.new) result }
         ensures kept { IsKept self.new }
     {
         match step {

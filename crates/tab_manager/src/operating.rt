@@ -1,6 +1,6 @@
 //! Operations of a transaction, and their locks.
 
-ghost use Rattle.std.specs.Prelude.{◌≡◌, ◌&&◌, ◌==◌, [], Some, IfOk, IfSome, IsOk, IsSome, OnErr, false, true, if◌then◌else◌, option_map, length};
+ghost use Rattle.std.specs.Prelude.{◌≡◌, ◌&&◌, ◌==◌, [], Some, IfOk, IfSome, IsOk, IsSome, OnErr, IsFalse, IsTrue, if◌then◌else◌, option_map, length};
 ghost use Rattle.tab_model.specs.declared.data.Command.TheVariants as command;
 ghost use Rattle.tab_model.specs.Ages.{forget as forgotten};
 ghost use Rattle.tab_model.specs.Events.{is_failure as is_failure_of};
@@ -55,9 +55,13 @@ impl Machine {
     ) -> Result<SharedReply, AllocError>
         requires kept { IsKept self.old }
         requires there { IsHeldAt self.old.sessions.items session place }
-        requires idle { is_waiting (state_of self.old) session ≡ false }
-        ensures ok { IfOk result (λ r. outcome (state_of self.old) [] session (DoCommand (command.Do pending.operation)) ≡ step_without_entry (state_of self.new) r) }
-        ensures told { is_told_for_none (state_of self.old) session (DoCommand (command.Do pending.operation)) ≡ true → IsOk result }
+        requires idle { IsFalse (is_waiting (state_of self.old) session) }
+        ensures ok { IfOk result
+            (λ r. outcome (state_of self.old) [] session (DoCommand (command.Do pending.operation))
+            ≡ step_without_entry (state_of self.new) r) }
+        ensures told { IsTrue
+            (is_told_for_none (state_of self.old) session
+            (DoCommand (command.Do pending.operation))) → IsOk result }
         ensures err { OnErr result (state_of self.new ≡ state_of self.old) }
         ensures kept { IsKept self.new }
     {
@@ -96,9 +100,11 @@ impl Machine {
     pub fn retry(&mut self, session: u32, place: usize) -> Result<SharedReply, AllocError>
         requires kept { IsKept self.old }
         requires there { IsHeldAt self.old.sessions.items session place }
-        ensures ok { IfOk result (λ r. outcome (state_of self.old) [] session Retry ≡ step_without_entry (state_of self.new) r) }
-        ensures free { is_waiting (state_of self.old) session ≡ false → IsOk result }
-        ensures told { is_told_for_none (state_of self.old) session Retry ≡ true → IsOk result }
+        ensures ok { IfOk result
+            (λ r. outcome (state_of self.old) [] session Retry
+            ≡ step_without_entry (state_of self.new) r) }
+        ensures free { IsFalse (is_waiting (state_of self.old) session) → IsOk result }
+        ensures told { IsTrue (is_told_for_none (state_of self.old) session Retry) → IsOk result }
         ensures err { OnErr result (state_of self.new ≡ state_of self.old) }
         ensures kept { IsKept self.new }
     {
@@ -132,9 +138,13 @@ fn work(
 ) -> Result<Worked, AllocError>
     requires { IsSome slot.old.transaction }
     ensures number { slot.new.number ≡ slot.old.number }
-    ensures ok { IfSome slot.old.transaction (λ t. IfOk result (λ x. WorksTo catalog.now t pending.operation x slot.new.transaction)) }
+    ensures ok { IfSome slot.old.transaction
+        (λ t. IfOk result (λ x. WorksTo catalog.now t pending.operation x slot.new.transaction)) }
     ensures held { IfOk result (λ x. ages.new ≡ ages.old) }
-    ensures undone { IfSome slot.old.transaction (λ t. OnErr result ((slot.new.transaction ≡ slot.old.transaction) × (ages.new ≡ ages_with (without_last t.age ages.old.held) ages.old.queue))) }
+    ensures undone { IfSome slot.old.transaction
+        (λ t. OnErr result
+        ((slot.new.transaction ≡ slot.old.transaction)
+        × (ages.new ≡ ages_with (without_last t.age ages.old.held) ages.old.queue))) }
 {
     let Some(transaction) = &mut slot.transaction else {
         unreachable!();
@@ -149,9 +159,13 @@ fn work_in(
     ages: &mut Ages,
     pending: Pending,
 ) -> Result<Worked, AllocError>
-    ensures ok { IfOk result (λ x. Works catalog.now transaction.old pending.operation x transaction.new) }
+    ensures ok { IfOk result
+        (λ x. Works catalog.now transaction.old pending.operation x transaction.new) }
     ensures held { IfOk result (λ x. ages.new ≡ ages.old) }
-    ensures undone { OnErr result ((transaction.new ≡ transaction.old) × (ages.new ≡ ages_with (without_last transaction.old.age ages.old.held) ages.old.queue)) }
+    ensures undone { OnErr result
+        ((transaction.new ≡ transaction.old)
+        × (ages.new ≡ ages_with
+        (without_last transaction.old.age ages.old.held) ages.old.queue)) }
 {
     let outermost = transaction.store.depth() == 0;
     match perform(alloc, catalog, &mut transaction.store, pending) {
@@ -169,7 +183,8 @@ fn work_in(
 /// The transaction is over, with its locks and its queued request.
 pub(crate) fn end_if(over: bool, slot: &mut Session, ages: &mut Ages)
     ensures slot { slot.new ≡ (if over then ended slot.old else slot.old) }
-    ensures ages { ages.new ≡ (if over then forgotten_if ages.old slot.old.transaction else ages.old) }
+    ensures ages { ages.new
+        ≡ (if over then forgotten_if ages.old slot.old.transaction else ages.old) }
 {
     if over {
         if let Some(transaction) = &slot.transaction {

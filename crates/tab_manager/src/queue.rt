@@ -28,7 +28,8 @@ impl Drop for Request {
 
 /// The request of a session, if it waits.
 pub(crate) fn find(queue: &[Request], session: u32) -> Option<&Request>
-    ensures { request_in (map queued_of queue.now) session ≡ option_map queued_of (option_copied result) }
+    ensures { request_in (map queued_of queue.now) session
+        ≡ option_map queued_of (option_copied result) }
 {
     for request in queue {
         if request.session == session {

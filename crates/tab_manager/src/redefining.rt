@@ -1,6 +1,6 @@
 //! Schema commands, and what is told of tables.
 
-ghost use Rattle.std.specs.Prelude.{◌≡◌, [], None, IfOk, IsOk, OnErr, false, true, slice_index_or};
+ghost use Rattle.std.specs.Prelude.{◌≡◌, [], None, IfOk, IsOk, OnErr, IsFalse, IsTrue, slice_index_or};
 ghost use Rattle.tab_model.specs.declared.data.Command.TheVariants as command;
 ghost use Rattle.tab_model.specs.Outcome.{DoCommand, has_room, step_without_entry, outcome};
 ghost use Rattle.tab_model.specs.Schemas.{schema_effect, schema_refusal, table_of_schema};
@@ -27,9 +27,13 @@ impl Machine {
     ) -> Result<Stepped, AllocError>
         requires kept { IsKept self.old }
         requires there { IsHeldAt self.old.sessions.items session place }
-        requires idle { is_waiting (state_of self.old) session ≡ false }
-        ensures ok { IfOk result (λ s. outcome (state_of self.old) [] session (DoCommand (command.Schema asked.schema)) ≡ record { state = state_of self.new; reply = s.reply; entry = s.entry }) }
-        ensures told { is_told_for_none (state_of self.old) session (DoCommand (command.Schema asked.schema)) ≡ true → IsOk result }
+        requires idle { IsFalse (is_waiting (state_of self.old) session) }
+        ensures ok { IfOk result
+            (λ s. outcome (state_of self.old) [] session (DoCommand (command.Schema asked.schema))
+            ≡ record { state = state_of self.new; reply = s.reply; entry = s.entry }) }
+        ensures told { IsTrue
+            (is_told_for_none (state_of self.old) session (DoCommand (command.Schema asked.schema)))
+            → IsOk result }
         ensures err { OnErr result (state_of self.new ≡ state_of self.old) }
         ensures kept { IsKept self.new }
     {
@@ -52,11 +56,17 @@ impl Machine {
     ) -> Result<Stepped, AllocError>
         requires kept { IsKept self.old }
         requires there { IsHeldAt self.old.sessions.items session place }
-        requires idle { is_waiting (state_of self.old) session ≡ false }
-        requires outside { (slice_index_or self.old.sessions.items place (no_session session)).transaction ≡ None }
-        requires done { (schema_refusal self.old.catalog asked.schema ≡ None) × (catalog ≡ schema_effect self.old.catalog asked.schema) }
-        ensures ok { IfOk result (λ s. outcome (state_of self.old) [] session (DoCommand (command.Schema asked.schema)) ≡ record { state = state_of self.new; reply = s.reply; entry = s.entry }) }
-        ensures told { is_told_for_none (state_of self.old) session (DoCommand (command.Schema asked.schema)) ≡ true → IsOk result }
+        requires idle { IsFalse (is_waiting (state_of self.old) session) }
+        requires outside { (slice_index_or self.old.sessions.items place
+            (no_session session)).transaction ≡ None }
+        requires done { (schema_refusal self.old.catalog asked.schema ≡ None)
+            × (catalog ≡ schema_effect self.old.catalog asked.schema) }
+        ensures ok { IfOk result
+            (λ s. outcome (state_of self.old) [] session (DoCommand (command.Schema asked.schema))
+            ≡ record { state = state_of self.new; reply = s.reply; entry = s.entry }) }
+        ensures told { IsTrue
+            (is_told_for_none (state_of self.old) session (DoCommand (command.Schema asked.schema)))
+            → IsOk result }
         ensures err { OnErr result (state_of self.new ≡ state_of self.old) }
         ensures kept { IsKept self.new }
     {
@@ -92,9 +102,14 @@ impl Machine {
     /// What is asked of a table as it is committed.
     pub fn table_info(&self, session: u32, name: &Atom, item: InfoItem) -> Result<Reply, AllocError>
         requires there { (i : _) × IsHeldAt self.now.sessions.items session i }
-        requires idle { is_waiting (state_of self.now) session ≡ false }
-        ensures ok { IfOk result (λ r. outcome (state_of self.now) [] session (DoCommand (command.TableInfo name.now item)) ≡ step_without_entry (state_of self.now) r) }
-        ensures told { is_told_for_none (state_of self.now) session (DoCommand (command.TableInfo name.now item)) ≡ true → IsOk result }
+        requires idle { IsFalse (is_waiting (state_of self.now) session) }
+        ensures ok { IfOk result
+            (λ r. outcome (state_of self.now) [] session
+            (DoCommand (command.TableInfo name.now item))
+            ≡ step_without_entry (state_of self.now) r) }
+        ensures told { IsTrue
+            (is_told_for_none (state_of self.now) session
+            (DoCommand (command.TableInfo name.now item))) → IsOk result }
     {
         table_info(self.alloc, &self.catalog, name, item)
     }

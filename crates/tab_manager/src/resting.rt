@@ -1,6 +1,6 @@
 //! Who rests, and who may go on.
 
-ghost use Rattle.std.specs.Prelude.{◌≡◌, [], false};
+ghost use Rattle.std.specs.Prelude.{◌≡◌, [], IsFalse};
 ghost use Rattle.tab_manager.specs.SessionLists.{state_of};
 
 use crate::machine::{Machine, SESSIONS};
@@ -35,7 +35,7 @@ impl Machine {
 
     /// Whether some session waits or rests.
     pub fn has_waiters(&self) -> bool
-        ensures { result ≡ false → (state_of self.now).queue ≡ [] }
+        ensures { IsFalse result → (state_of self.now).queue ≡ [] }
     {
         !self.queue.is_empty() || self.ages.anyone_rests()
     }

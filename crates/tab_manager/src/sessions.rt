@@ -52,7 +52,9 @@ impl Machine {
 
     /// Whether the session's number and the limit of sessions let it join.
     pub fn admits(&self, session: u32) -> bool
-        ensures { result ≡ (nat_lt self.now.greatest session && nat_lt (length self.now.sessions.items) self.now.limits.sessions) }
+        ensures { result
+            ≡ (nat_lt self.now.greatest session && nat_lt
+            (length self.now.sessions.items) self.now.limits.sessions) }
     {
         session > self.greatest && (self.sessions.len() as u64) < self.limits.sessions
     }
@@ -61,7 +63,8 @@ impl Machine {
     pub fn join(&mut self, session: u32) -> Reply
         requires kept { IsKept self.old }
         requires stranger { at self.old.sessions.items session ≡ None }
-        ensures ok { outcome (state_of self.old) [] session (Join no_outbox) ≡ step_without_entry (state_of self.new) result }
+        ensures ok { outcome (state_of self.old) [] session (Join no_outbox)
+            ≡ step_without_entry (state_of self.new) result }
         ensures kept { IsKept self.new }
     {
         if session <= self.greatest {
@@ -82,7 +85,8 @@ impl Machine {
     pub fn leave(&mut self, session: u32, place: usize) -> Reply
         requires kept { IsKept self.old }
         requires there { IsHeldAt self.old.sessions.items session place }
-        ensures ok { outcome (state_of self.old) [] session Leave ≡ step_without_entry (state_of self.new) result }
+        ensures ok { outcome (state_of self.old) [] session Leave
+            ≡ step_without_entry (state_of self.new) result }
         ensures kept { IsKept self.new }
     {
         end_if(true, &mut self.sessions[place], &mut self.ages);

@@ -47,8 +47,13 @@ impl<'a, K: Abbreviate + Drop, V: Drop> Ahead<'a, K, V> {
 
     /// What is ahead below the first branch of these, then the branch's entry and what comes behind it.
     pub fn then(mut self, siblings: Siblings<'a, K, V>) -> Ahead<'a, K, V>
-        ensures ahead { (below : List (K × V)) → AreAhead self.entry below → 1 ≤ length siblings.entry.branches.now → AreAhead result (below ++ behind siblings.entry.branches.now siblings.entry.last.now) }
-        ensures more { (below after : List (K × V)) → AreAhead self.entry below → MayBeAhead result (below ++ behind siblings.entry.branches.now siblings.entry.last.now ++ after) }
+        ensures ahead { (below : List (K × V)) → AreAhead self.entry below
+            → 1 ≤ length siblings.entry.branches.now
+            → AreAhead result
+            (below ++ behind siblings.entry.branches.now siblings.entry.last.now) }
+        ensures more { (below after : List (K × V)) → AreAhead self.entry below
+            → MayBeAhead result
+            (below ++ behind siblings.entry.branches.now siblings.entry.last.now ++ after) }
     {
         if self.node.is_none() {
             self.node = Some(siblings);
@@ -74,7 +79,8 @@ impl<'a, K: Abbreviate + Drop, V: Drop> Ahead<'a, K, V> {
 
     /// Steps over the entry that comes next, and gives it.
     pub fn step(&mut self) -> Option<&'a Entry<K, V>>
-        ensures { (es : List (K × V)) → AreAhead self.old es → Steps (option_copied result) self.new es }
+        ensures { (es : List (K × V)) → AreAhead self.old es
+            → Steps (option_copied result) self.new es }
     {
         match self.row {
             [entry, row @ ..] => {
@@ -89,7 +95,8 @@ impl<'a, K: Abbreviate + Drop, V: Drop> Ahead<'a, K, V> {
     // child.
     fn step_to_child(&mut self) -> Option<&'a Entry<K, V>>
         requires { length self.old.row.now ≡ 0 }
-        ensures { (es : List (K × V)) → AreAhead self.old es → Steps (option_copied result) self.new es }
+        ensures { (es : List (K × V)) → AreAhead self.old es
+            → Steps (option_copied result) self.new es }
     {
         let Some(node) = &self.node else {
             return None;
@@ -108,7 +115,8 @@ impl<'a, K: Abbreviate + Drop, V: Drop> Ahead<'a, K, V> {
 
     /// Whether the entry that comes next is known, or none comes.
     pub fn is_known(&self) -> bool
-        ensures { (es : List (K × V)) → IsTrue result → MayBeAhead self.now es → AreAhead self.now es }
+        ensures { (es : List (K × V)) → IsTrue result → MayBeAhead self.now es
+            → AreAhead self.now es }
     {
         if !self.row.is_empty() {
             return true;

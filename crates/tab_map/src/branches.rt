@@ -22,7 +22,9 @@ pub fn place<K: Abbreviate + Drop, V: Drop>(
 ) -> Result<usize, usize>
     ensures found { IfOk result (λ n. HasAt K.cmp sought.now (separators branches.now) n) }
     ensures found_in_node { IfOk result (λ n. n < length branches.now) }
-    ensures child { IfErr result (λ n. Ascends K.cmp (separators branches.now) → IsGap K.cmp sought.now (separators branches.now) n) }
+    ensures child { IfErr result
+        (λ n. Ascends K.cmp (separators branches.now)
+        → IsGap K.cmp sought.now (separators branches.now) n) }
     ensures child_in_node { IfErr result (λ n. n ≤ length branches.now) }
 {
     branches.binary_search_by(

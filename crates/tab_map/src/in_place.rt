@@ -38,7 +38,8 @@ impl<K: Abbreviate + Drop, V: Drop> Map<K, V> {
         entry: Entry<K, V>,
     ) -> Result<Option<Entry<K, V>>, AllocError>
         ensures ok { OnOk result (self.new ≡ insert_entry K.cmp entry self.old) }
-        ensures replaced { IfOk result (λ o. option_map (λ e. e.1) o ≡ lookup K.cmp entry.0 self.old) }
+        ensures replaced { IfOk result
+            (λ o. option_map (λ e. e.1) o ≡ lookup K.cmp entry.0 self.old) }
         ensures err { OnErr result (self.new ≡ self.old) }
     {
         let replaced = self.put(alloc, entry)?;
@@ -58,7 +59,8 @@ impl<K: Abbreviate + Drop, V: Drop> Map<K, V> {
     #[cycle(put)]
     fn put(&mut self, alloc: Global, entry: Entry<K, V>) -> Result<Option<Entry<K, V>>, AllocError>
         ensures ok { OnOk result (self.new ≡ insert_entry K.cmp entry self.old) }
-        ensures replaced { IfOk result (λ o. option_map (λ e. e.1) o ≡ lookup K.cmp entry.0 self.old) }
+        ensures replaced { IfOk result
+            (λ o. option_map (λ e. e.1) o ≡ lookup K.cmp entry.0 self.old) }
         ensures err { OnErr result (self.new ≡ self.old) }
     {
         match &mut self.root {
@@ -90,8 +92,10 @@ impl<K: Abbreviate + Drop, V: Drop> Map<K, V> {
         entry: Entry<K, V>,
     ) -> Result<Option<Entry<K, V>>, AllocError>
         requires { Ascends K.cmp (node_entries node.old) }
-        ensures ok { OnOk result (node_entries node.new ≡ insert_entry K.cmp entry (node_entries node.old)) }
-        ensures replaced { IfOk result (λ o. option_map (λ e. e.1) o ≡ lookup K.cmp entry.0 (node_entries node.old)) }
+        ensures ok { OnOk result
+            (node_entries node.new ≡ insert_entry K.cmp entry (node_entries node.old)) }
+        ensures replaced { IfOk result
+            (λ o. option_map (λ e. e.1) o ≡ lookup K.cmp entry.0 (node_entries node.old)) }
         ensures err { OnErr result (node_entries node.new ≡ node_entries node.old) }
         ensures kept { length node.old.branches.items ≤ length node.new.branches.items }
     {
@@ -119,8 +123,10 @@ impl<K: Abbreviate + Drop, V: Drop> Map<K, V> {
         entry: Entry<K, V>,
     ) -> Result<Option<Entry<K, V>>, AllocError>
         requires { Ascends K.cmp items.old.value.items }
-        ensures ok { OnOk result (items.new.value.items ≡ insert_entry K.cmp entry items.old.value.items) }
-        ensures replaced { IfOk result (λ o. option_map (λ e. e.1) o ≡ lookup K.cmp entry.0 items.old.value.items) }
+        ensures ok { OnOk result
+            (items.new.value.items ≡ insert_entry K.cmp entry items.old.value.items) }
+        ensures replaced { IfOk result
+            (λ o. option_map (λ e. e.1) o ≡ lookup K.cmp entry.0 items.old.value.items) }
         ensures err { OnErr result (items.new.value.items ≡ items.old.value.items) }
     {
         Map::own_items(alloc, items)?;

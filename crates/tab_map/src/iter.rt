@@ -35,7 +35,8 @@ impl<'a, K: Abbreviate, V> Model for Iter<'a, K, V> {
 
     ghost use Rattle.tab_map.specs.Entries.{Ascends};
 
-    ghost invariant = { λ it. Ascends K.cmp it.map.now × AreAhead it.ahead (entries_left K.cmp it.map.now (first_known it.ahead)) };
+    ghost invariant = { λ it. Ascends K.cmp it.map.now
+        × AreAhead it.ahead (entries_left K.cmp it.map.now (first_known it.ahead)) };
 }
 
 impl<K: Abbreviate + Drop, V: Drop> Map<K, V> {

@@ -205,14 +205,16 @@ impl<K: Abbreviate + Drop, V: Drop> Map<K, V> {
 
     /// The entry at the key.
     pub fn get_entry(&self, key: &K) -> Option<&Entry<K, V>>
-        ensures value { option_map (λ e. e.1) (option_copied result) ≡ lookup K.cmp key.now self.now }
+        ensures value { option_map (λ e. e.1) (option_copied result)
+            ≡ lookup K.cmp key.now self.now }
         ensures ascends { Ascends K.cmp self.now }
     {
         self.find(&Sought::new(key))
     }
 
     fn find(&self, sought: &Sought<K>) -> Option<&Entry<K, V>>
-        ensures value { option_map (λ e. e.1) (option_copied result) ≡ lookup K.cmp sought.now self.now }
+        ensures value { option_map (λ e. e.1) (option_copied result)
+            ≡ lookup K.cmp sought.now self.now }
         ensures ascends { Ascends K.cmp self.now }
     {
         match &self.root {

@@ -41,9 +41,11 @@ impl<K: Abbreviate + Drop, V: Drop> Map<K, V> {
         sought: &Sought<K>,
     ) -> Result<(), AllocError>
         requires { Ascends K.cmp (node_entries node.old) }
-        ensures ok { OnOk result (node_entries node.new ≡ remove_entry K.cmp sought.now (node_entries node.old)) }
+        ensures ok { OnOk result
+            (node_entries node.new ≡ remove_entry K.cmp sought.now (node_entries node.old)) }
         ensures err { OnErr result (node_entries node.new ≡ node_entries node.old) }
-        ensures kept { OnErr result (length node.old.branches.items ≤ length node.new.branches.items) }
+        ensures kept { OnErr result
+            (length node.old.branches.items ≤ length node.new.branches.items) }
     {
         match branches::place(&node.branches, sought) {
             Ok(n) => node.take_at(alloc, n),
@@ -68,7 +70,8 @@ impl<K: Abbreviate + Drop, V: Drop> Map<K, V> {
         sought: &Sought<K>,
     ) -> Result<(), AllocError>
         requires { Ascends K.cmp items.old.value.items }
-        ensures ok { OnOk result (items.new.value.items ≡ remove_entry K.cmp sought.now items.old.value.items) }
+        ensures ok { OnOk result
+            (items.new.value.items ≡ remove_entry K.cmp sought.now items.old.value.items) }
         ensures err { OnErr result (items.new.value.items ≡ items.old.value.items) }
     {
         Map::own_items(alloc, items)?;
@@ -82,7 +85,9 @@ impl<K: Abbreviate + Drop, V: Drop> Map<K, V> {
     /// Takes the entry with the greatest key out.
     #[cycle(take_last)]
     fn take_last(&mut self, alloc: Global) -> Result<Option<Entry<K, V>>, AllocError>
-        ensures ok { IfOk result (λ o. MatchOption o ((self.old ≡ []) × (self.new ≡ [])) (λ e. self.old ≡ self.new ++ e ∷ [])) }
+        ensures ok { IfOk result
+            (λ o. MatchOption o ((self.old ≡ []) × (self.new ≡ []))
+            (λ e. self.old ≡ self.new ++ e ∷ [])) }
         ensures err { OnErr result (self.new ≡ self.old) }
         ensures ascends { Ascends K.cmp self.new }
     {
@@ -116,9 +121,12 @@ impl<K: Abbreviate + Drop, V: Drop> Map<K, V> {
         node: &mut Node<K, V>,
     ) -> Result<Option<Entry<K, V>>, AllocError>
         requires { Ascends K.cmp (node_entries node.old) }
-        ensures ok { IfOk result (λ o. MatchOption o ((node_entries node.old ≡ []) × (node_entries node.new ≡ [])) (λ e. node_entries node.old ≡ (node_entries node.new) ++ e ∷ [])) }
+        ensures ok { IfOk result
+            (λ o. MatchOption o ((node_entries node.old ≡ []) × (node_entries node.new ≡ []))
+            (λ e. node_entries node.old ≡ (node_entries node.new) ++ e ∷ [])) }
         ensures err { OnErr result (node_entries node.new ≡ node_entries node.old) }
-        ensures kept { OnErr result (length node.old.branches.items ≤ length node.new.branches.items) }
+        ensures kept { OnErr result
+            (length node.old.branches.items ≤ length node.new.branches.items) }
     {
         match node.last.take_last(alloc)? {
             Some(entry) => {
@@ -136,9 +144,12 @@ impl<K: Abbreviate + Drop, V: Drop> Node<K, V> {
     fn take_at(&mut self, alloc: Global, n: usize) -> Result<(), AllocError>
         requires in_node { n < length self.old.branches.items }
         requires sorted { Ascends K.cmp (node_entries self.old) }
-        ensures ok { OnOk result ((k : K) → HasAt K.cmp k (separators self.old.branches.items) n → node_entries self.new ≡ remove_entry K.cmp k (node_entries self.old)) }
+        ensures ok { OnOk result
+            ((k : K) → HasAt K.cmp k (separators self.old.branches.items) n
+            → node_entries self.new ≡ remove_entry K.cmp k (node_entries self.old)) }
         ensures err { OnErr result (node_entries self.new ≡ node_entries self.old) }
-        ensures kept { OnErr result (length self.old.branches.items ≤ length self.new.branches.items) }
+        ensures kept { OnErr result
+            (length self.old.branches.items ≤ length self.new.branches.items) }
     {
         match self.branches[n].below.take_last(alloc)? {
             Some(entry) => {
@@ -156,7 +167,8 @@ impl<K: Abbreviate + Drop, V: Drop> Node<K, V> {
     // The last branch becomes the last child, where that is empty.
     fn take_last_branch(&mut self) -> Option<Entry<K, V>>
         requires { self.old.last ≡ [] }
-        ensures { MatchOption result ((node_entries self.old ≡ []) × (node_entries self.new ≡ [])) (λ e. node_entries self.old ≡ node_entries self.new ++ e ∷ []) }
+        ensures { MatchOption result ((node_entries self.old ≡ []) × (node_entries self.new ≡ []))
+            (λ e. node_entries self.old ≡ node_entries self.new ++ e ∷ []) }
     {
         let branch = self.branches.pop()?;
         self.last = branch.below;

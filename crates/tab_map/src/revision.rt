@@ -58,7 +58,9 @@ impl<K: Abbreviate + Drop, V: Drop> Map<K, V> {
         revision: R,
     ) -> Result<(), AllocError>
         requires { Ascends K.cmp (node_entries node.old) }
-        ensures ok { OnOk result (node_entries node.new ≡ revised_at K.cmp (R.becomes revision) key (node_entries node.old)) }
+        ensures ok { OnOk result
+            (node_entries node.new
+            ≡ revised_at K.cmp (R.becomes revision) key (node_entries node.old)) }
         ensures err { OnErr result (node_entries node.new ≡ node_entries node.old) }
         ensures kept { length node.old.branches.items ≤ length node.new.branches.items }
     {
@@ -80,7 +82,9 @@ impl<K: Abbreviate + Drop, V: Drop> Map<K, V> {
         revision: R,
     ) -> Result<(), AllocError>
         requires { Ascends K.cmp items.old.value.items }
-        ensures ok { OnOk result (items.new.value.items ≡ revised_at K.cmp (R.becomes revision) key items.old.value.items) }
+        ensures ok { OnOk result
+            (items.new.value.items
+            ≡ revised_at K.cmp (R.becomes revision) key items.old.value.items) }
         ensures err { OnErr result (items.new.value.items ≡ items.old.value.items) }
     {
         Map::own_items(alloc, items)?;

@@ -85,7 +85,8 @@ pub fn put<K: Abbreviate + Drop, V: Drop>(
 ) -> Result<Option<Entry<K, V>>, AllocError>
     requires { Ascends K.cmp items.old.items }
     ensures ok { OnOk result (items.new.items ≡ insert_entry K.cmp entry items.old.items) }
-    ensures replaced { IfOk result (λ o. option_map (λ e. e.1) o ≡ lookup K.cmp entry.0 items.old.items) }
+    ensures replaced { IfOk result
+        (λ o. option_map (λ e. e.1) o ≡ lookup K.cmp entry.0 items.old.items) }
     ensures err { OnErr result (items.new.items ≡ items.old.items) }
 {
     let found = place(items, &entry.sought());
@@ -106,7 +107,8 @@ pub fn revise<K: Abbreviate + Drop, V: Drop, R: Revise<V> + Drop>(
     revision: R,
 ) -> Result<(), AllocError>
     requires { Ascends K.cmp items.old.items }
-    ensures ok { OnOk result (items.new.items ≡ revised_at K.cmp (R.becomes revision) key items.old.items) }
+    ensures ok { OnOk result
+        (items.new.items ≡ revised_at K.cmp (R.becomes revision) key items.old.items) }
     ensures err { OnErr result (items.new.items ≡ items.old.items) }
 {
     let found = place(items, &Sought::new(&key));

@@ -72,7 +72,8 @@ impl<K: Abbreviate + Drop, V: Drop> Map<K, V> {
         items: &mut Arc<Vec<Entry<K, V>>, Global>,
     ) -> Result<Branch<K, V>, AllocError>
         requires { Ascends K.cmp items.old.value.items }
-        ensures ok { IfOk result (λ half. items.old.value.items ≡ half.below ++ half.entry ∷ items.new.value.items) }
+        ensures ok { IfOk result
+            (λ half. items.old.value.items ≡ half.below ++ half.entry ∷ items.new.value.items) }
         ensures err { OnErr result (items.new.value.items ≡ items.old.value.items) }
         ensures sorted { Ascends K.cmp items.new.value.items }
     {
@@ -101,7 +102,9 @@ impl<K: Abbreviate + Drop, V: Drop> Map<K, V> {
     ) -> Result<Branch<K, V>, AllocError>
         requires sorted { Ascends K.cmp (node_entries node.old.value) }
         requires some { 1 ≤ length node.old.value.branches.items }
-        ensures ok { IfOk result (λ half. node_entries node.old.value ≡ half.below ++ half.entry ∷ (node_entries node.new.value)) }
+        ensures ok { IfOk result
+            (λ half. node_entries node.old.value
+            ≡ half.below ++ half.entry ∷ (node_entries node.new.value)) }
         ensures err { OnErr result (node_entries node.new.value ≡ node_entries node.old.value) }
         ensures sorted { Ascends K.cmp (node_entries node.new.value) }
         ensures some { 1 ≤ length node.new.value.branches.items }

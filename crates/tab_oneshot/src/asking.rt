@@ -35,7 +35,8 @@ pub fn wait<S: Steps>(steps: &mut S) -> Option<Answer>
 
 /// Ends so many levels and the one inside them; the last answer, or that to an abort which ended no level.
 pub fn end<S: Steps>(steps: &mut S, around: usize, last: Answer) -> SharedReply
-    ensures { (more : List Call) × S.shows steps.old more steps.new × Ends (suc around) last.reply more result }
+    ensures { (more : List Call) × S.shows steps.old more steps.new
+        × Ends (suc around) last.reply more result }
 {
     let ended = ask(steps, Command::Abort(Term::Int(0)));
     match ended.sort() {
@@ -52,7 +53,9 @@ pub fn end<S: Steps>(steps: &mut S, around: usize, last: Answer) -> SharedReply
 
 /// All open levels are ended: so many, and the one inside them.
 pub fn stop<S: Steps>(steps: &mut S, around: usize, last: Answer) -> Turn
-    ensures { (more : List Call) × S.shows steps.old more steps.new × ((levels after : List PlainTerms) → length levels ≡ suc around → Stops last.reply levels more (turn_of result after)) }
+    ensures { (more : List Call) × S.shows steps.old more steps.new
+        × ((levels after : List PlainTerms) → length levels ≡ suc around
+        → Stops last.reply levels more (turn_of result after)) }
 {
     Turn::Over(end(steps, around, last))
 }

@@ -28,7 +28,8 @@ fn passed(part: &Part, skipped: usize) -> usize
 
 /// The commit of level 1.
 fn commit<S: Steps>(steps: &mut S, alloc: Global, levels: &mut Levels) -> SharedReply
-    ensures { (more : List Call) × S.shows steps.old more steps.new × Commits levels.old more result }
+    ensures { (more : List Call) × S.shows steps.old more steps.new
+        × Commits levels.old more result }
 {
     let answer = ask(steps, Command::Commit);
     match answer.sort() {
@@ -45,7 +46,8 @@ pub fn attempt<S: Steps>(
     parts: &[Part],
     levels: &mut Levels,
 ) -> Option<SharedReply>
-    ensures { (more : List Call) × S.shows steps.old more steps.new × IsAttempt parts.now 0 levels.old more result }
+    ensures { (more : List Call) × S.shows steps.old more steps.new
+        × IsAttempt parts.now 0 levels.old more result }
 {
     let mut skipped = 0;
     for part in parts {

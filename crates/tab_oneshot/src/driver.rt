@@ -1,6 +1,6 @@
 //! A whole one-shot.
 
-ghost use Rattle.std.specs.Prelude.{◌≡◌, ◌∷◌, [], List, true};
+ghost use Rattle.std.specs.Prelude.{◌≡◌, ◌∷◌, [], List, IsTrue};
 ghost use Rattle.tab_term.specs.Data.{none};
 ghost use Rattle.tab_oneshot.specs.Calls.{Call, Again};
 ghost use Rattle.tab_oneshot.specs.OneShots.{is_one_shot, IsOneShot, IsRun, Runs};
@@ -19,8 +19,9 @@ use tab_model::{Command, Part, Parts, Reply, SharedReply};
 /// A copy of the whole command is handed in first, and opens level 1; then the members of its list, in order, and the
 /// commit. Where the seat restarts it, it begins again with the first member, at most `Retries` times.
 pub fn one_shot<S: Steps>(steps: &mut S, alloc: Global, command: Command) -> SharedReply
-    requires { is_one_shot command ≡ true }
-    ensures { (more : List Call) × S.shows steps.old more steps.new × IsOneShot command more result }
+    requires { IsTrue (is_one_shot command) }
+    ensures { (more : List Call) × S.shows steps.old more steps.new
+        × IsOneShot command more result }
 {
     let Command::OneShot(parts, retries) = command else {
         unreachable!();
@@ -29,7 +30,8 @@ pub fn one_shot<S: Steps>(steps: &mut S, alloc: Global, command: Command) -> Sha
 }
 
 fn run<S: Steps>(steps: &mut S, alloc: Global, parts: &Parts, retries: u64) -> SharedReply
-    ensures { (more : List Call) × S.shows steps.old more steps.new × IsRun parts.now retries more result }
+    ensures { (more : List Call) × S.shows steps.old more steps.new
+        × IsRun parts.now retries more result }
 {
     let Ok(copy) = parts_of(alloc, parts) else {
         return SharedReply::new(Reply::NoMemory);
@@ -52,7 +54,8 @@ fn begin_anew<S: Steps>(steps: &mut S, levels: &mut Levels)
 
 /// At most so many attempts and one more.
 fn attempts<S: Steps>(steps: &mut S, alloc: Global, parts: &[Part], retries: u64) -> SharedReply
-    ensures { (more : List Call) × S.shows steps.old more steps.new × Runs parts.now retries more result }
+    ensures { (more : List Call) × S.shows steps.old more steps.new
+        × Runs parts.now retries more result }
 {
     let mut levels = Levels::new(alloc);
     for _restart in 0..retries {

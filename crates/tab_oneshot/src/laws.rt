@@ -9,5 +9,6 @@ ghost use Rattle.tab_oneshot.specs.OneShots.{IsOneShot};
 
 /// The operations of a one-shot are handed in again at most as often as its retries say.
 pub fn attempts_are_limited()
-    ensures { (parts : List PartOf) (retries : ℕ) (calls : List Call) (last : ReplyOf) → IsOneShot (command.OneShot parts retries) calls last → agains calls ≤ retries }
+    ensures { (parts : List PartOf) (retries : ℕ) (calls : List Call) (last : ReplyOf)
+        → IsOneShot (command.OneShot parts retries) calls last → agains calls ≤ retries }
 {}

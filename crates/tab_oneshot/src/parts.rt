@@ -1,6 +1,6 @@
 //! One part of an attempt: what is handed in for it, and what its answer leads to.
 
-ghost use Rattle.std.specs.Prelude.{◌≡◌, ◌∷◌, [], List, true, IfOk, OnOk};
+ghost use Rattle.std.specs.Prelude.{◌≡◌, ◌∷◌, [], List, IsTrue, IfOk, OnOk};
 ghost use Rattle.tab_model.specs.declared.data.Command.TheVariants as command;
 ghost use Rattle.tab_model.specs.declared.data.Part.TheVariants as part;
 ghost use Rattle.tab_model.specs.declared.data.Reply.TheVariants as reply;
@@ -22,7 +22,7 @@ use tab_proto::answer_of;
 use tab_term::Term;
 
 fn put_answer(alloc: Global, answer: Answer, levels: &mut Levels) -> Result<(), AllocError>
-    requires { is_told answer.reply ≡ true }
+    requires { IsTrue (is_told answer.reply) }
     ensures { OnOk result (levels.new ≡ told (reply_term answer.reply) levels.old) }
 {
     levels.put(answer_of(alloc, answer.into_reply())?)
@@ -36,8 +36,9 @@ fn put_inner(inner: Answers, levels: &mut Levels) -> Result<(), AllocError>
 
 /// An operation's answer stands in its level.
 fn tell<S: Steps>(steps: &mut S, alloc: Global, answer: Answer, levels: &mut Levels) -> Turn
-    requires { is_told answer.reply ≡ true }
-    ensures { (more : List Call) × S.shows steps.old more steps.new × Puts 0 answer.reply levels.old more (turn_of result levels.new) }
+    requires { IsTrue (is_told answer.reply) }
+    ensures { (more : List Call) × S.shows steps.old more steps.new
+        × Puts 0 answer.reply levels.old more (turn_of result levels.new) }
 {
     let around = levels.around();
     match put_answer(alloc, answer, levels) {
@@ -48,8 +49,9 @@ fn tell<S: Steps>(steps: &mut S, alloc: Global, answer: Answer, levels: &mut Lev
 
 /// The answer ended the innermost level.
 fn end_level<S: Steps>(steps: &mut S, alloc: Global, answer: Answer, levels: &mut Levels) -> Turn
-    requires { is_told answer.reply ≡ true }
-    ensures { (more : List Call) × S.shows steps.old more steps.new × LevelEnds answer.reply levels.old more (turn_of result levels.new) }
+    requires { IsTrue (is_told answer.reply) }
+    ensures { (more : List Call) × S.shows steps.old more steps.new
+        × LevelEnds answer.reply levels.old more (turn_of result levels.new) }
 {
     match levels.leave() {
         None => Turn::Over(answer.into_reply()),
@@ -62,8 +64,9 @@ fn end_level<S: Steps>(steps: &mut S, alloc: Global, answer: Answer, levels: &mu
 
 /// The answer of an ended level stands in the one around it.
 fn tell_behind<S: Steps>(steps: &mut S, alloc: Global, answer: Answer, levels: &mut Levels) -> Turn
-    requires { is_told answer.reply ≡ true }
-    ensures { (more : List Call) × S.shows steps.old more steps.new × Puts 1 answer.reply levels.old more (turn_of result levels.new) }
+    requires { IsTrue (is_told answer.reply) }
+    ensures { (more : List Call) × S.shows steps.old more steps.new
+        × Puts 1 answer.reply levels.old more (turn_of result levels.new) }
 {
     let around = levels.around();
     match put_answer(alloc, answer, levels) {
@@ -78,7 +81,9 @@ fn after_operation<S: Steps>(
     answer: Answer,
     levels: &mut Levels,
 ) -> Turn
-    ensures { (more : List Call) × S.shows steps.old more steps.new × AfterOperation (sort_of answer.reply) answer.reply levels.old more (turn_of result levels.new) }
+    ensures { (more : List Call) × S.shows steps.old more steps.new
+        × AfterOperation (sort_of answer.reply) answer.reply levels.old more
+        (turn_of result levels.new) }
 {
     match answer.sort() {
         Sort::Answered => tell(steps, alloc, answer, levels),
@@ -95,7 +100,8 @@ fn after_wait<S: Steps>(
     levels: &mut Levels,
     waited: Option<Answer>,
 ) -> Turn
-    ensures { (more : List Call) × S.shows steps.old more steps.new × AfterWait (awaited waited) levels.old more (turn_of result levels.new) }
+    ensures { (more : List Call) × S.shows steps.old more steps.new
+        × AfterWait (awaited waited) levels.old more (turn_of result levels.new) }
 {
     match waited {
         Some(answer) => after_operation(steps, alloc, answer, levels),
@@ -122,7 +128,8 @@ fn operation(
 }
 
 fn operate<S: Steps>(steps: &mut S, alloc: Global, asked: &Operation, levels: &mut Levels) -> Turn
-    ensures { (more : List Call) × S.shows steps.old more steps.new × Serves (part.Do asked.now) levels.old more (turn_of result levels.new) }
+    ensures { (more : List Call) × S.shows steps.old more steps.new
+        × Serves (part.Do asked.now) levels.old more (turn_of result levels.new) }
 {
     let Ok(command) = operation(alloc, asked, levels) else {
         return stop(steps, levels.around(), Answer::no_memory());
@@ -147,7 +154,8 @@ fn abort_of(alloc: Global, reason: &Term, levels: &mut Levels) -> Result<Command
 }
 
 fn abort<S: Steps>(steps: &mut S, alloc: Global, reason: &Term, levels: &mut Levels) -> Turn
-    ensures { (more : List Call) × S.shows steps.old more steps.new × Serves (part.Abort reason.now) levels.old more (turn_of result levels.new) }
+    ensures { (more : List Call) × S.shows steps.old more steps.new
+        × Serves (part.Abort reason.now) levels.old more (turn_of result levels.new) }
 {
     let Ok(command) = abort_of(alloc, reason, levels) else {
         return stop(steps, levels.around(), Answer::no_memory());
@@ -161,7 +169,8 @@ fn abort<S: Steps>(steps: &mut S, alloc: Global, reason: &Term, levels: &mut Lev
 }
 
 fn begin<S: Steps>(steps: &mut S, alloc: Global, levels: &mut Levels) -> Turn
-    ensures { (more : List Call) × S.shows steps.old more steps.new × Serves part.Open levels.old more (turn_of result levels.new) }
+    ensures { (more : List Call) × S.shows steps.old more steps.new
+        × Serves part.Open levels.old more (turn_of result levels.new) }
 {
     let around = levels.around();
     // Its place stands before it is begun: after that nothing of this is refused.
@@ -178,7 +187,8 @@ fn begin<S: Steps>(steps: &mut S, alloc: Global, levels: &mut Levels) -> Turn
 
 /// The answers of a committed child stand in the level around it.
 fn join<S: Steps>(steps: &mut S, answer: Answer, levels: &mut Levels) -> Turn
-    ensures { (more : List Call) × S.shows steps.old more steps.new × Joins answer.reply levels.old more (turn_of result levels.new) }
+    ensures { (more : List Call) × S.shows steps.old more steps.new
+        × Joins answer.reply levels.old more (turn_of result levels.new) }
 {
     match levels.leave() {
         None => Turn::Over(answer.into_reply()),
@@ -193,7 +203,8 @@ fn join<S: Steps>(steps: &mut S, answer: Answer, levels: &mut Levels) -> Turn
 }
 
 fn commit<S: Steps>(steps: &mut S, levels: &mut Levels) -> Turn
-    ensures { (more : List Call) × S.shows steps.old more steps.new × Serves part.Close levels.old more (turn_of result levels.new) }
+    ensures { (more : List Call) × S.shows steps.old more steps.new
+        × Serves part.Close levels.old more (turn_of result levels.new) }
 {
     let answer = ask(steps, Command::Commit);
     match answer.sort() {
@@ -205,7 +216,8 @@ fn commit<S: Steps>(steps: &mut S, levels: &mut Levels) -> Turn
 
 /// Hands a part in.
 pub fn serve<S: Steps>(steps: &mut S, alloc: Global, part: &Part, levels: &mut Levels) -> Turn
-    ensures { (more : List Call) × S.shows steps.old more steps.new × Serves part.now levels.old more (turn_of result levels.new) }
+    ensures { (more : List Call) × S.shows steps.old more steps.new
+        × Serves part.now levels.old more (turn_of result levels.new) }
 {
     match part {
         Part::Do(operation) => operate(steps, alloc, operation, levels),

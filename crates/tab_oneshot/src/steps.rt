@@ -1,6 +1,6 @@
 //! A seat that commands are handed to.
 
-ghost use Rattle.std.specs.Prelude.{◌≡◌, ◌∷◌, ◌++◌, [], List, true, IsOk};
+ghost use Rattle.std.specs.Prelude.{◌≡◌, ◌∷◌, ◌++◌, [], List, IsTrue, IsOk};
 ghost use Rattle.tab_model.specs.Outcome.{is_abort};
 ghost use Rattle.tab_oneshot.specs.Calls.{Call, Asked, Waited, Again, answer_in, waited_for, IsNoWait};
 
@@ -15,7 +15,7 @@ pub trait Steps {
     /// Hands a command in. An abort takes no memory.
     fn step(&mut self, command: Command) -> Result<SharedReply, AllocError>
         ensures shown { shows self.old (Asked command (answer_in result) ∷ []) self.new }
-        ensures abort { is_abort command ≡ true → IsOk result };
+        ensures abort { IsTrue (is_abort command) → IsOk result };
 
     /// Waits for the answer of the operation that was handed in last and was answered `Waiting`. None where the
     /// surroundings can't wait.
@@ -29,5 +29,6 @@ pub trait Steps {
 
     ghost shows_none: { (x : Self) → shows x [] x };
 
-    ghost shows_on: { (x y z : Self) (first more : List Call) → shows x first y → shows y more z → shows x (first ++ more) z };
+    ghost shows_on: { (x y z : Self) (first more : List Call) → shows x first y → shows y more z
+        → shows x (first ++ more) z };
 }

@@ -46,7 +46,10 @@ pub fn answered(
     committed: &IndexedTable,
     operation: &Operation,
 ) -> Result<Answer, AllocError>
-    ensures { IfOk result (λ a. Answers (touched store.now.levels.now.overlay committed.now.def.name) committed.now operation.now (reply_of a)) }
+    ensures { IfOk result
+        (λ a. Answers
+        (touched store.now.levels.now.overlay committed.now.def.name) committed.now
+        operation.now (reply_of a)) }
 {
     match operation {
         Operation::Read(_, key) => Ok(Answer::Found(store.view_read(alloc, committed, key)?)),
@@ -72,7 +75,9 @@ fn index_read(
     value: &Term,
     attribute: &Term,
 ) -> Result<Answer, AllocError>
-    ensures { IfOk result (λ a. Answers (touched store.now.levels.now.overlay committed.now.def.name) committed.now (op.IndexRead name.now value.now attribute.now) (reply_of a)) }
+    ensures { IfOk result
+        (λ a. Answers (touched store.now.levels.now.overlay committed.now.def.name) committed.now
+        (op.IndexRead name.now value.now attribute.now) (reply_of a)) }
 {
     match position(committed.def(), attribute) {
         Some(position) if has_index(committed.def(), position) => Ok(Answer::Found(store.view_index(
@@ -94,7 +99,9 @@ fn match_object(
     committed: &IndexedTable,
     pattern: &Term,
 ) -> Result<Answer, AllocError>
-    ensures { IfOk result (λ a. Answers (touched store.now.levels.now.overlay committed.now.def.name) committed.now (op.MatchObject pattern.now) (reply_of a)) }
+    ensures { IfOk result
+        (λ a. Answers (touched store.now.levels.now.overlay committed.now.def.name) committed.now
+        (op.MatchObject pattern.now) (reply_of a)) }
 {
     if !fits(committed.def(), pattern) {
         return bad_type(alloc, committed, pattern);
@@ -105,7 +112,8 @@ fn match_object(
 /// A record that is to be written or deleted.
 fn write(alloc: Global, committed: &IndexedTable, row: &Term) -> Result<Answer, AllocError>
     ensures write { IfOk result (λ a. reply_of a ≡ replied committed.now (op.Write row.now)) }
-    ensures delete { IfOk result (λ a. reply_of a ≡ replied committed.now (op.DeleteObject row.now)) }
+    ensures delete { IfOk result
+        (λ a. reply_of a ≡ replied committed.now (op.DeleteObject row.now)) }
 {
     if !fits(committed.def(), row) {
         return bad_type(alloc, committed, row);

@@ -73,7 +73,8 @@ fn on_key(alloc: Global, name: &Atom, key: &Term, mode: Mode) -> Result<Lock, Al
 }
 
 fn on_record(alloc: Global, row: &Term) -> Result<Lock, AllocError>
-    ensures { IfOk result (λ l. lock_of l ≡ lock (tag_of (term row.now)) (KeyOf (key_of (term row.now))) true) }
+    ensures { IfOk result
+        (λ l. lock_of l ≡ lock (tag_of (term row.now)) (KeyOf (key_of (term row.now))) true) }
 {
     let nameless = Atom::from_short_text(alloc, "")?;
     let nothing = Nothing::new(alloc);

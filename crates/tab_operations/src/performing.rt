@@ -48,8 +48,14 @@ pub fn perform(
     store: &mut TxStore,
     pending: Pending,
 ) -> Result<SharedReply, AllocError>
-    ensures store { IfOk result (λ r. store.new ≡ store_next (find catalog.now (table_of_operation pending.operation)) store.old (Do pending.operation) (Some r)) }
-    ensures answer { IfOk result (λ r. (age : ℕ) → IsOrderedCatalog catalog.now → Fits store.old catalog.now → replies (start catalog.now age) store.old.moves ≡ store.old.told → r ≡ answer_of (after (start catalog.now age) store.old.moves).now pending.operation) }
+    ensures store { IfOk result
+        (λ r. store.new
+        ≡ store_next (find catalog.now (table_of_operation pending.operation)) store.old
+        (Do pending.operation) (Some r)) }
+    ensures answer { IfOk result
+        (λ r. (age : ℕ) → IsOrderedCatalog catalog.now → Fits store.old catalog.now
+        → replies (start catalog.now age) store.old.moves ≡ store.old.told
+        → r ≡ answer_of (after (start catalog.now age) store.old.moves).now pending.operation) }
     ensures err { OnErr result (store.new ≡ store.old) }
 {
     let nameless = Atom::from_short_text(alloc, "")?;
@@ -69,8 +75,13 @@ fn perform_on(
     store: &mut TxStore,
     pending: Pending,
 ) -> Result<SharedReply, AllocError>
-    ensures store { IfOk result (λ r. store.new ≡ store_next (Some committed.now) store.old (Do pending.operation) (Some r)) }
-    ensures answer { IfOk result (λ r. Answers (touched store.old.levels.now.overlay committed.now.def.name) committed.now pending.operation r) }
+    ensures store { IfOk result
+        (λ r. store.new
+        ≡ store_next (Some committed.now) store.old (Do pending.operation) (Some r)) }
+    ensures answer { IfOk result
+        (λ r. Answers
+        (touched store.old.levels.now.overlay committed.now.def.name) committed.now
+        pending.operation r) }
     ensures err { OnErr result (store.new ≡ store.old) }
 {
     let answer = answered(alloc, store, committed, &pending.operation)?;
@@ -86,7 +97,8 @@ fn fail(
     pending: Pending,
     name: Atom,
 ) -> Result<SharedReply, AllocError>
-    ensures store { IfOk result (λ r. store.new ≡ store_next None store.old (Do pending.operation) (Some r)) }
+    ensures store { IfOk result
+        (λ r. store.new ≡ store_next None store.old (Do pending.operation) (Some r)) }
     ensures answer { IfOk result (λ r. r ≡ reply.NoTable name) }
     ensures err { OnErr result (store.new ≡ store.old) }
 {

@@ -35,5 +35,6 @@ pub trait Mailbox: Post {
         ensures stays { Self.stays self.old self.new }
         ensures outbox { Self.outbox self.new ≡ Self.outbox self.old }
         ensures end { mailbox end.new ≡ mailbox end.old }
-        ensures met { Tells (Self.outbox self.old) (mailbox end.old) (taken end.old) result (taken end.new) };
+        ensures met { Tells (Self.outbox self.old) (mailbox end.old) (taken end.old) result
+            (taken end.new) };
 }

@@ -19,14 +19,19 @@ pub trait Post {
     /// Puts an item behind the others, or hands it back.
     fn put(&mut self, item: Item) -> Result<(), Refused>
         ensures stays { stays self.old self.new }
-        ensures decided { IfSome (outbox self.old).capacity (λ c. is_err result ≡ nat_le c (length (outbox self.old).items)) }
+        ensures decided { IfSome (outbox self.old).capacity
+            (λ c. is_err result ≡ nat_le c (length (outbox self.old).items)) }
         ensures ok { OnOk result (outbox self.new ≡ with_items (outbox self.old) (item ∷ [])) }
-        ensures err { IfErr result (λ r. (refused_item r ≡ item) × (outbox self.new ≡ with_refusal (outbox self.old))) };
+        ensures err { IfErr result
+            (λ r. (refused_item r ≡ item) × (outbox self.new ≡ with_refusal (outbox self.old))) };
 
     /// Takes the first item. Of a post without a capacity of its own the items are taken at its other end.
     fn pull(&mut self) -> Option<Item>
         ensures stays { stays self.old self.new }
-        ensures item { MatchOption result ((items_to_take (outbox self.old) (outbox self.old).capacity ≡ []) × (outbox self.new ≡ outbox self.old)) (GivesFirst (outbox self.old) (outbox self.new)) };
+        ensures item { MatchOption result
+            ((items_to_take (outbox self.old) (outbox self.old).capacity ≡ [])
+            × (outbox self.new ≡ outbox self.old))
+            (GivesFirst (outbox self.old) (outbox self.new)) };
 
     /// How many puts were refused, up to the greatest 64 bit number.
     fn refusals(&self) -> u64

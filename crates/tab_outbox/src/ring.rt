@@ -26,7 +26,8 @@ impl Model for RingPost {
 
     ghost coded = { Prim.hlevel (codes, terms_code, pairs_code) };
 
-    ghost view = { λ a. record { items = a.items.items; refusals = a.refusals; capacity = a.items.capacity } };
+    ghost view = { λ a.
+        record { items = a.items.items; refusals = a.refusals; capacity = a.items.capacity } };
 
     ghost invariant = { λ a. length a.items.items ≤ a.items.capacity };
 }
@@ -60,8 +61,11 @@ impl Post for RingPost {
     fn put(&mut self, item: Item) -> Result<(), Refused>
         ensures stays { self.new.capacity ≡ self.old.capacity }
         ensures decided { is_err result ≡ nat_le self.old.capacity (length self.old.items) }
-        ensures ok { OnOk result (as_outbox self.new ≡ with_items (as_outbox self.old) (item ∷ [])) }
-        ensures err { IfErr result (λ r. (refused_item r ≡ item) × (as_outbox self.new ≡ with_refusal (as_outbox self.old))) }
+        ensures ok { OnOk result
+            (as_outbox self.new ≡ with_items (as_outbox self.old) (item ∷ [])) }
+        ensures err { IfErr result
+            (λ r. (refused_item r ≡ item)
+            × (as_outbox self.new ≡ with_refusal (as_outbox self.old))) }
         ensures full { IfErr result IsFull }
     {
         match self.items.try_push_back(item) {

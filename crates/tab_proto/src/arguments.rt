@@ -1,6 +1,6 @@
 //! The arguments of a request, taken out of its term where they have the form that a command wants.
 
-ghost use Rattle.std.specs.Prelude.{◌≡◌, IfOk, OnErr, true, false};
+ghost use Rattle.std.specs.Prelude.{◌≡◌, IfOk, OnErr, IsTrue, IsFalse};
 ghost use Rattle.tab_term.specs.Data.{atom, list, pair, is_atom, is_list};
 ghost use Rattle.tab_term.specs.View.{term};
 ghost use Rattle.tab_proto.specs.Commands.{is_row as is_row_of, is_attribute as is_attribute_of};
@@ -13,7 +13,7 @@ use tab_term::{Atom, Term, Terms};
 /// A table's name.
 pub fn name_of(argument: Term) -> Result<Atom, NoCommand>
     ensures ok { IfOk result (λ a. term argument ≡ atom a) }
-    ensures bad { OnErr result (is_atom (term argument) ≡ false) }
+    ensures bad { OnErr result (IsFalse (is_atom (term argument))) }
 {
     argument.into_atom().ok_or(NoCommand)
 }
@@ -21,15 +21,15 @@ pub fn name_of(argument: Term) -> Result<Atom, NoCommand>
 /// The elements of a list.
 pub fn elements_of(argument: Term) -> Result<Terms, NoCommand>
     ensures ok { IfOk result (λ ts. term argument ≡ list ts) }
-    ensures bad { OnErr result (is_list (term argument) ≡ false) }
+    ensures bad { OnErr result (IsFalse (is_list (term argument))) }
 {
     argument.into_list().ok_or(NoCommand)
 }
 
 /// A record or a pattern: a tuple of arity 2 or more whose first element is an atom.
 pub fn row_of(argument: Term) -> Result<Term, NoCommand>
-    ensures ok { IfOk result (λ t. (t ≡ argument) × (is_row_of (term argument) ≡ true)) }
-    ensures bad { OnErr result (is_row_of (term argument) ≡ false) }
+    ensures ok { IfOk result (λ t. (t ≡ argument) × (IsTrue (is_row_of (term argument)))) }
+    ensures bad { OnErr result (IsFalse (is_row_of (term argument))) }
 {
     if !is_row(&argument) {
         return Err(NoCommand);
@@ -48,8 +48,8 @@ fn is_row(argument: &Term) -> bool
 
 /// An attribute: its name or its position.
 pub fn attribute_of(argument: Term) -> Result<Term, NoCommand>
-    ensures ok { IfOk result (λ t. (t ≡ argument) × (is_attribute_of (term argument) ≡ true)) }
-    ensures bad { OnErr result (is_attribute_of (term argument) ≡ false) }
+    ensures ok { IfOk result (λ t. (t ≡ argument) × (IsTrue (is_attribute_of (term argument)))) }
+    ensures bad { OnErr result (IsFalse (is_attribute_of (term argument))) }
 {
     if !matches!(argument, Term::Atom(..) | Term::Int(..)) {
         return Err(NoCommand);
@@ -60,7 +60,7 @@ pub fn attribute_of(argument: Term) -> Result<Term, NoCommand>
 /// `{Tab, Key}`.
 pub fn place_of(argument: Term) -> Result<(Atom, Term), NoCommand>
     ensures ok { IfOk result (λ p. term argument ≡ pair (atom p.0) (term p.1)) }
-    ensures bad { OnErr result (is_place (term argument) ≡ false) }
+    ensures bad { OnErr result (IsFalse (is_place (term argument))) }
 {
     let (table, key) = pair_of(argument)?;
     Ok((name_of(table)?, key))

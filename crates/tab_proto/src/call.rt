@@ -1,6 +1,6 @@
 //! A tuple that begins with a word, as the calls of the manuals do: the word, and the arguments behind it.
 
-ghost use Rattle.std.specs.Prelude.{◌≡◌, IfOk, OnErr, false};
+ghost use Rattle.std.specs.Prelude.{◌≡◌, IfOk, OnErr, IsFalse};
 ghost use Rattle.tab_term.specs.Data.{atom, pair, is_atom};
 ghost use Rattle.tab_term.specs.View.{term};
 ghost use Rattle.tab_proto.specs.Reading.{call_term, is_call_term, is_pair};
@@ -25,7 +25,7 @@ pub struct Call {
 /// Takes a term apart, and copies nothing.
 pub fn call_of(held: Term) -> Result<Call, NoCommand>
     ensures ok { IfOk result (λ call. term held ≡ call_term call) }
-    ensures bad { OnErr result (is_call_term (term held) ≡ false) }
+    ensures bad { OnErr result (IsFalse (is_call_term (term held))) }
 {
     let Some(parts) = held.into_tuple() else {
         return Err(NoCommand);
@@ -54,7 +54,7 @@ pub fn call_of(held: Term) -> Result<Call, NoCommand>
 /// Takes a pair apart.
 pub fn pair_of(held: Term) -> Result<(Term, Term), NoCommand>
     ensures ok { IfOk result (λ p. term held ≡ pair (term p.0) (term p.1)) }
-    ensures bad { OnErr result (is_pair (term held) ≡ false) }
+    ensures bad { OnErr result (IsFalse (is_pair (term held))) }
 {
     let Some(parts) = held.into_tuple() else {
         return Err(NoCommand);
@@ -69,7 +69,7 @@ pub fn pair_of(held: Term) -> Result<(Term, Term), NoCommand>
 
 fn worded(word: Term, arguments: Arguments) -> Result<Call, NoCommand>
     ensures ok { IfOk result (λ call. (term word ≡ atom call.word) × (call.arguments ≡ arguments)) }
-    ensures bad { OnErr result (is_atom (term word) ≡ false) }
+    ensures bad { OnErr result (IsFalse (is_atom (term word))) }
 {
     match word.into_atom() {
         Some(word) => Ok(Call { word, arguments }),

@@ -118,7 +118,9 @@ fn index_term(
     value: &Term,
     attribute: &Term,
 ) -> Result<Term, AllocError>
-    ensures { IfOk result (λ t. term t ≡ four_of (atom (codes "index_read")) (atom table.now) (term value.now) (term attribute.now)) }
+    ensures { IfOk result
+        (λ t. term t ≡ four_of (atom (codes "index_read")) (atom table.now) (term value.now)
+        (term attribute.now)) }
 {
     let mut parts = Vec::with_capacity(alloc, 4)?;
     parts.push(word(alloc, "index_read")?)?;

@@ -1,6 +1,6 @@
 //! Commands from terms.
 
-ghost use Rattle.std.specs.Prelude.{◌≡◌, ◌≢◌, ◌&&◌, IfOk, OnErr, true, Err, nat_le, pos, codes, false};
+ghost use Rattle.std.specs.Prelude.{◌≡◌, ◌≢◌, ◌&&◌, IfOk, OnErr, IsTrue, Err, nat_le, pos, codes, IsFalse};
 ghost use Rattle.tab_term.specs.Data.{int, atom, pair, triple, is_list};
 ghost use Rattle.tab_term.specs.View.{term};
 ghost use Rattle.tab_model.specs.declared.data.Command.{Command as CommandOf};
@@ -21,8 +21,9 @@ use tab_term::{Atom, Term};
 
 /// The command that a term is. Every other term is BadCommand.
 pub fn command(alloc: Global, held: &Term) -> Result<Command, ProtoFault>
-    ensures ok { IfOk result (λ c. (term_of c ≡ term held.now) × (is_command c ≡ true)) }
-    ensures only { (c : CommandOf) → is_command c ≡ true → term_of c ≡ term held.now → result ≢ Err BadCommand }
+    ensures ok { IfOk result (λ c. (term_of c ≡ term held.now) × (IsTrue (is_command c))) }
+    ensures only { (c : CommandOf) → IsTrue (is_command c) → term_of c ≡ term held.now
+        → result ≢ Err BadCommand }
 {
     let Ok(copy) = held.try_clone(alloc) else {
         return Err(ProtoFault::NoMemory);
@@ -33,7 +34,8 @@ pub fn command(alloc: Global, held: &Term) -> Result<Command, ProtoFault>
 /// The command that a term is, made of the term's own parts.
 pub fn read_command(alloc: Global, held: Term) -> Result<Command, ProtoFault>
     ensures ok { IfOk result (λ c. Spells c (term held)) }
-    ensures fails { FailsOnlyIf (is_command_term (term held) ≡ false) (is_one_shot_term (term held) ≡ true) result }
+    ensures fails { FailsOnlyIf (IsFalse (is_command_term (term held)))
+        (IsTrue (is_one_shot_term (term held))) result }
 {
     if let Term::Atom(word) = &held {
         return Ok(one_word(word)?);
@@ -50,7 +52,7 @@ pub fn read_command(alloc: Global, held: Term) -> Result<Command, ProtoFault>
 
 fn one_word(word: &Atom) -> Result<Command, NoCommand>
     ensures ok { IfOk result (λ c. Spells c (atom word.now)) }
-    ensures bad { OnErr result (is_one_word word.now ≡ false) }
+    ensures bad { OnErr result (IsFalse (is_one_word word.now)) }
 {
     match word.as_str() {
         "begin" => Ok(Command::Begin),
@@ -61,7 +63,7 @@ fn one_word(word: &Atom) -> Result<Command, NoCommand>
 
 fn unary(word: &Atom, argument: Term) -> Result<Command, NoCommand>
     ensures ok { IfOk result (λ c. Spells c (pair (atom word.now) (term argument))) }
-    ensures bad { OnErr result (is_unary (unary_in word.now) (term argument) ≡ false) }
+    ensures bad { OnErr result (IsFalse (is_unary (unary_in word.now) (term argument))) }
 {
     match unary_of(word.as_str()) {
         Some(Unary::Abort) => Ok(Command::Abort(argument)),
@@ -82,7 +84,7 @@ fn unary(word: &Atom, argument: Term) -> Result<Command, NoCommand>
 /// `{table, Tab, Level}`.
 fn watch_of(held: Term) -> Result<(Atom, Level), NoCommand>
     ensures ok { IfOk result (λ w. term held ≡ watch_term w.0 w.1) }
-    ensures bad { OnErr result (is_watch (term held) ≡ false) }
+    ensures bad { OnErr result (IsFalse (is_watch (term held))) }
 {
     let Call { word, arguments } = call_of(held)?;
     match arguments {
@@ -95,7 +97,7 @@ fn watch_of(held: Term) -> Result<(Atom, Level), NoCommand>
 
 fn level_of(held: &Term) -> Result<Level, NoCommand>
     ensures ok { IfOk result (λ l. term held.now ≡ level_word l) }
-    ensures bad { OnErr result (is_level (term held.now) ≡ false) }
+    ensures bad { OnErr result (IsFalse (is_level (term held.now))) }
 {
     let Term::Atom(word) = held else {
         return Err(NoCommand);
@@ -109,7 +111,9 @@ fn level_of(held: &Term) -> Result<Level, NoCommand>
 
 fn binary(alloc: Global, word: &Atom, first: Term, second: Term) -> Result<Command, ProtoFault>
     ensures ok { IfOk result (λ c. Spells c (triple (atom word.now) (term first) (term second))) }
-    ensures fails { FailsOnlyIf (is_binary (binary_in word.now) (term first) (term second) ≡ false) (is_one_shot_term (triple (atom word.now) (term first) (term second)) ≡ true) result }
+    ensures fails { FailsOnlyIf
+        (IsFalse (is_binary (binary_in word.now) (term first) (term second)))
+        (IsTrue (is_one_shot_term (triple (atom word.now) (term first) (term second)))) result }
 {
     match binary_of(word.as_str()) {
         Some(Binary::AddTableIndex) => Ok(Command::Schema(Schema::AddIndex(
@@ -134,8 +138,9 @@ fn binary(alloc: Global, word: &Atom, first: Term, second: Term) -> Result<Comma
 
 /// `{subscribe, {table, Tab, Level}, dump}`.
 fn dump_subscription(watched: Term, dump: &Term) -> Result<Command, NoCommand>
-    ensures ok { IfOk result (λ c. Spells c (triple (atom (codes "subscribe")) (term watched) (term dump.now))) }
-    ensures bad { OnErr result ((is_watch (term watched) && is_dump (term dump.now)) ≡ false) }
+    ensures ok { IfOk result
+        (λ c. Spells c (triple (atom (codes "subscribe")) (term watched) (term dump.now))) }
+    ensures bad { OnErr result (IsFalse (is_watch (term watched) && is_dump (term dump.now))) }
 {
     if !asks_dump(dump) {
         return Err(NoCommand);
@@ -152,7 +157,7 @@ fn asks_dump(held: &Term) -> bool
 
 fn item_of(held: &Term) -> Result<InfoItem, NoCommand>
     ensures ok { IfOk result (λ i. term held.now ≡ item_word i) }
-    ensures bad { OnErr result (is_item (term held.now) ≡ false) }
+    ensures bad { OnErr result (IsFalse (is_item (term held.now))) }
 {
     let Term::Atom(word) = held else {
         return Err(NoCommand);
@@ -168,8 +173,11 @@ fn item_of(held: &Term) -> Result<InfoItem, NoCommand>
 
 /// `{transaction, Ops, Retries}`.
 fn one_shot(alloc: Global, members: Term, retries: &Term) -> Result<Command, ProtoFault>
-    ensures ok { IfOk result (λ c. Spells c (triple (atom (codes "transaction")) (term members) (term retries.now))) }
-    ensures fails { FailsOnlyIf ((is_parts_list (term members) && is_retries (term retries.now)) ≡ false) ((is_list (term members) && is_retries (term retries.now)) ≡ true) result }
+    ensures ok { IfOk result
+        (λ c. Spells c (triple (atom (codes "transaction")) (term members) (term retries.now))) }
+    ensures fails { FailsOnlyIf
+        (IsFalse (is_parts_list (term members) && is_retries (term retries.now)))
+        (IsTrue (is_list (term members) && is_retries (term retries.now))) result }
 {
     let members = elements_of(members)?;
     let retries = retries_of(retries)?;
@@ -180,8 +188,8 @@ fn one_shot(alloc: Global, members: Term, retries: &Term) -> Result<Command, Pro
 
 /// How often a one-shot may restart: 0 to 1,000.
 fn retries_of(held: &Term) -> Result<u64, NoCommand>
-    ensures ok { IfOk result (λ n. (term held.now ≡ int (pos n)) × (nat_le n 1000 ≡ true)) }
-    ensures bad { OnErr result (is_retries (term held.now) ≡ false) }
+    ensures ok { IfOk result (λ n. (term held.now ≡ int (pos n)) × (IsTrue (nat_le n 1000))) }
+    ensures bad { OnErr result (IsFalse (is_retries (term held.now))) }
 {
     match held {
         Term::Int(number @ 0..=1000) => Ok(*number as u64),

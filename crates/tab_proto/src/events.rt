@@ -74,9 +74,12 @@ pub fn write_item<W: Target>(
     item: &Item,
     delivery: Delivery,
 ) -> Result<(), FrameFault>
-    ensures ok { OnOk result (Appends (W.contents device.old) (W.contents device.new) (sent_frames delivery item.now)) }
+    ensures ok { OnOk result
+        (Appends (W.contents device.old) (W.contents device.new) (sent_frames delivery item.now)) }
     ensures same { OnOk result (W.faults device.new ≡ W.faults device.old) }
-    ensures err { IfErr result (λ e. IsUnsent e (sent_frames delivery item.now) (W.contents device.old) (W.contents device.new) (W.faults device.old) (W.faults device.new)) }
+    ensures err { IfErr result
+        (λ e. IsUnsent e (sent_frames delivery item.now) (W.contents device.old)
+        (W.contents device.new) (W.faults device.old) (W.faults device.new)) }
 {
     match delivery {
         Delivery::Events => write_apart(device, item),
@@ -86,9 +89,12 @@ pub fn write_item<W: Target>(
 
 /// Writes of a batch a frame for each of its events, in order, else that of its mark.
 fn write_apart<W: Target>(device: &mut W, item: &Item) -> Result<(), FrameFault>
-    ensures ok { OnOk result (Appends (W.contents device.old) (W.contents device.new) (item_frames item.now)) }
+    ensures ok { OnOk result
+        (Appends (W.contents device.old) (W.contents device.new) (item_frames item.now)) }
     ensures same { OnOk result (W.faults device.new ≡ W.faults device.old) }
-    ensures err { IfErr result (λ e. IsUnsent e (item_frames item.now) (W.contents device.old) (W.contents device.new) (W.faults device.old) (W.faults device.new)) }
+    ensures err { IfErr result
+        (λ e. IsUnsent e (item_frames item.now) (W.contents device.old) (W.contents device.new)
+        (W.faults device.old) (W.faults device.new)) }
 {
     match item {
         Item::Batch(_, events) => write_events(device, events),
@@ -97,9 +103,12 @@ fn write_apart<W: Target>(device: &mut W, item: &Item) -> Result<(), FrameFault>
 }
 
 fn write_events<W: Target>(device: &mut W, events: &EventTerms) -> Result<(), FrameFault>
-    ensures ok { OnOk result (Appends (W.contents device.old) (W.contents device.new) (event_frames events.now)) }
+    ensures ok { OnOk result
+        (Appends (W.contents device.old) (W.contents device.new) (event_frames events.now)) }
     ensures same { OnOk result (W.faults device.new ≡ W.faults device.old) }
-    ensures err { IfErr result (λ e. IsUnsent e (event_frames events.now) (W.contents device.old) (W.contents device.new) (W.faults device.old) (W.faults device.new)) }
+    ensures err { IfErr result
+        (λ e. IsUnsent e (event_frames events.now) (W.contents device.old) (W.contents device.new)
+        (W.faults device.old) (W.faults device.new)) }
 {
     for event in events.as_slice() {
         write_outline(device, &event_outline(event.event()))?;
@@ -109,16 +118,21 @@ fn write_events<W: Target>(device: &mut W, events: &EventTerms) -> Result<(), Fr
 
 /// Writes the one frame of an item that is told whole.
 fn write_whole<W: Target>(device: &mut W, item: &Item) -> Result<(), FrameFault>
-    ensures ok { OnOk result (Appends (W.contents device.old) (W.contents device.new) (frame (131 ∷ canon (item_term item.now)))) }
+    ensures ok { OnOk result
+        (Appends (W.contents device.old) (W.contents device.new)
+        (frame (131 ∷ canon (item_term item.now)))) }
     ensures same { OnOk result (W.faults device.new ≡ W.faults device.old) }
-    ensures err { IfErr result (λ e. IsUnsent e (frame (131 ∷ canon (item_term item.now))) (W.contents device.old) (W.contents device.new) (W.faults device.old) (W.faults device.new)) }
+    ensures err { IfErr result
+        (λ e. IsUnsent e (frame (131 ∷ canon (item_term item.now))) (W.contents device.old)
+        (W.contents device.new) (W.faults device.old) (W.faults device.new)) }
 {
     write_outline(device, &item_outline(item))
 }
 
 /// Adds the frame of `{mnesia_overflow, N}`.
 pub fn append_overflow(number: u64, out: &mut Vec<u8>) -> Result<(), EncodeFault>
-    ensures { OnOk result (out.new.items ≡ out.old.items ++ frame (131 ∷ canon (reply_term (told.Overflow number)))) }
+    ensures { OnOk result
+        (out.new.items ≡ out.old.items ++ frame (131 ∷ canon (reply_term (told.Overflow number)))) }
 {
     append_outline(&outline_of(&Reply::Overflow(number)), out)
 }

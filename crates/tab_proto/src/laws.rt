@@ -6,5 +6,6 @@ ghost use Rattle.tab_proto.specs.declared.request.Request.{Request as RequestOf}
 
 /// Two requests with one term are one: the same session asks the same.
 pub fn requests_are_apart()
-    ensures { (m n : ℕ) (a b : RequestOf) → IsRequest a → IsRequest b → request_term m a ≡ request_term n b → (m ≡ n) × (a ≡ b) }
+    ensures { (m n : ℕ) (a b : RequestOf) → IsRequest a → IsRequest b
+        → request_term m a ≡ request_term n b → (m ≡ n) × (a ≡ b) }
 {}

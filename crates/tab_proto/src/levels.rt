@@ -148,7 +148,8 @@ pub fn operations_of(alloc: Global, parts: &[Part]) -> Result<Terms, AllocError>
 
 /// One part more before those that the lists are of.
 fn step(alloc: Global, part: &Part, lists: &mut OpenTransactions) -> Result<(), AllocError>
-    ensures { OnOk result ((rest : List PartOf) → lists.old ≡ levels rest → lists.new ≡ levels (part.now ∷ rest)) }
+    ensures { OnOk result
+        ((rest : List PartOf) → lists.old ≡ levels rest → lists.new ≡ levels (part.now ∷ rest)) }
 {
     match part {
         Part::Do(operation) => lists.put_first(operation_term(alloc, operation)?),

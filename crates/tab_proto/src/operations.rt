@@ -1,6 +1,6 @@
 //! Operations from terms.
 
-ghost use Rattle.std.specs.Prelude.{◌≡◌, IfOk, OnErr, false};
+ghost use Rattle.std.specs.Prelude.{◌≡◌, IfOk, OnErr, IsFalse};
 ghost use Rattle.tab_term.specs.Data.{atom, pair, triple};
 ghost use Rattle.tab_term.specs.View.{term};
 ghost use Rattle.tab_proto.specs.Commands.{four};
@@ -15,8 +15,9 @@ use tab_term::{Atom, Term};
 
 /// The operation of a word with one argument.
 pub fn unary_operation(word: Unary, argument: Term) -> Result<Operation, NoCommand>
-    ensures ok { IfOk result (λ o. SpellsOperation o (pair (atom (unary_text word)) (term argument))) }
-    ensures bad { OnErr result (is_unary_operation word (term argument) ≡ false) }
+    ensures ok { IfOk result
+        (λ o. SpellsOperation o (pair (atom (unary_text word)) (term argument))) }
+    ensures bad { OnErr result (IsFalse (is_unary_operation word (term argument))) }
 {
     match word {
         Unary::Write => Ok(Operation::Write(row_of(argument)?)),
@@ -39,8 +40,9 @@ pub fn unary_operation(word: Unary, argument: Term) -> Result<Operation, NoComma
 
 /// `{read, Tab, Key}`.
 pub fn read_operation(word: &Atom, table: Term, key: Term) -> Result<Operation, NoCommand>
-    ensures ok { IfOk result (λ o. SpellsOperation o (triple (atom word.now) (term table) (term key))) }
-    ensures bad { OnErr result (is_read_of word.now (term table) ≡ false) }
+    ensures ok { IfOk result
+        (λ o. SpellsOperation o (triple (atom word.now) (term table) (term key))) }
+    ensures bad { OnErr result (IsFalse (is_read_of word.now (term table))) }
 {
     if word.as_str() != "read" {
         return Err(NoCommand);
@@ -56,8 +58,9 @@ pub fn index_operation(
     value: Term,
     attribute: Term,
 ) -> Result<Operation, NoCommand>
-    ensures ok { IfOk result (λ o. SpellsOperation o (four (atom word.now) (term table) (term value) (term attribute))) }
-    ensures bad { OnErr result (is_ternary word.now (term table) (term attribute) ≡ false) }
+    ensures ok { IfOk result
+        (λ o. SpellsOperation o (four (atom word.now) (term table) (term value) (term attribute))) }
+    ensures bad { OnErr result (IsFalse (is_ternary word.now (term table) (term attribute))) }
 {
     if word.as_str() != "index_read" {
         return Err(NoCommand);

@@ -1,6 +1,6 @@
 //! The parts of a one-shot from the terms of its list.
 
-ghost use Rattle.std.specs.Prelude.{◌≡◌, ◌++◌, ◌∷◌, [], OnOk, true, false};
+ghost use Rattle.std.specs.Prelude.{◌≡◌, ◌++◌, ◌∷◌, [], OnOk, true, IsFalse};
 ghost use Rattle.tab_term.specs.Data.{atom, none, one_more, pair};
 ghost use Rattle.tab_term.specs.View.{term, terms};
 ghost use Rattle.tab_proto.specs.FirstWords.{unary_text};
@@ -20,7 +20,7 @@ use tab_term::{Atom, Term, Terms};
 #[tactic(auto, using(tab_term::proofs::Lists::weight_at))]
 pub fn push_parts(members: Terms, parts: &mut Vec<Part>) -> Result<(), ProtoFault>
     ensures ok { OnOk result (AddsParts parts.old.items parts.new.items members) }
-    ensures bad { RefusesOnlyIf (are_parts members ≡ false) result }
+    ensures bad { RefusesOnlyIf (IsFalse (are_parts members)) result }
 {
     for member in members.into_vec() {
         push_part(member, parts)?;
@@ -30,8 +30,9 @@ pub fn push_parts(members: Terms, parts: &mut Vec<Part>) -> Result<(), ProtoFaul
 
 #[cycle(parts)]
 fn push_part(member: Term, parts: &mut Vec<Part>) -> Result<(), ProtoFault>
-    ensures ok { OnOk result (AddsParts parts.old.items parts.new.items (one_more (term member) none)) }
-    ensures bad { RefusesOnlyIf (is_part_term (term member) ≡ false) result }
+    ensures ok { OnOk result
+        (AddsParts parts.old.items parts.new.items (one_more (term member) none)) }
+    ensures bad { RefusesOnlyIf (IsFalse (is_part_term (term member))) result }
 {
     let Call { word, arguments } = call_of(member)?;
     match arguments {
@@ -46,8 +47,11 @@ fn push_part(member: Term, parts: &mut Vec<Part>) -> Result<(), ProtoFault>
 
 #[cycle(parts)]
 fn push_unary(word: &Atom, argument: Term, parts: &mut Vec<Part>) -> Result<(), ProtoFault>
-    ensures ok { OnOk result (AddsParts parts.old.items parts.new.items (one_more (pair (atom word.now) (term argument)) none)) }
-    ensures bad { RefusesOnlyIf (is_part_term (pair (atom word.now) (term argument)) ≡ false) result }
+    ensures ok { OnOk result
+        (AddsParts parts.old.items parts.new.items
+        (one_more (pair (atom word.now) (term argument)) none)) }
+    ensures bad { RefusesOnlyIf
+        (IsFalse (is_part_term (pair (atom word.now) (term argument)))) result }
 {
     match unary_of(word.as_str()) {
         Some(Unary::Abort) => push(Part::Abort(argument), parts),
@@ -60,8 +64,10 @@ fn push_unary(word: &Atom, argument: Term, parts: &mut Vec<Part>) -> Result<(), 
 /// An inner transaction.
 #[cycle(parts)]
 fn push_inner(argument: Term, parts: &mut Vec<Part>) -> Result<(), ProtoFault>
-    ensures ok { OnOk result (AddsParts parts.old.items parts.new.items (one_more (pair (atom (unary_text Unary.Transaction)) (term argument)) none)) }
-    ensures bad { RefusesOnlyIf (is_parts_list (term argument) ≡ false) result }
+    ensures ok { OnOk result
+        (AddsParts parts.old.items parts.new.items
+        (one_more (pair (atom (unary_text Unary.Transaction)) (term argument)) none)) }
+    ensures bad { RefusesOnlyIf (IsFalse (is_parts_list (term argument))) result }
 {
     let members = elements_of(argument)?;
     push(Part::Open, parts)?;

@@ -1,6 +1,6 @@
 //! Replies, written without a term being built.
 
-ghost use Rattle.std.specs.Prelude.{codes, pos, ◌≡◌, ◌≤◌, ◌<◌, ◌*◌, ◌++◌, ◌∷◌, false, min, ◌↔◌, [], length, if◌then◌else◌, OnOk, OnErr, IfOk, IfErr, Err, Option, Some, ℕ};
+ghost use Rattle.std.specs.Prelude.{codes, pos, ◌≡◌, ◌≤◌, ◌<◌, ◌*◌, ◌++◌, ◌∷◌, IsFalse, min, ◌↔◌, [], length, if◌then◌else◌, OnOk, OnErr, IfOk, IfErr, Err, Option, Some, ℕ};
 ghost use Rattle.std.specs.Io.KnownBytes.{Appends};
 ghost use Rattle.tab_term.specs.Canon.{canon};
 ghost use Rattle.tab_term.specs.Data.{atom, int, list, pair as pair_of, triple as triple_of};
@@ -28,9 +28,13 @@ pub fn write_reply<W: Target>(
     session: Option<u32>,
     reply: &Reply,
 ) -> Result<(), FrameFault>
-    ensures ok { OnOk result (Appends (W.contents device.old) (W.contents device.new) (frame (131 ∷ canon (response session reply.now)))) }
+    ensures ok { OnOk result
+        (Appends (W.contents device.old) (W.contents device.new)
+        (frame (131 ∷ canon (response session reply.now)))) }
     ensures same { OnOk result (W.faults device.new ≡ W.faults device.old) }
-    ensures err { IfErr result (λ e. IsUnwritten e (131 ∷ canon (response session reply.now)) (W.contents device.old) (W.contents device.new) (W.faults device.old) (W.faults device.new)) }
+    ensures err { IfErr result
+        (λ e. IsUnwritten e (131 ∷ canon (response session reply.now)) (W.contents device.old)
+        (W.contents device.new) (W.faults device.old) (W.faults device.new)) }
 {
     write_outline(device, &response_of(session, reply))
 }
@@ -41,8 +45,10 @@ pub fn append_reply(
     reply: &Reply,
     out: &mut Vec<u8>,
 ) -> Result<(), EncodeFault>
-    ensures ok { OnOk result (out.new.items ≡ out.old.items ++ frame (131 ∷ canon (response session reply.now))) }
-    ensures too_long { (result ≡ Err EncodeFault.TooLong) ↔ (4294967295 < length (131 ∷ canon (response session reply.now))) }
+    ensures ok { OnOk result
+        (out.new.items ≡ out.old.items ++ frame (131 ∷ canon (response session reply.now))) }
+    ensures too_long { (result ≡ Err EncodeFault.TooLong)
+        ↔ (4294967295 < length (131 ∷ canon (response session reply.now))) }
     ensures err { OnErr result (out.new.items ≡ out.old.items) }
 {
     append_outline(&response_of(session, reply), out)
@@ -58,9 +64,15 @@ pub fn append_reply_within(
     most: usize,
     out: &mut Vec<u8>,
 ) -> Result<bool, EncodeFault>
-    ensures ok { IfOk result (λ within. out.new.items ≡ out.old.items ++ (if within then frame (131 ∷ canon (response session reply.now)) else [])) }
-    ensures over { IfOk result (λ within. within ≡ false → min most 4294967295 < 2 * length (frame (131 ∷ canon (response session reply.now)))) }
-    ensures too_long { result ≡ Err EncodeFault.TooLong → 4294967295 < length (131 ∷ canon (response session reply.now)) }
+    ensures ok { IfOk result
+        (λ within. out.new.items
+        ≡ out.old.items
+        ++ (if within then frame (131 ∷ canon (response session reply.now)) else [])) }
+    ensures over { IfOk result
+        (λ within. IsFalse within
+        → min most 4294967295 < 2 * length (frame (131 ∷ canon (response session reply.now)))) }
+    ensures too_long { result ≡ Err EncodeFault.TooLong
+        → 4294967295 < length (131 ∷ canon (response session reply.now)) }
     ensures err { OnErr result (out.new.items ≡ out.old.items) }
 {
     let value = match reply {
@@ -77,7 +89,8 @@ pub fn append_reply_within(
 
 /// The number of the session, or `reply` where none is named.
 fn first_of<'a>(_reply: &'a Reply, session: Option<u32>) -> Leaf<'a>
-    ensures term { (r : ReplyOf) → response session r ≡ pair_of (leaf_term result) (reply_term_of r) }
+    ensures term { (r : ReplyOf)
+        → response session r ≡ pair_of (leaf_term result) (reply_term_of r) }
     ensures short { IsShort result }
     ensures fits { IsWritable result }
 {
@@ -221,7 +234,8 @@ fn told_in<'a>(text: &'a str, fault: &'a str, value: Leaf<'a>) -> Outline<'a>
     requires text { length text.now ≤ 255 }
     requires fault { length fault.now ≤ 255 }
     requires value { IsShort value }
-    ensures { IsOutlineOf result (pair_of (atom text.now) (pair_of (atom fault.now) (leaf_term value.entry))) }
+    ensures { IsOutlineOf result
+        (pair_of (atom text.now) (pair_of (atom fault.now) (leaf_term value.entry))) }
 {
     Outline {
         first: None,
@@ -233,7 +247,9 @@ fn told_in<'a>(text: &'a str, fault: &'a str, value: Leaf<'a>) -> Outline<'a>
 /// `{aborted, {Fault, Tab, Value}}`.
 fn aborted_for<'a>(fault: &'a str, table: &'a Atom, value: &'a Term) -> Outline<'a>
     requires { length fault.now ≤ 255 }
-    ensures { IsOutlineOf result (pair_of (atom (codes "aborted")) (triple_of (atom fault.now) (atom table.now) (term value.now))) }
+    ensures { IsOutlineOf result
+        (pair_of (atom (codes "aborted"))
+        (triple_of (atom fault.now) (atom table.now) (term value.now))) }
 {
     Outline {
         first: None,
@@ -258,7 +274,8 @@ fn told_of<'a>(text: &'a str, first: Leaf<'a>, second: Leaf<'a>) -> Outline<'a>
     requires text { length text.now ≤ 255 }
     requires first { IsShort first }
     requires second { IsShort second }
-    ensures { IsOutlineOf result (triple_of (atom text.now) (leaf_term first.entry) (leaf_term second.entry)) }
+    ensures { IsOutlineOf result
+        (triple_of (atom text.now) (leaf_term first.entry) (leaf_term second.entry)) }
 {
     Outline {
         first: None,

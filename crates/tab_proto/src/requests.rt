@@ -18,9 +18,11 @@ use tab_term::{Atom, Term};
 /// A session's number and what it asks, from `{Session, X}`. Session numbers are 1 to 4,294,967,295. Every other term is
 /// BadCommand. Records and keys are taken out of the term, and not copied; only the parts of a one-shot take memory.
 pub fn read_request(alloc: Global, held: Term) -> Result<(u32, Request), ProtoFault>
-    ensures ok { IfOk result (λ r. (request_term r.0 r.1 ≡ term held) × IsSession r.0 × IsRequest r.1) }
+    ensures ok { IfOk result
+        (λ r. (request_term r.0 r.1 ≡ term held) × IsSession r.0 × IsRequest r.1) }
     ensures memory { result ≡ Err NoMemory → AsksOneShot (term held) }
-    ensures only { (session : ℕ) (r : RequestOf) → IsSession session → IsRequest r → request_term session r ≡ term held → result ≢ Err BadCommand }
+    ensures only { (session : ℕ) (r : RequestOf) → IsSession session → IsRequest r
+        → request_term session r ≡ term held → result ≢ Err BadCommand }
 {
     let Some(session) = session_of(&held) else {
         return Err(ProtoFault::BadCommand);

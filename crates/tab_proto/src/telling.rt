@@ -1,6 +1,6 @@
 //! The answers of a transaction's members.
 
-ghost use Rattle.std.specs.Prelude.{◌≡◌, IfOk, true, false};
+ghost use Rattle.std.specs.Prelude.{◌≡◌, IfOk, IsTrue, IsFalse};
 ghost use Rattle.tab_model.specs.Shared.{is_found};
 ghost use Rattle.tab_lists.specs.Answers.{answer_term};
 ghost use Rattle.tab_proto.specs.Replies.{reply_term, is_told};
@@ -13,7 +13,7 @@ use tab_model::{Reply, SharedReply};
 /// The answer that a reply to an operation or to an abort is. A list is handed on as it stands:
 /// memory is taken for the reason of an abort alone.
 pub fn answer_of(alloc: Global, told: SharedReply) -> Result<Answer, AllocError>
-    requires { is_told told ≡ true }
+    requires { IsTrue (is_told told) }
     ensures { IfOk result (λ a. answer_term a ≡ reply_term told) }
 {
     match told.into_found() {
@@ -23,8 +23,8 @@ pub fn answer_of(alloc: Global, told: SharedReply) -> Result<Answer, AllocError>
 }
 
 fn answer_without_rows(alloc: Global, reply: &Reply) -> Result<Answer, AllocError>
-    requires told { is_told reply.now ≡ true }
-    requires rows { is_found reply.now ≡ false }
+    requires told { IsTrue (is_told reply.now) }
+    requires rows { IsFalse (is_found reply.now) }
     ensures { IfOk result (λ a. answer_term a ≡ reply_term reply.now) }
 {
     match reply {

@@ -1,6 +1,6 @@
 //! Several records of a key, by the numbers of their writes.
 
-ghost use Rattle.std.specs.Prelude.{◌≡◌, [], ◌∷◌, ◌++◌, IfOk, IfSome, OnOk, OnErr, MatchOption, length, not, false};
+ghost use Rattle.std.specs.Prelude.{◌≡◌, [], ◌∷◌, ◌++◌, IfOk, IfSome, OnOk, OnErr, MatchOption, length, not, IsFalse};
 ghost use Rattle.std.specs.List.{filter, list_any};
 ghost use Rattle.std.specs.Option.{option_copied};
 ghost use Rattle.tab_term.specs.Same.{same};
@@ -43,7 +43,9 @@ impl Model for Numbered {
 
     ghost view = { λ a. records_in a.by_number };
 
-    ghost invariant = { λ a. MatchOption a.numbers (a.by_number ≡ []) (λ n. IsNumbered a.by_number n.value.by_record n.value.next n.value.count) };
+    ghost invariant = { λ a.
+        MatchOption a.numbers (a.by_number ≡ [])
+        (λ n. IsNumbered a.by_number n.value.by_record n.value.next n.value.count) };
 }
 
 // A derived drop would be taken apart, field by field, at each exit of each caller.
@@ -112,7 +114,7 @@ impl Numbered {
         row: &Term,
         lender: Option<&Numbered>,
     ) -> Result<(), AllocError>
-        requires { list_any (same (term row.now)) self.old ≡ false }
+        requires { IsFalse (list_any (same (term row.now)) self.old) }
         ensures ok { OnOk result (self.new ≡ self.old ++ term row.now ∷ []) }
         ensures err { OnErr result (self.new ≡ self.old) }
     {
@@ -198,7 +200,8 @@ fn numbers_of(
     records: &Map<u64, Entry<Term, u64>>,
     numbers: &Option<Arc<Numbers, Global>>,
 ) -> Result<Numbers, AllocError>
-    requires { MatchOption numbers.now (records.now ≡ []) (λ n. IsNumbered records.now n.value.by_record n.value.next n.value.count) }
+    requires { MatchOption numbers.now (records.now ≡ [])
+        (λ n. IsNumbered records.now n.value.by_record n.value.next n.value.count) }
     ensures { IfOk result (λ n. IsNumbered records.now n.by_record n.next n.count) }
 {
     match numbers {

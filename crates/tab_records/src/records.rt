@@ -1,6 +1,6 @@
 //! The records of one key.
 
-ghost use Rattle.std.specs.Prelude.{◌≡◌, [], ◌∷◌, ◌++◌, IfOk, OnOk, OnErr, MatchOption, not, false};
+ghost use Rattle.std.specs.Prelude.{◌≡◌, [], ◌∷◌, ◌++◌, IfOk, OnOk, OnErr, MatchOption, not, IsFalse};
 ghost use Rattle.std.specs.List.{filter, list_any};
 ghost use Rattle.tab_term.specs.Data.{none, one_more, count, plain_terms, terms_list};
 ghost use Rattle.tab_term.specs.Same.{same};
@@ -100,7 +100,8 @@ impl Records {
 
     /// The record that was inserted first.
     pub fn first(&self) -> Option<&Term>
-        ensures { MatchOption result (self.now ≡ none) (λ first. first_of self.now ≡ term first.now ∷ []) }
+        ensures { MatchOption result (self.now ≡ none)
+            (λ first. first_of self.now ≡ term first.now ∷ []) }
     {
         match &self.form {
             Form::One(record) => Some(record),
@@ -113,7 +114,8 @@ impl Records {
 
     /// The records by the numbers of their writes. None where one stands by itself.
     pub fn by_number(&self) -> Option<&Map<u64, Entry<Term, u64>>>
-        ensures { MatchOption result (count self.now ≡ 1) (λ records. records_in records.now ≡ terms_list self.now) }
+        ensures { MatchOption result (count self.now ≡ 1)
+            (λ records. records_in records.now ≡ terms_list self.now) }
     {
         match &self.form {
             Form::One(_) => None,
@@ -164,7 +166,9 @@ impl Records {
 
     /// The other records. Of several they are shared with these.
     pub fn without(&self, alloc: Global, row: &Term) -> Result<Records, AllocError>
-        ensures { IfOk result (λ left. left ≡ plain_terms (filter (λ x. not (same (term row.now) x)) (terms_list self.now))) }
+        ensures { IfOk result
+            (λ left. left
+            ≡ plain_terms (filter (λ x. not (same (term row.now) x)) (terms_list self.now))) }
     {
         match &self.form {
             Form::One(only) if row == only => Ok(Records::new()),
@@ -194,7 +198,7 @@ fn both(
     second: &Term,
     lender: Option<&Numbered>,
 ) -> Result<Numbered, AllocError>
-    requires { same (term second.now) (term first.now) ≡ false }
+    requires { IsFalse (same (term second.now) (term first.now)) }
     ensures { IfOk result (λ all. all ≡ term first.now ∷ term second.now ∷ []) }
 {
     let mut records = Numbered::new();

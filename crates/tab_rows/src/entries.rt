@@ -1,6 +1,6 @@
 //! A record as the only one of its key.
 
-ghost use Rattle.std.specs.Prelude.{◌≡◌, [], ◌∷◌, IfOk, IfSome, true};
+ghost use Rattle.std.specs.Prelude.{◌≡◌, [], ◌∷◌, IfOk, IfSome, IsTrue};
 ghost use Rattle.std.specs.Option.{option_copied};
 ghost use Rattle.tab_term.specs.View.{term};
 ghost use Rattle.tab_model.specs.Names.{terms_list};
@@ -37,7 +37,7 @@ pub fn copy_of_key(alloc: Global, row: &Term) -> Result<Term, AllocError>
 
 // Whether this is the one record among these.
 fn is_only(records: &Records, row: &Term) -> bool
-    ensures { result ≡ true → terms_list records.now ≡ term row.now ∷ [] }
+    ensures { IsTrue result → terms_list records.now ≡ term row.now ∷ [] }
 {
     match records.first() {
         Some(first) => records.len() == 1 && first == row,

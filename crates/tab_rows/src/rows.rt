@@ -111,7 +111,8 @@ impl Rows {
 
     /// The key with its records, in the order of their insertion. None where it has none.
     pub fn entry(&self, key: &Term) -> Option<&Entry<Term, Records>>
-        ensures { MatchOption result (at self.now.1 (term key.now) ≡ []) (λ e. e.now.1 ≡ plain_terms (at self.now.1 (term key.now))) }
+        ensures { MatchOption result (at self.now.1 (term key.now) ≡ [])
+            (λ e. e.now.1 ≡ plain_terms (at self.now.1 (term key.now))) }
     {
         self.records.get_entry(key)
     }
@@ -138,7 +139,9 @@ impl Rows {
 
     // The records of the key but those that are equal to this one.
     fn others_at(&self, alloc: Global, key: &Term, row: &Term) -> Result<Records, AllocError>
-        ensures { IfOk result (λ left. left ≡ plain_terms (delete_object_in (at self.now.1 (term key.now)) (term row.now))) }
+        ensures { IfOk result
+            (λ left. left
+            ≡ plain_terms (delete_object_in (at self.now.1 (term key.now)) (term row.now))) }
     {
         match self.entry(key) {
             Some(entry) => entry.pair().1.without(alloc, row),
@@ -165,7 +168,8 @@ impl Rows {
         row: &Term,
         lender: Option<&Map<Term, Records>>,
     ) -> Result<(), AllocError>
-        ensures ok { OnOk result (self.new ≡ (self.old.0, put_in self.old.0 self.old.1 (term row.now))) }
+        ensures ok { OnOk result
+            (self.new ≡ (self.old.0, put_in self.old.0 self.old.1 (term row.now))) }
         ensures err { OnErr result (self.new ≡ self.old) }
     {
         match self.kind {
@@ -181,7 +185,8 @@ impl Rows {
         lender: Option<&Map<Term, Records>>,
     ) -> Result<(), AllocError>
         requires kind { self.old.0 ≡ Kind.Set }
-        ensures ok { OnOk result (self.new ≡ (self.old.0, put_in self.old.0 self.old.1 (term row.now))) }
+        ensures ok { OnOk result
+            (self.new ≡ (self.old.0, put_in self.old.0 self.old.1 (term row.now))) }
         ensures err { OnErr result (self.new ≡ self.old) }
     {
         let size = one_more(self.size)?;
@@ -198,7 +203,8 @@ impl Rows {
         lender: Option<&Map<Term, Records>>,
     ) -> Result<(), AllocError>
         requires kind { self.old.0 ≡ Kind.Bag }
-        ensures ok { OnOk result (self.new ≡ (self.old.0, put_in self.old.0 self.old.1 (term row.now))) }
+        ensures ok { OnOk result
+            (self.new ≡ (self.old.0, put_in self.old.0 self.old.1 (term row.now))) }
         ensures err { OnErr result (self.new ≡ self.old) }
     {
         let key = copy_of_key(alloc, row)?;
@@ -226,7 +232,8 @@ impl Rows {
     ) -> Result<(), AllocError>
         requires kind { self.old.0 ≡ Kind.Bag }
         requires absent { at self.old.1 (key_of_row (term row.now)) ≡ [] }
-        ensures ok { OnOk result (self.new ≡ (self.old.0, put_in self.old.0 self.old.1 (term row.now))) }
+        ensures ok { OnOk result
+            (self.new ≡ (self.old.0, put_in self.old.0 self.old.1 (term row.now))) }
         ensures err { OnErr result (self.new ≡ self.old) }
     {
         let size = one_more(self.size)?;
@@ -249,7 +256,8 @@ impl Rows {
 
     /// Takes out the equal record, if it is there. A key that has no other record goes with it.
     pub fn delete_object(&mut self, alloc: Global, row: &Term) -> Result<(), AllocError>
-        ensures ok { OnOk result (self.new ≡ (self.old.0, delete_object_in self.old.1 (term row.now))) }
+        ensures ok { OnOk result
+            (self.new ≡ (self.old.0, delete_object_in self.old.1 (term row.now))) }
         ensures err { OnErr result (self.new ≡ self.old) }
     {
         let key = copy_of_key(alloc, row)?;

@@ -61,7 +61,9 @@ fn bad_option<'a>(table: &Atom, options: &'a [Term]) -> Option<&'a Term>
 
 /// The name and the value of a term that is an option.
 fn option_of<'a>(table: &Atom, held: &'a Term) -> Option<(&'a str, &'a Term)>
-    ensures some { IfSome result (λ o. (option_name table.now (term held.now) ≡ Some o.0.now) × (value_in (term held.now) ≡ term o.1.now)) }
+    ensures some { IfSome result
+        (λ o. (option_name table.now (term held.now) ≡ Some o.0.now)
+        × (value_in (term held.now) ≡ term o.1.now)) }
     ensures none { IfNone result (option_name table.now (term held.now) ≡ None) }
 {
     let Term::Tuple(parts) = held else {
@@ -112,7 +114,9 @@ fn value_of<'a>(table: &Atom, name: &str, options: &'a [Term]) -> Option<&'a Ter
 
 #[tactic(auto, using(crate::proofs::OptionsLemmas::value_is))]
 fn kind_of(table: &Atom, options: &[Term]) -> Kind
-    ensures { result ≡ kind_in (value_in_options table.now (codes "type") (atom_of (codes "set")) (terms options.now)) }
+    ensures { result
+        ≡ kind_in (value_in_options table.now (codes "type") (atom_of (codes "set"))
+        (terms options.now)) }
 {
     match value_of(table, "type", options) {
         Some(value) if is_word(value, "bag") => Kind::Bag,
@@ -122,7 +126,10 @@ fn kind_of(table: &Atom, options: &[Term]) -> Kind
 
 #[tactic(auto, using(crate::proofs::OptionsLemmas::value_is))]
 fn attributes_of(alloc: Global, table: &Atom, options: &[Term]) -> Result<Option<Atoms>, AllocError>
-    ensures { IfOk result (λ names. names ≡ attributes_in_term (value_in_options table.now (codes "attributes") default_names (terms options.now))) }
+    ensures { IfOk result
+        (λ names. names
+        ≡ attributes_in_term
+        (value_in_options table.now (codes "attributes") default_names (terms options.now))) }
 {
     match value_of(table, "attributes", options) {
         None => Ok(Some(default_attributes(alloc)?)),
@@ -145,7 +152,8 @@ fn default_attributes(alloc: Global) -> Result<Atoms, AllocError>
 fn indexed(alloc: Global, def: TableDef, entries: &[Term]) -> Result<TableDef, DefFault>
     requires { def.indexes ≡ [] }
     ensures ok { IfOk result (λ d. with_index_option def (list_of (terms entries.now)) ≡ Good d) }
-    ensures bad { IfErr result (Blames (λ what. with_index_option def (list_of (terms entries.now)) ≡ Bad what)) }
+    ensures bad { IfErr result
+        (Blames (λ what. with_index_option def (list_of (terms entries.now)) ≡ Bad what)) }
 {
     let mut indexes = Vec::new(alloc);
     let mut fault = None;

@@ -41,7 +41,8 @@ pub fn answer(core: &mut Core<RingPost>, alloc: Global, outbox: usize, payload: 
 }
 
 fn answer_to(core: &mut Core<RingPost>, alloc: Global, outbox: usize, held: Term) -> Answer
-    ensures { AnsweredTerm outbox core.old (term held) result core.new ⊎ RefusedTerm outbox core.old (term held) result core.new }
+    ensures { AnsweredTerm outbox core.old (term held) result core.new
+        ⊎ RefusedTerm outbox core.old (term held) result core.new }
 {
     let number = number_of(&held);
     match read_request(alloc, held) {
@@ -104,7 +105,8 @@ fn join(core: &mut Core<RingPost>, alloc: Global, outbox: usize, session: u32) -
 
 /// What a session is told that may not join.
 fn join_refusal(core: &Core<RingPost>, session: u32) -> Option<Reply>
-    ensures { MatchOption result (JoinTakesMemory core.now session) (IsJoinRefused core.now session) }
+    ensures { MatchOption result (JoinTakesMemory core.now session)
+        (IsJoinRefused core.now session) }
 {
     if core.joined(u64::from(session)) {
         return Some(Reply::BadSession);
@@ -124,7 +126,8 @@ fn reply_to_command(
     session: u32,
     command: Command,
 ) -> SharedReply
-    ensures { (outbox : ℕ) → RepliesTo outbox core.old session (request.Do command) result core.new }
+    ensures { (outbox : ℕ)
+        → RepliesTo outbox core.old session (request.Do command) result core.new }
 {
     if is_one_shot(&command) {
         return drive(core, alloc, session, command);
@@ -170,7 +173,8 @@ pub fn put_answer(answer: &Answer, most: usize, out: &mut Vec<u8>) -> Result<(),
 /// Writes the frame of `{Session, Reply}`, and takes no memory.
 #[tactic(auto, unfolding(crate::specs::AnsweredPayloads::answer_frame))]
 pub fn write_answer<W: Target>(answer: &Answer, output: &mut W) -> Result<(), Ended>
-    ensures handed { Handed answer.now (W.contents output.old) (W.contents output.new) [] [] result }
+    ensures handed { Handed answer.now (W.contents output.old)
+        (W.contents output.new) [] [] result }
     ensures faults { OneFault (W.faults output.old) (W.faults output.new) result }
 {
     match write_reply(output, Some(answer.session), answer.reply.reply()) {

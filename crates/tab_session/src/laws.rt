@@ -1,6 +1,6 @@
 //! What a run over a stream's payloads says, and what a one-shot leaves. Each law is the contract of a function that does nothing.
 
-ghost use Rattle.std.specs.Prelude.{◌≡◌, ◌≢◌, ◌++◌, ℕ, suc, List, [], length, false, true, Some, None};
+ghost use Rattle.std.specs.Prelude.{◌≡◌, ◌≢◌, ◌++◌, ℕ, suc, List, [], length, IsFalse, IsTrue, Some, None};
 ghost use Rattle.tab_term.specs.Data.{PlainTerms};
 ghost use Rattle.tab_model.specs.declared.data.Command.{Command as CommandOf};
 ghost use Rattle.tab_model.specs.declared.data.Command.TheVariants as command;
@@ -29,31 +29,48 @@ ghost use Rattle.tab_session.specs.Replays.{IsRun};
 /// beginning of what the log owes it. That log is the one that the run's callers can tell, who see what they asked and were told,
 /// and nothing of the state.
 pub fn runs_have_a_history()
-    ensures sound { (outbox : ℕ) (σ : State) (ps : List (List ℕ)) (xs : List AnswerOf) (s : IsRun outbox σ ps xs) → IsSound σ → IsSound s.last }
-    ensures rising { (outbox : ℕ) (σ : State) (ps : List (List ℕ)) (xs : List AnswerOf) (s : IsRun outbox σ ps xs) → IsSound σ → IsRising σ → IsRising s.last }
-    ensures tied { (outbox : ℕ) (σ : State) (ps : List (List ℕ)) (xs : List AnswerOf) (s : IsRun outbox σ ps xs) (log : List Entry) (taken : ℕ → List Item) → IsSound σ → IsTied σ log taken → IsTied s.last (log ++ (account outbox σ ps xs s).log) (λ m. taken m ++ taken_by m xs) }
-    ensures told { (outbox : ℕ) (σ : State) (ps : List (List ℕ)) (xs : List AnswerOf) (s : IsRun outbox σ ps xs) (ks : Callers) → AreHeard σ ks → let a = account outbox σ ps xs s in a.log ≡ log_of_replies ks (calls_in a.exchanges) (replies_in a.exchanges) }
-    ensures heard { (outbox : ℕ) (σ : State) (ps : List (List ℕ)) (xs : List AnswerOf) (s : IsRun outbox σ ps xs) (ks : Callers) → AreHeard σ ks → let a = account outbox σ ps xs s in AreHeard s.last (callers_after ks (calls_in a.exchanges) (replies_in a.exchanges)) }
+    ensures sound { (outbox : ℕ) (σ : State) (ps : List (List ℕ)) (xs : List AnswerOf)
+        (s : IsRun outbox σ ps xs) → IsSound σ → IsSound s.last }
+    ensures rising { (outbox : ℕ) (σ : State) (ps : List (List ℕ)) (xs : List AnswerOf)
+        (s : IsRun outbox σ ps xs) → IsSound σ → IsRising σ → IsRising s.last }
+    ensures tied { (outbox : ℕ) (σ : State) (ps : List (List ℕ)) (xs : List AnswerOf)
+        (s : IsRun outbox σ ps xs) (log : List Entry) (taken : ℕ → List Item) → IsSound σ
+        → IsTied σ log taken
+        → IsTied s.last (log ++ (account outbox σ ps xs s).log) (λ m. taken m ++ taken_by m xs) }
+    ensures told { (outbox : ℕ) (σ : State) (ps : List (List ℕ)) (xs : List AnswerOf)
+        (s : IsRun outbox σ ps xs) (ks : Callers) → AreHeard σ ks
+        → let a = account outbox σ ps xs s in a.log
+        ≡ log_of_replies ks (calls_in a.exchanges) (replies_in a.exchanges) }
+    ensures heard { (outbox : ℕ) (σ : State) (ps : List (List ℕ)) (xs : List AnswerOf)
+        (s : IsRun outbox σ ps xs) (ks : Callers) → AreHeard σ ks
+        → let a = account outbox σ ps xs s in AreHeard s.last
+        (callers_after ks (calls_in a.exchanges) (replies_in a.exchanges)) }
 {}
 
 /// There is one answer to each payload; and where no memory was refused, the payloads alone say which: two runs over the
 /// same payloads say the same, from a state whose posts all have a capacity, as they have in a replay.
 pub fn an_answer_follows()
-    ensures each { (outbox : ℕ) (σ : State) (ps : List (List ℕ)) (xs : List AnswerOf) → IsRun outbox σ ps xs → length xs ≡ length ps }
-    ensures once { (outbox : ℕ) (σ : State) (ps : List (List ℕ)) (xs ys : List AnswerOf) → IsBounded σ → NoneRefused xs → NoneRefused ys → IsRun outbox σ ps xs → IsRun outbox σ ps ys → xs ≡ ys }
+    ensures each { (outbox : ℕ) (σ : State) (ps : List (List ℕ)) (xs : List AnswerOf)
+        → IsRun outbox σ ps xs → length xs ≡ length ps }
+    ensures once { (outbox : ℕ) (σ : State) (ps : List (List ℕ)) (xs ys : List AnswerOf)
+        → IsBounded σ → NoneRefused xs → NoneRefused ys → IsRun outbox σ ps xs
+        → IsRun outbox σ ps ys → xs ≡ ys }
 {}
 
 /// Where all payloads are of one session, and no other sits, no answer is a wait or a restart.
 pub fn one_session_never_waits()
-    ensures { (outbox n : ℕ) (σ : State) (ps : List (List ℕ)) (xs : List AnswerOf) → AreOf n ps → IsSole n σ → IsRun outbox σ ps xs → NoneWaits xs }
+    ensures { (outbox n : ℕ) (σ : State) (ps : List (List ℕ)) (xs : List AnswerOf) → AreOf n ps
+        → IsSole n σ → IsRun outbox σ ps xs → NoneWaits xs }
 {}
 
 /// A one-shot that is driven on a session with no transaction leaves it with none, whatever the reply; and where each queued
 /// request is of an open transaction, as in every reached state, it leaves none of its own. Its parts nest, as those of every
 /// request do.
 pub fn a_one_shot_leaves_nothing_open()
-    ensures levels { (σ μ : State) (n : ℕ) (c : CommandOf) (r : ReplyOf) → is_command c ≡ true → transaction_at σ n ≡ None → IsDriven σ n c r μ → transaction_at μ n ≡ None }
-    ensures queue { (σ μ : State) (n : ℕ) (c : CommandOf) (r : ReplyOf) → is_command c ≡ true → IsRising σ → transaction_at σ n ≡ None → IsDriven σ n c r μ → is_waiting μ n ≡ false }
+    ensures levels { (σ μ : State) (n : ℕ) (c : CommandOf) (r : ReplyOf) → IsTrue (is_command c)
+        → transaction_at σ n ≡ None → IsDriven σ n c r μ → transaction_at μ n ≡ None }
+    ensures queue { (σ μ : State) (n : ℕ) (c : CommandOf) (r : ReplyOf) → IsTrue (is_command c)
+        → IsRising σ → transaction_at σ n ≡ None → IsDriven σ n c r μ → IsFalse (is_waiting μ n) }
 {}
 
 /// The reply says what such a one-shot has done. With `{atomic, Replies}` it has committed once, and Replies and the tables are
@@ -61,9 +78,21 @@ pub fn a_one_shot_leaves_nothing_open()
 /// sits; its log is that commit, which was told what it is told alone. With any other reply it has committed nothing, the tables
 /// are as before it, and it has no log.
 pub fn a_one_shot_is_told_what_it_did()
-    ensures commit { (σ μ : State) (n : ℕ) (c : CommandOf) (ts : PlainTerms) → is_command c ≡ true → transaction_at σ n ≡ None → IsDriven σ n c (reply.AtomicTerms ts) μ → μ.commits ≡ suc σ.commits }
-    ensures alone { (σ μ : State) (n : ℕ) (parts : List PartOf) (retries : ℕ) (ts : PlainTerms) → is_command (command.OneShot parts retries) ≡ true → transaction_at σ n ≡ None → IsDriven σ n (command.OneShot parts retries) (reply.AtomicTerms ts) μ → run_alone parts σ.tables σ.next_age ≡ Some (record { replies = ts; tables = μ.tables }) }
-    ensures undone { (σ μ : State) (n : ℕ) (c : CommandOf) (r : ReplyOf) → is_command c ≡ true → transaction_at σ n ≡ None → IsDriven σ n c r μ → ((ts : PlainTerms) → r ≢ reply.AtomicTerms ts) → (μ.tables ≡ σ.tables) × (μ.commits ≡ σ.commits) }
-    ensures entry { (σ μ : State) (n : ℕ) (c : CommandOf) (ts : PlainTerms) → is_command c ≡ true → IsSound σ → transaction_at σ n ≡ None → (d : IsDriven σ n c (reply.AtomicTerms ts) μ) → IsOneCommit σ n (of_calls n σ d.calls μ d.ran).log μ }
-    ensures no_entry { (σ μ : State) (n : ℕ) (c : CommandOf) (r : ReplyOf) → is_command c ≡ true → IsSound σ → transaction_at σ n ≡ None → (d : IsDriven σ n c r μ) → ((ts : PlainTerms) → r ≢ reply.AtomicTerms ts) → (of_calls n σ d.calls μ d.ran).log ≡ [] }
+    ensures commit { (σ μ : State) (n : ℕ) (c : CommandOf) (ts : PlainTerms) → IsTrue (is_command c)
+        → transaction_at σ n ≡ None → IsDriven σ n c (reply.AtomicTerms ts) μ
+        → μ.commits ≡ suc σ.commits }
+    ensures alone { (σ μ : State) (n : ℕ) (parts : List PartOf) (retries : ℕ) (ts : PlainTerms)
+        → IsTrue (is_command (command.OneShot parts retries)) → transaction_at σ n ≡ None
+        → IsDriven σ n (command.OneShot parts retries) (reply.AtomicTerms ts) μ
+        → run_alone parts σ.tables σ.next_age ≡ Some (record { replies = ts; tables = μ.tables }) }
+    ensures undone { (σ μ : State) (n : ℕ) (c : CommandOf) (r : ReplyOf) → IsTrue (is_command c)
+        → transaction_at σ n ≡ None → IsDriven σ n c r μ
+        → ((ts : PlainTerms) → r ≢ reply.AtomicTerms ts)
+        → (μ.tables ≡ σ.tables) × (μ.commits ≡ σ.commits) }
+    ensures entry { (σ μ : State) (n : ℕ) (c : CommandOf) (ts : PlainTerms) → IsTrue (is_command c)
+        → IsSound σ → transaction_at σ n ≡ None → (d : IsDriven σ n c (reply.AtomicTerms ts) μ)
+        → IsOneCommit σ n (of_calls n σ d.calls μ d.ran).log μ }
+    ensures no_entry { (σ μ : State) (n : ℕ) (c : CommandOf) (r : ReplyOf) → IsTrue (is_command c)
+        → IsSound σ → transaction_at σ n ≡ None → (d : IsDriven σ n c r μ)
+        → ((ts : PlainTerms) → r ≢ reply.AtomicTerms ts) → (of_calls n σ d.calls μ d.ran).log ≡ [] }
 {}

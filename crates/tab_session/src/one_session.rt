@@ -1,6 +1,6 @@
 //! One session of a core, as a one-shot's driver uses it.
 
-ghost use Rattle.std.specs.Prelude.{◌≡◌, List, true, IsOk};
+ghost use Rattle.std.specs.Prelude.{◌≡◌, List, IsTrue, IsOk};
 ghost use Rattle.tab_model.specs.Outcome.{DoCommand, is_abort};
 ghost use Rattle.tab_oneshot.specs.Calls.{Call, answer_in};
 ghost use Rattle.tab_oneshot.specs.OneShots.{is_one_shot, IsOneShot};
@@ -19,8 +19,9 @@ fn hand_in(
     session: u32,
     command: Command,
 ) -> Result<SharedReply, AllocError>
-    ensures made { StepMadeOrRefused core.old session (DoCommand command) (answer_in result) core.new }
-    ensures abort { is_abort command ≡ true → IsOk result }
+    ensures made { StepMadeOrRefused core.old session (DoCommand command)
+        (answer_in result) core.new }
+    ensures abort { IsTrue (is_abort command) → IsOk result }
 {
     match core.step(session, Step::Do(command)) {
         Ok(stepped) => Ok(stepped.into_reply()),
@@ -61,8 +62,9 @@ pub fn drive(
     session: u32,
     command: Command,
 ) -> SharedReply
-    requires { is_one_shot command ≡ true }
-    ensures { (calls : List Call) × Ran session core.old calls core.new × IsOneShot command calls result }
+    requires { IsTrue (is_one_shot command) }
+    ensures { (calls : List Call) × Ran session core.old calls core.new
+        × IsOneShot command calls result }
 {
     let mut slot = OneSession { core, session };
     let reply = one_shot(&mut slot, alloc, command);

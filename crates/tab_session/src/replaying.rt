@@ -1,6 +1,6 @@
 //! A whole stream of requests.
 
-ghost use Rattle.std.specs.Prelude.{◌≡◌, ◌≢◌, [], None, true, ◌<◌, ◌-◌, ◌^◌, length, IfSome, IfErr, OnOk};
+ghost use Rattle.std.specs.Prelude.{◌≡◌, ◌≢◌, [], None, IsTrue, ◌<◌, ◌-◌, ◌^◌, length, IfSome, IfErr, OnOk};
 ghost use Rattle.tab_etf.specs.Streams.{payloads, rest_of};
 ghost use Rattle.tab_session.specs.declared.ended.Ended.TheVariants.{Damaged};
 ghost use Rattle.tab_session.specs.Replays.{Replayed, Faults, HasFlushed, fresh};
@@ -39,8 +39,10 @@ fn run_all<R: Source, W: Target>(
     requires room { length piece.old ≡ 65536 }
     ensures bytes { IfSome (R.remaining input.old) (λ stream. length stream < 2 ^ 64 - 1 →
         Replayed outbox stream (R.remaining input.new) (W.contents output.old) (W.contents output.new) result) }
-    ensures faults { Faults (R.faults input.old) (R.faults input.new) (W.faults output.old) (W.faults output.new) result }
-    ensures flushed { W.is_flushed output.old ≡ true → HasFlushed result (W.is_flushed output.new) }
+    ensures faults { Faults (R.faults input.old) (R.faults input.new) (W.faults output.old)
+        (W.faults output.new) result }
+    ensures flushed { IsTrue (W.is_flushed output.old)
+        → HasFlushed result (W.is_flushed output.new) }
 {
     for round in 0..u64::MAX {
         // How it ends where nothing more comes; and so no whole frame is held.
@@ -58,7 +60,8 @@ fn run_all<R: Source, W: Target>(
 fn end_of_stream(splitter: &Splitter) -> Result<(), Ended>
     ensures found { splitter.now.over ≡ None → payloads splitter.now.rest ≡ [] }
     ensures ok { OnOk result (rest_of splitter.now.rest ≡ []) }
-    ensures err { IfErr result (λ e. (e ≡ Damaged) × (splitter.now.over ≡ None → rest_of splitter.now.rest ≢ [])) }
+    ensures err { IfErr result
+        (λ e. (e ≡ Damaged) × (splitter.now.over ≡ None → rest_of splitter.now.rest ≢ [])) }
 {
     match splitter.finish() {
         Ok(()) => Ok(()),
@@ -79,8 +82,10 @@ pub fn replay<R: Source, W: Target>(
 ) -> Result<(), Ended>
     ensures bytes { IfSome (R.remaining input.old) (λ stream. length stream < 2 ^ 64 - 1 →
         Replayed outbox stream (R.remaining input.new) (W.contents output.old) (W.contents output.new) result) }
-    ensures faults { Faults (R.faults input.old) (R.faults input.new) (W.faults output.old) (W.faults output.new) result }
-    ensures flushed { W.is_flushed output.old ≡ true → HasFlushed result (W.is_flushed output.new) }
+    ensures faults { Faults (R.faults input.old) (R.faults input.new) (W.faults output.old)
+        (W.faults output.new) result }
+    ensures flushed { IsTrue (W.is_flushed output.old)
+        → HasFlushed result (W.is_flushed output.new) }
 {
     let mut core = Core::new(alloc, LIMITS);
     let mut splitter = Splitter::new(alloc);

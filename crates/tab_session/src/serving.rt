@@ -1,6 +1,6 @@
 //! The frames of one piece of the stream, and what is written for them.
 
-ghost use Rattle.std.specs.Prelude.{◌≡◌, ◌+◌, ◌<◌, ◌≤◌, ℕ, List, Option, [], None, true, length, OnOk};
+ghost use Rattle.std.specs.Prelude.{◌≡◌, ◌+◌, ◌<◌, ◌≤◌, ℕ, List, Option, [], None, IsTrue, length, OnOk};
 ghost use Rattle.std.specs.Io.KnownBytes.{Consumes};
 ghost use Rattle.tab_etf.specs.Frames.{contents, payload_of};
 ghost use Rattle.tab_etf.specs.Streams.{payloads};
@@ -31,7 +31,8 @@ fn payload_in(frame: &Frame) -> &[u8]
 /// Keeps the frame of a reply until there are some to be written at once. Where it is long, or no memory is found to keep it in, what is
 /// kept is written, and then this frame by itself.
 fn put<W: Target>(answer: &Answer, buffer: &mut Vec<u8>, output: &mut W) -> Result<(), Ended>
-    ensures handed { Handed answer.now (W.contents output.old) (W.contents output.new) buffer.old.items buffer.new.items result }
+    ensures handed { Handed answer.now (W.contents output.old)
+        (W.contents output.new) buffer.old.items buffer.new.items result }
     ensures faults { OneFault (W.faults output.old) (W.faults output.new) result }
 {
     match put_answer(answer, LONG, buffer) {
@@ -58,9 +59,10 @@ fn serve_all<W: Target>(
     frames: &[Frame],
     output: &mut W,
 ) -> Result<(), Ended>
-    ensures served { Served outbox core.old core.new (contents frames.now) (W.contents output.old) (W.contents output.new) result }
+    ensures served { Served outbox core.old core.new (contents frames.now) (W.contents output.old)
+        (W.contents output.new) result }
     ensures faults { OneFault (W.faults output.old) (W.faults output.new) result }
-    ensures flushed { OnOk result (W.is_flushed output.new ≡ true) }
+    ensures flushed { OnOk result (IsTrue (W.is_flushed output.new)) }
 {
     let mut buffer = Vec::new(alloc);
     for frame in frames {

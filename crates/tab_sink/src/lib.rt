@@ -2,7 +2,7 @@
 
 #![tactic(auto)]
 
-ghost use Rattle.std.specs.Prelude.{◌≡◌, ◌+◌, ℕ, Bool, true, false, min, take, OnOk, OnErr, IsErr};
+ghost use Rattle.std.specs.Prelude.{◌≡◌, ◌+◌, ℕ, Bool, IsTrue, IsFalse, min, take, OnOk, OnErr, IsErr};
 ghost use Rattle.std.specs.Io.KnownBytes.{Appends};
 
 use std::io::Write;
@@ -19,7 +19,8 @@ pub struct Sink<W> {
 impl<W: Write> Sink<W> {
     /// A device that has not failed.
     pub fn new(writer: W) -> Sink<W>
-        ensures { (result.broken ≡ false) × (result.device.inner ≡ writer) × (result.device.faults ≡ 0) }
+        ensures { (IsFalse result.broken) × (result.device.inner ≡ writer)
+            × (result.device.faults ≡ 0) }
     {
         Sink {
             device: Counted::new(writer),
@@ -30,10 +31,18 @@ impl<W: Write> Sink<W> {
     /// Writes frames, or the next piece of one. Once a write has failed nothing is written any more: of the bytes in which it
     /// failed a beginning is.
     pub fn put(&mut self, frames: &[u8]) -> Result<(), Broken>
-        ensures ok { OnOk result ((self.old.broken ≡ false) × (self.new.broken ≡ false) × Appends (W.contents self.old.device.inner) (W.contents self.new.device.inner) frames.now) }
+        ensures ok { OnOk result
+            ((IsFalse self.old.broken) × (IsFalse self.new.broken)
+            × Appends (W.contents self.old.device.inner)
+            (W.contents self.new.device.inner) frames.now) }
         ensures same { OnOk result (self.new.device.faults ≡ self.old.device.faults) }
-        ensures first { self.old.broken ≡ false → OnErr result ((self.new.broken ≡ true) × (self.new.device.faults ≡ min (self.old.device.faults + 1) u64.MAX) × ((n : ℕ) × Appends (W.contents self.old.device.inner) (W.contents self.new.device.inner) (take n frames.now))) }
-        ensures later { self.old.broken ≡ true → IsErr result × (self.new ≡ self.old) }
+        ensures first { IsFalse self.old.broken
+            → OnErr result
+            ((IsTrue self.new.broken)
+            × (self.new.device.faults ≡ min (self.old.device.faults + 1) u64.MAX)
+            × ((n : ℕ) × Appends (W.contents self.old.device.inner)
+            (W.contents self.new.device.inner) (take n frames.now))) }
+        ensures later { IsTrue self.old.broken → IsErr result × (self.new ≡ self.old) }
     {
         if self.broken {
             return Err(Broken);

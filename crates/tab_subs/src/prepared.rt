@@ -29,7 +29,8 @@ impl Model for Prepared {
 
     ghost coded = { Prim.hlevel (codes, terms_code, pairs_code) };
 
-    ghost view = { λ a. record { number = a.number; items = map option_to_list a.due.items; ended = a.ended } };
+    ghost view = { λ a.
+        record { number = a.number; items = map option_to_list a.due.items; ended = a.ended } };
 
     ghost invariant = { λ a. (a.over.items ≡ []) × (length a.due.items ≤ vec_capacity a.over) };
 }
@@ -41,7 +42,8 @@ pub fn with_room(
     due: VecDeque<Option<Item>>,
     ended: Option<Atom>,
 ) -> Result<Prepared, AllocError>
-    ensures { IfOk result (λ p. p ≡ record { number = number; items = map option_to_list due.items; ended = ended }) }
+    ensures { IfOk result
+        (λ p. p ≡ record { number = number; items = map option_to_list due.items; ended = ended }) }
 {
     let over = Vec::with_capacity(alloc, due.len())?;
     Ok(Prepared {

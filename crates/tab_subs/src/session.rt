@@ -41,7 +41,14 @@ impl<P: Post> Model for Session<P> {
 
     ghost coded = { Prim.hlevel (codes, terms_code, pairs_code) };
 
-    ghost view = { λ a. record { number = a.number; watching = a.watching.items; outbox = P.outbox a.post; overflow = a.overflow } };
+    ghost view = { λ a.
+        record {
+          number = a.number;
+          watching = a.watching.items;
+          outbox = P.outbox a.post;
+          overflow
+              = a.overflow;
+        } };
 }
 
 impl<P: Post + Drop> Session<P> {
@@ -106,8 +113,13 @@ impl<P: Post + Drop> Session<P> {
         level: Level,
         dump: Option<SharedTerms>,
     ) -> Result<Marked, AllocError>
-        ensures ok { IfOk result (λ m. self.new ≡ marked m (record { table = table; level = level } ∷ self.old.watching) (Item.Began table level dump) self.old) }
-        ensures decided { IfOk result (λ m. IfSome self.old.outbox.capacity (λ c. is_full m ≡ nat_le c (length self.old.outbox.items))) }
+        ensures ok { IfOk result
+            (λ m. self.new
+            ≡ marked m (record { table = table; level = level } ∷ self.old.watching)
+            (Item.Began table level dump) self.old) }
+        ensures decided { IfOk result
+            (λ m. IfSome self.old.outbox.capacity
+            (λ c. is_full m ≡ nat_le c (length self.old.outbox.items))) }
         ensures err { OnErr result (self.new ≡ self.old) }
     {
         let named = table.try_clone(alloc)?;
@@ -121,8 +133,13 @@ impl<P: Post + Drop> Session<P> {
 
     /// Watches the table no more, with its end mark put.
     pub fn unsubscribe(&mut self, alloc: Global, table: &Atom) -> Result<Marked, AllocError>
-        ensures ok { IfOk result (λ m. self.new ≡ marked m (without_watch self.old.watching table.now) (Item.Ended table.now Ending.Unsubscribed) self.old) }
-        ensures decided { IfOk result (λ m. IfSome self.old.outbox.capacity (λ c. is_full m ≡ nat_le c (length self.old.outbox.items))) }
+        ensures ok { IfOk result
+            (λ m. self.new
+            ≡ marked m (without_watch self.old.watching table.now)
+            (Item.Ended table.now Ending.Unsubscribed) self.old) }
+        ensures decided { IfOk result
+            (λ m. IfSome self.old.outbox.capacity
+            (λ c. is_full m ≡ nat_le c (length self.old.outbox.items))) }
         ensures err { OnErr result (self.new ≡ self.old) }
     {
         let mark = Item::Ended(table.try_clone(alloc)?, Ending::Unsubscribed);
@@ -136,7 +153,9 @@ impl<P: Post + Drop> Session<P> {
     /// Puts an item that is due, unless the post refuses it, which ends all subscriptions. Where a table is gone, it is
     /// watched no more. Answers whether the item was refused.
     pub fn receive(&mut self, number: u64, item: Option<Item>, ended: Option<&Atom>) -> bool
-        ensures received { self.new ≡ received number result (option_to_list item) (unwatched (option_copied ended.entry) self.old) }
+        ensures received { self.new
+            ≡ received number result (option_to_list item)
+            (unwatched (option_copied ended.entry) self.old) }
         ensures decided { IsDecided result (option_to_list item) self.old.outbox }
     {
         if let Some(table) = ended {
@@ -160,7 +179,9 @@ impl<P: Post + Drop> Session<P> {
         commit: u64,
         events: &mut Vec<Shaped<'_>>,
     ) -> Result<Option<Item>, AllocError>
-        ensures item { IfOk result (λ item. option_to_list item ≡ batch_for (level_in self.now.watching) commit events.old.items) }
+        ensures item { IfOk result
+            (λ item. option_to_list item
+            ≡ batch_for (level_in self.now.watching) commit events.old.items) }
         ensures events { OnOk result (events.new.items ≡ events.old.items) }
     {
         let mut told = EventTerms::new(alloc);
@@ -178,7 +199,8 @@ impl<P: Post + Drop> Session<P> {
 
     /// The mark of a table's deletion, where the session watches it.
     pub fn end_mark(&self, alloc: Global, table: &Atom) -> Result<Option<Item>, AllocError>
-        ensures { IfOk result (λ item. option_to_list item ≡ end_for (level_in self.now.watching) (Some table.now)) }
+        ensures { IfOk result
+            (λ item. option_to_list item ≡ end_for (level_in self.now.watching) (Some table.now)) }
     {
         if self.level(table).is_none() {
             return Ok(None);
@@ -192,7 +214,8 @@ impl<P: Mailbox + Drop> Session<P> {
     pub fn meet(&mut self, end: &mut P::End) -> Met
         ensures same { self.new ≡ self.old }
         ensures end { P.mailbox end.new ≡ P.mailbox end.old }
-        ensures met { Tells self.old.outbox (P.mailbox end.old) (P.taken end.old) result (P.taken end.new) }
+        ensures met { Tells self.old.outbox (P.mailbox end.old) (P.taken end.old) result
+            (P.taken end.new) }
     {
         self.post.meet(end)
     }

@@ -33,7 +33,8 @@ impl<'a> Model for Shaped<'a> {
 
     ghost view = { λ a. a.event.now };
 
-    ghost invariant = { λ a. IfSome a.simple (λ e. event_term e ≡ shape Simple a.event.now) × IfSome a.detailed (λ e. event_term e ≡ shape Detailed a.event.now) };
+    ghost invariant = { λ a. IfSome a.simple (λ e. event_term e ≡ shape Simple a.event.now)
+        × IfSome a.detailed (λ e. event_term e ≡ shape Detailed a.event.now) };
 }
 
 impl<'a> Shaped<'a> {

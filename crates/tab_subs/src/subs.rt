@@ -103,7 +103,10 @@ impl<P: Post + Drop> Subs<P> {
         level: Level,
         dump: Option<SharedTerms>,
     ) -> Result<Option<Marked>, AllocError>
-        ensures ok { IfOk result (λ m. Marks self.old (at self.old session) (λ s. record { table = table; level = level } ∷ s.watching) (Item.Began table level dump) m self.new) }
+        ensures ok { IfOk result
+            (λ m. Marks self.old (at self.old session)
+            (λ s. record { table = table; level = level } ∷ s.watching)
+            (Item.Began table level dump) m self.new) }
         ensures err { OnErr result (self.new ≡ self.old) }
     {
         let Some(place) = self.place(session) else {
@@ -121,7 +124,9 @@ impl<P: Post + Drop> Subs<P> {
         session: u64,
         table: &Atom,
     ) -> Result<Option<Marked>, AllocError>
-        ensures ok { IfOk result (λ m. Marks self.old (at self.old session) (λ s. without_watch s.watching table.now) (Item.Ended table.now Ending.Unsubscribed) m self.new) }
+        ensures ok { IfOk result
+            (λ m. Marks self.old (at self.old session) (λ s. without_watch s.watching table.now)
+            (Item.Ended table.now Ending.Unsubscribed) m self.new) }
         ensures err { OnErr result (self.new ≡ self.old) }
     {
         let Some(place) = self.place(session) else {
@@ -139,7 +144,13 @@ impl<P: Post + Drop> Subs<P> {
         commit: u64,
         events: &[Event],
     ) -> Result<Prepared, AllocError>
-        ensures { IfOk result (λ p. p ≡ record { number = commit; items = map (λ s. batch_for (level_in s.watching) commit events.now) self.now; ended = None }) }
+        ensures { IfOk result
+            (λ p. p ≡ record {
+              number = commit;
+              items = map
+                  (λ s. batch_for (level_in s.watching) commit events.now) self.now;
+              ended = None;
+            }) }
     {
         let mut shaped = unshaped(alloc, events)?;
         let mut due = VecDeque::with_capacity(alloc, self.sessions.len())?;
@@ -156,7 +167,14 @@ impl<P: Post + Drop> Subs<P> {
         table: &Atom,
         commit: u64,
     ) -> Result<Prepared, AllocError>
-        ensures { IfOk result (λ p. p ≡ record { number = commit; items = map (λ s. end_for (level_in s.watching) (Some table.now)) self.now; ended = Some table.now }) }
+        ensures { IfOk result
+            (λ p. p ≡ record {
+              number = commit;
+              items = map
+                  (λ s. end_for (level_in s.watching) (Some table.now)) self.now;
+              ended = Some
+                  table.now;
+            }) }
     {
         let mut due = VecDeque::with_capacity(alloc, self.sessions.len())?;
         for slot in self.sessions.iter() {
@@ -198,7 +216,8 @@ impl<P: Post + Drop> Subs<P> {
 
     /// The post of a session that is joined.
     pub fn post(&self, session: u64) -> Option<&P>
-        ensures { option_map (λ p. P.outbox p.now) result ≡ option_map (λ s. s.outbox) (at self.now session) }
+        ensures { option_map (λ p. P.outbox p.now) result
+            ≡ option_map (λ s. s.outbox) (at self.now session) }
     {
         let Some(place) = self.place(session) else {
             return None;
@@ -234,7 +253,8 @@ impl<P: Mailbox + Drop> Subs<P> {
     pub fn meet(&mut self, session: u64, end: &mut P::End) -> Option<Met>
         ensures same { self.new ≡ self.old }
         ensures end { P.mailbox end.new ≡ P.mailbox end.old }
-        ensures met { Meets (option_map (λ s. s.outbox) (at self.old session)) (P.mailbox end.old) (P.taken end.old) result (P.taken end.new) }
+        ensures met { Meets (option_map (λ s. s.outbox) (at self.old session)) (P.mailbox end.old)
+            (P.taken end.old) result (P.taken end.new) }
     {
         let Some(place) = self.place(session) else {
             return None;

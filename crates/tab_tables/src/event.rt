@@ -43,7 +43,8 @@ impl Changing {
     }
 
     fn records(&self, alloc: Global, name: &Atom, key: &Term) -> Result<SharedTerms, AllocError>
-        ensures { IfOk result (λ records. records ≡ plain_terms (cell self.now name.now (term key.now))) }
+        ensures { IfOk result
+            (λ records. records ≡ plain_terms (cell self.now name.now (term key.now))) }
     {
         match self.table(name) {
             Some(table) => table.read(alloc, key),

@@ -144,7 +144,8 @@ impl PartialOrd for Atom {
 
     ghost partial_cmp = { as_partial_cmp (slice_cmp nat_cmp) };
 
-    ghost laws = { partial_order_from_own_ties (partial_order_from_total nat_list_cmp_total) matches_bytes };
+    ghost laws = { partial_order_from_own_ties
+        (partial_order_from_total nat_list_cmp_total) matches_bytes };
 
     fn partial_cmp(&self, other: &Atom) -> Option<Ordering> {
         Some(self.cmp(other))

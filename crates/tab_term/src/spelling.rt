@@ -1,6 +1,6 @@
 //! The parts of a term's canonical spelling. The order of terms and the writing of terms share them.
 
-ghost use Rattle.std.specs.Prelude.{◌≡◌, ◌≤◌, length, true};
+ghost use Rattle.std.specs.Prelude.{◌≡◌, ◌≤◌, length, IsTrue};
 ghost use Rattle.std.specs.Int.{w32, cast_unsigned};
 ghost use Rattle.tab_term.specs.Canon.{tag as tag_of, int_tag as int_tag_of, list_tag as list_tag_of, all_bytes, is_byte_term as is_byte_term_of, is_byte as is_byte_of, fits_four as fits_four_of, sign_of, magnitude, significant};
 ghost use Rattle.tab_term.specs.Data.{plain_terms};
@@ -67,7 +67,7 @@ pub fn fits_four(z: i128) -> bool
 
 /// An integer that four bytes with a sign hold, as those bytes.
 pub fn four_bytes_of(z: i128) -> u32
-    requires { fits_four_of z ≡ true }
+    requires { IsTrue (fits_four_of z) }
     ensures { result ≡ cast_unsigned w32 z }
 {
     (z as i32).cast_unsigned()

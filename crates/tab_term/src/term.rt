@@ -1,4 +1,4 @@
-ghost use Rattle.std.specs.Prelude.{◌≡◌, min, length, IfOk, IfSome, IfNone, false};
+ghost use Rattle.std.specs.Prelude.{◌≡◌, min, length, IfOk, IfSome, IfNone, IsFalse};
 ghost use Rattle.tab_term.specs.Data.{atom, list, tuple, depth, depths, pair_depths, count, pair_count, is_atom, is_list, is_tuple};
 ghost use Rattle.tab_term.specs.View.{term, terms, pairs as pairs_of};
 
@@ -114,7 +114,7 @@ impl Term {
     /// The name of an atom. Of any other term, which is dropped, None.
     pub fn into_atom(self) -> Option<Atom>
         ensures some { IfSome result (λ a. term self ≡ atom a) }
-        ensures none { IfNone result (is_atom (term self) ≡ false) }
+        ensures none { IfNone result (IsFalse (is_atom (term self))) }
     {
         match self {
             Term::Atom(name) => Some(name),
@@ -125,7 +125,7 @@ impl Term {
     /// The elements of a tuple. Of any other term, which is dropped, None.
     pub fn into_tuple(self) -> Option<Terms>
         ensures some { IfSome result (λ ts. term self ≡ tuple ts) }
-        ensures none { IfNone result (is_tuple (term self) ≡ false) }
+        ensures none { IfNone result (IsFalse (is_tuple (term self))) }
     {
         match self {
             Term::Tuple(elements) => Some(elements),
@@ -136,7 +136,7 @@ impl Term {
     /// The elements of a list. Of any other term, which is dropped, None.
     pub fn into_list(self) -> Option<Terms>
         ensures some { IfSome result (λ ts. term self ≡ list ts) }
-        ensures none { IfNone result (is_list (term self) ≡ false) }
+        ensures none { IfNone result (IsFalse (is_list (term self))) }
     {
         match self {
             Term::List(elements) => Some(elements),

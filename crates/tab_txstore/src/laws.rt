@@ -1,5 +1,5 @@
 //! Laws of private stores. Each is the contract of a function that does nothing.
-ghost use Rattle.std.specs.Prelude.{◌≡◌, ℕ, List, [], ◌∷◌, Option, Some, option_map, false, length};
+ghost use Rattle.std.specs.Prelude.{◌≡◌, ℕ, List, [], ◌∷◌, Option, Some, option_map, IsFalse, length};
 ghost use Rattle.std.specs.Str.{bytes_eq};
 ghost use Rattle.std.specs.List.{list_any};
 ghost use Rattle.tab_term.specs.Data.{PlainTerm};
@@ -24,24 +24,43 @@ ghost use Rattle.tab_txstore.specs.Stores.{Store, no_store, store_next, committe
 #[tactic(auto, using(crate::proofs::FitsLemmas::fits_new, crate::proofs::FitsLemmas::fits_next, crate::proofs::FitsLemmas::fits_stays, crate::proofs::FitsLemmas::fits_schema))]
 pub fn a_store_fits()
     ensures new { (w : Catalog) → Fits no_store w }
-    ensures next { (s : Store) (w : Catalog) (x : Move) (r : Option Reply) → Fits s w → Fits (store_next (committed_for w x) s x r) w }
-    ensures stays { (s : Store) (w : Catalog) (age : ℕ) (xs : List Move) → IsOrderedCatalog w → Apart (locks_of xs) (locks_of s.moves) → Fits s w → Fits s (after (start w age) xs).now }
-    ensures schema { (s : Store) (w : Catalog) (c : Schema) → IsOrderedCatalog w → list_any (λ (l : Lock). bytes_eq l.table (table_of_schema c)) (locks_of s.moves) ≡ false → Fits s w → Fits s (schema_effect w c) }
+    ensures next { (s : Store) (w : Catalog) (x : Move) (r : Option Reply) → Fits s w
+        → Fits (store_next (committed_for w x) s x r) w }
+    ensures stays { (s : Store) (w : Catalog) (age : ℕ) (xs : List Move) → IsOrderedCatalog w
+        → Apart (locks_of xs) (locks_of s.moves) → Fits s w → Fits s (after (start w age) xs).now }
+    ensures schema { (s : Store) (w : Catalog) (c : Schema) → IsOrderedCatalog w
+        → IsFalse (list_any (λ (l : Lock). bytes_eq l.table (table_of_schema c)) (locks_of s.moves))
+        → Fits s w → Fits s (schema_effect w c) }
 {}
 
 /// A store that fits the committed tables has the updates that survive and as many levels as are open, and shows at each key what
 /// the transaction sees there. Each table keeps the definition of the committed one.
 #[tactic(auto, using(crate::proofs::FitsLemmas::updates_survive, crate::proofs::FitsLemmas::cell_shown, crate::proofs::FitsLemmas::table_shown, crate::proofs::FitsLemmas::defs_shown, crate::proofs::FitsLemmas::depth_shown))]
 pub fn a_store_shows()
-    ensures updates { (s : Store) (w : Catalog) → Fits s w → s.levels.now.updates ≡ surviving s.moves s.told }
-    ensures cell { (w : Catalog) → IsOrderedCatalog w → (s : Store) (age : ℕ) (t : List ℕ) (x : Table) (k : PlainTerm) → Fits s w → replies (start w age) s.moves ≡ s.told → find w t ≡ Some x → seen_at (touched s.levels.now.overlay t) x.rows k ≡ cell (after (start w age) s.moves).now t k }
-    ensures table { (w : Catalog) → IsOrderedCatalog w → (s : Store) (age : ℕ) (t : List ℕ) (x : Table) → Fits s w → replies (start w age) s.moves ≡ s.told → find w t ≡ Some x → IsSeen (touched s.levels.now.overlay t) x.rows (rows_of (after (start w age) s.moves).now t) }
-    ensures depth { (w : Catalog) → IsOrderedCatalog w → (s : Store) (age : ℕ) → Fits s w → replies (start w age) s.moves ≡ s.told → length (after (start w age) s.moves).saved ≡ length s.levels.saved }
-    ensures definition { (w : Catalog) → IsOrderedCatalog w → (age : ℕ) (xs : List Move) (t : List ℕ) → option_map (λ (x : Table). x.def) (find (after (start w age) xs).now t) ≡ option_map (λ (x : Table). x.def) (find w t) }
+    ensures updates { (s : Store) (w : Catalog) → Fits s w
+        → s.levels.now.updates ≡ surviving s.moves s.told }
+    ensures cell { (w : Catalog) → IsOrderedCatalog w
+        → (s : Store) (age : ℕ) (t : List ℕ) (x : Table) (k : PlainTerm) → Fits s w
+        → replies (start w age) s.moves ≡ s.told → find w t ≡ Some x
+        → seen_at (touched s.levels.now.overlay t) x.rows k
+        ≡ cell (after (start w age) s.moves).now t k }
+    ensures table { (w : Catalog) → IsOrderedCatalog w
+        → (s : Store) (age : ℕ) (t : List ℕ) (x : Table) → Fits s w
+        → replies (start w age) s.moves ≡ s.told → find w t ≡ Some x
+        → IsSeen (touched s.levels.now.overlay t) x.rows
+        (rows_of (after (start w age) s.moves).now t) }
+    ensures depth { (w : Catalog) → IsOrderedCatalog w → (s : Store) (age : ℕ) → Fits s w
+        → replies (start w age) s.moves ≡ s.told
+        → length (after (start w age) s.moves).saved ≡ length s.levels.saved }
+    ensures definition { (w : Catalog) → IsOrderedCatalog w
+        → (age : ℕ) (xs : List Move) (t : List ℕ)
+        → option_map (λ (x : Table). x.def) (find (after (start w age) xs).now t)
+        ≡ option_map (λ (x : Table). x.def) (find w t) }
 {}
 
 /// The touched keys among a table's: where records stand, they are the keys of the table as the transaction sees it.
 #[tactic(auto, using(crate::proofs::MergedLemmas::keys_seen))]
 pub fn keys_are_seen()
-    ensures { (xs es : Touched) (seen : List PlainTerm) → Ascends term_cmp xs → IsInOrder es → IsSeen xs (joined_rows es) seen → filled_keys (merged xs es) ≡ keys seen }
+    ensures { (xs es : Touched) (seen : List PlainTerm) → Ascends term_cmp xs → IsInOrder es
+        → IsSeen xs (joined_rows es) seen → filled_keys (merged xs es) ≡ keys seen }
 {}

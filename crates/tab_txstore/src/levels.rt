@@ -110,7 +110,13 @@ impl Levels {
         committed: &'a IndexedTable,
         key: &Term,
     ) -> Option<&'a Entry<Term, Records>>
-        ensures { MatchOption result (seen_at (touched self.now.now.overlay committed.now.def.name) committed.now.rows (term key.now) ≡ []) (λ e. e.now.1 ≡ plain_terms (seen_at (touched self.now.now.overlay committed.now.def.name) committed.now.rows (term key.now))) }
+        ensures { MatchOption result
+            (seen_at (touched self.now.now.overlay committed.now.def.name) committed.now.rows
+            (term key.now) ≡ [])
+            (λ e. e.now.1
+            ≡ plain_terms
+            (seen_at (touched self.now.now.overlay committed.now.def.name) committed.now.rows
+            (term key.now))) }
     {
         seen_entry(&self.overlay, committed, key)
     }
@@ -124,14 +130,17 @@ impl Levels {
 
     /// The touched keys of a table, each with what stands there. None where no key of it was touched.
     pub fn touched(&self, committed: &IndexedTable) -> Option<&Map<Term, Records>>
-        ensures { option_copied result ≡ lookup bytes_cmp committed.now.def.name self.now.now.overlay }
+        ensures { option_copied result
+            ≡ lookup bytes_cmp committed.now.def.name self.now.now.overlay }
     {
         self.overlay.get(&committed.def().name)
     }
 
     /// A committed table as the transaction sees it. It takes no memory.
     pub fn snapshot(&self, committed: &IndexedTable) -> Result<Snapshot, AllocError>
-        ensures { IfOk result (λ s. IsSnapshot (touched self.now.now.overlay committed.now.def.name) committed.now.rows s) }
+        ensures { IfOk result
+            (λ s. IsSnapshot
+            (touched self.now.now.overlay committed.now.def.name) committed.now.rows s) }
     {
         let own = match self.touched(committed) {
             Some(own) if !own.is_empty() => own.share()?,
@@ -148,7 +157,9 @@ impl Levels {
         operation: &Operation,
         reply: &Reply,
     ) -> Result<(), AllocError>
-        ensures ok { OnOk result (self.new ≡ levels_next (Some committed.now) self.old (Do operation.now) (Some reply.now)) }
+        ensures ok { OnOk result
+            (self.new ≡ levels_next (Some committed.now) self.old (Do operation.now)
+            (Some reply.now)) }
         ensures err { OnErr result (self.new ≡ self.old) }
     {
         if is_failure(reply) {
@@ -168,7 +179,8 @@ impl Levels {
         committed: &IndexedTable,
         draft: Draft,
     ) -> Result<(), AllocError>
-        ensures ok { OnOk result (self.new ≡ changed (Some committed.now) self.old (Some draft.change)) }
+        ensures ok { OnOk result
+            (self.new ≡ changed (Some committed.now) self.old (Some draft.change)) }
         ensures err { OnErr result (self.new ≡ self.old) }
     {
         self.updates.reserve(1)?;

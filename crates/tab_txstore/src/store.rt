@@ -1,4 +1,4 @@
-ghost use Rattle.std.specs.Prelude.{◌≡◌, ◌<◌, ◌≤◌, ◌+◌, [], ◌∷◌, ◌++◌, IfOk, MatchOption, OnOk, OnErr, Some, None, true, length, vec_len, vec_capacity};
+ghost use Rattle.std.specs.Prelude.{◌≡◌, ◌<◌, ◌≤◌, ◌+◌, [], ◌∷◌, ◌++◌, IfOk, MatchOption, OnOk, OnErr, Some, None, IsTrue, length, vec_len, vec_capacity};
 ghost use Rattle.tab_term.specs.View.{term, terms};
 ghost use Rattle.tab_model.specs.Names.{plain_terms};
 ghost use Rattle.tab_model.specs.declared.data.Move.TheVariants.{Do, Open as OpenOf, Close as CloseOf, Undo as UndoOf};
@@ -42,7 +42,9 @@ impl Model for TxStore {
 
     ghost view = { λ a. record { moves = a.moves.items; told = a.told.items; levels = a.levels } };
 
-    ghost invariant = { λ a. (vec_len a.moves + length a.levels.saved ≤ vec_capacity a.moves) × (vec_len a.told + length a.levels.saved ≤ vec_capacity a.told) × IsCounted a.moves.items a.count };
+    ghost invariant = { λ a. (vec_len a.moves + length a.levels.saved ≤ vec_capacity a.moves)
+        × (vec_len a.told + length a.levels.saved ≤ vec_capacity a.told)
+        × IsCounted a.moves.items a.count };
 }
 
 // A derived Drop would be taken apart, field by field, at each exit of each caller.
@@ -114,7 +116,8 @@ impl TxStore {
         operation: Operation,
         reply: SharedReply,
     ) -> Result<(), AllocError>
-        ensures ok { OnOk result (self.new ≡ store_next (Some committed.now) self.old (Do operation) (Some reply)) }
+        ensures ok { OnOk result
+            (self.new ≡ store_next (Some committed.now) self.old (Do operation) (Some reply)) }
         ensures err { OnErr result (self.new ≡ self.old) }
     {
         self.put_made(alloc, committed, Made { operation, reply })
@@ -126,7 +129,9 @@ impl TxStore {
         committed: &IndexedTable,
         made: Made,
     ) -> Result<(), AllocError>
-        ensures ok { OnOk result (self.new ≡ store_next (Some committed.now) self.old (Do made.operation) (Some made.reply)) }
+        ensures ok { OnOk result
+            (self.new ≡ store_next (Some committed.now) self.old (Do made.operation)
+            (Some made.reply)) }
         ensures err { OnErr result (self.new ≡ self.old) }
     {
         reserve(&mut self.moves, self.levels.depth(), 1)?;
@@ -142,7 +147,7 @@ impl TxStore {
 
     /// An operation that has no table, with its reply: its level ends.
     pub fn fail(&mut self, operation: Operation, reply: SharedReply) -> Result<(), AllocError>
-        requires { is_failure_of (Some reply) ≡ true }
+        requires { IsTrue (is_failure_of (Some reply)) }
         ensures ok { OnOk result (self.new ≡ store_next None self.old (Do operation) (Some reply)) }
         ensures err { OnErr result (self.new ≡ self.old) }
     {
@@ -150,8 +155,9 @@ impl TxStore {
     }
 
     fn put_failed(&mut self, made: Made) -> Result<(), AllocError>
-        requires { is_failure_of (Some made.reply) ≡ true }
-        ensures ok { OnOk result (self.new ≡ store_next None self.old (Do made.operation) (Some made.reply)) }
+        requires { IsTrue (is_failure_of (Some made.reply)) }
+        ensures ok { OnOk result
+            (self.new ≡ store_next None self.old (Do made.operation) (Some made.reply)) }
         ensures err { OnErr result (self.new ≡ self.old) }
     {
         reserve(&mut self.moves, self.levels.depth(), 1)?;
@@ -166,7 +172,8 @@ impl TxStore {
 
     /// A child begins. The place of its end is reserved.
     pub fn nest(&mut self, age: u64) -> Result<(), AllocError>
-        ensures ok { OnOk result (self.new ≡ store_next None self.old OpenOf (Some (told_of.Tid age))) }
+        ensures ok { OnOk result
+            (self.new ≡ store_next None self.old OpenOf (Some (told_of.Tid age))) }
         ensures err { OnErr result (self.new ≡ self.old) }
     {
         reserve(&mut self.moves, self.levels.depth(), 2)?;
@@ -261,14 +268,22 @@ impl TxStore {
         committed: &'a IndexedTable,
         key: &Term,
     ) -> Option<&'a Entry<Term, Records>>
-        ensures { MatchOption result (seen_at (touched self.now.levels.now.overlay committed.now.def.name) committed.now.rows (term key.now) ≡ []) (λ e. e.now.1 ≡ plain_terms (seen_at (touched self.now.levels.now.overlay committed.now.def.name) committed.now.rows (term key.now))) }
+        ensures { MatchOption result
+            (seen_at (touched self.now.levels.now.overlay committed.now.def.name) committed.now.rows
+            (term key.now) ≡ [])
+            (λ e. e.now.1
+            ≡ plain_terms
+            (seen_at (touched self.now.levels.now.overlay committed.now.def.name)
+            committed.now.rows (term key.now))) }
     {
         self.levels.seen_entry(committed, key)
     }
 
     // A committed table as the transaction sees it.
     pub(crate) fn snapshot(&self, committed: &IndexedTable) -> Result<Snapshot, AllocError>
-        ensures { IfOk result (λ s. IsSnapshot (touched self.now.levels.now.overlay committed.now.def.name) committed.now.rows s) }
+        ensures { IfOk result
+            (λ s. IsSnapshot
+            (touched self.now.levels.now.overlay committed.now.def.name) committed.now.rows s) }
     {
         self.levels.snapshot(committed)
     }

@@ -51,7 +51,8 @@ struct AppendAt {
 }
 
 impl Revise<Map<Term, Records>> for AppendAt {
-    ghost becomes = { λ a keys. revised_at term_cmp (λ records. with_one records (term a.row)) a.key keys };
+    ghost becomes = { λ a keys.
+        revised_at term_cmp (λ records. with_one records (term a.row)) a.key keys };
 
     fn revise(self, alloc: Global, keys: &mut Map<Term, Records>) -> Result<(), AllocError> {
         let AppendAt { key, row } = self;
@@ -84,7 +85,12 @@ pub fn seen_entry<'a>(
     committed: &'a IndexedTable,
     key: &Term,
 ) -> Option<&'a Entry<Term, Records>>
-    ensures { MatchOption result (seen_at (touched overlay.now committed.now.def.name) committed.now.rows (term key.now) ≡ []) (λ e. e.now.1 ≡ plain_terms (seen_at (touched overlay.now committed.now.def.name) committed.now.rows (term key.now))) }
+    ensures { MatchOption result
+        (seen_at (touched overlay.now committed.now.def.name) committed.now.rows (term key.now)
+        ≡ []) (λ e. e.now.1
+        ≡ plain_terms
+        (seen_at (touched overlay.now committed.now.def.name) committed.now.rows
+        (term key.now))) }
 {
     match overlay.get(&committed.def().name) {
         Some(keys) => match keys.get_entry(key) {
@@ -125,7 +131,13 @@ fn left_at(
     key: &Term,
     change: &Change,
 ) -> Result<Records, AllocError>
-    ensures { IfOk result (λ after. after ≡ plain_terms (left_of committed.now.def.kind (terms_list (plain_terms (seen_at (touched overlay.now committed.now.def.name) committed.now.rows (term key.now)))) change.now)) }
+    ensures { IfOk result
+        (λ after. after
+        ≡ plain_terms
+        (left_of committed.now.def.kind
+        (terms_list (plain_terms
+        (seen_at (touched overlay.now committed.now.def.name) committed.now.rows
+        (term key.now)))) change.now)) }
 {
     let kind = committed.def().kind;
     if let (Kind::Set, Change::Write(row)) = (kind, change) {
@@ -169,7 +181,9 @@ fn put(
     key: Term,
     records: Records,
 ) -> Result<(), AllocError>
-    ensures ok { OnOk result (overlay.new ≡ insert_entry bytes_cmp (table, insert_entry term_cmp (key, records) (touched overlay.old table)) overlay.old) }
+    ensures ok { OnOk result
+        (overlay.new ≡ insert_entry bytes_cmp
+        (table, insert_entry term_cmp (key, records) (touched overlay.old table)) overlay.old) }
     ensures err { OnErr result (overlay.new ≡ overlay.old) }
 {
     if overlay.contains_key(&table) {
@@ -191,7 +205,12 @@ fn append(
     row: Term,
 ) -> Result<(), AllocError>
     requires { IsSome (lookup bytes_cmp table overlay.old) }
-    ensures ok { OnOk result (overlay.new ≡ insert_entry bytes_cmp (table, revised_at term_cmp (λ records. with_one records (term row)) key (touched overlay.old table)) overlay.old) }
+    ensures ok { OnOk result
+        (overlay.new ≡ insert_entry bytes_cmp (
+          table,
+          revised_at term_cmp (λ records. with_one records (term row)) key
+              (touched overlay.old table),
+        ) overlay.old) }
     ensures err { OnErr result (overlay.new ≡ overlay.old) }
 {
     overlay.revise(alloc, table, AppendAt { key, row })

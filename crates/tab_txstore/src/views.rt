@@ -29,7 +29,11 @@ impl TxStore {
         committed: &IndexedTable,
         key: &Term,
     ) -> Result<SharedTerms, AllocError>
-        ensures { IfOk result (λ records. records ≡ plain_terms (seen_at (touched self.now.levels.now.overlay committed.now.def.name) committed.now.rows (term key.now))) }
+        ensures { IfOk result
+            (λ records. records
+            ≡ plain_terms
+            (seen_at (touched self.now.levels.now.overlay committed.now.def.name)
+            committed.now.rows (term key.now))) }
     {
         match self.seen_entry(committed, key) {
             Some(entry) => Ok(SharedTerms::from_entry(entry.try_clone()?)),
@@ -39,7 +43,10 @@ impl TxStore {
 
     /// The keys of a committed table as the transaction sees it, in their order. They take no memory.
     pub fn view_keys(&self, committed: &IndexedTable) -> Result<SharedTerms, AllocError>
-        ensures { IfOk result (λ all. (seen : List PlainTerm) → IsSeen (touched self.now.levels.now.overlay committed.now.def.name) committed.now.rows seen → all ≡ plain_terms (keys_of_rows seen)) }
+        ensures { IfOk result
+            (λ all. (seen : List PlainTerm)
+            → IsSeen (touched self.now.levels.now.overlay committed.now.def.name)
+            committed.now.rows seen → all ≡ plain_terms (keys_of_rows seen)) }
     {
         Ok(SharedTerms::from_keys(self.snapshot(committed)?))
     }
@@ -52,7 +59,11 @@ impl TxStore {
         committed: &IndexedTable,
         pattern: &Term,
     ) -> Result<SharedTerms, AllocError>
-        ensures { IfOk result (λ all. (seen : List PlainTerm) → IsSeen (touched self.now.levels.now.overlay committed.now.def.name) committed.now.rows seen → all ≡ plain_terms (match_object seen (term pattern.now))) }
+        ensures { IfOk result
+            (λ all. (seen : List PlainTerm)
+            → IsSeen (touched self.now.levels.now.overlay committed.now.def.name)
+            committed.now.rows seen
+            → all ≡ plain_terms (match_object seen (term pattern.now))) }
     {
         if let Some(key) = bound_key(pattern) {
             return self.match_at(alloc, committed, key, pattern);
@@ -69,7 +80,11 @@ impl TxStore {
         key: &Term,
         pattern: &Term,
     ) -> Result<SharedTerms, AllocError>
-        ensures { IfOk result (λ all. all ≡ plain_terms (match_object (seen_at (touched self.now.levels.now.overlay committed.now.def.name) committed.now.rows (term key.now)) (term pattern.now))) }
+        ensures { IfOk result
+            (λ all. all ≡ plain_terms
+            (match_object
+            (seen_at (touched self.now.levels.now.overlay committed.now.def.name)
+            committed.now.rows (term key.now)) (term pattern.now))) }
     {
         match self.seen_entry(committed, key) {
             Some(entry) => match_entry(alloc, entry, pattern),
@@ -87,7 +102,11 @@ impl TxStore {
         position: u64,
         value: &Term,
     ) -> Result<SharedTerms, AllocError>
-        ensures { IfOk result (λ all. (seen : List PlainTerm) → IsSeen (touched self.now.levels.now.overlay committed.now.def.name) committed.now.rows seen → all ≡ plain_terms (index_read seen position (term value.now))) }
+        ensures { IfOk result
+            (λ all. (seen : List PlainTerm)
+            → IsSeen (touched self.now.levels.now.overlay committed.now.def.name)
+            committed.now.rows seen
+            → all ≡ plain_terms (index_read seen position (term value.now))) }
     {
         let condition = Condition::Has(position, value.try_clone(alloc)?);
         let snapshot = self.snapshot(committed)?;
@@ -114,7 +133,8 @@ fn match_entry(
     entry: &Entry<Term, Records>,
     pattern: &Term,
 ) -> Result<SharedTerms, AllocError>
-    ensures { IfOk result (λ all. all ≡ plain_terms (match_object (terms_list entry.now.1) (term pattern.now))) }
+    ensures { IfOk result
+        (λ all. all ≡ plain_terms (match_object (terms_list entry.now.1) (term pattern.now))) }
 {
     match entry.pair().1.by_number() {
         None if fits(entry, pattern) => Ok(SharedTerms::from_entry(entry.try_clone()?)),

@@ -13,7 +13,9 @@ use tab_term::Term;
 pub fn feed_all(mirror: &mut Mirror, alloc: Global, told: &[Term]) -> Result<(), AllocError>
     ensures stays { (mirror.new.table ≡ mirror.old.table) × (mirror.new.kind ≡ mirror.old.kind) }
     ensures ok { OnOk result (mirror.new.rows ≡ rows_after mirror.old told.now) }
-    ensures err { OnErr result ((n : ℕ) × (n < length told.now) × (mirror.new.rows ≡ rows_after mirror.old (take n told.now))) }
+    ensures err { OnErr result
+        ((n : ℕ) × (n < length told.now)
+        × (mirror.new.rows ≡ rows_after mirror.old (take n told.now))) }
 {
     for item in told {
         mirror.feed(alloc, item)?;

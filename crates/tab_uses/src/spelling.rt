@@ -52,10 +52,12 @@ impl From<EtfFault> for AgainFault {
 #[tactic(auto, using(crate::proofs::SpellingLemmas::one_term))]
 pub fn term_again(alloc: Global, value: &Term) -> Result<Term, AgainFault>
     ensures same { IfOk result (λ t. term t ≡ term value.now) }
-    ensures too_long { (result ≡ Err (AgainFault.Encode EncodeFault.TooLong)) ↔ (4294967295 < length (131 ∷ canon (term value.now))) }
+    ensures too_long { (result ≡ Err (AgainFault.Encode EncodeFault.TooLong))
+        ↔ (4294967295 < length (131 ∷ canon (term value.now))) }
 
     // Any other fault but a want of memory comes only where the canonical spelling is none that is read.
-    ensures comes_back { Spells (term value.now) (canon (term value.now)) → depth (term value.now) ≤ 64 → IfErr result IsOfMemory }
+    ensures comes_back { Spells (term value.now) (canon (term value.now))
+        → depth (term value.now) ≤ 64 → IfErr result IsOfMemory }
 {
     spellings_are_apart();
     let mut payload = Vec::new(alloc);

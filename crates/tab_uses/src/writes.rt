@@ -1,6 +1,6 @@
 //! A write in a transaction of its own, at a book that others use meanwhile.
 
-ghost use Rattle.std.specs.Prelude.{◌≡◌, false, IfOk};
+ghost use Rattle.std.specs.Prelude.{◌≡◌, IsFalse, IfOk};
 ghost use Rattle.tab_uses.specs.Endings.{is_commit};
 
 use std::alloc::{AllocError, Global};
@@ -39,7 +39,7 @@ pub fn write_alone<H: Host>(
     row: &Term,
     attempts: u32,
 ) -> Result<Ending, AllocError>
-    ensures { attempts ≡ 0 → IfOk result (λ e. is_commit e ≡ false) }
+    ensures { attempts ≡ 0 → IfOk result (λ e. IsFalse (is_commit e)) }
 {
     let begun = shared.call(host, seat, Command::Begin)?;
     if !matches!(begun.reply(), Reply::Tid(_)) {
@@ -60,7 +60,7 @@ fn ending_of<H: Host>(
     row: &Term,
     attempts: u32,
 ) -> Result<Ending, AllocError>
-    ensures { attempts ≡ 0 → IfOk result (λ e. is_commit e ≡ false) }
+    ensures { attempts ≡ 0 → IfOk result (λ e. IsFalse (is_commit e)) }
 {
     for _ in 0..attempts {
         let write = Command::Do(Operation::Write(row.try_clone(alloc)?));

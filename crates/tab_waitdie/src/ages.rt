@@ -1,4 +1,4 @@
-ghost use Rattle.std.specs.Prelude.{◌≡◌, ◌<◌, ◌∷◌, ◌++◌, ℕ, List, [], true, None, IfOk, OnOk, IfSome, IsSome, OnErr, is_some, length, not, slice_index_or, take};
+ghost use Rattle.std.specs.Prelude.{◌≡◌, ◌<◌, ◌∷◌, ◌++◌, ℕ, List, [], IsTrue, None, IfOk, OnOk, IfSome, IsSome, OnErr, is_some, length, not, slice_index_or, take};
 ghost use Rattle.std.specs.List.{list_any};
 ghost use Rattle.tab_model.specs.Ages.{Ages as ages_record, Chain, all_of, can_retry, decide as decision, forget as forgotten, last_of, opposes, request_of, without};
 ghost use Rattle.tab_locks.specs.Plain.{lock_of};
@@ -84,7 +84,8 @@ impl Ages {
         requires { request_of age self.old.queue ≡ None }
         ensures answer { IfOk result (λ a. answer_of a ≡ decision self.old (age, lock_of lock)) }
         ensures after { IfOk result (λ a. self.new ≡ after_answer self.old (age, lock_of lock) a) }
-        ensures undo { IfOk result (λ a. a ≡ Granted → without_last age self.new.held ≡ self.old.held) }
+        ensures undo { IfOk result
+            (λ a. a ≡ Granted → without_last age self.new.held ≡ self.old.held) }
         ensures err { OnErr result (self.new ≡ self.old) }
     {
         self.end_rest(age);
@@ -105,7 +106,8 @@ impl Ages {
         requires { answer_of answer ≡ decision self.old (age, lock_of lock) }
         ensures answer { IfOk result (λ a. a ≡ answer) }
         ensures after { IfOk result (λ a. self.new ≡ after_answer self.old (age, lock_of lock) a) }
-        ensures undo { IfOk result (λ a. a ≡ Granted → without_last age self.new.held ≡ self.old.held) }
+        ensures undo { IfOk result
+            (λ a. a ≡ Granted → without_last age self.new.held ≡ self.old.held) }
         ensures err { OnErr result (self.new ≡ self.old) }
     {
         match answer {
@@ -129,8 +131,10 @@ impl Ages {
     /// Asks again for a queued request. It looks at the held locks and at the requests queued before it.
     pub fn retry(&mut self, age: u64) -> Result<Retried, AllocError>
         requires { IsSome (request_of age self.old.queue) }
-        ensures answer { IfSome (request_of age self.old.queue) (λ r. IfOk result (λ a. is_granted a ≡ can_retry self.old r)) }
-        ensures after { IfSome (request_of age self.old.queue) (λ r. IfOk result (λ a. self.new ≡ after_retried self.old r a)) }
+        ensures answer { IfSome (request_of age self.old.queue)
+            (λ r. IfOk result (λ a. is_granted a ≡ can_retry self.old r)) }
+        ensures after { IfSome (request_of age self.old.queue)
+            (λ r. IfOk result (λ a. self.new ≡ after_retried self.old r a)) }
         ensures err { OnErr result (self.new ≡ self.old) }
     {
         if !self.may_go(age) {
@@ -153,8 +157,10 @@ impl Ages {
     /// Holds the lock of a queued request, which stays queued: for who has work to do between the two that can fail.
     pub fn grant(&mut self, age: u64) -> Result<(), AllocError>
         requires queued { IsSome (request_of age self.old.queue) }
-        requires free { IfSome (request_of age self.old.queue) (λ r. can_retry self.old r ≡ true) }
-        ensures ok { IfSome (request_of age self.old.queue) (λ r. OnOk result (self.new ≡ ages (placed r self.old.held) self.old.queue)) }
+        requires free { IfSome (request_of age self.old.queue)
+            (λ r. IsTrue (can_retry self.old r)) }
+        ensures ok { IfSome (request_of age self.old.queue)
+            (λ r. OnOk result (self.new ≡ ages (placed r self.old.held) self.old.queue)) }
         ensures undo { OnOk result (without_last age self.new.held ≡ self.old.held) }
         ensures err { OnErr result (self.new ≡ self.old) }
     {
@@ -215,7 +221,9 @@ fn answer_to(held: Conflict, queued: Conflict) -> Answer
 /// Whether no other owner holds, or asked before it for, what conflicts with the request at this place.
 fn is_free(locks: &LockTable, queue: &[Waiting], at: usize) -> bool
     requires { at < length queue.now }
-    ensures { (d : Waiting) → let r = owned (slice_index_or queue.now at d) in result ≡ not (list_any (opposes r) (locks.now ++ queued (take at queue.now))) }
+    ensures { (d : Waiting)
+        → let r = owned (slice_index_or queue.now at d) in result
+        ≡ not (list_any (opposes r) (locks.now ++ queued (take at queue.now))) }
 {
     let waiting = &queue[at];
     match locks.conflicts(waiting.age, &waiting.lock) {

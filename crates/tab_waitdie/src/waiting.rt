@@ -90,7 +90,8 @@ pub(crate) fn place_of(queue: &[Waiting], age: u64) -> usize
     requires { IsSome (request_of age (queued queue.now)) }
     ensures within { result < length queue.now }
     ensures before { before age (queued queue.now) ≡ queued (take result queue.now) }
-    ensures request { (d : Waiting) → request_of age (queued queue.now) ≡ Some (owned (slice_index_or queue.now result d)) }
+    ensures request { (d : Waiting)
+        → request_of age (queued queue.now) ≡ Some (owned (slice_index_or queue.now result d)) }
 {
     for (place, waiting) in queue.iter().enumerate() {
         if waiting.age == age {

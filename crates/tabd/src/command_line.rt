@@ -1,6 +1,6 @@
 //! The commands that the words may name, and their options.
 
-ghost use Rattle.std.specs.Prelude.{◌≡◌, IfOk, false, codes};
+ghost use Rattle.std.specs.Prelude.{◌≡◌, IfOk, IsFalse, codes};
 ghost use Rattle.clap.specs.Words.{app_of, rule_of};
 ghost use Rattle.tabd.specs.CommandLine.{command_line, flag_rule, has_globals, number_rule, outbox_rule, replay_line, required, serve_line, text_rule};
 
@@ -10,7 +10,7 @@ use std::alloc::{AllocError, Global};
 /// An option with a number in this range.
 fn number_of<'a>(alloc: Global, name: &'a str, value: &'a str, least: u32, most: u32) -> Arg<'a>
     ensures rule { rule_of result ≡ number_rule name.entry.now least most }
-    ensures own { result.global ≡ false }
+    ensures own { IsFalse result.global }
 {
     Arg::new(alloc, name)
         .long(name)
@@ -21,14 +21,14 @@ fn number_of<'a>(alloc: Global, name: &'a str, value: &'a str, least: u32, most:
 
 fn flag<'a>(alloc: Global, name: &'a str) -> Arg<'a>
     ensures rule { rule_of result ≡ flag_rule name.entry.now }
-    ensures own { result.global ≡ false }
+    ensures own { IsFalse result.global }
 {
     Arg::new(alloc, name).long(name).action(ArgAction::SetTrue)
 }
 
 fn outbox<'a>(alloc: Global) -> Arg<'a>
     ensures rule { rule_of result ≡ outbox_rule }
-    ensures own { result.global ≡ false }
+    ensures own { IsFalse result.global }
 {
     number_of(alloc, "outbox", "ITEMS", 1, 65_536).help(
         "How many items wait for a session at most, 1 to 65536; 64 where it is not given",
@@ -37,7 +37,7 @@ fn outbox<'a>(alloc: Global) -> Arg<'a>
 
 fn port<'a>(alloc: Global) -> Arg<'a>
     ensures rule { rule_of result ≡ number_rule (codes "port") 0 65535 }
-    ensures own { result.global ≡ false }
+    ensures own { IsFalse result.global }
 {
     Arg::new(alloc, "port")
         .long("port")
@@ -51,7 +51,7 @@ fn port<'a>(alloc: Global) -> Arg<'a>
 
 fn socket<'a>(alloc: Global) -> Arg<'a>
     ensures rule { rule_of result ≡ text_rule (codes "socket") }
-    ensures own { result.global ≡ false }
+    ensures own { IsFalse result.global }
 {
     Arg::new(alloc, "socket")
         .long("socket")
@@ -64,7 +64,7 @@ fn socket<'a>(alloc: Global) -> Arg<'a>
 
 fn connections<'a>(alloc: Global) -> Arg<'a>
     ensures rule { rule_of result ≡ required (number_rule (codes "connections") 1 64) }
-    ensures own { result.global ≡ false }
+    ensures own { IsFalse result.global }
 {
     number_of(alloc, "connections", "COUNT", 1, 64)
         .help("How many connections are accepted, 1 to 64; with --forever, how many at once")
@@ -73,7 +73,7 @@ fn connections<'a>(alloc: Global) -> Arg<'a>
 
 fn journal<'a>(alloc: Global) -> Arg<'a>
     ensures rule { rule_of result ≡ number_rule (codes "journal") 16 65536 }
-    ensures own { result.global ≡ false }
+    ensures own { IsFalse result.global }
 {
     number_of(alloc, "journal", "ENTRIES", 16, 65_536).help(
         "How many entries the journal holds at most, 16 to 65536; 1024 where it is not given",
@@ -82,7 +82,7 @@ fn journal<'a>(alloc: Global) -> Arg<'a>
 
 fn forever<'a>(alloc: Global) -> Arg<'a>
     ensures rule { rule_of result ≡ flag_rule (codes "forever") }
-    ensures own { result.global ≡ false }
+    ensures own { IsFalse result.global }
 {
     flag(alloc, "forever").help(
         "A connection that ends makes room for another, and the server never ends by itself",
@@ -91,14 +91,14 @@ fn forever<'a>(alloc: Global) -> Arg<'a>
 
 fn batches<'a>(alloc: Global) -> Arg<'a>
     ensures rule { rule_of result ≡ flag_rule (codes "batches") }
-    ensures own { result.global ≡ false }
+    ensures own { IsFalse result.global }
 {
     flag(alloc, "batches").help("A commit's events come in one frame, with the commit's number")
 }
 
 fn idle<'a>(alloc: Global) -> Arg<'a>
     ensures rule { rule_of result ≡ number_rule (codes "idle") 1 86400 }
-    ensures own { result.global ≡ false }
+    ensures own { IsFalse result.global }
 {
     number_of(alloc, "idle", "SECONDS", 1, 86_400).help(
         "A session with an open transaction, or that reads nothing, is ended where nothing comes from it for so long, 1 to 86400",
@@ -107,7 +107,7 @@ fn idle<'a>(alloc: Global) -> Arg<'a>
 
 fn log<'a>(alloc: Global) -> Arg<'a>
     ensures rule { rule_of result ≡ flag_rule (codes "log") }
-    ensures own { result.global ≡ false }
+    ensures own { IsFalse result.global }
 {
     flag(alloc, "log").help(
         "Each session's start and end has a line on standard error, and why the server ends",
@@ -116,7 +116,7 @@ fn log<'a>(alloc: Global) -> Arg<'a>
 
 fn abort_waits<'a>(alloc: Global) -> Arg<'a>
     ensures rule { rule_of result ≡ flag_rule (codes "abort-waits") }
-    ensures own { result.global ≡ false }
+    ensures own { IsFalse result.global }
 {
     flag(alloc, "abort-waits").help(
         "An abort that comes while an operation waits for a lock ends the wait: it is answered, and the operation is not",
@@ -125,7 +125,7 @@ fn abort_waits<'a>(alloc: Global) -> Arg<'a>
 
 fn metrics<'a>(alloc: Global) -> Arg<'a>
     ensures rule { rule_of result ≡ number_rule (codes "metrics") 0 65535 }
-    ensures own { result.global ≡ false }
+    ensures own { IsFalse result.global }
 {
     Arg::new(alloc, "metrics")
         .long("metrics")
@@ -139,7 +139,7 @@ fn metrics<'a>(alloc: Global) -> Arg<'a>
 
 fn serve<'a>(alloc: Global) -> Result<Command<'a>, AllocError>
     ensures line { IfOk result (λ c. app_of c ≡ serve_line) }
-    ensures own { IfOk result (λ c. has_globals c ≡ false) }
+    ensures own { IfOk result (λ c. IsFalse (has_globals c)) }
 {
     Command::new(alloc, "serve")
         .about("Serves each connection to a port or a socket file as a session")
@@ -158,7 +158,7 @@ fn serve<'a>(alloc: Global) -> Result<Command<'a>, AllocError>
 
 fn replay<'a>(alloc: Global) -> Result<Command<'a>, AllocError>
     ensures line { IfOk result (λ c. app_of c ≡ replay_line) }
-    ensures own { IfOk result (λ c. has_globals c ≡ false) }
+    ensures own { IfOk result (λ c. IsFalse (has_globals c)) }
 {
     Command::new(alloc, "replay")
         .about("Answers the frames of standard input on standard output")

@@ -92,7 +92,12 @@ where
     W: Target,
     G: Gate + Notes + Paged + Sync,
     requires { opened ≡ J.book }
-    ensures { OfRun words (λ outbox. Plays outbox (streams (R.remaining input.old) (W.contents output.old) (R.faults input.old) (W.faults output.old)) (streams (R.remaining input.new) (W.contents output.new) (R.faults input.new) (W.faults output.new)) result) (input.new ≡ input.old) }
+    ensures { OfRun words
+        (λ outbox. Plays outbox
+        (streams (R.remaining input.old) (W.contents output.old) (R.faults input.old)
+        (W.faults output.old))
+        (streams (R.remaining input.new) (W.contents output.new) (R.faults input.new)
+        (W.faults output.new)) result) (input.new ≡ input.old) }
 {
     match words {
         Run::Replay { outbox } => play(rt.alloc(), input, output, outbox),
@@ -103,7 +108,11 @@ where
 }
 
 fn play<R: Source, W: Target>(alloc: Global, input: &mut R, output: &mut W, outbox: u32) -> End
-    ensures { Plays outbox (streams (R.remaining input.old) (W.contents output.old) (R.faults input.old) (W.faults output.old)) (streams (R.remaining input.new) (W.contents output.new) (R.faults input.new) (W.faults output.new)) result }
+    ensures { Plays outbox
+        (streams (R.remaining input.old) (W.contents output.old) (R.faults input.old)
+        (W.faults output.old))
+        (streams (R.remaining input.new) (W.contents output.new) (R.faults input.new)
+        (W.faults output.new)) result }
 {
     end_of_replay(replay(alloc, input, output, outbox as usize))
 }
@@ -111,7 +120,8 @@ fn play<R: Source, W: Target>(alloc: Global, input: &mut R, output: &mut W, outb
 /// Shows the parser's text: what was asked for on the output, a mistake on the errors. Out of memory has none of its own.
 fn show<W: Target, E: Target>(alloc: Global, error: &Error, output: &mut W, errors: &mut E) -> End
     ensures end { IsShown (end_of_words (kind_of error.now)) result }
-    ensures streams { OnStreams (end_of_words (kind_of error.now)) (output.new ≡ output.old) (errors.new ≡ errors.old) }
+    ensures streams { OnStreams (end_of_words (kind_of error.now)) (output.new ≡ output.old)
+        (errors.new ≡ errors.old) }
 {
     match end_of_words(error.kind()) {
         End::Done => match put_text(alloc, error, output) {
@@ -139,7 +149,8 @@ fn put_text<W: Target>(alloc: Global, error: &Error, device: &mut W) -> Result<(
 fn tell<E: Target>(errors: &mut E, end: &End) -> u8
     ensures status { result ≡ status_of end.now }
     ensures bound { result ≤ 3 }
-    ensures line { TellsEnd (line_of end.now) (E.contents errors.old) (E.contents errors.new) (E.faults errors.old) (E.faults errors.new) }
+    ensures line { TellsEnd (line_of end.now) (E.contents errors.old) (E.contents errors.new)
+        (E.faults errors.old) (E.faults errors.new) }
 {
     if let Some(line) = line_of(end) {
         let _told = give_all(errors, line.as_bytes());

@@ -30,8 +30,11 @@ pub enum Run {
 /// What these words ask for. The first is the program's name.
 pub fn read_words<'a, S: AsStr>(alloc: Global, words: &'a [S]) -> Result<Run, Error>
     ensures range { IfOk result AreInRange }
-    ensures asked { IfOk result (IsAskedBy (subcommand_of command_line (map S.text words.entry.now))) }
-    ensures fails { FailsBy (or_else (fault_of command_line (map S.text words.entry.now)) (address_fault (subcommand_of command_line (map S.text words.entry.now)))) result }
+    ensures asked { IfOk result
+        (IsAskedBy (subcommand_of command_line (map S.text words.entry.now))) }
+    ensures fails { FailsBy
+        (or_else (fault_of command_line (map S.text words.entry.now))
+        (address_fault (subcommand_of command_line (map S.text words.entry.now)))) result }
 {
     let matches = command(alloc)?.try_get_matches_from(words)?;
     run_of(alloc, &matches)
@@ -58,7 +61,9 @@ fn run_of(alloc: Global, matches: &ArgMatches<'_>) -> Result<Run, Error>
 /// Where clients are to connect. The parser itself has no rule of one option on another: docs/DECISIONS.md says why.
 fn address(alloc: Global, matches: &ArgMatches<'_>) -> Result<Address, Error>
     ensures asked { IfOk result (IsAddressOf (rows_of (found_of matches.now))) }
-    ensures fails { FailsBy (address_kinds (first_of (codes "port") (rows_of (found_of matches.now))) (first_of (codes "socket") (rows_of (found_of matches.now)))) result }
+    ensures fails { FailsBy
+        (address_kinds (first_of (codes "port") (rows_of (found_of matches.now)))
+        (first_of (codes "socket") (rows_of (found_of matches.now)))) result }
 {
     match (written(matches, "port"), written(matches, "socket")) {
         (None, None) => refused(
@@ -83,7 +88,8 @@ fn address(alloc: Global, matches: &ArgMatches<'_>) -> Result<Address, Error>
 
 /// The text of an option as it was written, where it is given.
 fn written<'a>(matches: &ArgMatches<'a>, name: &str) -> Option<&'a str>
-    ensures { option_map (λ text. text.now) result ≡ first_of name.now (rows_of (found_of matches.now)) }
+    ensures { option_map (λ text. text.now) result
+        ≡ first_of name.now (rows_of (found_of matches.now)) }
 {
     matches.get_str(name)
 }
@@ -163,9 +169,12 @@ fn idle(matches: &ArgMatches<'_>) -> Option<u32>
 
 fn sizes(matches: &ArgMatches<'_>) -> Sizes
     ensures range { AreSizes result }
-    ensures connections { IsNumberOf (codes "connections") 1 64 1 (rows_of (found_of matches.now)) result.connections }
-    ensures outbox { IsNumberOf (codes "outbox") 1 65536 64 (rows_of (found_of matches.now)) result.outbox }
-    ensures journal { IsNumberOf (codes "journal") 16 65536 1024 (rows_of (found_of matches.now)) result.journal }
+    ensures connections { IsNumberOf (codes "connections") 1 64 1
+        (rows_of (found_of matches.now)) result.connections }
+    ensures outbox { IsNumberOf (codes "outbox") 1 65536 64
+        (rows_of (found_of matches.now)) result.outbox }
+    ensures journal { IsNumberOf (codes "journal") 16 65536 1024
+        (rows_of (found_of matches.now)) result.journal }
 {
     Sizes {
         connections: number(matches, "connections", 1, 64, 1),
@@ -180,7 +189,8 @@ fn number(matches: &ArgMatches<'_>, name: &str, least: u32, most: u32, fallback:
     requires most { fallback ≤ most }
     ensures least { least ≤ result }
     ensures most { result ≤ most }
-    ensures asked { IsNumberOf name.now least most fallback (rows_of (found_of matches.now)) result }
+    ensures asked { IsNumberOf name.now least most fallback
+        (rows_of (found_of matches.now)) result }
 {
     match matches.get_one(name) {
         Some(number) if least <= number && number <= most => number,
@@ -191,7 +201,8 @@ fn number(matches: &ArgMatches<'_>, name: &str, least: u32, most: u32, fallback:
 /// What the words of this process ask for.
 pub fn asked<H: Env + AllocGlobal>(rt: &H) -> Result<Run, Error>
     ensures range { IfOk result AreInRange }
-    ensures asked { IfOk result (λ run. (words : List (List ℕ)) × IsAskedBy (subcommand_of command_line words) run) }
+    ensures asked { IfOk result
+        (λ run. (words : List (List ℕ)) × IsAskedBy (subcommand_of command_line words) run) }
 {
     let alloc = rt.alloc();
     match std::env::args(rt) {

@@ -36,7 +36,9 @@ fn text_weight(bytes: &[u8]) -> u64
 }
 
 fn big_weight(z: i128) -> u64
-    ensures { result ≡ min (text_weight_of (length (magnitude (unsigned_abs z))) (sign_of z ∷ magnitude (unsigned_abs z))) (2 ^ 48 - 1) }
+    ensures { result
+        ≡ min (text_weight_of (length (magnitude (unsigned_abs z)))
+        (sign_of z ∷ magnitude (unsigned_abs z))) (2 ^ 48 - 1) }
 {
     let bytes = low_first(z.unsigned_abs());
     let digits = significant_of(&bytes);

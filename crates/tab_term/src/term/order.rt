@@ -19,13 +19,15 @@ use crate::term::{Pairs, Term, Terms};
 use std::cmp::Ordering;
 
 fn compare_bytes(x: &[u8], y: &[u8]) -> Ordering
-    ensures { result ≡ ordering_then (nat_cmp (length x.now) (length y.now)) (slice_cmp nat_cmp x.now y.now) }
+    ensures { result
+        ≡ ordering_then (nat_cmp (length x.now) (length y.now)) (slice_cmp nat_cmp x.now y.now) }
 {
     x.len().cmp(&y.len()).then_with(|| x.cmp(y))
 }
 
 fn compare_atoms(x: &Atom, y: &Atom) -> Ordering
-    ensures { result ≡ ordering_then (nat_cmp (length x.now) (length y.now)) (slice_cmp nat_cmp x.now y.now) }
+    ensures { result
+        ≡ ordering_then (nat_cmp (length x.now) (length y.now)) (slice_cmp nat_cmp x.now y.now) }
 {
     compare_bytes(x.as_str().as_bytes(), y.as_str().as_bytes())
 }
@@ -39,7 +41,10 @@ fn compare_signed(s: u8, a: &[u8], t: u8, b: &[u8]) -> Ordering
 }
 
 fn compare_bigs(x: i128, y: i128) -> Ordering
-    ensures { result ≡ slice_cmp nat_cmp (length (magnitude (unsigned_abs x)) ∷ sign_of x ∷ magnitude (unsigned_abs x)) (length (magnitude (unsigned_abs y)) ∷ sign_of y ∷ magnitude (unsigned_abs y)) }
+    ensures { result
+        ≡ slice_cmp nat_cmp
+        (length (magnitude (unsigned_abs x)) ∷ sign_of x ∷ magnitude (unsigned_abs x))
+        (length (magnitude (unsigned_abs y)) ∷ sign_of y ∷ magnitude (unsigned_abs y)) }
 {
     let a = low_first(x.unsigned_abs());
     let b = low_first(y.unsigned_abs());
@@ -90,7 +95,8 @@ fn compare(a: &Term, b: &Term) -> Ordering
 #[cycle(order)]
 #[tactic(auto, using(crate::proofs::Lists::count_terms))]
 fn compare_all(xs: &Terms, ys: &Terms) -> Ordering
-    ensures { result ≡ ordering_then (nat_cmp (count xs.now) (count ys.now)) (members_order xs.now ys.now) }
+    ensures { result
+        ≡ ordering_then (nat_cmp (count xs.now) (count ys.now)) (members_order xs.now ys.now) }
 {
     let (xs, ys) = (xs.items.as_slice(), ys.items.as_slice());
     match xs.len().cmp(&ys.len()) {
@@ -117,7 +123,9 @@ fn compare_members(xs: &[Term], ys: &[Term]) -> Ordering
 #[cycle(order)]
 #[tactic(auto, using(crate::proofs::Lists::count_pairs))]
 fn compare_maps(xs: &Pairs, ys: &Pairs) -> Ordering
-    ensures { result ≡ ordering_then (nat_cmp (pair_count xs.now) (pair_count ys.now)) (pairs_order xs.now ys.now) }
+    ensures { result
+        ≡ ordering_then (nat_cmp (pair_count xs.now) (pair_count ys.now))
+        (pairs_order xs.now ys.now) }
 {
     let (xs, ys) = (xs.pairs.as_slice(), ys.pairs.as_slice());
     match xs.len().cmp(&ys.len()) {
@@ -143,7 +151,9 @@ fn compare_pairs(xs: &[(Term, Term)], ys: &[(Term, Term)]) -> Ordering
 
 #[cycle(order)]
 fn compare_pair(x: &(Term, Term), y: &(Term, Term)) -> Ordering
-    ensures { result ≡ ordering_then (order (term x.now.0) (term y.now.0)) (order (term x.now.1) (term y.now.1)) }
+    ensures { result
+        ≡ ordering_then (order (term x.now.0) (term y.now.0))
+        (order (term x.now.1) (term y.now.1)) }
 {
     match compare(&x.0, &y.0) {
         Ordering::Equal => compare(&x.1, &y.1),
@@ -181,7 +191,8 @@ impl Ord for Term {
 #[tactic(auto, using(crate::specs::OrderLaws::canon_apart, crate::specs::OrderLaws::canon_same, crate::specs::OrderLaws::canon_total))]
 pub fn the_order_is_that_of_spellings()
     ensures equal { (a b : PlainTerm) → slice_cmp nat_cmp (canon a) (canon b) ≡ Equal → a ≡ b }
-    ensures apart { (a b : PlainTerm) (u v : List ℕ) → canon a ++ u ≡ canon b ++ v → (a ≡ b) × (u ≡ v) }
+    ensures apart { (a b : PlainTerm) (u v : List ℕ) → canon a ++ u ≡ canon b ++ v
+        → (a ≡ b) × (u ≡ v) }
     ensures total { IsTotalOrder (on canon (slice_cmp nat_cmp)) }
 {}
 
@@ -196,7 +207,9 @@ impl PartialOrd for Term {
 
     ghost partial_cmp = { as_partial_cmp (on (λ t. canon (term t)) (slice_cmp nat_cmp)) };
 
-    ghost laws = { partial_order_from_own_ties (partial_order_from_total (on_total (λ t. canon (term t)) nat_list_cmp_total)) (λ x y. matches_same (term x) (term y)) };
+    ghost laws = { partial_order_from_own_ties
+        (partial_order_from_total (on_total (λ t. canon (term t)) nat_list_cmp_total))
+        (λ x y. matches_same (term x) (term y)) };
 
     fn partial_cmp(&self, other: &Term) -> Option<Ordering> {
         Some(self.cmp(other))
