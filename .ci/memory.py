@@ -121,6 +121,18 @@ def long_reads(transactions, reads):
     return hold
 
 
+def short_reads(count):
+    """One-shots that each ask so often as one may, of which the journal keeps each operation: fewer than its entries would be."""
+    request, size = ("transaction", [("match_object", ("t", "_", "none"))] * 999, 0), size_of(("atomic", [[]] * 999))
+
+    def hold(server, client):
+        for _ in range(count):
+            ask_long(client, request, size)
+        return server.kilobytes()
+
+    return hold
+
+
 def whole_reads(request, answer, count, writes=False):
     """Transactions that each ask for all of the table; where each writes before, a record of its own."""
     size = size_of(answer)
@@ -346,6 +358,7 @@ CASES = [
     ("match_object of all", within(30_000, table(small_record, 20_000), whole_reads(ALL_RECORDS, list(map(small_record, range(20_000))), 100))),
     ("match_object of half", within(30_000, table(halved, 20_000, options=INDEXED), whole_reads(HALF, list(map(halved, range(0, 20_000, 2))), 300))),
     ("index_read of half", within(30_000, table(halved, 20_000, options=INDEXED), whole_reads(BY_INDEX, list(map(halved, range(0, 20_000, 2))), 300))),
+    ("operations in the journal", within(160_000, table(small_record, 10), short_reads(250))),
     ("a one-shot's answers", within(30_000, table(small_record, 20_000), answers(300, list(range(20_000))))),
     ("rows of a server", within(58_000, table(small_record, 1), rows(small_record, 100_000)), "--journal", "16"),
     ("rows of a bag", within(55_000, table(of_ten, 1, options=[("type", "bag")]), rows(of_ten, 100_000)), "--journal", "16"),

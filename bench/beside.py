@@ -169,9 +169,12 @@ def head():
     vsn = 'application:load(mnesia), {ok, V} = application:get_key(mnesia, vsn), io:format("~s", [V]), halt().'
     mnesia = version("erl", "-noshell", "-eval", vsn)
     redis = re.search(r"v=(\S+)", version("redis-server", "--version"))[1]
+    with open("/proc/cpuinfo", encoding="utf-8") as file:
+        processor = re.search(r"model name\s*: (.*)", file.read())[1]
     return [
         f"tabd's rate divided by that of Mnesia {mnesia} behind a server of the same frames, and by that of Redis {redis}, over sockets on one machine of",
-        f"{os.cpu_count()} cores, {time.strftime('%Y-%m-%d')}. Each figure is the median of {ROUNDS} measurements, with the least and the greatest in brackets (`bench/beside.py`).",
+        f"{os.cpu_count()} hardware threads ({processor}), {time.strftime('%Y-%m-%d')}: {KEYS:,} records with values of {len(VALUE)} bytes. Each figure is the median of {ROUNDS}",
+        "measurements, with the least and the greatest in brackets (`bench/beside.py`).",
         "",
         "| Load | Connections | tabd, rounds a second | times Mnesia's rate | times Redis's rate |",
         "|---|---|---|---|---|",

@@ -2,7 +2,7 @@
 use Rattle.std.proofs.Common.{◌≡◌, ◌≢◌, ◌≤◌, ◌<◌, ◌⊎◌, inl, inr, ℕ, ◌+◌, List, [], ◌∷◌, ◌++◌, Bool, true, false, ◌&&◌, refl, sym, ap, ◌∙◌, subst, arith, append-nil, length, Option, Some, None}
 use Rattle.std.specs.Bool.{Decides}
 use Rattle.std.specs.List.{AllByRecursion}
-use Rattle.std.specs.Prelude.{Result, Ok, Err, IfOk, IfSome, OnOk, OnErr, ◌==◌, ◌-◌, ◌^◌, if◌then◌else◌, nat_lt}
+use Rattle.std.specs.Prelude.{Result, Ok, Err, IfOk, IfSome, OnOk, OnErr, zero, suc, ◌==◌, ◌||◌, ◌-◌, ◌^◌, if◌then◌else◌, nat_lt, nat_le}
 use Rattle.std.proofs.lemmas.Bool.{and_parts}
 use Rattle.std.proofs.lemmas.Bool.Decides.{nat_tests}
 use Rattle.tab_model.specs.declared.data.Command.TheVariants as command
@@ -20,13 +20,13 @@ use Rattle.tab_model.proofs.PostsStay.{JoinsAs, stays, found_has, post_stays}
 use Rattle.tab_model.proofs.Schedules.{new_sound}
 use Rattle.tab_model.proofs.ReachedWaits.{new_rising, step_rising}
 use Rattle.tab_model.proofs.StandingLemmas.{new_follows, step_follows, fold_follows, forget_follows, history_of, commits_are, sent_is, watched_is, sent_grows, left_away}
-use Rattle.tab_journal.specs.Journals.{Kept, fold_oldest, forget}
+use Rattle.tab_journal.specs.Journals.{Kept, fold_oldest, forget, is_full, most_moves, moves_in}
 use Rattle.tab_core.specs.Runs.{takes_no_memory}
 use Rattle.tab_named.specs.Ends.{empty_outbox}
 use Rattle.tab_book.specs.declared.step.Step.{Step}
 use Rattle.tab_book.specs.declared.step.Step.TheVariants as step
 use Rattle.tab_book.specs.Running.{IsRunning, HavePlaces, Holds}
-use Rattle.tab_book.specs.Steps.{is_full, oldest_joined, folded, with_room, with_entries, leaves, has_room, with_session, StepsFrom, KeepsPosts, ask_of, is_never_refused}
+use Rattle.tab_book.specs.Steps.{oldest_joined, folded, until_room, with_room_made, with_room, with_entries, leaves, has_room, with_session, StepsFrom, KeepsPosts, ask_of, is_never_refused}
 
 pub new_holds : (outbox seen : ℕ) (limits : Limits) (n : ℕ) → 1 ≤ outbox → 1 ≤ n → Holds outbox seen (new limits) (record { base = empty; entries = []; limit = n })
 new_holds outbox seen limits n room limit = record {
@@ -72,21 +72,23 @@ module _ (outbox seen : ℕ) (σ : State) where
           shorter : (y : Entry) (ys : List Entry) → length (y ∷ ys) ≤ j.limit → length ys ≤ j.limit
           shorter y ys h = omega (arith, h)
 
-  pub fold_makes_room : (j : Kept) → Holds outbox seen σ j → is_full j ≡ true → length (folded σ j).entries < (folded σ j).limit
-  fold_makes_room j k full = by j.entries (equal (length j.entries) j.limit full)
+  pub fold_shortens : (j : Kept) → 0 < length j.entries → length (folded σ j).entries < length j.entries
+  fold_shortens j some = by j.entries some
     where
-      equal : (a b : ℕ) → (a == b) ≡ true → a ≡ b
-      equal a b h = grind (arith, nat_tests)
-
-      by : (es : List Entry) → length es ≡ j.limit → length (Kept.entries (Rattle.tab_journal.specs.Journals.without_oldest (oldest_joined σ es) j.base es j.limit)) < Kept.limit (Rattle.tab_journal.specs.Journals.without_oldest (oldest_joined σ es) j.base es j.limit)
-      by [] e = let l = k.limit in omega (arith, e, l)
-      by (x ∷ es) e = omega (arith, e)
+      by : (es : List Entry) → 0 < length es → length (Kept.entries (Rattle.tab_journal.specs.Journals.without_oldest (oldest_joined σ es) j.base es j.limit)) < length es
+      by [] h = absurd (omega (arith, h))
+      by (x ∷ es) h = omega arith
 
   pub has_entry : (j : Kept) → Holds outbox seen σ j → is_full j ≡ true → 0 < length j.entries
-  has_entry j k full = let l = k.limit in let e = equal (length j.entries) j.limit full in omega (arith, l, e)
+  has_entry j k full = by j.entries full
     where
-      equal : (a b : ℕ) → (a == b) ≡ true → a ≡ b
-      equal a b h = grind (arith, nat_tests)
+      none : (n : ℕ) → 1 ≤ n → ((zero == n) || nat_le most_moves zero) ≡ true → ⊥
+      none zero l h = omega (arith, l)
+      none (suc n) l h = cc
+
+      by : (es : List Entry) → ((length es == j.limit) || nat_le most_moves (moves_in es)) ≡ true → 0 < length es
+      by [] h = absurd (none j.limit k.limit h)
+      by (x ∷ es) h = omega arith
 
 -- ---- a step
 
@@ -116,10 +118,10 @@ joins_as seen σ n Take h = tt
 joins_as seen σ n (DoCommand c) h = tt
 
 -- an entry comes only where there is room for it
-pub one_fits : (σ : State) (j : Kept) (over : List ℕ) (n : ℕ) (a : Ask) (o : Outcome) → outcome σ over n a ≡ o → (may_enter σ n a ≡ true → length j.entries < j.limit) → entries o.entry ≢ [] → length j.entries < j.limit
-one_fits σ j over n a o is room some = by (may_enter σ n a) refl
+pub one_fits : (σ : State) (over : List ℕ) (n : ℕ) (a : Ask) (o : Outcome) (P : Type 0) → outcome σ over n a ≡ o → (may_enter σ n a ≡ true → P) → entries o.entry ≢ [] → P
+one_fits σ over n a o P is room some = by (may_enter σ n a) refl
   where
-    by : (b : Bool) → may_enter σ n a ≡ b → length j.entries < j.limit
+    by : (b : Bool) → may_enter σ n a ≡ b → P
     by true e = room e
     by false e = absurd (some (ap entries (ap (λ (x : Outcome). x.entry) (sym is) ∙ enters_none σ over n a e)))
 
@@ -181,14 +183,43 @@ leaver_gone σ over n o sound joined is may = left_away σ over n sound joined (
 
 -- ---- a journal with room
 
-pub no_fold : (σ : State) (n : ℕ) (a : Ask) (j : Kept) → (is_full j && may_enter σ n a) ≡ false → with_room σ n a j ≡ j
-no_fold σ n a j h = ap (λ b. if b then folded σ j else j) h
+pub a_room : (σ : State) (n : ℕ) (a : Ask) (j : Kept) → may_enter σ n a ≡ true → with_room σ n a j ≡ with_room_made σ j
+a_room σ n a j h = ap (λ b. if b then with_room_made σ j else j) h
 
-pub a_fold : (σ : State) (n : ℕ) (a : Ask) (j : Kept) → (is_full j && may_enter σ n a) ≡ true → with_room σ n a j ≡ folded σ j
-a_fold σ n a j h = ap (λ b. if b then folded σ j else j) h
+-- a journal that isn't full has room as it is
+pub room_there : (σ : State) (j : Kept) → is_full j ≡ false → with_room_made σ j ≡ j
+room_there σ j h = by j.entries refl
+  where
+    by : (es : List Entry) → j.entries ≡ es → until_room σ j.limit j.base es ≡ j
+    by [] e = λ i. record j { entries = e (~ i) }
+    by (x ∷ es) e =
+        ap (λ b. if b then until_room σ j.limit (after_fold (still_joined σ x) j.base x) es else record { base = j.base; entries = x ∷ es; limit = j.limit }) (ap is_full (λ i. record j { entries = e (~ i) }) ∙ h)
+        ∙ (λ i. record j { entries = e (~ i) })
+
+-- it is as it was where it isn't full, or where the step gives no entry
+pub no_room : (σ : State) (n : ℕ) (a : Ask) (j : Kept) → (is_full j && may_enter σ n a) ≡ false → with_room σ n a j ≡ j
+no_room σ n a j h = by (is_full j) (may_enter σ n a) refl h
+  where
+    by : (b c : Bool) → is_full j ≡ b → (b && c) ≡ false → (if c then with_room_made σ j else j) ≡ j
+    by b false e h = refl
+    by true true e h = cc
+    by false true e h = room_there σ j e
+
+-- a full one makes the same room with its oldest entry folded
+pub room_folded : (σ : State) (j : Kept) → is_full j ≡ true → with_room_made σ (folded σ j) ≡ with_room_made σ j
+room_folded σ j h = by j.entries refl
+  where
+    by : (es : List Entry) → j.entries ≡ es → with_room_made σ (Rattle.tab_journal.specs.Journals.without_oldest (oldest_joined σ es) j.base es j.limit) ≡ until_room σ j.limit j.base es
+    by [] e = refl
+    by (x ∷ es) e =
+        sym (ap (λ b. if b then until_room σ j.limit (after_fold (still_joined σ x) j.base x) es else record { base = j.base; entries = x ∷ es; limit = j.limit }) (ap is_full (λ i. record j { entries = e (~ i) }) ∙ h))
 
 pub room_left : (outbox seen : ℕ) (σ : State) (j : Kept) → Holds outbox seen σ j → is_full j ≡ false → length j.entries < j.limit
-room_left outbox seen σ j k h = let w = k.within in grind (arith, nat_tests)
+room_left outbox seen σ j k h = let w = k.within in by (length j.entries == j.limit) (nat_le most_moves (moves_in j.entries)) refl h w
+  where
+    by : (a b : Bool) → (length j.entries == j.limit) ≡ a → (a || b) ≡ false → length j.entries ≤ j.limit → length j.entries < j.limit
+    by true b e h w = cc
+    by false b e h w = grind (arith, nat_tests)
 
 -- ---- what is never refused
 
@@ -237,7 +268,7 @@ take_holds outbox seen σ j k over n o is sound =
 module _ (outbox seen : ℕ) (σ : State) (j : Kept) (k : Holds outbox seen σ j) (over : List ℕ) (n : ℕ) (a : Ask) (o : Outcome) (is : outcome σ over n a ≡ o) (joins : JoinsBook seen a) where
   pub made_holds : IsSound o.state → (may_enter σ n a ≡ true → length j.entries < j.limit) → (entered now : Kept) → entered ≡ with_entries j (entries o.entry)
       → (b : Bool) → b ≡ leaves σ n a → now ≡ (if b then forget entered n else entered) → Holds outbox seen o.state now
-  made_holds sound room entered now e b l f = by b l (subst (Holds outbox seen o.state) (sym e) (step_holds outbox seen σ j k over n a o is joins sound (one_fits σ j over n a o is room))) f
+  made_holds sound room entered now e b l f = by b l (subst (Holds outbox seen o.state) (sym e) (step_holds outbox seen σ j k over n a o is joins sound (one_fits σ over n a o (length j.entries < j.limit) is room))) f
     where
       by : (b : Bool) → b ≡ leaves σ n a → Holds outbox seen o.state entered → now ≡ (if b then forget entered n else entered) → Holds outbox seen o.state now
       by true l h f = subst (Holds outbox seen o.state) (sym f) (forget_holds outbox seen o.state entered n (gone l) h)

@@ -1,15 +1,15 @@
 -- What the calls of a book do (this project's own). A step is the core's, and its entry is put into the journal, from which
--- the oldest goes first where it is full.
-use Rattle.std.specs.Prelude.{◌≡◌, ◌≢◌, ◌⊎◌, ◌+◌, ◌-◌, ◌^◌, ℕ, List, [], ◌∷◌, ◌++◌, Bool, true, false, ◌&&◌, ◌==◌, nat_lt, if◌then◌else◌, Option, Some, length}
+-- the oldest go first where it is full.
+use Rattle.std.specs.Prelude.{◌≡◌, ◌≢◌, ◌+◌, ◌-◌, ◌^◌, ℕ, zero, suc, List, [], ◌∷◌, ◌++◌, Bool, true, false, ◌&&◌, ◌==◌, nat_lt, if◌then◌else◌, Option, Some, length}
 use Rattle.tab_model.specs.declared.data.Entry.{Entry}
 use Rattle.tab_model.specs.declared.data.Item.{Item}
 use Rattle.tab_model.specs.declared.data.Reply.{Reply}
-use Rattle.tab_model.specs.History.{slice_since_after}
+use Rattle.tab_model.specs.History.{Base, after_fold, slice_since_after}
 use Rattle.tab_model.specs.Standing.{is_joined, still_joined, may_enter}
 use Rattle.tab_model.specs.State.{Outbox, Session, State, session_at}
 use Rattle.tab_model.specs.Outcome.{Ask, Join, Leave, Retry, Take, DoCommand, fresh, is_abort, outcome}
 use Rattle.tab_model.specs.Run.{Allowed, entries}
-use Rattle.tab_journal.specs.Journals.{Kept, fold_oldest, forget}
+use Rattle.tab_journal.specs.Journals.{Kept, fold_oldest, forget, is_full}
 use Rattle.tab_named.specs.Ends.{empty_outbox}
 use Rattle.tab_book.specs.declared.step.Step.{Step}
 use Rattle.tab_book.specs.declared.step.Step.TheVariants as step
@@ -29,10 +29,6 @@ is_never_refused step.Leave = true
 is_never_refused (step.Do c) = is_abort c
 is_never_refused step.Retry = false
 
--- the journal has as many entries as its limit says
-abbrev pub is_full : Kept → Bool
-is_full j = length j.entries == j.limit
-
 -- of the oldest entry, whether its session is still joined
 abbrev pub oldest_joined : State → List Entry → Bool
 oldest_joined σ [] = false
@@ -42,9 +38,25 @@ oldest_joined σ (e ∷ es) = still_joined σ e
 abbrev pub folded : State → Kept → Kept
 folded σ j = fold_oldest (oldest_joined σ j.entries) j
 
--- the oldest entry is folded where there is no room for one that the step may give
+-- the journal with so many of its oldest entries in its base
+abbrev pub with_folds : State → ℕ → Kept → Kept
+with_folds σ zero j = j
+with_folds σ (suc k) j = folded σ (with_folds σ k j)
+
+-- the journal with this limit, base and entries, of which the oldest are in its base: as many as it takes until it isn't full
+abbrev pub until_room : State → ℕ → Base → List Entry → Kept
+until_room σ limit b [] = record { base = b; entries = []; limit = limit }
+until_room σ limit b (e ∷ es) =
+    if is_full (record { base = b; entries = e ∷ es; limit = limit }) then until_room σ limit (after_fold (still_joined σ e) b e) es
+    else record { base = b; entries = e ∷ es; limit = limit }
+
+-- its oldest entries are folded, as many as it takes until there is room for one more
+abbrev pub with_room_made : State → Kept → Kept
+with_room_made σ j = until_room σ j.limit j.base j.entries
+
+-- there is room for an entry where the step may give one
 abbrev pub with_room : State → ℕ → Ask → Kept → Kept
-with_room σ n a j = if is_full j && may_enter σ n a then folded σ j else j
+with_room σ n a j = if may_enter σ n a then with_room_made σ j else j
 
 -- the journal with these entries behind its own
 abbrev pub with_entries : Kept → List Entry → Kept
@@ -73,14 +85,17 @@ pub record StepsFrom (σ : State) (journal : Kept) (n : ℕ) (a : Ask) (r : Repl
   pub sent : (m : ℕ) (s x : Session) → session_at σ.sessions m ≡ Some s → session_at new.state.sessions m ≡ Some x
       → x.outbox.items ≡ s.outbox.items ++ slice_since_after journal.base m journal.entries (entries entry)
 
--- a step of a book that was made; the oldest entry was folded first where the journal had no room
+-- a step of a book that was made; the oldest entries were folded first where the journal had no room
 abbrev pub StepsTo : Running → ℕ → Ask → Reply → Running → Type 0
 StepsTo old n a r new = StepsFrom old.state (with_room old.state n a old.journal) n a r new
 
--- one that was refused for memory left the journal as it was, or the oldest entry folded
+-- one that was refused for memory left the journal as it was, or with so many of its oldest entries folded
 pub record MayFold (old : Running) (n : ℕ) (a : Ask) (new : Running) : Type 0 where
   pub state : new.state ≡ old.state
-  pub journal : (new.journal ≡ old.journal) ⊎ (new.journal ≡ with_room old.state n a old.journal)
+  pub folds : ℕ
+  pub journal : new.journal ≡ with_folds old.state folds old.journal
+  -- and none that the step doesn't fold: from there it makes the same room
+  pub room : with_room old.state n a new.journal ≡ with_room old.state n a old.journal
 
 -- a session that stays has the post that it had
 abbrev pub KeepsPosts : State → State → Type 0

@@ -7,7 +7,8 @@ ghost use Rattle.tab_model.specs.Run.{entries};
 ghost use Rattle.tab_model.specs.Standing.{may_enter as may_enter_of};
 ghost use Rattle.tab_core.specs.Runs.{takes_no_memory, ask_of as core_ask_of};
 ghost use Rattle.tab_book.specs.Releases.{is_retry, SaysReleases};
-ghost use Rattle.tab_book.specs.Steps.{ask_of, is_full, leaves as leaves_of, folded, oldest_joined as oldest_joined_of, with_entries, StepsFrom, StepsTo, MayFold, KeepsPosts};
+ghost use Rattle.tab_journal.specs.Journals.{is_full};
+ghost use Rattle.tab_book.specs.Steps.{ask_of, leaves as leaves_of, folded, oldest_joined as oldest_joined_of, with_entries, with_folds, with_room_made, StepsFrom, StepsTo, MayFold, KeepsPosts};
 
 use crate::book::Book;
 use crate::step::{Answered, Step};
@@ -26,8 +27,8 @@ struct Standing {
 
 impl<H: Host> Book<H> {
     /// One step of a session, with its entry put into the journal. Where the journal is full and the step may give an entry
-    /// the oldest is folded into the base first, which takes memory; where that is refused, or the step's, nothing else
-    /// changed.
+    /// the oldest are folded into the base first, until there is room for it, which takes memory; where that is refused, or
+    /// the step's, nothing else changed.
     pub fn step(&mut self, session: u32, step: Step) -> Result<Answered, AllocError>
         ensures done { IfOk result (λ r. StepsTo self.old session (ask_of step) r.told self.new) }
         ensures free { IsTrue (takes_no_memory self.old.state session (ask_of step))
@@ -54,9 +55,25 @@ impl<H: Host> Book<H> {
         ensures posts { KeepsPosts self.old.state self.new.state }
     {
         if self.journal.full() && self.may_enter(session, &step) {
-            self.fold()?;
+            self.make_room()?;
         }
         self.make(session, step)
+    }
+
+    /// The oldest entries are folded into the base, until there is room for one more.
+    fn make_room(&mut self) -> Result<(), AllocError>
+        ensures ok { OnOk result (self.new
+            ≡ record self.old { journal = with_room_made self.old.state self.old.journal }) }
+        ensures room { OnOk result (IsFalse (is_full self.new.journal)) }
+        ensures state { self.new.state ≡ self.old.state }
+        ensures folds { (k : ℕ) × (self.new.journal ≡ with_folds self.old.state k self.old.journal) }
+        ensures same { with_room_made self.old.state self.new.journal
+            ≡ with_room_made self.old.state self.old.journal }
+    {
+        while self.journal.full() {
+            self.fold()?;
+        }
+        Ok(())
     }
 
     /// None where no one waits or rests, so that nothing that is let go of matters to others.
@@ -101,7 +118,7 @@ impl<H: Host> Book<H> {
 
     fn make(&mut self, session: u32, step: Step) -> Result<SharedReply, AllocError>
         requires room { IsTrue (may_enter_of self.old.state session (ask_of step))
-            → length self.old.journal.entries < self.old.journal.limit }
+            → IsFalse (is_full self.old.journal) }
         ensures done { IfOk result
             (λ r. StepsFrom self.old.state self.old.journal session (ask_of step) r self.new) }
         ensures free { IsTrue (takes_no_memory self.old.state session (ask_of step)) → IsOk result }
@@ -120,13 +137,10 @@ impl<H: Host> Book<H> {
     /// The oldest entry is folded into the base.
     fn fold(&mut self) -> Result<(), AllocError>
         requires full { IsTrue (is_full self.old.journal) }
-        ensures ok { OnOk result
-            (self.new ≡ record {
-              state = self.old.state;
-              journal = folded self.old.state
-                  self.old.journal;
-            }) }
-        ensures room { OnOk result (length self.new.journal.entries < self.new.journal.limit) }
+        ensures ok { OnOk result (self.new
+            ≡ record self.old { journal = folded self.old.state self.old.journal }) }
+        ensures shorter { OnOk result
+            (length self.new.journal.entries < length self.old.journal.entries) }
         ensures err { OnErr result (self.new ≡ self.old) }
     {
         let joined = self.oldest_joined();
@@ -189,7 +203,7 @@ fn core_step<P>(step: Step) -> CoreStep<P>
 
 /// The reply, with the entry put into the journal.
 fn entered(journal: &mut Journal, stepped: Stepped) -> SharedReply
-    requires { entries stepped.entry ≢ [] → length journal.old.entries < journal.old.limit }
+    requires { entries stepped.entry ≢ [] → IsFalse (is_full journal.old) }
     ensures reply { result ≡ stepped.reply }
     ensures journal { journal.new ≡ with_entries journal.old (entries stepped.entry) }
 {

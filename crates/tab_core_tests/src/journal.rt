@@ -224,3 +224,52 @@ fn a_full_journal_hands_back(rt: HostRuntime) {
     let entry = commit(rt.alloc(), &[]).expect(&rt, "memory");
     assert!(rt; journal.try_push(entry).is_err() && journal.len() == 3);
 }
+
+/// The moves of commits, and whether a journal that has room for more entries is full behind them.
+static MOVES: [(&[usize], bool); 5] = [
+    (&[], false),
+    (&[131_071], false),
+    (&[65_535, 65_536], false),
+    (&[65_536, 65_536], true),
+    (&[1, 200_000], true),
+];
+
+/// A commit of so many begins of child levels.
+fn long_commit(alloc: Global, count: usize) -> Result<Entry, AllocError> {
+    let mut moves = Vec::new(alloc);
+    for _begin in 0..count {
+        moves.push(Move::Open)?;
+    }
+    Ok(Entry::Committed {
+        number: 1,
+        session: 1,
+        age: 1,
+        moves: Moves { items: moves },
+        told: Replies {
+            items: Vec::new(alloc),
+        },
+        overflowed: none(alloc),
+    })
+}
+
+/// A journal that is as full as it should be has room again once its oldest entries are folded.
+fn is_filled(alloc: Global, counts: &[usize], full: bool) -> Result<bool, AllocError> {
+    let mut journal = Journal::with_limit(alloc, 16)?;
+    for &count in counts {
+        journal
+            .try_push(long_commit(alloc, count)?)
+            .or(Err(AllocError))?;
+    }
+    let filled = journal.full();
+    let refused = journal.try_push(long_commit(alloc, 1)?).is_err();
+    let other = Journal::with_limit(alloc, 1)?;
+    fold(alloc, &mut journal, &other)?;
+    Ok(filled == full && refused == full && !journal.full())
+}
+
+#[test]
+fn moves_fill_a_journal(rt: HostRuntime) {
+    for (line, (counts, full)) in MOVES.iter().enumerate() {
+        assert!(rt; is_filled(rt.alloc(), counts, *full) == Ok(true), "line {line}");
+    }
+}

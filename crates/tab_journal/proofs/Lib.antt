@@ -1,3 +1,4 @@
+pub mod FullLemmas
 pub mod SurvivorLemmas
 pub mod SameLemmas
 pub mod AuditLemmas

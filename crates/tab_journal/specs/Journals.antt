@@ -1,6 +1,7 @@
 -- A journal as contracts see it: its base, its entries, oldest first, and how many it holds at most (this project's own).
-use Rattle.std.specs.Prelude.{ℕ, Bool, List, [], ◌∷◌}
+use Rattle.std.specs.Prelude.{ℕ, ◌+◌, min, Bool, ◌||◌, ◌==◌, nat_le, List, [], ◌∷◌, length}
 use Rattle.tab_model.specs.declared.data.Entry.{Entry}
+use Rattle.tab_model.specs.declared.data.Entry.TheVariants.{Committed}
 use Rattle.tab_model.specs.History.{Base, after_fold, without_subscriber}
 
 -- a journal as plain data, the oldest entry first
@@ -8,6 +9,24 @@ pub record Kept : Type 0 where
   pub base : Base
   pub entries : List Entry
   pub limit : ℕ
+
+-- how many moves of transactions a journal holds before it is full, whatever its limit of entries is
+abbrev pub most_moves : ℕ
+most_moves = 131072
+
+-- the moves of an entry: a commit has those of its transaction, of which as many as make a journal full are counted
+abbrev pub moves_of : Entry → ℕ
+moves_of (Committed n s age xs rs over) = min (length xs) most_moves
+moves_of e = 0
+
+-- the moves of all entries
+abbrev pub moves_in : List Entry → ℕ
+moves_in [] = 0
+moves_in (e ∷ es) = moves_of e + moves_in es
+
+-- it has as many entries as its limit says, or as many moves as one may hold
+abbrev pub is_full : Kept → Bool
+is_full k = (length k.entries == k.limit) || nat_le most_moves (moves_in k.entries)
 
 -- its oldest entry is folded into its base
 abbrev pub without_oldest : Bool → Base → List Entry → ℕ → Kept

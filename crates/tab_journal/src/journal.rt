@@ -1,10 +1,10 @@
 //! The entries, oldest first, over their base.
 
-ghost use Rattle.std.specs.Prelude.{◌≡◌, ◌≤◌, ◌<◌, ◌↔◌, ◌++◌, ◌∷◌, [], IfOk, IfErr, OnOk, OnErr, IsOk, IsTrue, length, slice_get};
+ghost use Rattle.std.specs.Prelude.{◌≡◌, ◌≤◌, ◌<◌, ◌↔◌, ◌++◌, ◌∷◌, [], IfOk, IfErr, OnOk, OnErr, IsOk, IsTrue, IsFalse, length, slice_get};
 ghost use Rattle.std.specs.Option.{option_copied};
 ghost use Rattle.std.specs.Bool.{Decides};
 ghost use Rattle.tab_model.specs.History.{empty as empty_base, IsHistory};
-ghost use Rattle.tab_journal.specs.Journals.{fold_oldest as fold_oldest_of, forget as forget_in};
+ghost use Rattle.tab_journal.specs.Journals.{fold_oldest as fold_oldest_of, forget as forget_in, is_full, moves_of as moves_of_entry};
 
 use crate::audit::is_history;
 use crate::base::Base;
@@ -14,18 +14,23 @@ use std::marker::Model;
 use tab_model::Entry;
 use tab_tables::Catalog;
 
-/// The entries that stand, oldest first, and what they started from.
+/// How many moves of transactions a journal holds before it is full, whatever its limit of entries is: what a move keeps
+/// (its operation, its reply) is many times what a client has to send for it.
+const MOST_MOVES: usize = 131_072;
+
+/// The entries that stand, oldest first, with the number of their moves, and what they started from.
 #[derive(Drop)]
 pub struct Journal {
     base: Base,
     entries: HeapCircularBuffer<Entry>,
+    moves: usize,
 }
 
 impl Model for Journal {
-    ghost use Rattle.std.specs.Prelude.{◌≤◌, length};
+    ghost use Rattle.std.specs.Prelude.{◌≡◌, ◌≤◌, ◌+◌, length};
     ghost use Rattle.std.specs.Coded.{codes};
     ghost use Rattle.tab_term.specs.Code.{term_code, terms_code, pairs_code};
-    ghost use Rattle.tab_journal.specs.Journals.{Kept};
+    ghost use Rattle.tab_journal.specs.Journals.{Kept, most_moves, moves_in};
 
     ghost Value = { Kept };
 
@@ -34,7 +39,8 @@ impl Model for Journal {
     ghost view = { λ a.
         record { base = a.base; entries = a.entries.items; limit = a.entries.capacity } };
 
-    ghost invariant = { λ a. length a.entries.items ≤ a.entries.capacity };
+    ghost invariant = { λ a. (length a.entries.items ≤ a.entries.capacity)
+        × (a.moves ≡ moves_in a.entries.items) × (a.moves ≤ most_moves + most_moves) };
 }
 
 impl Journal {
@@ -47,24 +53,31 @@ impl Journal {
         Ok(Journal {
             base: Base::empty(alloc),
             entries: HeapCircularBuffer::with_capacity(alloc, limit)?,
+            moves: 0,
         })
     }
 
-    /// Whether it holds as many entries as it may.
+    /// Whether it holds as many entries as its limit says, or as many moves as a journal may.
     pub fn full(&self) -> bool
-        ensures { IsTrue result ↔ (length self.now.entries ≡ self.now.limit) }
+        ensures { result ≡ is_full self.now }
     {
-        self.entries.is_full()
+        self.entries.is_full() || self.moves >= MOST_MOVES
     }
 
     /// Puts an entry behind the others, or hands it back. Takes no memory.
     pub fn try_push(&mut self, entry: Entry) -> Result<(), Entry>
-        ensures full { IsOk result ↔ (length self.old.entries < self.old.limit) }
+        ensures full { IsOk result ↔ IsFalse (is_full self.old) }
         ensures ok { OnOk result
             (self.new ≡ record self.old { entries = self.old.entries ++ entry ∷ [] }) }
         ensures err { IfErr result (λ back. (back ≡ entry) × (self.new ≡ self.old)) }
     {
-        self.entries.try_push_back(entry)
+        if self.full() {
+            return Err(entry);
+        }
+        let moves = moves_of(&entry);
+        self.entries.try_push_back(entry)?;
+        self.moves += moves;
+        Ok(())
     }
 
     pub fn len(&self) -> usize
@@ -116,7 +129,9 @@ impl Journal {
         if let Some(entry) = self.entries.front() {
             self.base.fold(alloc, joined, entry, tables)?;
         }
-        drop(self.entries.pop_front());
+        if let Some(entry) = self.entries.pop_front() {
+            self.moves -= moves_of(&entry);
+        }
         Ok(())
     }
 
@@ -125,5 +140,15 @@ impl Journal {
         ensures { self.new ≡ forget_in self.old session }
     {
         self.base.forget(session);
+    }
+}
+
+/// The moves of an entry. More than make a journal full count as so many.
+fn moves_of(entry: &Entry) -> usize
+    ensures { result ≡ moves_of_entry entry.now }
+{
+    match entry {
+        Entry::Committed { moves, .. } => moves.items.len().min(MOST_MOVES),
+        Entry::Changed(..) | Entry::Subscribed { .. } | Entry::Unsubscribed(..) => 0,
     }
 }

@@ -1,11 +1,12 @@
-use Rattle.std.proofs.Common.{◌≡◌, ◌<◌, true, false, length, refl, sym, ap, ◌∙◌, subst}
+use Rattle.std.proofs.Common.{◌≡◌, true, false, length, refl, sym, ap, ◌∙◌, subst}
 use Rattle.tab_model.specs.declared.data.Reply.{Reply}
 use Rattle.tab_model.specs.Outcome.{Ask}
 use Rattle.tab_model.specs.Standing.{may_enter}
 use Rattle.tab_core.specs.Runs.{StepsTo}
 use Rattle.tab_book.specs.Running.{Running}
 use Rattle.tab_book.specs.Steps.{ask_of, leaves, StepsFrom, KeepsPosts}
-use Rattle.tab_book.proofs.Keeping.{one_fits, made_holds, made_steps, own_ask, step_posts}
+use Rattle.tab_journal.specs.Journals.{is_full}
+use Rattle.tab_book.proofs.Keeping.{one_fits, room_left, made_holds, made_steps, own_ask, step_posts}
 use Rattle.tab_book.proofs.book.Book.make.Goals as goal
 use Rattle.tab_book.proofs.book.Book.make.Goals.{then-leaves, else-leaves}
 
@@ -14,15 +15,16 @@ entered-reply-requires g c =
     let n = c.args.session in
     let a = ask_of c.args.step in
     let done = subst (λ (x : Ask). StepsTo c.self.inside.core n x c.in_ok-stepped.stepped c.step.new.self) (c.core_step.ensures _) c.in_ok-stepped.ensures.done in
-    let room = subst (λ (b : Running). may_enter b.state n a ≡ true → length b.journal.entries < b.journal.limit) (sym c.self.view_is) c.requires.room in
-    one_fits c.self.inside.core c.self.inside.journal done.0 n a _ done.2 room
+    let room = subst (λ (b : Running). may_enter b.state n a ≡ true → is_full b.journal ≡ false) (sym c.self.view_is) c.requires.room in
+    one_fits c.self.inside.core done.0 n a _ (is_full c.self.inside.journal ≡ false) done.2 room
 
 pub invariant_of-self-then-leaves : goal.invariant_of-self-then-leaves
 invariant_of-self-then-leaves g c =
     let n = c.args.session in
     let a = ask_of c.args.step in
     let done = subst (λ (x : Ask). StepsTo c.self.inside.core n x c.in_ok-stepped.stepped c.step.new.self) (c.core_step.ensures _) c.in_ok-stepped.ensures.done in
-    let room = subst (λ (b : Running). may_enter b.state n a ≡ true → length b.journal.entries < b.journal.limit) (sym c.self.view_is) c.requires.room in
+    let vacant = subst (λ (b : Running). may_enter b.state n a ≡ true → is_full b.journal ≡ false) (sym c.self.view_is) c.requires.room in
+    let room = λ may. room_left c.self.inside.outbox (length c.self.inside.prefix) c.self.inside.core c.self.inside.journal c.self.invariant (vacant may) in
     made_holds c.self.inside.outbox (length c.self.inside.prefix) c.self.inside.core c.self.inside.journal c.self.invariant done.0 n a _ done.2 (own_ask (length c.self.inside.prefix) c.args.step) c.step.ensures.sound room
     c.entered-reply.new.journal c.forget.new.self c.entered-reply.ensures.journal true (c.if-leaves.ensures ∙ ap (λ (b : Running). leaves b.state n a) (sym c.self.view_is)) c.forget.ensures
 
@@ -31,7 +33,8 @@ invariant_of-self-else-leaves g c =
     let n = c.args.session in
     let a = ask_of c.args.step in
     let done = subst (λ (x : Ask). StepsTo c.self.inside.core n x c.in_ok-stepped.stepped c.step.new.self) (c.core_step.ensures _) c.in_ok-stepped.ensures.done in
-    let room = subst (λ (b : Running). may_enter b.state n a ≡ true → length b.journal.entries < b.journal.limit) (sym c.self.view_is) c.requires.room in
+    let vacant = subst (λ (b : Running). may_enter b.state n a ≡ true → is_full b.journal ≡ false) (sym c.self.view_is) c.requires.room in
+    let room = λ may. room_left c.self.inside.outbox (length c.self.inside.prefix) c.self.inside.core c.self.inside.journal c.self.invariant (vacant may) in
     made_holds c.self.inside.outbox (length c.self.inside.prefix) c.self.inside.core c.self.inside.journal c.self.invariant done.0 n a _ done.2 (own_ask (length c.self.inside.prefix) c.args.step) c.step.ensures.sound room
     c.entered-reply.new.journal c.entered-reply.new.journal c.entered-reply.ensures.journal false (c.if-leaves.ensures ∙ ap (λ (b : Running). leaves b.state n a) (sym c.self.view_is)) refl
 
