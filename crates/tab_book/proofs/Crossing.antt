@@ -50,15 +50,15 @@ use Rattle.tab_journal.specs.contracts.base.Base as base
 use Rattle.tab_outbox.specs.declared.post.Post.{Ghosts}
 use Rattle.tab_subs.proofs.subs.Subs.TheSendSync as subs_marks
 use Rattle.tab_core.specs.contracts.Core as core
-use Rattle.tab_names.specs.declared.naming.Naming as naming
-use Rattle.tab_names.specs.declared.naming.Host as host
+use Rattle.tab_post.specs.declared.naming.Naming as naming
+use Rattle.tab_post.specs.declared.naming.Host as host
 use Rattle.std.specs.declared.sync.Wait as waiting
 use Rattle.std.specs.declared.clone.Clone as cloning
-use Rattle.tab_names.proofs.prefix.Prefix.TheSendSync as prefix_marks
-use Rattle.tab_names.proofs.register.Register.TheSendSync as register_marks
-use Rattle.tab_named.proofs.Crossing.{SeatPost-send}
-use Rattle.tab_named.specs.contracts.post.SeatPost as seat_post
-use Rattle.tab_named.specs.contracts.post.SeatPostPost.TheImpl as session_posts
+use Rattle.tab_post.proofs.prefix.Prefix.TheSendSync as prefix_marks
+use Rattle.tab_post.proofs.register.Register.TheSendSync as register_marks
+use Rattle.tab_post.proofs.Crossing.{ChannelPost-send}
+use Rattle.tab_post.specs.contracts.post.ChannelPost as channel_post
+use Rattle.tab_post.specs.contracts.post.ChannelPostPost.TheImpl as session_posts
 use Rattle.tab_book.specs.contracts.book.Book as book
 use Rattle.tab_book.specs.contracts.book.Book.TheInside as inside
 use Rattle.tab_book.specs.contracts.shared.Shared as shared
@@ -208,7 +208,7 @@ module _ (H : RattleType) (names : naming.Ghosts H.Denot) (rooms : host.Ghosts H
             search parts,
             (
               search (parts, register_marks.the_send),
-              (search (parts, prefix_marks.the_send), (as_row_send (core.the_field (seat_post.the_row H names) posts) (core-send (seat_post.the_row H names) posts (SeatPost-send H names h)), (search (parts, journal-send) depth 20, tt))),
+              (search (parts, prefix_marks.the_send), (as_row_send (core.the_field (channel_post.the_row H names) posts) (core-send (channel_post.the_row H names) posts (ChannelPost-send H names h)), (search (parts, journal-send) depth 20, tt))),
             ),
           ),
         ),

@@ -22,7 +22,7 @@ use Rattle.tab_model.proofs.ReachedWaits.{new_rising, step_rising}
 use Rattle.tab_model.proofs.StandingLemmas.{new_follows, step_follows, fold_follows, forget_follows, history_of, commits_are, sent_is, watched_is, sent_grows, left_away}
 use Rattle.tab_journal.specs.Journals.{Kept, fold_oldest, forget, is_full, most_moves, moves_in}
 use Rattle.tab_core.specs.Runs.{takes_no_memory}
-use Rattle.tab_named.specs.Ends.{empty_outbox}
+use Rattle.tab_post.specs.Ends.{empty_outbox}
 use Rattle.tab_book.specs.declared.step.Step.{Step}
 use Rattle.tab_book.specs.declared.step.Step.TheVariants as step
 use Rattle.tab_book.specs.Running.{IsRunning, HavePlaces, Holds}

@@ -10,7 +10,7 @@ use Rattle.tab_model.specs.State.{Outbox, Session, State, session_at}
 use Rattle.tab_model.specs.Outcome.{Ask, Join, Leave, Retry, Take, DoCommand, fresh, is_abort, outcome}
 use Rattle.tab_model.specs.Run.{Allowed, entries}
 use Rattle.tab_journal.specs.Journals.{Kept, fold_oldest, forget, is_full}
-use Rattle.tab_named.specs.Ends.{empty_outbox}
+use Rattle.tab_post.specs.Ends.{empty_outbox}
 use Rattle.tab_book.specs.declared.step.Step.{Step}
 use Rattle.tab_book.specs.declared.step.Step.TheVariants as step
 use Rattle.tab_book.specs.declared.step.JoinFault.{JoinFault}

@@ -3,7 +3,7 @@
 ghost use Rattle.std.specs.Prelude.{◌≡◌, ◌≤◌, ◌+◌, [], IsTrue, IfOk, IfErr, OnOk, OnErr};
 ghost use Rattle.tab_model.specs.History.{empty as empty_base};
 ghost use Rattle.tab_model.specs.State.{new as new_state, IsSound};
-ghost use Rattle.tab_named.specs.Ends.{as_outbox, mailbox_of, received};
+ghost use Rattle.tab_post.specs.Ends.{as_outbox, mailbox_of, received};
 ghost use Rattle.tab_book.specs.Running.{IsRunning};
 ghost use Rattle.tab_book.specs.Steps.{Joins, Refuses, has_room as has_room_of, with_session, KeepsPosts};
 
@@ -14,9 +14,7 @@ use std::marker::Model;
 use tab_core::{Core, Rest, SESSIONS, Step};
 use tab_journal::Journal;
 use tab_model::Limits;
-use tab_named::{NewMailbox, SeatInbox, SeatPost};
-use tab_names::{Host, Opened, Prefix, Register};
-use tab_post::Channel;
+use tab_post::{Channel, ChannelPost, Host, Inbox, NewMailbox, Opened, Prefix, Register};
 use tab_tables::Catalog;
 
 /// A core whose sessions have mailboxes, and its journal.
@@ -27,7 +25,7 @@ pub struct Book<H: Host> {
     outbox: usize,
     register: Register<Channel, H>,
     prefix: Prefix<Channel, H>,
-    pub(crate) core: Core<SeatPost<H>>,
+    pub(crate) core: Core<ChannelPost<H>>,
     pub(crate) journal: Journal,
 }
 
@@ -105,7 +103,7 @@ impl<H: Host> Book<H> {
     }
 
     /// A session joins with this mailbox, whose receiving end is given out. It is no mailbox of a session that sits.
-    pub fn join(&mut self, mailbox: NewMailbox<H>) -> Result<(u32, SeatInbox<H>), JoinFault>
+    pub fn join(&mut self, mailbox: NewMailbox) -> Result<(u32, Inbox<H>), JoinFault>
         ensures ok { IfOk result
             (λ r. Joins self.old r.0 (mailbox_of r.1) (received r.1) self.new) }
         ensures err { IfErr result (λ e. Refuses self.old e self.new) }
@@ -150,9 +148,9 @@ impl<H: Host> Book<H> {
 
 /// The session joins with this post.
 fn seat<H: Host>(
-    core: &mut Core<SeatPost<H>>,
+    core: &mut Core<ChannelPost<H>>,
     session: u32,
-    post: SeatPost<H>,
+    post: ChannelPost<H>,
 ) -> Result<(), AllocError>
     requires sound { IsSound core.old }
     requires room { IsTrue (has_room_of core.old) }

@@ -10,7 +10,7 @@ use std::alloc::AllocError;
 use std::sync::MutexGuard;
 use tab_core::Rest;
 use tab_model::SharedReply;
-use tab_names::Host;
+use tab_post::Host;
 
 /// So many steps are made under one hold.
 const STEPS: usize = 1_000;

@@ -2,7 +2,7 @@
 
 ghost use Rattle.std.specs.Prelude.{◌≡◌, Some};
 ghost use Rattle.tab_model.specs.State.{Session, session_at};
-ghost use Rattle.tab_named.specs.Ends.{mailbox_of, received};
+ghost use Rattle.tab_post.specs.Ends.{mailbox_of, received};
 ghost use Rattle.tab_book.specs.Inboxes.{Drains, TellsOverflow};
 ghost use Rattle.tab_book.specs.Steps.{KeepsPosts};
 
@@ -10,13 +10,12 @@ use crate::book::Book;
 use crate::step::Drained;
 use tab_core::Step;
 use tab_model::Reply;
-use tab_named::SeatInbox;
-use tab_names::Host;
 use tab_outbox::Met;
+use tab_post::{Host, Inbox};
 
 impl<H: Host> Book<H> {
     /// Takes one item more at the session's inbox, or shows that all is taken, with an overflow that was not told yet.
-    pub fn drained(&mut self, session: u32, inbox: &mut SeatInbox<H>) -> Drained
+    pub fn drained(&mut self, session: u32, inbox: &mut Inbox<H>) -> Drained
         ensures drained { Drains self.old session (mailbox_of inbox.old) (received inbox.old) result
             (received inbox.new) self.new }
         ensures mailbox { mailbox_of inbox.new ≡ mailbox_of inbox.old }

@@ -3,7 +3,7 @@
 ghost use Rattle.std.specs.Prelude.{◌≡◌, ◌≢◌, ◌≤◌, [], IsTrue, IfOk, IfSome, IsOk};
 ghost use Rattle.tab_model.specs.declared.data.Reply.TheVariants as reply;
 ghost use Rattle.tab_model.specs.Outcome.{is_abort};
-ghost use Rattle.tab_named.specs.Ends.{received};
+ghost use Rattle.tab_post.specs.Ends.{received};
 ghost use Rattle.tab_book.specs.Inboxes.{TakesIt};
 ghost use Rattle.tab_book.specs.Steps.{is_never_refused};
 
@@ -18,8 +18,7 @@ use std::thread;
 use std::time::Duration;
 use tab_core::Rest;
 use tab_model::{Command, Reply, SharedReply};
-use tab_named::{NewMailbox, SeatInbox};
-use tab_names::Host;
+use tab_post::{Host, Inbox, NewMailbox};
 
 /// Names a session of a book that is shared. Contracts see it as the session's number.
 #[derive(Clone, Copy, Debug, PartialEq, Eq)]
@@ -106,11 +105,11 @@ impl<H: Host> Shared<H> {
 
     /// A session joins, with a mailbox of its own, whose receiving end is given out. The mailbox is made before the book is
     /// held, since it has room for all that it may hold.
-    pub fn join(&self, host: &H) -> Result<(Seat, SeatInbox<H>), JoinFault>
+    pub fn join(&self, host: &H) -> Result<(Seat, Inbox<H>), JoinFault>
         ensures number { IfOk result (λ r. 1 ≤ r.0) }
         ensures inbox { IfOk result (λ r. received r.1 ≡ []) }
     {
-        let Ok(mailbox) = NewMailbox::new(*host, self.alloc, self.outbox) else {
+        let Ok(mailbox) = NewMailbox::new(self.alloc, self.outbox) else {
             return Err(JoinFault::NoMemory);
         };
         let (session, inbox) = self.hold(host).join(mailbox)?;
@@ -239,7 +238,7 @@ impl<H: Host> Shared<H> {
     }
 
     /// Takes one item more at the session's inbox, or shows that all is taken, under one hold of the lock.
-    pub fn drained(&self, host: &H, seat: &Seat, inbox: &mut SeatInbox<H>) -> Drained
+    pub fn drained(&self, host: &H, seat: &Seat, inbox: &mut Inbox<H>) -> Drained
         ensures { TakesIt (received inbox.old) result (received inbox.new) }
     {
         self.hold(host).drained(seat.session, inbox)

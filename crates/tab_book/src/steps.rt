@@ -16,7 +16,7 @@ use std::alloc::AllocError;
 use tab_core::{Step as CoreStep, Stepped};
 use tab_journal::Journal;
 use tab_model::{Command, Entry, Reply, SharedReply};
-use tab_names::Host;
+use tab_post::Host;
 
 /// What a session holds others up by: a transaction that is open, and a request that is queued.
 #[derive(Clone, Copy)]
@@ -66,7 +66,8 @@ impl<H: Host> Book<H> {
             ≡ record self.old { journal = with_room_made self.old.state self.old.journal }) }
         ensures room { OnOk result (IsFalse (is_full self.new.journal)) }
         ensures state { self.new.state ≡ self.old.state }
-        ensures folds { (k : ℕ) × (self.new.journal ≡ with_folds self.old.state k self.old.journal) }
+        ensures folds { (k : ℕ)
+            × (self.new.journal ≡ with_folds self.old.state k self.old.journal) }
         ensures same { with_room_made self.old.state self.new.journal
             ≡ with_room_made self.old.state self.old.journal }
     {

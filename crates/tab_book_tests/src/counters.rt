@@ -13,9 +13,7 @@ use std::thread::Threads;
 use tab_book::{Book, Seat, Shared};
 use tab_journal::Journal;
 use tab_model::{Change, Command, Entry, Limits, Reply, SharedReply};
-use tab_named::SeatInbox;
-use tab_names::{Host, Naming, Opened};
-use tab_post::Channel;
+use tab_post::{Channel, Host, Inbox, Naming, Opened};
 use tab_tables::{Catalog, Lender};
 
 const THREADS: usize = 4;
@@ -252,7 +250,7 @@ fn join_all<H: Host>(
     host: &H,
     shared: &Shared<H>,
     sessions: &mut Vec<Seat>,
-    inboxes: &mut Vec<SeatInbox<H>>,
+    inboxes: &mut Vec<Inbox<H>>,
 ) -> Result<(), Fail> {
     for _ in 0..THREADS {
         let (seat, inbox) = shared.join(host).map_err(|_| "join")?;

@@ -10,8 +10,7 @@ use std::test::*;
 use tab_book::{Book, Shared, Step};
 use tab_journal::{Base, Journal};
 use tab_model::{Command, Entry, Limits};
-use tab_names::{Host, Naming, Opened};
-use tab_post::Channel;
+use tab_post::{Channel, Host, Naming, Opened};
 use tab_term::Term;
 
 /// A commit of one write: its number.

@@ -9,10 +9,8 @@ use std::sync::Wait;
 use std::test::*;
 use std::thread::{Threads, join};
 use tab_lists::EventTerms;
-use tab_named::{NewMailbox, SeatInbox, SeatPost};
-use tab_names::{Host, Naming, Opened};
 use tab_outbox::{Item, Mailbox, Met, Post, Refused};
-use tab_post::Channel;
+use tab_post::{Channel, ChannelPost, Host, Inbox, Naming, NewMailbox, Opened};
 
 /// Items are batches without events, known by their commits.
 enum Call {
@@ -79,7 +77,7 @@ fn number_of(item: &Item) -> u64 {
     }
 }
 
-fn received<H: Host>(inbox: &mut SeatInbox<H>) -> u64 {
+fn received<H: Host>(inbox: &mut Inbox<H>) -> u64 {
     match inbox.receive() {
         Some(item) => number_of(&item),
         None => NONE,
@@ -87,7 +85,7 @@ fn received<H: Host>(inbox: &mut SeatInbox<H>) -> u64 {
 }
 
 /// The item that is handed back since the mailbox is full, or since nobody takes any more; None where it is put.
-fn put<H: Host>(post: &mut SeatPost<H>, item: Item) -> Option<(bool, Item)> {
+fn put<H: Host>(post: &mut ChannelPost<H>, item: Item) -> Option<(bool, Item)> {
     match post.put(item) {
         Ok(()) => None,
         Err(Refused::Full(back)) => Some((true, back)),
@@ -95,7 +93,12 @@ fn put<H: Host>(post: &mut SeatPost<H>, item: Item) -> Option<(bool, Item)> {
     }
 }
 
-fn is_handed_back<H: Host>(post: &mut SeatPost<H>, alloc: Global, commit: u64, full: bool) -> bool {
+fn is_handed_back<H: Host>(
+    post: &mut ChannelPost<H>,
+    alloc: Global,
+    commit: u64,
+    full: bool,
+) -> bool {
     match put(post, batch(alloc, commit)) {
         Some((is_full, item)) => is_full == full && number_of(&item) == commit,
         None => false,
@@ -103,7 +106,7 @@ fn is_handed_back<H: Host>(post: &mut SeatPost<H>, alloc: Global, commit: u64, f
 }
 
 /// What the two ends find: the item that was taken, or as many more than NONE as there are.
-fn met<H: Host>(post: &mut SeatPost<H>, inbox: &mut SeatInbox<H>) -> u64 {
+fn met<H: Host>(post: &mut ChannelPost<H>, inbox: &mut Inbox<H>) -> u64 {
     match post.meet(inbox) {
         Met::Going(item) => number_of(&item),
         Met::Apart => NONE + 1,
@@ -113,8 +116,8 @@ fn met<H: Host>(post: &mut SeatPost<H>, inbox: &mut SeatInbox<H>) -> u64 {
 
 fn is_right<H: Host>(
     alloc: Global,
-    post: &mut SeatPost<H>,
-    inbox: &mut SeatInbox<H>,
+    post: &mut ChannelPost<H>,
+    inbox: &mut Inbox<H>,
     call: &Call,
 ) -> bool {
     match call {
@@ -138,8 +141,8 @@ fn make_calls<H: Host>(
     requires { opened ≡ H.book }
 {
     let (register, mut prefix) = opened.named::<H>();
-    let (mut post, mut inbox) = NewMailbox::new(rt, alloc, 2)?.enter(&register, &mut prefix, rt);
-    let (mut other, mut others) = NewMailbox::new(rt, alloc, 2)?.enter(&register, &mut prefix, rt);
+    let (mut post, mut inbox) = NewMailbox::new(alloc, 2)?.enter(&register, &mut prefix, rt);
+    let (mut other, mut others) = NewMailbox::new(alloc, 2)?.enter(&register, &mut prefix, rt);
     let differs = call_differs(alloc, &mut post, &mut other, &mut inbox, &mut others);
     drop(inbox);
     drop(other);
@@ -153,10 +156,10 @@ fn make_calls<H: Host>(
 
 fn call_differs<H: Host>(
     alloc: Global,
-    post: &mut SeatPost<H>,
-    other: &mut SeatPost<H>,
-    inbox: &mut SeatInbox<H>,
-    others: &mut SeatInbox<H>,
+    post: &mut ChannelPost<H>,
+    other: &mut ChannelPost<H>,
+    inbox: &mut Inbox<H>,
+    others: &mut Inbox<H>,
 ) -> Option<usize> {
     for (line, (of_post, of_inbox, call)) in CALLS.iter().enumerate() {
         let is_right = match (of_post, of_inbox) {
@@ -191,7 +194,7 @@ fn two_mailboxes(rt: HostRuntime) {
 const COUNT: u64 = 1000;
 
 /// Puts all of them in order, and again what came back since the mailbox was full.
-fn put_all<H: Host>(rt: H, alloc: Global, mut post: SeatPost<H>) -> SeatPost<H> {
+fn put_all<H: Host>(rt: H, alloc: Global, mut post: ChannelPost<H>) -> ChannelPost<H> {
     let mut next = 0;
     for _ in rt.forever() {
         if next >= COUNT {
@@ -205,7 +208,7 @@ fn put_all<H: Host>(rt: H, alloc: Global, mut post: SeatPost<H>) -> SeatPost<H> 
 }
 
 /// Waits for each of them in turn.
-fn receive_all<H: Host + Abort>(rt: H, mut inbox: SeatInbox<H>) -> SeatInbox<H> {
+fn receive_all<H: Host + Abort>(rt: H, mut inbox: Inbox<H>) -> Inbox<H> {
     for commit in 0..COUNT {
         assert!(rt; received(&mut inbox) == commit, "item {commit}");
     }
@@ -220,7 +223,7 @@ fn exchange<H: Host + Threads + Abort + Send + Sync>(
     requires { opened ≡ H.book }
 {
     let (register, mut prefix) = opened.named::<H>();
-    let (post, inbox) = NewMailbox::new(rt, alloc, 4)?.enter(&register, &mut prefix, rt);
+    let (post, inbox) = NewMailbox::new(alloc, 4)?.enter(&register, &mut prefix, rt);
     let (mut post, mut inbox) = join(
         &rt,
         move || put_all(rt, alloc, post),

@@ -10,9 +10,7 @@ use std::test::*;
 use tab_book::{Book, Drained, Seat, Shared};
 use tab_lists::EventTerms;
 use tab_model::{Command, Item, Reply};
-use tab_named::SeatInbox;
-use tab_names::{Host, Naming, Opened};
-use tab_post::Channel;
+use tab_post::{Channel, Host, Inbox, Naming, Opened};
 
 /// What is shown at an inbox, as a number: a batch of one event is 100 and its commit, an overflow 200 and its commit.
 fn shown_as(drained: &Drained) -> u64 {
@@ -74,7 +72,7 @@ fn commit<H: Host>(
     Ok(number_of(told.reply()))
 }
 
-pub fn shown<H: Host>(host: &H, shared: &Shared<H>, seat: &Seat, inbox: &mut SeatInbox<H>) -> u64 {
+pub fn shown<H: Host>(host: &H, shared: &Shared<H>, seat: &Seat, inbox: &mut Inbox<H>) -> u64 {
     shown_as(&shared.drained(host, seat, inbox))
 }
 
@@ -84,7 +82,7 @@ fn watches<H: Host>(
     alloc: Global,
     shared: &Shared<H>,
     seat: &Seat,
-    inbox: &mut SeatInbox<H>,
+    inbox: &mut Inbox<H>,
 ) -> Result<bool, AllocError> {
     let told = shared.call(host, seat, subscribe(alloc)?)?;
     Ok(is_here(told.reply()) && shown(host, shared, seat, inbox) == BEGAN)
@@ -111,7 +109,7 @@ fn is_told<H: Host>(
     alloc: Global,
     shared: &Shared<H>,
     seat: &Seat,
-    inbox: &mut SeatInbox<H>,
+    inbox: &mut Inbox<H>,
     items: &[u64],
 ) -> Result<bool, AllocError> {
     let refused = shared.call(host, seat, subscribe(alloc)?)?;

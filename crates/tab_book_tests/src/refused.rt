@@ -11,9 +11,7 @@ use std::sync::Wait;
 use std::test::*;
 use tab_book::{Book, JoinFault, Seat, Shared};
 use tab_model::{Command, Limits, Reply};
-use tab_named::SeatInbox;
-use tab_names::{Host, Naming, Opened};
-use tab_post::Channel;
+use tab_post::{Channel, Host, Inbox, Naming, Opened};
 
 /// Who asks, and what.
 #[derive(Clone, Copy)]
@@ -74,7 +72,7 @@ fn number(reply: &Reply) -> u64 {
     }
 }
 
-fn join<H: Host>(host: &H, shared: &Shared<H>) -> Result<(Seat, SeatInbox<H>), JoinFault> {
+fn join<H: Host>(host: &H, shared: &Shared<H>) -> Result<(Seat, Inbox<H>), JoinFault> {
     match shared.join(host) {
         Err(JoinFault::NoMemory) => shared.join(host),
         joined => joined,
@@ -160,7 +158,7 @@ fn shown_differs<H: Host>(
     host: &H,
     shared: &Shared<H>,
     watcher: &Seat,
-    inbox: &mut SeatInbox<H>,
+    inbox: &mut Inbox<H>,
 ) -> Option<usize> {
     for (place, wanted) in SHOWN.iter().enumerate() {
         if shown(host, shared, watcher, inbox) != *wanted {

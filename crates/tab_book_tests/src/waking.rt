@@ -9,8 +9,7 @@ use std::sync::Wait;
 use std::test::*;
 use tab_book::{Answered, Book, Seat, Shared, Step};
 use tab_model::{Command, Reply};
-use tab_names::{Host, Naming, Opened};
-use tab_post::Channel;
+use tab_post::{Channel, Host, Naming, Opened};
 use tab_term::Term;
 
 /// What a session asks.

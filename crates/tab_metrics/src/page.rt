@@ -5,7 +5,7 @@ use std::alloc::{AllocError, Global};
 use std::sync::Wait;
 use std::time::Clock;
 use tab_book::Shared;
-use tab_names::Host;
+use tab_post::Host;
 use tab_server::Count;
 
 /// What a book holds.

@@ -8,7 +8,7 @@ use std::io::{self, Write};
 use std::net::{Shutdown, TcpListener, TcpStream};
 use std::time::Duration;
 use tab_book::Shared;
-use tab_names::Host;
+use tab_post::Host;
 
 /// So many seconds a client has for its request, and to take the page.
 const PATIENCE: u64 = 2;

@@ -12,6 +12,9 @@ use Rattle.tab_term.specs.contracts.atom.Atom as atom
 use Rattle.tab_lists.specs.contracts.events.EventTerms as event_terms
 use Rattle.tab_lists.specs.contracts.shared_terms.SharedTerms as shared_terms
 use Rattle.tab_model.specs.contracts.data.Item as item
+use Rattle.tab_post.specs.declared.naming.Naming.{Ghosts}
+use Rattle.tab_post.specs.contracts.prefix.Prefix as prefix
+use Rattle.tab_post.proofs.prefix.Prefix.TheSendSync as prefix_marks
 use Rattle.tab_post.specs.contracts.post.ChannelPost as post
 use Rattle.tab_post.specs.contracts.rule.PassView as pass_view
 use Rattle.crossbeam_channel.specs.contracts.flavors.array.Doing as doing
@@ -47,15 +50,29 @@ item_send =
 pass_send : IsSend (seat.the_row (badge.the_row (key.the_row item.the_row)) (doing.the_row item.the_row pass_view.the_row))
 pass_send = seat_marks.the_send (badge.the_row (key.the_row item.the_row)) (doing.the_row item.the_row pass_view.the_row) (badge_marks.the_send (key.the_row item.the_row))
 
-pub ChannelPost-send : (R : RattleType) → IsSend R → IsSend (post.the_row R)
-ChannelPost-send R r =
-    declared_send (post.the_type R) (
-      as_row_send (row_field R) r,
-      (
-        search (sending_marks.the_send, rows_marks.the_send, rows_marks.the_sync, badge_marks.the_send, option_marks.the_send, item_send, global_marks.the_send, global_marks.the_sync, heap_marks.the_frees) depth 12,
-        (pass_send, (as_row_send u64-field (plain_send _ _ _ _ _), tt)),
-      ),
-    )
+prefix_send : (E J : RattleType) (names : Ghosts J.Denot) → IsSend (as_row (prefix.the_field E J names))
+prefix_send E J names = prefix_marks.the_send E J names
 
-pub Inbox-send : (R : RattleType) → IsSend R → IsSend (inbox.the_row R)
-Inbox-send R r = declared_send (inbox.the_type R) (as_row_send (row_field R) r, (search (receiving_marks.the_send, rows_marks.the_send, rows_marks.the_sync, badge_marks.the_send, option_marks.the_send, item_send, global_marks.the_send, global_marks.the_sync, heap_marks.the_frees) depth 12, (pass_send, tt)))
+module _ (H : RattleType) (names : Ghosts H.Denot) where
+  pub ChannelPost-send : IsSend H → IsSend (post.the_row H names)
+  ChannelPost-send h =
+      declared_send (post.the_type H names) (
+        as_row_send (row_field H) h,
+        (
+          search (sending_marks.the_send, rows_marks.the_send, rows_marks.the_sync, badge_marks.the_send, option_marks.the_send, item_send, global_marks.the_send, global_marks.the_sync, heap_marks.the_frees) depth 12,
+          (
+            pass_send,
+            (as_row_send u64-field (plain_send _ _ _ _ _), (as_row_send u64-field (plain_send _ _ _ _ _), (search prefix_send, tt))),
+          ),
+        ),
+      )
+
+  pub Inbox-send : IsSend H → IsSend (inbox.the_row H names)
+  Inbox-send h =
+      declared_send (inbox.the_type H names) (
+        as_row_send (row_field H) h,
+        (
+          search (receiving_marks.the_send, rows_marks.the_send, rows_marks.the_sync, badge_marks.the_send, option_marks.the_send, item_send, global_marks.the_send, global_marks.the_sync, heap_marks.the_frees) depth 12,
+          (pass_send, (as_row_send u64-field (plain_send _ _ _ _ _), (search prefix_send, tt))),
+        ),
+      )

@@ -1,9 +1,11 @@
 -- What contracts see of the two ends of a mailbox (this project's own).
-use Rattle.std.specs.Prelude.{◌≡◌, ℕ, List, [], length, None}
+use Rattle.std.specs.Prelude.{◌≡◌, ℕ, List, [], length, Some, None}
 use Rattle.crossbeam_channel.specs.Claims.{view}
 use Rattle.crossbeam_channel.specs.Ends.{sends_on, receives_on, ruled_capacity}
 use Rattle.tab_model.specs.declared.data.Item.{Item}
 use Rattle.tab_model.specs.State.{Outbox}
+use Rattle.tab_post.specs.declared.naming.Naming.{Ghosts}
+use Rattle.tab_post.specs.declared.ends.NewMailbox.{NewMailbox}
 use Rattle.tab_post.specs.declared.post.ChannelPost.{ChannelPost}
 use Rattle.tab_post.specs.declared.inbox.Inbox.{Inbox}
 use Rattle.tab_post.specs.Rule.{EndsWith}
@@ -12,38 +14,45 @@ use Rattle.tab_post.specs.Rule.{EndsWith}
 abbrev pub WasFull : ℕ → List Item → Type 0
 WasFull capacity sent = (items : List Item) × (length items ≡ capacity) × EndsWith sent items
 
-module _ {R : Type 0} where
-  -- all that was ever sent
-  abbrev pub sent_by : ChannelPost R → List Item
-  sent_by p = (view p.pass).sent
+-- what a mailbox into which nothing was put shows as a post, by its place
+abbrev pub empty_outbox : ℕ → Outbox
+empty_outbox place = record { items = []; refusals = 0; capacity = None; mailbox = Some place }
 
-  -- all that was ever taken
-  abbrev pub taken_by : Inbox R → List Item
-  taken_by i = (view i.pass).taken
+-- how many items a new mailbox holds at most
+abbrev pub room_of : NewMailbox → ℕ
+room_of m = ruled_capacity (sends_on m.sender)
+
+module _ {H : Type 0} {N : Ghosts H} where
+  -- all that was ever sent
+  abbrev pub sent : ChannelPost H N → List Item
+  sent p = (view p.pass).sent
+
+  -- all that was ever received
+  abbrev pub received : Inbox H N → List Item
+  received i = (view i.pass).taken
+
+  -- which mailbox it is of, by its place
+  abbrev pub mailbox_of : Inbox H N → ℕ
+  mailbox_of i = i.place
 
   -- how many items the mailbox's channel can hold
-  abbrev pub capacity_of : ChannelPost R → ℕ
+  abbrev pub capacity_of : ChannelPost H N → ℕ
   capacity_of p = ruled_capacity (sends_on p.channel)
 
-  -- as a post, it shows all that was ever sent, and no capacity decides what it refuses
-  abbrev pub as_outbox : ChannelPost R → Outbox
-  as_outbox p = record { items = sent_by p; refusals = p.refusals; capacity = None; mailbox = None }
-
-  -- the two ends of one mailbox
-  abbrev pub AreEnds : ChannelPost R → Inbox R → Type 0
-  AreEnds p i = receives_on i.channel ≡ sends_on p.channel
+  -- as a post, it shows all that was ever sent and which mailbox it is of, and no capacity decides what it refuses
+  abbrev pub as_outbox : ChannelPost H N → Outbox
+  as_outbox p = record { items = sent p; refusals = p.refusals; capacity = None; mailbox = Some p.place }
 
   -- the second is the first after some calls
-  abbrev pub IsSamePost : ChannelPost R → ChannelPost R → Type 0
-  IsSamePost a b = sends_on b.channel ≡ sends_on a.channel
+  abbrev pub IsSamePost : ChannelPost H N → ChannelPost H N → Type 0
+  IsSamePost a b = (sends_on b.channel ≡ sends_on a.channel) × (b.place ≡ a.place)
 
   -- the second inbox is the first after some calls
-  abbrev pub IsSameInbox : Inbox R → Inbox R → Type 0
-  IsSameInbox a b = receives_on b.channel ≡ receives_on a.channel
+  abbrev pub IsSameInbox : Inbox H N → Inbox H N → Type 0
+  IsSameInbox a b = (receives_on b.channel ≡ receives_on a.channel) × (b.place ≡ a.place)
 
-  -- a mailbox into which nothing was put
-  pub record AreNew (capacity : ℕ) (p : ChannelPost R) (i : Inbox R) : Type 0 where
-    pub sent : sent_by p ≡ []
-    pub taken : taken_by i ≡ []
-    pub refusals : p.refusals ≡ 0
+  -- the two ends of a mailbox into which nothing was put
+  pub record AreNew (capacity : ℕ) (p : ChannelPost H N) (i : Inbox H N) : Type 0 where
+    pub outbox : as_outbox p ≡ empty_outbox (mailbox_of i)
+    pub taken : received i ≡ []
     pub room : capacity_of p ≡ capacity

@@ -3,44 +3,52 @@
 ghost use Rattle.std.specs.Prelude.{◌≡◌, [], true, false};
 ghost use Rattle.crossbeam_channel.specs.Claims.{view, IsSeatAt};
 ghost use Rattle.crossbeam_channel.specs.Ends.{receives_on};
+ghost use Rattle.tab_post.specs.Register.{IsHeldAt};
 ghost use Rattle.tab_post.specs.Rule.{pass_view};
 
+use crate::naming::Host;
+use crate::post::Channel;
+use crate::prefix::Prefix;
 use crate::rule::{InOrder, PassView, Taken};
 use crossbeam_channel::{Pass, RuledReceiver};
-use std::sync::Wait;
 use tab_outbox::Item;
 
 /// The receiving end of a mailbox.
 #[derive(Drop)]
-pub struct Inbox<R: Wait> {
-    pub(crate) rt: R,
+pub struct Inbox<H: Host> {
+    pub(crate) rt: H,
     pub(crate) channel: RuledReceiver<Item, PassView, InOrder>,
     pub(crate) pass: Pass<Item, PassView>,
+    pub(crate) place: u64,
+    pub(crate) prefix: Prefix<Channel, H>,
     ghost seated: { IsSeatAt (receives_on channel) pass },
     ghost role: { view pass ≡ pass_view false true [] (view pass).taken },
+    ghost stands: { IsHeldAt prefix place (receives_on channel) },
 }
 
-impl<R: Wait> Inbox<R> {
+impl<H: Host> Inbox<H> {
     ghost use Rattle.std.specs.Prelude.{◌∷◌, ◌++◌, MatchOption};
-    ghost use Rattle.tab_post.specs.Ends.{taken_by, IsSameInbox};
+    ghost use Rattle.tab_post.specs.Ends.{received, IsSameInbox};
 
     /// The next item that was sent, which it waits for. None where it hears that the post was dropped and nothing is left.
     pub fn receive(&mut self) -> Option<Item>
-        ensures next { MatchOption result (taken_by self.new ≡ taken_by self.old) (λ x. taken_by self.new ≡ taken_by self.old ++ x ∷ []) }
+        ensures next { MatchOption result (received self.new ≡ received self.old)
+            (λ x. received self.new ≡ received self.old ++ x ∷ []) }
         ensures stays { IsSameInbox self.old self.new }
     {
         self.channel
-            .recv_as::<Taken, R>(&self.rt, &mut self.pass)
+            .recv_as::<Taken, H>(&self.rt, &mut self.pass)
             .ok()
     }
 
     /// The next item that was sent, where it is there already.
     pub fn try_receive(&mut self) -> Option<Item>
-        ensures next { MatchOption result (taken_by self.new ≡ taken_by self.old) (λ x. taken_by self.new ≡ taken_by self.old ++ x ∷ []) }
+        ensures next { MatchOption result (received self.new ≡ received self.old)
+            (λ x. received self.new ≡ received self.old ++ x ∷ []) }
         ensures stays { IsSameInbox self.old self.new }
     {
         self.channel
-            .try_recv_as::<Taken, R>(&self.rt, &mut self.pass)
+            .try_recv_as::<Taken, H>(&self.rt, &mut self.pass)
             .ok()
     }
 }

@@ -1,38 +1,51 @@
-//! Both ends of a mailbox in one pass_view.
-
-ghost use Rattle.std.specs.Prelude.{◌≡◌};
-ghost use Rattle.tab_post.specs.Ends.{as_outbox, sent_by, taken_by, AreEnds, IsSamePost, IsSameInbox};
-ghost use Rattle.tab_outbox.specs.Mailboxes.{Takes};
+//! Both ends of a mailbox in one pass.
 
 use crate::inbox::Inbox;
+use crate::naming::Host;
 use crate::post::ChannelPost;
 use crate::rule::{Ends, Idle, Meets};
 use std::mem;
-use std::sync::Wait;
-use tab_outbox::Met;
+use tab_outbox::{Mailbox, Met};
 
-/// Takes one item more, or shows that all that was sent is taken. While it has both ends nothing more is sent.
-pub fn meet<R: Wait>(post: &mut ChannelPost<R>, inbox: &mut Inbox<R>) -> Met
-    requires { AreEnds post.old inbox.old }
-    ensures post { IsSamePost post.old post.new × (as_outbox post.new ≡ as_outbox post.old) }
-    ensures inbox { IsSameInbox inbox.old inbox.new }
-    ensures met { Takes (sent_by post.new) (taken_by inbox.old) result (taken_by inbox.new) }
-{
-    // The two passes become one of both ends, which learns how what was taken stands to what was sent.
-    let spare = post.channel.another::<Idle>(&mut post.pass);
-    let taking = mem::replace(&mut inbox.pass, spare);
-    post.channel.absorb::<Ends>(&mut post.pass, taking);
-    match inbox
-        .channel
-        .try_recv_as::<Meets, R>(&post.rt, &mut post.pass)
+impl<H: Host> Mailbox for ChannelPost<H> {
+    ghost use Rattle.std.specs.Prelude.{◌≡◌};
+    ghost use Rattle.tab_outbox.specs.Mailboxes.{Tells};
+    ghost use Rattle.tab_post.specs.Ends.{as_outbox, mailbox_of, received, IsSamePost, IsSameInbox};
+
+    type End = Inbox<H>;
+
+    ghost taken = { λ i. received i };
+
+    ghost mailbox = { λ i. mailbox_of i };
+
+    /// Takes one item more, or shows that all that was sent is taken. While it has both ends nothing more is sent.
+    fn meet(&mut self, end: &mut Inbox<H>) -> Met
+        ensures stays { IsSamePost self.old self.new }
+        ensures outbox { as_outbox self.new ≡ as_outbox self.old }
+        ensures end { IsSameInbox end.old end.new }
+        ensures met { Tells (as_outbox self.old) (mailbox_of end.old) (received end.old)
+            result (received end.new) }
     {
-        Ok(item) => {
-            inbox.pass = post.channel.another::<Ends>(&mut post.pass);
-            Met::Going(item)
+        if self.place != end.place {
+            return Met::Apart;
         }
-        Err(_) => {
-            inbox.pass = post.channel.another::<Ends>(&mut post.pass);
-            Met::All
+        self.prefix.agrees(&end.prefix, self.place);
+        // The two passes become one of both ends, which learns how what was taken stands to what was sent.
+        let spare = self.channel.another::<Idle>(&mut self.pass);
+        let taking = mem::replace(&mut end.pass, spare);
+        self.channel.absorb::<Ends>(&mut self.pass, taking);
+        match end
+            .channel
+            .try_recv_as::<Meets, H>(&self.rt, &mut self.pass)
+        {
+            Ok(item) => {
+                end.pass = self.channel.another::<Ends>(&mut self.pass);
+                Met::Going(item)
+            }
+            Err(_) => {
+                end.pass = self.channel.another::<Ends>(&mut self.pass);
+                Met::All
+            }
         }
     }
 }

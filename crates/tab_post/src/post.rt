@@ -3,11 +3,13 @@
 ghost use Rattle.std.specs.Prelude.{◌≡◌, [], true, false};
 ghost use Rattle.crossbeam_channel.specs.Claims.{view, IsSeatAt};
 ghost use Rattle.crossbeam_channel.specs.Ends.{sends_on};
+ghost use Rattle.tab_post.specs.Register.{IsHeldAt};
 ghost use Rattle.tab_post.specs.Rule.{pass_view};
 
+use crate::naming::Host;
+use crate::prefix::Prefix;
 use crate::rule::{InOrder, PassView, Sent};
 use crossbeam_channel::{Pass, RuledSender, TrySendError};
-use std::sync::Wait;
 use tab_outbox::{Item, Post, Refused};
 
 /// What names a mailbox: its channel, as its sender knows it.
@@ -15,50 +17,49 @@ pub type Channel = RuledSender<Item, PassView, InOrder>;
 
 /// The sending end of a mailbox.
 #[derive(Drop)]
-pub struct ChannelPost<R: Wait> {
-    pub(crate) rt: R,
+pub struct ChannelPost<H: Host> {
+    pub(crate) rt: H,
     pub(crate) channel: Channel,
     pub(crate) pass: Pass<Item, PassView>,
     pub(crate) refusals: u64,
+    pub(crate) place: u64,
+    pub(crate) prefix: Prefix<Channel, H>,
     ghost seated: { IsSeatAt (sends_on channel) pass },
     ghost role: { view pass ≡ pass_view true false (view pass).sent [] },
+    ghost stands: { IsHeldAt prefix place (sends_on channel) },
 }
 
-impl<R: Wait> ChannelPost<R> {
-    /// What names its mailbox.
-    pub fn channel(&self) -> &Channel
-        ensures { result.now ≡ self.now.channel }
-    {
-        &self.channel
-    }
-}
-
-impl<R: Wait> Post for ChannelPost<R> {
+impl<H: Host> Post for ChannelPost<H> {
     ghost use Rattle.std.specs.Prelude.{◌≡◌, [], ◌∷◌, OnOk, IfErr, IfSome, IsNone, is_err, length, nat_le, refl};
     ghost use Rattle.std.proofs.Common.{◌∙◌};
     ghost use Rattle.tab_model.specs.Outcome.{with_items, with_refusal};
     ghost use Rattle.tab_outbox.specs.Posts.{refused_item, IsFull};
-    ghost use Rattle.tab_post.specs.Ends.{as_outbox, sent_by, capacity_of, IsSamePost, WasFull};
+    ghost use Rattle.tab_post.specs.Ends.{as_outbox, sent, capacity_of, IsSamePost, WasFull};
 
     ghost outbox = { λ s. as_outbox s };
 
     ghost stays = { λ a b. IsSamePost a b };
 
-    ghost stays_self = { λ x. refl };
+    ghost stays_self = { λ x. (refl, refl) };
 
-    ghost stays_on = { λ x y z p q. q ∙ p };
+    ghost stays_on = { λ x y z p q. (q.0 ∙ p.0, q.1 ∙ p.1) };
 
     /// One attempt, which never waits for room.
     fn put(&mut self, item: Item) -> Result<(), Refused>
         ensures stays { IsSamePost self.old self.new }
-        ensures decided { IfSome (as_outbox self.old).capacity (λ c. is_err result ≡ nat_le c (length (as_outbox self.old).items)) }
-        ensures ok { OnOk result (as_outbox self.new ≡ with_items (as_outbox self.old) (item ∷ [])) }
-        ensures err { IfErr result (λ r. (refused_item r ≡ item) × (as_outbox self.new ≡ with_refusal (as_outbox self.old))) }
-        ensures full { IfErr result (λ r. IsFull r → WasFull (capacity_of self.old) (sent_by self.old)) }
+        ensures decided { IfSome (as_outbox self.old).capacity
+            (λ c. is_err result ≡ nat_le c (length (as_outbox self.old).items)) }
+        ensures ok { OnOk result
+            (as_outbox self.new ≡ with_items (as_outbox self.old) (item ∷ [])) }
+        ensures err { IfErr result
+            (λ r. (refused_item r ≡ item)
+            × (as_outbox self.new ≡ with_refusal (as_outbox self.old))) }
+        ensures full { IfErr result
+            (λ r. IsFull r → WasFull (capacity_of self.old) (sent self.old)) }
     {
         match self
             .channel
-            .try_send_as::<Sent, R>(&self.rt, &mut self.pass, item)
+            .try_send_as::<Sent, H>(&self.rt, &mut self.pass, item)
         {
             Ok(()) => Ok(()),
             Err(TrySendError::Full(item)) => {

@@ -98,7 +98,8 @@ impl Outcome<Item, PassView> for Meets {
     ghost use Rattle.tab_outbox.specs.Mailboxes.{StartsWith};
     ghost use Rattle.tab_post.specs.Rule.{pass_view};
 
-    ghost then = { λ v x w. (w ≡ pass_view v.sends v.takes v.sent (v.taken ++ x ∷ [])) × StartsWith v.sent (v.taken ++ x ∷ []) };
+    ghost then = { λ v x w. (w ≡ pass_view v.sends v.takes v.sent (v.taken ++ x ∷ []))
+        × StartsWith v.sent (v.taken ++ x ∷ []) };
 }
 
 /// The channel was empty: all that was sent was taken.

@@ -14,8 +14,7 @@ use std::thread::Threads;
 use std::{io, thread};
 use tab_book::{JoinFault, Seat, Shared};
 use tab_model::{Limit, Reply};
-use tab_named::SeatInbox;
-use tab_names::Host;
+use tab_post::{Host, Inbox};
 use tab_proto::append_reply;
 
 /// Accepts so many connections, and serves each until its session has ended. Ends when all have; with an error where an
@@ -110,7 +109,7 @@ fn serve_connection<H: Host + Threads + Send + Sync, G: Gate + Notes + Sync>(
     alloc: Global,
     shared: &Shared<H>,
     seat: &Seat,
-    inbox: SeatInbox<H>,
+    inbox: Inbox<H>,
     streams: Streams,
     gate: &G,
 ) {
@@ -131,7 +130,7 @@ fn serve_streams<H: Host + Threads + Send + Sync, G: Gate + Notes + Sync>(
     alloc: Global,
     shared: &Shared<H>,
     seat: &Seat,
-    mut inbox: SeatInbox<H>,
+    mut inbox: Inbox<H>,
     connection: &Connection,
     mut reader: TcpStream,
     gate: &G,

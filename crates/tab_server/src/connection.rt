@@ -12,8 +12,7 @@ use std::io;
 use std::net::TcpStream;
 use std::sync::Wait;
 use tab_book::{Seat, Shared};
-use tab_named::SeatInbox;
-use tab_names::Host;
+use tab_post::{Host, Inbox};
 use tab_proto::Delivery;
 use tab_sink::FrameSink;
 
@@ -89,7 +88,7 @@ impl Connection {
         alloc: Global,
         shared: &Shared<H>,
         seat: &Seat,
-        inbox: &mut SeatInbox<H>,
+        inbox: &mut Inbox<H>,
         notes: &N,
     ) {
         event_loop(

@@ -9,8 +9,7 @@ use std::io::Write;
 use tab_book::{Drained, Seat, Shared};
 use tab_etf::event_len;
 use tab_model::Item;
-use tab_named::SeatInbox;
-use tab_names::Host;
+use tab_post::{Host, Inbox};
 use tab_proto::{Delivery, append_item, append_overflow, write_item};
 use tab_sink::FrameSink;
 
@@ -21,7 +20,7 @@ pub fn event_loop<H: Host, W: Write, N: Notes>(
     alloc: Global,
     shared: &Shared<H>,
     seat: &Seat,
-    inbox: &mut SeatInbox<H>,
+    inbox: &mut Inbox<H>,
     sink: &FrameSink<W>,
     delivery: Delivery,
     notes: &N,
@@ -68,7 +67,7 @@ struct Events<'a, H: Host, W: Write, N: Notes> {
     host: &'a H,
     shared: &'a Shared<H>,
     seat: &'a Seat,
-    inbox: &'a mut SeatInbox<H>,
+    inbox: &'a mut Inbox<H>,
     sink: &'a FrameSink<W>,
     delivery: Delivery,
     notes: &'a N,

@@ -12,8 +12,8 @@ use std::alloc::{AllocError, Global};
 use std::io::Write;
 use tab_book::{Held, Rest, Seat, Shared, Step};
 use tab_model::{Command, Parts, SharedReply};
-use tab_names::Host;
 use tab_oneshot::Steps;
+use tab_post::Host;
 
 /// So many naps of 20 milliseconds a restarted transaction rests at most. A client that drives two connections from one thread
 /// has to be told `restart` while the other's transaction is open.

@@ -14,8 +14,7 @@ use std::time::{Clock, Duration};
 use std::{io, thread};
 use tab_book::{Book, Shared};
 use tab_model::Limits;
-use tab_names::{Host, Naming, Opened};
-use tab_post::Channel;
+use tab_post::{Channel, Host, Naming, Opened};
 use tab_server::{Count, Counts, Gate, Listener, Note, Notes, Settings, serve};
 
 pub const LIMITS: Limits = Limits {

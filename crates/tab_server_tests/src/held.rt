@@ -13,9 +13,7 @@ use std::thread::Threads;
 use std::{io, thread};
 use tab_book::{Book, Drained, Seat, Shared};
 use tab_model::{Command, Level, Operation, Reply, Schema};
-use tab_named::SeatInbox;
-use tab_names::{Host, Naming, Opened};
-use tab_post::Channel;
+use tab_post::{Channel, Host, Inbox, Naming, Opened};
 use tab_server::{Delivery, FrameSink, Open, event_loop};
 use tab_term::Terms;
 use tab_test_tools::Shape::{Atom, Int, Tuple};
@@ -89,12 +87,7 @@ fn commit<H: Host>(
 }
 
 /// How many items were there for a session; None where it overflowed or left.
-fn taken<H: Host>(
-    host: &H,
-    shared: &Shared<H>,
-    seat: &Seat,
-    inbox: &mut SeatInbox<H>,
-) -> Option<u32> {
+fn taken<H: Host>(host: &H, shared: &Shared<H>, seat: &Seat, inbox: &mut Inbox<H>) -> Option<u32> {
     let mut count = 0u32;
     for _ in host.forever() {
         match shared.drained(host, seat, inbox) {
@@ -131,7 +124,7 @@ fn commit_all<H: Host>(
     alloc: Global,
     shared: &Shared<H>,
     writer: &Seat,
-    mut inbox: SeatInbox<H>,
+    mut inbox: Inbox<H>,
     reader: &Seat,
     pipe: &Pipe,
 ) -> Result<bool, AllocError> {
@@ -177,7 +170,7 @@ fn send_events<H: Host>(
     alloc: Global,
     shared: &Shared<H>,
     reader: Seat,
-    mut inbox: SeatInbox<H>,
+    mut inbox: Inbox<H>,
     pipe: &Pipe,
 ) {
     let sink = FrameSink::new(Held { host, pipe });
@@ -198,9 +191,9 @@ fn side_by_side<H: Host + Threads + Send + Sync>(
     alloc: Global,
     shared: &Shared<H>,
     writer: &Seat,
-    others: SeatInbox<H>,
+    others: Inbox<H>,
     reader: Seat,
-    inbox: SeatInbox<H>,
+    inbox: Inbox<H>,
     pipe: &Pipe,
 ) -> Result<bool, AllocError> {
     thread::scope(thread::scope_env(), host, |scope| {

@@ -6,7 +6,7 @@ ghost use Rattle.tab_uses.specs.Endings.{is_commit};
 use std::alloc::{AllocError, Global};
 use tab_book::{Seat, Shared};
 use tab_model::{Command, Operation, Reply};
-use tab_names::Host;
+use tab_post::Host;
 use tab_term::Term;
 
 /// How a write ended.

@@ -17,7 +17,7 @@ use std::marker::Brand;
 use std::process::ExitCode;
 use tab_etf::Counted;
 use tab_metrics::Meters;
-use tab_names::Opened;
+use tab_post::Opened;
 use tab_session::{Ended, replay};
 use words::{Run, asked};
 

@@ -7,8 +7,7 @@ use crate::serving::Service;
 use std::alloc::{AllocError, Global};
 use tab_book::Book;
 use tab_model::Limits;
-use tab_names::{Host, Opened};
-use tab_post::Channel;
+use tab_post::{Channel, Host, Opened};
 
 /// No tables and no sessions, and the limits that the words and the program set.
 pub fn opened_book<H: Host>(

@@ -19,8 +19,7 @@ use std::sync::Wait;
 use std::thread::Threads;
 use tab_etf::{Source, Target, give_all};
 use tab_metrics::Paged;
-use tab_names::{Naming, Opened};
-use tab_post::Channel;
+use tab_post::{Channel, Naming, Opened};
 use tab_server::{Gate, Notes};
 
 /// Does what the words ask for, and gives the program's exit status. On the errors stands the line of this end and nothing

@@ -19,8 +19,7 @@ use std::{io, thread};
 use tab_book::Shared;
 use tab_etf::{Target, give_all};
 use tab_metrics::{Closing, Paged, serve_pages};
-use tab_names::{Host, Naming, Opened};
-use tab_post::Channel;
+use tab_post::{Channel, Host, Naming, Opened};
 use tab_server::{Delivery, Gate, Listener, Notes, Settings, serve, serve_forever};
 
 /// What a server is given: how many connections it accepts, how many items wait for a session, how many entries stand.

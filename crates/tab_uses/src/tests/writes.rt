@@ -10,8 +10,7 @@ use std::test::*;
 use tab_book::{Book, Seat, Shared};
 use tab_etf::decode;
 use tab_model::{Command, Limits, Operation, Schema};
-use tab_names::{Host, Naming, Opened};
-use tab_post::Channel;
+use tab_post::{Channel, Host, Naming, Opened};
 use tab_term::{Atom, Term, Terms};
 
 static LIMITS: Limits = Limits {

@@ -1,6 +1,6 @@
 use Rattle.std.proofs.Common.{ap, sym, ◌∙◌}
 use Rattle.tab_model.specs.Outcome.{Outcome}
-use Rattle.tab_named.specs.Ends.{as_outbox}
+use Rattle.tab_post.specs.Ends.{as_outbox}
 use Rattle.tab_book.proofs.Keeping.{joins_made}
 use Rattle.tab_book.proofs.book.seat.Goals as goal
 

@@ -1,6 +1,6 @@
 use Rattle.std.proofs.Common.{◌≡◌, Some, subst, sym}
 use Rattle.tab_model.specs.State.{Session, State, session_at}
-use Rattle.tab_named.specs.Ends.{mailbox_of, received}
+use Rattle.tab_post.specs.Ends.{mailbox_of, received}
 use Rattle.tab_book.specs.declared.step.Drained.TheVariants.{AllTaken}
 use Rattle.tab_book.specs.Inboxes.{Drains}
 use Rattle.tab_book.specs.Running.{Running}

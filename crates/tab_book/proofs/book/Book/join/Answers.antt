@@ -1,7 +1,7 @@
 use Rattle.std.proofs.Common.{◌≡◌, ◌≢◌, ◌+◌, ℕ, Some, length, sym, ap, ◌∙◌, subst, arith}
 use Rattle.std.specs.Prelude.{IfOk}
 use Rattle.tab_model.specs.State.{Session, State, session_at}
-use Rattle.tab_named.specs.Ends.{as_outbox, empty_outbox, mailbox_of, received}
+use Rattle.tab_post.specs.Ends.{as_outbox, empty_outbox, mailbox_of, received}
 use Rattle.tab_book.specs.Running.{Running, Holds}
 use Rattle.tab_book.specs.Steps.{has_room, with_session, Joins, KeepsPosts}
 use Rattle.tab_book.proofs.Keeping.{join_posts, keeps_own, holds_more, joined_holds, unseen}

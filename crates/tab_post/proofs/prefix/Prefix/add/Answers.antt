@@ -1,6 +1,6 @@
 use Rattle.std.proofs.Common.{sym, ◌∙◌, ap}
-use Rattle.tab_names.proofs.Adding.{add_moves}
-use Rattle.tab_names.proofs.prefix.Prefix.add.Goals as goal
+use Rattle.tab_post.proofs.Adding.{add_moves}
+use Rattle.tab_post.proofs.prefix.Prefix.add.Goals as goal
 
 pub compare_exchange-found-requires : goal.compare_exchange-found-requires
 compare_exchange-found-requires g c =

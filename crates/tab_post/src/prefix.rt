@@ -1,11 +1,11 @@
 //! Beginnings of a register.
 
 ghost use Rattle.std.specs.Prelude.{◌≡◌, ◌-◌, ◌<◌, ◌^◌, [], ◌∷◌, ◌++◌, length, slice_get, MatchBool};
-ghost use Rattle.tab_names.specs.Rules.{IsLonger};
+ghost use Rattle.tab_post.specs.Register.{IsLonger};
 
+use crate::growth::{Adding, Counted, NoGain};
 use crate::naming::Naming;
 use crate::register::Register;
-use crate::rule::{Adding, Counted, NoGain};
 use logbook::{Offer, Seen};
 use std::marker::{Model, PhantomData};
 
@@ -60,7 +60,8 @@ impl<E, J: Naming> Prefix<E, J> {
     /// Puts an entry behind those that were seen, if the register has no others. Else it has seen more of the register.
     pub fn add(&mut self, register: &Register<E, J>, entry: &E) -> bool
         requires room { length self.old < 2 ^ 64 - 1 }
-        ensures added { MatchBool result (self.new ≡ self.old ++ entry.now ∷ []) (IsLonger self.old self.new) }
+        ensures added { MatchBool result (self.new ≡ self.old ++ entry.now ∷ [])
+            (IsLonger self.old self.new) }
     {
         let mut offer: Offer<E, u64, Counted, NoGain> = self.seen.plain::<NoGain, E, Adding>(entry);
         let mut pen = self.seen.no_pen();

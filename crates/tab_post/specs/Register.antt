@@ -1,7 +1,9 @@
--- The rule of a register, and what a step on it tells (this project's own).
-use Rattle.std.specs.Prelude.{◌≡◌, ◌==◌, ◌<◌, ℕ, true, List, [], ◌∷◌, ◌++◌, length, MatchBool}
+-- The rule of a register, what a step on it tells, and the places in a register of channels (this project's own).
+use Rattle.std.specs.Prelude.{◌≡◌, ◌==◌, ◌<◌, ◌≤◌, ℕ, true, List, [], ◌∷◌, ◌++◌, Some, length, slice_get, option_map, MatchBool}
 use mathlib.Core.List.{IsPrefix}
 use Rattle.logbook.specs.Pages.{Cell, Step, View, Book, Named}
+use Rattle.crossbeam_channel.specs.declared.flavors.array.ruled.Sending.{Sending}
+use Rattle.crossbeam_channel.specs.Ends.{sends_on}
 
 -- a register's first word
 abbrev pub head_of : Book → Named
@@ -19,3 +21,12 @@ module _ {E : Type 0} where
   -- of one register, the second is a longer beginning than the first
   abbrev pub IsLonger : List E → List E → Type 0
   IsLonger xs ys = IsPrefix xs ys × (length xs < length ys)
+
+module _ {C A : Type 0} where
+  -- in what was seen of the register, this channel stands at this place
+  abbrev pub IsHeldAt : List (Sending C A) → ℕ → C → Type 0
+  IsHeldAt seen place channel = option_map sends_on (slice_get seen place) ≡ Some channel
+
+  -- the place comes after all that had been seen, and is seen now
+  abbrev pub IsFresh : List (Sending C A) → List (Sending C A) → ℕ → Type 0
+  IsFresh old new place = (length old ≤ place) × (place < length new)

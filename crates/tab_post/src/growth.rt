@@ -7,7 +7,7 @@ pub struct Counted;
 impl<E> Rule<E, u64> for Counted {
     ghost use Rattle.std.specs.Prelude.{[]};
     ghost use base.Fml.{ftrue};
-    ghost use Rattle.tab_names.specs.Rules.{IsCounted};
+    ghost use Rattle.tab_post.specs.Register.{IsCounted};
 
     ghost holds = { λ cells entries. IsCounted cells entries };
 
@@ -35,7 +35,7 @@ impl<E> Gain<E, u64> for NoGain {
 pub struct Adding;
 
 impl<E> Play<E, u64> for Adding {
-    ghost use Rattle.tab_names.specs.Rules.{Adds};
+    ghost use Rattle.tab_post.specs.Register.{Adds};
 
     ghost then = { Adds };
 }

@@ -1,11 +1,11 @@
 //! A register, from its beginning.
 
 ghost use Rattle.std.specs.Prelude.{◌≡◌, []};
-ghost use Rattle.tab_names.specs.Rules.{head_of};
+ghost use Rattle.tab_post.specs.Register.{head_of};
 
+use crate::growth::Counted;
 use crate::naming::Naming;
 use crate::prefix::Prefix;
-use crate::rule::Counted;
 use logbook::{Seen, Start, Word};
 use std::marker::{Model, PhantomData};
 
@@ -19,7 +19,7 @@ pub struct Opened<E> {
 impl<E> Model for Opened<E> {
     ghost use Rattle.std.specs.Prelude.{◌≡◌, []};
     ghost use Rattle.logbook.specs.Pages.{Book, book_coded};
-    ghost use Rattle.tab_names.specs.Rules.{head_of};
+    ghost use Rattle.tab_post.specs.Register.{head_of};
 
     ghost Value = { Book };
 

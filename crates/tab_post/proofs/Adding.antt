@@ -5,7 +5,7 @@ use Rattle.std.proofs.lemmas.Bool.Decides.{nat_tests}
 use mathlib.Core.List.{IsPrefix}
 use prog.Atomic.{either}
 use Rattle.logbook.specs.Pages.{Cell, cell, keeps, no_nib, step, Moves, Goes}
-use Rattle.tab_names.specs.Rules.{IsCounted, Adds}
+use Rattle.tab_post.specs.Register.{IsCounted, Adds}
 
 module _ {E : Type 0} where
   -- a beginning as long as the whole is the whole

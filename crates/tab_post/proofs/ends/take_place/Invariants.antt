@@ -1,5 +1,5 @@
 use Rattle.std.proofs.Common.{◌≤◌, length}
-use Rattle.tab_named.proofs.ends.take_place.Given as goal
+use Rattle.tab_post.proofs.ends.take_place.Given as goal
 
 abbrev pub invariant-loop : goal.invariant-loop
 invariant-loop g l = length l.fn.prefix ≤ length l.prefix

@@ -1,6 +1,6 @@
 use Rattle.std.proofs.Common.{rules, ap}
 use Rattle.tab_post.proofs.Relays.{idles, merges, meets, totals, forks}
-use Rattle.tab_post.proofs.meeting.meet.Goals as goal
+use Rattle.tab_post.proofs.meeting.ChannelPostMailbox.meet.Goals as goal
 
 pub another-spare-requires-clause-rule : goal.another-spare-requires-clause-rule
 another-spare-requires-clause-rule g c = idles _ _
