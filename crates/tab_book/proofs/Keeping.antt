@@ -9,11 +9,12 @@ use Rattle.tab_model.specs.declared.data.Command.TheVariants as command
 use Rattle.tab_model.specs.declared.data.Entry.{Entry}
 use Rattle.tab_model.specs.declared.data.Limits.{Limits}
 use Rattle.tab_model.specs.declared.data.Reply.TheVariants as reply
-use Rattle.tab_model.specs.History.{empty, slice_since_after}
+use Rattle.tab_model.specs.History.{empty, slice_since_after, after_fold}
 use Rattle.tab_model.specs.Standing.{JoinsChannel, MayFollow, FollowsLog, is_joined, still_joined, may_enter}
 use Rattle.tab_model.specs.State.{Outbox, Session, State, new, session_at, IsSound}
 use Rattle.tab_model.specs.Reached.{IsRising}
-use Rattle.tab_model.specs.Outcome.{Ask, Join, Leave, Retry, Take, DoCommand, Outcome, outcome, step_without_entry, join, step_of}
+use Rattle.tab_model.specs.Outcome.{Ask, Join, Leave, Retry, Take, DoCommand, Outcome, outcome, step_without_entry, step_of}
+use Rattle.tab_model.proofs.StepCases.{join_if}
 use Rattle.tab_model.specs.Run.{Allowed, entries}
 use Rattle.tab_model.proofs.Entering.{enters_none, session_never}
 use Rattle.tab_model.proofs.PostsStay.{JoinsAs, stays, found_has, post_stays}
@@ -83,8 +84,12 @@ module _ (outbox seen : ℕ) (σ : State) where
   has_entry j k full = by j.entries full
     where
       none : (n : ℕ) → 1 ≤ n → ((zero == n) || nat_le most_moves zero) ≡ true → ⊥
-      none zero l h = omega (arith, l)
-      none (suc n) l h = cc
+      none n l h = by (zero == n) (nat_le most_moves zero) refl refl h
+        where
+          by : (x y : Bool) → (zero == n) ≡ x → nat_le most_moves zero ≡ y → (x || y) ≡ true → ⊥
+          by true y e f h = grind (arith, nat_tests)
+          by false true e f h = grind (arith, nat_tests)
+          by false false e f h = cc
 
       by : (es : List Entry) → ((length es == j.limit) || nat_le most_moves (moves_in es)) ≡ true → 0 < length es
       by [] h = absurd (none j.limit k.limit h)
@@ -191,10 +196,10 @@ pub room_there : (σ : State) (j : Kept) → is_full j ≡ false → with_room_m
 room_there σ j h = by j.entries refl
   where
     by : (es : List Entry) → j.entries ≡ es → until_room σ j.limit j.base es ≡ j
-    by [] e = λ i. record j { entries = e (~ i) }
+    by [] e = sym (λ i. record j { entries = e i })
     by (x ∷ es) e =
-        ap (λ b. if b then until_room σ j.limit (after_fold (still_joined σ x) j.base x) es else record { base = j.base; entries = x ∷ es; limit = j.limit }) (ap is_full (λ i. record j { entries = e (~ i) }) ∙ h)
-        ∙ (λ i. record j { entries = e (~ i) })
+        ap (λ b. if b then until_room σ j.limit (after_fold (still_joined σ x) j.base x) es else record { base = j.base; entries = x ∷ es; limit = j.limit }) (ap is_full (sym (λ i. record j { entries = e i })) ∙ h)
+        ∙ sym (λ i. record j { entries = e i })
 
 -- it is as it was where it isn't full, or where the step gives no entry
 pub no_room : (σ : State) (n : ℕ) (a : Ask) (j : Kept) → (is_full j && may_enter σ n a) ≡ false → with_room σ n a j ≡ j
@@ -212,7 +217,7 @@ room_folded σ j h = by j.entries refl
     by : (es : List Entry) → j.entries ≡ es → with_room_made σ (Rattle.tab_journal.specs.Journals.without_oldest (oldest_joined σ es) j.base es j.limit) ≡ until_room σ j.limit j.base es
     by [] e = refl
     by (x ∷ es) e =
-        sym (ap (λ b. if b then until_room σ j.limit (after_fold (still_joined σ x) j.base x) es else record { base = j.base; entries = x ∷ es; limit = j.limit }) (ap is_full (λ i. record j { entries = e (~ i) }) ∙ h))
+        sym (ap (λ b. if b then until_room σ j.limit (after_fold (still_joined σ x) j.base x) es else record { base = j.base; entries = x ∷ es; limit = j.limit }) (ap is_full (sym (λ i. record j { entries = e i })) ∙ h))
 
 pub room_left : (outbox seen : ℕ) (σ : State) (j : Kept) → Holds outbox seen σ j → is_full j ≡ false → length j.entries < j.limit
 room_left outbox seen σ j k h = let w = k.within in by (length j.entries == j.limit) (nat_le most_moves (moves_in j.entries)) refl h w
@@ -311,7 +316,7 @@ joins_made σ over n b sound room is = by (session_at σ.sessions n) refl
     above = grind (arith, nat_tests)
 
     by : (o : Option Session) → session_at σ.sessions n ≡ o → step_of σ over n (Join b) o ≡ step_without_entry (with_session σ n b) reply.Done
-    by None e = λ i. join σ n b (above i) ((and_parts (nat_lt σ.greatest (2 ^ 32 - 1)) (nat_lt (length σ.sessions) σ.limits.sessions) room).1 i)
+    by None e = λ i. join_if σ n b (above i) ((and_parts (nat_lt σ.greatest (2 ^ 32 - 1)) (nat_lt (length σ.sessions) σ.limits.sessions) room).1 i)
     by (Some s) e = let le = sound.joined n s e in absurd (omega (arith, le, is))
 
 pub join_holds : (outbox seen : ℕ) (σ : State) (j : Kept) → Holds outbox seen σ j → (over : List ℕ) (n : ℕ) (b : Outbox) (o : Outcome) → outcome σ over n (Join b) ≡ o → JoinsBook seen (Join b) → IsSound o.state → Holds outbox seen o.state j

@@ -19,7 +19,8 @@ use Rattle.tab_model.specs.Ages.{Owned, Answer, Granted, Wait, Die}
 use Rattle.tab_model.specs.Locks.{needs, locks_of}
 use Rattle.tab_model.specs.Schemas.{removed_table}
 use Rattle.tab_model.specs.State.{Transaction, Outbox, Watch, Session, Queued, State, session_at, transaction_in, transaction_at, age_in, age_at, request_in, without_request, is_waiting, with_age, locks_held_by, mid_of}
-use Rattle.tab_model.specs.Outcome.{Ask, Join, Leave, Retry, Take, DoCommand, Outcome, step_without_entry, outcome, with_session, with_transaction, with_queue, with_changed, with_move, ends_transaction, after_move, reply_or, make, by_lock_answer, within_limit, operate, try_again, retry_in, retry, open_level_1, open_child, begin, one_shot, abort, after_put, batch_to, end_to, without_deleted, commit_at, commit, events_now, schema_if, schema, put_marker, subscribe, unsubscribe, do_command, command_if, give, leave, step_of_joined, fresh, join, step_of_stranger, step_of}
+use Rattle.tab_model.specs.Outcome.{Ask, Join, Leave, Retry, Take, DoCommand, Outcome, step_without_entry, outcome, with_session, with_transaction, with_queue, with_changed, with_move, ends_transaction, reply_or, make, by_lock_answer, operate, retry_in, retry, begin, one_shot, abort, after_put, batch_to, end_to, without_deleted, commit, events_now, schema, put_marker, do_command, give, leave, step_of_joined, fresh, step_of_stranger, step_of}
+use Rattle.tab_model.proofs.StepCases.{after_move, within_limit, try_again, open_level_1, open_child, commit_at, schema_if, subscribe_if, unsubscribe_if, command_if, join_if}
 use Rattle.tab_model.specs.Standing.{levels_in, levels_of}
 use Rattle.tab_model.proofs.SessionLists.{eq_true, itself, found, session_at-push, session_at-without}
 use Rattle.tab_model.proofs.StepsBySession.{lock_of_move, locks-more}
@@ -199,11 +200,11 @@ module _ (σ : State) where
     marked_lets true ws x e = inl (kept_lets _ (put_marker σ true s ws x e).state refl refl refl refl)
     marked_lets false ws x e = inl (kept_lets _ (put_marker σ false s ws x e).state refl refl refl refl)
 
-    subscribe_lets : (over : List ℕ) (t : List ℕ) (l : Level) (dump : Bool) (r : Option Reply) → Lets false σ s.number (subscribe σ over s t l dump r)
+    subscribe_lets : (over : List ℕ) (t : List ℕ) (l : Level) (dump : Bool) (r : Option Reply) → Lets false σ s.number (subscribe_if σ over s t l dump r)
     subscribe_lets over t l dump (Some r) = inl none_lets
     subscribe_lets over t l dump None = marked_lets _ _ _ _
 
-    unsubscribe_lets : (over : List ℕ) (t : List ℕ) (b : Bool) → Lets false σ s.number (unsubscribe σ over s t b)
+    unsubscribe_lets : (over : List ℕ) (t : List ℕ) (b : Bool) → Lets false σ s.number (unsubscribe_if σ over s t b)
     unsubscribe_lets over t false = inl none_lets
     unsubscribe_lets over t true = marked_lets _ _ _ _
 
@@ -243,10 +244,10 @@ module _ (σ : State) where
     seated_lets over Take = give_lets _ _
     seated_lets over (DoCommand c) = command_lets over c _
 
-  join_lets : (n : ℕ) (b : Outbox) (above room : Bool) → session_at σ.sessions n ≡ None → Lets false σ n (join σ n b above room)
+  join_lets : (n : ℕ) (b : Outbox) (above room : Bool) → session_at σ.sessions n ≡ None → Lets false σ n (join_if σ n b above room)
   join_lets n b false room none = inl none_lets
   join_lets n b true false none = inl none_lets
-  join_lets n b true true none = inl (same_lets (join σ n b true true).state
+  join_lets n b true true none = inl (same_lets (join_if σ n b true true).state
       (λ m. ap transaction_in (session_at-push σ.sessions (fresh n b) m none) ∙ transaction_if (m == n) (Some (fresh n b)) (session_at σ.sessions m) ∙ ap (λ (o : Option Transaction). if m == n then o else transaction_at σ m) (sym (ap transaction_in none)) ∙ sym (same_if (transaction_at σ) m n))
       (λ m q h. h))
 

@@ -15,9 +15,10 @@ use Rattle.tab_model.specs.declared.data.Command.{Command}
 use Rattle.tab_model.specs.declared.data.Command.TheVariants as command
 use Rattle.tab_model.specs.Log.{has_session}
 use Rattle.tab_model.specs.Slices.{dump_of}
-use Rattle.tab_model.specs.State.{Outbox, Watch, Session, State, session_at, is_waiting, level_in, without_watch}
+use Rattle.tab_model.specs.State.{Watch, Session, State, session_at, is_waiting, level_in, without_watch}
 use Rattle.tab_model.specs.Outcome as plain
-use Rattle.tab_model.specs.Outcome.{Ask, Take, DoCommand, Outcome, outcome, step_without_entry, step_of, with_items, with_refusal, items_to_take, give, put_marker, command_if, do_command, subscribe, subscribe_refusal, unsubscribe, is_at, is_abort}
+use Rattle.tab_model.specs.Outcome.{Take, DoCommand, Outcome, outcome, step_without_entry, with_items, with_refusal, items_to_take, give, put_marker, do_command, refused_if, subscribe_refusal, unsubscribe_refusal, is_at, is_abort}
+use Rattle.tab_model.proofs.StepCases.{command_if, subscribe_refusal_if, subscribe_if, unsubscribe_if}
 use Rattle.tab_model.specs.Run.{Allowed, IsSplitByOverflow, put_ask, put_command}
 use Rattle.tab_model.proofs.SessionLists.{found, itself}
 use Rattle.tab_manager.specs.declared.step.Stepped.{Stepped}
@@ -27,7 +28,7 @@ use Rattle.tab_subs.specs.declared.answers.Taken.{Taken}
 use Rattle.tab_subs.specs.declared.answers.Marked.{Marked}
 use Rattle.tab_subs.specs.declared.answers.Marked.TheVariants as mark
 use Rattle.tab_core.specs.SessionLists.{session_with, state_with, IsKept}
-use Rattle.tab_core.specs.Subscribing.{refused_by, unsubscribe_refusal, marked_reply, taken_reply}
+use Rattle.tab_core.specs.Subscribing.{refused_by, marked_reply, taken_reply}
 use Rattle.tab_core.specs.Runs.{StepsTo}
 use Rattle.tab_core.proofs.Delivering.{seated_there, found_there}
 use Rattle.tab_core.proofs.SoleSession.{dress, sessions_change, change_numbers}
@@ -173,9 +174,9 @@ module _ (bs : List Subscriber) (σ : State) (k : IsKept bs σ) (n : ℕ) (c : C
   one_reply : {a r : Reply} → Some a ≡ Some r → a ≡ r
   one_reply q = cc
 
-  refused_if : (s : Session) (r : Reply) (b : Bool) → refusal_if s b ≡ Some r → ((over : List ℕ) → command_if now over s c (b && true) ≡ step_without_entry now r) × ((if b then [] else put_command now s c) ≡ [])
-  refused_if s r true h = (λ over. ap (step_without_entry now) (one_reply h), refl)
-  refused_if s r false h = (λ over. (marking.refuses over s r h).0, (marking.refuses [] s r h).1)
+  refused_mark_if : (s : Session) (r : Reply) (b : Bool) → refusal_if s b ≡ Some r → ((over : List ℕ) → command_if now over s c (b && true) ≡ step_without_entry now r) × ((if b then [] else put_command now s c) ≡ [])
+  refused_mark_if s r true h = (λ over. ap (step_without_entry now) (one_reply h), refl)
+  refused_mark_if s r false h = (λ over. (marking.refuses over s r h).0, (marking.refuses [] s r h).1)
 
   -- a refusal
   pub refused_mark : (r : Reply) → refused_by now n f (session_at now.sessions n) ≡ Some r → (s' : Stepped) → s' ≡ record { reply = r; entry = None } → Makes bs σ n (DoCommand c) s' bs σ
@@ -188,7 +189,7 @@ module _ (bs : List Subscriber) (σ : State) (k : IsKept bs σ) (n : ℕ) (c : C
       )
       by (Some s) m g =
           let is_n : s.number ≡ n = found now.sessions s n m in
-          let q = refused_if s r (is_waiting now s.number) (ap (λ j. refusal_if s (is_waiting now j)) is_n ∙ g) in (
+          let q = refused_mark_if s r (is_waiting now s.number) (ap (λ j. refusal_if s (is_waiting now j)) is_n ∙ g) in (
             subst (λ ss. IsSplitByOverflow ss []) (sym (ap (put_ask now (DoCommand c)) m ∙ q.1)) refl,
             at_session now [] n (DoCommand c) (Some s) m ∙ ap (λ b. command_if now [] s c (is_waiting now s.number && not b)) marking.no_abort ∙ q.0 [],
           )
@@ -237,26 +238,26 @@ module _ (bs : List Subscriber) (σ : State) (k : IsKept bs σ) (n : ℕ) (c : C
 pub subscribes : (σ : State) (t : List ℕ) (l : Level) (dump : Bool) → IsMarking σ (command.Subscribe t l dump) (λ s. subscribe_refusal σ s t) (λ s. record { table = t; level = l } ∷ s.watching) (Began t l (dump_of σ.tables t dump)) (λ n. Subscribed n t l dump)
 subscribes σ t l dump = record {
   no_abort = refl;
-  refuses = λ over s r h. (ap (subscribe σ over s t l dump) h, ap (λ o. if is_some o then [] else s ∷ []) h);
-  marks = λ over s h. (ap (subscribe σ over s t l dump) h, ap (λ o. if is_some o then [] else s ∷ []) h);
+  refuses = λ over s r h. (ap (subscribe_if σ over s t l dump) h, ap (λ o. if is_some o then [] else s ∷ []) h);
+  marks = λ over s h. (ap (subscribe_if σ over s t l dump) h, ap (λ o. if is_some o then [] else s ∷ []) h);
 }
 
-at_level : (b : Bool) (t : List ℕ) → (r : Reply) → (if b then None else Some (reply.NotSubscribed t)) ≡ Some r → (b ≡ false) × (r ≡ reply.NotSubscribed t)
+at_level : (b : Bool) (t : List ℕ) → (r : Reply) → refused_if (not b) (reply.NotSubscribed t) ≡ Some r → (b ≡ false) × (r ≡ reply.NotSubscribed t)
 at_level true t r h = cc
 at_level false t r h = (refl, sym (one h))
   where
     one : {a : Reply} → Some a ≡ Some r → a ≡ r
     one q = cc
 
-off_level : (b : Bool) (t : List ℕ) → (if b then None else Some (reply.NotSubscribed t)) ≡ None → b ≡ true
+off_level : (b : Bool) (t : List ℕ) → refused_if (not b) (reply.NotSubscribed t) ≡ None → b ≡ true
 off_level true t h = refl
 off_level false t h = cc
 
 pub unsubscribes : (σ : State) (t : List ℕ) (l : Level) → IsMarking σ (command.Unsubscribe t l) (unsubscribe_refusal t l) (λ s. without_watch s.watching t) (Ended t ending.Unsubscribed) (λ n. Unsubscribed n t)
 unsubscribes σ t l = record {
   no_abort = refl;
-  refuses = λ over s r h. let p = at_level (is_at (level_in s.watching t) l) t r h in (ap (unsubscribe σ over s t) p.0 ∙ ap (step_without_entry σ) (sym p.1), ap (λ b. if b then s ∷ [] else []) p.0);
-  marks = λ over s h. let p = off_level (is_at (level_in s.watching t) l) t h in (ap (unsubscribe σ over s t) p, ap (λ b. if b then s ∷ [] else []) p);
+  refuses = λ over s r h. let p = at_level (is_at (level_in s.watching t) l) t r h in (ap (unsubscribe_if σ over s t) p.0 ∙ ap (step_without_entry σ) (sym p.1), ap (λ b. if b then s ∷ [] else []) p.0);
+  marks = λ over s h. let p = off_level (is_at (level_in s.watching t) l) t h in (ap (unsubscribe_if σ over s t) p, ap (λ b. if b then s ∷ [] else []) p);
 }
 
 -- ---- what refuses a session's command before its own state does
@@ -340,11 +341,11 @@ module _ (bs : List Subscriber) (σ : State) (n : ℕ) (t : List ℕ) (free : No
 
   -- the three tests of a subscription
   asked : (a b c : Bool) → is_some (subs.overflow_of (at bs n)) ≡ a → is_some (Rattle.tab_model.specs.Catalogs.find σ.tables t) ≡ b → is_some (subs.level_of (at bs n) t) ≡ c
-      → refusal bs σ n of_subscribe ≡ (if a then Some reply.OverflowUntold else (if not b then Some (reply.SubNoTable t) else (if c then Some (reply.AlreadySubscribed t) else None)))
+      → refusal bs σ n of_subscribe ≡ (subscribe_refusal_if t a (not b) c)
   asked a b c e f g =
       own of_subscribe
-      ∙ (λ i. if (ap (λ m. is_some (subs.overflow_of (at bs m))) is_n ∙ e) i then Some reply.OverflowUntold
-      else (if not (f i) then Some (reply.SubNoTable t) else (if (ap is_some (ap (λ m. level_in (Rattle.tab_core.specs.SessionLists.watching_of (at bs m)) t) is_n ∙ sym (level_seen (at bs n) t)) ∙ g) i then Some (reply.AlreadySubscribed t) else None)))
+      ∙ (λ i. subscribe_refusal_if t ((ap (λ m. is_some (subs.overflow_of (at bs m))) is_n ∙ e) i) (not (f i))
+      ((ap is_some (ap (λ m. level_in (Rattle.tab_core.specs.SessionLists.watching_of (at bs m)) t) is_n ∙ sym (level_seen (at bs n) t)) ∙ g) i))
 
   pub overflow_untold : true ≡ is_some (subs.overflow_of (at bs n)) → Some reply.OverflowUntold ≡ refusal bs σ n of_subscribe
   overflow_untold e = sym (asked true _ _ (sym e) refl refl)
@@ -359,8 +360,8 @@ module _ (bs : List Subscriber) (σ : State) (n : ℕ) (t : List ℕ) (free : No
   may_subscribe e f g = sym (asked false true false (sym e) (sym f) (sym g))
 
   -- the one test of its end
-  at_it : (l : Level) (a : Bool) → is_at (subs.level_of (at bs n) t) l ≡ a → refusal bs σ n (unsubscribe_refusal t l) ≡ (if a then None else Some (reply.NotSubscribed t))
-  at_it l a e = own (unsubscribe_refusal t l) ∙ ap (λ b. if b then None else Some (reply.NotSubscribed t)) (ap (λ o. is_at o l) (ap (λ m. level_in (Rattle.tab_core.specs.SessionLists.watching_of (at bs m)) t) is_n ∙ sym (level_seen (at bs n) t)) ∙ e)
+  at_it : (l : Level) (a : Bool) → is_at (subs.level_of (at bs n) t) l ≡ a → refusal bs σ n (unsubscribe_refusal t l) ≡ refused_if (not a) (reply.NotSubscribed t)
+  at_it l a e = own (unsubscribe_refusal t l) ∙ ap (λ b. refused_if (not b) (reply.NotSubscribed t)) (ap (λ o. is_at o l) (ap (λ m. level_in (Rattle.tab_core.specs.SessionLists.watching_of (at bs m)) t) is_n ∙ sym (level_seen (at bs n) t)) ∙ e)
 
   pub may_unsubscribe : (l : Level) → true ≡ is_at (subs.level_of (at bs n) t) l → None ≡ refusal bs σ n (unsubscribe_refusal t l)
   may_unsubscribe l e = sym (at_it l true (sym e))

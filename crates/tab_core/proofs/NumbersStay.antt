@@ -17,8 +17,9 @@ use Rattle.tab_model.specs.declared.data.Command.TheVariants as command
 use Rattle.tab_model.specs.Ages.{Answer, Granted, Wait, Die, decide, can_retry}
 use Rattle.tab_model.specs.Locks.{needs}
 use Rattle.tab_model.specs.Schemas.{table_of_schema, schema_refusal, removed_table}
-use Rattle.tab_model.specs.State.{Transaction, Watch, Session, Queued, State, session_at, request_in, without_request, is_waiting, ages_of, is_busy, level_in, mid_of, count_moves}
-use Rattle.tab_model.specs.Outcome.{Ask, Retry, DoCommand, Outcome, outcome, is_empty, with_changed, make, by_lock_answer, within_limit, operate, try_again, retry_in, retry, open_level_1, open_child, begin, one_shot, abort, after_put, batch_to, commit_now, commit_at, commit, events_now, without_deleted, end_to, schema_now, has_room, schema_if, schema, put_marker, subscribe_refusal, subscribe, unsubscribe, is_at, do_command, is_abort, command_if, step_of}
+use Rattle.tab_model.specs.State.{Transaction, Watch, Session, Queued, State, session_at, request_in, is_waiting, ages_of, is_busy, level_in, mid_of, count_moves}
+use Rattle.tab_model.specs.Outcome.{Retry, DoCommand, Outcome, outcome, is_empty, with_changed, make, by_lock_answer, operate, retry_in, retry, begin, one_shot, abort, batch_to, commit, events_now, without_deleted, end_to, has_room, schema, put_marker, subscribe_refusal, is_at, do_command, is_abort, step_of}
+use Rattle.tab_model.proofs.StepCases.{within_limit, try_again, open_level_1, open_child, commit_at, schema_if, subscribe_if, unsubscribe_if, command_if}
 use Rattle.tab_model.proofs.SessionLists.{eq_true}
 use Rattle.tab_model.proofs.SoundSteps.{given_same, unwatched_same}
 
@@ -114,11 +115,11 @@ module _ (σ : State) where
   marked_stays true s ws x e = change_stays σ.sessions _
   marked_stays false s ws x e = change_stays σ.sessions _
 
-  subscribe_stays : (over : List ℕ) (s : Session) (t : List ℕ) (l : Level) (dump : Bool) (r : Option Reply) → Stays σ (subscribe σ over s t l dump r)
+  subscribe_stays : (over : List ℕ) (s : Session) (t : List ℕ) (l : Level) (dump : Bool) (r : Option Reply) → Stays σ (subscribe_if σ over s t l dump r)
   subscribe_stays over s t l dump (Some r) = refl
   subscribe_stays over s t l dump None = marked_stays _ s _ _ _
 
-  unsubscribe_stays : (over : List ℕ) (s : Session) (t : List ℕ) (b : Bool) → Stays σ (unsubscribe σ over s t b)
+  unsubscribe_stays : (over : List ℕ) (s : Session) (t : List ℕ) (b : Bool) → Stays σ (unsubscribe_if σ over s t b)
   unsubscribe_stays over s t false = refl
   unsubscribe_stays over s t true = marked_stays _ s _ _ _
 

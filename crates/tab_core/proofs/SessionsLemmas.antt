@@ -7,10 +7,10 @@ use Rattle.tab_model.specs.declared.data.Entry.{Entry}
 use Rattle.tab_model.specs.declared.data.Item.{Item}
 use Rattle.tab_model.specs.declared.data.Reply.{Reply}
 use Rattle.tab_model.specs.declared.data.Reply.TheVariants as reply
-use Rattle.tab_model.specs.Log.{has_session}
-use Rattle.tab_model.specs.State.{Outbox, Watch, Session, State, session_at, AreDistinct, is_waiting, transaction_at}
+use Rattle.tab_model.specs.State.{Outbox, Session, State, session_at, AreDistinct, transaction_at}
 use Rattle.tab_model.specs.Outcome as plain
-use Rattle.tab_model.specs.Outcome.{Ask, Join, Leave, Take, DoCommand, Outcome, outcome, step_without_entry, step_of, step_of_stranger, join, fresh, without_session, with_session, with_items, with_refusal, items_to_take, give}
+use Rattle.tab_model.specs.Outcome.{Ask, Join, Leave, Outcome, outcome, step_without_entry, step_of, fresh, without_session}
+use Rattle.tab_model.proofs.StepCases.{join_if}
 use Rattle.tab_model.proofs.SessionLists.{found}
 use Rattle.tab_manager.specs.SessionLists.{no_outbox}
 use Rattle.tab_manager.specs.Steps as manager
@@ -96,7 +96,7 @@ module _ (bs : List Subscriber) (σ : State) (k : IsKept bs σ) (n : ℕ) where
   abbrev pub admitted : Bool
   admitted = nat_lt σ.greatest n && nat_lt (length σ.sessions) σ.limits.sessions
 
-  joins_if : (o : Outbox) (a b : Bool) → (a && b) ≡ false → (join (state_with bs σ) n o a b ≡ lifted bs (join σ n no_outbox a b)) × ((join σ n no_outbox a b).state ≡ σ)
+  joins_if : (o : Outbox) (a b : Bool) → (a && b) ≡ false → (join_if (state_with bs σ) n o a b ≡ lifted bs (join_if σ n no_outbox a b)) × ((join_if σ n no_outbox a b).state ≡ σ)
   joins_if o false b h = (refl, refl)
   joins_if o true false h = (refl, refl)
   joins_if o true true h = cc
@@ -109,7 +109,7 @@ module _ (bs : List Subscriber) (σ : State) (k : IsKept bs σ) (n : ℕ) where
           let bare = at_session σ [] n (Join no_outbox) None e in
           let p = joins_if o (nat_lt σ.greatest n) (nat_lt (length σ.sessions) σ.limits.sessions) h in (
             at_session (state_with bs σ) [] n (Join o) None (mapped_none bs σ n e)
-                ∙ ap (λ l. join (state_with bs σ) n o (nat_lt σ.greatest n) (nat_lt l σ.limits.sessions)) (length_mapped (session_with bs) σ.sessions)
+                ∙ ap (λ l. join_if (state_with bs σ) n o (nat_lt σ.greatest n) (nat_lt l σ.limits.sessions)) (length_mapped (session_with bs) σ.sessions)
                 ∙ p.0 ∙ ap (lifted bs) (sym bare),
             ap (λ (x : Outcome). x.state) bare ∙ p.1,
           )
@@ -150,12 +150,12 @@ module _ (bs : List Subscriber) (σ : State) (k : IsKept bs σ) (n : ℕ) where
       both = and_both _ _ h
 
       bare : outcome σ [] n (Join no_outbox) ≡ step_without_entry (with_sessions σ (σ.sessions ++ fresh n no_outbox ∷ []) n) reply.Done
-      bare = at_session σ [] n (Join no_outbox) None none ∙ (λ i. join σ n no_outbox (both.0 i) (both.1 i))
+      bare = at_session σ [] n (Join no_outbox) None none ∙ (λ i. join_if σ n no_outbox (both.0 i) (both.1 i))
 
       steps : outcome (state_with bs σ) [] n (Join o) ≡ record { state = state_with cs τ; reply = s.reply; entry = s.entry }
       steps =
           at_session (state_with bs σ) [] n (Join o) None (mapped_none bs σ n none)
-          ∙ (λ i. join (state_with bs σ) n o (both.0 i) ((ap (λ l. nat_lt l σ.limits.sessions) (length_mapped (session_with bs) σ.sessions) ∙ both.1) i))
+          ∙ (λ i. join_if (state_with bs σ) n o (both.0 i) ((ap (λ l. nat_lt l σ.limits.sessions) (length_mapped (session_with bs) σ.sessions) ∙ both.1) i))
           ∙ ap (λ ss. step_without_entry (with_sessions σ ss n) reply.Done) (sessions_joined bs (subs.fresh n o) σ.sessions (fresh n no_outbox) refl (room_to_join bs σ k n both.0) none ∙ ap (λ xs. map (session_with xs) (σ.sessions ++ fresh n no_outbox ∷ [])) (sym is))
           ∙ ap (lifted cs) (sym bare ∙ m)
 
@@ -169,10 +169,10 @@ module _ (bs : List Subscriber) (σ : State) (k : IsKept bs σ) (n : ℕ) where
       both : (nat_lt σ.greatest n ≡ true) × (nat_lt (length σ.sessions) σ.limits.sessions ≡ true)
       both = and_both _ _ h
 
-      joins : outcome (state_with bs σ) [] n (Join o) ≡ join (state_with bs σ) n o true true
+      joins : outcome (state_with bs σ) [] n (Join o) ≡ join_if (state_with bs σ) n o true true
       joins =
           at_session (state_with bs σ) [] n (Join o) None (mapped_none bs σ n (newcomer h))
-          ∙ (λ i. join (state_with bs σ) n o (both.0 i) ((ap (λ l. nat_lt l σ.limits.sessions) (length_mapped (session_with bs) σ.sessions) ∙ both.1) i))
+          ∙ (λ i. join_if (state_with bs σ) n o (both.0 i) ((ap (λ l. nat_lt l σ.limits.sessions) (length_mapped (session_with bs) σ.sessions) ∙ both.1) i))
 
   pub not_admitted : (ρ : State) (o : Outbox) → state_with bs σ ≡ ρ → takes_no_memory ρ n (Join o) ≡ true → admitted ≡ true → ⊥
   not_admitted ρ o view free h = cc (free, ap (λ (x : State). takes_no_memory x n (Join o)) view, admitted_takes o h)

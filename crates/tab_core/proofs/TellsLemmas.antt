@@ -8,7 +8,8 @@ use Rattle.tab_model.specs.declared.data.Level.{Level}
 use Rattle.tab_model.specs.declared.data.Reply.{Reply}
 use Rattle.tab_model.specs.declared.data.Reply.TheVariants as reply
 use Rattle.tab_model.specs.declared.data.Schema.{Schema}
-use Rattle.tab_model.specs.Outcome.{Ask, DoCommand, Retry, Outcome, outcome, step_without_entry, step_of, commit, commit_at, command_if, has_room, is_abort, is_empty, is_at, schema, subscribe, subscribe_refusal, unsubscribe}
+use Rattle.tab_model.specs.Outcome.{Ask, DoCommand, Retry, Outcome, outcome, step_without_entry, step_of, commit, has_room, is_abort, is_empty, is_at, schema, subscribe_refusal, unsubscribe_refusal}
+use Rattle.tab_model.proofs.StepCases.{commit_at, command_if, subscribe_if, unsubscribe_if}
 use Rattle.tab_model.specs.Run.{IsSplitByOverflow, put_ask, put_schema}
 use Rattle.tab_model.specs.Schemas.{table_of_schema}
 use Rattle.tab_model.specs.Standing.{levels_in, levels_of}
@@ -23,7 +24,7 @@ use Rattle.tab_manager.proofs.StepsLemmas.{both_ways, schema_takes}
 use Rattle.tab_subs.specs.Subscribers.{Subscriber}
 use Rattle.tab_core.specs.Runs.{StepsTo, takes_no_memory}
 use Rattle.tab_core.specs.SessionLists.{session_with, state_with}
-use Rattle.tab_core.specs.Subscribing.{inside_refusal, refused_by, unsubscribe_refusal}
+use Rattle.tab_core.specs.Subscribing.{inside_refusal, refused_by}
 use Rattle.tab_core.proofs.Frames.{at_dressed, transactions_dressed, IsQuiet, quiet_command, quiet_retry}
 use Rattle.tab_core.proofs.OwingLemmas.{idles, is_ending}
 
@@ -59,16 +60,16 @@ module _ (ρ : State) (n : ℕ) where
           ∙ by_wait s (is_waiting ρ s.number) refl (g ∙ ap (λ k. if is_waiting ρ k then Some reply.WaitingNow else f s) (sym (found ρ.sessions s n e)))
 
   pub subscribe_told : (t : List ℕ) (l : Level) (dump : Bool) (o : Option Reply) → o ≡ refused_by ρ n (λ s. subscribe_refusal ρ s t) (session_at ρ.sessions n) → Named (command.Subscribe t l dump) o → is_told_for_none ρ n (DoCommand (command.Subscribe t l dump)) ≡ false
-  subscribe_told t l dump o h named = told_if (command.Subscribe t l dump) o (λ s. subscribe_refusal ρ s t) refl h named (λ s g. ap (λ x. tells ρ n (command.Subscribe t l dump) (subscribe ρ [] s t l dump x).reply) (sym g) ∙ by s o named)
+  subscribe_told t l dump o h named = told_if (command.Subscribe t l dump) o (λ s. subscribe_refusal ρ s t) refl h named (λ s g. ap (λ x. tells ρ n (command.Subscribe t l dump) (subscribe_if ρ [] s t l dump x).reply) (sym g) ∙ by s o named)
     where
-      by : (s : Session) (x : Option Reply) → Named (command.Subscribe t l dump) x → tells ρ n (command.Subscribe t l dump) (subscribe ρ [] s t l dump x).reply ≡ false
+      by : (s : Session) (x : Option Reply) → Named (command.Subscribe t l dump) x → tells ρ n (command.Subscribe t l dump) (subscribe_if ρ [] s t l dump x).reply ≡ false
       by s None m = refl
       by s (Some r) m = m
 
   pub unsubscribe_told : (t : List ℕ) (l : Level) (o : Option Reply) → o ≡ refused_by ρ n (unsubscribe_refusal t l) (session_at ρ.sessions n) → Named (command.Unsubscribe t l) o → is_told_for_none ρ n (DoCommand (command.Unsubscribe t l)) ≡ false
   unsubscribe_told t l o h named = told_if (command.Unsubscribe t l) o (unsubscribe_refusal t l) refl h named (λ s g. by s (is_at (level_in s.watching t) l))
     where
-      by : (s : Session) (b : Bool) → tells ρ n (command.Unsubscribe t l) (unsubscribe ρ [] s t b).reply ≡ false
+      by : (s : Session) (b : Bool) → tells ρ n (command.Unsubscribe t l) (unsubscribe_if ρ [] s t b).reply ≡ false
       by s true = refl
       by s false = refl
 

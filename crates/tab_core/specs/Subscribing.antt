@@ -1,11 +1,10 @@
 -- What refuses a subscription or a schema command, and what marks and Takes are answered (the order of the refusals is this project's own rule).
-use Rattle.std.specs.Prelude.{ℕ, List, if◌then◌else◌, is_some, Option, Some, None}
+use Rattle.std.specs.Prelude.{ℕ, if◌then◌else◌, is_some, Option, Some, None}
 use Rattle.tab_model.specs.declared.data.Entry.{Entry}
 use Rattle.tab_model.specs.declared.data.Reply.{Reply}
 use Rattle.tab_model.specs.declared.data.Reply.TheVariants as reply
-use Rattle.tab_model.specs.declared.data.Level.{Level}
-use Rattle.tab_model.specs.State.{Session, State, is_waiting, level_in}
-use Rattle.tab_model.specs.Outcome.{is_at}
+use Rattle.tab_model.specs.State.{Session, State, is_waiting}
+use Rattle.tab_model.specs.Outcome.{refused_if}
 use Rattle.tab_manager.specs.declared.step.Stepped.{Stepped}
 use Rattle.tab_subs.specs.declared.answers.Taken.{Taken}
 use Rattle.tab_subs.specs.declared.answers.Taken.TheVariants as taken
@@ -19,11 +18,7 @@ refused_by σ n f (Some s) = if is_waiting σ n then Some reply.WaitingNow else 
 
 -- a session that stands in a transaction
 abbrev pub inside_refusal : Session → Option Reply
-inside_refusal s = if is_some s.transaction then Some reply.InTransaction else None
-
--- a table that the session doesn't watch at that level
-abbrev pub unsubscribe_refusal : List ℕ → Level → Session → Option Reply
-unsubscribe_refusal t l s = if is_at (level_in s.watching t) l then None else Some (reply.NotSubscribed t)
+inside_refusal s = refused_if (is_some s.transaction) reply.InTransaction
 
 -- the reply to a mark that a post took or refused, and the entry of one that it took
 abbrev pub marked_reply : Option Marked → Entry → Stepped

@@ -22,7 +22,7 @@ use Rattle.tab_model.specs.declared.data.Reply.{Reply}
 use Rattle.tab_model.specs.declared.data.Reply.TheVariants as reply
 use Rattle.tab_model.specs.Alone.{Mid, start, next, back, after, reply_to, replies}
 use Rattle.tab_model.specs.Events.{change_all, surviving, is_failure}
-use Rattle.tab_model.specs.History.{Base, IsHistory, tables_after, number_after, unless_refused}
+use Rattle.tab_model.specs.History.{Base, IsHistory, tables_after, number_after}
 use Rattle.tab_model.specs.Log.{serial_from, catalog_after, IsRight, IsLegal, count_after}
 use Rattle.tab_model.specs.declared.data.Operation.TheVariants as op
 use Rattle.tab_model.specs.Definitions.{fits_def, is_indexed, position}
@@ -60,7 +60,7 @@ pub folded_ordered : (w : Catalog) (e : Entry) → IsOrderedCatalog w → IsOrde
 folded_ordered w (Committed n s age ms rs over) o = all_changed_ordered w (surviving ms rs) o
 folded_ordered w (Changed c over) o = cases (schema_refusal w c)
   where
-    cases : (r : Option Reply) → IsOrderedCatalog (unless_refused r (schema_effect w c) w)
+    cases : (r : Option Reply) → IsOrderedCatalog (if is_some r then w else schema_effect w c)
     cases None = schema_ordered w c o
     cases (Some r) = o
 folded_ordered w (Subscribed s t l dump) o = o

@@ -2,8 +2,7 @@
 
 ghost use Rattle.std.specs.Prelude.{◌≡◌, IfOk, OnOk, OnErr};
 ghost use Rattle.tab_model.specs.declared.data.Schema.{Schema as SchemaOf};
-ghost use Rattle.tab_model.specs.Schemas.{schema_refusal, schema_effect};
-ghost use Rattle.tab_model.specs.History.{empty as empty_base, after_fold, without_subscriber, number_after as number_after_entry, unless_refused};
+ghost use Rattle.tab_model.specs.History.{empty as empty_base, after_fold, without_subscriber, number_after as number_after_entry, after_schema};
 ghost use Rattle.tab_model.specs.Catalogs.{IsOrderedCatalog};
 
 use crate::subscriptions::{Subscription, forget, keep, removed, subscribe, unsubscribe};
@@ -141,10 +140,7 @@ pub fn number_after(commits: u64, entry: &Entry) -> u64
 }
 
 fn redefined(alloc: Global, tables: &Catalog, command: &Schema) -> Result<Catalog, AllocError>
-    ensures { IfOk result
-        (λ catalog. catalog
-        ≡ unless_refused (schema_refusal tables.now command.now)
-        (schema_effect tables.now command.now) tables.now) }
+    ensures { IfOk result (λ catalog. catalog ≡ after_schema tables.now command.now) }
 {
     match redefine(alloc, tables, command)? {
         Redefined::Done(catalog) => Ok(catalog),

@@ -25,8 +25,9 @@ use Rattle.tab_model.specs.Events.{change_all, surviving}
 use Rattle.tab_model.specs.Schemas.{table_of_schema, schema_refusal, schema_effect}
 use Rattle.tab_model.specs.Catalogs.{Catalog, find}
 use Rattle.tab_model.specs.State as plain
-use Rattle.tab_model.specs.State.{Session, State, session_at, transaction_at, moves_at, is_waiting, is_busy, is_in, locks_held_in, locks_held_by, locks_queued_in, mid_of}
-use Rattle.tab_model.specs.Outcome.{Ask, Join, DoCommand, Outcome, outcome, step_without_entry, commit, commit_at, events_now, is_empty, schema, schema_if, has_room, join, fresh, table_info, is_abort, command_if}
+use Rattle.tab_model.specs.State.{Session, State, session_at, moves_at, is_waiting, is_busy, is_in, locks_held_in, locks_queued_in}
+use Rattle.tab_model.specs.Outcome.{Join, DoCommand, outcome, step_without_entry, commit, is_empty, schema, has_room, fresh, table_info, is_abort}
+use Rattle.tab_model.proofs.StepCases.{commit_at, schema_if, join_if, command_if}
 use Rattle.tab_model.proofs.ReachedWaits.{held_pushed}
 use Rattle.tab_txstore.specs.Stores.{Fits}
 use Rattle.tab_txstore.proofs.FitsLemmas.{updates_survive}
@@ -140,8 +141,8 @@ module _ (m : Machine) (n : ℕ) (stranger : at m.sessions.items n ≡ None) whe
   nowhere : session_at (map session_of m.sessions.items) n ≡ None
   nowhere = at_of m.sessions.items n ∙ ap (option_map session_of) stranger
 
-  joins_if : (a b : Bool) → nat_lt m.greatest n ≡ a → nat_lt (length (map session_of m.sessions.items)) m.limits.sessions ≡ b → outcome (state_of m) [] n (Join no_outbox) ≡ join (state_of m) n no_outbox a b
-  joins_if a b h g = keep.strange (state_of m) n (Join no_outbox) nowhere ∙ (λ j. join (state_of m) n no_outbox (h j) (g j))
+  joins_if : (a b : Bool) → nat_lt m.greatest n ≡ a → nat_lt (length (map session_of m.sessions.items)) m.limits.sessions ≡ b → outcome (state_of m) [] n (Join no_outbox) ≡ join_if (state_of m) n no_outbox a b
+  joins_if a b h g = keep.strange (state_of m) n (Join no_outbox) nowhere ∙ (λ j. join_if (state_of m) n no_outbox (h j) (g j))
 
   as_many : length (map session_of m.sessions.items) ≡ length m.sessions.items
   as_many = mapped_many m.sessions.items

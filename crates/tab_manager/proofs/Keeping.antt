@@ -23,15 +23,14 @@ use Rattle.tab_model.specs.Locks.{needs, locks_of}
 use Rattle.tab_model.specs.Operations.{table_of, answer, failure}
 use Rattle.tab_model.specs.Catalogs.{Catalog, Table, find}
 use Rattle.tab_model.specs.State as plain
-use Rattle.tab_model.specs.State.{Session, State, Queued, session_at, transaction_at, request_in, without_request, is_waiting, with_age, locks_held_by, locks_held_in, locks_queued_in, mid_of, IsSound}
-use Rattle.tab_model.specs.Outcome.{Ask, DoCommand, Outcome, outcome, step_of, step_of_stranger, step_of_joined, do_command, command_if, is_abort, is_empty, step_without_entry, with_changed, with_session, with_transaction, without_session, ends_transaction, after_move, reply_or, make, with_move}
-use Rattle.tab_model.proofs.SessionLists.{eq_true, other_number, itself}
+use Rattle.tab_model.specs.State.{Session, State, Queued, session_at, transaction_at, request_in, without_request, is_waiting, locks_held_by, locks_held_in, locks_queued_in, mid_of, IsSound}
+use Rattle.tab_model.specs.Outcome.{Ask, DoCommand, outcome, step_of, step_of_stranger, step_of_joined, do_command, is_abort, step_without_entry, with_changed}
+use Rattle.tab_model.proofs.StepCases.{command_if}
+use Rattle.tab_model.proofs.SessionLists.{eq_true, other_number}
 use Rattle.tab_model.proofs.SoundSteps.{step_sound}
-use Rattle.tab_model.proofs.StepsBySession.{lock_of_move, locks-more}
-use Rattle.tab_model.proofs.SurvivorsRight.{reply_tells}
 use Rattle.tab_model.proofs.RefusalLaws.{none_queued}
 use Rattle.tab_model.specs.Reached.{IsRising}
-use Rattle.tab_model.proofs.ReachedWaits.{step_rising, Match, match_of, without_match, aged_append}
+use Rattle.tab_model.proofs.ReachedWaits.{step_rising, Match, match_of, without_match}
 use Rattle.tab_txstore.specs.Stores.{Store, store_next, committed_for, Fits}
 use Rattle.tab_txstore.proofs.FitsLemmas.{depth_shown, fits_next}
 use Rattle.tab_manager.specs.declared.session.Transaction as kept

@@ -19,7 +19,8 @@ use Rattle.tab_model.specs.Operations.{table_of, answer, failure}
 use Rattle.tab_model.specs.Catalogs.{Catalog, Table, find}
 use Rattle.tab_model.specs.State as plain
 use Rattle.tab_model.specs.State.{Session, State, with_age, locks_held_by, locks_held_in, locks_queued_in, mid_of}
-use Rattle.tab_model.specs.Outcome.{Outcome, is_empty, step_without_entry, with_changed, with_session, with_queue, with_transaction, ends_transaction, after_move, reply_or, make, with_move}
+use Rattle.tab_model.specs.Outcome.{is_empty, step_without_entry, with_session, with_transaction, ends_transaction, reply_or, make}
+use Rattle.tab_model.proofs.StepCases.{after_move}
 use Rattle.tab_model.proofs.SessionLists.{itself}
 use Rattle.tab_model.proofs.StepsBySession.{lock_of_move, locks-more}
 use Rattle.tab_model.proofs.SurvivorsRight.{reply_tells}

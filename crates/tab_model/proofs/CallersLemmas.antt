@@ -28,8 +28,8 @@ use Rattle.tab_model.specs.Alone.{Mid, start, after, replies, back_to, back, nex
 use Rattle.tab_model.specs.Ages.{Answer, Granted, Wait, Die}
 use Rattle.tab_model.specs.Schemas.{is_some_position, bad_parse, create_refusal, remove_refusal, add_refusal, del_refusal, schema_refusal, removed_table}
 use Rattle.tab_model.specs.State.{Transaction, Outbox, Watch, Session, Queued, State, new, session_at, transaction_in, moves_in, replies_in, age_in, transaction_at, request_in, without_request, is_waiting, level_in, mid_of}
-use Rattle.tab_model.specs.Outcome.{Ask, Join, Leave, Retry, Take, DoCommand, Outcome, outcome, step_without_entry, with_transaction, with_queue, with_changed, without_session, with_move, ends_transaction, after_move, reply_or, make, begun_anew, by_lock_answer, within_limit, operate, retry_in, retry, open_level_1, open_child, begin, one_shot, abort, after_put, batch_to, end_to, without_deleted, commit_at, commit, events_now, schema_if, schema, put_marker, subscribe_refusal, subscribe, unsubscribe, do_command, command_if, give, leave, step_of_joined, fresh, join, step_of_stranger, step_of}
-use Rattle.tab_model.specs.Outcome as core
+use Rattle.tab_model.specs.Outcome.{Ask, Join, Leave, Retry, Take, DoCommand, Outcome, outcome, step_without_entry, with_transaction, with_queue, with_changed, with_move, ends_transaction, make, begun_anew, by_lock_answer, operate, retry_in, retry, begin, one_shot, abort, after_put, batch_to, end_to, without_deleted, commit, events_now, schema, put_marker, subscribe_refusal, do_command, is_abort, give, leave, step_of_joined, fresh, step_of_stranger, step_of}
+use Rattle.tab_model.proofs.StepCases.{after_move, within_limit, try_again, open_level_1, open_child, commit_at, schema_if, subscribe_refusal_if, subscribe_if, unsubscribe_if, command_if, join_if}
 use Rattle.tab_model.specs.Run.{Call, outcome_of, after_all, entries, log_of, replies_of, AllJoinEmpty}
 use Rattle.tab_model.specs.Log.{IsLegal}
 use Rattle.tab_model.specs.Callers.{Caller, Callers, newcomers, caller_with_move, caller_anew, AnswerKind, Made, kind_of, after_operation, after_answer, after_begin, hears_command, hears, commit_entry, schema_entry, subscription_entry, entry_of_command, entry_of_step, queue_after_operation, queue_after_answer, queue_after_command, queue_after_step, age_after_begin, age_after_command, age_after_step, callers_after_one, callers_after, log_of_replies, queue_after, next_after, AreHeard}
@@ -208,7 +208,7 @@ schema_none over w (DelIndex t a) = cases (find w t)
 subscribe_none : (e : Entry) (σ : State) (s : Session) (t : List ℕ) → NoEntry (subscription_entry e) (subscribe_refusal σ s t)
 subscribe_none e σ s t = cases (is_some s.overflow) (is_some (find σ.tables t)) (is_some (level_in s.watching t))
   where
-    cases : (a b c : Bool) → NoEntry (subscription_entry e) (if a then Some reply.OverflowUntold else (if not b then Some (reply.SubNoTable t) else (if c then Some (reply.AlreadySubscribed t) else None)))
+    cases : (a b c : Bool) → NoEntry (subscription_entry e) (subscribe_refusal_if t a (not b) c)
     cases true b c = refl
     cases false false c = refl
     cases false true true = refl
@@ -295,7 +295,7 @@ module _ (σ : State) (s : Session) (k : Caller) (here : session_at σ.sessions 
   operate_heard over o None e free = nothing_heard over (DoCommand (command.Do o)) _ refl refl refl refl
   operate_heard over o (Some t) e free = within_heard over t o _ e free
 
-  retried_heard : (over : List ℕ) (t : Transaction) (q : Queued) (b : Bool) → s.transaction ≡ Some t → request_in σ.queue s.number ≡ Some q → Heard over Retry (core.try_again σ s t q.operation b)
+  retried_heard : (over : List ℕ) (t : Transaction) (q : Queued) (b : Bool) → s.transaction ≡ Some t → request_in σ.queue s.number ≡ Some q → Heard over Retry (try_again σ s t q.operation b)
   retried_heard over t q false e asked = nothing_heard over Retry _ refl refl refl refl
   retried_heard over t q true e asked = record {
     keeps = subst (λ (z : AnswerKind). Keeps σ s.number (after_answer k R z k.queued) τ) (sym (is_made (find (mid_of σ t).now (table_of q.operation)) q.operation))
@@ -307,10 +307,10 @@ module _ (σ : State) (s : Session) (k : Caller) (here : session_at σ.sessions 
   }
     where
       τ : State
-      τ = (core.try_again σ s t q.operation true).state
+      τ = (try_again σ s t q.operation true).state
 
       R : Reply
-      R = (core.try_again σ s t q.operation true).reply
+      R = (try_again σ s t q.operation true).reply
 
   retry_in_heard : (over : List ℕ) (q : Queued) (x : Option Transaction) → s.transaction ≡ x → request_in σ.queue s.number ≡ Some q → Heard over Retry (retry_in σ s q.operation x)
   retry_in_heard over q None e asked = nothing_heard over Retry _ refl refl refl refl
@@ -445,15 +445,15 @@ module _ (σ : State) (s : Session) (k : Caller) (here : session_at σ.sessions 
     next = y reply.SubscribedHere;
   }
 
-  subscribe_heard : (over : List ℕ) (t : List ℕ) (l : Level) (dump : Bool) (r : Option Reply) → NoEntry (subscription_entry (Subscribed s.number t l dump)) r → Heard over (DoCommand (command.Subscribe t l dump)) (subscribe σ over s t l dump r)
+  subscribe_heard : (over : List ℕ) (t : List ℕ) (l : Level) (dump : Bool) (r : Option Reply) → NoEntry (subscription_entry (Subscribed s.number t l dump)) r → Heard over (DoCommand (command.Subscribe t l dump)) (subscribe_if σ over s t l dump r)
   subscribe_heard over t l dump (Some r) h = nothing_heard over (DoCommand (command.Subscribe t l dump)) r refl h refl refl
   subscribe_heard over t l dump None h = marked_heard over (command.Subscribe t l dump) _ _ _ (Subscribed s.number t l dump) (λ r. refl) (λ r. refl) (λ r. refl) (λ r. refl)
 
-  unsubscribe_heard : (over : List ℕ) (t : List ℕ) (l : Level) (b : Bool) → Heard over (DoCommand (command.Unsubscribe t l)) (unsubscribe σ over s t b)
+  unsubscribe_heard : (over : List ℕ) (t : List ℕ) (l : Level) (b : Bool) → Heard over (DoCommand (command.Unsubscribe t l)) (unsubscribe_if σ over s t b)
   unsubscribe_heard over t l false = nothing_heard over (DoCommand (command.Unsubscribe t l)) _ refl refl refl refl
   unsubscribe_heard over t l true = marked_heard over (command.Unsubscribe t l) _ _ _ (Unsubscribed s.number t) (λ r. refl) (λ r. refl) (λ r. refl) (λ r. refl)
 
-  do_heard : (over : List ℕ) (c : Command) → (is_waiting σ s.number && not (core.is_abort c)) ≡ false → Heard over (DoCommand c) (do_command σ over s c)
+  do_heard : (over : List ℕ) (c : Command) → (is_waiting σ s.number && not (is_abort c)) ≡ false → Heard over (DoCommand c) (do_command σ over s c)
   do_heard over (command.Schema c) free = schema_heard over c s.transaction
   do_heard over (command.TableInfo t i) free = nothing_heard over (DoCommand (command.TableInfo t i)) _ refl refl refl refl
   do_heard over command.Begin free = begin_heard over s.transaction refl
@@ -476,7 +476,7 @@ module _ (σ : State) (s : Session) (k : Caller) (here : session_at σ.sessions 
   waiting_now over (command.Unsubscribe t l) = (refl, refl, refl, refl)
   waiting_now over (command.OneShot parts retries) = (refl, refl, refl, refl)
 
-  command_heard : (over : List ℕ) (c : Command) (b : Bool) → (is_waiting σ s.number && not (core.is_abort c)) ≡ b → Heard over (DoCommand c) (command_if σ over s c b)
+  command_heard : (over : List ℕ) (c : Command) (b : Bool) → (is_waiting σ s.number && not (is_abort c)) ≡ b → Heard over (DoCommand c) (command_if σ over s c b)
   command_heard over c true free = nothing_heard over (DoCommand c) _ (waiting_now over c).0 (waiting_now over c).1 (waiting_now over c).2 (waiting_now over c).3
   command_heard over c false free = do_heard over c free
 
@@ -517,7 +517,7 @@ module _ (σ : State) (n : ℕ) (k : Caller) (none : session_at σ.sessions n �
   refused_heard : (over : List ℕ) (a : Ask) (r : Reply) → hears k a r ≡ k → entry_of_step n over k a r ≡ None → queue_after_step n k a r σ.queue ≡ σ.queue → age_after_step k a r σ.next_age ≡ σ.next_age → IsHeard σ n k over a (step_without_entry σ r)
   refused_heard over a r h e q x = record { keeps = subst (λ (y : Caller). Keeps σ n y σ) (sym h) absent; entry = e; queue = q; next = x }
 
-  join_heard : (over : List ℕ) (b : Outbox) (above room : Bool) → IsHeard σ n k over (Join b) (join σ n b above room)
+  join_heard : (over : List ℕ) (b : Outbox) (above room : Bool) → IsHeard σ n k over (Join b) (join_if σ n b above room)
   join_heard over b false room = refused_heard over (Join b) _ refl refl refl refl
   join_heard over b true false = refused_heard over (Join b) _ refl refl refl refl
   join_heard over b true true = record {

@@ -19,7 +19,8 @@ use Rattle.tab_model.specs.Ages.{Answer, Granted, Wait, Die}
 use Rattle.tab_model.specs.Schemas.{removed_table}
 use Rattle.tab_model.specs.Log.{has_session, commits_from}
 use Rattle.tab_model.specs.State.{Transaction, Outbox, Watch, Session, Queued, State, new, session_at, level_in}
-use Rattle.tab_model.specs.Outcome.{Ask, Join, Leave, Retry, Take, DoCommand, Outcome, outcome, step_without_entry, with_transaction, with_changed, after_overflow, with_items, make, by_lock_answer, within_limit, operate, try_again, retry_in, retry, open_level_1, open_child, begin, one_shot, abort, after_put, batch_to, end_to, without_deleted, commit_at, commit, events_now, schema_if, schema, put_marker, subscribe_refusal, subscribe, unsubscribe, do_command, command_if, give, leave, step_of_joined, fresh, join, step_of_stranger, step_of}
+use Rattle.tab_model.specs.Outcome.{Ask, Join, Leave, Retry, Take, DoCommand, Outcome, outcome, step_without_entry, with_transaction, with_changed, after_overflow, with_items, make, by_lock_answer, operate, retry_in, retry, begin, one_shot, abort, after_put, batch_to, end_to, without_deleted, commit, events_now, schema, put_marker, subscribe_refusal, do_command, give, leave, step_of_joined, fresh, step_of_stranger, step_of}
+use Rattle.tab_model.proofs.StepCases.{within_limit, try_again, open_level_1, open_child, commit_at, schema_if, subscribe_refusal_if, subscribe_if, unsubscribe_if, command_if, join_if}
 use Rattle.tab_model.specs.Run.{Call, outcome_of, after_all, entries, replies_of}
 use Rattle.tab_model.specs.Callers.{Callers, newcomers, Post, no_post, with_overflow, post_after_entry, post_after_marker, post_after_command, post_after_answer, post_after_step, callers_after_one, entry_of_call, post_after, AreHeard}
 use Rattle.tab_model.proofs.SessionLists.{eq_true, found, session_at-change, session_at-push, session_at-without, session_at-map, mapped_some}
@@ -201,17 +202,17 @@ module _ (σ : State) (s : Session) (here : session_at σ.sessions s.number ≡ 
   refusal_marks : (t : List ℕ) → Marks (subscribe_refusal σ s t)
   refusal_marks t = cases (is_some s.overflow) (is_some (find σ.tables t)) (is_some (level_in s.watching t))
     where
-      cases : (a b c : Bool) → Marks (if a then Some reply.OverflowUntold else (if not b then Some (reply.SubNoTable t) else (if c then Some (reply.AlreadySubscribed t) else None)))
+      cases : (a b c : Bool) → Marks (subscribe_refusal_if t a (not b) c)
       cases true b c = λ p. refl
       cases false false c = λ p. refl
       cases false true true = λ p. refl
       cases false true false = tt
 
-  subscribe_posted : (over : List ℕ) (t : List ℕ) (l : Level) (dump : Bool) (r : Option Reply) → Marks r → Posted (DoCommand (command.Subscribe t l dump)) (subscribe σ over s t l dump r)
+  subscribe_posted : (over : List ℕ) (t : List ℕ) (l : Level) (dump : Bool) (r : Option Reply) → Marks r → Posted (DoCommand (command.Subscribe t l dump)) (subscribe_if σ over s t l dump r)
   subscribe_posted over t l dump (Some r) calm = nothing_posted σ s.number _ r calm
   subscribe_posted over t l dump None calm = marked_posted (command.Subscribe t l dump) _ _ _ (Subscribed s.number t l dump) (λ r p. refl) refl (λ n p. refl)
 
-  unsubscribe_posted : (over : List ℕ) (t : List ℕ) (l : Level) (b : Bool) → Posted (DoCommand (command.Unsubscribe t l)) (unsubscribe σ over s t b)
+  unsubscribe_posted : (over : List ℕ) (t : List ℕ) (l : Level) (b : Bool) → Posted (DoCommand (command.Unsubscribe t l)) (unsubscribe_if σ over s t b)
   unsubscribe_posted over t l false = nothing_posted σ s.number _ _ (λ p. refl)
   unsubscribe_posted over t l true = marked_posted (command.Unsubscribe t l) _ _ _ (Unsubscribed s.number t) (λ r p. refl) refl (λ n p. refl)
 
@@ -254,7 +255,7 @@ module _ (σ : State) (s : Session) (here : session_at σ.sessions s.number ≡ 
   seated_posted over (DoCommand c) = command_posted over c _
 
 -- one that is not joined
-join_posted : (σ : State) (m : ℕ) (b : Outbox) (above room : Bool) → session_at σ.sessions m ≡ None → IsPosted σ m (Join b) (join σ m b above room)
+join_posted : (σ : State) (m : ℕ) (b : Outbox) (above room : Bool) → session_at σ.sessions m ≡ None → IsPosted σ m (Join b) (join_if σ m b above room)
 join_posted σ m b false room none = nothing_posted σ m _ _ (λ p. refl)
 join_posted σ m b true false none = nothing_posted σ m _ _ (λ p. refl)
 join_posted σ m b true true none = record { commits = refl; posts = λ n p has x e. cases n p has x (n == m) (sym (session_at-push σ.sessions (fresh m b) n none) ∙ e) }

@@ -16,8 +16,9 @@ use Rattle.tab_model.specs.declared.data.Reply.TheVariants as reply
 use Rattle.tab_model.specs.Catalogs.{find}
 use Rattle.tab_model.specs.Ages.{Answer, Granted, Wait, Die}
 use Rattle.tab_model.specs.Schemas.{schema_refusal}
-use Rattle.tab_model.specs.State.{Transaction, Outbox, Watch, Session, Queued, State, session_at, level_in, mid_of}
-use Rattle.tab_model.specs.Outcome.{Ask, Join, Leave, Retry, Take, DoCommand, Outcome, outcome, with_changed, by_lock_answer, within_limit, operate, try_again, retry_in, retry, open_level_1, open_child, begin, one_shot, abort, commit_at, commit, schema_if, schema, table_info, is_at, put_marker, subscribe_refusal, subscribe, unsubscribe, do_command, command_if, give, items_to_take, step_of_joined, join, step_of_stranger, step_of}
+use Rattle.tab_model.specs.State.{Transaction, Watch, Session, Queued, State, session_at, level_in, mid_of}
+use Rattle.tab_model.specs.Outcome.{Ask, Join, Leave, Retry, Take, DoCommand, Outcome, outcome, with_changed, by_lock_answer, operate, retry_in, retry, begin, one_shot, abort, commit, schema, is_at, put_marker, subscribe_refusal, do_command, give, items_to_take, step_of_joined, step_of_stranger, step_of}
+use Rattle.tab_model.proofs.StepCases.{within_limit, try_again, open_level_1, open_child, commit_at, schema_if, subscribe_if, unsubscribe_if, command_if, join_if}
 use Rattle.tab_model.specs.Run.{item_of}
 use Rattle.tab_model.specs.Standing.{AreChannels}
 use Rattle.tab_model.proofs.SessionLists.{found, itself, session_at-change}
@@ -104,11 +105,11 @@ module _ (σ : State) (s : Session) where
   marked_gives true ws x e = refl
   marked_gives false ws x e = refl
 
-  subscribe_gives : (over : List ℕ) (t : List ℕ) (l : Level) (dump : Bool) (r : Option Reply) → item_in r ≡ [] → GivesNone (subscribe σ over s t l dump r)
+  subscribe_gives : (over : List ℕ) (t : List ℕ) (l : Level) (dump : Bool) (r : Option Reply) → item_in r ≡ [] → GivesNone (subscribe_if σ over s t l dump r)
   subscribe_gives over t l dump (Some r) h = h
   subscribe_gives over t l dump None h = marked_gives _ _ _ _
 
-  unsubscribe_gives : (over : List ℕ) (t : List ℕ) (b : Bool) → GivesNone (unsubscribe σ over s t b)
+  unsubscribe_gives : (over : List ℕ) (t : List ℕ) (b : Bool) → GivesNone (unsubscribe_if σ over s t b)
   unsubscribe_gives over t false = refl
   unsubscribe_gives over t true = marked_gives _ _ _ _
 
@@ -145,7 +146,7 @@ module _ (σ : State) (s : Session) where
 unseated_gives : (σ : State) (n : ℕ) (a : Ask) → GivesNone (step_of_stranger σ n a)
 unseated_gives σ n (Join b) = by (nat_lt σ.greatest n) (nat_lt (length σ.sessions) σ.limits.sessions)
   where
-    by : (x y : Bool) → GivesNone (join σ n b x y)
+    by : (x y : Bool) → GivesNone (join_if σ n b x y)
     by false y = refl
     by true false = refl
     by true true = refl

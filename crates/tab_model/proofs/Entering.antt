@@ -11,8 +11,9 @@ use Rattle.tab_model.specs.declared.data.Command.TheVariants as command
 use Rattle.tab_model.specs.Ages.{Answer, Granted, Wait, Die, decide, can_retry}
 use Rattle.tab_model.specs.Locks.{needs}
 use Rattle.tab_model.specs.Alone.{Mid}
-use Rattle.tab_model.specs.State.{Outbox, Transaction, Session, Queued, State, session_at, transaction_in, transaction_at, is_waiting, ages_of, count_moves, mid_of, request_in}
-use Rattle.tab_model.specs.Outcome.{Ask, Join, Leave, Retry, Take, DoCommand, Outcome, outcome, is_empty, by_lock_answer, within_limit, operate, try_again, retry_in, retry, open_level_1, open_child, begin, one_shot, abort, commit_at, commit, do_command, is_abort, command_if, give, items_to_take, step_of_joined, join, step_of_stranger, step_of}
+use Rattle.tab_model.specs.State.{Transaction, Session, Queued, State, session_at, transaction_in, transaction_at, ages_of, count_moves, mid_of}
+use Rattle.tab_model.specs.Outcome.{Ask, Join, Leave, Retry, Take, DoCommand, Outcome, outcome, is_empty, by_lock_answer, operate, retry_in, retry, begin, one_shot, abort, commit, do_command, give, step_of_joined, step_of_stranger, step_of}
+use Rattle.tab_model.proofs.StepCases.{within_limit, try_again, open_level_1, open_child, commit_at, command_if, join_if}
 use Rattle.tab_model.specs.Catalogs.{Catalog}
 use Rattle.tab_model.specs.Standing.{EndsTransaction, levels_in, levels_of, is_joined, may_enter_command, may_enter_session, may_enter}
 
@@ -105,7 +106,7 @@ module _ (σ : State) (s : Session) where
 unseated_enters : (σ : State) (n : ℕ) (a : Ask) → EntersNone (step_of_stranger σ n a)
 unseated_enters σ n (Join b) = by (nat_lt σ.greatest n) (nat_lt (length σ.sessions) σ.limits.sessions)
   where
-    by : (x y : Bool) → EntersNone (join σ n b x y)
+    by : (x y : Bool) → EntersNone (join_if σ n b x y)
     by false y = refl
     by true false = refl
     by true true = refl

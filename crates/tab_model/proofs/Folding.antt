@@ -1,6 +1,6 @@
 -- What stands of a log after its oldest entry was folded into the base.
 use Rattle.std.proofs.Common.{Option, ◌≡◌, ◌≢◌, ℕ, List, [], ◌∷◌, ◌++◌, Bool, true, false, refl, sym, ap, ◌∙◌, ◌↔◌, subst, append-nil, append_assoc, Some, None}
-use Rattle.std.specs.Prelude.{◌==◌, ◌&&◌, ◌||◌, not, if◌then◌else◌}
+use Rattle.std.specs.Prelude.{◌==◌, ◌&&◌, ◌||◌, not, if◌then◌else◌, is_some}
 use Rattle.std.specs.List.{filter}
 use Rattle.std.specs.Str.{bytes_eq}
 use Rattle.std.proofs.lemmas.Slice.Eq.{bytes_eq-Decides}
@@ -15,7 +15,7 @@ use Rattle.tab_model.proofs.SurvivorsRight.{survivors_are}
 use Rattle.tab_model.specs.Schemas.{removed_table, schema_refusal, schema_effect}
 use Rattle.tab_model.specs.Log.{count_after, catalog_after, serial, serial_from, level_after, in_force_from, level_if, has_session, is_removed, IsRight, IsLegal, commits_from}
 use Rattle.tab_model.specs.Slices.{expected, slice_after, slice}
-use Rattle.tab_model.specs.History.{unless_refused, tables_after, number_after, Subscription, Base, empty, is_of, level_at, in_force_since, expected_on, expected_since, slice_since_after, slice_since, IsHistory, outlasts, with_subscription, subscriptions_after, after_fold, Admits, without_subscriber}
+use Rattle.tab_model.specs.History.{tables_after, number_after, Subscription, Base, empty, is_of, level_at, in_force_since, expected_on, expected_since, slice_since_after, slice_since, IsHistory, outlasts, with_subscription, subscriptions_after, after_fold, Admits, without_subscriber}
 use Rattle.tab_model.proofs.SessionLists.{eq_true, itself, differs', serial-push, in_force-push, legal-push}
 
 -- whose a subscription is
@@ -124,7 +124,7 @@ pub in_force_folded : (joined : Bool) (b : Base) (s : ℕ) (t : List ℕ) (e : E
     → in_force_since b s (e ∷ log) t ≡ in_force_since (after_fold joined b e) s log t
 in_force_folded joined b s t e log h = ap (λ z. in_force_from s t z log) (sym (level_folded joined b.subscriptions s t e h))
 
-unless_none : (o : Option Reply) (v w : Catalog) → o ≡ None → unless_refused o v w ≡ v
+unless_none : (o : Option Reply) (v w : Catalog) → o ≡ None → (if is_some o then w else v) ≡ v
 unless_none None v w h = refl
 unless_none (Some r) v w h = cc
 

@@ -41,7 +41,8 @@ use Rattle.tab_model.specs.Log.{catalog_after, serial, has_session, is_removed, 
 use Rattle.tab_model.specs.Slices.{as_batch, shape_at, batch_for, dump_of, end_for, unless_over, expected}
 use Rattle.tab_model.specs.State.{Transaction, Outbox, Watch, Session, Queued, State, new, session_at, transaction_in, moves_in, replies_in, age_in, without_request, level_in, without_watch, mid_of, IsSound}
 use Rattle.tab_model.specs.Run.{entries, item_of, delivered_by, JoinsEmpty, IsSessionTied, IsNew}
-use Rattle.tab_model.specs.Outcome.{Ask, Join, Leave, Retry, Take, DoCommand, step_without_entry, with_changed, with_transaction, with_queue, with_items, reply_or, make, by_lock_answer, within_limit, operate, try_again, retry_in, retry, open_level_1, open_child, begin, one_shot, abort, after_overflow, after_put, batch_to, commit_now, events_now, commit_at, commit, without_deleted, end_to, schema_now, schema_if, schema, table_info, is_at, put_marker, subscribe_refusal, subscribe, unsubscribe, do_command, command_if, give, items_to_take, leave, step_of_joined, fresh, join, step_of_stranger, step_of, outcome}
+use Rattle.tab_model.specs.Outcome.{Ask, Join, Leave, Retry, Take, DoCommand, step_without_entry, with_changed, with_transaction, with_queue, with_items, reply_or, make, by_lock_answer, operate, retry_in, retry, begin, one_shot, abort, after_overflow, after_put, batch_to, commit_now, events_now, commit, without_deleted, end_to, schema_now, schema, table_info, is_at, put_marker, subscribe_refusal, do_command, give, items_to_take, leave, step_of_joined, fresh, step_of_stranger, step_of, outcome}
+use Rattle.tab_model.proofs.StepCases.{within_limit, try_again, open_level_1, open_child, commit_at, schema_if, subscribe_refusal_if, subscribe_if, unsubscribe_if, command_if, join_if}
 use Rattle.tab_model.proofs.SessionLists.{eq_true, differs, differs', itself, found, session_at-push, session_at-without, session_at-map, mapped_some}
 use Rattle.tab_model.proofs.LoggedLemmas.{IsLogged, kept, none_taken, Ties, quiet_tied, Moves, entry_tied, changed_some}
 
@@ -195,7 +196,7 @@ refusal_item w (DelIndex t a) = del_item (find w t)
 pub sub_item : (σ : State) (s : Session) (t : List ℕ) → item_in (subscribe_refusal σ s t) ≡ []
 sub_item σ s t = cases (is_some s.overflow) (not (is_some (find σ.tables t))) (is_some (level_in s.watching t))
   where
-    cases : (a b c : Bool) → item_in (if a then Some reply.OverflowUntold else (if b then Some (reply.SubNoTable t) else (if c then Some (reply.AlreadySubscribed t) else None))) ≡ []
+    cases : (a b c : Bool) → item_in (subscribe_refusal_if t a b c) ≡ []
     cases true b c = refl
     cases false true c = refl
     cases false false true = refl
@@ -302,14 +303,14 @@ module _ (σ : State) (log : List Entry) (tk : ℕ → List Item) (t : IsLogged 
           (λ q h. (λ u. (others q (low q h)).0 u None, (others q (low q h)).1))
           (none_taken tk s.number reply.SubscribedHere refl)
 
-      subscribe_tied : (over : List ℕ) (n : List ℕ) (l : Level) (dump : Bool) (r : Option Reply) → item_in r ≡ [] → Ties s.number log tk (subscribe σ over s n l dump r)
+      subscribe_tied : (over : List ℕ) (n : List ℕ) (l : Level) (dump : Bool) (r : Option Reply) → item_in r ≡ [] → Ties s.number log tk (subscribe_if σ over s n l dump r)
       subscribe_tied over n l dump (Some r) h = nothing_tied s.number r h
       subscribe_tied over n l dump None h = mark_tied _ _ _ (Subscribed s.number n l dump) refl refl tt
           (λ u. ap (λ b. if b && bytes_eq n u then Some l else level_in s.watching u) (sym (itself s.number)))
           ((λ i. if itself s.number i then Began n l (dump_of (sym t.tables i) n dump) ∷ [] else []))
           (λ q d. (λ u b. ap (λ k. if k && bytes_eq n u then Some l else b) (differs q s.number d), ap (λ k. if k then Began n l (dump_of (serial log) n dump) ∷ [] else []) (differs q s.number d)))
 
-      unsubscribe_tied : (over : List ℕ) (n : List ℕ) (b : Bool) → Ties s.number log tk (unsubscribe σ over s n b)
+      unsubscribe_tied : (over : List ℕ) (n : List ℕ) (b : Bool) → Ties s.number log tk (unsubscribe_if σ over s n b)
       unsubscribe_tied over n false = nothing_tied s.number (reply.NotSubscribed n) refl
       unsubscribe_tied over n true = mark_tied _ _ _ (Unsubscribed s.number n) refl refl tt
           (λ u. left_level s.watching n u ∙ ap (λ b. level_if (not (b && bytes_eq n u)) (level_in s.watching u)) (sym (itself s.number)))
@@ -441,7 +442,7 @@ module _ (σ : State) (log : List Entry) (tk : ℕ → List Item) (t : IsLogged 
     seated_tied over s Take here = take_tied s s.outbox.capacity here
     seated_tied over s (DoCommand c) here = command_if_tied over s c _ here
 
-    join_tied : (n : ℕ) (b : Outbox) (x y : Bool) → nat_lt σ.greatest n ≡ x → session_at σ.sessions n ≡ None → b.items ≡ [] → Ties n log tk (join σ n b x y)
+    join_tied : (n : ℕ) (b : Outbox) (x y : Bool) → nat_lt σ.greatest n ≡ x → session_at σ.sessions n ≡ None → b.items ≡ [] → Ties n log tk (join_if σ n b x y)
     join_tied n b false y e none empty = nothing_tied n reply.BadSession refl
     join_tied n b true false e none empty = nothing_tied n (reply.SystemLimit limit.Sessions) refl
     join_tied n b true true e none empty =

@@ -21,7 +21,8 @@ use Rattle.tab_model.specs.Alone.{reply_to}
 use Rattle.tab_model.specs.Since.{HasAge, AllAged}
 use Rattle.tab_model.specs.State.{Transaction, Watch, Session, Queued, State, new, session_at, mid_of}
 use Rattle.tab_model.specs.Reached.{IsAged, AreAged}
-use Rattle.tab_model.specs.Outcome.{Ask, Join, Leave, Retry, Take, DoCommand, Outcome, outcome, with_transaction, with_changed, without_session, after_move, ends_transaction, by_lock_answer, within_limit, operate, try_again, retry_in, retry, open_level_1, open_child, begin, one_shot, abort, after_put, batch_to, end_to, without_deleted, commit_at, commit, events_now, schema_if, schema, put_marker, subscribe, unsubscribe, command_if, give, step_of_joined, fresh, join, step_of_stranger, step_of}
+use Rattle.tab_model.specs.Outcome.{Ask, Join, Leave, Retry, Take, DoCommand, Outcome, outcome, with_transaction, with_changed, without_session, ends_transaction, by_lock_answer, operate, retry_in, retry, begin, one_shot, abort, after_put, batch_to, end_to, without_deleted, commit, events_now, schema, put_marker, give, step_of_joined, fresh, step_of_stranger, step_of}
+use Rattle.tab_model.proofs.StepCases.{after_move, within_limit, try_again, open_level_1, open_child, commit_at, schema_if, subscribe_if, unsubscribe_if, command_if, join_if}
 use Rattle.tab_model.specs.Run.{Call, outcome_of, entries, log_of}
 use Rattle.tab_model.proofs.SoundSteps.{given_same, unwatched_same}
 
@@ -172,11 +173,11 @@ module _ (σ : State) (ripe : Ripe σ) (s : Session) where
   marked_ripe true ws x e a h = session_is (put_marker σ true s ws x e) _ a refl refl tt
   marked_ripe false ws x e a h = session_is (put_marker σ false s ws x e) _ a refl refl h
 
-  subscribe_ripe : (over : List ℕ) (t : List ℕ) (l : Level) (dump : Bool) (r : Option Reply) → IsAged s.transaction → Ripens (subscribe σ over s t l dump r)
+  subscribe_ripe : (over : List ℕ) (t : List ℕ) (l : Level) (dump : Bool) (r : Option Reply) → IsAged s.transaction → Ripens (subscribe_if σ over s t l dump r)
   subscribe_ripe over t l dump (Some r) a = same r
   subscribe_ripe over t l dump None a = marked_ripe _ _ _ (Subscribed s.number t l dump) a tt
 
-  unsubscribe_ripe : (over : List ℕ) (t : List ℕ) (b : Bool) → IsAged s.transaction → Ripens (unsubscribe σ over s t b)
+  unsubscribe_ripe : (over : List ℕ) (t : List ℕ) (b : Bool) → IsAged s.transaction → Ripens (unsubscribe_if σ over s t b)
   unsubscribe_ripe over t false a = same _
   unsubscribe_ripe over t true a = marked_ripe _ _ _ (Unsubscribed s.number t) a tt
 
@@ -207,7 +208,7 @@ module _ (σ : State) (ripe : Ripe σ) (s : Session) where
 unseated_ripe : (σ : State) (n : ℕ) (x : Ask) → Ripe σ → Ripens (step_of_stranger σ n x)
 unseated_ripe σ n (Join b) ripe = cases _ _
   where
-    cases : (x y : Bool) → Ripens (join σ n b x y)
+    cases : (x y : Bool) → Ripens (join_if σ n b x y)
     cases false y = record { state = ripe; entry = tt }
     cases true false = record { state = ripe; entry = tt }
     cases true true = record { state = record { next = ripe.next; sessions = aged_push σ.sessions (fresh n b) ripe.sessions tt }; entry = tt }

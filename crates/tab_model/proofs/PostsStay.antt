@@ -17,8 +17,8 @@ use Rattle.tab_model.specs.Locks.{needs}
 use Rattle.tab_model.specs.Log.{has_session}
 use Rattle.tab_model.specs.Schemas.{table_of_schema, schema_refusal, removed_table}
 use Rattle.tab_model.specs.State.{AreDistinct, IsSound, Outbox, Transaction, Watch, Session, Queued, State, session_at, request_in, is_waiting, ages_of, is_busy, level_in, mid_of, count_moves}
-use Rattle.tab_model.specs.Outcome.{Ask, Join, Leave, Retry, Take, DoCommand, Outcome, outcome, is_empty, with_changed, without_session, make, by_lock_answer, within_limit, operate, try_again, retry_in, retry, open_level_1, open_child, begin, one_shot, abort, after_overflow, with_items, items_to_take, after_put, batch_to, commit_at, commit, events_now, without_deleted, end_to, has_room, schema_if, schema, put_marker, subscribe_refusal, subscribe, unsubscribe, is_at, do_command, is_abort, command_if, give, leave, join, step_of_stranger, step_of_joined, step_of}
-use Rattle.tab_model.specs.Run.{Allowed, IsSplitByOverflow, put_ask, put_command, put_commit, put_schema}
+use Rattle.tab_model.specs.Outcome.{Ask, Join, Leave, Retry, Take, DoCommand, Outcome, outcome, is_empty, with_changed, without_session, by_lock_answer, operate, retry_in, retry, begin, one_shot, abort, after_overflow, with_items, items_to_take, after_put, batch_to, commit, events_now, without_deleted, end_to, has_room, schema, put_marker, subscribe_refusal, is_at, do_command, is_abort, give, step_of_stranger, step_of_joined, step_of}
+use Rattle.tab_model.proofs.StepCases.{within_limit, try_again, open_level_1, open_child, commit_at, schema_if, subscribe_if, unsubscribe_if, command_if, join_if}
 use Rattle.std.proofs.lemmas.Bool.Decides.{nat_tests}
 use Rattle.tab_model.proofs.SessionLists.{eq_true, itself, found}
 
@@ -164,11 +164,11 @@ module _ (P : ℕ → Option ℕ → Option ℕ → Type 0) where
       marked_keeps true ws x e = changes σ.sessions k _ h
       marked_keeps false ws x e = changes σ.sessions k _ h
 
-      subscribe_keeps : (over : List ℕ) (t : List ℕ) (l : Level) (dump : Bool) (r : Option Reply) → Keeps (subscribe σ over s t l dump r)
+      subscribe_keeps : (over : List ℕ) (t : List ℕ) (l : Level) (dump : Bool) (r : Option Reply) → Keeps (subscribe_if σ over s t l dump r)
       subscribe_keeps over t l dump (Some r) = k
       subscribe_keeps over t l dump None = marked_keeps _ _ _ _
 
-      unsubscribe_keeps : (over : List ℕ) (t : List ℕ) (b : Bool) → Keeps (unsubscribe σ over s t b)
+      unsubscribe_keeps : (over : List ℕ) (t : List ℕ) (b : Bool) → Keeps (unsubscribe_if σ over s t b)
       unsubscribe_keeps over t false = k
       unsubscribe_keeps over t true = marked_keeps _ _ _ _
 
@@ -199,7 +199,7 @@ module _ (P : ℕ → Option ℕ → Option ℕ → Type 0) where
       seated_keeps over Take = give_keeps (items_to_take s.outbox s.outbox.capacity) s.overflow
       seated_keeps over (DoCommand c) = command_if_keeps over c (is_waiting σ s.number && not (is_abort c))
 
-    join_keeps : (n : ℕ) (b : Outbox) (above room : Bool) → (above ≡ true → P n b.capacity b.mailbox) → Keeps (join σ n b above room)
+    join_keeps : (n : ℕ) (b : Outbox) (above room : Bool) → (above ≡ true → P n b.capacity b.mailbox) → Keeps (join_if σ n b above room)
     join_keeps n b false room h = k
     join_keeps n b true false h = k
     join_keeps n b true true h = appends σ.sessions k _ (h refl)

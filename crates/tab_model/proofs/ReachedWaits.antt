@@ -24,7 +24,8 @@ use Rattle.tab_model.specs.Ages.{Owned, Answer, Granted, Wait, Die, blocks, deci
 use Rattle.tab_model.specs.Schemas.{removed_table}
 use Rattle.tab_model.specs.State.{Transaction, Outbox, Watch, Session, Queued, State, new, session_at, transaction_in, transaction_at, request_in, without_request, is_waiting, with_age, locks_held_by, locks_held_in, locks_queued_in, ages_of, OwnedBy, HasAge, IsSound}
 use Rattle.tab_model.specs.Reached.{IsRising}
-use Rattle.tab_model.specs.Outcome.{Ask, Join, Leave, Retry, Take, DoCommand, outcome, with_transaction, with_queue, with_changed, without_session, after_move, make, begun_anew, by_lock_answer, within_limit, operate, try_again, retry_in, retry, open_level_1, open_child, begin, one_shot, abort, after_put, batch_to, end_to, without_deleted, commit_at, commit, events_now, schema_if, schema, put_marker, subscribe, unsubscribe, is_abort, do_command, command_if, give, leave, step_of_joined, fresh, join, step_of_stranger, step_of}
+use Rattle.tab_model.specs.Outcome.{Ask, Join, Leave, Retry, Take, DoCommand, outcome, with_transaction, with_queue, with_changed, without_session, make, begun_anew, by_lock_answer, operate, retry_in, retry, begin, one_shot, abort, after_put, batch_to, end_to, without_deleted, commit, events_now, schema, put_marker, is_abort, do_command, give, leave, step_of_joined, fresh, step_of_stranger, step_of}
+use Rattle.tab_model.proofs.StepCases.{after_move, within_limit, try_again, open_level_1, open_child, commit_at, schema_if, subscribe_if, unsubscribe_if, command_if, join_if}
 use Rattle.tab_model.specs.Run.{Call, outcome_of, after_all}
 use Rattle.tab_model.proofs.SessionLists.{eq_true, found, session_at-push, session_at-without}
 use Rattle.tab_model.proofs.StepsBySession.{lock_of_move, locks-more, held_none}
@@ -272,11 +273,11 @@ module _ (σ : State) (sound : IsSound σ) (rise : IsRising σ) where
     give_rising [] None = rise
     give_rising [] (Some m) = marks_rising _ (give σ s [] (Some m)).state refl refl refl refl
 
-    subscribe_rising : (over : List ℕ) (t : List ℕ) (l : Level) (dump : Bool) (r : Option Reply) → IsRising (subscribe σ over s t l dump r).state
+    subscribe_rising : (over : List ℕ) (t : List ℕ) (l : Level) (dump : Bool) (r : Option Reply) → IsRising (subscribe_if σ over s t l dump r).state
     subscribe_rising over t l dump (Some r) = rise
     subscribe_rising over t l dump None = marked_rising _ _ _ _
 
-    unsubscribe_rising : (over : List ℕ) (t : List ℕ) (b : Bool) → IsRising (unsubscribe σ over s t b).state
+    unsubscribe_rising : (over : List ℕ) (t : List ℕ) (b : Bool) → IsRising (unsubscribe_if σ over s t b).state
     unsubscribe_rising over t false = rise
     unsubscribe_rising over t true = marked_rising _ _ _ _
 
@@ -377,10 +378,10 @@ module _ (σ : State) (sound : IsSound σ) (rise : IsRising σ) where
     seated_rising over Take = give_rising _ _
     seated_rising over (DoCommand c) = command_rising over c _ refl
 
-  join_rising : (n : ℕ) (b : Outbox) (above room : Bool) → session_at σ.sessions n ≡ None → IsRising (join σ n b above room).state
+  join_rising : (n : ℕ) (b : Outbox) (above room : Bool) → session_at σ.sessions n ≡ None → IsRising (join_if σ n b above room).state
   join_rising n b false room none = rise
   join_rising n b true false none = rise
-  join_rising n b true true none = same_rising σ (join σ n b true true).state rise refl
+  join_rising n b true true none = same_rising σ (join_if σ n b true true).state rise refl
       (λ m. ap transaction_in (session_at-push σ.sessions (fresh n b) m none) ∙ transaction_if (m == n) (Some (fresh n b)) (session_at σ.sessions m) ∙ ap (λ (o : Option Transaction). if m == n then o else transaction_at σ m) (sym (ap transaction_in none)) ∙ sym (same_if (transaction_at σ) m n))
       (λ p h. ap (list_any p) (held_pushed n b σ.sessions) ∙ h)
 

@@ -32,7 +32,8 @@ use Rattle.tab_model.proofs.SurvivorsRight.{reply_tells}
 use Rattle.tab_model.specs.Schemas.{is_some_position, bad_parse, create_refusal, remove_refusal, add_refusal, del_refusal, schema_refusal}
 use Rattle.tab_model.specs.Ages.{Answer, Granted, Wait, Die}
 use Rattle.tab_model.specs.State.{Transaction, Outbox, Watch, Session, Queued, State, session_at, mid_of, level_in, without_request, request_in, is_waiting, transaction_at, transaction_in}
-use Rattle.tab_model.specs.Outcome.{Ask, Join, Leave, Retry, Take, DoCommand, Outcome, outcome, step_without_entry, with_queue, with_transaction, with_changed, ends_transaction, after_move, is_empty, make, reply_or, by_lock_answer, within_limit, operate, try_again, retry_in, retry, open_level_1, open_child, begin, one_shot, abort, commit_at, commit, schema_if, schema, table_info, put_marker, subscribe_refusal, subscribe, unsubscribe, do_command, command_if, give, step_of_joined, join, step_of_stranger, step_of}
+use Rattle.tab_model.specs.Outcome.{Ask, Join, Leave, Retry, Take, DoCommand, Outcome, outcome, step_without_entry, with_queue, with_transaction, with_changed, ends_transaction, is_empty, make, reply_or, by_lock_answer, operate, retry_in, retry, begin, one_shot, abort, commit, schema, table_info, put_marker, subscribe_refusal, do_command, give, step_of_joined, step_of_stranger, step_of}
+use Rattle.tab_model.proofs.StepCases.{after_move, within_limit, try_again, open_level_1, open_child, commit_at, schema_if, subscribe_refusal_if, subscribe_if, unsubscribe_if, command_if, join_if}
 use Rattle.tab_model.specs.Refusals.{EffectOfReply, AsBefore, Counted, Queues, Emptied, Changes, effect_of_reply, with_count, queued_for, request_of_ask, with_requests, transaction_anew, with_restart, IsRestart, EndsLevel}
 
 -- the state after a step, by what its reply says; q is what a wait queues
@@ -176,20 +177,20 @@ module _ (σ : State) (s : Session) where
   marked_fair true ws x e = refl
   marked_fair false ws x e = tt
 
-  subscribe_fair : (over : List ℕ) (t : List ℕ) (l : Level) (dump : Bool) (r : Option Reply) → FairRefusal σ (Some s) [] r → Fair σ (Some s) [] (subscribe σ over s t l dump r)
+  subscribe_fair : (over : List ℕ) (t : List ℕ) (l : Level) (dump : Bool) (r : Option Reply) → FairRefusal σ (Some s) [] r → Fair σ (Some s) [] (subscribe_if σ over s t l dump r)
   subscribe_fair over t l dump (Some r) h = h
   subscribe_fair over t l dump None h = marked_fair _ _ _ _
 
   subscribe_refused : (t : List ℕ) → FairRefusal σ (Some s) [] (subscribe_refusal σ s t)
   subscribe_refused t = cases (is_some s.overflow) (not (is_some (find σ.tables t))) (is_some (level_in s.watching t))
     where
-      cases : (a b c : Bool) → FairRefusal σ (Some s) [] (if a then Some reply.OverflowUntold else (if b then Some (reply.SubNoTable t) else (if c then Some (reply.AlreadySubscribed t) else None)))
+      cases : (a b c : Bool) → FairRefusal σ (Some s) [] (subscribe_refusal_if t a b c)
       cases true b c = refl
       cases false true c = refl
       cases false false true = refl
       cases false false false = tt
 
-  unsubscribe_fair : (over : List ℕ) (t : List ℕ) (b : Bool) → Fair σ (Some s) [] (unsubscribe σ over s t b)
+  unsubscribe_fair : (over : List ℕ) (t : List ℕ) (b : Bool) → Fair σ (Some s) [] (unsubscribe_if σ over s t b)
   unsubscribe_fair over t false = refl
   unsubscribe_fair over t true = marked_fair _ _ _ _
 
@@ -220,7 +221,7 @@ module _ (σ : State) (s : Session) where
   seated_fair over Take = give_fair _ _
   seated_fair over (DoCommand c) = command_fair over c _
 
-join_fair : (σ : State) (n : ℕ) (b : Outbox) (above room : Bool) → Fair σ None [] (join σ n b above room)
+join_fair : (σ : State) (n : ℕ) (b : Outbox) (above room : Bool) → Fair σ None [] (join_if σ n b above room)
 join_fair σ n b false room = refl
 join_fair σ n b true false = refl
 join_fair σ n b true true = tt

@@ -27,8 +27,9 @@ use Rattle.tab_model.specs.Locks.{Lock, needs, locks_of}
 use Rattle.tab_model.specs.Ages.{Owned, Answer, Granted, Wait, Die, opposes, decide}
 use Rattle.tab_model.specs.Log.{has_session}
 use Rattle.tab_model.specs.Schemas.{is_some_position, bad_parse, create_refusal, remove_refusal, add_refusal, del_refusal, schema_refusal, removed_table}
-use Rattle.tab_model.specs.State.{Transaction, Outbox, Watch, Session, Queued, State, session_at, with_age, locks_held_by, ages_of, mid_of, level_in, request_in, is_waiting}
-use Rattle.tab_model.specs.Outcome.{Ask, Join, Leave, Retry, Take, DoCommand, Outcome, outcome, step_without_entry, with_transaction, with_changed, without_session, ends_transaction, after_move, make, reply_or, by_lock_answer, within_limit, operate, retry, open_level_1, open_child, begin, one_shot, abort, after_put, commit_at, commit, without_deleted, end_to, batch_to, events_now, schema_if, schema, table_info, put_marker, subscribe_refusal, subscribe, unsubscribe, do_command, command_if, give, step_of_joined, join, step_of_stranger, step_of}
+use Rattle.tab_model.specs.State.{Transaction, Outbox, Watch, Session, Queued, State, session_at, with_age, locks_held_by, mid_of, level_in, request_in}
+use Rattle.tab_model.specs.Outcome.{Ask, Join, Leave, Retry, Take, DoCommand, Outcome, outcome, step_without_entry, with_transaction, with_changed, without_session, make, by_lock_answer, operate, retry, begin, one_shot, abort, after_put, commit, without_deleted, end_to, batch_to, events_now, schema, table_info, put_marker, subscribe_refusal, do_command, give, step_of_joined, step_of_stranger, step_of}
+use Rattle.tab_model.proofs.StepCases.{within_limit, open_level_1, open_child, commit_at, schema_if, subscribe_refusal_if, subscribe_if, unsubscribe_if, command_if, join_if}
 use Rattle.tab_model.specs.Refusals.{EffectOfReply, Changes, Queues, Emptied, effect_of_reply, IsOnlySession, IsSole}
 use Rattle.tab_model.proofs.RefusalLaws.{move_answers}
 
@@ -129,9 +130,13 @@ refusal_calm σ (DelIndex t a) = cases (find σ.tables t)
     cases (Some x) = if_calm (is_indexed x.def (position x.def (term a))) _ _ tt refl
 
 subscribe_calm : (σ : State) (s : Session) (t : List ℕ) → CalmRefusal (subscribe_refusal σ s t)
-subscribe_calm σ s t =
-    if_calm (is_some s.overflow) _ _ refl
-    (if_calm (not (is_some (find σ.tables t))) _ _ refl (if_calm (is_some (level_in s.watching t)) _ _ refl tt))
+subscribe_calm σ s t = cases (is_some s.overflow) (not (is_some (find σ.tables t))) (is_some (level_in s.watching t))
+  where
+    cases : (a b c : Bool) → CalmRefusal (subscribe_refusal_if t a b c)
+    cases true b c = refl
+    cases false true c = refl
+    cases false false true = refl
+    cases false false false = tt
 
 module _ (σ : State) (n : ℕ) (s : Session) (sole : IsSole n σ) (here : s.number ≡ n) where
   made_calm : (t : Transaction) (x : Move) (r : Reply) → effect_of_reply r ≡ Changes → Calm n (make σ s t x r)
@@ -225,11 +230,11 @@ module _ (σ : State) (n : ℕ) (s : Session) (sole : IsSole n σ) (here : s.num
   marked_calm true ws x e = (refl, (change_sole n σ.sessions _ sole.0 here, sole.1))
   marked_calm false ws x e = (refl, (change_sole n σ.sessions _ sole.0 here, sole.1))
 
-  subscribed_calm : (over : List ℕ) (t : List ℕ) (l : Level) (dump : Bool) (r : Option Reply) → CalmRefusal r → Calm n (subscribe σ over s t l dump r)
+  subscribed_calm : (over : List ℕ) (t : List ℕ) (l : Level) (dump : Bool) (r : Option Reply) → CalmRefusal r → Calm n (subscribe_if σ over s t l dump r)
   subscribed_calm over t l dump (Some r) h = (h, sole)
   subscribed_calm over t l dump None h = marked_calm _ _ _ _
 
-  unsubscribed_calm : (over : List ℕ) (t : List ℕ) (b : Bool) → Calm n (unsubscribe σ over s t b)
+  unsubscribed_calm : (over : List ℕ) (t : List ℕ) (b : Bool) → Calm n (unsubscribe_if σ over s t b)
   unsubscribed_calm over t false = (refl, sole)
   unsubscribed_calm over t true = marked_calm _ _ _ _
 
@@ -261,7 +266,7 @@ module _ (σ : State) (n : ℕ) (s : Session) (sole : IsSole n σ) (here : s.num
   seated_calm over (DoCommand c) e = command_calm over c _ e
 
 -- nobody sits
-join_calm : (σ : State) (n : ℕ) (b : Outbox) (above room : Bool) → IsSole n σ → session_at σ.sessions n ≡ None → Calm n (join σ n b above room)
+join_calm : (σ : State) (n : ℕ) (b : Outbox) (above room : Bool) → IsSole n σ → session_at σ.sessions n ≡ None → Calm n (join_if σ n b above room)
 join_calm σ n b false room sole e = (refl, sole)
 join_calm σ n b true false sole e = (refl, sole)
 join_calm σ n b true true sole e = (refl, (pushed_sole σ.sessions sole.0 e, sole.1))

@@ -24,8 +24,9 @@ use Rattle.tab_model.specs.Locks.{Lock, needs, locks_of, Apart}
 use Rattle.tab_model.specs.Ages.{Answer, Granted, Wait, Die, opposes, decide, before, can_retry}
 use Rattle.tab_model.specs.Schemas.{table_of_schema, schema_effect, removed_table}
 use Rattle.tab_model.specs.Log.{has_session}
-use Rattle.tab_model.specs.State.{Transaction, Outbox, Watch, Session, Queued, State, new, session_at, transaction_in, moves_in, replies_in, age_in, transaction_at, moves_at, replies_at, age_at, locks_held_by, locks_held_in, locks_queued_in, ages_of, is_in, is_busy, request_in, without_request, is_waiting, level_in, count_moves, mid_of, AreDistinct, IsSound}
-use Rattle.tab_model.specs.Outcome.{Ask, Join, Leave, Retry, Take, DoCommand, with_changed, without_session, with_transaction, with_session, with_queue, with_move, ends_transaction, after_move, make, begun_anew, by_lock_answer, within_limit, operate, try_again, retry_in, retry, open_level_1, open_child, begin, one_shot, abort, after_put, after_overflow, with_items, batch_to, commit_now, events_now, commit_at, commit, without_deleted, end_to, schema_now, schema_if, schema, put_marker, subscribe, unsubscribe, do_command, command_if, give, leave, step_of_joined, fresh, join, step_of_stranger, step_of, outcome}
+use Rattle.tab_model.specs.State.{Transaction, Outbox, Watch, Session, Queued, State, session_at, transaction_in, moves_in, replies_in, age_in, transaction_at, moves_at, age_at, locks_held_by, locks_held_in, locks_queued_in, ages_of, is_in, is_busy, without_request, mid_of, IsSound}
+use Rattle.tab_model.specs.Outcome.{Ask, Join, Leave, Retry, Take, DoCommand, with_changed, without_session, with_transaction, with_session, with_queue, with_move, ends_transaction, make, begun_anew, by_lock_answer, operate, retry_in, retry, begin, one_shot, abort, after_put, after_overflow, with_items, batch_to, commit_now, events_now, commit, without_deleted, end_to, schema_now, schema, put_marker, do_command, give, leave, step_of_joined, fresh, step_of_stranger, step_of, outcome}
+use Rattle.tab_model.proofs.StepCases.{after_move, within_limit, try_again, open_level_1, open_child, commit_at, schema_if, subscribe_if, unsubscribe_if, command_if, join_if}
 use Rattle.tab_model.proofs.SessionLists.{other_number, found, session_at-change, session_at-push, session_at-without, session_at-map, mapped}
 use Rattle.tab_model.proofs.LocksApart.{stays}
 use Rattle.tab_model.proofs.RepliesStay.{same_replies}
@@ -115,11 +116,11 @@ module _ (σ : State) (sound : IsSound σ) (s : Session) (here : session_at σ.s
   marked_sound true ws x e = same_sound _ refl refl
   marked_sound false ws x e = same_sound _ refl refl
 
-  subscribe_sound : (over : List ℕ) (n : List ℕ) (l : Level) (dump : Bool) (r : Option Reply) → IsSound (subscribe σ over s n l dump r).state
+  subscribe_sound : (over : List ℕ) (n : List ℕ) (l : Level) (dump : Bool) (r : Option Reply) → IsSound (subscribe_if σ over s n l dump r).state
   subscribe_sound over n l dump (Some r) = sound
   subscribe_sound over n l dump None = marked_sound _ _ _ _
 
-  unsubscribe_sound : (over : List ℕ) (n : List ℕ) (b : Bool) → IsSound (unsubscribe σ over s n b).state
+  unsubscribe_sound : (over : List ℕ) (n : List ℕ) (b : Bool) → IsSound (unsubscribe_if σ over s n b).state
   unsubscribe_sound over n false = sound
   unsubscribe_sound over n true = marked_sound _ _ _ _
 
@@ -273,7 +274,7 @@ module _ (σ : State) (sound : IsSound σ) (s : Session) (here : session_at σ.s
   seated_sound over Take = give_sound σ sound s here _ _
   seated_sound over (DoCommand c) = command_sound over c _
 
-join_sound : (σ : State) (n : ℕ) (b : Outbox) (above room : Bool) → nat_lt σ.greatest n ≡ above → session_at σ.sessions n ≡ None → IsSound σ → IsSound (join σ n b above room).state
+join_sound : (σ : State) (n : ℕ) (b : Outbox) (above room : Bool) → nat_lt σ.greatest n ≡ above → session_at σ.sessions n ≡ None → IsSound σ → IsSound (join_if σ n b above room).state
 join_sound σ n b false room e none sound = sound
 join_sound σ n b true false e none sound = sound
 join_sound σ n b true true e none sound = session_sound σ (σ.sessions ++ fresh n b ∷ []) σ.queue σ.next_age σ.commits n n (Some (fresh n b)) (λ q. session_at-push σ.sessions (fresh n b) q none) sound (none_sits σ n) (λ t f. cc) (omega arith) (λ x f. omega arith)

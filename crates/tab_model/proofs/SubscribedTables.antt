@@ -18,7 +18,8 @@ use Rattle.tab_model.specs.Ages.{Answer, Granted, Wait, Die}
 use Rattle.tab_model.specs.Log.{catalog_after, serial, serial_from}
 use Rattle.tab_model.specs.Since.{changes_on, IsInForceSince, WasInForce, AllWereInForce, AllAged, RowsSince}
 use Rattle.tab_model.specs.State.{Transaction, Watch, Session, Queued, State, session_at, level_in}
-use Rattle.tab_model.specs.Outcome.{Ask, Join, Leave, Retry, Take, DoCommand, Outcome, outcome, by_lock_answer, within_limit, operate, try_again, retry_in, retry, open_level_1, open_child, begin, one_shot, abort, commit_at, commit, schema_if, schema, put_marker, subscribe_refusal, subscribe, unsubscribe, command_if, give, step_of_joined, join, step_of_stranger, step_of}
+use Rattle.tab_model.specs.Outcome.{Ask, Join, Leave, Retry, Take, DoCommand, outcome, by_lock_answer, operate, retry_in, retry, begin, one_shot, abort, commit, schema, put_marker, subscribe_refusal, give, step_of_joined, step_of_stranger, step_of}
+use Rattle.tab_model.proofs.StepCases.{within_limit, try_again, open_level_1, open_child, commit_at, schema_if, subscribe_refusal_if, subscribe_if, unsubscribe_if, command_if, join_if}
 use Rattle.tab_model.specs.Run.{entries}
 use Rattle.tab_model.proofs.EventsGiveTheRows.{since_applies, dump_applies}
 use Rattle.tab_model.proofs.InForce.{in_force_stands}
@@ -98,12 +99,12 @@ module _ (σ : State) (s : Session) where
   unrefused : (t : List ℕ) → subscribe_refusal σ s t ≡ None → is_some (find σ.tables t) ≡ true
   unrefused t h = cases (is_some s.overflow) (is_some (find σ.tables t)) (is_some (level_in s.watching t)) h
     where
-      cases : (a b c : Bool) → (if a then Some reply.OverflowUntold else (if not b then Some (reply.SubNoTable t) else (if c then Some (reply.AlreadySubscribed t) else None))) ≡ None → b ≡ true
+      cases : (a b c : Bool) → (subscribe_refusal_if t a (not b) c) ≡ None → b ≡ true
       cases a true c h = refl
       cases true false c h = cc
       cases false false c h = cc
 
-  subscribe_stood : (over : List ℕ) (t : List ℕ) (l : Level) (dump : Bool) (r : Option Reply) → subscribe_refusal σ s t ≡ r → Stood σ.tables (subscribe σ over s t l dump r).entry
+  subscribe_stood : (over : List ℕ) (t : List ℕ) (l : Level) (dump : Bool) (r : Option Reply) → subscribe_refusal σ s t ≡ r → Stood σ.tables (subscribe_if σ over s t l dump r).entry
   subscribe_stood over t l dump (Some r) h = tt
   subscribe_stood over t l dump None h = by_room _
     where
@@ -111,7 +112,7 @@ module _ (σ : State) (s : Session) where
       by_room true = tt
       by_room false = unrefused t h
 
-  unsubscribe_stood : (over : List ℕ) (t : List ℕ) (b : Bool) → Stood σ.tables (unsubscribe σ over s t b).entry
+  unsubscribe_stood : (over : List ℕ) (t : List ℕ) (b : Bool) → Stood σ.tables (unsubscribe_if σ over s t b).entry
   unsubscribe_stood over t false = tt
   unsubscribe_stood over t true = by_room _ _ _
     where
@@ -146,7 +147,7 @@ module _ (σ : State) (s : Session) where
 unseated_stood : (σ : State) (n : ℕ) (a : Ask) → Stood σ.tables (step_of_stranger σ n a).entry
 unseated_stood σ n (Join b) = cases _ _
   where
-    cases : (x y : Bool) → Stood σ.tables (join σ n b x y).entry
+    cases : (x y : Bool) → Stood σ.tables (join_if σ n b x y).entry
     cases false y = tt
     cases true false = tt
     cases true true = tt

@@ -18,7 +18,8 @@ use Rattle.tab_model.specs.Ages.{Answer, Granted, Wait, Die}
 use Rattle.tab_model.specs.Schemas.{removed_table}
 use Rattle.tab_model.specs.Slices.{slice}
 use Rattle.tab_model.specs.State.{Transaction, Outbox, Watch, Session, Queued, State, new, session_at}
-use Rattle.tab_model.specs.Outcome.{Ask, Join, Leave, Retry, Take, DoCommand, outcome, with_transaction, with_changed, make, by_lock_answer, within_limit, operate, try_again, retry_in, retry, open_level_1, open_child, begin, one_shot, abort, after_put, batch_to, end_to, without_deleted, commit_at, commit, events_now, schema_if, schema, put_marker, subscribe, unsubscribe, do_command, command_if, give, step_of_joined, fresh, join, step_of_stranger, step_of}
+use Rattle.tab_model.specs.Outcome.{Ask, Join, Leave, Retry, Take, DoCommand, outcome, with_transaction, with_changed, make, by_lock_answer, operate, retry_in, retry, begin, one_shot, abort, after_put, batch_to, end_to, without_deleted, commit, events_now, schema, put_marker, do_command, give, step_of_joined, fresh, step_of_stranger, step_of}
+use Rattle.tab_model.proofs.StepCases.{within_limit, try_again, open_level_1, open_child, commit_at, schema_if, subscribe_if, unsubscribe_if, command_if, join_if}
 use Rattle.tab_model.specs.Run.{Call, outcome_of, after_all, log_of, delivered_by, delivered_to, item_of, AllJoinEmpty, Begins, leave_call}
 use Rattle.tab_model.proofs.SessionLists.{eq_true, found, session_at-map, mapped, session_at-without, itself}
 use Rattle.tab_model.proofs.StepsBySession.{change_none, without_none, push_none}
@@ -114,11 +115,11 @@ module _ (n : ℕ) (σ : State) (s : Session) (gone : IsGone n σ) where
   marked_gone true ws x e = changed_gone _ (put_marker σ true s ws x e).state refl refl
   marked_gone false ws x e = changed_gone _ (put_marker σ false s ws x e).state refl refl
 
-  subscribe_gone : (over : List ℕ) (t : List ℕ) (l : Level) (dump : Bool) (r : Option Reply) → IsGone n (subscribe σ over s t l dump r).state
+  subscribe_gone : (over : List ℕ) (t : List ℕ) (l : Level) (dump : Bool) (r : Option Reply) → IsGone n (subscribe_if σ over s t l dump r).state
   subscribe_gone over t l dump (Some r) = gone
   subscribe_gone over t l dump None = marked_gone _ _ _ _
 
-  unsubscribe_gone : (over : List ℕ) (t : List ℕ) (b : Bool) → IsGone n (unsubscribe σ over s t b).state
+  unsubscribe_gone : (over : List ℕ) (t : List ℕ) (b : Bool) → IsGone n (unsubscribe_if σ over s t b).state
   unsubscribe_gone over t false = gone
   unsubscribe_gone over t true = marked_gone _ _ _ _
 
@@ -150,7 +151,7 @@ module _ (n : ℕ) (σ : State) (s : Session) (gone : IsGone n σ) where
   seated_gone over (DoCommand c) = command_gone over c _
 
 -- others may join; a number that has joined can't
-join_gone : (n : ℕ) (σ : State) (m : ℕ) (b : Outbox) (above room : Bool) → nat_lt σ.greatest m ≡ above → IsGone n σ → IsGone n (join σ m b above room).state
+join_gone : (n : ℕ) (σ : State) (m : ℕ) (b : Outbox) (above room : Bool) → nat_lt σ.greatest m ≡ above → IsGone n σ → IsGone n (join_if σ m b above room).state
 join_gone n σ m b false room e gone = gone
 join_gone n σ m b true false e gone = gone
 join_gone n σ m b true true e gone = let lt = below σ.greatest m e in let le = gone.joined in record { none = push_none σ.sessions (fresh m b) n gone.none (other m n (omega (arith, lt, le))); joined = omega (arith, lt, le) }
@@ -180,7 +181,7 @@ step_gone n σ over m a gone = cases (session_at σ.sessions m)
 unseated_takes : (σ : State) (m : ℕ) (a : Ask) → item_of (step_of_stranger σ m a).reply ≡ []
 unseated_takes σ m (Join b) = cases (nat_lt σ.greatest m) (nat_lt (length σ.sessions) σ.limits.sessions)
   where
-    cases : (x y : Bool) → item_of (join σ m b x y).reply ≡ []
+    cases : (x y : Bool) → item_of (join_if σ m b x y).reply ≡ []
     cases false y = refl
     cases true false = refl
     cases true true = refl

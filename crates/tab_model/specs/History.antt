@@ -1,6 +1,6 @@
 -- A journal and the base that it starts from: the tables, the last commit's number and the subscriptions in force, all as
 -- they were before its first entry (this project's own: what stands of a log whose oldest entries were folded away).
-use Rattle.std.specs.Prelude.{◌≡◌, ℕ, List, [], ◌∷◌, ◌++◌, Bool, true, false, not, ◌&&◌, ◌||◌, ◌==◌, if◌then◌else◌, Option, Some, None}
+use Rattle.std.specs.Prelude.{◌≡◌, ℕ, List, [], ◌∷◌, ◌++◌, Bool, true, false, not, ◌&&◌, ◌||◌, ◌==◌, if◌then◌else◌, Option, Some, None, is_some}
 use Rattle.std.specs.List.{filter}
 use Rattle.std.specs.Str.{bytes_eq}
 use Rattle.tab_model.specs.declared.data.Level.{Level}
@@ -10,7 +10,7 @@ use Rattle.tab_model.specs.declared.data.Ending.TheVariants as ending
 use Rattle.tab_model.specs.declared.data.Entry.{Entry}
 use Rattle.tab_model.specs.declared.data.Entry.TheVariants.{Committed, Changed, Subscribed, Unsubscribed}
 use Rattle.tab_model.specs.Catalogs.{Catalog}
-use Rattle.tab_model.specs.declared.data.Reply.{Reply}
+use Rattle.tab_model.specs.declared.data.Schema.{Schema}
 use Rattle.tab_model.specs.Events.{events, surviving, change_all}
 use Rattle.tab_model.specs.Schemas.{removed_table, schema_refusal, schema_effect}
 use Rattle.tab_model.specs.Log.{serial_from, in_force_from, is_removed, has_session, IsLegal}
@@ -87,14 +87,13 @@ subscriptions_after joined xs (Subscribed s t l dump) = with_subscription joined
 subscriptions_after joined xs (Unsubscribed s t) = filter (λ y. not (is_of s t y)) xs
 
 -- the tables after a schema command, or those before it where it is refused
-abbrev pub unless_refused : Option Reply → Catalog → Catalog → Catalog
-unless_refused None done was = done
-unless_refused (Some r) done was = was
+abbrev pub after_schema : Catalog → Schema → Catalog
+after_schema w c = if is_some (schema_refusal w c) then w else schema_effect w c
 
 -- the tables after one entry, read off what it was told: its surviving updates, or its schema command
 abbrev pub tables_after : Catalog → Entry → Catalog
 tables_after w (Committed n s age ms rs over) = change_all w (surviving ms rs)
-tables_after w (Changed c over) = unless_refused (schema_refusal w c) (schema_effect w c) w
+tables_after w (Changed c over) = after_schema w c
 tables_after w (Subscribed s t l dump) = w
 tables_after w (Unsubscribed s t) = w
 

@@ -52,6 +52,22 @@ pub record Outcome : Type 0 where
 abbrev pub step_without_entry : State → Reply → Outcome
 step_without_entry σ r = record { state = σ; reply = r; entry = None }
 
+-- refusals
+-- the reply that refuses, where it is true that something does
+abbrev pub refused_if : Bool → Reply → Option Reply
+refused_if refuses r = if refuses then Some r else None
+
+-- the first refusal that there is, of those that a command may meet, in order
+abbrev pub first_of : List (Option Reply) → Option Reply
+first_of [] = None
+first_of (None ∷ refusals) = first_of refusals
+first_of (Some r ∷ refusals) = Some r
+
+-- the step, or the reply that refuses it, which changes nothing
+abbrev pub unless_refused : State → Option Reply → Outcome → Outcome
+unless_refused σ None step = step
+unless_refused σ (Some r) step = step_without_entry σ r
+
 -- the list is empty
 abbrev pub is_empty : {A : Type 0} → List A → Bool
 is_empty [] = true
@@ -100,20 +116,22 @@ ends_transaction m Open = false
 ends_transaction m Close = false
 ends_transaction m Undo = is_empty m.saved
 
--- the transaction with the move and its reply added; none is open where the move ended level 1
-abbrev pub after_move : Transaction → Move → Option Reply → Bool → Option Transaction
-after_move transaction x r true = None
-after_move transaction x r false = Some (with_move transaction x r)
+-- the transaction after a move, with what the move is told alone; none where it ended level 1
+abbrev pub transaction_after : State → Transaction → Move → Option Transaction
+transaction_after σ transaction x =
+    if ends_transaction (mid_of σ transaction) x then None
+    else Some (with_move transaction x (reply_to (mid_of σ transaction) x))
 
 -- the reply of a move that is told one
 abbrev pub reply_or : Option Reply → Reply → Reply
 reply_or None r = r
 reply_or (Some x) r = x
 
--- a move that is made is told what it is told alone; one that ends level 1 ends the transaction
+-- a move that is made is told what it is told alone, and r where it is told nothing
 abbrev pub make : State → Session → Transaction → Move → Reply → Outcome
 make σ s transaction x r =
-    step_without_entry (with_session σ (with_transaction s (after_move transaction x (reply_to (mid_of σ transaction) x) (ends_transaction (mid_of σ transaction) x)))) (reply_or (reply_to (mid_of σ transaction) x) r)
+    step_without_entry (with_session σ (with_transaction s (transaction_after σ transaction x)))
+    (reply_or (reply_to (mid_of σ transaction) x) r)
 
 -- a restart: the transaction's operations are gone, its age stays
 abbrev pub begun_anew : Transaction → Transaction
@@ -125,25 +143,27 @@ by_lock_answer σ s transaction o Granted = make σ s transaction (Do o) reply.D
 by_lock_answer σ s transaction o Wait = step_without_entry (with_queue σ (σ.queue ++ record { session = s.number; age = transaction.age; operation = o } ∷ [])) reply.Waiting
 by_lock_answer σ s transaction o Die = step_without_entry (with_session σ (with_transaction s (Some (begun_anew transaction)))) reply.Restart
 
--- an operation of an open transaction: refused at the limit of operations, else its lock is decided
-abbrev pub within_limit : State → Session → Transaction → Operation → Bool → Outcome
-within_limit σ s transaction o false = step_without_entry σ (reply.SystemLimit limit.Operations)
-within_limit σ s transaction o true = by_lock_answer σ s transaction o (decide (ages_of σ) (transaction.age, needs o))
+-- a transaction that has as many operations and children as it may
+abbrev pub operations_refusal : State → Transaction → Option Reply
+operations_refusal σ transaction =
+    refused_if (not (nat_lt (count_moves transaction.moves) σ.limits.operations))
+    (reply.SystemLimit limit.Operations)
 
--- an operation
+-- an operation: its lock is decided
 abbrev pub operate : State → Session → Operation → Option Transaction → Outcome
 operate σ s o None = step_without_entry σ reply.NoTransaction
-operate σ s o (Some transaction) = within_limit σ s transaction o (nat_lt (count_moves transaction.moves) σ.limits.operations)
+operate σ s o (Some transaction) =
+    unless_refused σ (operations_refusal σ transaction)
+    (by_lock_answer σ s transaction o (decide (ages_of σ) (transaction.age, needs o)))
 
--- the queued operation, tried again: it waits on where it may not go, else it leaves the queue and is made
-abbrev pub try_again : State → Session → Transaction → Operation → Bool → Outcome
-try_again σ s transaction o false = step_without_entry σ reply.Waiting
-try_again σ s transaction o true = make (with_queue σ (without_request σ.queue s.number)) s transaction (Do o) reply.Done
-
--- a Retry of a queued operation: made where no other's lock that is held, or queued before it, conflicts
+-- a Retry of a queued operation: it leaves the queue and is made, where no other's lock that is
+-- held, or queued before it, conflicts; else it waits on
 abbrev pub retry_in : State → Session → Operation → Option Transaction → Outcome
 retry_in σ s o None = step_without_entry σ reply.NotWaiting
-retry_in σ s o (Some transaction) = try_again σ s transaction o (can_retry (ages_of σ) (transaction.age, needs o))
+retry_in σ s o (Some transaction) =
+    if can_retry (ages_of σ) (transaction.age, needs o)
+    then make (with_queue σ (without_request σ.queue s.number)) s transaction (Do o) reply.Done
+    else step_without_entry σ reply.Waiting
 
 -- a Retry answers the queued operation
 abbrev pub retry : State → Session → Option Queued → Outcome
@@ -151,31 +171,42 @@ retry σ s None = step_without_entry σ reply.NotWaiting
 retry σ s (Some q) = retry_in σ s q.operation s.transaction
 
 -- transactions
--- level 1 begins with the next age and no move; refused where false says that the limit of ages is reached
-abbrev pub open_level_1 : State → Session → Bool → Outcome
-open_level_1 σ s false = step_without_entry σ (reply.SystemLimit limit.Ages)
-open_level_1 σ s true =
-    step_without_entry (record σ { sessions = with_changed σ.sessions (with_transaction s (Some (record { age = σ.next_age; moves = []; told = [] }))); next_age = σ.next_age + 1 }) (reply.Tid σ.next_age)
+-- the next age is above the limit of ages
+abbrev pub ages_refusal : State → Option Reply
+ages_refusal σ = refused_if (not (nat_le σ.next_age σ.limits.ages)) (reply.SystemLimit limit.Ages)
 
--- level 1 begins with the next age, where that is no greater than the limit of ages
-abbrev pub open_first : State → Session → Outcome
-open_first σ s = open_level_1 σ s (nat_le σ.next_age σ.limits.ages)
+-- level 1 begins, with the next age and no move
+abbrev pub begin_now : State → Session → Outcome
+begin_now σ s =
+    let begun : Transaction = record { age = σ.next_age; moves = []; told = [] } in
+    step_without_entry
+    (record (with_session σ (with_transaction s (Some begun))) { next_age = σ.next_age + 1 })
+    (reply.Tid σ.next_age)
 
--- a child's begin: refused at the limit of nesting, then at that of operations, else a move of the transaction
-abbrev pub open_child : State → Session → Transaction → Bool → Bool → Outcome
-open_child σ s transaction false b = step_without_entry σ (reply.SystemLimit limit.Nesting)
-open_child σ s transaction true false = step_without_entry σ (reply.SystemLimit limit.Operations)
-open_child σ s transaction true true = make σ s transaction Open reply.Done
+-- what refuses a begin: of level 1 the limit of ages, of a child those of nesting and operations
+abbrev pub begin_refusals : State → Option Transaction → List (Option Reply)
+begin_refusals σ None = ages_refusal σ ∷ []
+begin_refusals σ (Some transaction) =
+    refused_if (not (nat_lt (suc (length (mid_of σ transaction).saved)) σ.limits.nesting))
+    (reply.SystemLimit limit.Nesting)
+    ∷ operations_refusal σ transaction ∷ []
 
--- level 1 with the next age, or a child level
+-- level 1, or a child level, which is a move of the transaction
 abbrev pub begin : State → Session → Option Transaction → Outcome
-begin σ s None = open_first σ s
-begin σ s (Some transaction) = open_child σ s transaction (nat_lt (suc (length (mid_of σ transaction).saved)) σ.limits.nesting) (nat_lt (count_moves transaction.moves) σ.limits.operations)
+begin σ s None = unless_refused σ (first_of (begin_refusals σ None)) (begin_now σ s)
+begin σ s (Some transaction) =
+    unless_refused σ (first_of (begin_refusals σ (Some transaction)))
+    (make σ s transaction Open reply.Done)
 
--- the first step of a one-shot: level 1 begins, where no transaction is open
+-- what refuses a one-shot
+abbrev pub one_shot_refusals : State → Option Transaction → List (Option Reply)
+one_shot_refusals σ transaction =
+    refused_if (is_some transaction) reply.InTransaction ∷ ages_refusal σ ∷ []
+
+-- the first step of a one-shot: level 1 begins
 abbrev pub one_shot : State → Session → Option Transaction → Outcome
-one_shot σ s None = open_first σ s
-one_shot σ s (Some transaction) = step_without_entry σ reply.InTransaction
+one_shot σ s transaction =
+    unless_refused σ (first_of (one_shot_refusals σ transaction)) (begin_now σ s)
 
 -- the one command that is taken while a request is queued: it drops it
 abbrev pub abort : State → Session → Term → Option Transaction → Outcome
@@ -218,15 +249,13 @@ commit_now σ over s transaction es =
 abbrev pub events_now : State → Transaction → List Event
 events_now σ transaction = events σ.tables transaction.age (surviving transaction.moves transaction.told)
 
--- a child's commit, or the outermost
-abbrev pub commit_at : State → List ℕ → Session → Transaction → Bool → Outcome
-commit_at σ over s transaction false = make σ s transaction Close reply.Done
-commit_at σ over s transaction true = commit_now σ over s transaction (events_now σ transaction)
-
--- a commit, of the innermost level; refused where no transaction is open
+-- a commit of the innermost level: the outermost, or a child's, which is a move of the transaction
 abbrev pub commit : State → List ℕ → Session → Option Transaction → Outcome
 commit σ over s None = step_without_entry σ reply.NoTransaction
-commit σ over s (Some transaction) = commit_at σ over s transaction (is_empty (mid_of σ transaction).saved)
+commit σ over s (Some transaction) =
+    if is_empty (mid_of σ transaction).saved
+    then commit_now σ over s transaction (events_now σ transaction)
+    else make σ s transaction Close reply.Done
 
 -- schema commands
 -- the session without its subscription to a deleted table, where a table is deleted
@@ -262,17 +291,19 @@ has_room σ (Remove t) = true
 has_room σ (AddIndex t a) = true
 has_room σ (DelIndex t a) = true
 
--- a schema command: refused by the tables, then for a lock in its table, then at the limit of tables; else done
-abbrev pub schema_if : State → List ℕ → Schema → Option Reply → Bool → Bool → Outcome
-schema_if σ over c (Some r) busy room = step_without_entry σ r
-schema_if σ over c None true room = step_without_entry σ (reply.Locked (table_of_schema c))
-schema_if σ over c None false false = step_without_entry σ (reply.SystemLimit limit.Tables)
-schema_if σ over c None false true = schema_now σ over c
+-- what refuses a schema command
+abbrev pub schema_refusals : State → Schema → Option Transaction → List (Option Reply)
+schema_refusals σ c transaction =
+    refused_if (is_some transaction) reply.InTransaction
+    ∷ schema_refusal σ.tables c
+    ∷ refused_if (is_busy σ (table_of_schema c)) (reply.Locked (table_of_schema c))
+    ∷ refused_if (not (has_room σ c)) (reply.SystemLimit limit.Tables)
+    ∷ []
 
--- a schema command: refused first where its session has a transaction open, then by the tables, locks and limit
+-- a schema command
 abbrev pub schema : State → List ℕ → Schema → Option Transaction → Outcome
-schema σ over c (Some transaction) = step_without_entry σ reply.InTransaction
-schema σ over c None = schema_if σ over c (schema_refusal σ.tables c) (is_busy σ (table_of_schema c)) (has_room σ c)
+schema σ over c transaction =
+    unless_refused σ (first_of (schema_refusals σ c transaction)) (schema_now σ over c)
 
 -- what table_info answers of a table: its type, its attributes, the positions that have an index, how many records
 abbrev pub info_at : Table → InfoItem → Reply
@@ -310,23 +341,35 @@ put_marker σ false s ws x e =
     }
 
 -- what refuses a subscription but its post: an untold overflow, no such table, subscribed already
+abbrev pub subscribe_refusals : State → Session → List ℕ → List (Option Reply)
+subscribe_refusals σ s t =
+    refused_if (is_some s.overflow) reply.OverflowUntold
+    ∷ refused_if (not (is_some (find σ.tables t))) (reply.SubNoTable t)
+    ∷ refused_if (is_some (level_in s.watching t)) (reply.AlreadySubscribed t)
+    ∷ []
+
+-- the first of them that applies
 abbrev pub subscribe_refusal : State → Session → List ℕ → Option Reply
-subscribe_refusal σ s t =
-    if is_some s.overflow then Some reply.OverflowUntold
-    else (if not (is_some (find σ.tables t)) then Some (reply.SubNoTable t)
-    else (if is_some (level_in s.watching t) then Some (reply.AlreadySubscribed t) else None))
+subscribe_refusal σ s t = first_of (subscribe_refusals σ s t)
 
--- a subscription: refused with the reply that is given, or its begin mark goes to the outbox, which may refuse it
-abbrev pub subscribe : State → List ℕ → Session → List ℕ → Level → Bool → Option Reply → Outcome
-subscribe σ over s t l dump (Some r) = step_without_entry σ r
-subscribe σ over s t l dump None =
-    put_marker σ (has_session over s.number) s (record { table = t; level = l } ∷ s.watching) (Began t l (dump_of σ.tables t dump)) (Subscribed s.number t l dump)
+-- a subscription: its begin mark goes to the outbox, which may refuse it
+abbrev pub subscribe : State → List ℕ → Session → List ℕ → Level → Bool → Outcome
+subscribe σ over s t l dump =
+    unless_refused σ (subscribe_refusal σ s t)
+    (put_marker σ (has_session over s.number) s (record { table = t; level = l } ∷ s.watching)
+    (Began t l (dump_of σ.tables t dump)) (Subscribed s.number t l dump))
 
--- a subscription's end: refused where there is none at the level, or its end mark goes to the outbox, as above
-abbrev pub unsubscribe : State → List ℕ → Session → List ℕ → Bool → Outcome
-unsubscribe σ over s t false = step_without_entry σ (reply.NotSubscribed t)
-unsubscribe σ over s t true =
-    put_marker σ (has_session over s.number) s (without_watch s.watching t) (Ended t ending.Unsubscribed) (Unsubscribed s.number t)
+-- what refuses a subscription's end but its post: there is none at the level
+abbrev pub unsubscribe_refusal : List ℕ → Level → Session → Option Reply
+unsubscribe_refusal t l s =
+    refused_if (not (is_at (level_in s.watching t) l)) (reply.NotSubscribed t)
+
+-- a subscription's end: its end mark goes to the outbox, which may refuse it
+abbrev pub unsubscribe : State → List ℕ → Session → List ℕ → Level → Outcome
+unsubscribe σ over s t l =
+    unless_refused σ (unsubscribe_refusal t l s)
+    (put_marker σ (has_session over s.number) s (without_watch s.watching t)
+    (Ended t ending.Unsubscribed) (Unsubscribed s.number t))
 
 -- a joined session's command that isn't refused WaitingNow
 abbrev pub do_command : State → List ℕ → Session → Command → Outcome
@@ -336,8 +379,8 @@ do_command σ over s command.Begin = begin σ s s.transaction
 do_command σ over s command.Commit = commit σ over s s.transaction
 do_command σ over s (command.Abort r) = abort σ s r s.transaction
 do_command σ over s (command.Do o) = operate σ s o s.transaction
-do_command σ over s (command.Subscribe t l dump) = subscribe σ over s t l dump (subscribe_refusal σ s t)
-do_command σ over s (command.Unsubscribe t l) = unsubscribe σ over s t (is_at (level_in s.watching t) l)
+do_command σ over s (command.Subscribe t l dump) = subscribe σ over s t l dump
+do_command σ over s (command.Unsubscribe t l) = unsubscribe σ over s t l
 do_command σ over s (command.OneShot parts retries) = one_shot σ s s.transaction
 
 -- the command is an abort
@@ -345,10 +388,9 @@ abbrev pub is_abort : Command → Bool
 is_abort (command.Abort r) = true
 is_abort c = false
 
--- a joined session's command: refused where true says that the session waits and the command is no abort
-abbrev pub command_if : State → List ℕ → Session → Command → Bool → Outcome
-command_if σ over s c true = step_without_entry σ reply.WaitingNow
-command_if σ over s c false = do_command σ over s c
+-- what refuses each command but an abort: an operation of the session waits
+abbrev pub waiting_refusal : State → Session → Command → Option Reply
+waiting_refusal σ s c = refused_if (is_waiting σ s.number && not (is_abort c)) reply.WaitingNow
 
 -- a Take: the next item, else an overflow, which is told once, else empty
 abbrev pub give : State → Session → List Item → Option ℕ → Outcome
@@ -372,22 +414,30 @@ step_of_joined σ over s (Join b) = step_without_entry σ reply.BadSession
 step_of_joined σ over s Leave = leave σ s
 step_of_joined σ over s Retry = retry σ s (request_in σ.queue s.number)
 step_of_joined σ over s Take = give σ s (items_to_take s.outbox s.outbox.capacity) s.overflow
-step_of_joined σ over s (DoCommand c) = command_if σ over s c (is_waiting σ s.number && not (is_abort c))
+step_of_joined σ over s (DoCommand c) =
+    unless_refused σ (waiting_refusal σ s c) (do_command σ over s c)
 
 -- a session that has just joined, with the outbox that it came with
 abbrev pub fresh : ℕ → Outbox → Session
 fresh n b = record { number = n; transaction = None; watching = []; outbox = b; overflow = None }
 
--- a session joins with a number above all before
-abbrev pub join : State → ℕ → Outbox → Bool → Bool → Outcome
-join σ n b false room = step_without_entry σ reply.BadSession
-join σ n b true false = step_without_entry σ (reply.SystemLimit limit.Sessions)
-join σ n b true true =
+-- what refuses a Join: a number that isn't above all before, then the limit of sessions
+abbrev pub join_refusals : State → ℕ → List (Option Reply)
+join_refusals σ n =
+    refused_if (not (nat_lt σ.greatest n)) reply.BadSession
+    ∷ refused_if (not (nat_lt (length σ.sessions) σ.limits.sessions))
+    (reply.SystemLimit limit.Sessions)
+    ∷ []
+
+-- a session joins, with its number and its outbox
+abbrev pub join_now : State → ℕ → Outbox → Outcome
+join_now σ n b =
     step_without_entry (record σ { sessions = σ.sessions ++ fresh n b ∷ []; greatest = n }) reply.Done
 
 -- a step of a session that is not joined: all but a Join is refused
 abbrev pub step_of_stranger : State → ℕ → Ask → Outcome
-step_of_stranger σ n (Join b) = join σ n b (nat_lt σ.greatest n) (nat_lt (length σ.sessions) σ.limits.sessions)
+step_of_stranger σ n (Join b) =
+    unless_refused σ (first_of (join_refusals σ n)) (join_now σ n b)
 step_of_stranger σ n Leave = step_without_entry σ reply.BadSession
 step_of_stranger σ n Retry = step_without_entry σ reply.BadSession
 step_of_stranger σ n Take = step_without_entry σ reply.BadSession

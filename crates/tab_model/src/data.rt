@@ -208,7 +208,8 @@ pub enum Reply {
 impl Reply {
     /// The list of a reply that found one. Any other reply is given back.
     pub(crate) fn into_found(self) -> Result<SharedTerms, Reply>
-        ensures { MatchResult result (λ rows. self ≡ reply.Found rows) (λ other. (other ≡ self) × (is_found self ≡ false)) }
+        ensures { MatchResult result (λ rows. self ≡ reply.Found rows)
+            (λ other. (other ≡ self) × (IsFalse (is_found self))) }
     {
         match self {
             Reply::Found(rows) => Ok(rows),

@@ -1,6 +1,6 @@
 //! A reply that stands once for all who hold it.
 
-ghost use Rattle.std.specs.Prelude.{◌≡◌, IfOk, MatchResult, false};
+ghost use Rattle.std.specs.Prelude.{◌≡◌, IfOk, MatchResult, IsFalse};
 ghost use Rattle.tab_model.specs.declared.data.Reply.TheVariants as reply;
 ghost use Rattle.tab_model.specs.Shared.{is_found};
 
@@ -81,7 +81,7 @@ impl SharedReply {
     }
 
     fn of_shared(reply: Arc<Reply, Global>) -> SharedReply
-        requires { is_found reply.value ≡ false }
+        requires { IsFalse (is_found reply.value) }
         ensures { result ≡ reply.value }
     {
         SharedReply {
@@ -101,7 +101,8 @@ impl SharedReply {
 
     /// The list of a reply that found one, without a copy. Any other reply is given back.
     pub fn into_found(self) -> Result<SharedTerms, SharedReply>
-        ensures { MatchResult result (λ rows. self ≡ reply.Found rows) (λ told. (told ≡ self) × (is_found self ≡ false)) }
+        ensures { MatchResult result (λ rows. self ≡ reply.Found rows)
+            (λ told. (told ≡ self) × (IsFalse (is_found self))) }
     {
         let SharedReply { owned } = self;
         match owned {

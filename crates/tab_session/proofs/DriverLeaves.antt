@@ -17,7 +17,8 @@ use Rattle.tab_model.specs.Operations.{table_of, failure, answer, effect}
 use Rattle.tab_model.specs.Ages.{Answer, Granted, Wait, Die}
 use Rattle.tab_model.specs.Alone.{Mid, next, back, back_to, reply_to, start}
 use Rattle.tab_model.specs.State.{Transaction, Session, Queued, State, session_at, transaction_at, transaction_in, mid_of, is_waiting, request_in, without_request}
-use Rattle.tab_model.specs.Outcome.{DoCommand, Outcome, outcome, with_changed, with_transaction, with_queue, ends_transaction, after_move, make, is_empty, by_lock_answer, within_limit, operate, open_level_1 as opened_by, open_child, begin, one_shot, abort, commit_now, commit_at, commit, do_command, command_if, step_of, after_put, batch_to, events_now, begun_anew, with_move, is_abort, after_overflow, with_items}
+use Rattle.tab_model.specs.Outcome.{DoCommand, Outcome, outcome, with_changed, with_transaction, with_queue, ends_transaction, make, is_empty, by_lock_answer, operate, begin, one_shot, abort, commit_now, commit, do_command, step_of, after_put, batch_to, events_now, begun_anew, with_move, is_abort, after_overflow, with_items}
+use Rattle.tab_model.proofs.StepCases.{after_move, within_limit, open_level_1, open_child, commit_at, command_if}
 use Rattle.tab_model.specs.Log.{has_session}
 use Rattle.tab_model.proofs.SessionLists.{found, session_at-map, mapped}
 use Rattle.tab_model.proofs.OperationAnswers.{answers}
@@ -279,7 +280,7 @@ module _ (n : ℕ) (w : Catalog) (k a : ℕ) where
   unfolding outcome
   opened_so σ over parts retries o is = cases (session_at σ.sessions n) refl o.none
     where
-      by_room : (s : Session) (b : Bool) → session_at σ.sessions n ≡ Some s → OpenedSo (opened_by σ s b)
+      by_room : (s : Session) (b : Bool) → session_at σ.sessions n ≡ Some s → OpenedSo (open_level_1 σ s b)
       by_room s false e = (refl, o)
       by_room s true e = record {
         stands = record { transaction = record { age = σ.next_age; moves = []; told = [] }; opened = placed σ n s e _; age = is; mid = λ i. start (o.tables i) (is i); tables = o.tables; commits = o.commits };

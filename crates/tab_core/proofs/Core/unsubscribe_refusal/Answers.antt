@@ -1,7 +1,6 @@
 use Rattle.std.proofs.Common.{refl, ap, ◌∙◌, Some, None}
 use Rattle.tab_model.specs.declared.data.Reply.TheVariants as reply
-use Rattle.tab_model.specs.Outcome.{is_at}
-use Rattle.tab_core.specs.Subscribing.{unsubscribe_refusal}
+use Rattle.tab_model.specs.Outcome.{is_at, unsubscribe_refusal}
 use Rattle.tab_core.proofs.MarksLemmas.{seen, unseen, free, may_unsubscribe, not_subscribed}
 use Rattle.tab_manager.proofs.StepsLemmas.{differ}
 use Rattle.tab_core.proofs.TellsLemmas.{unsubscribe_told}

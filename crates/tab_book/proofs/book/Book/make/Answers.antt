@@ -1,4 +1,4 @@
-use Rattle.std.proofs.Common.{◌≡◌, true, false, length, refl, sym, ap, ◌∙◌, subst}
+use Rattle.std.proofs.Common.{◌≡◌, ◌<◌, true, false, length, refl, sym, ap, ◌∙◌, subst}
 use Rattle.tab_model.specs.declared.data.Reply.{Reply}
 use Rattle.tab_model.specs.Outcome.{Ask}
 use Rattle.tab_model.specs.Standing.{may_enter}
@@ -24,7 +24,7 @@ invariant_of-self-then-leaves g c =
     let a = ask_of c.args.step in
     let done = subst (λ (x : Ask). StepsTo c.self.inside.core n x c.in_ok-stepped.stepped c.step.new.self) (c.core_step.ensures _) c.in_ok-stepped.ensures.done in
     let vacant = subst (λ (b : Running). may_enter b.state n a ≡ true → is_full b.journal ≡ false) (sym c.self.view_is) c.requires.room in
-    let room = λ may. room_left c.self.inside.outbox (length c.self.inside.prefix) c.self.inside.core c.self.inside.journal c.self.invariant (vacant may) in
+    let room : may_enter c.self.inside.core n a ≡ true → length c.self.inside.journal.entries < c.self.inside.journal.limit = λ may. room_left c.self.inside.outbox (length c.self.inside.prefix) c.self.inside.core c.self.inside.journal c.self.invariant (vacant may) in
     made_holds c.self.inside.outbox (length c.self.inside.prefix) c.self.inside.core c.self.inside.journal c.self.invariant done.0 n a _ done.2 (own_ask (length c.self.inside.prefix) c.args.step) c.step.ensures.sound room
     c.entered-reply.new.journal c.forget.new.self c.entered-reply.ensures.journal true (c.if-leaves.ensures ∙ ap (λ (b : Running). leaves b.state n a) (sym c.self.view_is)) c.forget.ensures
 
@@ -34,7 +34,7 @@ invariant_of-self-else-leaves g c =
     let a = ask_of c.args.step in
     let done = subst (λ (x : Ask). StepsTo c.self.inside.core n x c.in_ok-stepped.stepped c.step.new.self) (c.core_step.ensures _) c.in_ok-stepped.ensures.done in
     let vacant = subst (λ (b : Running). may_enter b.state n a ≡ true → is_full b.journal ≡ false) (sym c.self.view_is) c.requires.room in
-    let room = λ may. room_left c.self.inside.outbox (length c.self.inside.prefix) c.self.inside.core c.self.inside.journal c.self.invariant (vacant may) in
+    let room : may_enter c.self.inside.core n a ≡ true → length c.self.inside.journal.entries < c.self.inside.journal.limit = λ may. room_left c.self.inside.outbox (length c.self.inside.prefix) c.self.inside.core c.self.inside.journal c.self.invariant (vacant may) in
     made_holds c.self.inside.outbox (length c.self.inside.prefix) c.self.inside.core c.self.inside.journal c.self.invariant done.0 n a _ done.2 (own_ask (length c.self.inside.prefix) c.args.step) c.step.ensures.sound room
     c.entered-reply.new.journal c.entered-reply.new.journal c.entered-reply.ensures.journal false (c.if-leaves.ensures ∙ ap (λ (b : Running). leaves b.state n a) (sym c.self.view_is)) refl
 
