@@ -26,8 +26,8 @@ use Rattle.tab_core.specs.Runs.{takes_no_memory}
 use Rattle.tab_post.specs.Ends.{empty_outbox}
 use Rattle.tab_book.specs.declared.step.Step.{Step}
 use Rattle.tab_book.specs.declared.step.Step.TheVariants as step
-use Rattle.tab_book.specs.Running.{IsRunning, HavePlaces, Holds}
-use Rattle.tab_book.specs.Steps.{oldest_joined, folded, until_room, with_room_made, with_room, with_entries, leaves, has_room, with_session, StepsFrom, KeepsPosts, ask_of, is_never_refused}
+use Rattle.tab_book.specs.Running.{Running, IsRunning, HavePlaces, Holds}
+use Rattle.tab_book.specs.Steps.{oldest_joined, folded, with_folds, until_room, with_room_made, with_room, with_entries, leaves, has_room, with_session, StepsFrom, KeepsPosts, ask_of, is_never_refused}
 
 pub new_holds : (outbox seen : ℕ) (limits : Limits) (n : ℕ) → 1 ≤ outbox → 1 ≤ n → Holds outbox seen (new limits) (record { base = empty; entries = []; limit = n })
 new_holds outbox seen limits n room limit = record {
@@ -219,6 +219,25 @@ room_folded σ j h = by j.entries refl
     by (x ∷ es) e =
         sym (ap (λ b. if b then until_room σ j.limit (after_fold (still_joined σ x) j.base x) es else record { base = j.base; entries = x ∷ es; limit = j.limit }) (ap is_full (sym (λ i. record j { entries = e i })) ∙ h))
 
+-- the second book is the first with so many of its oldest entries folded, and makes the same room
+abbrev pub IsFoldedFrom : Running → Running → Type 0
+IsFoldedFrom old new =
+    (new.state ≡ old.state)
+    × ((k : ℕ) × (new.journal ≡ with_folds old.state k old.journal))
+    × (with_room_made old.state new.journal ≡ with_room_made old.state old.journal)
+
+pub folds_on : (old now new : Running) → IsFoldedFrom old now → is_full now.journal ≡ true → new ≡ record { state = now.state; journal = folded now.state now.journal } → IsFoldedFrom old new
+folds_on old now new h full is = (
+  ap (λ (b : Running). b.state) is ∙ h.0,
+  (suc h.1.0, ap (λ (b : Running). b.journal) is ∙ (λ i. folded (h.0 i) (h.1.1 i))),
+  ap (λ (b : Running). with_room_made old.state b.journal) is ∙ (λ i. with_room_made old.state (folded (h.0 i) now.journal)) ∙ room_folded old.state now.journal full ∙ h.2,
+)
+
+pub has_room_made : (old now : Running) → IsFoldedFrom old now → is_full now.journal ≡ false → now ≡ record { state = old.state; journal = with_room_made old.state old.journal }
+has_room_made old now h vacant =
+    let made : now.journal ≡ with_room_made old.state old.journal = sym (room_there old.state now.journal vacant) ∙ h.2 in
+    λ i. record { state = h.0 i; journal = made i }
+
 pub room_left : (outbox seen : ℕ) (σ : State) (j : Kept) → Holds outbox seen σ j → is_full j ≡ false → length j.entries < j.limit
 room_left outbox seen σ j k h = let w = k.within in by (length j.entries == j.limit) (nat_le most_moves (moves_in j.entries)) refl h w
   where
@@ -228,7 +247,7 @@ room_left outbox seen σ j k h = let w = k.within in by (length j.entries == j.l
 
 -- ---- what is never refused
 
-nothing_entered : (b c : Bool) → c ≡ false → (b && c) ≡ false
+pub nothing_entered : (b c : Bool) → c ≡ false → (b && c) ≡ false
 nothing_entered true c h = h
 nothing_entered false c h = refl
 

@@ -4,10 +4,11 @@ use Rattle.std.specs.Prelude.{◌==◌, if◌then◌else◌, nat_le, is_some, If
 use Rattle.std.specs.List.{AllByRecursion, filter}
 use Rattle.tab_model.specs.declared.data.Item.{Item}
 use Rattle.tab_model.specs.Log.{has_session}
-use Rattle.tab_model.specs.State.{Watch, Outbox, Session, session_at, AreDistinct, without_watch}
+use Rattle.tab_model.specs.State.{Watch, Session, session_at, AreDistinct, without_watch}
 use Rattle.tab_model.specs.Outcome as plain
 use Rattle.tab_model.specs.Outcome.{is_empty, with_items}
 use Rattle.tab_model.specs.Run.{IsSplitByOverflow}
+use Rattle.tab_model.proofs.Splits.{IsSplit, split_fits}
 use Rattle.tab_model.proofs.SessionLists.{eq_true, itself, differs'}
 use Rattle.tab_subs.specs.Subscribers.{Subscriber, at, numbers, given, overflowed, overflow_of}
 use Rattle.tab_subs.specs.Deliveries.{first_of, rest_of, unwatched, given_all, IsDecided, AreDecided, joined_if, those_in}
@@ -156,17 +157,17 @@ module _ (n : ℕ) (over : List ℕ) (t : Option (List ℕ)) (h : List Watch →
   abbrev pub owing : Session → Bool
   owing x = not (is_empty (h x.watching))
 
-  pins : (all : List ℕ) (bs cs : List Subscriber) (ss : List Session) → Matches bs cs ss → AreDecided all (map (λ (b : Subscriber). h b.watching) cs) cs → IsSplitByOverflow (filter owing (map (session_with bs) ss)) (those_in all cs)
+  pins : (all : List ℕ) (bs cs : List Subscriber) (ss : List Session) → Matches bs cs ss → AreDecided all (map (λ (b : Subscriber). h b.watching) cs) cs → IsSplit (filter owing (map (session_with bs) ss)) (those_in all cs)
   pins all bs [] [] m d = refl
   pins all bs [] (s ∷ ss) m d = absurd m
   pins all bs (c ∷ cs) [] m d = absurd m
   pins all bs (c ∷ cs) (s ∷ ss) m d =
-      subst (λ o. IsSplitByOverflow (if not (is_empty (h (watching_of o))) then dress o s ∷ filter owing (map (session_with bs) ss) else filter owing (map (session_with bs) ss)) (those_in all (c ∷ cs))) (sym m.0)
+      subst (λ o. IsSplit (if not (is_empty (h (watching_of o))) then dress o s ∷ filter owing (map (session_with bs) ss) else filter owing (map (session_with bs) ss)) (those_in all (c ∷ cs))) (sym m.0)
       (by (h c.watching) d.0 (pins all bs cs ss m.2 d.1))
     where
-      by : (items : List Item) → IsDecided (has_session all c.number) items c.outbox → IsSplitByOverflow (filter owing (map (session_with bs) ss)) (those_in all cs)
-          → IsSplitByOverflow (if not (is_empty items) then dress (Some c) s ∷ filter owing (map (session_with bs) ss) else filter owing (map (session_with bs) ss)) (joined_if (has_session all c.number) c.number (those_in all cs))
-      by [] e rest = subst (λ b. IsSplitByOverflow (filter owing (map (session_with bs) ss)) (joined_if b c.number (those_in all cs))) (sym e) rest
+      by : (items : List Item) → IsDecided (has_session all c.number) items c.outbox → IsSplit (filter owing (map (session_with bs) ss)) (those_in all cs)
+          → IsSplit (if not (is_empty items) then dress (Some c) s ∷ filter owing (map (session_with bs) ss) else filter owing (map (session_with bs) ss)) (joined_if (has_session all c.number) c.number (those_in all cs))
+      by [] e rest = subst (λ b. IsSplit (filter owing (map (session_with bs) ss)) (joined_if b c.number (those_in all cs))) (sym e) rest
       by (i ∷ is) e rest = (has_session all c.number, those_in all cs, list_is (has_session all c.number) ∙ ap (λ k. if has_session all c.number then k ∷ those_in all cs else those_in all cs) m.1, e, rest)
         where
           list_is : (b : Bool) → joined_if b c.number (those_in all cs) ≡ (if b then c.number ∷ those_in all cs else those_in all cs)
@@ -175,4 +176,5 @@ module _ (n : ℕ) (over : List ℕ) (t : Option (List ℕ)) (h : List Watch →
 
   -- those who overflowed are those whose posts refused, and no other could
   pub are_pinned : (bs : List Subscriber) (ss : List Session) → numbers bs ≡ map (λ (s : Session). s.number) ss → AreDistinct ss → over ≡ those_in over bs → AreDecided over (map (λ (b : Subscriber). h b.watching) bs) bs → IsSplitByOverflow (filter owing (map (session_with bs) ss)) over
-  are_pinned bs ss same distinct is decided = subst (IsSplitByOverflow (filter owing (map (session_with bs) ss))) (sym is) (pins over bs bs ss (all_match bs ss same distinct) decided)
+  are_pinned bs ss same distinct is decided =
+      split_fits (filter owing (map (session_with bs) ss)) over (subst (IsSplit (filter owing (map (session_with bs) ss))) (sym is) (pins over bs bs ss (all_match bs ss same distinct) decided))

@@ -20,6 +20,7 @@ use Rattle.tab_model.specs.Outcome as plain
 use Rattle.tab_model.specs.Outcome.{Take, DoCommand, Outcome, outcome, step_without_entry, with_items, with_refusal, items_to_take, give, put_marker, do_command, refused_if, subscribe_refusal, unsubscribe_refusal, is_at, is_abort}
 use Rattle.tab_model.proofs.StepCases.{command_if, subscribe_refusal_if, subscribe_if, unsubscribe_if}
 use Rattle.tab_model.specs.Run.{Allowed, IsSplitByOverflow, put_ask, put_command}
+use Rattle.tab_model.proofs.Splits.{none_handed, split_fits}
 use Rattle.tab_model.proofs.SessionLists.{found, itself}
 use Rattle.tab_manager.specs.declared.step.Stepped.{Stepped}
 use Rattle.tab_subs.specs.Subscribers as subs
@@ -97,7 +98,7 @@ module _ (bs : List Subscriber) (σ : State) (k : IsKept bs σ) (n : ℕ) (s : S
   over_is mark.Put = refl
 
   pinned : (b : Subscriber) → IsMine b → (mm : Marked) → IfSome b.outbox.capacity (λ c. is_full mm ≡ nat_le c (length b.outbox.items)) → IsSplitByOverflow (dress (Some b) s ∷ []) (over_of mm)
-  pinned b m mm h = (is_full mm, [], ap (λ q. if is_full mm then q ∷ [] else []) (sym (found σ.sessions s n here)), h, refl)
+  pinned b m mm h = split_fits (dress (Some b) s ∷ []) (over_of mm) (is_full mm, [], ap (λ q. if is_full mm then q ∷ [] else []) (sym (found σ.sessions s n here)), h, refl)
 
   abbrev Step : Command → List ℕ → Stepped → List Subscriber → Type 0
   Step c over r cs = Allowed (state_with bs σ) over n (DoCommand c) × (outcome (state_with bs σ) over n (DoCommand c) ≡ record { state = state_with cs σ; reply = r.reply; entry = r.entry })
@@ -140,7 +141,7 @@ take_makes bs σ k n cs x h s' is = by (session_at σ.sessions n) refl
         let none = none_there bs σ.sessions n k.same e in
         let same : cs ≡ bs = cs_is ∙ ap (λ q. (taken_from bs q).0) none in
         let told : s' ≡ record { reply = reply.BadSession; entry = None } = is ∙ ap taken_reply (x_is ∙ ap (λ q. (taken_from bs q).1) none) in (
-          ([], refl, at_session (state_with bs σ) [] n Take None (mapped_none bs σ n e) ∙ (λ i. record { state = state_with (sym same i) σ; reply = Stepped.reply (sym told i); entry = Stepped.entry (sym told i) })),
+          ([], none_handed, at_session (state_with bs σ) [] n Take None (mapped_none bs σ n e) ∙ (λ i. record { state = state_with (sym same i) σ; reply = Stepped.reply (sym told i); entry = Stepped.entry (sym told i) })),
           ap numbers same ∙ k.same,
         )
     by (Some s) e =
@@ -148,7 +149,7 @@ take_makes bs σ k n cs x h s' is = by (session_at σ.sessions n) refl
         let b = m.0 in
         let same : cs ≡ change bs (subs.take b).0 = cs_is ∙ ap (λ q. (taken_from bs q).0) m.1.there in
         let told : s' ≡ taken_reply (Some (subs.take b).1) = is ∙ ap taken_reply (x_is ∙ ap (λ q. (taken_from bs q).1) m.1.there) in (
-          ([], refl, taken_there bs σ k n s e b m.1 ∙ (λ i. record { state = state_with (sym same i) σ; reply = Stepped.reply (sym told i); entry = (bare_entry (Some (subs.take b).1) ∙ ap (λ (y : Stepped). y.entry) (sym told)) i })),
+          ([], none_handed, taken_there bs σ k n s e b m.1 ∙ (λ i. record { state = state_with (sym same i) σ; reply = Stepped.reply (sym told i); entry = (bare_entry (Some (subs.take b).1) ∙ ap (λ (y : Stepped). y.entry) (sym told)) i })),
           ap numbers same ∙ change_numbers bs (subs.take b).0 ∙ k.same,
         )
       where
@@ -184,13 +185,13 @@ module _ (bs : List Subscriber) (σ : State) (k : IsKept bs σ) (n : ℕ) (c : C
     where
       by : (o : Option Session) → session_at now.sessions n ≡ o → refused_by now n f o ≡ Some r → Allowed now [] n (DoCommand c) × (outcome now [] n (DoCommand c) ≡ step_without_entry now r)
       by None m g = (
-        subst (λ ss. IsSplitByOverflow ss []) (sym (ap (put_ask now (DoCommand c)) m)) refl,
+        subst (λ ss. IsSplitByOverflow ss []) (sym (ap (put_ask now (DoCommand c)) m)) none_handed,
         at_session now [] n (DoCommand c) None m ∙ ap (step_without_entry now) (one_reply g),
       )
       by (Some s) m g =
           let is_n : s.number ≡ n = found now.sessions s n m in
           let q = refused_mark_if s r (is_waiting now s.number) (ap (λ j. refusal_if s (is_waiting now j)) is_n ∙ g) in (
-            subst (λ ss. IsSplitByOverflow ss []) (sym (ap (put_ask now (DoCommand c)) m ∙ q.1)) refl,
+            subst (λ ss. IsSplitByOverflow ss []) (sym (ap (put_ask now (DoCommand c)) m ∙ q.1)) none_handed,
             at_session now [] n (DoCommand c) (Some s) m ∙ ap (λ b. command_if now [] s c (is_waiting now s.number && not b)) marking.no_abort ∙ q.0 [],
           )
 

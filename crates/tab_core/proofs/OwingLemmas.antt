@@ -18,6 +18,7 @@ use Rattle.tab_model.specs.State.{Transaction, Watch, Session, State, session_at
 use Rattle.tab_model.specs.Outcome.{Ask, DoCommand, Outcome, outcome, is_empty, with_changed, with_transaction, after_put, batch_to, commit_now, commit, events_now, without_deleted, end_to, schema_now, has_room, schema, do_command, is_abort, step_of}
 use Rattle.tab_model.proofs.StepCases.{commit_at, schema_if, command_if}
 use Rattle.tab_model.specs.Run.{Allowed, IsSplitByOverflow, put_ask, put_commit, put_schema}
+use Rattle.tab_model.proofs.Splits.{none_handed}
 use Rattle.tab_model.proofs.SessionLists.{found}
 use Rattle.tab_manager.specs.Outermost.{outermost, outermost_of}
 use Rattle.tab_subs.specs.Subscribers.{Subscriber, numbers}
@@ -213,24 +214,24 @@ module _ (bs : List Subscriber) (σ : State) (k : IsKept bs σ) (n : ℕ) where
     put_if b = if b then [] else filter (owing number [] (removed_table c) mark) (map (session_with bs) σ.sessions)
 
     at_checks : (r : Option Reply) (busy room : Bool) → has_room σ c ≡ room → Schemed (λ over. schema_if σ over c r busy room) (λ over. schema_if (state_with bs σ) over c r busy room) (put_if (is_some r || busy))
-    at_checks (Some r) busy room h = refused refl (λ over. refl) refl
-    at_checks None true room h = refused refl (λ over. refl) refl
-    at_checks None false false h = refused refl (λ over. refl) (subst (λ ss. IsSplitByOverflow ss []) (sym (no_marks c h (map (session_with bs) σ.sessions))) refl)
+    at_checks (Some r) busy room h = refused refl (λ over. refl) none_handed
+    at_checks None true room h = refused refl (λ over. refl) none_handed
+    at_checks None false false h = refused refl (λ over. refl) (subst (λ ss. IsSplitByOverflow ss []) (sym (no_marks c h (map (session_with bs) σ.sessions))) none_handed)
     at_checks None false true h = done _ refl refl now_done refl
 
     at_transaction : (t : Option Transaction) → Schemed (λ over. schema σ over c t) (λ over. schema (state_with bs σ) over c t) (put_schema (state_with bs σ) c t)
-    at_transaction (Some t) = refused refl (λ over. refl) refl
+    at_transaction (Some t) = refused refl (λ over. refl) none_handed
     at_transaction None =
         subst (λ b. Schemed (λ over. schema σ over c None) (λ over. schema_if (state_with bs σ) over c (schema_refusal σ.tables c) b (has_room (state_with bs σ) c)) (put_if (is_some (schema_refusal σ.tables c) || b))) (sym (busy_dressed bs σ (table_of_schema c)))
         (subst (λ b. Schemed (λ over. schema σ over c None) (λ over. schema_if (state_with bs σ) over c (schema_refusal σ.tables c) (is_busy σ (table_of_schema c)) b) (put_if (is_some (schema_refusal σ.tables c) || is_busy σ (table_of_schema c)))) (sym (room_same c))
         (at_checks (schema_refusal σ.tables c) (is_busy σ (table_of_schema c)) (has_room σ c) refl))
 
     at_wait : (s : Session) (b : Bool) → Schemed (λ over. command_if σ over s (command.Schema c) (b && true)) (λ over. command_if (state_with bs σ) over (session_with bs s) (command.Schema c) (b && true)) (if b then [] else put_schema (state_with bs σ) c s.transaction)
-    at_wait s true = refused refl (λ over. refl) refl
+    at_wait s true = refused refl (λ over. refl) none_handed
     at_wait s false = at_transaction s.transaction
 
     at_session : (o : Option Session) → Schemed (λ over. step_of σ over n a o) (λ over. step_of (state_with bs σ) over n a (option_map (session_with bs) o)) (put_ask (state_with bs σ) a (option_map (session_with bs) o))
-    at_session None = refused refl (λ over. refl) refl
+    at_session None = refused refl (λ over. refl) none_handed
     at_session (Some s) = at_wait s (is_waiting σ s.number)
 
     pub schemed : Schemed (λ over. outcome σ over n a) (λ over. outcome (state_with bs σ) over n a) (put_ask (state_with bs σ) a (session_at (state_with bs σ).sessions n))

@@ -10,6 +10,7 @@ use Rattle.tab_model.specs.declared.data.Reply.TheVariants as reply
 use Rattle.tab_model.specs.State.{Outbox, Session, State, session_at, AreDistinct, transaction_at}
 use Rattle.tab_model.specs.Outcome as plain
 use Rattle.tab_model.specs.Outcome.{Ask, Join, Leave, Outcome, outcome, step_without_entry, step_of, fresh, without_session}
+use Rattle.tab_model.proofs.Splits.{none_handed}
 use Rattle.tab_model.proofs.StepCases.{join_if}
 use Rattle.tab_model.proofs.SessionLists.{found}
 use Rattle.tab_manager.specs.SessionLists.{no_outbox}
@@ -122,7 +123,7 @@ module _ (bs : List Subscriber) (σ : State) (k : IsKept bs σ) (n : ℕ) where
   pub refused_join_makes : (o : Outbox) (s : Stepped) (τ : State) → admitted ≡ false → manager.StepsTo σ n (Join no_outbox) s τ → Makes bs σ n (Join o) s bs τ
   refused_join_makes o s τ h m =
       let p = not_joined o h in
-      (([], refl, p.0 ∙ ap (lifted bs) m), k.same ∙ ap (λ (x : State). map (λ (y : Session). y.number) x.sessions) (sym p.1 ∙ ap (λ (x : Outcome). x.state) m))
+      (([], none_handed, p.0 ∙ ap (lifted bs) m), k.same ∙ ap (λ (x : State). map (λ (y : Session). y.number) x.sessions) (sym p.1 ∙ ap (λ (x : Outcome). x.state) m))
 
   pub and_both : (a b : Bool) → (a && b) ≡ true → (a ≡ true) × (b ≡ true)
   and_both true true h = (refl, refl)
@@ -141,7 +142,7 @@ module _ (bs : List Subscriber) (σ : State) (k : IsKept bs σ) (n : ℕ) where
       by (Some s) e = absurd (above σ.greatest n (and_both _ _ h).0 (k.sound.joined n s e))
 
   pub join_makes : (o : Outbox) (s : Stepped) (τ : State) (cs : List Subscriber) → admitted ≡ true → cs ≡ bs ++ subs.fresh n o ∷ [] → manager.StepsTo σ n (Join no_outbox) s τ → Makes bs σ n (Join o) s cs τ
-  join_makes o s τ cs h is m = (([], refl, steps), numbers_are)
+  join_makes o s τ cs h is m = (([], none_handed, steps), numbers_are)
     where
       none : session_at σ.sessions n ≡ None
       none = newcomer h
@@ -200,4 +201,4 @@ module _ (bs : List Subscriber) (σ : State) (k : IsKept bs σ) (n : ℕ) where
   pub leave_makes : (s : Stepped) (τ : State) (cs : List Subscriber) → cs ≡ without bs n → manager.StepsTo σ n Leave s τ → Makes bs σ n Leave s cs τ
   leave_makes s τ cs is m =
       let p = left_of (session_at σ.sessions n) refl in
-      (([], refl, p.0 ∙ (λ i. lifted (sym is i) (m i))), ap numbers is ∙ p.1 ∙ ap (λ (x : Outcome). map (λ (y : Session). y.number) x.state.sessions) m)
+      (([], none_handed, p.0 ∙ (λ i. lifted (sym is i) (m i))), ap numbers is ∙ p.1 ∙ ap (λ (x : Outcome). map (λ (y : Session). y.number) x.state.sessions) m)

@@ -14,9 +14,10 @@ use Rattle.tab_model.specs.Events.{events, surviving}
 use Rattle.tab_model.specs.Schemas.{removed_table}
 use Rattle.tab_model.specs.Slices.{batch_for, end_for}
 use Rattle.tab_model.specs.State as plain
-use Rattle.tab_model.specs.State.{Transaction, Outbox, Session, State, session_at, transaction_at, moves_at, is_waiting, level_in}
-use Rattle.tab_model.specs.Outcome.{Ask, Join, Leave, Retry, Take, DoCommand, Outcome, outcome, is_empty, is_abort}
-use Rattle.tab_model.specs.Run.{Allowed, put_ask, put_command, put_commit}
+use Rattle.tab_model.specs.State.{Transaction, Session, State, session_at, transaction_at, is_waiting, level_in}
+use Rattle.tab_model.specs.Outcome.{Ask, Retry, DoCommand, Outcome, outcome, is_empty, is_abort}
+use Rattle.tab_model.specs.Run.{Allowed, IsSplitByOverflow, put_ask, put_command, put_commit}
+use Rattle.tab_model.proofs.Splits.{none_handed}
 use Rattle.tab_model.proofs.SessionLists.{found}
 use Rattle.tab_manager.specs.Outermost.{outermost, outermost_of, ending_of}
 use Rattle.tab_manager.specs.Steps as manager
@@ -43,7 +44,7 @@ module _ (bs : List Subscriber) (σ : State) (k : IsKept bs σ) (n : ℕ) (s : S
   same_after a stay h = k.same ∙ sym stay ∙ ap (λ (o : Outcome). session_numbers o.state.sessions) h
 
   pub retry_makes : manager.StepsTo σ n Retry s τ → Makes bs σ n Retry s bs τ
-  retry_makes h = (([], refl, quiet_retry bs σ [] n ∙ ap (lifted bs) h), same_after Retry (retries_stay σ [] n) h)
+  retry_makes h = (([], none_handed, quiet_retry bs σ [] n ∙ ap (lifted bs) h), same_after Retry (retries_stay σ [] n) h)
 
   puts_nothing : (c : Command) → ((r : Session) → session_at σ.sessions n ≡ Some r → is_waiting σ r.number ≡ false → put_command (state_with bs σ) (session_with bs r) c ≡ []) → put_ask (state_with bs σ) (DoCommand c) (session_at (state_with bs σ).sessions n) ≡ []
   puts_nothing c h = ap (put_ask (state_with bs σ) (DoCommand c)) (at_dressed bs σ.sessions n) ∙ by (session_at σ.sessions n) refl
@@ -62,7 +63,7 @@ module _ (bs : List Subscriber) (σ : State) (k : IsKept bs σ) (n : ℕ) (s : S
   quiet_makes c quiet puts h = (([], puts_nothing_pinned (puts_nothing c puts), quiet_command bs σ [] n c quiet ∙ ap (lifted bs) h), same_after (DoCommand c) (commands_stay σ [] n c) h)
     where
       puts_nothing_pinned : put_ask (state_with bs σ) (DoCommand c) (session_at (state_with bs σ).sessions n) ≡ [] → Allowed (state_with bs σ) [] n (DoCommand c)
-      puts_nothing_pinned none = subst (λ ss. Rattle.tab_model.specs.Run.IsSplitByOverflow ss []) (sym none) refl
+      puts_nothing_pinned none = subst (λ ss. IsSplitByOverflow ss []) (sym none) none_handed
 
   -- a command that puts nothing into posts
   pub command_makes : (c : Command) → (c ≡ command.Commit → ⊥) → ((x : Schema) → c ≡ command.Schema x → ⊥) → ((t : List ℕ) (l : Level) (d : Bool) → c ≡ command.Subscribe t l d → ⊥) → ((t : List ℕ) (l : Level) → c ≡ command.Unsubscribe t l → ⊥)

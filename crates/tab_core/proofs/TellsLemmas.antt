@@ -11,6 +11,7 @@ use Rattle.tab_model.specs.declared.data.Schema.{Schema}
 use Rattle.tab_model.specs.Outcome.{Ask, DoCommand, Retry, Outcome, outcome, step_without_entry, step_of, commit, has_room, is_abort, is_empty, is_at, schema, subscribe_refusal, unsubscribe_refusal}
 use Rattle.tab_model.proofs.StepCases.{commit_at, command_if, subscribe_if, unsubscribe_if}
 use Rattle.tab_model.specs.Run.{IsSplitByOverflow, put_ask, put_schema}
+use Rattle.tab_model.proofs.Splits.{none_handed}
 use Rattle.tab_model.specs.Schemas.{table_of_schema}
 use Rattle.tab_model.specs.Standing.{levels_in, levels_of}
 use Rattle.tab_model.specs.State as plain
@@ -98,10 +99,10 @@ module _ (ρ : State) (n : ℕ) where
       by_wait s false (Some t) e g = (ap (put_schema ρ c) e, ap (schema ρ [] c) e ∙ ap (step_without_entry ρ) (one g))
 
       by : (o : Option Session) → session_at ρ.sessions n ≡ o → Some r ≡ refused_by ρ n inside_refusal o → IsSplitByOverflow (put_ask ρ a (session_at ρ.sessions n)) [] × (outcome ρ [] n a ≡ step_without_entry ρ r)
-      by None m g = (subst (λ ss. IsSplitByOverflow ss []) (sym (ap (put_ask ρ a) m)) refl, at_session ρ n a None m ∙ ap (step_without_entry ρ) (one g))
+      by None m g = (subst (λ ss. IsSplitByOverflow ss []) (sym (ap (put_ask ρ a) m)) none_handed, at_session ρ n a None m ∙ ap (step_without_entry ρ) (one g))
       by (Some s) m g =
           let q = by_wait s (is_waiting ρ s.number) s.transaction refl (g ∙ ap (λ k. if is_waiting ρ k then Some reply.WaitingNow else inside_refusal s) (sym (found ρ.sessions s n m))) in
-          (subst (λ ss. IsSplitByOverflow ss []) (sym (ap (put_ask ρ a) m ∙ q.0)) refl, at_session ρ n a (Some s) m ∙ q.1)
+          (subst (λ ss. IsSplitByOverflow ss []) (sym (ap (put_ask ρ a) m ∙ q.0)) none_handed, at_session ρ n a (Some s) m ∙ q.1)
 
   -- whether it stands in a transaction, by its levels
   shown : (k : ℕ) → k ≡ 0 → 0 < min k (2 ^ 64 - 1) → ⊥

@@ -125,8 +125,12 @@ impl<P: Post + Drop> Core<P> {
         steps: Vec<(u32, Step<P>)>,
     ) -> Result<Vec<SharedReply>, AllocError>
         requires { AllJoinEmpty (asks_of P.outbox steps.items) }
-        ensures run { IfOk result (λ rs. (log : List EntryOf) × RunsTo self.old (asks_of P.outbox steps.items) rs.items log self.new
-            × ((earlier : List EntryOf) (taken : ℕ → List ItemOf) → IsTied self.old earlier taken → IsTied self.new (earlier ++ log) (λ m. taken m ++ taken_in m (asks_of P.outbox steps.items) rs.items))) }
+        ensures run { IfOk result
+            (λ rs. (log : List EntryOf)
+            × RunsTo self.old (asks_of P.outbox steps.items) rs.items log self.new
+            × ((earlier : List EntryOf) (taken : ℕ → List ItemOf) → IsTied self.old earlier taken
+            → IsTied self.new (earlier ++ log)
+            (λ m. taken m ++ taken_in m (asks_of P.outbox steps.items) rs.items))) }
         ensures err { OnErr result (self.new ≡ self.old) }
         ensures sound { IsSound self.new }
         ensures rising { IsRising self.new }

@@ -1,5 +1,5 @@
 -- What callers know is what the core has: their open transactions and queued operations, and the log.
-use Rattle.std.proofs.Common.{◌≡◌, ℕ, ◌+◌, ◌<◌, ◌≤◌, List, [], ◌∷◌, ◌++◌, Bool, true, false, ◌&&◌, ◌||◌, not, refl, sym, ap, ◌∙◌, subst, arith, Option, Some, None}
+use Rattle.std.proofs.Common.{◌≡◌, ℕ, ◌+◌, ◌<◌, ◌≤◌, List, [], ◌∷◌, ◌++◌, Bool, true, false, ◌&&◌, ◌||◌, not, refl, sym, ap, ◌∙◌, subst, arith, append_assoc, append-nil, Option, Some, None}
 use Rattle.std.proofs.Math.Bool.{and-true}
 use Rattle.std.specs.Prelude.{◌==◌, if◌then◌else◌, is_some, map}
 use Rattle.std.proofs.lemmas.Bool.Decides.{nat_tests}
@@ -32,7 +32,7 @@ use Rattle.tab_model.specs.Outcome.{Ask, Join, Leave, Retry, Take, DoCommand, Ou
 use Rattle.tab_model.proofs.StepCases.{after_move, within_limit, try_again, open_level_1, open_child, commit_at, schema_if, subscribe_refusal_if, subscribe_if, unsubscribe_if, command_if, join_if}
 use Rattle.tab_model.specs.Run.{Call, outcome_of, after_all, entries, log_of, replies_of, AllJoinEmpty}
 use Rattle.tab_model.specs.Log.{IsLegal}
-use Rattle.tab_model.specs.Callers.{Caller, Callers, newcomers, caller_with_move, caller_anew, AnswerKind, Made, kind_of, after_operation, after_answer, after_begin, hears_command, hears, commit_entry, schema_entry, subscription_entry, entry_of_command, entry_of_step, queue_after_operation, queue_after_answer, queue_after_command, queue_after_step, age_after_begin, age_after_command, age_after_step, callers_after_one, callers_after, log_of_replies, queue_after, next_after, AreHeard}
+use Rattle.tab_model.specs.Callers.{Caller, Callers, caller_with_move, caller_anew, AnswerKind, Made, kind_of, after_operation, after_answer, after_begin, hears_command, hears, commit_entry, schema_entry, subscription_entry, entry_of_command, entry_of_step, queue_after_operation, queue_after_answer, queue_after_command, queue_after_step, age_after_begin, age_after_command, age_after_step, AreHeard, Heard, silence, entry_of_call, hear, hear_all, heard_in}
 use Rattle.tab_model.proofs.SessionLists.{eq_true, itself, found, session_at-change, session_at-push, session_at-without, session_at-map, mapped}
 use Rattle.tab_model.proofs.OperationAnswers.{answers}
 use Rattle.tab_model.proofs.RefusalLaws.{without-filter}
@@ -40,7 +40,7 @@ use Rattle.tab_model.proofs.Schedules.{schedule_legal, schedule_told}
 use Rattle.tab_model.proofs.SoundSteps.{given_same, unwatched_same}
 
 -- a step of one session: all others' transactions and requests stay, and its own are what its caller then knows
-record Keeps (σ : State) (n : ℕ) (k : Caller) (τ : State) : Type 0 where
+pub record Keeps (σ : State) (n : ℕ) (k : Caller) (τ : State) : Type 0 where
   then_open : Option Transaction
   then_queued : Option Queued
   transactions : (m : ℕ) → transaction_at τ m ≡ (if m == n then then_open else transaction_at σ m)
@@ -134,11 +134,11 @@ is_made = answers (λ f r. kind_of r ≡ Made) (record { no_table = λ t. refl; 
 -- ---- one session's step
 
 -- a step is heard: what the caller then knows is what the core then has, and so is the entry
-record IsHeard (σ : State) (n : ℕ) (k : Caller) (over : List ℕ) (a : Ask) (o : Outcome) : Type 0 where
-  keeps : Keeps σ n (hears k a o.reply) o.state
-  entry : entry_of_step n over k a o.reply ≡ o.entry
-  queue : queue_after_step n k a o.reply σ.queue ≡ o.state.queue
-  next : age_after_step k a o.reply σ.next_age ≡ o.state.next_age
+pub record IsHeard (σ : State) (n : ℕ) (k : Caller) (over : List ℕ) (a : Ask) (o : Outcome) : Type 0 where
+  pub keeps : Keeps σ n (hears k a o.reply) o.state
+  pub entry : entry_of_step n over k a o.reply ≡ o.entry
+  pub queue : queue_after_step n k a o.reply σ.queue ≡ o.state.queue
+  pub next : age_after_step k a o.reply σ.next_age ≡ o.state.next_age
 
 abbrev WaitsFor : State → ℕ → Caller → Option Queued → Type 0
 WaitsFor σ n k p = (q : Queued) → p ≡ Some q → k.queued ≡ Some q.operation
@@ -222,11 +222,11 @@ module _ (σ : State) (s : Session) (k : Caller) (here : session_at σ.sessions 
   stay : Keeps σ s.number k σ
   stay = kept σ s.number k waits aged mine_at
 
-  abbrev Heard : List ℕ → Ask → Outcome → Type 0
-  Heard over a o = IsHeard σ s.number k over a o
+  abbrev IsHeardAs : List ℕ → Ask → Outcome → Type 0
+  IsHeardAs over a o = IsHeard σ s.number k over a o
 
   -- nothing is done
-  nothing_heard : (over : List ℕ) (a : Ask) (r : Reply) → hears k a r ≡ k → entry_of_step s.number over k a r ≡ None → queue_after_step s.number k a r σ.queue ≡ σ.queue → age_after_step k a r σ.next_age ≡ σ.next_age → Heard over a (step_without_entry σ r)
+  nothing_heard : (over : List ℕ) (a : Ask) (r : Reply) → hears k a r ≡ k → entry_of_step s.number over k a r ≡ None → queue_after_step s.number k a r σ.queue ≡ σ.queue → age_after_step k a r σ.next_age ≡ σ.next_age → IsHeardAs over a (step_without_entry σ r)
   nothing_heard over a r h e q x = record { keeps = subst (λ (y : Caller). Keeps σ s.number y σ) (sym h) stay; entry = e; queue = q; next = x }
 
   -- its session and the queue change
@@ -256,7 +256,7 @@ module _ (σ : State) (s : Session) (k : Caller) (here : session_at σ.sessions 
       own u true h = cc
       own u false h = let same : with_move t x (reply_to (mid_of σ t) x) ≡ u = cc in ap (λ (v : Transaction). with_move v x (reply_to (mid_of σ t) x)) (mine t e) ∙ same
 
-  decided_heard : (over : List ℕ) (t : Transaction) (o : Operation) (a : Answer) → s.transaction ≡ Some t → is_waiting σ s.number ≡ false → Heard over (DoCommand (command.Do o)) (by_lock_answer σ s t o a)
+  decided_heard : (over : List ℕ) (t : Transaction) (o : Operation) (a : Answer) → s.transaction ≡ Some t → is_waiting σ s.number ≡ false → IsHeardAs over (DoCommand (command.Do o)) (by_lock_answer σ s t o a)
   decided_heard over t o Granted e free = record {
     keeps = subst (λ (z : AnswerKind). Keeps σ s.number (after_operation k o (make σ s t (Do o) reply.Done).reply z) (make σ s t (Do o) reply.Done).state) (sym (is_made (find (mid_of σ t).now (table_of o)) o))
         (made_kept σ.queue (request_in σ.queue s.number) t (Do o) reply.Done e same_requests waits);
@@ -287,15 +287,15 @@ module _ (σ : State) (s : Session) (k : Caller) (here : session_at σ.sessions 
     next = refl;
   }
 
-  within_heard : (over : List ℕ) (t : Transaction) (o : Operation) (b : Bool) → s.transaction ≡ Some t → is_waiting σ s.number ≡ false → Heard over (DoCommand (command.Do o)) (within_limit σ s t o b)
+  within_heard : (over : List ℕ) (t : Transaction) (o : Operation) (b : Bool) → s.transaction ≡ Some t → is_waiting σ s.number ≡ false → IsHeardAs over (DoCommand (command.Do o)) (within_limit σ s t o b)
   within_heard over t o false e free = nothing_heard over (DoCommand (command.Do o)) _ refl refl refl refl
   within_heard over t o true e free = decided_heard over t o _ e free
 
-  operate_heard : (over : List ℕ) (o : Operation) (x : Option Transaction) → s.transaction ≡ x → is_waiting σ s.number ≡ false → Heard over (DoCommand (command.Do o)) (operate σ s o x)
+  operate_heard : (over : List ℕ) (o : Operation) (x : Option Transaction) → s.transaction ≡ x → is_waiting σ s.number ≡ false → IsHeardAs over (DoCommand (command.Do o)) (operate σ s o x)
   operate_heard over o None e free = nothing_heard over (DoCommand (command.Do o)) _ refl refl refl refl
   operate_heard over o (Some t) e free = within_heard over t o _ e free
 
-  retried_heard : (over : List ℕ) (t : Transaction) (q : Queued) (b : Bool) → s.transaction ≡ Some t → request_in σ.queue s.number ≡ Some q → Heard over Retry (try_again σ s t q.operation b)
+  retried_heard : (over : List ℕ) (t : Transaction) (q : Queued) (b : Bool) → s.transaction ≡ Some t → request_in σ.queue s.number ≡ Some q → IsHeardAs over Retry (try_again σ s t q.operation b)
   retried_heard over t q false e asked = nothing_heard over Retry _ refl refl refl refl
   retried_heard over t q true e asked = record {
     keeps = subst (λ (z : AnswerKind). Keeps σ s.number (after_answer k R z k.queued) τ) (sym (is_made (find (mid_of σ t).now (table_of q.operation)) q.operation))
@@ -312,11 +312,11 @@ module _ (σ : State) (s : Session) (k : Caller) (here : session_at σ.sessions 
       R : Reply
       R = (try_again σ s t q.operation true).reply
 
-  retry_in_heard : (over : List ℕ) (q : Queued) (x : Option Transaction) → s.transaction ≡ x → request_in σ.queue s.number ≡ Some q → Heard over Retry (retry_in σ s q.operation x)
+  retry_in_heard : (over : List ℕ) (q : Queued) (x : Option Transaction) → s.transaction ≡ x → request_in σ.queue s.number ≡ Some q → IsHeardAs over Retry (retry_in σ s q.operation x)
   retry_in_heard over q None e asked = nothing_heard over Retry _ refl refl refl refl
   retry_in_heard over q (Some t) e asked = retried_heard over t q _ e asked
 
-  retry_heard : (over : List ℕ) (q : Option Queued) → request_in σ.queue s.number ≡ q → Heard over Retry (retry σ s q)
+  retry_heard : (over : List ℕ) (q : Option Queued) → request_in σ.queue s.number ≡ q → IsHeardAs over Retry (retry σ s q)
   retry_heard over None asked = nothing_heard over Retry _ refl refl refl refl
   retry_heard over (Some q) asked = retry_in_heard over q s.transaction refl asked
 
@@ -327,7 +327,7 @@ module _ (σ : State) (s : Session) (k : Caller) (here : session_at σ.sessions 
       (λ u h. cc) (omega arith))
 
   open_heard : (over : List ℕ) (a : Ask) (b : Bool) → ((r : Reply) → hears k a r ≡ after_begin k r) → ((r : Reply) → entry_of_step s.number over k a r ≡ None) → ((r : Reply) → queue_after_step s.number k a r σ.queue ≡ σ.queue)
-      → ((r : Reply) → age_after_step k a r σ.next_age ≡ age_after_begin k r σ.next_age) → Heard over a (open_level_1 σ s b)
+      → ((r : Reply) → age_after_step k a r σ.next_age ≡ age_after_begin k r σ.next_age) → IsHeardAs over a (open_level_1 σ s b)
   open_heard over a false h e q x = nothing_heard over a _ (h (reply.SystemLimit limit.Ages)) (e (reply.SystemLimit limit.Ages)) (q (reply.SystemLimit limit.Ages)) (x (reply.SystemLimit limit.Ages))
   open_heard over a true h e q x = record {
     keeps = subst (λ (y : Caller). Keeps σ s.number y (open_level_1 σ s true).state) (sym (h (reply.Tid σ.next_age))) opened_kept;
@@ -336,7 +336,7 @@ module _ (σ : State) (s : Session) (k : Caller) (here : session_at σ.sessions 
     next = x (reply.Tid σ.next_age) ∙ ap (λ (b : Bool). if b then σ.next_age else σ.next_age + 1) (below_differs k.transaction.age σ.next_age aged);
   }
 
-  nested_heard : (over : List ℕ) (t : Transaction) (a b : Bool) → s.transaction ≡ Some t → Heard over (DoCommand command.Begin) (open_child σ s t a b)
+  nested_heard : (over : List ℕ) (t : Transaction) (a b : Bool) → s.transaction ≡ Some t → IsHeardAs over (DoCommand command.Begin) (open_child σ s t a b)
   nested_heard over t false b e = nothing_heard over (DoCommand command.Begin) _ refl refl refl refl
   nested_heard over t true false e = nothing_heard over (DoCommand command.Begin) _ refl refl refl refl
   nested_heard over t true true e = record {
@@ -350,15 +350,15 @@ module _ (σ : State) (s : Session) (k : Caller) (here : session_at σ.sessions 
       own_age : (k.transaction.age == (mid_of σ t).age) ≡ true
       own_age = ap (λ (a : ℕ). k.transaction.age == a) (after-age (start σ.tables t.age) t.moves ∙ sym (ap (λ (v : Transaction). v.age) (mine t e))) ∙ itself k.transaction.age
 
-  begin_heard : (over : List ℕ) (x : Option Transaction) → s.transaction ≡ x → Heard over (DoCommand command.Begin) (begin σ s x)
+  begin_heard : (over : List ℕ) (x : Option Transaction) → s.transaction ≡ x → IsHeardAs over (DoCommand command.Begin) (begin σ s x)
   begin_heard over None e = open_heard over (DoCommand command.Begin) _ (λ r. refl) (λ r. refl) (λ r. refl) (λ r. refl)
   begin_heard over (Some t) e = nested_heard over t _ _ e
 
-  one_shot_heard : (over : List ℕ) (parts : List Part) (retries : ℕ) (x : Option Transaction) → Heard over (DoCommand (command.OneShot parts retries)) (one_shot σ s x)
+  one_shot_heard : (over : List ℕ) (parts : List Part) (retries : ℕ) (x : Option Transaction) → IsHeardAs over (DoCommand (command.OneShot parts retries)) (one_shot σ s x)
   one_shot_heard over parts retries None = open_heard over (DoCommand (command.OneShot parts retries)) _ (λ r. refl) (λ r. refl) (λ r. refl) (λ r. refl)
   one_shot_heard over parts retries (Some t) = nothing_heard over (DoCommand (command.OneShot parts retries)) _ refl refl refl refl
 
-  abort_heard : (over : List ℕ) (r : Term) (x : Option Transaction) → s.transaction ≡ x → Heard over (DoCommand (command.Abort r)) (abort σ s r x)
+  abort_heard : (over : List ℕ) (r : Term) (x : Option Transaction) → s.transaction ≡ x → IsHeardAs over (DoCommand (command.Abort r)) (abort σ s r x)
   abort_heard over r None e = nothing_heard over (DoCommand (command.Abort r)) _ refl refl refl refl
   abort_heard over r (Some t) e = record {
     keeps = made_kept (without_request σ.queue s.number) None t Undo (reply.UserAbort r) e (request_in-without σ.queue s.number) (λ p h. cc);
@@ -368,7 +368,7 @@ module _ (σ : State) (s : Session) (k : Caller) (here : session_at σ.sessions 
   }
 
   -- a commit's entry has the moves that its caller knows
-  commit_at_heard : (over : List ℕ) (t : Transaction) (b : Bool) → s.transaction ≡ Some t → Heard over (DoCommand command.Commit) (commit_at σ over s t b)
+  commit_at_heard : (over : List ℕ) (t : Transaction) (b : Bool) → s.transaction ≡ Some t → IsHeardAs over (DoCommand command.Commit) (commit_at σ over s t b)
   commit_at_heard over t false e = record { keeps = made_kept σ.queue (request_in σ.queue s.number) t Close reply.Done e same_requests waits; entry = refl; queue = refl; next = refl }
   commit_at_heard over t true e = record {
     keeps = record {
@@ -392,11 +392,11 @@ module _ (σ : State) (s : Session) (k : Caller) (here : session_at σ.sessions 
       same : (x : Session) → ((f x).number ≡ x.number) × ((f x).transaction ≡ x.transaction)
       same x = given_same (σ.commits + 1) over (batch_to (σ.commits + 1) (events_now σ t) x) x
 
-  commit_heard : (over : List ℕ) (x : Option Transaction) → s.transaction ≡ x → Heard over (DoCommand command.Commit) (commit σ over s x)
+  commit_heard : (over : List ℕ) (x : Option Transaction) → s.transaction ≡ x → IsHeardAs over (DoCommand command.Commit) (commit σ over s x)
   commit_heard over None e = nothing_heard over (DoCommand command.Commit) _ refl refl refl refl
   commit_heard over (Some t) e = commit_at_heard over t _ e
 
-  schema_if_heard : (over : List ℕ) (c : Schema) (r : Option Reply) (busy room : Bool) → NoEntry (schema_entry over c) r → Heard over (DoCommand (command.Schema c)) (schema_if σ over c r busy room)
+  schema_if_heard : (over : List ℕ) (c : Schema) (r : Option Reply) (busy room : Bool) → NoEntry (schema_entry over c) r → IsHeardAs over (DoCommand (command.Schema c)) (schema_if σ over c r busy room)
   schema_if_heard over c (Some r) busy room h = nothing_heard over (DoCommand (command.Schema c)) r refl h refl refl
   schema_if_heard over c None true room h = nothing_heard over (DoCommand (command.Schema c)) _ refl refl refl refl
   schema_if_heard over c None false false h = nothing_heard over (DoCommand (command.Schema c)) _ refl refl refl refl
@@ -422,7 +422,7 @@ module _ (σ : State) (s : Session) (k : Caller) (here : session_at σ.sessions 
       same : (x : Session) → ((f x).number ≡ x.number) × ((f x).transaction ≡ x.transaction)
       same x = let a = given_same (σ.commits + 1) over (end_to (removed_table c) x) (without_deleted (removed_table c) x) in let b = unwatched_same (removed_table c) x in (a.0 ∙ b.0, a.1 ∙ b.1)
 
-  schema_heard : (over : List ℕ) (c : Schema) (x : Option Transaction) → Heard over (DoCommand (command.Schema c)) (schema σ over c x)
+  schema_heard : (over : List ℕ) (c : Schema) (x : Option Transaction) → IsHeardAs over (DoCommand (command.Schema c)) (schema σ over c x)
   schema_heard over c (Some t) = nothing_heard over (DoCommand (command.Schema c)) _ refl refl refl refl
   schema_heard over c None = schema_if_heard over c (schema_refusal σ.tables c) _ _ (schema_none over σ.tables c)
 
@@ -431,7 +431,7 @@ module _ (σ : State) (s : Session) (k : Caller) (here : session_at σ.sessions 
   same_kept x num same τ sessions queue next = session_kept τ x k (request_in σ.queue s.number) num sessions (omega (arith, next)) (λ m. ap (λ (qs : List Queued). request_in qs m) queue ∙ same_requests m) waits
       (λ u h. mine u (sym same ∙ h)) (subst (λ (a : ℕ). k.transaction.age < a) (sym next) aged)
 
-  marked_heard : (over : List ℕ) (c : Command) (full : Bool) (ws : List Watch) (x : Item) (e : Entry) → ((r : Reply) → hears_command k c r ≡ k) → ((r : Reply) → entry_of_command s.number over k c r ≡ subscription_entry e r) → ((r : Reply) → queue_after_command s.number k c r σ.queue ≡ σ.queue) → ((r : Reply) → age_after_command k c r σ.next_age ≡ σ.next_age) → Heard over (DoCommand c) (put_marker σ full s ws x e)
+  marked_heard : (over : List ℕ) (c : Command) (full : Bool) (ws : List Watch) (x : Item) (e : Entry) → ((r : Reply) → hears_command k c r ≡ k) → ((r : Reply) → entry_of_command s.number over k c r ≡ subscription_entry e r) → ((r : Reply) → queue_after_command s.number k c r σ.queue ≡ σ.queue) → ((r : Reply) → age_after_command k c r σ.next_age ≡ σ.next_age) → IsHeardAs over (DoCommand c) (put_marker σ full s ws x e)
   marked_heard over c true ws x e h g q y = record {
     keeps = subst (λ (y : Caller). Keeps σ s.number y (put_marker σ true s ws x e).state) (sym (h reply.OutboxFull)) (same_kept _ refl refl (put_marker σ true s ws x e).state refl refl refl);
     entry = g reply.OutboxFull;
@@ -445,15 +445,15 @@ module _ (σ : State) (s : Session) (k : Caller) (here : session_at σ.sessions 
     next = y reply.SubscribedHere;
   }
 
-  subscribe_heard : (over : List ℕ) (t : List ℕ) (l : Level) (dump : Bool) (r : Option Reply) → NoEntry (subscription_entry (Subscribed s.number t l dump)) r → Heard over (DoCommand (command.Subscribe t l dump)) (subscribe_if σ over s t l dump r)
+  subscribe_heard : (over : List ℕ) (t : List ℕ) (l : Level) (dump : Bool) (r : Option Reply) → NoEntry (subscription_entry (Subscribed s.number t l dump)) r → IsHeardAs over (DoCommand (command.Subscribe t l dump)) (subscribe_if σ over s t l dump r)
   subscribe_heard over t l dump (Some r) h = nothing_heard over (DoCommand (command.Subscribe t l dump)) r refl h refl refl
   subscribe_heard over t l dump None h = marked_heard over (command.Subscribe t l dump) _ _ _ (Subscribed s.number t l dump) (λ r. refl) (λ r. refl) (λ r. refl) (λ r. refl)
 
-  unsubscribe_heard : (over : List ℕ) (t : List ℕ) (l : Level) (b : Bool) → Heard over (DoCommand (command.Unsubscribe t l)) (unsubscribe_if σ over s t b)
+  unsubscribe_heard : (over : List ℕ) (t : List ℕ) (l : Level) (b : Bool) → IsHeardAs over (DoCommand (command.Unsubscribe t l)) (unsubscribe_if σ over s t b)
   unsubscribe_heard over t l false = nothing_heard over (DoCommand (command.Unsubscribe t l)) _ refl refl refl refl
   unsubscribe_heard over t l true = marked_heard over (command.Unsubscribe t l) _ _ _ (Unsubscribed s.number t) (λ r. refl) (λ r. refl) (λ r. refl) (λ r. refl)
 
-  do_heard : (over : List ℕ) (c : Command) → (is_waiting σ s.number && not (is_abort c)) ≡ false → Heard over (DoCommand c) (do_command σ over s c)
+  do_heard : (over : List ℕ) (c : Command) → (is_waiting σ s.number && not (is_abort c)) ≡ false → IsHeardAs over (DoCommand c) (do_command σ over s c)
   do_heard over (command.Schema c) free = schema_heard over c s.transaction
   do_heard over (command.TableInfo t i) free = nothing_heard over (DoCommand (command.TableInfo t i)) _ refl refl refl refl
   do_heard over command.Begin free = begin_heard over s.transaction refl
@@ -476,16 +476,16 @@ module _ (σ : State) (s : Session) (k : Caller) (here : session_at σ.sessions 
   waiting_now over (command.Unsubscribe t l) = (refl, refl, refl, refl)
   waiting_now over (command.OneShot parts retries) = (refl, refl, refl, refl)
 
-  command_heard : (over : List ℕ) (c : Command) (b : Bool) → (is_waiting σ s.number && not (is_abort c)) ≡ b → Heard over (DoCommand c) (command_if σ over s c b)
+  command_heard : (over : List ℕ) (c : Command) (b : Bool) → (is_waiting σ s.number && not (is_abort c)) ≡ b → IsHeardAs over (DoCommand c) (command_if σ over s c b)
   command_heard over c true free = nothing_heard over (DoCommand c) _ (waiting_now over c).0 (waiting_now over c).1 (waiting_now over c).2 (waiting_now over c).3
   command_heard over c false free = do_heard over c free
 
-  give_heard : (over : List ℕ) (xs : List Item) (l : Option ℕ) → Heard over Take (give σ s xs l)
+  give_heard : (over : List ℕ) (xs : List Item) (l : Option ℕ) → IsHeardAs over Take (give σ s xs l)
   give_heard over (x ∷ xs) l = record { keeps = same_kept _ refl refl (give σ s (x ∷ xs) l).state refl refl refl; entry = refl; queue = refl; next = refl }
   give_heard over [] None = nothing_heard over Take _ refl refl refl refl
   give_heard over [] (Some m) = record { keeps = same_kept _ refl refl (give σ s [] (Some m)).state refl refl refl; entry = refl; queue = refl; next = refl }
 
-  leave_heard : (over : List ℕ) → Heard over Leave (leave σ s)
+  leave_heard : (over : List ℕ) → IsHeardAs over Leave (leave σ s)
   leave_heard over = record {
     keeps = record {
       then_open = None;
@@ -502,7 +502,7 @@ module _ (σ : State) (s : Session) (k : Caller) (here : session_at σ.sessions 
     next = refl;
   }
 
-  seated_heard : (over : List ℕ) (a : Ask) → Heard over a (step_of_joined σ over s a)
+  seated_heard : (over : List ℕ) (a : Ask) → IsHeardAs over a (step_of_joined σ over s a)
   seated_heard over (Join b) = nothing_heard over (Join b) _ refl refl refl refl
   seated_heard over Leave = leave_heard over
   seated_heard over Retry = retry_heard over _ refl
@@ -556,7 +556,7 @@ module _ (σ : State) (n : ℕ) (k : Caller) (none : session_at σ.sessions n �
 
 -- ---- steps and schedules
 
-step_is_heard : (σ : State) (over : List ℕ) (n : ℕ) (a : Ask) (ks : Callers) → AreHeard σ ks → IsHeard σ n (ks n) over a (outcome σ over n a)
+pub step_is_heard : (σ : State) (over : List ℕ) (n : ℕ) (a : Ask) (ks : Callers) → AreHeard σ ks → IsHeard σ n (ks n) over a (outcome σ over n a)
 unfolding outcome
 step_is_heard σ over n a ks heard = cases (session_at σ.sessions n) refl
   where
@@ -570,59 +570,42 @@ step_is_heard σ over n a ks heard = cases (session_at σ.sessions n) refl
     cases (Some s) here = subst (λ (m : ℕ). IsHeard σ m (ks m) over a (step_of_joined σ over s a)) (found σ.sessions s n here) (at_session s n (found σ.sessions s n here) here)
 
 -- each step keeps callers' knowledge right, and its entry is the one that they tell
-pub step_heard : (σ : State) (ks : Callers) (c : Call) → AreHeard σ ks → AreHeard (outcome_of σ c).state (callers_after_one ks c (outcome_of σ c).reply) × (entry_of_step c.session c.over (ks c.session) c.ask (outcome_of σ c).reply ≡ (outcome_of σ c).entry)
-step_heard σ ks c heard =
-    let h = step_is_heard σ c.over c.session c.ask ks heard in
-    (keeps_heard σ (outcome_of σ c).state c.session _ ks heard h.keeps, h.entry)
+pub step_heard : (σ : State) (h : Heard) (c : Call) → AreHeard σ h.callers → let r = (outcome_of σ c).reply in AreHeard (outcome_of σ c).state (hear h c r).callers × (entry_of_call h c r ≡ (outcome_of σ c).entry)
+step_heard σ h c heard =
+    let is = step_is_heard σ c.over c.session c.ask h.callers heard in
+    (keeps_heard σ (outcome_of σ c).state c.session _ h.callers heard is.keeps, is.entry)
 
-pub run_heard : (σ : State) (ks : Callers) (calls : List Call) → AreHeard σ ks → AreHeard (after_all σ calls) (callers_after ks calls (replies_of σ calls)) × (log_of σ calls ≡ log_of_replies ks calls (replies_of σ calls))
-run_heard σ ks [] heard = (heard, refl)
-run_heard σ ks (c ∷ calls) heard =
-    let h = step_heard σ ks c heard in
-    let rest = run_heard (outcome_of σ c).state (callers_after_one ks c (outcome_of σ c).reply) calls h.0 in
-    (rest.0, λ i. entries (sym h.1 i) ++ rest.1 i)
+-- the log of a run is what its callers hear
+pub run_log : (σ : State) (h : Heard) (calls : List Call) → AreHeard σ h.callers → (hear_all h calls (replies_of σ calls)).log ≡ h.log ++ log_of σ calls
+run_log σ h [] heard = sym (append-nil h.log)
+run_log σ h (c ∷ calls) heard =
+    let one = step_heard σ h c heard in
+    run_log (outcome_of σ c).state (hear h c (outcome_of σ c).reply) calls one.0
+    ∙ ap (λ (e : Option Entry). (h.log ++ entries e) ++ log_of (outcome_of σ c).state calls) one.1
+    ∙ append_assoc h.log (entries (outcome_of σ c).entry) (log_of (outcome_of σ c).state calls)
 
-pub new_heard : (limits : Limits) → AreHeard (new limits) newcomers
+pub run_heard : (σ : State) (h : Heard) (calls : List Call) → AreHeard σ h.callers → AreHeard (after_all σ calls) (hear_all h calls (replies_of σ calls)).callers
+run_heard σ h [] heard = heard
+run_heard σ h (c ∷ calls) heard = run_heard (outcome_of σ c).state (hear h c (outcome_of σ c).reply) calls (step_heard σ h c heard).0
+
+pub new_heard : (limits : Limits) → AreHeard (new limits) silence.callers
 new_heard limits = record { known = λ n t e. cc; waits = λ n q e. cc; aged = λ n. omega arith }
 
 -- for every schedule the log is the one that its callers tell
-pub schedule_log : (limits : Limits) (calls : List Call) → log_of (new limits) calls ≡ log_of_replies newcomers calls (replies_of (new limits) calls)
-schedule_log limits calls = (run_heard (new limits) newcomers calls (new_heard limits)).1
+pub schedule_log : (limits : Limits) (calls : List Call) → log_of (new limits) calls ≡ (heard_in limits calls).log
+schedule_log limits calls = sym (run_log (new limits) silence calls (new_heard limits))
 
 -- and each open transaction is what its caller knows
-pub schedule_open : (limits : Limits) (calls : List Call) (n : ℕ) (t : Transaction) → transaction_at (after_all (new limits) calls) n ≡ Some t → (callers_after newcomers calls (replies_of (new limits) calls) n).transaction ≡ t
-schedule_open limits calls n t e = (run_heard (new limits) newcomers calls (new_heard limits)).0.known n t e
-
--- and each queued operation the one that its caller was last told to wait for
-pub schedule_queued : (limits : Limits) (calls : List Call) (n : ℕ) (q : Queued) → request_in (after_all (new limits) calls).queue n ≡ Some q → (callers_after newcomers calls (replies_of (new limits) calls) n).queued ≡ Some q.operation
-schedule_queued limits calls n q e = (run_heard (new limits) newcomers calls (new_heard limits)).0.waits n q e
-
--- the queue and the next age are those that callers tell
-run_queue : (σ : State) (ks : Callers) (calls : List Call) → AreHeard σ ks → (after_all σ calls).queue ≡ queue_after ks σ.queue calls (replies_of σ calls)
-run_queue σ ks [] heard = refl
-run_queue σ ks (c ∷ calls) heard =
-    run_queue (outcome_of σ c).state (callers_after_one ks c (outcome_of σ c).reply) calls (step_heard σ ks c heard).0
-    ∙ ap (λ qs. queue_after (callers_after_one ks c (outcome_of σ c).reply) qs calls (replies_of (outcome_of σ c).state calls)) (sym (step_is_heard σ c.over c.session c.ask ks heard).queue)
-
-run_next : (σ : State) (ks : Callers) (calls : List Call) → AreHeard σ ks → (after_all σ calls).next_age ≡ next_after ks σ.next_age calls (replies_of σ calls)
-run_next σ ks [] heard = refl
-run_next σ ks (c ∷ calls) heard =
-    run_next (outcome_of σ c).state (callers_after_one ks c (outcome_of σ c).reply) calls (step_heard σ ks c heard).0
-    ∙ ap (λ a. next_after (callers_after_one ks c (outcome_of σ c).reply) a calls (replies_of (outcome_of σ c).state calls)) (sym (step_is_heard σ c.over c.session c.ask ks heard).next)
-
-pub schedule_queue : (limits : Limits) (calls : List Call) → (after_all (new limits) calls).queue ≡ queue_after newcomers [] calls (replies_of (new limits) calls)
-schedule_queue limits calls = run_queue (new limits) newcomers calls (new_heard limits)
-
-pub schedule_next : (limits : Limits) (calls : List Call) → (after_all (new limits) calls).next_age ≡ next_after newcomers 1 calls (replies_of (new limits) calls)
-schedule_next limits calls = run_next (new limits) newcomers calls (new_heard limits)
+schedule_open : (limits : Limits) (calls : List Call) (n : ℕ) (t : Transaction) → transaction_at (after_all (new limits) calls) n ≡ Some t → ((heard_in limits calls).callers n).transaction ≡ t
+schedule_open limits calls n t e = (run_heard (new limits) silence calls (new_heard limits)).known n t e
 
 -- what callers were told is legal
-pub schedule_heard_legal : (limits : Limits) (calls : List Call) → AllJoinEmpty calls → IsLegal [] 0 (log_of_replies newcomers calls (replies_of (new limits) calls))
+pub schedule_heard_legal : (limits : Limits) (calls : List Call) → AllJoinEmpty calls → IsLegal [] 0 (heard_in limits calls).log
 schedule_heard_legal limits calls empty = subst (λ (log : List Entry). IsLegal [] 0 log) (schedule_log limits calls) (schedule_legal limits calls empty)
 
 -- and right on the tables as they are, in each open transaction
 pub schedule_heard_told : (limits : Limits) (calls : List Call) (n : ℕ) (t : Transaction) → transaction_at (after_all (new limits) calls) n ≡ Some t
-    → let k = (callers_after newcomers calls (replies_of (new limits) calls) n).transaction in replies (start (after_all (new limits) calls).tables k.age) k.moves ≡ k.told
+    → let k = ((heard_in limits calls).callers n).transaction in replies (start (after_all (new limits) calls).tables k.age) k.moves ≡ k.told
 schedule_heard_told limits calls n t e =
     subst (λ (v : Transaction). replies (start (after_all (new limits) calls).tables v.age) v.moves ≡ v.told) (sym (schedule_open limits calls n t e))
     (subst (λ (o : Option Transaction). replies (start (after_all (new limits) calls).tables (age_in o)) (moves_in o) ≡ replies_in o) e (schedule_told limits calls n))

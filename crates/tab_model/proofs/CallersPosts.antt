@@ -1,5 +1,5 @@
 -- The posts that callers tell are the core's: their refusals, and the overflows that were not told yet.
-use Rattle.std.proofs.Common.{◌≡◌, ℕ, ◌+◌, List, [], ◌∷◌, Bool, true, false, not, refl, sym, ap, ◌∙◌, subst, Option, Some, None}
+use Rattle.std.proofs.Common.{◌≡◌, ℕ, ◌+◌, List, [], ◌∷◌, ◌++◌, Bool, true, false, not, refl, sym, ap, ◌∙◌, subst, Option, Some, None}
 use Rattle.std.specs.Prelude.{◌==◌, if◌then◌else◌, is_some, map}
 use Rattle.tab_term.specs.declared.term.Term.{Term}
 use Rattle.tab_model.specs.declared.data.Operation.{Operation}
@@ -17,15 +17,15 @@ use Rattle.tab_model.specs.declared.data.Command.TheVariants as command
 use Rattle.tab_model.specs.Catalogs.{find}
 use Rattle.tab_model.specs.Ages.{Answer, Granted, Wait, Die}
 use Rattle.tab_model.specs.Schemas.{removed_table}
-use Rattle.tab_model.specs.Log.{has_session, commits_from}
+use Rattle.tab_model.specs.Log.{has_session, count_after, commits_from}
 use Rattle.tab_model.specs.State.{Transaction, Outbox, Watch, Session, Queued, State, new, session_at, level_in}
 use Rattle.tab_model.specs.Outcome.{Ask, Join, Leave, Retry, Take, DoCommand, Outcome, outcome, step_without_entry, with_transaction, with_changed, after_overflow, with_items, make, by_lock_answer, operate, retry_in, retry, begin, one_shot, abort, after_put, batch_to, end_to, without_deleted, commit, events_now, schema, put_marker, subscribe_refusal, do_command, give, leave, step_of_joined, fresh, step_of_stranger, step_of}
 use Rattle.tab_model.proofs.StepCases.{within_limit, try_again, open_level_1, open_child, commit_at, schema_if, subscribe_refusal_if, subscribe_if, unsubscribe_if, command_if, join_if}
 use Rattle.tab_model.specs.Run.{Call, outcome_of, after_all, entries, replies_of}
-use Rattle.tab_model.specs.Callers.{Callers, newcomers, Post, no_post, with_overflow, post_after_entry, post_after_marker, post_after_command, post_after_answer, post_after_step, callers_after_one, entry_of_call, post_after, AreHeard}
+use Rattle.tab_model.specs.Callers.{Post, with_overflow, queue_after_step, age_after_step, post_after_entry, post_after_marker, post_after_command, post_after_answer, post_after_step, Heard, silence, entry_of_call, hear, hear_all, heard_in, AreHeard, IsAsTold}
 use Rattle.tab_model.proofs.SessionLists.{eq_true, found, session_at-change, session_at-push, session_at-without, session_at-map, mapped_some}
 use Rattle.tab_model.proofs.SoundSteps.{given_same, unwatched_same}
-use Rattle.tab_model.proofs.CallersLemmas.{new_heard, step_heard}
+use Rattle.tab_model.proofs.CallersLemmas.{IsHeard, new_heard, step_is_heard, step_heard}
 
 abbrev post_of : Session → Post
 post_of s = record { refusals = s.outbox.refusals; overflow = s.overflow }
@@ -281,34 +281,54 @@ step_posted σ over m a = cases (session_at σ.sessions m) refl
     cases None none = unseated_posted σ m a none
     cases (Some s) here = subst (λ (k : ℕ). IsPosted σ k a (step_of_joined σ over s a)) (found σ.sessions s m here) (seated_posted σ s (ap (session_at σ.sessions) (found σ.sessions s m here) ∙ here) over a)
 
-run_posts : (n : ℕ) (σ : State) (ks : Callers) (p : Post) (calls : List Call) → AreHeard σ ks → HasPost σ.sessions n p → HasPost (after_all σ calls).sessions n (post_after n ks σ.commits p calls (replies_of σ calls))
-run_posts n σ ks p [] heard has = has
-run_posts n σ ks p (c ∷ calls) heard has =
-    subst (λ (e : Option Entry). HasPost (after_all τ calls).sessions n (post_after n (callers_after_one ks c r) (commits_from σ.commits (entries e)) (post_after_step n σ.commits c.session c.ask r e p) calls (replies_of τ calls))) (sym h.1)
-    (subst (λ (i : ℕ). HasPost (after_all τ calls).sessions n (post_after n (callers_after_one ks c r) i (post_after_step n σ.commits c.session c.ask r (outcome_of σ c).entry p) calls (replies_of τ calls))) posted.commits
-    (run_posts n τ (callers_after_one ks c r) (post_after_step n σ.commits c.session c.ask r (outcome_of σ c).entry p) calls h.0 (posted.posts n p has)))
-  where
-    τ : State
-    τ = (outcome_of σ c).state
+commits_from-append : (c : ℕ) (xs ys : List Entry) → commits_from (commits_from c xs) ys ≡ commits_from c (xs ++ ys)
+commits_from-append c [] ys = refl
+commits_from-append c (x ∷ xs) ys = commits_from-append (count_after c x) xs ys
 
+told_post : (σ : State) (h : Heard) → IsAsTold σ h → (n : ℕ) → HasPost σ.sessions n (h.posts n)
+told_post σ h told n x e = λ i. record { refusals = told.refusals n x e i; overflow = told.overflow n x e i }
+
+-- a state that is as callers tell it stays so
+step_as_told : (σ : State) (h : Heard) (c : Call) → IsAsTold σ h → IsAsTold (outcome_of σ c).state (hear h c (outcome_of σ c).reply)
+step_as_told σ h c told = record {
+  callers = one.0;
+  commits = posted.commits
+      ∙ (λ i. commits_from (told.commits i) (entries (sym one.1 i)))
+      ∙ commits_from-append 0 h.log (entries (entry_of_call h c r));
+  queue = sym heard.queue ∙ ap (λ qs. queue_after_step c.session (h.callers c.session) c.ask r qs) told.queue;
+  next_age = sym heard.next ∙ ap (λ a. age_after_step (h.callers c.session) c.ask r a) told.next_age;
+  overflow = λ n s e. ap (λ (p : Post). p.overflow) (post n s e);
+  refusals = λ n s e. ap (λ (p : Post). p.refusals) (post n s e);
+}
+  where
     r : Reply
     r = (outcome_of σ c).reply
 
-    h : AreHeard τ (callers_after_one ks c r) × (entry_of_call ks c r ≡ (outcome_of σ c).entry)
-    h = step_heard σ ks c heard
+    τ : State
+    τ = (outcome_of σ c).state
+
+    one : AreHeard τ (hear h c r).callers × (entry_of_call h c r ≡ (outcome_of σ c).entry)
+    one = step_heard σ h c told.callers
+
+    heard : IsHeard σ c.session (h.callers c.session) c.over c.ask (outcome_of σ c)
+    heard = step_is_heard σ c.over c.session c.ask h.callers told.callers
 
     posted : IsPosted σ c.session c.ask (outcome_of σ c)
     posted = step_posted σ c.over c.session c.ask
 
--- for every schedule a joined session's post is the one that callers tell
-schedule_post : (limits : Limits) (calls : List Call) (n : ℕ) (s : Session) → session_at (after_all (new limits) calls).sessions n ≡ Some s → post_of s ≡ post_after n newcomers 0 no_post calls (replies_of (new limits) calls)
-schedule_post limits calls n s here = run_posts n (new limits) newcomers no_post calls (new_heard limits) (λ x e. cc) s here
+    post : (n : ℕ) → HasPost τ.sessions n ((hear h c r).posts n)
+    post n = subst (λ (e : Option Entry). HasPost τ.sessions n (post_after_step n (commits_from 0 h.log) c.session c.ask r e (h.posts n))) (sym one.1)
+        (subst (λ (i : ℕ). HasPost τ.sessions n (post_after_step n i c.session c.ask r (outcome_of σ c).entry (h.posts n))) told.commits
+        (posted.posts n (h.posts n) (told_post σ h told n)))
 
-pub schedule_overflow : (limits : Limits) (calls : List Call) (n : ℕ) (s : Session) → session_at (after_all (new limits) calls).sessions n ≡ Some s → s.overflow ≡ (post_after n newcomers 0 no_post calls (replies_of (new limits) calls)).overflow
-schedule_overflow limits calls n s here = ap (λ (p : Post). p.overflow) (schedule_post limits calls n s here)
+run_as_told : (σ : State) (h : Heard) (calls : List Call) → IsAsTold σ h → IsAsTold (after_all σ calls) (hear_all h calls (replies_of σ calls))
+run_as_told σ h [] told = told
+run_as_told σ h (c ∷ calls) told = run_as_told (outcome_of σ c).state (hear h c (outcome_of σ c).reply) calls (step_as_told σ h c told)
 
-pub schedule_refusals : (limits : Limits) (calls : List Call) (n : ℕ) (s : Session) → session_at (after_all (new limits) calls).sessions n ≡ Some s → s.outbox.refusals ≡ (post_after n newcomers 0 no_post calls (replies_of (new limits) calls)).refusals
-schedule_refusals limits calls n s here = ap (λ (p : Post). p.refusals) (schedule_post limits calls n s here)
+-- for every schedule the state is as its callers tell it
+pub schedule_as_told : (limits : Limits) (calls : List Call) → IsAsTold (after_all (new limits) calls) (heard_in limits calls)
+schedule_as_told limits calls =
+    run_as_told (new limits) silence calls (record { callers = new_heard limits; commits = refl; queue = refl; next_age = refl; overflow = λ n s e. cc; refusals = λ n s e. cc })
 
 -- a Take tells the overflow that its session has
 take_tells : (σ : State) (over : List ℕ) (n i : ℕ) → (outcome σ over n Take).reply ≡ reply.Overflow i → (s : Session) × (session_at σ.sessions n ≡ Some s) × (s.overflow ≡ Some i)
@@ -325,7 +345,7 @@ take_tells σ over n i = cases (session_at σ.sessions n) refl
     cases (Some s) e h = (s, e, by_items s _ _ refl h)
 
 -- so what a Take is told is what callers tell
-pub schedule_told_overflow : (limits : Limits) (calls : List Call) (over : List ℕ) (n i : ℕ) → (outcome (after_all (new limits) calls) over n Take).reply ≡ reply.Overflow i → (post_after n newcomers 0 no_post calls (replies_of (new limits) calls)).overflow ≡ Some i
+pub schedule_told_overflow : (limits : Limits) (calls : List Call) (over : List ℕ) (n i : ℕ) → (outcome (after_all (new limits) calls) over n Take).reply ≡ reply.Overflow i → ((heard_in limits calls).posts n).overflow ≡ Some i
 schedule_told_overflow limits calls over n i told =
     let t = take_tells (after_all (new limits) calls) over n i told in
-    sym (schedule_overflow limits calls n t.0 t.1) ∙ t.2
+    sym ((schedule_as_told limits calls).overflow n t.0 t.1) ∙ t.2

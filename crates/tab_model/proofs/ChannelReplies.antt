@@ -1,10 +1,9 @@
 -- Who is given an item by a step stays joined. A session with a channel's post is given none: its items are taken at the other end.
-use Rattle.std.proofs.Common.{◌≡◌, ℕ, List, [], ◌∷◌, Bool, true, false, refl, sym, ap, ◌∙◌, subst, Option, Some, None}
+use Rattle.std.proofs.Common.{◌≡◌, ℕ, List, [], ◌∷◌, Bool, true, false, refl, sym, ap, ◌∙◌, Option, Some, None}
 use Rattle.std.specs.Prelude.{◌==◌, if◌then◌else◌, nat_lt, length}
-use Rattle.std.specs.List.{AllByRecursion}
 use Rattle.tab_term.specs.declared.term.Term.{Term}
 use Rattle.tab_model.specs.declared.data.Operation.{Operation}
-use Rattle.tab_model.specs.declared.data.Move.TheVariants.{Do, Open, Close, Undo}
+use Rattle.tab_model.specs.declared.data.Move.TheVariants.{Do}
 use Rattle.tab_model.specs.declared.data.Item.{Item}
 use Rattle.tab_model.specs.declared.data.Level.{Level}
 use Rattle.tab_model.specs.declared.data.Entry.{Entry}

@@ -1,6 +1,6 @@
 -- Which steps may give an entry.
 use Rattle.std.proofs.Common.{◌≡◌, ◌↔◌, ℕ, suc, List, [], ◌∷◌, Bool, true, false, refl, sym, ap, ◌∙◌, arith, Option, Some, None}
-use Rattle.std.specs.Prelude.{◌^◌, ◌-◌, ◌==◌, ◌&&◌, not, min, nat_lt, nat_le, is_some, length}
+use Rattle.std.specs.Prelude.{◌^◌, ◌-◌, ◌==◌, min, nat_lt, is_some, length}
 use Rattle.std.proofs.lemmas.Bool.Decides.{nat_tests}
 use Rattle.tab_model.specs.declared.data.Level.{Level}
 use Rattle.tab_model.specs.declared.data.Entry.{Entry}
@@ -10,7 +10,6 @@ use Rattle.tab_model.specs.declared.data.Command.{Command}
 use Rattle.tab_model.specs.declared.data.Command.TheVariants as command
 use Rattle.tab_model.specs.Ages.{Answer, Granted, Wait, Die, decide, can_retry}
 use Rattle.tab_model.specs.Locks.{needs}
-use Rattle.tab_model.specs.Alone.{Mid}
 use Rattle.tab_model.specs.State.{Transaction, Session, Queued, State, session_at, transaction_in, transaction_at, ages_of, count_moves, mid_of}
 use Rattle.tab_model.specs.Outcome.{Ask, Join, Leave, Retry, Take, DoCommand, Outcome, outcome, is_empty, by_lock_answer, operate, retry_in, retry, begin, one_shot, abort, commit, do_command, give, step_of_joined, step_of_stranger, step_of}
 use Rattle.tab_model.proofs.StepCases.{within_limit, try_again, open_level_1, open_child, commit_at, command_if, join_if}

@@ -14,8 +14,8 @@ use Rattle.tab_model.specs.Events.{surviving, change_all}
 use Rattle.tab_model.proofs.SurvivorsRight.{survivors_are}
 use Rattle.tab_model.specs.Schemas.{removed_table, schema_refusal, schema_effect}
 use Rattle.tab_model.specs.Log.{count_after, catalog_after, serial, serial_from, level_after, in_force_from, level_if, has_session, is_removed, IsRight, IsLegal, commits_from}
-use Rattle.tab_model.specs.Slices.{expected, slice_after, slice}
-use Rattle.tab_model.specs.History.{tables_after, number_after, Subscription, Base, empty, is_of, level_at, in_force_since, expected_on, expected_since, slice_since_after, slice_since, IsHistory, outlasts, with_subscription, subscriptions_after, after_fold, Admits, without_subscriber}
+use Rattle.tab_model.specs.Slices.{expected_on, expected, slice_after, slice}
+use Rattle.tab_model.specs.History.{tables_after, number_after, Subscription, Base, empty, is_of, level_at, in_force_since, expected_since, slice_since_after, slice_since, IsHistory, outlasts, with_subscription, subscriptions_after, after_fold, Admits, without_subscriber}
 use Rattle.tab_model.proofs.SessionLists.{eq_true, itself, differs', serial-push, in_force-push, legal-push}
 
 -- whose a subscription is

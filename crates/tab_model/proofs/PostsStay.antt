@@ -1,13 +1,12 @@
 -- What a session's post is, its capacity and which mailbox it is, stays while it is joined.
 use Rattle.std.proofs.Common.{◌≡◌, ◌≤◌, arith, ℕ, suc, ◌+◌, List, [], ◌∷◌, ◌++◌, Bool, true, false, ◌&&◌, not, refl, sym, ap, ◌∙◌, subst, length, Option, Some, None}
-use Rattle.std.specs.Prelude.{◌==◌, ◌||◌, if◌then◌else◌, nat_lt, nat_le, is_some, IfSome, map}
-use Rattle.std.specs.List.{AllByRecursion, filter}
+use Rattle.std.specs.Prelude.{◌==◌, if◌then◌else◌, nat_lt, nat_le, map}
+use Rattle.std.specs.List.{AllByRecursion}
 use Rattle.tab_term.specs.declared.term.Term.{Term}
 use Rattle.tab_model.specs.declared.data.Item.{Item}
 use Rattle.tab_model.specs.declared.data.Entry.{Entry}
 use Rattle.tab_model.specs.declared.data.Level.{Level}
 use Rattle.tab_model.specs.declared.data.Operation.{Operation}
-use Rattle.tab_model.specs.declared.data.Move.{Move}
 use Rattle.tab_model.specs.declared.data.Reply.{Reply}
 use Rattle.tab_model.specs.declared.data.Schema.{Schema}
 use Rattle.tab_model.specs.declared.data.Command.{Command}

@@ -1,6 +1,6 @@
 -- A book stands over its journal: from its making, through each step, each fold and each leave.
-use Rattle.std.proofs.Common.{◌≡◌, ◌≢◌, ℕ, suc, ◌+◌, ◌<◌, ◌≤◌, ◌⊎◌, inl, inr, List, [], ◌∷◌, ◌++◌, Bool, true, false, refl, sym, ap, ◌∙◌, subst, arith, append-nil, append_assoc, Option, Some, None}
-use Rattle.std.specs.Prelude.{◌==◌, if◌then◌else◌, nat_lt, nat_le, is_some, length}
+use Rattle.std.proofs.Common.{◌≡◌, ℕ, ◌<◌, ◌≤◌, ◌⊎◌, inl, inr, List, [], ◌∷◌, ◌++◌, Bool, true, false, refl, sym, ap, ◌∙◌, subst, arith, append-nil, append_assoc, Option, Some, None}
+use Rattle.std.specs.Prelude.{◌==◌, if◌then◌else◌, nat_lt, is_some}
 use Rattle.std.proofs.lemmas.Bool.Decides.{nat_tests}
 use Rattle.tab_model.specs.declared.data.Item.{Item}
 use Rattle.tab_model.specs.declared.data.Item.TheVariants.{Began}
@@ -10,12 +10,12 @@ use Rattle.tab_model.specs.declared.data.Entry.{Entry}
 use Rattle.tab_model.specs.declared.data.Entry.TheVariants.{Committed, Changed, Subscribed, Unsubscribed}
 use Rattle.tab_model.specs.Catalogs.{Catalog}
 use Rattle.tab_model.specs.Log.{catalog_after, serial, serial_from, level_after, in_force, in_force_from, count_after, IsRight, IsLegal, commits_from}
-use Rattle.tab_model.specs.Slices.{dump_of, expected, slice_after, slice}
-use Rattle.tab_model.specs.History.{Base, empty, level_at, in_force_since, expected_on, expected_since, slice_since_after, slice_since, IsHistory, after_fold, Admits, without_subscriber}
-use Rattle.tab_model.specs.State.{Outbox, Session, State, new, session_at, level_in, IsSound}
+use Rattle.tab_model.specs.Slices.{dump_of, expected_on, expected, slice_after, slice}
+use Rattle.tab_model.specs.History.{Base, empty, level_at, in_force_since, expected_since, slice_since_after, slice_since, IsHistory, after_fold, Admits, without_subscriber}
+use Rattle.tab_model.specs.State.{Session, State, new, session_at, level_in, IsSound}
 use Rattle.tab_model.specs.Outcome.{Ask, Join, Leave, Retry, Take, DoCommand, step_of, without_session, outcome}
-use Rattle.tab_model.specs.Run.{entries, item_of, delivered_by, JoinsEmpty, IsTied, IsNew}
-use Rattle.tab_model.specs.Standing.{AreChannels, JoinsChannel, is_joined, MayFollow, IsFolded, FollowsLog, still_joined}
+use Rattle.tab_model.specs.Run.{entries, item_of, JoinsEmpty, IsTied}
+use Rattle.tab_model.specs.Standing.{JoinsChannel, is_joined, MayFollow, FollowsLog, still_joined}
 use Rattle.tab_model.proofs.SessionLists.{other_number, found, itself, session_at-without, serial_more, in_force_more, commits-push}
 use Rattle.tab_model.proofs.TiedSteps.{new_tied, step_tied}
 use Rattle.tab_model.proofs.PostsStay.{IsChannel, JoinsAs, channels_stay}

@@ -1,11 +1,10 @@
 -- Each step keeps the state tied to its log and to what its sessions have taken.
-use Rattle.std.proofs.Common.{◌≡◌, ℕ, ◌<◌, List, [], ◌∷◌, ◌++◌, Bool, true, false, refl, sym, ap, ◌∙◌, subst, arith, append-nil, append_assoc, Option, Some, None}
+use Rattle.std.proofs.Common.{◌≡◌, ℕ, ◌<◌, List, [], ◌++◌, Bool, true, false, refl, sym, ap, ◌∙◌, subst, arith, append-nil, append_assoc, Option, Some, None}
 use Rattle.std.specs.Prelude.{◌==◌, if◌then◌else◌}
 use Rattle.tab_model.specs.declared.data.Item.{Item}
 use Rattle.tab_model.specs.declared.data.Entry.{Entry}
 use Rattle.tab_model.specs.declared.data.Limits.{Limits}
 use Rattle.tab_model.specs.Catalogs.{Catalog}
-use Rattle.tab_model.specs.Log.{serial}
 use Rattle.tab_model.specs.Slices.{slice, slice_after}
 use Rattle.tab_model.specs.Since.{AllWereInForce, AllAged}
 use Rattle.tab_model.specs.State.{Session, State, new, session_at, IsSound}

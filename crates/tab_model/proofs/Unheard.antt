@@ -1,5 +1,6 @@
 -- What was not done tells its caller nothing.
-use Rattle.std.proofs.Common.{◌≡◌, ℕ, List, refl, sym, ap, ◌∙◌, Option, Some, None}
+use Rattle.std.proofs.Common.{◌≡◌, ℕ, List, ◌++◌, Bool, true, false, refl, sym, ap, ◌∙◌, append-nil, Option, Some, None}
+use Rattle.std.specs.Prelude.{◌==◌, if◌then◌else◌}
 use Rattle.tab_model.specs.declared.data.Entry.{Entry}
 use Rattle.tab_model.specs.declared.data.Reply.{Reply}
 use Rattle.tab_model.specs.declared.data.Reply.TheVariants as reply
@@ -8,9 +9,12 @@ use Rattle.tab_model.specs.declared.data.Command.{Command}
 use Rattle.tab_model.specs.declared.data.Command.TheVariants as command
 use Rattle.tab_model.specs.declared.data.Limit.{Limit}
 use Rattle.tab_model.specs.declared.data.Operation.{Operation}
+use Rattle.tab_model.specs.Log.{commits_from}
 use Rattle.tab_model.specs.State.{Outbox, Queued}
+use Rattle.tab_model.specs.Run.{entries}
+use Rattle.tab_model.proofs.CallersLemmas.{same_if}
 use Rattle.tab_model.specs.Outcome.{Ask, Join, Leave, Retry, Take, DoCommand}
-use Rattle.tab_model.specs.Callers.{Caller, AnswerKind, NotMade, kind_of, after_operation, after_answer, after_begin, after_close, after_undo, hears, hears_command, commit_entry, schema_entry, subscription_entry, entry_of_command, entry_of_step, queue_after_operation, queue_after_answer, queue_after_abort, queue_after_leave, queue_after_command, queue_after_step, age_after_begin, age_after_command, age_after_step, Post, post_after_join, post_after_take, post_after_marker, post_after_command, post_after_answer, IsUnheard}
+use Rattle.tab_model.specs.Callers.{Caller, AnswerKind, NotMade, kind_of, after_operation, after_answer, after_begin, after_close, after_undo, hears, hears_command, commit_entry, schema_entry, subscription_entry, entry_of_command, entry_of_step, queue_after_operation, queue_after_answer, queue_after_abort, queue_after_leave, queue_after_command, queue_after_step, age_after_begin, age_after_command, age_after_step, Post, post_after_join, post_after_take, post_after_marker, post_after_command, post_after_answer, IsUnheard, post_after_step, entry_of_call, hear}
 
 -- a reply that is none of those that tell something
 record IsSilent (r : Reply) : Type 0 where
@@ -123,8 +127,32 @@ module _ (r : Reply) (s : IsSilent r) where
   post Take p = s.no_take p
   post (DoCommand c) p = command_post c p
 
+  either : {A : Type 0} (b : Bool) (x y : A) → x ≡ y → (if b then x else y) ≡ y
+  either true x y e = e
+  either false x y e = refl
+
   unheard : IsUnheard r
-  unheard = record { knows = knows; entry = entry; queue = queue; next = next; post = post }
+  unheard h c = λ i. record {
+    callers = λ m. callers m i;
+    log = (ap (λ e. h.log ++ entries e) none ∙ append-nil h.log) i;
+    queue = queue c.session k c.ask h.queue i;
+    next_age = next k c.ask h.next_age i;
+    posts = λ m. posts m i;
+  }
+    where
+      k : Caller
+      k = h.callers c.session
+
+      none : entry_of_call h c r ≡ None
+      none = entry c.session c.over k c.ask
+
+      callers : (m : ℕ) → (hear h c r).callers m ≡ h.callers m
+      callers m = ap (λ x. if m == c.session then x else h.callers m) (knows k c.ask) ∙ sym (same_if h.callers m c.session)
+
+      posts : (m : ℕ) → (hear h c r).posts m ≡ h.posts m
+      posts m =
+          ap (λ e. post_after_step m (commits_from 0 h.log) c.session c.ask r e (h.posts m)) none
+          ∙ either (m == c.session) (post_after_answer c.ask r (h.posts m)) (h.posts m) (post c.ask (h.posts m))
 
 pub bad_command : IsUnheard reply.BadCommand
 bad_command = unheard reply.BadCommand (record { not_made = refl; no_begin = λ k. refl; no_close = λ k. refl; no_abort = λ k. refl; no_commit = λ n over k. refl; no_schema = λ over c. refl; no_mark = λ e. refl; no_drop = λ n qs. refl; no_leave = λ n qs. refl; no_age = λ k a. refl; no_join = λ b p. refl; no_take = λ p. refl; no_refusal = λ p. refl })

@@ -24,7 +24,7 @@ use Rattle.tab_model.specs.declared.data.Entry.TheVariants.{Changed, Subscribed}
 use Rattle.tab_model.specs.Log.{in_force}
 use Rattle.tab_model.specs.Outcome.{outcome, Retry, Leave, DoCommand}
 use Rattle.tab_model.specs.Run.{Call, replies_of}
-use Rattle.tab_model.specs.Callers.{newcomers, no_post, post_after}
+use Rattle.tab_model.specs.Callers.{silence, hear_all}
 use Rattle.tab_model.proofs.WorkedFixtures.{num, record_of, rec, joins, joins_with, creates, call, call_over, does, begins, commits, writes, reads, subscribes, takes, told_in, bag}
 
 abbrev event : PlainTerm → PlainTerm
@@ -90,11 +90,11 @@ row_outbox_full = refl
 abbrev full_run : List Call
 full_run = joins_with 1 1 ∷ creates 1 (codes "t") none ∷ creates 1 (codes "u") none ∷ subscribes 1 (codes "t") ∷ call_over 1 (DoCommand (command.Subscribe (codes "u") Simple false)) (1 ∷ []) ∷ call_over 1 (DoCommand (command.Unsubscribe (codes "t") Simple)) (1 ∷ []) ∷ call_over 1 (DoCommand (command.Schema (Remove (codes "t")))) (1 ∷ []) ∷ takes 1 ∷ []
 
-pub row_refusals_counted : post_after 1 newcomers 0 no_post full_run (told_in full_run) ≡ record { refusals = 3; overflow = Some 1 }
+pub row_refusals_counted : (hear_all silence full_run (told_in full_run)).posts 1 ≡ record { refusals = 3; overflow = Some 1 }
 unfolding outcome canon int_contents
 row_refusals_counted = refl
 
-pub row_overflow_told : post_after 1 newcomers 0 no_post (full_run ++ takes 1 ∷ []) (told_in (full_run ++ takes 1 ∷ [])) ≡ record { refusals = 3; overflow = None }
+pub row_overflow_told : (hear_all silence (full_run ++ takes 1 ∷ []) (told_in (full_run ++ takes 1 ∷ []))).posts 1 ≡ record { refusals = 3; overflow = None }
 unfolding outcome canon int_contents
 row_overflow_told = refl
 

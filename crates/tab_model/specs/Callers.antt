@@ -5,6 +5,7 @@ use Rattle.std.specs.List.{filter}
 use Rattle.tab_model.specs.declared.data.Operation.{Operation}
 use Rattle.tab_model.specs.declared.data.Move.{Move}
 use Rattle.tab_model.specs.declared.data.Move.TheVariants.{Do, Open, Close, Undo}
+use Rattle.tab_model.specs.declared.data.Limits.{Limits}
 use Rattle.tab_model.specs.declared.data.Reply.{Reply}
 use Rattle.tab_model.specs.declared.data.Reply.TheVariants as reply
 use Rattle.tab_model.specs.declared.data.Schema.{Schema}
@@ -13,9 +14,9 @@ use Rattle.tab_model.specs.declared.data.Command.TheVariants as command
 use Rattle.tab_model.specs.declared.data.Entry.{Entry}
 use Rattle.tab_model.specs.declared.data.Entry.TheVariants.{Committed, Changed, Subscribed, Unsubscribed}
 use Rattle.tab_model.specs.Log.{has_session, commits_from}
-use Rattle.tab_model.specs.State.{Transaction, Outbox, Queued, State, transaction_at, request_in}
+use Rattle.tab_model.specs.State.{Transaction, Outbox, Queued, Session, State, new, session_at, transaction_at, request_in}
 use Rattle.tab_model.specs.Outcome.{Ask, Join, Leave, Retry, Take, DoCommand}
-use Rattle.tab_model.specs.Run.{Call, entries}
+use Rattle.tab_model.specs.Run.{Call, entries, replies_of}
 
 -- what a session's caller knows: its moves since its outermost begin or its last restart, with what they were told, and the
 -- operation that was last answered waiting
@@ -236,48 +237,51 @@ post_after_step n commits m a r e p = post_after_entry n commits e (if n == m th
 abbrev pub Callers : Type 0
 Callers = ℕ → Caller
 
--- what callers know before all calls
-abbrev pub newcomers : Callers
-newcomers m = newcomer
+-- what callers can tell together: what each knows, the log, the queue, the next age, the posts
+pub record Heard : Type 0 where
+  pub callers : Callers
+  pub log : List Entry
+  pub queue : List Queued
+  pub next_age : ℕ
+  pub posts : ℕ → Post
 
--- what callers know after one call and its reply, of which the asker's caller alone learns
-abbrev pub callers_after_one : Callers → Call → Reply → Callers
-callers_after_one ks c r m = if m == c.session then hears (ks c.session) c.ask r else ks m
+-- before all calls
+abbrev pub silence : Heard
+silence = record {
+  callers = λ m. newcomer;
+  log = [];
+  queue = [];
+  next_age = 1;
+  posts = λ m. no_post;
+}
 
 -- the entry that a call adds, read off its reply and what its caller knows
-abbrev pub entry_of_call : Callers → Call → Reply → Option Entry
-entry_of_call ks c r = entry_of_step c.session c.over (ks c.session) c.ask r
+abbrev pub entry_of_call : Heard → Call → Reply → Option Entry
+entry_of_call h c r = entry_of_step c.session c.over (h.callers c.session) c.ask r
 
--- what callers know after calls that were answered so
-abbrev pub callers_after : Callers → List Call → List Reply → Callers
-callers_after ks [] rs = ks
-callers_after ks (c ∷ cs) [] = ks
-callers_after ks (c ∷ cs) (r ∷ rs) = callers_after (callers_after_one ks c r) cs rs
+-- after one call and its reply, of which the asker's caller alone learns
+abbrev pub hear : Heard → Call → Reply → Heard
+hear h c r =
+    let caller = h.callers c.session in
+    let entry = entry_of_call h c r in
+    record {
+      callers = λ m. if m == c.session then hears caller c.ask r else h.callers m;
+      log = h.log ++ entries entry;
+      queue = queue_after_step c.session caller c.ask r h.queue;
+      next_age = age_after_step caller c.ask r h.next_age;
+      posts = λ m.
+          post_after_step m (commits_from 0 h.log) c.session c.ask r entry (h.posts m);
+    }
 
--- the log that they tell
-abbrev pub log_of_replies : Callers → List Call → List Reply → List Entry
-log_of_replies ks [] rs = []
-log_of_replies ks (c ∷ cs) [] = []
-log_of_replies ks (c ∷ cs) (r ∷ rs) = entries (entry_of_call ks c r) ++ log_of_replies (callers_after_one ks c r) cs rs
+-- after calls that were answered so
+abbrev pub hear_all : Heard → List Call → List Reply → Heard
+hear_all h [] rs = h
+hear_all h (c ∷ cs) [] = h
+hear_all h (c ∷ cs) (r ∷ rs) = hear_all (hear h c r) cs rs
 
--- the queue that they tell
-abbrev pub queue_after : Callers → List Queued → List Call → List Reply → List Queued
-queue_after ks qs [] rs = qs
-queue_after ks qs (c ∷ cs) [] = qs
-queue_after ks qs (c ∷ cs) (r ∷ rs) = queue_after (callers_after_one ks c r) (queue_after_step c.session (ks c.session) c.ask r qs) cs rs
-
--- the next age that they tell
-abbrev pub next_after : Callers → ℕ → List Call → List Reply → ℕ
-next_after ks a [] rs = a
-next_after ks a (c ∷ cs) [] = a
-next_after ks a (c ∷ cs) (r ∷ rs) = next_after (callers_after_one ks c r) (age_after_step (ks c.session) c.ask r a) cs rs
-
--- the post of a session that they tell; so many commits were before
-abbrev pub post_after : ℕ → Callers → ℕ → Post → List Call → List Reply → Post
-post_after n ks commits p [] rs = p
-post_after n ks commits p (c ∷ cs) [] = p
-post_after n ks commits p (c ∷ cs) (r ∷ rs) =
-    post_after n (callers_after_one ks c r) (commits_from commits (entries (entry_of_call ks c r))) (post_after_step n commits c.session c.ask r (entry_of_call ks c r) p) cs rs
+-- what the callers of a schedule can tell of it
+abbrev pub heard_in : Limits → List Call → Heard
+heard_in limits calls = hear_all silence calls (replies_of (new limits) calls)
 
 -- each open transaction is what its caller knows, each queued operation the one that its caller was last told to wait for
 pub record AreHeard (σ : State) (ks : Callers) : Type 0 where
@@ -285,11 +289,17 @@ pub record AreHeard (σ : State) (ks : Callers) : Type 0 where
   pub waits : (n : ℕ) (q : Queued) → request_in σ.queue n ≡ Some q → (ks n).queued ≡ Some q.operation
   pub aged : (n : ℕ) → (ks n).transaction.age < σ.next_age
 
--- a reply that says nothing was done: what a caller knows stays, there is no entry, and the queue, the next age and the
--- asker's post stay
-pub record IsUnheard (r : Reply) : Type 0 where
-  pub knows : (k : Caller) (a : Ask) → hears k a r ≡ k
-  pub entry : (n : ℕ) (over : List ℕ) (k : Caller) (a : Ask) → entry_of_step n over k a r ≡ None
-  pub queue : (n : ℕ) (k : Caller) (a : Ask) (qs : List Queued) → queue_after_step n k a r qs ≡ qs
-  pub next : (k : Caller) (a : Ask) (age : ℕ) → age_after_step k a r age ≡ age
-  pub post : (a : Ask) (p : Post) → post_after_answer a r p ≡ p
+-- a state is as callers tell it
+pub record IsAsTold (σ : State) (h : Heard) : Type 0 where
+  pub callers : AreHeard σ h.callers
+  pub commits : σ.commits ≡ commits_from 0 h.log
+  pub queue : σ.queue ≡ h.queue
+  pub next_age : σ.next_age ≡ h.next_age
+  pub overflow : (n : ℕ) (s : Session) → session_at σ.sessions n ≡ Some s
+      → s.overflow ≡ (h.posts n).overflow
+  pub refusals : (n : ℕ) (s : Session) → session_at σ.sessions n ≡ Some s
+      → s.outbox.refusals ≡ (h.posts n).refusals
+
+-- a reply that says nothing was done: nothing that callers can tell changes, whoever asked what
+abbrev pub IsUnheard : Reply → Type 0
+IsUnheard r = (h : Heard) (c : Call) → hear h c r ≡ h

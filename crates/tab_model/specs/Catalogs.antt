@@ -1,5 +1,5 @@
 -- All tables, in the order of their names' bytes (the order is this project's own rule).
-use Rattle.std.specs.Prelude.{◌≡◌, ℕ, List, [], ◌∷◌, Bool, true, if◌then◌else◌, Option, Some, None}
+use Rattle.std.specs.Prelude.{◌≡◌, ℕ, List, [], ◌∷◌, true, if◌then◌else◌, Option, Some, None}
 use Rattle.std.specs.Str.{bytes_eq}
 use Rattle.tab_term.specs.Data.{PlainTerm}
 use Rattle.tab_model.specs.declared.data.TableDef.{TableDef}

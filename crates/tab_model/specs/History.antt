@@ -5,16 +5,14 @@ use Rattle.std.specs.List.{filter}
 use Rattle.std.specs.Str.{bytes_eq}
 use Rattle.tab_model.specs.declared.data.Level.{Level}
 use Rattle.tab_model.specs.declared.data.Item.{Item}
-use Rattle.tab_model.specs.declared.data.Item.TheVariants.{Began, Ended}
-use Rattle.tab_model.specs.declared.data.Ending.TheVariants as ending
 use Rattle.tab_model.specs.declared.data.Entry.{Entry}
 use Rattle.tab_model.specs.declared.data.Entry.TheVariants.{Committed, Changed, Subscribed, Unsubscribed}
 use Rattle.tab_model.specs.Catalogs.{Catalog}
 use Rattle.tab_model.specs.declared.data.Schema.{Schema}
-use Rattle.tab_model.specs.Events.{events, surviving, change_all}
+use Rattle.tab_model.specs.Events.{surviving, change_all}
 use Rattle.tab_model.specs.Schemas.{removed_table, schema_refusal, schema_effect}
 use Rattle.tab_model.specs.Log.{serial_from, in_force_from, is_removed, has_session, IsLegal}
-use Rattle.tab_model.specs.Slices.{batch_for, dump_of, end_for, unless_over}
+use Rattle.tab_model.specs.Slices.{expected_on}
 
 -- a subscription in force: its session, its table and its level
 pub record Subscription : Type 0 where
@@ -44,13 +42,6 @@ level_at (x ∷ xs) s t = if is_of s t x then Some x.level else level_at xs s t
 -- the same after a log from the base: what stood in the base counts as standing before the first entry
 abbrev pub in_force_since : Base → ℕ → List Entry → List ℕ → Option Level
 in_force_since b s log t = in_force_from s t (level_at b.subscriptions s t) log
-
--- what an entry owes to a session that has these levels, on the tables before it
-abbrev pub expected_on : Catalog → (List ℕ → Option Level) → ℕ → Entry → List Item
-expected_on w levels s (Committed n x age xs rs over) = unless_over (has_session over s) (batch_for levels n (events w age (surviving xs rs)))
-expected_on w levels s (Changed c over) = unless_over (has_session over s) (end_for levels (removed_table c))
-expected_on w levels s (Subscribed x t l dump) = if x == s then Began t l (dump_of w t dump) ∷ [] else []
-expected_on w levels s (Unsubscribed x t) = if x == s then Ended t ending.Unsubscribed ∷ [] else []
 
 -- what an entry owes to a session, after the log before it
 abbrev pub expected_since : Base → ℕ → List Entry → Entry → List Item

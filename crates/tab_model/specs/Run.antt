@@ -1,5 +1,5 @@
 -- Which posts refuse, runs, and what a run says of the last state (this project's own).
-use Rattle.std.specs.Prelude.{◌≡◌, ℕ, ◌+◌, ◌<◌, List, [], ◌∷◌, ◌++◌, Bool, not, ◌||◌, ◌==◌, nat_le, if◌then◌else◌, Option, Some, None, is_some, length, IfSome}
+use Rattle.std.specs.Prelude.{◌≡◌, ℕ, ◌+◌, ◌<◌, List, [], ◌∷◌, ◌++◌, Bool, false, not, ◌||◌, ◌⊎◌, map, ◌==◌, nat_le, if◌then◌else◌, Option, Some, None, is_some, length}
 use Rattle.std.specs.List.{filter}
 use Rattle.tab_model.specs.declared.data.Reply.{Reply}
 use Rattle.tab_model.specs.declared.data.Reply.TheVariants as reply
@@ -43,12 +43,32 @@ abbrev pub put_ask : State → Ask → Option Session → List Session
 put_ask σ (DoCommand c) (Some s) = if is_waiting σ s.number then [] else put_command σ s c
 put_ask σ a s = []
 
--- each of them refuses or not: where its capacity decides, that decides
-abbrev pub IsSplitByOverflow : List Session → List ℕ → Type 0
-IsSplitByOverflow [] over = over ≡ []
-IsSplitByOverflow (s ∷ sessions) over =
-    (b : Bool) × (rest : List ℕ) × (over ≡ (if b then s.number ∷ rest else rest))
-    × IfSome s.outbox.capacity (λ c. b ≡ nat_le c (length s.outbox.items)) × IsSplitByOverflow sessions rest
+-- some sessions of a list, each once and in their order
+abbrev pub IsSublist : List Session → List Session → Type 0
+IsSublist [] ys = Unit {0}
+IsSublist (x ∷ xs) [] = ⊥
+IsSublist (x ∷ xs) (y ∷ ys) = ((x ≡ y) × IsSublist xs ys) ⊎ IsSublist (x ∷ xs) ys
+
+-- its post has a capacity that is known
+abbrev pub has_capacity : Session → Bool
+has_capacity s = is_some s.outbox.capacity
+
+-- these items fill the capacity, where one is known
+abbrev pub is_filled : List Item → Option ℕ → Bool
+is_filled items None = false
+is_filled items (Some capacity) = nat_le capacity (length items)
+
+-- its post has a capacity that is known, and is full
+abbrev pub is_full : Session → Bool
+is_full s = is_filled s.outbox.items s.outbox.capacity
+
+-- those who refuse are some of those who were handed an item, each once and in order; and of those
+-- with a known capacity exactly the full refuse
+pub record IsSplitByOverflow (handed : List Session) (over : List ℕ) : Type 0 where
+  pub refusers : List Session
+  pub numbers : over ≡ map (λ s. s.number) refusers
+  pub among : IsSublist refusers handed
+  pub full : filter has_capacity refusers ≡ filter is_full handed
 
 -- the sessions whose posts may refuse in a step
 abbrev pub Allowed : State → List ℕ → ℕ → Ask → Type 0

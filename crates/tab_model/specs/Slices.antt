@@ -49,12 +49,19 @@ abbrev pub unless_over : Bool → List Item → List Item
 unless_over true items = []
 unless_over false items = items
 
+-- what an entry owes to a session that has these levels, on the tables before it
+abbrev pub expected_on : Catalog → (List ℕ → Option Level) → ℕ → Entry → List Item
+expected_on w levels s (Committed n x age xs rs over) =
+    unless_over (has_session over s) (batch_for levels n (events w age (surviving xs rs)))
+expected_on w levels s (Changed c over) =
+    unless_over (has_session over s) (end_for levels (removed_table c))
+expected_on w levels s (Subscribed x t l dump) =
+    if x == s then Began t l (dump_of w t dump) ∷ [] else []
+expected_on w levels s (Unsubscribed x t) = if x == s then Ended t ending.Unsubscribed ∷ [] else []
+
 -- what an entry owes to a session, after the log before it
 abbrev pub expected : ℕ → List Entry → Entry → List Item
-expected s log (Committed n x age xs rs over) = unless_over (has_session over s) (batch_for (in_force s log) n (events (serial log) age (surviving xs rs)))
-expected s log (Changed c over) = unless_over (has_session over s) (end_for (in_force s log) (removed_table c))
-expected s log (Subscribed x t l dump) = if x == s then Began t l (dump_of (serial log) t dump) ∷ [] else []
-expected s log (Unsubscribed x t) = if x == s then Ended t ending.Unsubscribed ∷ [] else []
+expected s log e = expected_on (serial log) (in_force s log) s e
 
 -- what the second log owes to a session, in order, where the first log came before it
 abbrev pub slice_after : ℕ → List Entry → List Entry → List Item

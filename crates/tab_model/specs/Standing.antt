@@ -1,14 +1,13 @@
 -- How a running book stands: its core, its journal and the base that the journal starts from (this project's own).
 use Rattle.std.specs.Prelude.{◌≡◌, ◌<◌, ◌⊎◌, ℕ, suc, List, [], ◌++◌, Bool, true, false, ◌==◌, Option, Some, None, is_some, length}
 use Rattle.std.specs.List.{AllByRecursion}
-use Rattle.tab_model.specs.declared.data.Schema.{Schema}
 use Rattle.tab_model.specs.declared.data.Command.{Command}
 use Rattle.tab_model.specs.declared.data.Command.TheVariants as command
 use Rattle.tab_model.specs.declared.data.Entry.{Entry}
 use Rattle.tab_model.specs.declared.data.Entry.TheVariants.{Committed, Changed, Subscribed, Unsubscribed}
 use Rattle.tab_model.specs.Log.{serial, in_force, commits_from}
 use Rattle.tab_model.specs.History.{Base, level_at}
-use Rattle.tab_model.specs.State.{Transaction, Session, State, session_at, transaction_at, mid_of}
+use Rattle.tab_model.specs.State.{Transaction, State, session_at, transaction_at, mid_of}
 use Rattle.tab_model.specs.Outcome.{Ask, Join, Leave, Retry, Take, DoCommand}
 use Rattle.tab_model.specs.Run.{IsTied}
 

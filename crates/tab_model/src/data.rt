@@ -1,5 +1,5 @@
 //! Data that code and definitions share. Ages, numbers of sessions and commits, and positions are from 1 on.
-ghost use Rattle.std.specs.Prelude.{◌≡◌, MatchResult, false};
+ghost use Rattle.std.specs.Prelude.{◌≡◌, MatchResult, IsFalse};
 ghost use Rattle.tab_model.specs.declared.data.Reply.TheVariants as reply;
 ghost use Rattle.tab_model.specs.Shared.{is_found};
 

@@ -1,6 +1,6 @@
 //! Laws of the definitions. Each is the contract of a function that does nothing.
 
-ghost use Rattle.std.specs.Prelude.{◌≡◌, ◌≢◌, ◌<◌, ◌↔◌, ◌⊎◌, ℕ, List, [], ◌∷◌, ◌++◌, Bool, IsTrue, IsFalse, not, if◌then◌else◌, Some, None, is_some, map};
+ghost use Rattle.std.specs.Prelude.{◌≡◌, ◌≢◌, ◌<◌, ◌↔◌, ◌⊎◌, ℕ, List, [], ◌∷◌, ◌++◌, Bool, IsTrue, false, not, if◌then◌else◌, Some, None, is_some, map, IsFalse};
 ghost use Rattle.std.specs.List.{filter, list_any};
 ghost use Rattle.tab_term.specs.Data.{PlainTerm, PlainTerms};
 ghost use Rattle.tab_term.specs.Same.{same};
@@ -42,9 +42,9 @@ ghost use Rattle.tab_model.specs.State.{State, Session, Transaction, Queued, Out
 ghost use Rattle.tab_model.specs.Reached.{IsRising};
 ghost use Rattle.tab_model.specs.Outcome.{Ask, Join, Leave, Retry, Take, DoCommand, outcome};
 ghost use Rattle.tab_model.specs.Refusals.{AsBefore, effect_of_reply, with_count, request_of_ask, with_requests, transaction_anew, with_restart, IsRestart, EndsLevel, IsSole, LeavesAll};
-ghost use Rattle.tab_model.specs.Run.{Call, AllJoinEmpty, Begins, leave_call, JoinsEmpty, IsTied, outcome_of, after_all, log_of, replies_of, delivered_to, entries, delivered_by};
+ghost use Rattle.tab_model.specs.Run.{Call, AllJoinEmpty, Begins, leave_call, JoinsEmpty, IsTied, outcome_of, after_all, log_of, delivered_to, entries, delivered_by};
 ghost use Rattle.tab_model.specs.Standing.{EndsTransaction, JoinsChannel, MayFollow, FollowsLog, still_joined, may_enter};
-ghost use Rattle.tab_model.specs.Callers.{Callers, newcomers, entry_of_step, callers_after_one, callers_after, log_of_replies, queue_after, next_after, no_post, post_after, AreHeard, IsUnheard};
+ghost use Rattle.tab_model.specs.Callers.{Heard, silence, entry_of_call, hear, heard_in, AreHeard, IsAsTold, IsUnheard};
 
 /// For every schedule of steps: commits are numbered in order and were told what they are told alone in that order;
 /// the tables are those of running them so; each open transaction was told what it is told alone on the tables as they
@@ -85,47 +85,26 @@ pub fn every_schedule()
 /// are those of its own puts: as many as it was handed in with, and one more, up to the greatest 64 bit number, for each mark
 /// that its session is told doesn't fit, and for each overflow. Each step keeps what callers know, and its entry is the one
 /// that its caller tells.
-#[tactic(auto, using(crate::proofs::CallersLemmas::new_heard, crate::proofs::CallersLemmas::schedule_log, crate::proofs::CallersLemmas::schedule_open, crate::proofs::CallersLemmas::schedule_queued, crate::proofs::CallersLemmas::schedule_heard_legal, crate::proofs::CallersLemmas::schedule_heard_told, crate::proofs::CallersLemmas::schedule_queue, crate::proofs::CallersLemmas::schedule_next, crate::proofs::CallersPosts::schedule_overflow, crate::proofs::CallersPosts::schedule_told_overflow, crate::proofs::CallersPosts::schedule_refusals))]
+#[tactic(auto, using(crate::proofs::CallersLemmas::new_heard, crate::proofs::CallersLemmas::schedule_log, crate::proofs::CallersLemmas::schedule_heard_legal, crate::proofs::CallersLemmas::schedule_heard_told, crate::proofs::CallersPosts::schedule_told_overflow))]
 pub fn callers_tell_the_log()
-    ensures log { (limits : Limits) (calls : List Call)
-        → log_of (new limits) calls
-        ≡ log_of_replies newcomers calls (replies_of (new limits) calls) }
-    ensures legal { (limits : Limits) (calls : List Call) → AllJoinEmpty calls
-        → IsLegal [] 0 (log_of_replies newcomers calls (replies_of (new limits) calls)) }
-    ensures open { (limits : Limits) (calls : List Call) (n : ℕ) (t : Transaction)
-        → transaction_at (after_all (new limits) calls) n ≡ Some t
-        → (callers_after newcomers calls (replies_of (new limits) calls) n).transaction ≡ t }
-    ensures told { (limits : Limits) (calls : List Call) (n : ℕ) (t : Transaction)
-        → transaction_at (after_all (new limits) calls) n ≡ Some t
-        → let k = (callers_after newcomers calls (replies_of (new limits) calls) n).transaction in
+    ensures log { (limits : Limits) (calls : List Call) →
+        log_of (new limits) calls ≡ (heard_in limits calls).log }
+    ensures legal { (limits : Limits) (calls : List Call) → AllJoinEmpty calls →
+        IsLegal [] 0 (heard_in limits calls).log }
+    ensures state { (limits : Limits) (calls : List Call) →
+        IsAsTold (after_all (new limits) calls) (heard_in limits calls) }
+    ensures told { (limits : Limits) (calls : List Call) (n : ℕ) (t : Transaction) →
+        transaction_at (after_all (new limits) calls) n ≡ Some t →
+        let k = ((heard_in limits calls).callers n).transaction in
         replies (start (after_all (new limits) calls).tables k.age) k.moves ≡ k.told }
-    ensures queued { (limits : Limits) (calls : List Call) (n : ℕ) (q : Queued)
-        → request_in (after_all (new limits) calls).queue n ≡ Some q
-        → (callers_after newcomers calls (replies_of (new limits) calls) n).queued
-        ≡ Some q.operation }
-    ensures queue { (limits : Limits) (calls : List Call)
-        → (after_all (new limits) calls).queue
-        ≡ queue_after newcomers [] calls (replies_of (new limits) calls) }
-    ensures next_age { (limits : Limits) (calls : List Call)
-        → (after_all (new limits) calls).next_age
-        ≡ next_after newcomers 1 calls (replies_of (new limits) calls) }
-    ensures overflow { (limits : Limits) (calls : List Call) (n : ℕ) (s : Session)
-        → session_at (after_all (new limits) calls).sessions n ≡ Some s
-        → s.overflow ≡
-        (post_after n newcomers 0 no_post calls (replies_of (new limits) calls)).overflow }
-    ensures told_overflow { (limits : Limits) (calls : List Call) (over : List ℕ) (n i : ℕ)
-        → (outcome (after_all (new limits) calls) over n Take).reply ≡ reply.Overflow i
-        → (post_after n newcomers 0 no_post calls (replies_of (new limits) calls)).overflow
-        ≡ Some i }
-    ensures refusals { (limits : Limits) (calls : List Call) (n : ℕ) (s : Session)
-        → session_at (after_all (new limits) calls).sessions n ≡ Some s
-        → s.outbox.refusals
-        ≡ (post_after n newcomers 0 no_post calls (replies_of (new limits) calls)).refusals }
-    ensures new_heard { (limits : Limits) → AreHeard (new limits) newcomers }
-    ensures step { (σ : State) (ks : Callers) (c : Call) → AreHeard σ ks
-        → AreHeard (outcome_of σ c).state (callers_after_one ks c (outcome_of σ c).reply)
-        × (entry_of_step c.session c.over (ks c.session) c.ask (outcome_of σ c).reply
-        ≡ (outcome_of σ c).entry) }
+    ensures told_overflow { (limits : Limits) (calls : List Call) (over : List ℕ) (n i : ℕ) →
+        (outcome (after_all (new limits) calls) over n Take).reply ≡ reply.Overflow i →
+        ((heard_in limits calls).posts n).overflow ≡ Some i }
+    ensures new_heard { (limits : Limits) → AreHeard (new limits) silence.callers }
+    ensures step { (σ : State) (h : Heard) (c : Call) → AreHeard σ h.callers →
+        let r = (outcome_of σ c).reply in
+        AreHeard (outcome_of σ c).state (hear h c r).callers
+        × (entry_of_call h c r ≡ (outcome_of σ c).entry) }
 {}
 
 /// A new core has no history and keeps what every reached core has; and each step keeps it, and keeps the state tied to
@@ -153,8 +132,8 @@ pub fn tables_are_lists()
         → IsTrue (is_ordered rows)
         → at (apply kind rows c) k
         ≡ (if same (key_of_change c) k then apply kind (at rows k) c else at rows k) }
-    ensures lists { (xs ys : Rows) → IsTrue (is_ordered xs) → IsTrue (is_ordered ys) → SameTable xs ys
-        → xs ≡ ys }
+    ensures lists { (xs ys : Rows) → IsTrue (is_ordered xs) → IsTrue (is_ordered ys)
+        → SameTable xs ys → xs ≡ ys }
 {}
 
 /// What a change leaves at its key. A set's write leaves that record alone; a bag's write of a new record comes last, and
@@ -449,8 +428,7 @@ pub fn a_refusal_leaves_all()
     ensures overflow_untold { LeavesAll reply.OverflowUntold }
 {}
 
-/// Replies that tell a caller nothing, whatever it asked: its transaction and its queued operation are what they were, and
-/// there is no entry.
+/// Replies that tell nothing, whatever was asked: all that callers can tell stays, with no entry.
 #[tactic(auto, using(crate::proofs::Unheard::bad_command, crate::proofs::Unheard::no_memory, crate::proofs::Unheard::bad_session, crate::proofs::Unheard::no_transaction, crate::proofs::Unheard::waiting_now, crate::proofs::Unheard::in_transaction, crate::proofs::Unheard::not_waiting, crate::proofs::Unheard::system_limit))]
 pub fn what_was_not_done_is_not_heard()
     ensures bad_command { IsUnheard reply.BadCommand }

@@ -6,10 +6,10 @@ use Rattle.tab_model.specs.declared.data.Item.{Item}
 use Rattle.tab_model.specs.declared.data.Reply.{Reply}
 use Rattle.tab_model.specs.State.{State, IsSound}
 use Rattle.tab_model.specs.Reached.{IsRising}
-use Rattle.tab_model.specs.Outcome.{Ask, Outcome, outcome}
+use Rattle.tab_model.specs.Outcome.{Ask, Outcome}
 use Rattle.tab_model.specs.Run as model
 use Rattle.tab_model.specs.Run.{entries, delivered_by, JoinsEmpty, IsTied}
-use Rattle.tab_model.specs.Callers.{Callers, entry_of_step, callers_after_one, entry_of_call, callers_after, log_of_replies, AreHeard}
+use Rattle.tab_model.specs.Callers.{Heard, entry_of_call, hear, hear_all, AreHeard}
 use Rattle.tab_model.proofs.CallersLemmas.{step_heard}
 use Rattle.tab_model.proofs.ReachedWaits.{step_rising}
 use Rattle.tab_model.proofs.SoundSteps.{step_sound}
@@ -17,27 +17,20 @@ use Rattle.tab_model.proofs.TiedSteps.{step_tied}
 use Rattle.tab_session.specs.StepsMade.{IsStepMade}
 use Rattle.tab_session.specs.Accounts.{Exchange, Account, nothing_done, joined, calls_in, replies_in, of_made}
 
--- what callers know after exchanges, and the log that they tell
-abbrev pub hears_all : Callers → List Exchange → Callers
-hears_all ks xs = callers_after ks (calls_in xs) (replies_in xs)
+-- what callers can tell after exchanges
+abbrev pub hears_all : Heard → List Exchange → Heard
+hears_all h xs = hear_all h (calls_in xs) (replies_in xs)
 
-abbrev pub tells : Callers → List Exchange → List Entry
-tells ks xs = log_of_replies ks (calls_in xs) (replies_in xs)
-
-hears_both : (ks : Callers) (xs ys : List Exchange) → hears_all ks (xs ++ ys) ≡ hears_all (hears_all ks xs) ys
-hears_both ks [] ys = refl
-hears_both ks (x ∷ xs) ys = hears_both (callers_after_one ks x.call x.reply) xs ys
-
-tells_both : (ks : Callers) (xs ys : List Exchange) → tells ks (xs ++ ys) ≡ tells ks xs ++ tells (hears_all ks xs) ys
-tells_both ks [] ys = refl
-tells_both ks (x ∷ xs) ys = ap (λ es. entries (entry_of_call ks x.call x.reply) ++ es) (tells_both (callers_after_one ks x.call x.reply) xs ys) ∙ sym (append_assoc (entries (entry_of_call ks x.call x.reply)) _ _)
+hears_both : (h : Heard) (xs ys : List Exchange) → hears_all h (xs ++ ys) ≡ hears_all (hears_all h xs) ys
+hears_both h [] ys = refl
+hears_both h (x ∷ xs) ys = hears_both (hear h x.call x.reply) xs ys
 
 pub record Leads (σ μ : State) (a : Account) (taken : ℕ → List Item) : Type 0 where
   pub sound : IsSound σ → IsSound μ
   pub rising : IsSound σ → IsRising σ → IsRising μ
   pub tied : (log : List Entry) (before : ℕ → List Item) → IsSound σ → IsTied σ log before → IsTied μ (log ++ a.log) (λ m. before m ++ taken m)
-  pub heard : (ks : Callers) → AreHeard σ ks → AreHeard μ (hears_all ks a.exchanges)
-  pub told : (ks : Callers) → AreHeard σ ks → a.log ≡ tells ks a.exchanges
+  pub heard : (h : Heard) → AreHeard σ h.callers → AreHeard μ (hears_all h a.exchanges).callers
+  pub told : (h : Heard) → AreHeard σ h.callers → (hears_all h a.exchanges).log ≡ h.log ++ a.log
 
 -- nothing is done
 pub stays : (σ μ : State) → μ ≡ σ → Leads σ μ nothing_done (λ m. [])
@@ -46,8 +39,8 @@ stays σ μ same = record {
   rising = λ k r. subst IsRising (sym same) r;
   tied = λ log before k t. subst (λ (x : State). IsTied x (log ++ []) (λ m. before m ++ [])) (sym same)
       (subst (λ (l : List Entry). IsTied σ l (λ m. before m ++ [])) (sym (append-nil log)) (subst (λ (f : ℕ → List Item). IsTied σ log f) (λ i m. sym (append-nil (before m)) i) t));
-  heard = λ ks h. subst (λ (x : State). AreHeard x ks) (sym same) h;
-  told = λ ks h. refl;
+  heard = λ h k. subst (λ (x : State). AreHeard x h.callers) (sym same) k;
+  told = λ h k. sym (append-nil h.log);
 }
 
 -- one step
@@ -59,12 +52,9 @@ steps σ μ n a r made empty =
       sound = λ k. subst IsSound (ap (λ (x : Outcome). x.state) o) (step_sound σ made.over n a k);
       rising = λ k h. subst IsRising (ap (λ (x : Outcome). x.state) o) (step_rising σ made.over n a k h);
       tied = λ log before k t. subst (λ (x : Outcome). IsTied x.state (log ++ entries x.entry) (λ m. before m ++ delivered_by m n x.reply)) o (step_tied σ log before made.over n a k empty t);
-      heard = λ ks h. subst (λ (x : Outcome). AreHeard x.state (callers_after_one ks c x.reply)) o (step_heard σ ks c h).0;
-      told = λ ks h. sym (ap entries (entry_is ks (step_heard σ ks c h).1)) ∙ sym (append-nil (entries (entry_of_call ks c r)));
+      heard = λ h k. subst (λ (x : Outcome). AreHeard x.state (hear h c x.reply).callers) o (step_heard σ h c k).0;
+      told = λ h k. ap (λ e. h.log ++ entries e) (ap (λ (x : Outcome). entry_of_call h c x.reply) (sym o) ∙ (step_heard σ h c k).1 ∙ ap (λ (x : Outcome). x.entry) o);
     }
-  where
-    entry_is : (ks : Callers) → entry_of_step n made.over (ks n) a (outcome σ made.over n a).reply ≡ (outcome σ made.over n a).entry → entry_of_step n made.over (ks n) a r ≡ made.entry
-    entry_is ks e = ap (λ (x : Outcome). entry_of_step n made.over (ks n) a x.reply) (sym made.made) ∙ e ∙ ap (λ (x : Outcome). x.entry) made.made
 
 -- the one and then the other
 pub then_leads : (σ ρ μ : State) (a b : Account) (t u : ℕ → List Item) → Leads σ ρ a t → Leads ρ μ b u → Leads σ μ (joined a b) (λ m. t m ++ u m)
@@ -74,8 +64,12 @@ then_leads σ ρ μ a b t u f g = record {
   tied = λ log before k h.
       subst (λ (l : List Entry). IsTied μ l (λ m. before m ++ (t m ++ u m))) (append_assoc log a.log b.log)
       (subst (λ (v : ℕ → List Item). IsTied μ ((log ++ a.log) ++ b.log) v) (λ i m. append_assoc (before m) (t m) (u m) i) (g.tied (log ++ a.log) (λ m. before m ++ t m) (f.sound k) (f.tied log before k h)));
-  heard = λ ks h. subst (AreHeard μ) (sym (hears_both ks a.exchanges b.exchanges)) (g.heard (hears_all ks a.exchanges) (f.heard ks h));
-  told = λ ks h. (λ i. f.told ks h i ++ g.told (hears_all ks a.exchanges) (f.heard ks h) i) ∙ sym (tells_both ks a.exchanges b.exchanges);
+  heard = λ h k. subst (λ (x : Heard). AreHeard μ x.callers) (sym (hears_both h a.exchanges b.exchanges)) (g.heard (hears_all h a.exchanges) (f.heard h k));
+  told = λ h k.
+      ap (λ (x : Heard). x.log) (hears_both h a.exchanges b.exchanges)
+      ∙ g.told (hears_all h a.exchanges) (f.heard h k)
+      ∙ ap (λ es. es ++ b.log) (f.told h k)
+      ∙ append_assoc h.log a.log b.log;
 }
 
 -- with the same items

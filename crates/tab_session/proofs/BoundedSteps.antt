@@ -8,7 +8,8 @@ use Rattle.tab_model.specs.declared.data.Command.TheVariants as command
 use Rattle.tab_model.specs.Schemas.{table_of_schema, schema_refusal, removed_table}
 use Rattle.tab_model.specs.State.{Outbox, Transaction, Session, State, session_at, is_waiting, is_busy, level_in, mid_of}
 use Rattle.tab_model.specs.Outcome.{Ask, Join, Leave, Retry, Take, DoCommand, outcome, is_empty, batch_to, events_now, end_to, subscribe_refusal, is_at}
-use Rattle.tab_model.specs.Run.{Allowed, IsSplitByOverflow, put_ask, put_command, put_commit, put_schema}
+use Rattle.tab_model.specs.Run.{Allowed, put_ask, put_command, put_commit, put_schema}
+use Rattle.tab_model.proofs.Splits.{IsSplit, fits_split}
 use Rattle.tab_session.specs.Bounded.{HasCapacity, IsBounded}
 use Rattle.tab_model.proofs.PostsStay.{found_has, JoinsAs, stays}
 
@@ -59,7 +60,7 @@ decided_by : (b : Outbox) (c : Option ℕ) (x : Bool) → is_some c ≡ true →
 decided_by b None x h e = cc
 decided_by b (Some c) x h e = e
 
-pinned_is : (ss : List Session) (over : List ℕ) → Bounded ss → IsSplitByOverflow ss over → over ≡ full_in ss
+pinned_is : (ss : List Session) (over : List ℕ) → Bounded ss → IsSplit ss over → over ≡ full_in ss
 pinned_is [] over k h = h
 pinned_is (s ∷ ss) over k (b, rest, is, decides, others) =
     is ∙ (λ i. if decided_by s.outbox s.outbox.capacity b k.0 decides i then s.number ∷ pinned_is ss rest k.1 others i else pinned_is ss rest k.1 others i)
@@ -114,4 +115,6 @@ module _ (σ : State) (k : IsBounded σ) where
 
 -- where all posts have a capacity, one list alone is allowed
 pub is_settled : (σ : State) (over : List ℕ) (n : ℕ) (a : Ask) → IsBounded σ → Allowed σ over n a → over ≡ settled σ n a
-is_settled σ over n a k h = pinned_is (put_ask σ a (session_at σ.sessions n)) over (put_ask_bounded σ k n a (session_at σ.sessions n) refl) h
+is_settled σ over n a k h =
+    let handed = put_ask σ a (session_at σ.sessions n) in
+    pinned_is handed over (put_ask_bounded σ k n a (session_at σ.sessions n) refl) (fits_split handed over h)

@@ -16,6 +16,7 @@ use Rattle.tab_model.specs.declared.data.Reply.TheVariants as reply
 use Rattle.tab_model.specs.State.{State, new, transaction_at, locks_held_by}
 use Rattle.tab_model.specs.Outcome.{DoCommand, outcome}
 use Rattle.tab_model.specs.Run.{Allowed, after_all}
+use Rattle.tab_model.proofs.Splits.{none_handed}
 use Rattle.tab_model.proofs.WorkedFixtures.{record_of, rec, usual, joins, creates, begins, commits, writes}
 use Rattle.tab_oneshot.specs.Calls.{Call, Asked, Again}
 use Rattle.tab_oneshot.specs.Attempts.{GoesOn, IsOver, Restarts, IsAttempt}
@@ -99,17 +100,17 @@ row_inner_aborts = record {
   calls = Asked (command.OneShot inner_aborts 0) (reply.Tid 1) ∷ attempt;
   ran = (
     begun,
-    made one_table 1 (command.OneShot inner_aborts 0) refl,
+    made one_table 1 (command.OneShot inner_aborts 0) none_handed,
     (
       wrote,
-      made begun 1 (command.Do write_a) refl,
+      made begun 1 (command.Do write_a) none_handed,
       (
         nested,
-        made wrote 1 command.Begin refl,
+        made wrote 1 command.Begin none_handed,
         (
           wrote_within,
-          made nested 1 (command.Do write_b) refl,
-          (undone, made wrote_within 1 (command.Abort why) refl, (has_read, made undone 1 (command.Do read) refl, (committed, made has_read 1 command.Commit refl, refl))),
+          made nested 1 (command.Do write_b) none_handed,
+          (undone, made wrote_within 1 (command.Abort why) none_handed, (has_read, made undone 1 (command.Do read) none_handed, (committed, made has_read 1 command.Commit none_handed, refl))),
         ),
       ),
     ),
@@ -201,7 +202,7 @@ pub row_fails : IsDriven one_table 1 (command.OneShot fails 5) (reply.NoTable (c
 unfolding outcome canon int_contents
 row_fails = record {
   calls = Asked (command.OneShot fails 5) (reply.Tid 1) ∷ Asked (command.Do write_a) reply.Done ∷ Asked (command.Do read_nosuch) (reply.NoTable (codes "nosuch")) ∷ [];
-  ran = (begun_to_fail, made one_table 1 (command.OneShot fails 5) refl, (wrote_first, made begun_to_fail 1 (command.Do write_a) refl, (failed, made wrote_first 1 (command.Do read_nosuch) refl, refl)));
+  ran = (begun_to_fail, made one_table 1 (command.OneShot fails 5) none_handed, (wrote_first, made begun_to_fail 1 (command.Do write_a) none_handed, (failed, made wrote_first 1 (command.Do read_nosuch) none_handed, refl)));
   one_shot = inl (
     reply.Tid 1,
     _,
@@ -271,17 +272,17 @@ row_nomore = record {
   calls = Asked reads_once (reply.Tid 2) ∷ attempts 3;
   ran = (
     begun_anew 0,
-    made locked 2 reads_once refl,
+    made locked 2 reads_once none_handed,
     (
       begun_anew 1,
-      made (begun_anew 0) 2 (command.Do read) refl,
+      made (begun_anew 0) 2 (command.Do read) none_handed,
       (
         begun_anew 2,
-        made (begun_anew 1) 2 (command.Do read) refl,
+        made (begun_anew 1) 2 (command.Do read) none_handed,
         (
           begun_anew 3,
-          made (begun_anew 2) 2 (command.Do read) refl,
-          (given_up, made (begun_anew 3) 2 (command.Abort zero_reason) refl, refl),
+          made (begun_anew 2) 2 (command.Do read) none_handed,
+          (given_up, made (begun_anew 3) 2 (command.Abort zero_reason) none_handed, refl),
         ),
       ),
     ),

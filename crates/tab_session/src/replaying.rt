@@ -38,7 +38,8 @@ fn run_all<R: Source, W: Target>(
     requires splitter { splitter.old ≡ record { rest = []; over = None; before = [] } }
     requires room { length piece.old ≡ 65536 }
     ensures bytes { IfSome (R.remaining input.old) (λ stream. length stream < 2 ^ 64 - 1 →
-        Replayed outbox stream (R.remaining input.new) (W.contents output.old) (W.contents output.new) result) }
+        Replayed outbox stream (R.remaining input.new) (W.contents output.old)
+        (W.contents output.new) result) }
     ensures faults { Faults (R.faults input.old) (R.faults input.new) (W.faults output.old)
         (W.faults output.new) result }
     ensures flushed { IsTrue (W.is_flushed output.old)
@@ -81,7 +82,8 @@ pub fn replay<R: Source, W: Target>(
     outbox: usize,
 ) -> Result<(), Ended>
     ensures bytes { IfSome (R.remaining input.old) (λ stream. length stream < 2 ^ 64 - 1 →
-        Replayed outbox stream (R.remaining input.new) (W.contents output.old) (W.contents output.new) result) }
+        Replayed outbox stream (R.remaining input.new) (W.contents output.old)
+        (W.contents output.new) result) }
     ensures faults { Faults (R.faults input.old) (R.faults input.new) (W.faults output.old)
         (W.faults output.new) result }
     ensures flushed { IsTrue (W.is_flushed output.old)

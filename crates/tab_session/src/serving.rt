@@ -88,7 +88,8 @@ pub fn serve_piece<W: Target>(
         IsReplaying outbox stream left splitter.old.rest i core.old old (W.contents output.old) →
         payloads splitter.old.rest ≡ [] →
         Consumes left new_left piece.now → 0 < length piece.now → length piece.now ≤ 65536 →
-        Advances outbox result stream new_left splitter.new.rest (i + 1) core.new old (W.contents output.new) }
+        Advances outbox result stream new_left splitter.new.rest (i + 1) core.new old
+        (W.contents output.new) }
     ensures going { OnOk result (splitter.new.over ≡ None) }
     ensures faults { OneFault (W.faults output.old) (W.faults output.new) result }
     ensures flushed { HasFlushed result (W.is_flushed output.new) }

@@ -22,7 +22,9 @@ pub fn core_after<P: Post + Drop>(
     requires empty { AllJoinEmpty (asks_of P.outbox steps.items) }
 
     // The log is legal, and the tables are those of its commits run alone, one after another.
-    ensures { IfOk result (λ r. (log : List EntryOf) × RunsTo (new limits) (asks_of P.outbox steps.items) r.1.items log r.0
+    ensures { IfOk result
+        (λ r. (log : List EntryOf)
+        × RunsTo (new limits) (asks_of P.outbox steps.items) r.1.items log r.0
         × IsTied r.0 log (λ m. taken_in m (asks_of P.outbox steps.items) r.1.items)) }
 {
     steps_keep_what_holds();

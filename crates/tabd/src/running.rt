@@ -50,10 +50,20 @@ where
     G: Gate + Notes + Paged + Sync,
     requires { opened ≡ J.book }
     ensures replayed { IfOk asked (λ words. (end : EndOf) × (exit_status result ≡ status_of end)
-        × OfRun words (λ outbox. Plays outbox (streams (R.remaining input.old) (W.contents output.old) (R.faults input.old) (W.faults output.old)) (streams (R.remaining input.new) (W.contents output.new) (R.faults input.new) (W.faults output.new)) end) (input.new ≡ input.old)
-        × TellsEnd (line_of end) (E.contents errors.old) (E.contents errors.new) (E.faults errors.old) (E.faults errors.new)) }
-    ensures shown { IfErr asked (λ error. (end : EndOf) × (exit_status result ≡ status_of end) × IsShown (end_of_words (kind_of error)) end
-        × OnStreams (end_of_words (kind_of error)) (output.new ≡ output.old) (TellsEnd (line_of end) (E.contents errors.old) (E.contents errors.new) (E.faults errors.old) (E.faults errors.new))) }
+        × OfRun words
+        (λ outbox. Plays outbox
+        (streams (R.remaining input.old) (W.contents output.old) (R.faults input.old)
+        (W.faults output.old))
+        (streams (R.remaining input.new) (W.contents output.new) (R.faults input.new)
+        (W.faults output.new)) end) (input.new ≡ input.old)
+        × TellsEnd (line_of end) (E.contents errors.old) (E.contents errors.new)
+        (E.faults errors.old) (E.faults errors.new)) }
+    ensures shown { IfErr asked
+        (λ error. (end : EndOf) × (exit_status result ≡ status_of end)
+        × IsShown (end_of_words (kind_of error)) end
+        × OnStreams (end_of_words (kind_of error)) (output.new ≡ output.old)
+        (TellsEnd (line_of end) (E.contents errors.old) (E.contents errors.new)
+        (E.faults errors.old) (E.faults errors.new))) }
     ensures input { OnErr asked (input.new ≡ input.old) }
 {
     match asked {
