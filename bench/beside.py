@@ -170,7 +170,8 @@ def head():
     mnesia = version("erl", "-noshell", "-eval", vsn)
     redis = re.search(r"v=(\S+)", version("redis-server", "--version"))[1]
     with open("/proc/cpuinfo", encoding="utf-8") as file:
-        processor = re.search(r"model name\s*: (.*)", file.read())[1]
+        found = re.search(r"model name\s*: (.*)", file.read())
+    processor = found[1] if found else os.uname().machine
     return [
         f"tabd's rate divided by that of Mnesia {mnesia} behind a server of the same frames, and by that of Redis {redis}, over sockets on one machine of",
         f"{os.cpu_count()} hardware threads ({processor}), {time.strftime('%Y-%m-%d')}: {KEYS:,} records with values of {len(VALUE)} bytes. Each figure is the median of {ROUNDS}",

@@ -27,7 +27,7 @@ use Rattle.tab_post.specs.Ends.{empty_outbox}
 use Rattle.tab_book.specs.declared.step.Step.{Step}
 use Rattle.tab_book.specs.declared.step.Step.TheVariants as step
 use Rattle.tab_book.specs.Running.{Running, IsRunning, HavePlaces, Holds}
-use Rattle.tab_book.specs.Steps.{oldest_joined, folded, with_folds, until_room, with_room_made, with_room, with_entries, leaves, has_room, with_session, StepsFrom, KeepsPosts, ask_of, is_never_refused}
+use Rattle.tab_book.specs.Steps.{oldest_joined, folded, with_folds, until_room, with_room_made, with_room, with_entries, leaves, has_room, with_new_session, StepsFrom, KeepsPosts, ask_of, is_never_refused}
 
 pub new_holds : (outbox seen : ℕ) (limits : Limits) (n : ℕ) → 1 ≤ outbox → 1 ≤ n → Holds outbox seen (new limits) (record { base = empty; entries = []; limit = n })
 new_holds outbox seen limits n room limit = record {
@@ -327,14 +327,14 @@ own_ask seen step.Retry = tt
 
 -- ---- the next number joins
 
-pub joins_made : (σ : State) (over : List ℕ) (n : ℕ) (b : Outbox) → IsSound σ → has_room σ ≡ true → n ≡ σ.greatest + 1 → outcome σ over n (Join b) ≡ step_without_entry (with_session σ n b) reply.Done
+pub joins_made : (σ : State) (over : List ℕ) (n : ℕ) (b : Outbox) → IsSound σ → has_room σ ≡ true → n ≡ σ.greatest + 1 → outcome σ over n (Join b) ≡ step_without_entry (with_new_session σ n b) reply.Done
 unfolding outcome
 joins_made σ over n b sound room is = by (session_at σ.sessions n) refl
   where
     above : nat_lt σ.greatest n ≡ true
     above = grind (arith, nat_tests)
 
-    by : (o : Option Session) → session_at σ.sessions n ≡ o → step_of σ over n (Join b) o ≡ step_without_entry (with_session σ n b) reply.Done
+    by : (o : Option Session) → session_at σ.sessions n ≡ o → step_of σ over n (Join b) o ≡ step_without_entry (with_new_session σ n b) reply.Done
     by None e = λ i. join_if σ n b (above i) ((and_parts (nat_lt σ.greatest (2 ^ 32 - 1)) (nat_lt (length σ.sessions) σ.limits.sessions) room).1 i)
     by (Some s) e = let le = sound.joined n s e in absurd (omega (arith, le, is))
 
@@ -363,7 +363,7 @@ holds_more outbox seen more σ j le k = record { room = k.room; limit = k.limit;
 pub unseen : (seen : ℕ) (σ : State) (m : ℕ) → HavePlaces seen σ → seen ≤ m → (n : ℕ) (s : Session) → session_at σ.sessions n ≡ Some s → s.outbox.mailbox ≢ Some m
 unseen seen σ m places le n s here same = let h = subst (λ (x : Option ℕ). IfSome x (λ place. place < seen)) same (found_has (HasPlace seen) σ.sessions n s places here) in absurd (omega (arith, h, le))
 
-pub join_posts : (σ : State) (n : ℕ) (b : Outbox) → IsSound σ → has_room σ ≡ true → n ≡ σ.greatest + 1 → KeepsPosts σ (with_session σ n b)
+pub join_posts : (σ : State) (n : ℕ) (b : Outbox) → IsSound σ → has_room σ ≡ true → n ≡ σ.greatest + 1 → KeepsPosts σ (with_new_session σ n b)
 join_posts σ n b sound room is m s x g h = post_stays σ sound [] n (Join b) m s x g (ap (λ (o : Outcome). session_at o.state.sessions m) (joins_made σ [] n b sound room is) ∙ h)
 
 pub keeps_own : (σ : State) → KeepsPosts σ σ
@@ -371,7 +371,7 @@ keeps_own σ m s r g h = (cc, cc)
 
 -- the next number has joined with a mailbox whose place was not seen before
 pub joined_holds : (outbox seen more : ℕ) (σ τ : State) (j : Kept) → Holds outbox seen σ j → has_room σ ≡ true → (n : ℕ) → n ≡ σ.greatest + 1 → (b : Outbox) (m : ℕ) → b ≡ empty_outbox m → seen ≤ m → m < more
-    → τ ≡ with_session σ n b → IsSound τ → Holds outbox more τ j
+    → τ ≡ with_new_session σ n b → IsSound τ → Holds outbox more τ j
 joined_holds outbox seen more σ τ j k room n is b m new le within made sound =
     subst (λ (x : State). Holds outbox more x j) (sym made)
-    (join_holds outbox more σ j (holds_more outbox seen more σ j (omega (arith, le, within)) k) [] n b (step_without_entry (with_session σ n b) reply.Done) (joins_made σ [] n b k.sound room is) (new_post more b m new within) (subst IsSound made sound))
+    (join_holds outbox more σ j (holds_more outbox seen more σ j (omega (arith, le, within)) k) [] n b (step_without_entry (with_new_session σ n b) reply.Done) (joins_made σ [] n b k.sound room is) (new_post more b m new within) (subst IsSound made sound))

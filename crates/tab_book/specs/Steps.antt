@@ -1,5 +1,5 @@
--- What the calls of a book do (this project's own). A step is the core's, and its entry is put into the journal, from which
--- the oldest go first where it is full.
+-- What the calls of a book do (this project's own). A step is the core's, and its entry is put into the journal, whose oldest
+-- entries are folded into its base before where it is full.
 use Rattle.std.specs.Prelude.{◌≡◌, ◌≢◌, ◌+◌, ◌-◌, ◌^◌, ℕ, zero, suc, List, [], ◌∷◌, ◌++◌, Bool, true, false, ◌&&◌, ◌==◌, nat_lt, if◌then◌else◌, Option, Some, length}
 use Rattle.tab_model.specs.declared.data.Entry.{Entry}
 use Rattle.tab_model.specs.declared.data.Item.{Item}
@@ -29,7 +29,7 @@ is_never_refused step.Leave = true
 is_never_refused (step.Do c) = is_abort c
 is_never_refused step.Retry = false
 
--- of the oldest entry, whether its session is still joined
+-- the oldest entry is a subscription whose session is still joined
 abbrev pub oldest_joined : State → List Entry → Bool
 oldest_joined σ [] = false
 oldest_joined σ (e ∷ es) = still_joined σ e
@@ -54,7 +54,7 @@ until_room σ limit b (e ∷ es) =
 abbrev pub with_room_made : State → Kept → Kept
 with_room_made σ j = until_room σ j.limit j.base j.entries
 
--- there is room for an entry where the step may give one
+-- the same where the step may give an entry, and else as it is
 abbrev pub with_room : State → ℕ → Ask → Kept → Kept
 with_room σ n a j = if may_enter σ n a then with_room_made σ j else j
 
@@ -70,7 +70,7 @@ leaves σ n Retry = false
 leaves σ n Take = false
 leaves σ n (DoCommand c) = false
 
--- it is forgotten
+-- where the session leaves, its subscriptions go from the base
 abbrev pub forgetting : State → ℕ → Ask → Kept → Kept
 forgetting σ n a j = if leaves σ n a then forget j n else j
 
@@ -89,12 +89,12 @@ pub record StepsFrom (σ : State) (journal : Kept) (n : ℕ) (a : Ask) (r : Repl
 abbrev pub StepsTo : Running → ℕ → Ask → Reply → Running → Type 0
 StepsTo old n a r new = StepsFrom old.state (with_room old.state n a old.journal) n a r new
 
--- one that was refused for memory left the journal as it was, or with so many of its oldest entries folded
+-- one that was refused for memory changed nothing but that so many of the oldest entries may be folded
 pub record MayFold (old : Running) (n : ℕ) (a : Ask) (new : Running) : Type 0 where
   pub state : new.state ≡ old.state
   pub folds : ℕ
   pub journal : new.journal ≡ with_folds old.state folds old.journal
-  -- and none that the step doesn't fold: from there it makes the same room
+  -- only such as the step itself folds: made again, it ends with the same journal
   pub room : with_room old.state n a new.journal ≡ with_room old.state n a old.journal
 
 -- a session that stays has the post that it had
@@ -103,21 +103,21 @@ KeepsPosts σ τ = (m : ℕ) (s r : Session) → session_at σ.sessions m ≡ So
 
 -- ---- joining
 
--- fewer are joined than the limit says, and a number is left
+-- fewer are joined than the limit says, and a session's number is left, of which 2 ^ 32 - 1 is the greatest
 abbrev pub has_room : State → Bool
 has_room σ = nat_lt σ.greatest (2 ^ 32 - 1) && nat_lt (length σ.sessions) σ.limits.sessions
 
 -- the state with one more session, which has this post, and whose number is now the greatest
-abbrev pub with_session : State → ℕ → Outbox → State
-with_session σ n b = record σ { sessions = σ.sessions ++ fresh n b ∷ []; greatest = n }
+abbrev pub with_new_session : State → ℕ → Outbox → State
+with_new_session σ n b = record σ { sessions = σ.sessions ++ fresh n b ∷ []; greatest = n }
 
--- the next number joins, whose post's other end is that of this mailbox, and nothing was taken there
+-- a session joins with the next number; its post is the sending end of this mailbox, from which nothing was received
 pub record Joins (old : Running) (session mailbox : ℕ) (taken : List Item) (new : Running) : Type 0 where
   pub room : has_room old.state ≡ true
   pub number : session ≡ old.state.greatest + 1
-  pub state : new.state ≡ with_session old.state session (empty_outbox mailbox)
+  pub state : new.state ≡ with_new_session old.state session (empty_outbox mailbox)
   pub nothing_taken : taken ≡ []
-  -- it is no mailbox of a session that sits
+  -- it is no mailbox of a joined session
   pub fresh : (n : ℕ) (s : Session) → session_at old.state.sessions n ≡ Some s → s.outbox.mailbox ≢ Some mailbox
   pub journal : new.journal ≡ old.journal
 

@@ -5,7 +5,7 @@ ghost use Rattle.tab_model.specs.History.{empty as empty_base};
 ghost use Rattle.tab_model.specs.State.{new as new_state, IsSound};
 ghost use Rattle.tab_post.specs.Ends.{as_outbox, mailbox_of, received};
 ghost use Rattle.tab_book.specs.Running.{IsRunning};
-ghost use Rattle.tab_book.specs.Steps.{Joins, Refuses, has_room as has_room_of, with_session, KeepsPosts};
+ghost use Rattle.tab_book.specs.Steps.{Joins, Refuses, has_room as has_room_of, with_new_session, KeepsPosts};
 
 use crate::step::JoinFault;
 use arrayvec::ArrayVec;
@@ -155,7 +155,7 @@ fn seat<H: Host>(
     requires sound { IsSound core.old }
     requires room { IsTrue (has_room_of core.old) }
     requires number { session ≡ core.old.greatest + 1 }
-    ensures ok { OnOk result (core.new ≡ with_session core.old session (as_outbox post)) }
+    ensures ok { OnOk result (core.new ≡ with_new_session core.old session (as_outbox post)) }
     ensures err { OnErr result (core.new ≡ core.old) }
     ensures sound { IsSound core.new }
 {

@@ -17,7 +17,7 @@ use Rattle.tab_model.specs.Log.{has_session}
 use Rattle.tab_model.specs.Slices.{dump_of}
 use Rattle.tab_model.specs.State.{Watch, Session, State, session_at, is_waiting, level_in, without_watch}
 use Rattle.tab_model.specs.Outcome as plain
-use Rattle.tab_model.specs.Outcome.{Take, DoCommand, Outcome, outcome, step_without_entry, with_items, with_refusal, items_to_take, give, put_marker, do_command, refused_if, subscribe_refusal, unsubscribe_refusal, is_at, is_abort}
+use Rattle.tab_model.specs.Outcome.{Take, DoCommand, Outcome, outcome, step_without_entry, with_items, with_refusal, items_to_take, give, put_marker, do_command, refusal_if, subscribe_refusal, unsubscribe_refusal, is_at, is_abort}
 use Rattle.tab_model.proofs.StepCases.{command_if, subscribe_refusal_if, subscribe_if, unsubscribe_if}
 use Rattle.tab_model.specs.Run.{Allowed, IsSplitByOverflow, put_ask, put_command}
 use Rattle.tab_model.proofs.Splits.{none_handed, split_fits}
@@ -243,14 +243,14 @@ subscribes σ t l dump = record {
   marks = λ over s h. (ap (subscribe_if σ over s t l dump) h, ap (λ o. if is_some o then [] else s ∷ []) h);
 }
 
-at_level : (b : Bool) (t : List ℕ) → (r : Reply) → refused_if (not b) (reply.NotSubscribed t) ≡ Some r → (b ≡ false) × (r ≡ reply.NotSubscribed t)
+at_level : (b : Bool) (t : List ℕ) → (r : Reply) → refusal_if (not b) (reply.NotSubscribed t) ≡ Some r → (b ≡ false) × (r ≡ reply.NotSubscribed t)
 at_level true t r h = cc
 at_level false t r h = (refl, sym (one h))
   where
     one : {a : Reply} → Some a ≡ Some r → a ≡ r
     one q = cc
 
-off_level : (b : Bool) (t : List ℕ) → refused_if (not b) (reply.NotSubscribed t) ≡ None → b ≡ true
+off_level : (b : Bool) (t : List ℕ) → refusal_if (not b) (reply.NotSubscribed t) ≡ None → b ≡ true
 off_level true t h = refl
 off_level false t h = cc
 
@@ -361,8 +361,8 @@ module _ (bs : List Subscriber) (σ : State) (n : ℕ) (t : List ℕ) (free : No
   may_subscribe e f g = sym (asked false true false (sym e) (sym f) (sym g))
 
   -- the one test of its end
-  at_it : (l : Level) (a : Bool) → is_at (subs.level_of (at bs n) t) l ≡ a → refusal bs σ n (unsubscribe_refusal t l) ≡ refused_if (not a) (reply.NotSubscribed t)
-  at_it l a e = own (unsubscribe_refusal t l) ∙ ap (λ b. refused_if (not b) (reply.NotSubscribed t)) (ap (λ o. is_at o l) (ap (λ m. level_in (Rattle.tab_core.specs.SessionLists.watching_of (at bs m)) t) is_n ∙ sym (level_seen (at bs n) t)) ∙ e)
+  at_it : (l : Level) (a : Bool) → is_at (subs.level_of (at bs n) t) l ≡ a → refusal bs σ n (unsubscribe_refusal t l) ≡ refusal_if (not a) (reply.NotSubscribed t)
+  at_it l a e = own (unsubscribe_refusal t l) ∙ ap (λ b. refusal_if (not b) (reply.NotSubscribed t)) (ap (λ o. is_at o l) (ap (λ m. level_in (Rattle.tab_core.specs.SessionLists.watching_of (at bs m)) t) is_n ∙ sym (level_seen (at bs n) t)) ∙ e)
 
   pub may_unsubscribe : (l : Level) → true ≡ is_at (subs.level_of (at bs n) t) l → None ≡ refusal bs σ n (unsubscribe_refusal t l)
   may_unsubscribe l e = sym (at_it l true (sym e))

@@ -4,7 +4,7 @@ use Rattle.tab_model.specs.declared.data.Entry.{Entry}
 use Rattle.tab_model.specs.declared.data.Reply.{Reply}
 use Rattle.tab_model.specs.declared.data.Reply.TheVariants as reply
 use Rattle.tab_model.specs.State.{Session, State, is_waiting}
-use Rattle.tab_model.specs.Outcome.{refused_if}
+use Rattle.tab_model.specs.Outcome.{refusal_if}
 use Rattle.tab_manager.specs.declared.step.Stepped.{Stepped}
 use Rattle.tab_subs.specs.declared.answers.Taken.{Taken}
 use Rattle.tab_subs.specs.declared.answers.Taken.TheVariants as taken
@@ -16,11 +16,11 @@ abbrev pub refused_by : State → ℕ → (Session → Option Reply) → Option 
 refused_by σ n f None = Some reply.BadSession
 refused_by σ n f (Some s) = if is_waiting σ n then Some reply.WaitingNow else f s
 
--- a session that stands in a transaction
+-- what refuses a session that is in a transaction
 abbrev pub inside_refusal : Session → Option Reply
-inside_refusal s = refused_if (is_some s.transaction) reply.InTransaction
+inside_refusal s = refusal_if (is_some s.transaction) reply.InTransaction
 
--- the reply to a mark that a post took or refused, and the entry of one that it took
+-- the reply to a marker that a post took or refused, and the entry of one that it took
 abbrev pub marked_reply : Option Marked → Entry → Stepped
 marked_reply None e = record { reply = reply.BadSession; entry = None }
 marked_reply (Some mark.Full) e = record { reply = reply.OutboxFull; entry = None }

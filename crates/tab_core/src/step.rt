@@ -26,8 +26,7 @@ pub(crate) fn with_overflowed(stepped: Stepped, over: Numbers) -> Stepped
     ensures { result
         ≡ record {
           reply = stepped.reply;
-          entry = option_map
-              (with_overflowed_of over) stepped.entry;
+          entry = option_map (with_overflowed_of over) stepped.entry;
         } }
 {
     let Stepped { reply, entry } = stepped;

@@ -116,20 +116,20 @@ module _ (m : Machine) (n i : ℕ) (k : IsKept m) (there : IsHeldAt m.sessions.i
 
     -- ---- dies
     pub dies : (o : Operation) → is_waiting σ n ≡ false → nat_lt (count_moves t.store.moves) m.limits.operations ≡ true → decide m.ages (t.age, needs o) ≡ Die
-        → outcome σ [] n (DoCommand (command.Do o)) ≡ step_without_entry (state_with m (set m.sessions.items i (works.emptied s)) m.queue.items) reply.Restart
+        → outcome σ [] n (DoCommand (command.Do o)) ≡ step_without_entry (state_with m (set m.sessions.items i (works.without_moves s)) m.queue.items) reply.Restart
     dies o idle room h =
         asks_lock o Die idle room h
         ∙ ap (λ x. step_without_entry (Rattle.tab_model.specs.Outcome.with_session σ (Rattle.tab_model.specs.Outcome.with_transaction (session_of s) x)) reply.Restart) (ap (option_map (λ v. transaction_of (works.with_store v no_store))) (sym open_t) ∙ mapped s.transaction)
-        ∙ ap (λ ss. let τ : State = record { tables = m.catalog; sessions = ss; queue = map queued_of m.queue.items; next_age = m.begun + 1; commits = m.commits; greatest = m.greatest; limits = m.limits } in step_without_entry τ reply.Restart) (sym (keep.seats' m n i k there (works.emptied s) refl))
+        ∙ ap (λ ss. let τ : State = record { tables = m.catalog; sessions = ss; queue = map queued_of m.queue.items; next_age = m.begun + 1; commits = m.commits; greatest = m.greatest; limits = m.limits } in step_without_entry τ reply.Restart) (sym (keep.seats' m n i k there (works.without_moves s) refl))
       where
         mapped : (x : Option kept.Transaction) → option_map (λ v. transaction_of (works.with_store v no_store)) x ≡ option_map transaction_of (option_map (λ v. works.with_store v no_store) x)
         mapped None = refl
         mapped (Some v) = refl
 
-    pub die_agrees : is_waiting σ n ≡ false → (m' : Machine) → m'.catalog ≡ m.catalog → m'.sessions.items ≡ set m.sessions.items i (works.emptied s) → m'.limits ≡ m.limits → m'.begun ≡ m.begun → m'.commits ≡ m.commits
+    pub die_agrees : is_waiting σ n ≡ false → (m' : Machine) → m'.catalog ≡ m.catalog → m'.sessions.items ≡ set m.sessions.items i (works.without_moves s) → m'.limits ≡ m.limits → m'.begun ≡ m.begun → m'.commits ≡ m.commits
         → m'.ages ≡ forget m.ages t.age → m'.queue.items ≡ m.queue.items → Agree m'
     die_agrees idle m' catalog sessions limits begun commits ages queue =
-        over_agrees m n i k there t open_t (works.emptied s) refl (ap (λ x. plain.locks_held_by (option_map transaction_of (option_map (λ v. works.with_store v no_store) x))) open_t) (fits s.transaction) (few s.transaction) m' catalog sessions limits begun commits
+        over_agrees m n i k there t open_t (works.without_moves s) refl (ap (λ x. plain.locks_held_by (option_map transaction_of (option_map (λ v. works.with_store v no_store) x))) open_t) (fits s.transaction) (few s.transaction) m' catalog sessions limits begun commits
         (ap (λ (g : Ages). g.held) ages)
         (ap (λ (g : Ages). g.queue) ages ∙ keep.not_queued m n i k there t open_t idle ∙ k.agree.queue ∙ ap (λ qs. locks_queued_in (map queued_of qs)) (sym queue))
       where
@@ -220,10 +220,10 @@ module _ (m : Machine) (n i : ℕ) (k : IsKept m) (there : IsHeldAt m.sessions.i
         leaves m m' m.sessions.items (m.queue.items ++ q ∷ []) n (DoCommand (command.Do o)) reply.Waiting k nx (waits o q is idle room h)
         (wait_agrees o q is m' nx.catalog nx.sessions nx.limits nx.begun nx.commits ages nx.queue)
 
-    pub die_exit : (o : Operation) (s2 v : code.Session) (m' : Machine) → s2 ≡ s → v ≡ works.emptied s2 → is_waiting σ n ≡ false → nat_lt (count_moves t.store.moves) m.limits.operations ≡ true → decide m.ages (t.age, needs o) ≡ Die
+    pub die_exit : (o : Operation) (s2 v : code.Session) (m' : Machine) → s2 ≡ s → v ≡ works.without_moves s2 → is_waiting σ n ≡ false → nat_lt (count_moves t.store.moves) m.limits.operations ≡ true → decide m.ages (t.age, needs o) ≡ Die
         → {g : Ages} → g ≡ m.ages → m'.ages ≡ works.forgotten_if g s2.transaction → IsNext m m' (set m.sessions.items i v) m.queue.items → Leaves m m' n (DoCommand (command.Do o)) reply.Restart
     die_exit o s2 v m' same empty idle room h {g} before ages nx =
-        let v_is = empty ∙ ap works.emptied same in
+        let v_is = empty ∙ ap works.without_moves same in
         leaves m m' (set m.sessions.items i v) m.queue.items n (DoCommand (command.Do o)) reply.Restart k nx
         (dies o idle room h ∙ ap (λ z. step_without_entry (state_with m (set m.sessions.items i z) m.queue.items) reply.Restart) (sym v_is))
         (die_agrees idle m' nx.catalog (nx.sessions ∙ ap (set m.sessions.items i) v_is) nx.limits nx.begun nx.commits

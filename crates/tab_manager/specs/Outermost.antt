@@ -21,5 +21,5 @@ abbrev pub ending_of : Transaction → ℕ × List Change
 ending_of t = (t.age, surviving t.moves t.told)
 
 -- the age of a transaction that its commit ends, and its updates in order
-abbrev pub told_of : Ending → ℕ × List Change
-told_of e = (e.age, e.updates.now)
+abbrev pub age_and_updates : Ending → ℕ × List Change
+age_and_updates e = (e.age, e.updates.now)

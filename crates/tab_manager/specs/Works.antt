@@ -28,8 +28,8 @@ abbrev pub ended : code.Session → code.Session
 ended s = record { number = s.number; transaction = None }
 
 -- the session, whose transaction, if it has one, starts anew with the age that it has
-abbrev pub emptied : code.Session → code.Session
-emptied s = record { number = s.number; transaction = option_map (λ t. with_store t no_store) s.transaction }
+abbrev pub without_moves : code.Session → code.Session
+without_moves s = record { number = s.number; transaction = option_map (λ t. with_store t no_store) s.transaction }
 
 -- the locks and requests without those of this transaction, if there is one
 abbrev pub forgotten_if : Ages → Option kept.Transaction → Ages

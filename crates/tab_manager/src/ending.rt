@@ -7,7 +7,7 @@ ghost use Rattle.tab_model.specs.State.{Transaction as Opened, is_waiting};
 ghost use Rattle.tab_model.specs.Outcome.{DoCommand};
 ghost use Rattle.tab_manager.specs.SessionLists.{state_of, IsHeldAt};
 ghost use Rattle.tab_manager.specs.Kept.{IsKept};
-ghost use Rattle.tab_manager.specs.Outermost.{outermost, ending_of, told_of};
+ghost use Rattle.tab_manager.specs.Outermost.{outermost, ending_of, age_and_updates};
 ghost use Rattle.tab_manager.specs.Steps.{StepsTo};
 
 use crate::levels::finish;
@@ -28,7 +28,7 @@ impl Machine {
     /// The end of the session's transaction, where level 1 alone is open and nothing waits.
     pub fn outermost(&self, session: u32) -> Option<Ending<'_>>
         requires kept { IsKept self.now }
-        ensures { option_map told_of result
+        ensures { option_map age_and_updates result
             ≡ option_map ending_of (outermost (state_of self.now) session) }
     {
         if self.waits(session) {
@@ -45,7 +45,7 @@ impl Machine {
         requires kept { IsKept self.now }
         requires there { IsHeldAt self.now.sessions.items session place }
         requires idle { IsFalse (is_waiting (state_of self.now) session) }
-        ensures { option_map told_of result
+        ensures { option_map age_and_updates result
             ≡ option_map ending_of (outermost (state_of self.now) session) }
     {
         let Some(transaction) = &self.sessions[place].transaction else {

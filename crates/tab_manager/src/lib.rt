@@ -12,7 +12,7 @@ ghost use Rattle.tab_model.specs.Outcome.{DoCommand};
 ghost use Rattle.tab_model.specs.Standing.{levels_of};
 ghost use Rattle.tab_model.specs.State.{Transaction, new, session_at, is_waiting, IsSound};
 ghost use Rattle.tab_model.specs.Reached.{IsRising};
-ghost use Rattle.tab_manager.specs.Outermost.{outermost, ending_of, told_of};
+ghost use Rattle.tab_manager.specs.Outermost.{outermost, ending_of, age_and_updates};
 ghost use Rattle.tab_manager.specs.Steps.{ask_of, is_quiet_step, StepsTo, takes_no_memory};
 
 mod command;
@@ -90,7 +90,7 @@ impl Manager {
     /// The transaction that a commit of the session would end, and what it would change: of a session that waits for
     /// nothing, and stands in no child.
     pub fn outermost(&self, session: u32) -> Option<Ending<'_>>
-        ensures { option_map told_of result ≡ option_map ending_of (outermost self.now session) }
+        ensures { option_map age_and_updates result ≡ option_map ending_of (outermost self.now session) }
     {
         self.machine.outermost(session)
     }

@@ -11,7 +11,7 @@ ghost use Rattle.tab_waitdie.specs.Decisions.{ages as ages_with};
 ghost use Rattle.tab_manager.specs.SessionLists.{state_of, IsHeldAt};
 ghost use Rattle.tab_manager.specs.Kept.{IsKept};
 ghost use Rattle.tab_manager.specs.Steps.{is_told_for_none};
-ghost use Rattle.tab_manager.specs.Works.{Works, WorksTo, emptied, ended, forgotten_if};
+ghost use Rattle.tab_manager.specs.Works.{Works, WorksTo, without_moves, ended, forgotten_if};
 
 use crate::machine::Machine;
 use crate::queue::{Request, find};
@@ -196,7 +196,7 @@ pub(crate) fn end_if(over: bool, slot: &mut Session, ages: &mut Ages)
 
 /// A younger transaction gives way: its operations and locks are gone; its age stays, and it rests for the lock.
 fn restart(slot: &mut Session, ages: &mut Ages)
-    ensures slot { slot.new ≡ emptied slot.old }
+    ensures slot { slot.new ≡ without_moves slot.old }
     ensures ages { ages.new ≡ forgotten_if ages.old slot.old.transaction }
 {
     if let Some(transaction) = &mut slot.transaction {

@@ -32,7 +32,7 @@ use Rattle.tab_model.specs.Outcome.{Ask, Join, Leave, Retry, Take, DoCommand, Ou
 use Rattle.tab_model.proofs.StepCases.{after_move, within_limit, try_again, open_level_1, open_child, commit_at, schema_if, subscribe_refusal_if, subscribe_if, unsubscribe_if, command_if, join_if}
 use Rattle.tab_model.specs.Run.{Call, outcome_of, after_all, entries, log_of, replies_of, AllJoinEmpty}
 use Rattle.tab_model.specs.Log.{IsLegal}
-use Rattle.tab_model.specs.Callers.{Caller, Callers, caller_with_move, caller_anew, AnswerKind, Made, kind_of, after_operation, after_answer, after_begin, hears_command, hears, commit_entry, schema_entry, subscription_entry, entry_of_command, entry_of_step, queue_after_operation, queue_after_answer, queue_after_command, queue_after_step, age_after_begin, age_after_command, age_after_step, AreHeard, Heard, silence, entry_of_call, hear, hear_all, heard_in}
+use Rattle.tab_model.specs.Callers.{Caller, Callers, caller_with_move, caller_anew, AnswerKind, Made, kind_of, after_operation, after_answer, after_begin, hears_command, hears, commit_entry, schema_entry, subscription_entry, entry_of_command, entry_of_step, queue_after_operation, queue_after_answer, queue_after_command, queue_after_step, age_after_begin, age_after_command, age_after_step, AreHeard, Hearsay, silence, entry_of_call, hear, hear_all, hearsay_of}
 use Rattle.tab_model.proofs.SessionLists.{eq_true, itself, found, session_at-change, session_at-push, session_at-without, session_at-map, mapped}
 use Rattle.tab_model.proofs.OperationAnswers.{answers}
 use Rattle.tab_model.proofs.RefusalLaws.{without-filter}
@@ -570,13 +570,13 @@ step_is_heard σ over n a ks heard = cases (session_at σ.sessions n) refl
     cases (Some s) here = subst (λ (m : ℕ). IsHeard σ m (ks m) over a (step_of_joined σ over s a)) (found σ.sessions s n here) (at_session s n (found σ.sessions s n here) here)
 
 -- each step keeps callers' knowledge right, and its entry is the one that they tell
-pub step_heard : (σ : State) (h : Heard) (c : Call) → AreHeard σ h.callers → let r = (outcome_of σ c).reply in AreHeard (outcome_of σ c).state (hear h c r).callers × (entry_of_call h c r ≡ (outcome_of σ c).entry)
+pub step_heard : (σ : State) (h : Hearsay) (c : Call) → AreHeard σ h.callers → let r = (outcome_of σ c).reply in AreHeard (outcome_of σ c).state (hear h c r).callers × (entry_of_call h c r ≡ (outcome_of σ c).entry)
 step_heard σ h c heard =
     let is = step_is_heard σ c.over c.session c.ask h.callers heard in
     (keeps_heard σ (outcome_of σ c).state c.session _ h.callers heard is.keeps, is.entry)
 
 -- the log of a run is what its callers hear
-pub run_log : (σ : State) (h : Heard) (calls : List Call) → AreHeard σ h.callers → (hear_all h calls (replies_of σ calls)).log ≡ h.log ++ log_of σ calls
+pub run_log : (σ : State) (h : Hearsay) (calls : List Call) → AreHeard σ h.callers → (hear_all h calls (replies_of σ calls)).log ≡ h.log ++ log_of σ calls
 run_log σ h [] heard = sym (append-nil h.log)
 run_log σ h (c ∷ calls) heard =
     let one = step_heard σ h c heard in
@@ -584,7 +584,7 @@ run_log σ h (c ∷ calls) heard =
     ∙ ap (λ (e : Option Entry). (h.log ++ entries e) ++ log_of (outcome_of σ c).state calls) one.1
     ∙ append_assoc h.log (entries (outcome_of σ c).entry) (log_of (outcome_of σ c).state calls)
 
-pub run_heard : (σ : State) (h : Heard) (calls : List Call) → AreHeard σ h.callers → AreHeard (after_all σ calls) (hear_all h calls (replies_of σ calls)).callers
+pub run_heard : (σ : State) (h : Hearsay) (calls : List Call) → AreHeard σ h.callers → AreHeard (after_all σ calls) (hear_all h calls (replies_of σ calls)).callers
 run_heard σ h [] heard = heard
 run_heard σ h (c ∷ calls) heard = run_heard (outcome_of σ c).state (hear h c (outcome_of σ c).reply) calls (step_heard σ h c heard).0
 
@@ -592,20 +592,20 @@ pub new_heard : (limits : Limits) → AreHeard (new limits) silence.callers
 new_heard limits = record { known = λ n t e. cc; waits = λ n q e. cc; aged = λ n. omega arith }
 
 -- for every schedule the log is the one that its callers tell
-pub schedule_log : (limits : Limits) (calls : List Call) → log_of (new limits) calls ≡ (heard_in limits calls).log
+pub schedule_log : (limits : Limits) (calls : List Call) → log_of (new limits) calls ≡ (hearsay_of limits calls).log
 schedule_log limits calls = sym (run_log (new limits) silence calls (new_heard limits))
 
 -- and each open transaction is what its caller knows
-schedule_open : (limits : Limits) (calls : List Call) (n : ℕ) (t : Transaction) → transaction_at (after_all (new limits) calls) n ≡ Some t → ((heard_in limits calls).callers n).transaction ≡ t
+schedule_open : (limits : Limits) (calls : List Call) (n : ℕ) (t : Transaction) → transaction_at (after_all (new limits) calls) n ≡ Some t → ((hearsay_of limits calls).callers n).transaction ≡ t
 schedule_open limits calls n t e = (run_heard (new limits) silence calls (new_heard limits)).known n t e
 
 -- what callers were told is legal
-pub schedule_heard_legal : (limits : Limits) (calls : List Call) → AllJoinEmpty calls → IsLegal [] 0 (heard_in limits calls).log
+pub schedule_heard_legal : (limits : Limits) (calls : List Call) → AllJoinEmpty calls → IsLegal [] 0 (hearsay_of limits calls).log
 schedule_heard_legal limits calls empty = subst (λ (log : List Entry). IsLegal [] 0 log) (schedule_log limits calls) (schedule_legal limits calls empty)
 
 -- and right on the tables as they are, in each open transaction
 pub schedule_heard_told : (limits : Limits) (calls : List Call) (n : ℕ) (t : Transaction) → transaction_at (after_all (new limits) calls) n ≡ Some t
-    → let k = ((heard_in limits calls).callers n).transaction in replies (start (after_all (new limits) calls).tables k.age) k.moves ≡ k.told
+    → let k = ((hearsay_of limits calls).callers n).transaction in replies (start (after_all (new limits) calls).tables k.age) k.moves ≡ k.told
 schedule_heard_told limits calls n t e =
     subst (λ (v : Transaction). replies (start (after_all (new limits) calls).tables v.age) v.moves ≡ v.told) (sym (schedule_open limits calls n t e))
     (subst (λ (o : Option Transaction). replies (start (after_all (new limits) calls).tables (age_in o)) (moves_in o) ≡ replies_in o) e (schedule_told limits calls n))

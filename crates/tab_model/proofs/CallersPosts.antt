@@ -22,7 +22,7 @@ use Rattle.tab_model.specs.State.{Transaction, Outbox, Watch, Session, Queued, S
 use Rattle.tab_model.specs.Outcome.{Ask, Join, Leave, Retry, Take, DoCommand, Outcome, outcome, step_without_entry, with_transaction, with_changed, after_overflow, with_items, make, by_lock_answer, operate, retry_in, retry, begin, one_shot, abort, after_put, batch_to, end_to, without_deleted, commit, events_now, schema, put_marker, subscribe_refusal, do_command, give, leave, step_of_joined, fresh, step_of_stranger, step_of}
 use Rattle.tab_model.proofs.StepCases.{within_limit, try_again, open_level_1, open_child, commit_at, schema_if, subscribe_refusal_if, subscribe_if, unsubscribe_if, command_if, join_if}
 use Rattle.tab_model.specs.Run.{Call, outcome_of, after_all, entries, replies_of}
-use Rattle.tab_model.specs.Callers.{Post, with_overflow, queue_after_step, age_after_step, post_after_entry, post_after_marker, post_after_command, post_after_answer, post_after_step, Heard, silence, entry_of_call, hear, hear_all, heard_in, AreHeard, IsAsTold}
+use Rattle.tab_model.specs.Callers.{Post, with_overflow, queue_after_step, age_after_step, post_after_entry, post_after_marker, post_after_command, post_after_answer, post_after_step, Hearsay, silence, entry_of_call, hear, hear_all, hearsay_of, AreHeard, IsAsTold}
 use Rattle.tab_model.proofs.SessionLists.{eq_true, found, session_at-change, session_at-push, session_at-without, session_at-map, mapped_some}
 use Rattle.tab_model.proofs.SoundSteps.{given_same, unwatched_same}
 use Rattle.tab_model.proofs.CallersLemmas.{IsHeard, new_heard, step_is_heard, step_heard}
@@ -285,11 +285,11 @@ commits_from-append : (c : ℕ) (xs ys : List Entry) → commits_from (commits_f
 commits_from-append c [] ys = refl
 commits_from-append c (x ∷ xs) ys = commits_from-append (count_after c x) xs ys
 
-told_post : (σ : State) (h : Heard) → IsAsTold σ h → (n : ℕ) → HasPost σ.sessions n (h.posts n)
+told_post : (σ : State) (h : Hearsay) → IsAsTold σ h → (n : ℕ) → HasPost σ.sessions n (h.posts n)
 told_post σ h told n x e = λ i. record { refusals = told.refusals n x e i; overflow = told.overflow n x e i }
 
 -- a state that is as callers tell it stays so
-step_as_told : (σ : State) (h : Heard) (c : Call) → IsAsTold σ h → IsAsTold (outcome_of σ c).state (hear h c (outcome_of σ c).reply)
+step_as_told : (σ : State) (h : Hearsay) (c : Call) → IsAsTold σ h → IsAsTold (outcome_of σ c).state (hear h c (outcome_of σ c).reply)
 step_as_told σ h c told = record {
   callers = one.0;
   commits = posted.commits
@@ -321,12 +321,12 @@ step_as_told σ h c told = record {
         (subst (λ (i : ℕ). HasPost τ.sessions n (post_after_step n i c.session c.ask r (outcome_of σ c).entry (h.posts n))) told.commits
         (posted.posts n (h.posts n) (told_post σ h told n)))
 
-run_as_told : (σ : State) (h : Heard) (calls : List Call) → IsAsTold σ h → IsAsTold (after_all σ calls) (hear_all h calls (replies_of σ calls))
+run_as_told : (σ : State) (h : Hearsay) (calls : List Call) → IsAsTold σ h → IsAsTold (after_all σ calls) (hear_all h calls (replies_of σ calls))
 run_as_told σ h [] told = told
 run_as_told σ h (c ∷ calls) told = run_as_told (outcome_of σ c).state (hear h c (outcome_of σ c).reply) calls (step_as_told σ h c told)
 
 -- for every schedule the state is as its callers tell it
-pub schedule_as_told : (limits : Limits) (calls : List Call) → IsAsTold (after_all (new limits) calls) (heard_in limits calls)
+pub schedule_as_told : (limits : Limits) (calls : List Call) → IsAsTold (after_all (new limits) calls) (hearsay_of limits calls)
 schedule_as_told limits calls =
     run_as_told (new limits) silence calls (record { callers = new_heard limits; commits = refl; queue = refl; next_age = refl; overflow = λ n s e. cc; refusals = λ n s e. cc })
 
@@ -345,7 +345,7 @@ take_tells σ over n i = cases (session_at σ.sessions n) refl
     cases (Some s) e h = (s, e, by_items s _ _ refl h)
 
 -- so what a Take is told is what callers tell
-pub schedule_told_overflow : (limits : Limits) (calls : List Call) (over : List ℕ) (n i : ℕ) → (outcome (after_all (new limits) calls) over n Take).reply ≡ reply.Overflow i → ((heard_in limits calls).posts n).overflow ≡ Some i
+pub schedule_told_overflow : (limits : Limits) (calls : List Call) (over : List ℕ) (n i : ℕ) → (outcome (after_all (new limits) calls) over n Take).reply ≡ reply.Overflow i → ((hearsay_of limits calls).posts n).overflow ≡ Some i
 schedule_told_overflow limits calls over n i told =
     let t = take_tells (after_all (new limits) calls) over n i told in
     sym ((schedule_as_told limits calls).overflow n t.0 t.1) ∙ t.2

@@ -1,6 +1,6 @@
 -- Who refuses, decided one after another.
-use Rattle.std.proofs.Common.{◌≡◌, ℕ, suc, ◌≤◌, ◌<◌, List, [], ◌∷◌, Bool, true, false, refl, sym, ap, ◌∙◌, subst, arith, length, map, Option, Some, None, inl, inr}
-use Rattle.std.specs.Prelude.{◌⊎◌, nat_le, is_some, if◌then◌else◌, IfSome}
+use Rattle.std.proofs.Common.{◌≡◌, ℕ, suc, ◌≤◌, List, [], ◌∷◌, Bool, true, false, refl, sym, ap, ◌∙◌, subst, arith, length, map, Option, Some, None, inl, inr}
+use Rattle.std.specs.Prelude.{nat_le, is_some, if◌then◌else◌, IfSome}
 use Rattle.std.specs.List.{filter}
 use Rattle.tab_model.specs.declared.data.Item.{Item}
 use Rattle.tab_model.specs.State.{Session}

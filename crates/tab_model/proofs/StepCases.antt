@@ -18,7 +18,7 @@ use Rattle.tab_model.specs.Schemas.{table_of_schema}
 use Rattle.tab_model.specs.Log.{has_session}
 use Rattle.tab_model.specs.Slices.{dump_of}
 use Rattle.tab_model.specs.State.{Transaction, Outbox, Session, State, without_request, ages_of, without_watch}
-use Rattle.tab_model.specs.Outcome.{Outcome, step_without_entry, refused_if, first_of, unless_refused, with_queue, with_move, make, by_lock_answer, begin_now, commit_now, events_now, schema_now, put_marker, do_command, join_now}
+use Rattle.tab_model.specs.Outcome.{Outcome, step_without_entry, refusal_if, first_of, unless_refused, with_queue, with_move, make, by_lock_answer, begin_now, commit_now, events_now, schema_now, put_marker, do_command, join_now}
 
 -- a move ends level 1, and with it the transaction
 abbrev pub after_move : Transaction → Move → Option Reply → Bool → Option Transaction
@@ -27,7 +27,7 @@ after_move transaction x r ends = if ends then None else Some (with_move transac
 -- an operation: the transaction may have one more
 abbrev pub within_limit : State → Session → Transaction → Operation → Bool → Outcome
 within_limit σ s transaction o room =
-    unless_refused σ (refused_if (not room) (reply.SystemLimit limit.Operations)) (by_lock_answer σ s transaction o (decide (ages_of σ) (transaction.age, needs o)))
+    unless_refused σ (refusal_if (not room) (reply.SystemLimit limit.Operations)) (by_lock_answer σ s transaction o (decide (ages_of σ) (transaction.age, needs o)))
 
 -- a Retry: nothing is in the way of the queued operation
 abbrev pub try_again : State → Session → Transaction → Operation → Bool → Outcome
@@ -36,12 +36,12 @@ try_again σ s transaction o free =
 
 -- level 1 begins: there is an age
 abbrev pub open_level_1 : State → Session → Bool → Outcome
-open_level_1 σ s room = unless_refused σ (first_of (refused_if (not room) (reply.SystemLimit limit.Ages) ∷ [])) (begin_now σ s)
+open_level_1 σ s room = unless_refused σ (first_of (refusal_if (not room) (reply.SystemLimit limit.Ages) ∷ [])) (begin_now σ s)
 
 -- a child begins: there is a level, and the transaction may have one more
 abbrev pub open_child : State → Session → Transaction → Bool → Bool → Outcome
 open_child σ s transaction level room =
-    unless_refused σ (first_of (refused_if (not level) (reply.SystemLimit limit.Nesting) ∷ refused_if (not room) (reply.SystemLimit limit.Operations) ∷ []))
+    unless_refused σ (first_of (refusal_if (not level) (reply.SystemLimit limit.Nesting) ∷ refusal_if (not room) (reply.SystemLimit limit.Operations) ∷ []))
     (make σ s transaction Open reply.Done)
 
 -- a commit: of level 1
@@ -52,12 +52,12 @@ commit_at σ over s transaction outermost =
 -- a schema command outside a transaction: what the tables refuse, a lock in its table, there may be one table more
 abbrev pub schema_if : State → List ℕ → Schema → Option Reply → Bool → Bool → Outcome
 schema_if σ over c r busy room =
-    unless_refused σ (first_of (r ∷ refused_if busy (reply.Locked (table_of_schema c)) ∷ refused_if (not room) (reply.SystemLimit limit.Tables) ∷ [])) (schema_now σ over c)
+    unless_refused σ (first_of (r ∷ refusal_if busy (reply.Locked (table_of_schema c)) ∷ refusal_if (not room) (reply.SystemLimit limit.Tables) ∷ [])) (schema_now σ over c)
 
 -- what refuses a subscription but its post: an untold overflow, no such table, a subscription that there is
 abbrev pub subscribe_refusal_if : List ℕ → Bool → Bool → Bool → Option Reply
 subscribe_refusal_if t untold missing watched =
-    first_of (refused_if untold reply.OverflowUntold ∷ refused_if missing (reply.SubNoTable t) ∷ refused_if watched (reply.AlreadySubscribed t) ∷ [])
+    first_of (refusal_if untold reply.OverflowUntold ∷ refusal_if missing (reply.SubNoTable t) ∷ refusal_if watched (reply.AlreadySubscribed t) ∷ [])
 
 -- a subscription: what refuses it but its post
 abbrev pub subscribe_if : State → List ℕ → Session → List ℕ → Level → Bool → Option Reply → Outcome
@@ -68,14 +68,14 @@ subscribe_if σ over s t l dump r =
 -- a subscription's end: there is one at the level
 abbrev pub unsubscribe_if : State → List ℕ → Session → List ℕ → Bool → Outcome
 unsubscribe_if σ over s t there =
-    unless_refused σ (refused_if (not there) (reply.NotSubscribed t))
+    unless_refused σ (refusal_if (not there) (reply.NotSubscribed t))
     (put_marker σ (has_session over s.number) s (without_watch s.watching t) (Ended t ending.Unsubscribed) (Unsubscribed s.number t))
 
 -- a command of a joined session: one that waits, and no abort
 abbrev pub command_if : State → List ℕ → Session → Command → Bool → Outcome
-command_if σ over s c waits = unless_refused σ (refused_if waits reply.WaitingNow) (do_command σ over s c)
+command_if σ over s c waits = unless_refused σ (refusal_if waits reply.WaitingNow) (do_command σ over s c)
 
 -- a Join: a number above all before, and there may be one session more
 abbrev pub join_if : State → ℕ → Outbox → Bool → Bool → Outcome
 join_if σ n b above room =
-    unless_refused σ (first_of (refused_if (not above) reply.BadSession ∷ refused_if (not room) (reply.SystemLimit limit.Sessions) ∷ [])) (join_now σ n b)
+    unless_refused σ (first_of (refusal_if (not above) reply.BadSession ∷ refusal_if (not room) (reply.SystemLimit limit.Sessions) ∷ [])) (join_now σ n b)

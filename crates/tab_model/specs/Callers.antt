@@ -1,5 +1,5 @@
--- The log as the callers can tell it: read off what they asked and were told, and nothing else (this project's own: the
--- history that a run shows from outside).
+-- The log as the callers can tell it: read off the calls (who asked what, and whose outboxes refused) and their replies, and
+-- never off the state (this project's own: the history that a run shows from outside).
 use Rattle.std.specs.Prelude.{◌≡◌, ℕ, ◌<◌, ◌+◌, ◌-◌, ◌^◌, min, not, List, [], ◌∷◌, ◌++◌, ◌==◌, if◌then◌else◌, Option, Some, None}
 use Rattle.std.specs.List.{filter}
 use Rattle.tab_model.specs.declared.data.Operation.{Operation}
@@ -18,8 +18,8 @@ use Rattle.tab_model.specs.State.{Transaction, Outbox, Queued, Session, State, n
 use Rattle.tab_model.specs.Outcome.{Ask, Join, Leave, Retry, Take, DoCommand}
 use Rattle.tab_model.specs.Run.{Call, entries, replies_of}
 
--- what a session's caller knows: its moves since its outermost begin or its last restart, with what they were told, and the
--- operation that was last answered waiting
+-- what a session's caller knows: the moves of its last transaction since its begin or its last restart, with their replies, and
+-- the operation that was last answered waiting
 pub record Caller : Type 0 where
   pub transaction : Transaction
   pub queued : Option Operation
@@ -36,11 +36,11 @@ caller_with_move k x r = record { transaction = record { age = k.transaction.age
 abbrev pub caller_anew : Caller → ℕ → Caller
 caller_anew k age = record { transaction = record { age = age; moves = []; told = [] }; queued = k.queued }
 
--- what an answer says of the operation that was asked for: it was not made, it waits, it began anew, it was made
+-- what an answer says of the operation that was asked for: it was not made, it waits, its transaction restarts, it was made
 pub data AnswerKind : Type 0 where
   NotMade Waits BeginsAnew Made : AnswerKind
 
--- the kind of a reply to an operation or a retry; each reply that is not listed, as a failure, says that it was made
+-- the kind of a reply to an operation or a retry; every other reply, that of a failure too, says that it was made
 abbrev pub kind_of : Reply → AnswerKind
 kind_of reply.BadCommand = NotMade
 kind_of reply.NoTransaction = NotMade
@@ -61,7 +61,7 @@ after_operation k o r Waits = record { transaction = k.transaction; queued = Som
 after_operation k o r BeginsAnew = caller_anew k k.transaction.age
 after_operation k o r Made = caller_with_move k (Do o) (Some r)
 
--- a retry's answer belongs to the operation that waits
+-- after a retry: a move more, of the queued operation, where it was made
 abbrev pub after_answer : Caller → Reply → AnswerKind → Option Operation → Caller
 after_answer k r Made (Some o) = caller_with_move k (Do o) (Some r)
 after_answer k r x o = k
@@ -76,7 +76,7 @@ abbrev pub after_close : Caller → Reply → Caller
 after_close k reply.AtomicOk = caller_with_move k Close (Some reply.AtomicOk)
 after_close k r = k
 
--- an abort stands bare, without its reason
+-- an abort is a move with no reply, and without its reason
 abbrev pub after_undo : Caller → Reply → Caller
 after_undo k (reply.UserAbort reason) = caller_with_move k Undo None
 after_undo k r = k
@@ -96,7 +96,7 @@ hears k Retry r = after_answer k r (kind_of r) k.queued
 hears k (DoCommand c) r = hears_command k c r
 hears k a r = k
 
--- the entry of an outermost commit, a schema command, a subscription and its end, where they are told that they are done
+-- the entry of an outermost commit, where its reply says that it is done
 abbrev pub commit_entry : ℕ → List ℕ → Caller → Reply → Option Entry
 commit_entry n over k (reply.Atomic i) = Some (Committed i n k.transaction.age k.transaction.moves k.transaction.told over)
 commit_entry n over k r = None
@@ -133,7 +133,7 @@ abbrev pub queue_after_operation : ℕ → Caller → Operation → AnswerKind �
 queue_after_operation n k o Waits qs = qs ++ record { session = n; age = k.transaction.age; operation = o } ∷ []
 queue_after_operation n k o x qs = qs
 
--- it leaves the queue where its answer comes, and where its session aborts or leaves
+-- the queue after a retry: without its session's requests where its reply says that the operation was made
 abbrev pub queue_after_answer : ℕ → AnswerKind → List Queued → List Queued
 queue_after_answer n Made qs = without_own n qs
 queue_after_answer n x qs = qs
@@ -190,18 +190,18 @@ no_post = record { refusals = 0; overflow = None }
 abbrev pub next_refusals : ℕ → ℕ
 next_refusals refusals = min (refusals + 1) (2 ^ 64 - 1)
 
--- a post that refuses an entry's item overflows; an overflow that was not told before it is forgotten
+-- a post that refuses an entry's item overflows; an earlier overflow that was not told is replaced
 abbrev pub with_overflow : ℕ → Post → Post
 with_overflow i p = record { refusals = next_refusals p.refusals; overflow = Some i }
 
--- after an entry, with so many commits before it: an overflow has the number of its commit, or of the next one where it is
--- the mark of a deletion that is refused
+-- after an entry, with so many commits before it: an overflow at a commit has its number, and one at a table's deletion that
+-- of the next commit
 abbrev pub post_after_entry : ℕ → ℕ → Option Entry → Post → Post
 post_after_entry n commits (Some (Committed i m age xs rs over)) p = if has_session over n then with_overflow i p else p
 post_after_entry n commits (Some (Changed c over)) p = if has_session over n then with_overflow (commits + 1) p else p
 post_after_entry n commits e p = p
 
--- a join that is done hands the post in, with its refusals so far
+-- a join that is done brings its post, with the refusals that it has counted
 abbrev pub post_after_join : Outbox → Reply → Post → Post
 post_after_join b reply.Done p = record { refusals = b.refusals; overflow = None }
 post_after_join b r p = p
@@ -211,12 +211,12 @@ abbrev pub post_after_take : Reply → Post → Post
 post_after_take (reply.Overflow i) p = record { refusals = p.refusals; overflow = None }
 post_after_take r p = p
 
--- a mark that the post refuses is no overflow
+-- a marker that the post refuses is no overflow
 abbrev pub post_after_marker : Reply → Post → Post
 post_after_marker reply.OutboxFull p = record { refusals = next_refusals p.refusals; overflow = p.overflow }
 post_after_marker r p = p
 
--- a post after a command of its own session: only a refused mark of a subscription's begin or end changes it
+-- a post after a command of its own session: only a refused marker of a subscription's begin or end changes it
 abbrev pub post_after_command : Command → Reply → Post → Post
 post_after_command (command.Subscribe t l dump) r p = post_after_marker r p
 post_after_command (command.Unsubscribe t l) r p = post_after_marker r p
@@ -238,7 +238,7 @@ abbrev pub Callers : Type 0
 Callers = ℕ → Caller
 
 -- what callers can tell together: what each knows, the log, the queue, the next age, the posts
-pub record Heard : Type 0 where
+pub record Hearsay : Type 0 where
   pub callers : Callers
   pub log : List Entry
   pub queue : List Queued
@@ -246,7 +246,7 @@ pub record Heard : Type 0 where
   pub posts : ℕ → Post
 
 -- before all calls
-abbrev pub silence : Heard
+abbrev pub silence : Hearsay
 silence = record {
   callers = λ m. newcomer;
   log = [];
@@ -256,11 +256,11 @@ silence = record {
 }
 
 -- the entry that a call adds, read off its reply and what its caller knows
-abbrev pub entry_of_call : Heard → Call → Reply → Option Entry
+abbrev pub entry_of_call : Hearsay → Call → Reply → Option Entry
 entry_of_call h c r = entry_of_step c.session c.over (h.callers c.session) c.ask r
 
 -- after one call and its reply, of which the asker's caller alone learns
-abbrev pub hear : Heard → Call → Reply → Heard
+abbrev pub hear : Hearsay → Call → Reply → Hearsay
 hear h c r =
     let caller = h.callers c.session in
     let entry = entry_of_call h c r in
@@ -274,14 +274,14 @@ hear h c r =
     }
 
 -- after calls that were answered so
-abbrev pub hear_all : Heard → List Call → List Reply → Heard
+abbrev pub hear_all : Hearsay → List Call → List Reply → Hearsay
 hear_all h [] rs = h
 hear_all h (c ∷ cs) [] = h
 hear_all h (c ∷ cs) (r ∷ rs) = hear_all (hear h c r) cs rs
 
 -- what the callers of a schedule can tell of it
-abbrev pub heard_in : Limits → List Call → Heard
-heard_in limits calls = hear_all silence calls (replies_of (new limits) calls)
+abbrev pub hearsay_of : Limits → List Call → Hearsay
+hearsay_of limits calls = hear_all silence calls (replies_of (new limits) calls)
 
 -- each open transaction is what its caller knows, each queued operation the one that its caller was last told to wait for
 pub record AreHeard (σ : State) (ks : Callers) : Type 0 where
@@ -290,7 +290,7 @@ pub record AreHeard (σ : State) (ks : Callers) : Type 0 where
   pub aged : (n : ℕ) → (ks n).transaction.age < σ.next_age
 
 -- a state is as callers tell it
-pub record IsAsTold (σ : State) (h : Heard) : Type 0 where
+pub record IsAsTold (σ : State) (h : Hearsay) : Type 0 where
   pub callers : AreHeard σ h.callers
   pub commits : σ.commits ≡ commits_from 0 h.log
   pub queue : σ.queue ≡ h.queue
@@ -302,4 +302,4 @@ pub record IsAsTold (σ : State) (h : Heard) : Type 0 where
 
 -- a reply that says nothing was done: nothing that callers can tell changes, whoever asked what
 abbrev pub IsUnheard : Reply → Type 0
-IsUnheard r = (h : Heard) (c : Call) → hear h c r ≡ h
+IsUnheard r = (h : Hearsay) (c : Call) → hear h c r ≡ h

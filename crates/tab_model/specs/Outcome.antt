@@ -1,6 +1,7 @@
--- What a step does: the next state, the reply, and the entry of the log. The order of the checks, the refusals, the numbers
--- of commits, the posts and their overflow are this project's own rules; transactions, locks and subscriptions follow the
--- Mnesia User's Guide, "Transactions and Other Access Contexts" and "Mnesia Event Handling".
+-- What a step does: the next state, the reply, and the entry that it adds to the log, if it adds one. What is no term, no
+-- request or refused for memory is no step. The order of the checks, the refusals, the numbers of commits, the outboxes and
+-- their overflow are this project's own rules; transactions, locks and subscriptions follow the Mnesia User's Guide,
+-- "Transactions and Other Access Contexts" and "Mnesia Event Handling".
 use Rattle.std.specs.Prelude.{ℕ, suc, ◌+◌, ◌-◌, ◌^◌, min, List, [], ◌∷◌, ◌++◌, Bool, true, false, not, ◌&&◌, ◌==◌, nat_lt, nat_le, if◌then◌else◌, Option, Some, None, is_some, map, length}
 use Rattle.tab_term.specs.declared.term.Term.{Term}
 use Rattle.tab_model.specs.declared.data.Operation.{Operation}
@@ -52,10 +53,11 @@ pub record Outcome : Type 0 where
 abbrev pub step_without_entry : State → Reply → Outcome
 step_without_entry σ r = record { state = σ; reply = r; entry = None }
 
--- refusals
+-- ---- refusals
+
 -- the reply that refuses, where it is true that something does
-abbrev pub refused_if : Bool → Reply → Option Reply
-refused_if refuses r = if refuses then Some r else None
+abbrev pub refusal_if : Bool → Reply → Option Reply
+refusal_if refuses r = if refuses then Some r else None
 
 -- the first refusal that there is, of those that a command may meet, in order
 abbrev pub first_of : List (Option Reply) → Option Reply
@@ -95,7 +97,8 @@ with_session σ s = record σ { sessions = with_changed σ.sessions s }
 abbrev pub with_queue : State → List Queued → State
 with_queue σ q = record σ { queue = q }
 
--- posts
+-- ---- outboxes
+
 -- the outbox with these items behind its own
 abbrev pub with_items : Outbox → List Item → Outbox
 with_items b items = record b { items = b.items ++ items }
@@ -104,19 +107,21 @@ with_items b items = record b { items = b.items ++ items }
 abbrev pub with_refusal : Outbox → Outbox
 with_refusal b = record b { refusals = min (b.refusals + 1) (2 ^ 64 - 1) }
 
--- moves
+-- ---- moves
+
 -- the transaction with one more move, and the reply to it
 abbrev pub with_move : Transaction → Move → Option Reply → Transaction
 with_move transaction x r = record { age = transaction.age; moves = transaction.moves ++ x ∷ []; told = transaction.told ++ r ∷ [] }
 
--- the move ends level 1, and so the transaction: an operation that fails there, or an abort there
+-- the move ends level 1, and so the transaction: an operation that fails there, or an abort there. A commit there is no move
+-- (commit_now); Close is a child's
 abbrev pub ends_transaction : Mid → Move → Bool
 ends_transaction m (Do o) = is_some (failure m.now o) && is_empty m.saved
 ends_transaction m Open = false
 ends_transaction m Close = false
 ends_transaction m Undo = is_empty m.saved
 
--- the transaction after a move, with what the move is told alone; none where it ended level 1
+-- the transaction after a move, with the reply that the move has where its transaction runs alone; none where it ended level 1
 abbrev pub transaction_after : State → Transaction → Move → Option Transaction
 transaction_after σ transaction x =
     if ends_transaction (mid_of σ transaction) x then None
@@ -127,7 +132,7 @@ abbrev pub reply_or : Option Reply → Reply → Reply
 reply_or None r = r
 reply_or (Some x) r = x
 
--- a move that is made is told what it is told alone, and r where it is told nothing
+-- a move is made: its reply is the one that it has where its transaction runs alone, and r where that is none, as for an abort
 abbrev pub make : State → Session → Transaction → Move → Reply → Outcome
 make σ s transaction x r =
     step_without_entry (with_session σ (with_transaction s (transaction_after σ transaction x)))
@@ -143,10 +148,10 @@ by_lock_answer σ s transaction o Granted = make σ s transaction (Do o) reply.D
 by_lock_answer σ s transaction o Wait = step_without_entry (with_queue σ (σ.queue ++ record { session = s.number; age = transaction.age; operation = o } ∷ [])) reply.Waiting
 by_lock_answer σ s transaction o Die = step_without_entry (with_session σ (with_transaction s (Some (begun_anew transaction)))) reply.Restart
 
--- a transaction that has as many operations and children as it may
+-- what refuses an operation and a child's begin: the transaction has as many of both as it may
 abbrev pub operations_refusal : State → Transaction → Option Reply
 operations_refusal σ transaction =
-    refused_if (not (nat_lt (count_moves transaction.moves) σ.limits.operations))
+    refusal_if (not (nat_lt (count_moves transaction.moves) σ.limits.operations))
     (reply.SystemLimit limit.Operations)
 
 -- an operation: its lock is decided
@@ -170,10 +175,11 @@ abbrev pub retry : State → Session → Option Queued → Outcome
 retry σ s None = step_without_entry σ reply.NotWaiting
 retry σ s (Some q) = retry_in σ s q.operation s.transaction
 
--- transactions
+-- ---- transactions
+
 -- the next age is above the limit of ages
 abbrev pub ages_refusal : State → Option Reply
-ages_refusal σ = refused_if (not (nat_le σ.next_age σ.limits.ages)) (reply.SystemLimit limit.Ages)
+ages_refusal σ = refusal_if (not (nat_le σ.next_age σ.limits.ages)) (reply.SystemLimit limit.Ages)
 
 -- level 1 begins, with the next age and no move
 abbrev pub begin_now : State → Session → Outcome
@@ -187,7 +193,7 @@ begin_now σ s =
 abbrev pub begin_refusals : State → Option Transaction → List (Option Reply)
 begin_refusals σ None = ages_refusal σ ∷ []
 begin_refusals σ (Some transaction) =
-    refused_if (not (nat_lt (suc (length (mid_of σ transaction).saved)) σ.limits.nesting))
+    refusal_if (not (nat_lt (suc (length (mid_of σ transaction).saved)) σ.limits.nesting))
     (reply.SystemLimit limit.Nesting)
     ∷ operations_refusal σ transaction ∷ []
 
@@ -201,24 +207,26 @@ begin σ s (Some transaction) =
 -- what refuses a one-shot
 abbrev pub one_shot_refusals : State → Option Transaction → List (Option Reply)
 one_shot_refusals σ transaction =
-    refused_if (is_some transaction) reply.InTransaction ∷ ages_refusal σ ∷ []
+    refusal_if (is_some transaction) reply.InTransaction ∷ ages_refusal σ ∷ []
 
--- the first step of a one-shot: level 1 begins
+-- the first step of a one-shot: level 1 begins. Its members are steps of their own, which its driver makes
+-- (tab_oneshot/specs/OneShots)
 abbrev pub one_shot : State → Session → Option Transaction → Outcome
 one_shot σ s transaction =
     unless_refused σ (first_of (one_shot_refusals σ transaction)) (begin_now σ s)
 
--- the one command that is taken while a request is queued: it drops it
+-- an abort: the only command that is served while an operation of the session waits; it takes that out of the queue
 abbrev pub abort : State → Session → Term → Option Transaction → Outcome
 abort σ s r None = step_without_entry σ reply.NoTransaction
 abort σ s r (Some transaction) = make (with_queue σ (without_request σ.queue s.number)) s transaction Undo (reply.UserAbort r)
 
--- what a step puts into one session's post
+-- ---- what a step puts into one session's outbox
+
 -- a session that overflows at commit n: it watches nothing any more, and its outbox counts a refusal
 abbrev pub after_overflow : ℕ → Session → Session
 after_overflow n s = record s { watching = []; outbox = with_refusal s.outbox; overflow = Some n }
 
--- an item of a commit or a deletion: who refuses overflows, and its subscriptions end
+-- the items of a commit or a deletion are put: a session whose outbox refuses overflows in place of it, and watches nothing more
 abbrev pub after_put : ℕ → List ℕ → List Item → Session → Session
 after_put n over items s =
     if has_session over s.number then after_overflow n s
@@ -257,13 +265,14 @@ commit σ over s (Some transaction) =
     then commit_now σ over s transaction (events_now σ transaction)
     else make σ s transaction Close reply.Done
 
--- schema commands
+-- ---- schema commands
+
 -- the session without its subscription to a deleted table, where a table is deleted
 abbrev pub without_deleted : Option (List ℕ) → Session → Session
 without_deleted None s = s
 without_deleted (Some t) s = record s { watching = without_watch s.watching t }
 
--- the end mark that is due to a session for a deleted table, where it watches that table
+-- the end marker that is due to a session for a deleted table, where it watches that table
 abbrev pub end_to : Option (List ℕ) → Session → List Item
 end_to t s = end_for (level_in s.watching) t
 
@@ -294,10 +303,10 @@ has_room σ (DelIndex t a) = true
 -- what refuses a schema command
 abbrev pub schema_refusals : State → Schema → Option Transaction → List (Option Reply)
 schema_refusals σ c transaction =
-    refused_if (is_some transaction) reply.InTransaction
+    refusal_if (is_some transaction) reply.InTransaction
     ∷ schema_refusal σ.tables c
-    ∷ refused_if (is_busy σ (table_of_schema c)) (reply.Locked (table_of_schema c))
-    ∷ refused_if (not (has_room σ c)) (reply.SystemLimit limit.Tables)
+    ∷ refusal_if (is_busy σ (table_of_schema c)) (reply.Locked (table_of_schema c))
+    ∷ refusal_if (not (has_room σ c)) (reply.SystemLimit limit.Tables)
     ∷ []
 
 -- a schema command
@@ -317,7 +326,8 @@ abbrev pub table_info : List ℕ → InfoItem → Option Table → Reply
 table_info n i None = reply.SubNoTable n
 table_info n i (Some t) = info_at t i
 
--- subscriptions
+-- ---- subscriptions
+
 -- two levels are the same
 abbrev pub same_level : Level → Level → Bool
 same_level Simple Simple = true
@@ -330,7 +340,7 @@ abbrev pub is_at : Option Level → Level → Bool
 is_at None l = false
 is_at (Some x) l = same_level x l
 
--- a mark into the post, with what then watches; or a refusal that the post counts
+-- a marker is put into the outbox of a session, which then watches ws; where true says that the outbox refuses, it counts that
 abbrev pub put_marker : State → Bool → Session → List Watch → Item → Entry → Outcome
 put_marker σ true s ws x e = step_without_entry (with_session σ (record s { outbox = with_refusal s.outbox })) reply.OutboxFull
 put_marker σ false s ws x e =
@@ -340,31 +350,31 @@ put_marker σ false s ws x e =
       entry = Some e;
     }
 
--- what refuses a subscription but its post: an untold overflow, no such table, subscribed already
+-- what refuses a subscription, apart from a full outbox: an untold overflow, no such table, subscribed already
 abbrev pub subscribe_refusals : State → Session → List ℕ → List (Option Reply)
 subscribe_refusals σ s t =
-    refused_if (is_some s.overflow) reply.OverflowUntold
-    ∷ refused_if (not (is_some (find σ.tables t))) (reply.SubNoTable t)
-    ∷ refused_if (is_some (level_in s.watching t)) (reply.AlreadySubscribed t)
+    refusal_if (is_some s.overflow) reply.OverflowUntold
+    ∷ refusal_if (not (is_some (find σ.tables t))) (reply.SubNoTable t)
+    ∷ refusal_if (is_some (level_in s.watching t)) (reply.AlreadySubscribed t)
     ∷ []
 
 -- the first of them that applies
 abbrev pub subscribe_refusal : State → Session → List ℕ → Option Reply
 subscribe_refusal σ s t = first_of (subscribe_refusals σ s t)
 
--- a subscription: its begin mark goes to the outbox, which may refuse it
+-- a subscription: its begin marker goes to the outbox, which may refuse it
 abbrev pub subscribe : State → List ℕ → Session → List ℕ → Level → Bool → Outcome
 subscribe σ over s t l dump =
     unless_refused σ (subscribe_refusal σ s t)
     (put_marker σ (has_session over s.number) s (record { table = t; level = l } ∷ s.watching)
     (Began t l (dump_of σ.tables t dump)) (Subscribed s.number t l dump))
 
--- what refuses a subscription's end but its post: there is none at the level
+-- what refuses a subscription's end, apart from a full outbox: there is none at the level
 abbrev pub unsubscribe_refusal : List ℕ → Level → Session → Option Reply
 unsubscribe_refusal t l s =
-    refused_if (not (is_at (level_in s.watching t) l)) (reply.NotSubscribed t)
+    refusal_if (not (is_at (level_in s.watching t) l)) (reply.NotSubscribed t)
 
--- a subscription's end: its end mark goes to the outbox, which may refuse it
+-- a subscription's end: its end marker goes to the outbox, which may refuse it
 abbrev pub unsubscribe : State → List ℕ → Session → List ℕ → Level → Outcome
 unsubscribe σ over s t l =
     unless_refused σ (unsubscribe_refusal t l s)
@@ -390,16 +400,16 @@ is_abort c = false
 
 -- what refuses each command but an abort: an operation of the session waits
 abbrev pub waiting_refusal : State → Session → Command → Option Reply
-waiting_refusal σ s c = refused_if (is_waiting σ s.number && not (is_abort c)) reply.WaitingNow
+waiting_refusal σ s c = refusal_if (is_waiting σ s.number && not (is_abort c)) reply.WaitingNow
 
 -- a Take: the next item, else an overflow, which is told once, else empty
 abbrev pub give : State → Session → List Item → Option ℕ → Outcome
-give σ s (x ∷ xs) l =
+give σ s (x ∷ xs) overflow =
     step_without_entry (with_session σ (record s { outbox = record s.outbox { items = xs } })) (reply.Taken x)
-give σ s [] None = step_without_entry σ reply.Empty
 give σ s [] (Some n) = step_without_entry (with_session σ (record s { overflow = None })) (reply.Overflow n)
+give σ s [] None = step_without_entry σ reply.Empty
 
--- of a channel post (no capacity that decides) a Take sees no item: they are its other end's
+-- the items that a Take may give: of an outbox with no capacity none, since its items are received at the channel's other end
 abbrev pub items_to_take : Outbox → Option ℕ → List Item
 items_to_take b None = []
 items_to_take b (Some c) = b.items
@@ -424,8 +434,8 @@ fresh n b = record { number = n; transaction = None; watching = []; outbox = b; 
 -- what refuses a Join: a number that isn't above all before, then the limit of sessions
 abbrev pub join_refusals : State → ℕ → List (Option Reply)
 join_refusals σ n =
-    refused_if (not (nat_lt σ.greatest n)) reply.BadSession
-    ∷ refused_if (not (nat_lt (length σ.sessions) σ.limits.sessions))
+    refusal_if (not (nat_lt σ.greatest n)) reply.BadSession
+    ∷ refusal_if (not (nat_lt (length σ.sessions) σ.limits.sessions))
     (reply.SystemLimit limit.Sessions)
     ∷ []
 
@@ -448,6 +458,6 @@ abbrev pub step_of : State → List ℕ → ℕ → Ask → Option Session → O
 step_of σ over n a None = step_of_stranger σ n a
 step_of σ over n a (Some s) = step_of_joined σ over s a
 
--- one step. In over stand the sessions whose posts refused in it
+-- one step. over: the sessions whose outboxes refuse an item in it; Run.Allowed says which lists are possible
 unfoldable pub outcome : State → List ℕ → ℕ → Ask → Outcome
 outcome σ over n a = step_of σ over n a (session_at σ.sessions n)

@@ -44,7 +44,7 @@ ghost use Rattle.tab_model.specs.Outcome.{Ask, Join, Leave, Retry, Take, DoComma
 ghost use Rattle.tab_model.specs.Refusals.{AsBefore, effect_of_reply, with_count, request_of_ask, with_requests, transaction_anew, with_restart, IsRestart, EndsLevel, IsSole, LeavesAll};
 ghost use Rattle.tab_model.specs.Run.{Call, AllJoinEmpty, Begins, leave_call, JoinsEmpty, IsTied, outcome_of, after_all, log_of, delivered_to, entries, delivered_by};
 ghost use Rattle.tab_model.specs.Standing.{EndsTransaction, JoinsChannel, MayFollow, FollowsLog, still_joined, may_enter};
-ghost use Rattle.tab_model.specs.Callers.{Heard, silence, entry_of_call, hear, heard_in, AreHeard, IsAsTold, IsUnheard};
+ghost use Rattle.tab_model.specs.Callers.{Hearsay, silence, entry_of_call, hear, hearsay_of, AreHeard, IsAsTold, IsUnheard};
 
 /// For every schedule of steps: commits are numbered in order and were told what they are told alone in that order;
 /// the tables are those of running them so; each open transaction was told what it is told alone on the tables as they
@@ -79,8 +79,8 @@ pub fn every_schedule()
 /// For every schedule the log is the one that its callers can tell, who see what they asked and were told and nothing of the
 /// state. So what they were told is legal. Each open transaction's moves and replies are those that its caller knows, and
 /// right on the tables as they are now; each queued operation is the one that its caller was last told to wait for. The queue
-/// is the operations told to wait that were not answered since, dropped by an abort or left; the next age is one more than
-/// the outermost begins. An overflow that a session was not told yet is its last one, with the number of its commit or, where
+/// is the operations told to wait that were not answered since, dropped by an abort or left; the number of commits is the
+/// log's; the next age is one more than the outermost begins. An overflow that a session was not told yet is its last one, with the number of its commit or, where
 /// the mark of a deletion was refused, of the next commit; a Take that is told an overflow is told that one. A post's refusals
 /// are those of its own puts: as many as it was handed in with, and one more, up to the greatest 64 bit number, for each mark
 /// that its session is told doesn't fit, and for each overflow. Each step keeps what callers know, and its entry is the one
@@ -88,20 +88,20 @@ pub fn every_schedule()
 #[tactic(auto, using(crate::proofs::CallersLemmas::new_heard, crate::proofs::CallersLemmas::schedule_log, crate::proofs::CallersLemmas::schedule_heard_legal, crate::proofs::CallersLemmas::schedule_heard_told, crate::proofs::CallersPosts::schedule_told_overflow))]
 pub fn callers_tell_the_log()
     ensures log { (limits : Limits) (calls : List Call) →
-        log_of (new limits) calls ≡ (heard_in limits calls).log }
+        log_of (new limits) calls ≡ (hearsay_of limits calls).log }
     ensures legal { (limits : Limits) (calls : List Call) → AllJoinEmpty calls →
-        IsLegal [] 0 (heard_in limits calls).log }
+        IsLegal [] 0 (hearsay_of limits calls).log }
     ensures state { (limits : Limits) (calls : List Call) →
-        IsAsTold (after_all (new limits) calls) (heard_in limits calls) }
+        IsAsTold (after_all (new limits) calls) (hearsay_of limits calls) }
     ensures told { (limits : Limits) (calls : List Call) (n : ℕ) (t : Transaction) →
         transaction_at (after_all (new limits) calls) n ≡ Some t →
-        let k = ((heard_in limits calls).callers n).transaction in
+        let k = ((hearsay_of limits calls).callers n).transaction in
         replies (start (after_all (new limits) calls).tables k.age) k.moves ≡ k.told }
     ensures told_overflow { (limits : Limits) (calls : List Call) (over : List ℕ) (n i : ℕ) →
         (outcome (after_all (new limits) calls) over n Take).reply ≡ reply.Overflow i →
-        ((heard_in limits calls).posts n).overflow ≡ Some i }
+        ((hearsay_of limits calls).posts n).overflow ≡ Some i }
     ensures new_heard { (limits : Limits) → AreHeard (new limits) silence.callers }
-    ensures step { (σ : State) (h : Heard) (c : Call) → AreHeard σ h.callers →
+    ensures step { (σ : State) (h : Hearsay) (c : Call) → AreHeard σ h.callers →
         let r = (outcome_of σ c).reply in
         AreHeard (outcome_of σ c).state (hear h c r).callers
         × (entry_of_call h c r ≡ (outcome_of σ c).entry) }

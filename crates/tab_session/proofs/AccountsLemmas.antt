@@ -9,7 +9,7 @@ use Rattle.tab_model.specs.Reached.{IsRising}
 use Rattle.tab_model.specs.Outcome.{Ask, Outcome}
 use Rattle.tab_model.specs.Run as model
 use Rattle.tab_model.specs.Run.{entries, delivered_by, JoinsEmpty, IsTied}
-use Rattle.tab_model.specs.Callers.{Heard, entry_of_call, hear, hear_all, AreHeard}
+use Rattle.tab_model.specs.Callers.{Hearsay, entry_of_call, hear, hear_all, AreHeard}
 use Rattle.tab_model.proofs.CallersLemmas.{step_heard}
 use Rattle.tab_model.proofs.ReachedWaits.{step_rising}
 use Rattle.tab_model.proofs.SoundSteps.{step_sound}
@@ -18,10 +18,10 @@ use Rattle.tab_session.specs.StepsMade.{IsStepMade}
 use Rattle.tab_session.specs.Accounts.{Exchange, Account, nothing_done, joined, calls_in, replies_in, of_made}
 
 -- what callers can tell after exchanges
-abbrev pub hears_all : Heard → List Exchange → Heard
+abbrev pub hears_all : Hearsay → List Exchange → Hearsay
 hears_all h xs = hear_all h (calls_in xs) (replies_in xs)
 
-hears_both : (h : Heard) (xs ys : List Exchange) → hears_all h (xs ++ ys) ≡ hears_all (hears_all h xs) ys
+hears_both : (h : Hearsay) (xs ys : List Exchange) → hears_all h (xs ++ ys) ≡ hears_all (hears_all h xs) ys
 hears_both h [] ys = refl
 hears_both h (x ∷ xs) ys = hears_both (hear h x.call x.reply) xs ys
 
@@ -29,8 +29,8 @@ pub record Leads (σ μ : State) (a : Account) (taken : ℕ → List Item) : Typ
   pub sound : IsSound σ → IsSound μ
   pub rising : IsSound σ → IsRising σ → IsRising μ
   pub tied : (log : List Entry) (before : ℕ → List Item) → IsSound σ → IsTied σ log before → IsTied μ (log ++ a.log) (λ m. before m ++ taken m)
-  pub heard : (h : Heard) → AreHeard σ h.callers → AreHeard μ (hears_all h a.exchanges).callers
-  pub told : (h : Heard) → AreHeard σ h.callers → (hears_all h a.exchanges).log ≡ h.log ++ a.log
+  pub heard : (h : Hearsay) → AreHeard σ h.callers → AreHeard μ (hears_all h a.exchanges).callers
+  pub told : (h : Hearsay) → AreHeard σ h.callers → (hears_all h a.exchanges).log ≡ h.log ++ a.log
 
 -- nothing is done
 pub stays : (σ μ : State) → μ ≡ σ → Leads σ μ nothing_done (λ m. [])
@@ -64,9 +64,9 @@ then_leads σ ρ μ a b t u f g = record {
   tied = λ log before k h.
       subst (λ (l : List Entry). IsTied μ l (λ m. before m ++ (t m ++ u m))) (append_assoc log a.log b.log)
       (subst (λ (v : ℕ → List Item). IsTied μ ((log ++ a.log) ++ b.log) v) (λ i m. append_assoc (before m) (t m) (u m) i) (g.tied (log ++ a.log) (λ m. before m ++ t m) (f.sound k) (f.tied log before k h)));
-  heard = λ h k. subst (λ (x : Heard). AreHeard μ x.callers) (sym (hears_both h a.exchanges b.exchanges)) (g.heard (hears_all h a.exchanges) (f.heard h k));
+  heard = λ h k. subst (λ (x : Hearsay). AreHeard μ x.callers) (sym (hears_both h a.exchanges b.exchanges)) (g.heard (hears_all h a.exchanges) (f.heard h k));
   told = λ h k.
-      ap (λ (x : Heard). x.log) (hears_both h a.exchanges b.exchanges)
+      ap (λ (x : Hearsay). x.log) (hears_both h a.exchanges b.exchanges)
       ∙ g.told (hears_all h a.exchanges) (f.heard h k)
       ∙ ap (λ es. es ++ b.log) (f.told h k)
       ∙ append_assoc h.log a.log b.log;

@@ -28,28 +28,28 @@ BeginsTooLong [] = ⊥
 BeginsTooLong (r ∷ rs) = 4294967295 < length (answer_payload r)
 
 -- a count of faults is one more, up to the greatest 64 bit number
-abbrev pub Rises : ℕ → ℕ → Type 0
-Rises old new = new ≡ min (old + 1) (2 ^ 64 - 1)
+abbrev pub IsOneMore : ℕ → ℕ → Type 0
+IsOneMore old new = new ≡ min (old + 1) (2 ^ 64 - 1)
 
 -- how often a writer failed
 abbrev pub OneFault : ℕ → ℕ → Result (Unit {0}) Ended → Type 0
 OneFault old new (Ok u) = new ≡ old
 OneFault old new (Err Damaged) = new ≡ old
-OneFault old new (Err Device) = Rises old new
+OneFault old new (Err Device) = IsOneMore old new
 OneFault old new (Err TooLong) = new ≡ old
 OneFault old new (Err NoMemory) = new ≡ old
 
 -- neither count of faults, from a to b and from c to d, has changed
-abbrev pub Sound : ℕ → ℕ → ℕ → ℕ → Type 0
-Sound a b c d = (b ≡ a) × (d ≡ c)
+abbrev pub AreAsBefore : ℕ → ℕ → ℕ → ℕ → Type 0
+AreAsBefore a b c d = (b ≡ a) × (d ≡ c)
 
 -- how often a reader and a writer failed
 abbrev pub Faults : ℕ → ℕ → ℕ → ℕ → Result (Unit {0}) Ended → Type 0
-Faults a b c d (Ok u) = Sound a b c d
-Faults a b c d (Err Damaged) = Sound a b c d
-Faults a b c d (Err Device) = (Rises a b × (d ≡ c)) ⊎ ((b ≡ a) × Rises c d)
-Faults a b c d (Err TooLong) = Sound a b c d
-Faults a b c d (Err NoMemory) = Sound a b c d
+Faults a b c d (Ok u) = AreAsBefore a b c d
+Faults a b c d (Err Damaged) = AreAsBefore a b c d
+Faults a b c d (Err Device) = (IsOneMore a b × (d ≡ c)) ⊎ ((b ≡ a) × IsOneMore c d)
+Faults a b c d (Err TooLong) = AreAsBefore a b c d
+Faults a b c d (Err NoMemory) = AreAsBefore a b c d
 
 -- at the stream's end and at damage all that was written has been flushed
 abbrev pub HasFlushed : Result (Unit {0}) Ended → Bool → Type 0

@@ -36,13 +36,13 @@ pub struct OneSession<'a> {
 }
 
 impl<'a> Steps for OneSession<'a> {
-    ghost use Rattle.tab_session.specs.SoleSessions.{shown, shown_none, shown_on};
+    ghost use Rattle.tab_session.specs.SoleSessions.{HasRun, has_run_none, has_run_on};
 
-    ghost shows = { shown };
+    ghost shows = { HasRun };
 
-    ghost shows_none = { shown_none };
+    ghost shows_none = { has_run_none };
 
-    ghost shows_on = { shown_on };
+    ghost shows_on = { has_run_on };
 
     fn step(&mut self, command: Command) -> Result<SharedReply, AllocError> {
         hand_in(self.core, self.session, command)

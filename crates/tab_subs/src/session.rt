@@ -46,8 +46,7 @@ impl<P: Post> Model for Session<P> {
           number = a.number;
           watching = a.watching.items;
           outbox = P.outbox a.post;
-          overflow
-              = a.overflow;
+          overflow = a.overflow;
         } };
 }
 

@@ -172,8 +172,7 @@ impl<P: Post + Drop> Subs<P> {
               number = commit;
               items = map
                   (λ s. end_for (level_in s.watching) (Some table.now)) self.now;
-              ended = Some
-                  table.now;
+              ended = Some table.now;
             }) }
     {
         let mut due = VecDeque::with_capacity(alloc, self.sessions.len())?;

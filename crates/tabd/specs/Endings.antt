@@ -3,7 +3,7 @@ use Rattle.std.specs.Prelude.{◌≡◌, ℕ, ◌<◌, ◌-◌, ◌^◌, List, [
 use Rattle.clap.specs.declared.error.kind.ErrorKind.{ErrorKind}
 use Rattle.clap.specs.declared.error.kind.ErrorKind.TheVariants as kind
 use Rattle.std.specs.Io.KnownBytes.{Appends, Keeps}
-use Rattle.tab_session.specs.Replays.{Replayed, Faults, Rises}
+use Rattle.tab_session.specs.Replays.{Replayed, Faults, IsOneMore}
 use Rattle.tab_session.specs.declared.ended.Ended.{Ended}
 use Rattle.tab_session.specs.declared.ended.Ended.TheVariants.{Damaged, Device, TooLong, NoMemory}
 use Rattle.tabd.specs.declared.ending.End.{End}
@@ -56,7 +56,7 @@ OnStreams (Stopped e) output errors = output × errors
 -- the errors have this line more, or a beginning of it where they failed; where there is no line, nothing
 abbrev pub TellsEnd : Option (List ℕ) → Option (List ℕ) → Option (List ℕ) → ℕ → ℕ → Type 0
 TellsEnd None old new faults faults' = Keeps old new × (faults' ≡ faults)
-TellsEnd (Some line) old new faults faults' = (Appends old new line × (faults' ≡ faults)) ⊎ (((n : ℕ) × Appends old new (take n line)) × Rises faults faults')
+TellsEnd (Some line) old new faults faults' = (Appends old new line × (faults' ≡ faults)) ⊎ (((n : ℕ) × Appends old new (take n line)) × IsOneMore faults faults')
 
 -- how a replay ends the program
 abbrev pub end_of : Result (Unit {0}) Ended → End

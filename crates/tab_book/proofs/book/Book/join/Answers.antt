@@ -3,7 +3,7 @@ use Rattle.std.specs.Prelude.{IfOk}
 use Rattle.tab_model.specs.State.{Session, State, session_at}
 use Rattle.tab_post.specs.Ends.{as_outbox, empty_outbox, mailbox_of, received}
 use Rattle.tab_book.specs.Running.{Running, Holds}
-use Rattle.tab_book.specs.Steps.{has_room, with_session, Joins, KeepsPosts}
+use Rattle.tab_book.specs.Steps.{has_room, with_new_session, Joins, KeepsPosts}
 use Rattle.tab_book.proofs.Keeping.{join_posts, keeps_own, holds_more, joined_holds, unseen}
 use Rattle.tab_book.proofs.book.Book.join.Goals as goal
 use Rattle.tab_book.proofs.book.Book.join.Goals.{in-Ok, in-Err}
@@ -37,7 +37,7 @@ returns-clause-ok g c =
       | in-Ok w ↦ subst (λ x. IfOk x (λ r. Joins c.args.self.now r.0 (mailbox_of r.1) (received r.1) after)) (sym w.result-is) (record {
         room = sym c.has_room.ensures ∙ c.if-not-has_room.false;
         number = ap (λ k. k + 1) c.greatest-session.ensures ∙ ap (λ (b : Running). b.state.greatest + 1) c.self.view_is;
-        state = w.in-Ok.ensures.ok ∙ ap (with_session c.self.inside.core (c.greatest-session.result + 1)) c.enter-post.ensures.new.outbox ∙ ap (λ (b : Running). with_session b.state (c.greatest-session.result + 1) (empty_outbox (mailbox_of c.enter-post.result.1))) c.self.view_is;
+        state = w.in-Ok.ensures.ok ∙ ap (with_new_session c.self.inside.core (c.greatest-session.result + 1)) c.enter-post.ensures.new.outbox ∙ ap (λ (b : Running). with_new_session b.state (c.greatest-session.result + 1) (empty_outbox (mailbox_of c.enter-post.result.1))) c.self.view_is;
         nothing_taken = c.enter-post.ensures.new.taken;
         fresh = subst (λ (b : Running). (n : ℕ) (s : Session) → session_at b.state.sessions n ≡ Some s → s.outbox.mailbox ≢ Some (mailbox_of c.enter-post.result.1)) c.self.view_is
             (unseen (length c.self.inside.prefix) c.self.inside.core (mailbox_of c.enter-post.result.1) c.self.invariant.places c.enter-post.ensures.fresh.0);
