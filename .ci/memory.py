@@ -122,7 +122,7 @@ def long_reads(transactions, reads):
 
 
 def short_reads(count):
-    """One-shots that each ask so often as one may, of which the journal keeps each operation: fewer than its entries would be."""
+    """One-shots of as many operations as one may ask. The journal is full by these long before it has as many entries as it may."""
     request, size = ("transaction", [("match_object", ("t", "_", "none"))] * 999, 0), size_of(("atomic", [[]] * 999))
 
     def hold(server, client):
@@ -350,7 +350,8 @@ def no_more_memory(server):
 # Thirty megabytes.
 LONG, MANY = long_record(100_000), 300
 # A name, a bound in kilobytes, and further words of the server: one that copies what it tells holds more than 150,000 in each, one
-# that builds an item before it sends it some 30,000 in each that is on its way, and one whose journal copies its rows some 70,000.
+# that builds an item before it sends it some 30,000 in each that is on its way, one whose journal copies its rows some
+# 70,000, and one whose journal counts entries alone some 225,000 in "operations in the journal".
 CASES = [
     ("reads of a long record", within(30_000, table(long_record(MEGABYTE), 1), long_reads(1, 200))),
     ("all keys", within(30_000, table(small_record, 20_000), whole_reads(ALL_KEYS, list(range(20_000)), 300))),

@@ -38,6 +38,8 @@ from memory import (  # noqa: E402
 from server import ATOMIC, HERE_OK, OK, Connection, same, script, side_by_side  # noqa: E402
 
 RECORDS, BAGGED, WRITES, DUMPS, READS, FINDS, WATCHERS = 100_000, 6_000, 899, 32, 999, 99, 60
+# As many commands on tables as make a journal full, by two, and transactions behind them.
+PAIRS, FOLDS = 66, 20
 # A read's own record, in a table of its own.
 READ = (("transaction", [("read", "other", 1)], 0), ("atomic", [[("other", 1, 1)]]))
 # Which keys are a client's own.
@@ -170,6 +172,19 @@ def index_again(server, client):
     return work
 
 
+def index_folds(server, client):
+    """Transactions that each fold commands on a table: the journal is full of such, and each of them made an index."""
+    for _ in range(PAIRS):
+        index_again(server, client)()
+    request, size = ("transaction", [("read", "t", 1)] * READS, 0), size_of(("atomic", [[small_record(1)]] * READS))
+
+    def work():
+        for _ in range(FOLDS):
+            ask_long(client, request, size)
+
+    return work
+
+
 def many_watch(server, client):
     request = ("transaction", [("write", small_record(key)) for key in range(READS)], 0)
     return watched(server, client, WATCHERS, request, size_of(("atomic", [OK] * READS)), READS)
@@ -201,6 +216,7 @@ def rows(alone):
     if not alone:
         return
     yield f"an index is added and taken away, {RECORDS} records", small, index_again
+    yield f"{FOLDS} one-shots of {READS} reads that fold commands on a table of {RECORDS} records", small, index_folds
     yield (f"a one-shot of {FINDS} match_object that find half, {RECORDS} records", table(lambda key: mixed[key], RECORDS, 500),
            asks(("transaction", [half] * FINDS, 0), size_of(("atomic", [mixed[::2]] * FINDS))))
     yield f"a one-shot of {READS} all_keys, {RECORDS} records", small, asks(("transaction", [ALL_KEYS] * READS, 0), size_of(("atomic", [keys] * READS)))

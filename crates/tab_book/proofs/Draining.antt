@@ -10,7 +10,7 @@ use Rattle.tab_model.proofs.PostsStay.{IsChannel, found_has}
 use Rattle.tab_outbox.specs.declared.mailbox.Met.{Met}
 use Rattle.tab_outbox.specs.declared.mailbox.Met.TheVariants as met
 use Rattle.tab_outbox.specs.Mailboxes.{Meets}
-use Rattle.tab_journal.specs.Journals.{Kept}
+use Rattle.tab_journal.specs.Journals.{JournalView}
 use Rattle.tab_book.specs.declared.step.Drained.{Drained}
 use Rattle.tab_book.specs.declared.step.Drained.TheVariants.{Going, AllTaken, Overflow, Left}
 use Rattle.tab_book.specs.Running.{Running}
@@ -64,7 +64,7 @@ takes σ over n s here channels = ap (step_of σ over n Take) here ∙ ap (λ c.
 
 -- ---- what a Take then tells
 
-module _ (σ : State) (j : Kept) (over : List ℕ) (n : ℕ) (s : Session) (here : session_at σ.sessions n ≡ Some s) (channels : AreChannels σ) (o : Outcome) (is : outcome σ over n Take ≡ o) where
+module _ (σ : State) (j : JournalView) (over : List ℕ) (n : ℕ) (s : Session) (here : session_at σ.sessions n ≡ Some s) (channels : AreChannels σ) (o : Outcome) (is : outcome σ over n Take ≡ o) where
   abbrev now : Running
   now = record { state = σ; journal = j }
 

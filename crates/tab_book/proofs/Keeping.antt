@@ -6,10 +6,11 @@ use Rattle.std.specs.Prelude.{Result, Ok, Err, IfOk, IfSome, OnOk, OnErr, zero, 
 use Rattle.std.proofs.lemmas.Bool.{and_parts}
 use Rattle.std.proofs.lemmas.Bool.Decides.{nat_tests}
 use Rattle.tab_model.specs.declared.data.Command.TheVariants as command
+use Rattle.tab_model.specs.declared.data.Reply.{Reply}
 use Rattle.tab_model.specs.declared.data.Entry.{Entry}
 use Rattle.tab_model.specs.declared.data.Limits.{Limits}
 use Rattle.tab_model.specs.declared.data.Reply.TheVariants as reply
-use Rattle.tab_model.specs.History.{empty, slice_since_after, after_fold}
+use Rattle.tab_model.specs.History.{empty, slice_since_after}
 use Rattle.tab_model.specs.Standing.{JoinsChannel, MayFollow, FollowsLog, is_joined, still_joined, may_enter}
 use Rattle.tab_model.specs.State.{Outbox, Session, State, new, session_at, IsSound}
 use Rattle.tab_model.specs.Reached.{IsRising}
@@ -21,13 +22,13 @@ use Rattle.tab_model.proofs.PostsStay.{JoinsAs, stays, found_has, post_stays}
 use Rattle.tab_model.proofs.Schedules.{new_sound}
 use Rattle.tab_model.proofs.ReachedWaits.{new_rising, step_rising}
 use Rattle.tab_model.proofs.StandingLemmas.{new_follows, step_follows, fold_follows, forget_follows, history_of, commits_are, sent_is, watched_is, sent_grows, left_away}
-use Rattle.tab_journal.specs.Journals.{Kept, fold_oldest, forget, is_full, most_moves, moves_in}
+use Rattle.tab_journal.specs.Journals.{JournalView, fold_oldest, forget, is_full, full_weight, weight_in}
 use Rattle.tab_core.specs.Runs.{takes_no_memory}
 use Rattle.tab_post.specs.Ends.{empty_outbox}
 use Rattle.tab_book.specs.declared.step.Step.{Step}
 use Rattle.tab_book.specs.declared.step.Step.TheVariants as step
 use Rattle.tab_book.specs.Running.{Running, IsRunning, HavePlaces, Holds}
-use Rattle.tab_book.specs.Steps.{oldest_joined, folded, with_folds, until_room, with_room_made, with_room, with_entries, leaves, has_room, with_new_session, StepsFrom, KeepsPosts, ask_of, is_never_refused}
+use Rattle.tab_book.specs.Steps.{oldest_joined, folded, with_folds, lacks_room, AreNeeded, FoldsWhileFull, StepsTo, MayFold, with_entries, leaves, has_room, with_new_session, StepsFrom, KeepsPosts, ask_of, is_never_refused}
 
 pub new_holds : (outbox seen : ℕ) (limits : Limits) (n : ℕ) → 1 ≤ outbox → 1 ≤ n → Holds outbox seen (new limits) (record { base = empty; entries = []; limit = n })
 new_holds outbox seen limits n room limit = record {
@@ -41,7 +42,7 @@ new_holds outbox seen limits n room limit = record {
   stands = new_follows limits;
 }
 
-pub running : (outbox seen : ℕ) (σ : State) (j : Kept) → Holds outbox seen σ j → IsRunning (record { state = σ; journal = j })
+pub running : (outbox seen : ℕ) (σ : State) (j : JournalView) → Holds outbox seen σ j → IsRunning (record { state = σ; journal = j })
 running outbox seen σ j k = record {
   history = history_of k.past j.base j.entries σ k.stands;
   commits = commits_are k.past j.base j.entries σ k.stands;
@@ -54,7 +55,7 @@ running outbox seen σ j k = record {
 -- ---- the oldest entry is folded
 
 module _ (outbox seen : ℕ) (σ : State) where
-  pub fold_holds : (j : Kept) → Holds outbox seen σ j → Holds outbox seen σ (folded σ j)
+  pub fold_holds : (j : JournalView) → Holds outbox seen σ j → Holds outbox seen σ (folded σ j)
   fold_holds j k = by j.entries refl
     where
       by : (es : List Entry) → j.entries ≡ es → Holds outbox seen σ (Rattle.tab_journal.specs.Journals.without_oldest (oldest_joined σ es) j.base es j.limit)
@@ -73,25 +74,25 @@ module _ (outbox seen : ℕ) (σ : State) where
           shorter : (y : Entry) (ys : List Entry) → length (y ∷ ys) ≤ j.limit → length ys ≤ j.limit
           shorter y ys h = omega (arith, h)
 
-  pub fold_shortens : (j : Kept) → 0 < length j.entries → length (folded σ j).entries < length j.entries
+  pub fold_shortens : (j : JournalView) → 0 < length j.entries → length (folded σ j).entries < length j.entries
   fold_shortens j some = by j.entries some
     where
-      by : (es : List Entry) → 0 < length es → length (Kept.entries (Rattle.tab_journal.specs.Journals.without_oldest (oldest_joined σ es) j.base es j.limit)) < length es
+      by : (es : List Entry) → 0 < length es → length (JournalView.entries (Rattle.tab_journal.specs.Journals.without_oldest (oldest_joined σ es) j.base es j.limit)) < length es
       by [] h = absurd (omega (arith, h))
       by (x ∷ es) h = omega arith
 
-  pub has_entry : (j : Kept) → Holds outbox seen σ j → is_full j ≡ true → 0 < length j.entries
+  pub has_entry : (j : JournalView) → Holds outbox seen σ j → is_full j ≡ true → 0 < length j.entries
   has_entry j k full = by j.entries full
     where
-      none : (n : ℕ) → 1 ≤ n → ((zero == n) || nat_le most_moves zero) ≡ true → ⊥
-      none n l h = by (zero == n) (nat_le most_moves zero) refl refl h
+      none : (n : ℕ) → 1 ≤ n → ((zero == n) || nat_le full_weight zero) ≡ true → ⊥
+      none n l h = by (zero == n) (nat_le full_weight zero) refl refl h
         where
-          by : (x y : Bool) → (zero == n) ≡ x → nat_le most_moves zero ≡ y → (x || y) ≡ true → ⊥
+          by : (x y : Bool) → (zero == n) ≡ x → nat_le full_weight zero ≡ y → (x || y) ≡ true → ⊥
           by true y e f h = grind (arith, nat_tests)
           by false true e f h = grind (arith, nat_tests)
           by false false e f h = cc
 
-      by : (es : List Entry) → ((length es == j.limit) || nat_le most_moves (moves_in es)) ≡ true → 0 < length es
+      by : (es : List Entry) → ((length es == j.limit) || nat_le full_weight (weight_in es)) ≡ true → 0 < length es
       by [] h = absurd (none j.limit k.limit h)
       by (x ∷ es) h = omega arith
 
@@ -147,7 +148,7 @@ at_most_one : (o : Option Entry) → (entries o ≡ []) ⊎ (length (entries o) 
 at_most_one None = inl refl
 at_most_one (Some e) = inr refl
 
-module _ (outbox seen : ℕ) (σ : State) (j : Kept) (k : Holds outbox seen σ j) (over : List ℕ) (n : ℕ) (a : Ask) (o : Outcome) (is : outcome σ over n a ≡ o) where
+module _ (outbox seen : ℕ) (σ : State) (j : JournalView) (k : Holds outbox seen σ j) (over : List ℕ) (n : ℕ) (a : Ask) (o : Outcome) (is : outcome σ over n a ≡ o) where
   pub next_stands : JoinsBook seen a → FollowsLog k.past j.base (j.entries ++ entries o.entry) o.state
   next_stands joins = subst (λ (x : Outcome). FollowsLog k.past j.base (j.entries ++ entries x.entry) x.state) is (step_follows k.past j.base j.entries σ over n a k.sound (joins_channel seen a joins) k.stands)
 
@@ -171,7 +172,7 @@ module _ (outbox seen : ℕ) (σ : State) (j : Kept) (k : Holds outbox seen σ j
 
 -- ---- who leaves is forgotten
 
-pub forget_holds : (outbox seen : ℕ) (σ : State) (j : Kept) (n : ℕ) → (MayFollow σ n → ⊥) → Holds outbox seen σ j → Holds outbox seen σ (forget j n)
+pub forget_holds : (outbox seen : ℕ) (σ : State) (j : JournalView) (n : ℕ) → (MayFollow σ n → ⊥) → Holds outbox seen σ j → Holds outbox seen σ (forget j n)
 forget_holds outbox seen σ j n gone k = record {
   room = k.room;
   limit = k.limit;
@@ -188,58 +189,76 @@ leaver_gone σ over n o sound joined is may = left_away σ over n sound joined (
 
 -- ---- a journal with room
 
-pub a_room : (σ : State) (n : ℕ) (a : Ask) (j : Kept) → may_enter σ n a ≡ true → with_room σ n a j ≡ with_room_made σ j
-a_room σ n a j h = ap (λ b. if b then with_room_made σ j else j) h
-
--- a journal that isn't full has room as it is
-pub room_there : (σ : State) (j : Kept) → is_full j ≡ false → with_room_made σ j ≡ j
-room_there σ j h = by j.entries refl
+-- one entry more is folded, where the journal was full
+pub one_more_fold : (σ : State) (j now new : JournalView) → FoldsWhileFull σ j now → is_full now ≡ true → new ≡ folded σ now → FoldsWhileFull σ j new
+one_more_fold σ j now new h full is = record {
+  folds = suc h.folds;
+  each = λ k lt. by k lt (nat_lt k h.folds) refl;
+  journal = is ∙ ap (folded σ) h.journal;
+}
   where
-    by : (es : List Entry) → j.entries ≡ es → until_room σ j.limit j.base es ≡ j
-    by [] e = sym (λ i. record j { entries = e i })
-    by (x ∷ es) e =
-        ap (λ b. if b then until_room σ j.limit (after_fold (still_joined σ x) j.base x) es else record { base = j.base; entries = x ∷ es; limit = j.limit }) (ap is_full (sym (λ i. record j { entries = e i })) ∙ h)
-        ∙ sym (λ i. record j { entries = e i })
+    by : (k : ℕ) → k < suc h.folds → (b : Bool) → nat_lt k h.folds ≡ b → is_full (with_folds σ k j) ≡ true
+    by k lt true e = h.each k (grind (arith, nat_tests))
+    by k lt false e =
+        let last : h.folds ≡ k = grind (arith, nat_tests) in
+        subst (λ (i : ℕ). is_full (with_folds σ i j) ≡ true) last (ap is_full (sym h.journal) ∙ full)
 
--- it is as it was where it isn't full, or where the step gives no entry
-pub no_room : (σ : State) (n : ℕ) (a : Ask) (j : Kept) → (is_full j && may_enter σ n a) ≡ false → with_room σ n a j ≡ j
-no_room σ n a j h = by (is_full j) (may_enter σ n a) refl h
-  where
-    by : (b c : Bool) → is_full j ≡ b → (b && c) ≡ false → (if c then with_room_made σ j else j) ≡ j
-    by b false e h = refl
-    by true true e h = cc
-    by false true e h = room_there σ j e
+pub nothing_folded : (σ : State) (j : JournalView) → FoldsWhileFull σ j j
+nothing_folded σ j = record { folds = zero; each = λ k lt. absurd (omega (arith, lt)); journal = refl }
 
--- a full one makes the same room with its oldest entry folded
-pub room_folded : (σ : State) (j : Kept) → is_full j ≡ true → with_room_made σ (folded σ j) ≡ with_room_made σ j
-room_folded σ j h = by j.entries refl
-  where
-    by : (es : List Entry) → j.entries ≡ es → with_room_made σ (Rattle.tab_journal.specs.Journals.without_oldest (oldest_joined σ es) j.base es j.limit) ≡ until_room σ j.limit j.base es
-    by [] e = refl
-    by (x ∷ es) e =
-        sym (ap (λ b. if b then until_room σ j.limit (after_fold (still_joined σ x) j.base x) es else record { base = j.base; entries = x ∷ es; limit = j.limit }) (ap is_full (sym (λ i. record j { entries = e i })) ∙ h))
+needed : (σ : State) (n : ℕ) (a : Ask) (j now : JournalView) → may_enter σ n a ≡ true → (h : FoldsWhileFull σ j now) → AreNeeded σ n a j h.folds
+needed σ n a j now may h k lt = λ i. h.each k lt i && may i
 
--- the second book is the first with so many of its oldest entries folded, and makes the same room
-abbrev pub IsFoldedFrom : Running → Running → Type 0
-IsFoldedFrom old new =
-    (new.state ≡ old.state)
-    × ((k : ℕ) × (new.journal ≡ with_folds old.state k old.journal))
-    × (with_room_made old.state new.journal ≡ with_room_made old.state old.journal)
+-- the second book is the first with so many entries folded that the step finds room
+abbrev pub HasMadeRoom : Running → Running → ℕ → Ask → Type 0
+HasMadeRoom old mid n a =
+    (folds : ℕ) × AreNeeded old.state n a old.journal folds
+    × (lacks_room old.state n a (with_folds old.state folds old.journal) ≡ false)
+    × (mid ≡ record { state = old.state; journal = with_folds old.state folds old.journal })
 
-pub folds_on : (old now new : Running) → IsFoldedFrom old now → is_full now.journal ≡ true → new ≡ record { state = now.state; journal = folded now.state now.journal } → IsFoldedFrom old new
-folds_on old now new h full is = (
-  ap (λ (b : Running). b.state) is ∙ h.0,
-  (suc h.1.0, ap (λ (b : Running). b.journal) is ∙ (λ i. folded (h.0 i) (h.1.1 i))),
-  ap (λ (b : Running). with_room_made old.state b.journal) is ∙ (λ i. with_room_made old.state (folded (h.0 i) now.journal)) ∙ room_folded old.state now.journal full ∙ h.2,
+pub room_made : (old mid : Running) (n : ℕ) (a : Ask) → may_enter old.state n a ≡ true → mid.state ≡ old.state
+    → FoldsWhileFull old.state old.journal mid.journal → is_full mid.journal ≡ false → HasMadeRoom old mid n a
+room_made old mid n a may same h vacant = (
+  h.folds,
+  needed old.state n a old.journal mid.journal may h,
+  ap (λ b. b && may_enter old.state n a) (ap is_full (sym h.journal) ∙ vacant),
+  λ i. record { state = same i; journal = h.journal i },
 )
 
-pub has_room_made : (old now : Running) → IsFoldedFrom old now → is_full now.journal ≡ false → now ≡ record { state = old.state; journal = with_room_made old.state old.journal }
-has_room_made old now h vacant =
-    let made : now.journal ≡ with_room_made old.state old.journal = sym (room_there old.state now.journal vacant) ∙ h.2 in
-    λ i. record { state = h.0 i; journal = made i }
+pub room_there : (old mid : Running) (n : ℕ) (a : Ask) → lacks_room old.state n a old.journal ≡ false → mid ≡ old → HasMadeRoom old mid n a
+room_there old mid n a room is = (zero, λ k lt. absurd (omega (arith, lt)), room, is)
 
-pub room_left : (outbox seen : ℕ) (σ : State) (j : Kept) → Holds outbox seen σ j → is_full j ≡ false → length j.entries < j.limit
-room_left outbox seen σ j k h = let w = k.within in by (length j.entries == j.limit) (nat_le most_moves (moves_in j.entries)) refl h w
+-- a step that is made from there
+pub steps_to : {E : Type 0} (x : Result Reply E) (old mid new : Running) (n : ℕ) (a : Ask) → HasMadeRoom old mid n a
+    → IfOk x (λ r. StepsFrom mid.state mid.journal n a r new) → IfOk x (λ r. StepsTo old n a r new)
+steps_to (Ok r) old mid new n a (folds, needed, enough, is) h = record {
+  folds = folds;
+  needed = needed;
+  enough = enough;
+  step = subst (λ (b : Running). StepsFrom b.state b.journal n a r new) is h;
+}
+steps_to (Err e) old mid new n a made h = tt
+
+-- one that is refused there, or while room is made
+pub may_fold : (old mid new : Running) (n : ℕ) (a : Ask) → HasMadeRoom old mid n a → new ≡ mid → MayFold old n a new
+may_fold old mid new n a (folds, needed, enough, is) same = record {
+  state = ap (λ (b : Running). b.state) (same ∙ is);
+  folds = folds;
+  needed = needed;
+  journal = ap (λ (b : Running). b.journal) (same ∙ is);
+}
+
+pub may_fold_some : (old new : Running) (n : ℕ) (a : Ask) → may_enter old.state n a ≡ true → new.state ≡ old.state
+    → FoldsWhileFull old.state old.journal new.journal → MayFold old n a new
+may_fold_some old new n a may same h = record {
+  state = same;
+  folds = h.folds;
+  needed = needed old.state n a old.journal new.journal may h;
+  journal = h.journal;
+}
+
+pub room_left : (outbox seen : ℕ) (σ : State) (j : JournalView) → Holds outbox seen σ j → is_full j ≡ false → length j.entries < j.limit
+room_left outbox seen σ j k h = let w = k.within in by (length j.entries == j.limit) (nat_le full_weight (weight_in j.entries)) refl h w
   where
     by : (a b : Bool) → (length j.entries == j.limit) ≡ a → (a || b) ≡ false → length j.entries ≤ j.limit → length j.entries < j.limit
     by true b e h w = cc
@@ -251,7 +270,7 @@ pub nothing_entered : (b c : Bool) → c ≡ false → (b && c) ≡ false
 nothing_entered true c h = h
 nothing_entered false c h = refl
 
-pub never_refused : (σ : State) (n : ℕ) (j : Kept) (s : Step) → is_never_refused s ≡ true → (takes_no_memory σ n (ask_of s) ≡ true) × ((is_full j && may_enter σ n (ask_of s)) ≡ false)
+pub never_refused : (σ : State) (n : ℕ) (j : JournalView) (s : Step) → is_never_refused s ≡ true → (takes_no_memory σ n (ask_of s) ≡ true) × ((is_full j && may_enter σ n (ask_of s)) ≡ false)
 never_refused σ n j step.Leave h = (refl, nothing_entered (is_full j) (may_enter σ n Leave) refl)
 never_refused σ n j step.Retry h = cc
 never_refused σ n j (step.Do (command.Abort r)) h = (refl, nothing_entered (is_full j) (may_enter σ n (DoCommand (command.Abort r))) (session_never σ n (DoCommand (command.Abort r)) by))
@@ -275,13 +294,13 @@ audits (Ok b) P p h = h.1 p
 audits (Err e) P p h = tt
 
 -- whether or not memory was refused
-pub fold_kept : {A E : Type 0} (r : Result A E) (outbox seen : ℕ) (σ : State) (j now : Kept) (joined : Bool) → Holds outbox seen σ j → joined ≡ oldest_joined σ j.entries
+pub fold_kept : {A E : Type 0} (r : Result A E) (outbox seen : ℕ) (σ : State) (j now : JournalView) (joined : Bool) → Holds outbox seen σ j → joined ≡ oldest_joined σ j.entries
     → OnOk r (now ≡ fold_oldest joined j) → OnErr r (now ≡ j) → Holds outbox seen σ now
 fold_kept (Ok x) outbox seen σ j now joined k is ok err = subst (Holds outbox seen σ) (ap (λ b. fold_oldest b j) (sym is) ∙ sym ok) (fold_holds outbox seen σ j k)
 fold_kept (Err e) outbox seen σ j now joined k is ok err = subst (Holds outbox seen σ) (sym err) k
 
 -- a Take gives no entry
-pub take_holds : (outbox seen : ℕ) (σ : State) (j : Kept) → Holds outbox seen σ j → (over : List ℕ) (n : ℕ) (o : Outcome) → outcome σ over n Take ≡ o → IsSound o.state → Holds outbox seen o.state j
+pub take_holds : (outbox seen : ℕ) (σ : State) (j : JournalView) → Holds outbox seen σ j → (over : List ℕ) (n : ℕ) (o : Outcome) → outcome σ over n Take ≡ o → IsSound o.state → Holds outbox seen o.state j
 take_holds outbox seen σ j k over n o is sound =
     let none : entries o.entry ≡ [] = ap (λ (x : Outcome). entries x.entry) (sym is) ∙ ap entries (enters_none σ over n Take (session_never σ n Take (λ b. refl))) in
     subst (Holds outbox seen o.state) (ap (with_entries j) none ∙ (λ i. record j { entries = append-nil j.entries i }))
@@ -289,8 +308,8 @@ take_holds outbox seen σ j k over n o is sound =
 
 -- ---- a step that was made, with its entry and its leaving
 
-module _ (outbox seen : ℕ) (σ : State) (j : Kept) (k : Holds outbox seen σ j) (over : List ℕ) (n : ℕ) (a : Ask) (o : Outcome) (is : outcome σ over n a ≡ o) (joins : JoinsBook seen a) where
-  pub made_holds : IsSound o.state → (may_enter σ n a ≡ true → length j.entries < j.limit) → (entered now : Kept) → entered ≡ with_entries j (entries o.entry)
+module _ (outbox seen : ℕ) (σ : State) (j : JournalView) (k : Holds outbox seen σ j) (over : List ℕ) (n : ℕ) (a : Ask) (o : Outcome) (is : outcome σ over n a ≡ o) (joins : JoinsBook seen a) where
+  pub made_holds : IsSound o.state → (may_enter σ n a ≡ true → length j.entries < j.limit) → (entered now : JournalView) → entered ≡ with_entries j (entries o.entry)
       → (b : Bool) → b ≡ leaves σ n a → now ≡ (if b then forget entered n else entered) → Holds outbox seen o.state now
   made_holds sound room entered now e b l f = by b l (subst (Holds outbox seen o.state) (sym e) (step_holds outbox seen σ j k over n a o is joins sound (one_fits σ over n a o (length j.entries < j.limit) is room))) f
     where
@@ -308,7 +327,7 @@ module _ (outbox seen : ℕ) (σ : State) (j : Kept) (k : Holds outbox seen σ j
               of_leave (DoCommand c) q l = cc
       by false l h f = subst (Holds outbox seen o.state) (sym f) h
 
-  pub made_steps : Allowed σ over n a → (entered now : Kept) → entered ≡ with_entries j (entries o.entry) → (b : Bool) → b ≡ leaves σ n a → now ≡ (if b then forget entered n else entered)
+  pub made_steps : Allowed σ over n a → (entered now : JournalView) → entered ≡ with_entries j (entries o.entry) → (b : Bool) → b ≡ leaves σ n a → now ≡ (if b then forget entered n else entered)
       → StepsFrom σ j n a o.reply (record { state = o.state; journal = now })
   made_steps allowed entered now e b l f = record {
     over = over;
@@ -338,7 +357,7 @@ joins_made σ over n b sound room is = by (session_at σ.sessions n) refl
     by None e = λ i. join_if σ n b (above i) ((and_parts (nat_lt σ.greatest (2 ^ 32 - 1)) (nat_lt (length σ.sessions) σ.limits.sessions) room).1 i)
     by (Some s) e = let le = sound.joined n s e in absurd (omega (arith, le, is))
 
-pub join_holds : (outbox seen : ℕ) (σ : State) (j : Kept) → Holds outbox seen σ j → (over : List ℕ) (n : ℕ) (b : Outbox) (o : Outcome) → outcome σ over n (Join b) ≡ o → JoinsBook seen (Join b) → IsSound o.state → Holds outbox seen o.state j
+pub join_holds : (outbox seen : ℕ) (σ : State) (j : JournalView) → Holds outbox seen σ j → (over : List ℕ) (n : ℕ) (b : Outbox) (o : Outcome) → outcome σ over n (Join b) ≡ o → JoinsBook seen (Join b) → IsSound o.state → Holds outbox seen o.state j
 join_holds outbox seen σ j k over n b o is new sound =
     let none : entries o.entry ≡ [] = ap (λ (x : Outcome). entries x.entry) (sym is) ∙ ap entries (enters_none σ over n (Join b) (session_never σ n (Join b) (λ c. refl))) in
     subst (Holds outbox seen o.state) (ap (with_entries j) none ∙ (λ i. record j { entries = append-nil j.entries i }))
@@ -349,7 +368,7 @@ pub new_post : (seen : ℕ) (b : Outbox) (m : ℕ) → b ≡ empty_outbox m → 
 new_post seen b m is within = ((ap (λ (x : Outbox). x.capacity) is, ap (λ (x : Outbox). x.items) is), subst (λ (x : Option ℕ). IfSome x (λ place. place < seen)) (sym (ap (λ (x : Outbox). x.mailbox) is)) within)
 
 -- more of the register is seen
-pub holds_more : (outbox seen more : ℕ) (σ : State) (j : Kept) → seen ≤ more → Holds outbox seen σ j → Holds outbox more σ j
+pub holds_more : (outbox seen more : ℕ) (σ : State) (j : JournalView) → seen ≤ more → Holds outbox seen σ j → Holds outbox more σ j
 holds_more outbox seen more σ j le k = record { room = k.room; limit = k.limit; within = k.within; sound = k.sound; rising = k.rising; places = by σ.sessions k.places; past = k.past; stands = k.stands }
   where
     one : (m : Option ℕ) → IfSome m (λ place. place < seen) → IfSome m (λ place. place < more)
@@ -370,7 +389,7 @@ pub keeps_own : (σ : State) → KeepsPosts σ σ
 keeps_own σ m s r g h = (cc, cc)
 
 -- the next number has joined with a mailbox whose place was not seen before
-pub joined_holds : (outbox seen more : ℕ) (σ τ : State) (j : Kept) → Holds outbox seen σ j → has_room σ ≡ true → (n : ℕ) → n ≡ σ.greatest + 1 → (b : Outbox) (m : ℕ) → b ≡ empty_outbox m → seen ≤ m → m < more
+pub joined_holds : (outbox seen more : ℕ) (σ τ : State) (j : JournalView) → Holds outbox seen σ j → has_room σ ≡ true → (n : ℕ) → n ≡ σ.greatest + 1 → (b : Outbox) (m : ℕ) → b ≡ empty_outbox m → seen ≤ m → m < more
     → τ ≡ with_new_session σ n b → IsSound τ → Holds outbox more τ j
 joined_holds outbox seen more σ τ j k room n is b m new le within made sound =
     subst (λ (x : State). Holds outbox more x j) (sym made)

@@ -9,12 +9,12 @@ use Rattle.tab_model.specs.History.{in_force_since, slice_since, IsHistory}
 use Rattle.tab_model.specs.Standing.{FollowsLog}
 use Rattle.tab_model.specs.State.{Session, State, session_at, level_in, IsSound}
 use Rattle.tab_model.specs.Reached.{IsRising}
-use Rattle.tab_journal.specs.Journals.{Kept}
+use Rattle.tab_journal.specs.Journals.{JournalView}
 
 -- a book as plain data: its core's state and its journal
 pub record Running : Type 0 where
   pub state : State
-  pub journal : Kept
+  pub journal : JournalView
 
 -- the first list ends with the second
 pub record EndsWith (all xs : List Item) : Type 0 where
@@ -41,7 +41,7 @@ abbrev pub HavePlaces : ℕ → State → Type 0
 HavePlaces seen σ = AllByRecursion (λ (s : Session). IfSome s.outbox.mailbox (λ place. place < seen)) σ.sessions
 
 -- what a book's parts have to do with each other; seen is how much of the register was seen, past what was folded into the base
-pub record Holds (outbox seen : ℕ) (σ : State) (journal : Kept) : Type 0 where
+pub record Holds (outbox seen : ℕ) (σ : State) (journal : JournalView) : Type 0 where
   pub room : 1 ≤ outbox
   pub limit : 1 ≤ journal.limit
   pub within : length journal.entries ≤ journal.limit

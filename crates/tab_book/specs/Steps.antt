@@ -1,15 +1,15 @@
 -- What the calls of a book do (this project's own). A step is the core's, and its entry is put into the journal, whose oldest
 -- entries are folded into its base before where it is full.
-use Rattle.std.specs.Prelude.{◌≡◌, ◌≢◌, ◌+◌, ◌-◌, ◌^◌, ℕ, zero, suc, List, [], ◌∷◌, ◌++◌, Bool, true, false, ◌&&◌, ◌==◌, nat_lt, if◌then◌else◌, Option, Some, length}
+use Rattle.std.specs.Prelude.{◌≡◌, ◌≢◌, ◌<◌, ◌+◌, ◌-◌, ◌^◌, ℕ, zero, suc, List, [], ◌∷◌, ◌++◌, Bool, true, false, ◌&&◌, ◌==◌, nat_lt, if◌then◌else◌, Option, Some, length}
 use Rattle.tab_model.specs.declared.data.Entry.{Entry}
 use Rattle.tab_model.specs.declared.data.Item.{Item}
 use Rattle.tab_model.specs.declared.data.Reply.{Reply}
-use Rattle.tab_model.specs.History.{Base, after_fold, slice_since_after}
+use Rattle.tab_model.specs.History.{slice_since_after}
 use Rattle.tab_model.specs.Standing.{is_joined, still_joined, may_enter}
 use Rattle.tab_model.specs.State.{Outbox, Session, State, session_at}
 use Rattle.tab_model.specs.Outcome.{Ask, Join, Leave, Retry, Take, DoCommand, fresh, is_abort, outcome}
 use Rattle.tab_model.specs.Run.{Allowed, entries}
-use Rattle.tab_journal.specs.Journals.{Kept, fold_oldest, forget, is_full}
+use Rattle.tab_journal.specs.Journals.{JournalView, fold_oldest, forget, is_full}
 use Rattle.tab_post.specs.Ends.{empty_outbox}
 use Rattle.tab_book.specs.declared.step.Step.{Step}
 use Rattle.tab_book.specs.declared.step.Step.TheVariants as step
@@ -35,31 +35,30 @@ oldest_joined σ [] = false
 oldest_joined σ (e ∷ es) = still_joined σ e
 
 -- the journal with its oldest entry, if it has one, in its base; a subscription goes there while its session is joined
-abbrev pub folded : State → Kept → Kept
+abbrev pub folded : State → JournalView → JournalView
 folded σ j = fold_oldest (oldest_joined σ j.entries) j
 
 -- the journal with so many of its oldest entries in its base
-abbrev pub with_folds : State → ℕ → Kept → Kept
+abbrev pub with_folds : State → ℕ → JournalView → JournalView
 with_folds σ zero j = j
 with_folds σ (suc k) j = folded σ (with_folds σ k j)
 
--- the journal with this limit, base and entries, of which the oldest are in its base: as many as it takes until it isn't full
-abbrev pub until_room : State → ℕ → Base → List Entry → Kept
-until_room σ limit b [] = record { base = b; entries = []; limit = limit }
-until_room σ limit b (e ∷ es) =
-    if is_full (record { base = b; entries = e ∷ es; limit = limit }) then until_room σ limit (after_fold (still_joined σ e) b e) es
-    else record { base = b; entries = e ∷ es; limit = limit }
+-- the second journal is the first with some of its oldest entries folded, each of them where it was full
+pub record FoldsWhileFull (σ : State) (old new : JournalView) : Type 0 where
+  pub folds : ℕ
+  pub each : (k : ℕ) → k < folds → is_full (with_folds σ k old) ≡ true
+  pub journal : new ≡ with_folds σ folds old
 
--- its oldest entries are folded, as many as it takes until there is room for one more
-abbrev pub with_room_made : State → Kept → Kept
-with_room_made σ j = until_room σ j.limit j.base j.entries
+-- a step that may give an entry finds no room for it
+abbrev pub lacks_room : State → ℕ → Ask → JournalView → Bool
+lacks_room σ n a j = is_full j && may_enter σ n a
 
--- the same where the step may give an entry, and else as it is
-abbrev pub with_room : State → ℕ → Ask → Kept → Kept
-with_room σ n a j = if may_enter σ n a then with_room_made σ j else j
+-- so many of its oldest entries are folded for a step, each of them where the step found no room for its entry
+abbrev pub AreNeeded : State → ℕ → Ask → JournalView → ℕ → Type 0
+AreNeeded σ n a j folds = (k : ℕ) → k < folds → lacks_room σ n a (with_folds σ k j) ≡ true
 
 -- the journal with these entries behind its own
-abbrev pub with_entries : Kept → List Entry → Kept
+abbrev pub with_entries : JournalView → List Entry → JournalView
 with_entries j es = record j { entries = j.entries ++ es }
 
 -- whether a joined session leaves
@@ -71,11 +70,11 @@ leaves σ n Take = false
 leaves σ n (DoCommand c) = false
 
 -- where the session leaves, its subscriptions go from the base
-abbrev pub forgetting : State → ℕ → Ask → Kept → Kept
+abbrev pub forgetting : State → ℕ → Ask → JournalView → JournalView
 forgetting σ n a j = if leaves σ n a then forget j n else j
 
 -- a step that was made, over a journal with room for its entry
-pub record StepsFrom (σ : State) (journal : Kept) (n : ℕ) (a : Ask) (r : Reply) (new : Running) : Type 0 where
+pub record StepsFrom (σ : State) (journal : JournalView) (n : ℕ) (a : Ask) (r : Reply) (new : Running) : Type 0 where
   pub over : List ℕ
   pub entry : Option Entry
   pub allowed : Allowed σ over n a
@@ -85,17 +84,19 @@ pub record StepsFrom (σ : State) (journal : Kept) (n : ℕ) (a : Ask) (r : Repl
   pub sent : (m : ℕ) (s x : Session) → session_at σ.sessions m ≡ Some s → session_at new.state.sessions m ≡ Some x
       → x.outbox.items ≡ s.outbox.items ++ slice_since_after journal.base m journal.entries (entries entry)
 
--- a step of a book that was made; the oldest entries were folded first where the journal had no room
-abbrev pub StepsTo : Running → ℕ → Ask → Reply → Running → Type 0
-StepsTo old n a r new = StepsFrom old.state (with_room old.state n a old.journal) n a r new
+-- a step of a book that was made; the oldest entries were folded first, until its entry had room
+pub record StepsTo (old : Running) (n : ℕ) (a : Ask) (r : Reply) (new : Running) : Type 0 where
+  pub folds : ℕ
+  pub needed : AreNeeded old.state n a old.journal folds
+  pub enough : lacks_room old.state n a (with_folds old.state folds old.journal) ≡ false
+  pub step : StepsFrom old.state (with_folds old.state folds old.journal) n a r new
 
--- one that was refused for memory changed nothing but that so many of the oldest entries may be folded
+-- one that was refused for memory changed nothing but that some of the entries that it folds may be folded
 pub record MayFold (old : Running) (n : ℕ) (a : Ask) (new : Running) : Type 0 where
   pub state : new.state ≡ old.state
   pub folds : ℕ
+  pub needed : AreNeeded old.state n a old.journal folds
   pub journal : new.journal ≡ with_folds old.state folds old.journal
-  -- only such as the step itself folds: made again, it ends with the same journal
-  pub room : with_room old.state n a new.journal ≡ with_room old.state n a old.journal
 
 -- a session that stays has the post that it had
 abbrev pub KeepsPosts : State → State → Type 0

@@ -1,6 +1,6 @@
 //! Steps of a book.
 
-ghost use Rattle.std.specs.Prelude.{◌≡◌, ◌≢◌, ◌<◌, ◌&&◌, [], IsTrue, IsFalse, IfOk, IfSome, IsOk, MatchOption, OnOk, OnErr, is_some, length, ℕ};
+ghost use Rattle.std.specs.Prelude.{◌≡◌, ◌≢◌, ◌<◌, ◌&&◌, [], IsTrue, IsFalse, IfOk, IfSome, IsOk, MatchOption, OnOk, OnErr, is_some, length};
 ghost use Rattle.tab_model.specs.declared.data.Reply.TheVariants.{Restart};
 ghost use Rattle.tab_model.specs.State.{Outbox, is_waiting, transaction_at};
 ghost use Rattle.tab_model.specs.Run.{entries};
@@ -8,7 +8,7 @@ ghost use Rattle.tab_model.specs.Standing.{may_enter as may_enter_of};
 ghost use Rattle.tab_core.specs.Runs.{takes_no_memory, ask_of as core_ask_of};
 ghost use Rattle.tab_book.specs.Releases.{is_retry, SaysReleases};
 ghost use Rattle.tab_journal.specs.Journals.{is_full};
-ghost use Rattle.tab_book.specs.Steps.{ask_of, leaves as leaves_of, folded, oldest_joined as oldest_joined_of, with_entries, with_folds, with_room_made, StepsFrom, StepsTo, MayFold, KeepsPosts};
+ghost use Rattle.tab_book.specs.Steps.{ask_of, leaves as leaves_of, folded, oldest_joined as oldest_joined_of, with_entries, FoldsWhileFull, StepsFrom, StepsTo, MayFold, KeepsPosts};
 
 use crate::book::Book;
 use crate::step::{Answered, Step};
@@ -20,7 +20,7 @@ use tab_post::Host;
 
 /// What a session holds others up by: a transaction that is open, and a request that is queued.
 #[derive(Clone, Copy)]
-struct Standing {
+struct Holdup {
     open: bool,
     waits: bool,
 }
@@ -39,7 +39,7 @@ impl<H: Host> Book<H> {
         ensures releases { IfOk result
             (λ r. SaysReleases r.releases self.old.state self.new.state) }
     {
-        let before = self.standing(session);
+        let before = self.holdup(session);
         let retries = retries(&step);
         let told = self.told(session, step)?;
         let releases = self.lets_go(session, before, retries, told.reply());
@@ -62,14 +62,9 @@ impl<H: Host> Book<H> {
 
     /// The oldest entries are folded into the base, until there is room for one more.
     fn make_room(&mut self) -> Result<(), AllocError>
-        ensures ok { OnOk result (self.new
-            ≡ record self.old { journal = with_room_made self.old.state self.old.journal }) }
         ensures room { OnOk result (IsFalse (is_full self.new.journal)) }
         ensures state { self.new.state ≡ self.old.state }
-        ensures folds { (k : ℕ)
-            × (self.new.journal ≡ with_folds self.old.state k self.old.journal) }
-        ensures same { with_room_made self.old.state self.new.journal
-            ≡ with_room_made self.old.state self.old.journal }
+        ensures folds { FoldsWhileFull self.old.state self.old.journal self.new.journal }
     {
         while self.journal.full() {
             self.fold()?;
@@ -78,7 +73,7 @@ impl<H: Host> Book<H> {
     }
 
     /// None where no one waits or rests, so that nothing that is let go of matters to others.
-    fn standing(&self, session: u32) -> Option<Standing>
+    fn holdup(&self, session: u32) -> Option<Holdup>
         ensures { MatchOption result (self.now.state.queue ≡ [])
             (λ s. (s.open ≡ is_some (transaction_at self.now.state session))
             × (s.waits ≡ is_waiting self.now.state session)) }
@@ -86,7 +81,7 @@ impl<H: Host> Book<H> {
         if !self.core.has_waiters() {
             return None;
         }
-        Some(Standing {
+        Some(Holdup {
             open: self.is_open(session),
             waits: self.core.waits(session),
         })
@@ -100,7 +95,7 @@ impl<H: Host> Book<H> {
 
     /// Whether a step after which the session was told so may let others go on: its transaction ended or was restarted, or
     /// its queued request was dropped. A retry that is answered holds the lock from then on, so it makes way for no one.
-    fn lets_go(&self, session: u32, before: Option<Standing>, retries: bool, reply: &Reply) -> bool
+    fn lets_go(&self, session: u32, before: Option<Holdup>, retries: bool, reply: &Reply) -> bool
         ensures ended { IfSome before
             (λ b. IsTrue b.open → IsFalse (is_some (transaction_at self.now.state session))
             → IsTrue result) }

@@ -169,13 +169,13 @@ module _ (bs : List Subscriber) (σ : State) (k : IsKept bs σ) (n : ℕ) (c : C
   abbrev now : State
   now = state_with bs σ
 
-  abbrev refusal_if : Session → Bool → Option Reply
-  refusal_if s b = if b then Some reply.WaitingNow else f s
+  abbrev refusal_where : Session → Bool → Option Reply
+  refusal_where s b = if b then Some reply.WaitingNow else f s
 
   one_reply : {a r : Reply} → Some a ≡ Some r → a ≡ r
   one_reply q = cc
 
-  refused_mark_if : (s : Session) (r : Reply) (b : Bool) → refusal_if s b ≡ Some r → ((over : List ℕ) → command_if now over s c (b && true) ≡ step_without_entry now r) × ((if b then [] else put_command now s c) ≡ [])
+  refused_mark_if : (s : Session) (r : Reply) (b : Bool) → refusal_where s b ≡ Some r → ((over : List ℕ) → command_if now over s c (b && true) ≡ step_without_entry now r) × ((if b then [] else put_command now s c) ≡ [])
   refused_mark_if s r true h = (λ over. ap (step_without_entry now) (one_reply h), refl)
   refused_mark_if s r false h = (λ over. (marking.refuses over s r h).0, (marking.refuses [] s r h).1)
 
@@ -190,7 +190,7 @@ module _ (bs : List Subscriber) (σ : State) (k : IsKept bs σ) (n : ℕ) (c : C
       )
       by (Some s) m g =
           let is_n : s.number ≡ n = found now.sessions s n m in
-          let q = refused_mark_if s r (is_waiting now s.number) (ap (λ j. refusal_if s (is_waiting now j)) is_n ∙ g) in (
+          let q = refused_mark_if s r (is_waiting now s.number) (ap (λ j. refusal_where s (is_waiting now j)) is_n ∙ g) in (
             subst (λ ss. IsSplitByOverflow ss []) (sym (ap (put_ask now (DoCommand c)) m ∙ q.1)) none_handed,
             at_session now [] n (DoCommand c) (Some s) m ∙ ap (λ b. command_if now [] s c (is_waiting now s.number && not b)) marking.no_abort ∙ q.0 [],
           )
@@ -198,7 +198,7 @@ module _ (bs : List Subscriber) (σ : State) (k : IsKept bs σ) (n : ℕ) (c : C
       p : Allowed now [] n (DoCommand c) × (outcome now [] n (DoCommand c) ≡ step_without_entry now r)
       p = by (session_at now.sessions n) refl h
 
-  free_if : (s : Session) (b : Bool) → refusal_if s b ≡ None → (b ≡ false) × (f s ≡ None)
+  free_if : (s : Session) (b : Bool) → refusal_where s b ≡ None → (b ≡ false) × (f s ≡ None)
   free_if s true h = cc
   free_if s false h = (refl, h)
 

@@ -225,13 +225,16 @@ fn a_full_journal_hands_back(rt: HostRuntime) {
     assert!(rt; journal.try_push(entry).is_err() && journal.len() == 3);
 }
 
-/// The moves of commits, and whether a journal that has room for more entries is full behind them.
-static MOVES: [(&[usize], bool); 5] = [
-    (&[], false),
-    (&[131_071], false),
-    (&[65_535, 65_536], false),
-    (&[65_536, 65_536], true),
-    (&[1, 200_000], true),
+/// Commands on a table, then commits of so many moves, and how many of these entries a journal that has room for more of them
+/// folds until it is no longer full.
+static WEIGHTS: [(usize, &[usize], usize); 7] = [
+    (0, &[], 0),
+    (0, &[131_071], 0),
+    (0, &[65_535, 65_536], 0),
+    (0, &[65_536, 65_536], 1),
+    (0, &[1, 200_000], 2),
+    (65, &[], 0),
+    (66, &[], 1),
 ];
 
 /// A commit of so many begins of child levels.
@@ -252,24 +255,47 @@ fn long_commit(alloc: Global, count: usize) -> Result<Entry, AllocError> {
     })
 }
 
-/// A journal that is as full as it should be has room again once its oldest entries are folded.
-fn is_filled(alloc: Global, counts: &[usize], full: bool) -> Result<bool, AllocError> {
-    let mut journal = Journal::with_limit(alloc, 16)?;
+/// So many times the command that makes table t.
+fn push_commands(alloc: Global, journal: &mut Journal, count: usize) -> Result<(), AllocError> {
+    for _command in 0..count {
+        let create = Schema::Create(atom(alloc, "t")?, Terms::from_vec(Vec::new(alloc)));
+        journal
+            .try_push(Entry::Changed(create, none(alloc)))
+            .or(Err(AllocError))?;
+    }
+    Ok(())
+}
+
+/// It folds so many, and hands an entry back before where it has to fold any.
+fn folds_until_room(
+    alloc: Global,
+    commands: usize,
+    counts: &[usize],
+    wanted: usize,
+) -> Result<bool, AllocError> {
+    let mut journal = Journal::with_limit(alloc, 200)?;
+    push_commands(alloc, &mut journal, commands)?;
     for &count in counts {
         journal
             .try_push(long_commit(alloc, count)?)
             .or(Err(AllocError))?;
     }
-    let filled = journal.full();
-    let refused = journal.try_push(long_commit(alloc, 1)?).is_err();
+    let handed_back = journal.full() && journal.try_push(long_commit(alloc, 1)?).is_err();
     let other = Journal::with_limit(alloc, 1)?;
-    fold(alloc, &mut journal, &other)?;
-    Ok(filled == full && refused == full && !journal.full())
+    let entries = journal.len();
+    for _entry in 0..entries {
+        if journal.full() && !journal.is_empty() {
+            journal.fold_oldest(alloc, true, other.base().tables())?;
+        }
+    }
+    let folds = entries.saturating_sub(journal.len());
+    Ok(handed_back == (wanted > 0) && folds == wanted && !journal.full())
 }
 
 #[test]
-fn moves_fill_a_journal(rt: HostRuntime) {
-    for (line, (counts, full)) in MOVES.iter().enumerate() {
-        assert!(rt; is_filled(rt.alloc(), counts, *full) == Ok(true), "line {line}");
+fn weight_fills_a_journal(rt: HostRuntime) {
+    for (line, (commands, counts, wanted)) in WEIGHTS.iter().enumerate() {
+        let right = folds_until_room(rt.alloc(), *commands, counts, *wanted);
+        assert!(rt; right == Ok(true), "line {line}");
     }
 }

@@ -4,7 +4,7 @@ ghost use Rattle.std.specs.Prelude.{◌≡◌, ◌≤◌, ◌<◌, ◌↔◌, �
 ghost use Rattle.std.specs.Option.{option_copied};
 ghost use Rattle.std.specs.Bool.{Decides};
 ghost use Rattle.tab_model.specs.History.{empty as empty_base, IsHistory};
-ghost use Rattle.tab_journal.specs.Journals.{fold_oldest as fold_oldest_of, forget as forget_in, is_full, moves_of as moves_of_entry};
+ghost use Rattle.tab_journal.specs.Journals.{fold_oldest as fold_oldest_of, forget as forget_in, is_full, weight_of as weight_of_entry};
 
 use crate::audit::is_history;
 use crate::base::Base;
@@ -14,25 +14,29 @@ use std::marker::Model;
 use tab_model::Entry;
 use tab_tables::Catalog;
 
-/// How many moves of transactions a journal holds before it is full, whatever its limit of entries is: what a move keeps
-/// (its operation, its reply) is many times what a client has to send for it.
-const MOST_MOVES: usize = 131_072;
+/// The weight of its entries at which a journal is full, whatever its limit of entries is: what a move keeps (its operation,
+/// its reply) is many times what a client has to send for it.
+const FULL_WEIGHT: usize = 131_072;
 
-/// The entries that stand, oldest first, with the number of their moves, and what they started from.
+/// What a command on a table weighs: as much as a transaction of most moves, so that a step behind one folds one command at
+/// most, since to fold it may build an index.
+const COMMAND_WEIGHT: usize = 2_000;
+
+/// The entries that stand, oldest first, with their weight, and what they started from.
 #[derive(Drop)]
 pub struct Journal {
     base: Base,
     entries: HeapCircularBuffer<Entry>,
-    moves: usize,
+    weight: usize,
 }
 
 impl Model for Journal {
     ghost use Rattle.std.specs.Prelude.{◌≡◌, ◌≤◌, ◌+◌, length};
     ghost use Rattle.std.specs.Coded.{codes};
     ghost use Rattle.tab_term.specs.Code.{term_code, terms_code, pairs_code};
-    ghost use Rattle.tab_journal.specs.Journals.{Kept, most_moves, moves_in};
+    ghost use Rattle.tab_journal.specs.Journals.{JournalView, full_weight, weight_in};
 
-    ghost Value = { Kept };
+    ghost Value = { JournalView };
 
     ghost coded = { Prim.hlevel (codes, term_code, terms_code, pairs_code) };
 
@@ -40,7 +44,7 @@ impl Model for Journal {
         record { base = a.base; entries = a.entries.items; limit = a.entries.capacity } };
 
     ghost invariant = { λ a. (length a.entries.items ≤ a.entries.capacity)
-        × (a.moves ≡ moves_in a.entries.items) × (a.moves ≤ most_moves + most_moves) };
+        × (a.weight ≡ weight_in a.entries.items) × (a.weight ≤ full_weight + full_weight) };
 }
 
 impl Journal {
@@ -53,15 +57,15 @@ impl Journal {
         Ok(Journal {
             base: Base::empty(alloc),
             entries: HeapCircularBuffer::with_capacity(alloc, limit)?,
-            moves: 0,
+            weight: 0,
         })
     }
 
-    /// Whether it holds as many entries as its limit says, or as many moves as a journal may.
+    /// Whether it holds as many entries as its limit says, or their weight makes it full.
     pub fn full(&self) -> bool
         ensures { result ≡ is_full self.now }
     {
-        self.entries.is_full() || self.moves >= MOST_MOVES
+        self.entries.is_full() || self.weight >= FULL_WEIGHT
     }
 
     /// Puts an entry behind the others, or hands it back. Takes no memory.
@@ -74,9 +78,9 @@ impl Journal {
         if self.full() {
             return Err(entry);
         }
-        let moves = moves_of(&entry);
+        let weight = weight_of(&entry);
         self.entries.try_push_back(entry)?;
-        self.moves += moves;
+        self.weight += weight;
         Ok(())
     }
 
@@ -130,7 +134,7 @@ impl Journal {
             self.base.fold(alloc, joined, entry, tables)?;
         }
         if let Some(entry) = self.entries.pop_front() {
-            self.moves -= moves_of(&entry);
+            self.weight -= weight_of(&entry);
         }
         Ok(())
     }
@@ -143,12 +147,13 @@ impl Journal {
     }
 }
 
-/// The moves of an entry. More than make a journal full count as so many.
-fn moves_of(entry: &Entry) -> usize
-    ensures { result ≡ moves_of_entry entry.now }
+/// The weight of an entry: the moves of a commit, at least one, and at most what makes a journal full.
+fn weight_of(entry: &Entry) -> usize
+    ensures { result ≡ weight_of_entry entry.now }
 {
     match entry {
-        Entry::Committed { moves, .. } => moves.items.len().min(MOST_MOVES),
-        Entry::Changed(..) | Entry::Subscribed { .. } | Entry::Unsubscribed(..) => 0,
+        Entry::Committed { moves, .. } => moves.items.len().min(FULL_WEIGHT).max(1),
+        Entry::Changed(..) => COMMAND_WEIGHT,
+        Entry::Subscribed { .. } | Entry::Unsubscribed(..) => 1,
     }
 }

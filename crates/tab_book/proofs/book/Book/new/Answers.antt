@@ -1,6 +1,6 @@
 use Rattle.std.proofs.Common.{length, subst, sym}
 use Rattle.tab_model.specs.State.{State, new}
-use Rattle.tab_journal.specs.Journals.{Kept}
+use Rattle.tab_journal.specs.Journals.{JournalView}
 use Rattle.tab_book.specs.Running.{Holds}
 use Rattle.tab_book.proofs.Keeping.{new_holds}
 use Rattle.tab_book.proofs.book.Book.new.Goals as goal
@@ -9,4 +9,4 @@ pub invariant_of-result : goal.invariant_of-result
 invariant_of-result g c =
     let seen = length c.named-register.result.1 in
     subst (λ (σ : State). Holds c.args.outbox seen σ c.in_ok-journal.journal) (sym c.new.ensures)
-    (subst (λ (j : Kept). Holds c.args.outbox seen (new c.args.limits) j) (sym c.in_ok-journal.ensures) (new_holds c.args.outbox seen c.args.limits c.args.limits.journal c.requires.room c.requires.journal))
+    (subst (λ (j : JournalView). Holds c.args.outbox seen (new c.args.limits) j) (sym c.in_ok-journal.ensures) (new_holds c.args.outbox seen c.args.limits c.args.limits.journal c.requires.room c.requires.journal))

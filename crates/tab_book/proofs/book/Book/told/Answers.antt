@@ -1,10 +1,9 @@
 use Rattle.std.proofs.Common.{◌≡◌, false, ◌&&◌, ap, sym, ◌∙◌, subst}
-use Rattle.std.specs.Prelude.{IfOk}
 use Rattle.tab_model.specs.Standing.{may_enter}
 use Rattle.tab_journal.specs.Journals.{is_full}
 use Rattle.tab_book.specs.Running.{Running}
-use Rattle.tab_book.specs.Steps.{ask_of, with_room, StepsFrom}
-use Rattle.tab_book.proofs.Keeping.{a_room, no_room, nothing_entered}
+use Rattle.tab_book.specs.Steps.{ask_of, lacks_room}
+use Rattle.tab_book.proofs.Keeping.{HasMadeRoom, room_made, room_there, steps_to, nothing_entered}
 use Rattle.tab_book.proofs.book.Book.told.Goals as goal
 use Rattle.tab_book.proofs.book.Book.told.Goals.{then-full+then-may_enter+in_ok-make_room, else-full, else-full-via-then-full+else-may_enter, else-full-via-else-full}
 
@@ -13,15 +12,15 @@ returns-clause-done g c =
     let n = c.args.session in
     let a = ask_of c.args.step in
     let old = c.args.self.now in
-    let σ = old.state in
-    let j = old.journal in
-    let room : c.if-full.self ≡ record { state = σ; journal = with_room σ n a j } = elim c.if-full.branch [
-      | then-full+then-may_enter+in_ok-make_room w ↦ w.self-is ∙ w.in_ok-make_room.ensures.ok ∙ (λ i. record { state = σ; journal = sym (a_room σ n a j (sym w.if-may_enter.ensures)) i })
+    let made : HasMadeRoom old c.if-full.self n a = elim c.if-full.branch [
+      | then-full+then-may_enter+in_ok-make_room w ↦
+          let room = w.in_ok-make_room.ensures in
+          subst (λ (b : Running). HasMadeRoom old b n a) (sym w.self-is) (room_made old w.make_room.new.self n a (sym w.if-may_enter.ensures) room.state room.folds room.room)
       | else-full w ↦
-          let none : (is_full j && may_enter σ n a) ≡ false = elim w.else-full.branch [
-            | else-full-via-then-full+else-may_enter w' ↦ nothing_entered (is_full j) (may_enter σ n a) (sym w'.if-may_enter.ensures)
-            | else-full-via-else-full w' ↦ ap (λ b. b && may_enter σ n a) (ap (λ (b : Running). is_full b.journal) (sym c.self.view_is) ∙ sym w'.if-full.ensures)
+          let none : lacks_room old.state n a old.journal ≡ false = elim w.else-full.branch [
+            | else-full-via-then-full+else-may_enter w' ↦ nothing_entered (is_full old.journal) (may_enter old.state n a) (sym w'.if-may_enter.ensures)
+            | else-full-via-else-full w' ↦ ap (λ b. b && may_enter old.state n a) (ap (λ (b : Running). is_full b.journal) (sym c.self.view_is) ∙ sym w'.if-full.ensures)
           ] in
-          w.self-is ∙ (λ i. record { state = σ; journal = sym (no_room σ n a j none) i })
+          room_there old c.if-full.self n a none w.self-is
     ] in
-    subst (λ (b : Running). IfOk c.make.result (λ r. StepsFrom b.state b.journal n a r c.make.new.self)) room c.make.ensures.done
+    steps_to c.make.result old c.if-full.self c.make.new.self n a made c.make.ensures.done
