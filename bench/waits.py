@@ -165,17 +165,23 @@ def own_writes(server, client):
     return lambda: ask_long(client, request, size_of(("atomic", [OK] * READS)))
 
 
-def index_again(server, client):
-    def work():
-        script((client, ("add_table_index", "t", "val"), ATOMIC), (client, ("del_table_index", "t", "val"), ATOMIC))
+def index_again(client, name):
+    """An index is added to a table and taken away."""
+    script((client, ("add_table_index", name, "val"), ATOMIC), (client, ("del_table_index", name, "val"), ATOMIC))
 
-    return work
+
+def own_index(server, client):
+    """Of a table of its own, so that no two wait for each other's locks."""
+    name = f"own{next(OWN)}"
+    script((client, ("create_table", name, []), ATOMIC))
+    fill(client, lambda key: (name, key, key), RECORDS, 500)
+    return lambda: index_again(client, name)
 
 
 def index_folds(server, client):
     """Transactions that each fold commands on a table: the journal is full of such, and each of them made an index."""
     for _ in range(PAIRS):
-        index_again(server, client)()
+        index_again(client, "t")
     request, size = ("transaction", [("read", "t", 1)] * READS, 0), size_of(("atomic", [[small_record(1)]] * READS))
 
     def work():
@@ -213,9 +219,9 @@ def rows(alone):
            asks(("transaction", [half], 0), size_of(("atomic", [mixed[::2]]))))
     yield f"index_read that finds all, {RECORDS} records", with_index, asks(("transaction", [("index_read", "t", 7, "val")], 0), size_of(("atomic", [indexed])))
     yield f"a one-shot of {READS} writes, {RECORDS} records", small, own_writes
+    yield f"an index is added and taken away, of a table of {RECORDS} records", table(small_record, 1), own_index
     if not alone:
         return
-    yield f"an index is added and taken away, {RECORDS} records", small, index_again
     yield f"{FOLDS} one-shots of {READS} reads that fold commands on a table of {RECORDS} records", small, index_folds
     yield (f"a one-shot of {FINDS} match_object that find half, {RECORDS} records", table(lambda key: mixed[key], RECORDS, 500),
            asks(("transaction", [half] * FINDS, 0), size_of(("atomic", [mixed[::2]] * FINDS))))
