@@ -166,7 +166,7 @@ def idle(server):
     older, younger, mirror = server.connect(), server.connect(), server.connect()
     script((older, CREATE, ATOMIC), (mirror, watch(), HERE_OK), (older, "begin", ("tid", 1)))
     script((younger, "begin", ("tid", 2)), (younger, write(1, "b"), OK))
-    same("begin mark", mirror.event(), ("mnesia_table_begin", "t", "simple"))
+    same("begin marker", mirror.event(), ("mnesia_table_begin", "t", "simple"))
     older.send(("read", "t", 1))
     same("its end", younger.stream.read(), b"")
     same("who waits", older.receive(), ("reply", []))

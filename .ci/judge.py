@@ -4,7 +4,7 @@ The order of the commits that change something is that of a recorder, who watche
 are those of the replies. Run alone in that order (model.py), each has to give the replies that its client had and the events
 that the recorder had, in the time between its request and its reply. What ended otherwise has to be told what stood in the
 tables at its time. No two transactions hold conflicting locks at once, who is restarted met an older one, and each subscriber
-has exactly the events since its begin mark.
+has exactly the events since its begin marker.
 """
 
 import bisect

@@ -185,7 +185,7 @@ def old_records(record, count):
     def hold(server, client):
         mirror = server.connect()
         script((mirror, ("subscribe", WATCHED), HERE_OK))
-        same("begin mark", mirror.event(), ("mnesia_table_begin", "t", "detailed"))
+        same("begin marker", mirror.event(), ("mnesia_table_begin", "t", "detailed"))
         script((client, ("transaction", [("delete", ("t", key)) for key in range(count)], 0), ("atomic", [OK] * count)))
         held = server.kilobytes()
         same("old records", [mirror.event()[1][3] for _ in range(count)] == [[record(key)] for key in range(count)], True)
@@ -252,7 +252,7 @@ def empty_outbox(mirror, record):
     same("dumps", told.count(begin_mark([record])), QUEUED)
     same("old records", [term[1][3] for term in told if term[0] == "mnesia_table_event"] == [[record]], True)
     script((mirror, NO_MORE, HERE_OK))
-    same("end mark", mirror.event(), ("mnesia_table_end", "t", "unsubscribed"))
+    same("end marker", mirror.event(), ("mnesia_table_end", "t", "unsubscribed"))
 
 
 def begin_peak(server):
@@ -285,7 +285,7 @@ def bag_writes(records, count):
     def hold(server, client):
         mirror = server.connect()
         script((mirror, ("subscribe", WATCHED), HERE_OK))
-        same("begin mark", mirror.event(), ("mnesia_table_begin", "t", "detailed"))
+        same("begin marker", mirror.event(), ("mnesia_table_begin", "t", "detailed"))
         begin_peak(server)
         script((client, ("transaction", [("write", record) for record in written], 0), ("atomic", [OK] * count)))
         held = server.kilobytes("VmHWM")

@@ -224,7 +224,7 @@ class Case:
             script(*((other, create, ATOMIC) for create in CREATES), (first, "commit", ("error", "no_transaction")))
             script(*((connections[who - 1], request, reply) for who, request, reply in self.before))
             if (1, watch(), HERE_OK) in self.before:
-                same("begin mark", first.event(), MARK)
+                same("begin marker", first.event(), MARK)
             server.refuse(nth)
             told = self.told(first, second)
             self.count = server.made()
@@ -274,7 +274,7 @@ class Watched:
         with Server(program, 2, *self.words) as server:
             first, second = Connection(server.port), Connection(server.port)
             script(*((second, create, ATOMIC) for create in CREATES), (first, watch(), HERE_OK))
-            same("begin mark", first.event(), MARK)
+            same("begin marker", first.event(), MARK)
             script(*((second, request, reply) for _, request, reply in self.before), (second, "begin", ("tid", self.number)))
             script(*((second, write(key, self.value), OK) for key in range(self.count)))
             server.refuse(nth)

@@ -98,7 +98,7 @@ def others_go_on(first, second, third):
         (second, write(2, "b"), OK),
         (second, "commit", ("atomic", 1)),
     )
-    same("begin mark", third.event(), ("mnesia_table_begin", "t", "simple"))
+    same("begin marker", third.event(), ("mnesia_table_begin", "t", "simple"))
     same("event", third.event(), event(2, "b", 2))
     script(
         (second, "begin", ("tid", 3)),
@@ -110,7 +110,7 @@ def others_go_on(first, second, third):
     )
     same("event", third.event(), event(1, "a", 1))
     script((third, ("unsubscribe", ("table", "t", "simple")), HERE_OK))
-    same("end mark", third.event(), ("mnesia_table_end", "t", "unsubscribed"))
+    same("end marker", third.event(), ("mnesia_table_end", "t", "unsubscribed"))
 
 
 def woken(end, reply, found):
@@ -199,7 +199,7 @@ def mirrored(one, other, *mirrors):
     script((one, CREATE, ATOMIC), (one, ("transaction", [write(2, 2)], 0), ("atomic", [OK])))
     for mirror in mirrors:
         script((mirror, watch("dump"), HERE_OK))
-        same("begin mark", mirror.event(), ("mnesia_table_begin", "t", "simple", [("t", 2, 2)]))
+        same("begin marker", mirror.event(), ("mnesia_table_begin", "t", "simple", [("t", 2, 2)]))
         logs.append([])
     following = [threading.Thread(target=follow, args=given, daemon=True) for given in zip(mirrors, logs)]
     for thread in following:
@@ -230,13 +230,13 @@ def slow(sent):
     def case(idle, writer, reader):
         value, count = b"v" * 4000, 200
         script((writer, CREATE, ATOMIC), (idle, watch(), HERE_OK), (reader, watch(), HERE_OK))
-        same("begin mark", reader.event(), ("mnesia_table_begin", "t", "simple"))
+        same("begin marker", reader.event(), ("mnesia_table_begin", "t", "simple"))
         for number in range(1, count + 1):
             script((writer, ("transaction", [write(number, value)], 0), ("atomic", [OK])))
             same("who reads", reader.event(), sent(number, value))
         # It reads with more room, for else each frame takes its time.
         idle.socket.setsockopt(socket.SOL_SOCKET, socket.SO_RCVBUF, 1_048_576)
-        same("begin mark", idle.event(), ("mnesia_table_begin", "t", "simple"))
+        same("begin marker", idle.event(), ("mnesia_table_begin", "t", "simple"))
         number = 1
         while (told := idle.event())[0] == sent(number, value)[0]:
             same("who reads slowly", told, sent(number, value))
@@ -245,7 +245,7 @@ def slow(sent):
         same("so many at most", number < count, True)
         # It may watch anew.
         script((idle, watch(), HERE_OK), (writer, ("transaction", [write(count + 1, 0)], 0), ("atomic", [OK])))
-        same("begin mark", idle.event(), ("mnesia_table_begin", "t", "simple"))
+        same("begin marker", idle.event(), ("mnesia_table_begin", "t", "simple"))
         same("event", idle.event(), sent(count + 1, 0))
 
     return case
@@ -257,7 +257,7 @@ def narrow(watcher, writer):
     for first in range(1, 400, 40):
         numbers = range(first, first + 40)
         script((watcher, watch(), HERE_OK))
-        same("begin mark", watcher.event(), ("mnesia_table_begin", "t", "simple"))
+        same("begin marker", watcher.event(), ("mnesia_table_begin", "t", "simple"))
         for number in numbers:
             writer.send(("transaction", [write(number, 0)], 0))
         for _ in numbers:
@@ -269,7 +269,7 @@ def narrow(watcher, writer):
             same("event", told, event(number, 0, number))
         else:
             script((watcher, ("unsubscribe", ("table", "t", "simple")), HERE_OK))
-            same("end mark", watcher.event(), ("mnesia_table_end", "t", "unsubscribed"))
+            same("end marker", watcher.event(), ("mnesia_table_end", "t", "unsubscribed"))
 
 
 def filled(size):
@@ -279,7 +279,7 @@ def filled(size):
     def case(idle, writer):
         value, keys, next_one = bytes(1_000_000), range(16), size + 2
         script((writer, CREATE, ATOMIC), (idle, watch(), HERE_OK), (writer, "begin", ("tid", 1)))
-        same("begin mark", idle.event(), ("mnesia_table_begin", "t", "simple"))
+        same("begin marker", idle.event(), ("mnesia_table_begin", "t", "simple"))
         script(*((writer, write(key, value), OK) for key in keys), (writer, "commit", ("atomic", 1)))
         # Of the long commit something has come, so it stands in the outbox no more.
         same("it is sent", bool(select.select([idle.socket], [], [], 10)[0]), True)
@@ -298,7 +298,7 @@ def beside_long_replies(reader, writer):
     script((writer, CREATE, ATOMIC), (writer, ("create_table", "u", []), ATOMIC), (reader, watch(), HERE_OK))
     script(*((writer, ("transaction", [("write", row)], 0), ("atomic", [OK])) for row in rows))
     script((reader, "begin", ("tid", len(rows) + 1)))
-    same("begin mark", reader.event(), ("mnesia_table_begin", "t", "simple"))
+    same("begin marker", reader.event(), ("mnesia_table_begin", "t", "simple"))
     for first in range(0, 5 * each, each):
         reader.send(all_rows)
         time.sleep(QUIET)
@@ -375,9 +375,9 @@ def batches(one, other, mirror):
     deletion = ("mnesia_table_event", ("delete", ("t", 1), ("tid", 1)))
     commits = [("batch", 1, [event(1, "a", 1), deletion, event(2, "b", 1)]), in_batch(3, "c")]
     for connection, mark, end in ((mirror, ([],), "unsubscribed"), (other, (), "deleted")):
-        same("begin mark", connection.event(), ("mnesia_table_begin", "t", "simple", *mark))
+        same("begin marker", connection.event(), ("mnesia_table_begin", "t", "simple", *mark))
         same("commits", [connection.event(), connection.event()], commits)
-        same("end mark", connection.event(), ("mnesia_table_end", "t", end))
+        same("end marker", connection.event(), ("mnesia_table_end", "t", end))
 
 
 def moved(mirror, *writers):
@@ -413,7 +413,7 @@ def moved(mirror, *writers):
 
     setup = [write(key, value) for key, value in first.items()]
     script((writers[0], CREATE, ATOMIC), (writers[0], ("transaction", setup, 0), ("atomic", [OK, OK])), (mirror, watch(), HERE_OK))
-    same("begin mark", mirror.event(), ("mnesia_table_begin", "t", "simple"))
+    same("begin marker", mirror.event(), ("mnesia_table_begin", "t", "simple"))
     side_by_side([(follow, ()), *((move_all, (one, seed)) for seed, one in enumerate(writers))])
 
 

@@ -84,7 +84,7 @@ def answered(place):
         first, second = Connection(place.path), Connection(place.path)
         script((first, CREATE, ATOMIC), (second, watch(), HERE_OK), (first, "begin", ("tid", 1)))
         script((first, write(1, "a"), OK), (first, "commit", ("atomic", 1)))
-        same("begin mark", second.event(), ("mnesia_table_begin", "t", "simple"))
+        same("begin marker", second.event(), ("mnesia_table_begin", "t", "simple"))
         same("event", second.event(), event(1, "a", 1))
         first.close()
         second.close()

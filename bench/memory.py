@@ -83,7 +83,7 @@ def one_shot(server, client):
     for connection in (client, mirror, other):
         connection.socket.settimeout(PATIENCE)
     script((mirror, ("subscribe", WATCHED), HERE_OK))
-    same("begin mark", mirror.event(), ("mnesia_table_begin", "t", "detailed"))
+    same("begin marker", mirror.event(), ("mnesia_table_begin", "t", "detailed"))
     writes = [("write", bag_record(BAGGED + number)) for number in range(WRITES)]
     waited, done = [], []
 

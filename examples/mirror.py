@@ -4,7 +4,7 @@
     mirror.py PROGRAM [WORD ..]        as mirror.py crates/tabd/out/tabd
 
 Session 1 commits transactions, made up by a seed; session 2 watches a set and a bag, and takes what it is told now and then.
-A begin mark has the table's records, and each batch the events of one commit. Where session 2 took too seldom, its post
+A begin marker has the table's records, and each batch the events of one commit. Where session 2 took too seldom, its post
 overflowed: it is told so after what came before, its copy is old, and it subscribes anew. In the end the copies are
 compared with the tables, which session 1 reads. The last line says how much was told; the status is 1 where a copy differs.
 """

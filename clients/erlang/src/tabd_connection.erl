@@ -21,7 +21,7 @@
     %% The process that is told the events, and the level at which each table is watched.
     watcher :: pid() | undefined,
     watched = #{} :: #{atom() => simple | detailed},
-    %% Who waits for the end mark of a table that it no longer watches.
+    %% Who waits for the end marker of a table that it no longer watches.
     ending = #{} :: #{atom() => gen_server:from()}
 }).
 
@@ -137,7 +137,7 @@ replied(_, {{_, undo}, _}, State) ->
 replied(Reply, {From, {unsubscribe, {table, Tab, _}}}, #state{watched = Watched} = State) when
     element(1, Reply) =:= ok, is_map_key(Tab, Watched)
 ->
-    %% The end mark is still to come; no event comes behind it.
+    %% The end marker is still to come; no event comes behind it.
     {noreply, State#state{ending = (State#state.ending)#{Tab => From}}};
 replied(Reply, {From, Request}, State) ->
     gen_server:reply(From, {reply, Reply}),

@@ -113,7 +113,7 @@ fn batch_of(alloc: Global, old: SharedTerms) -> Result<Item, Fail> {
     Ok(Item::Batch(7, events))
 }
 
-/// An end mark, a begin mark with a dump, or a batch: the last two hold 3 and 4.
+/// An end marker, a begin marker with a dump, or a batch: the last two hold 3 and 4.
 fn item_of(alloc: Global, number: usize) -> Result<Item, Fail> {
     let mut terms = Vec::new(alloc);
     terms.push(Term::Int(3))?;

@@ -11,6 +11,7 @@ pub(crate) struct Bells {
 }
 
 impl Bells {
+    /// A bell for each session that a book may have.
     pub fn new() -> Bells {
         Bells {
             bells: array::from_fn(|_| Condvar::new()),

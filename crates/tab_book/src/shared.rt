@@ -66,6 +66,7 @@ pub struct Shared<H: Host> {
 }
 
 impl<H: Host> Shared<H> {
+    /// The book behind its lock, with a bell for each session. It takes no memory.
     pub fn new(book: Book<H>) -> Shared<H> {
         let alloc = book.alloc;
         let outbox = book.outbox();

@@ -17,6 +17,7 @@ pub fn name(alloc: Global) -> Result<Atom, AllocError> {
     Atom::from_short_text(alloc, "t")
 }
 
+/// `{create_table, t, []}`.
 pub fn create(alloc: Global) -> Result<Command, AllocError> {
     let options = Terms::from_vec(Vec::new(alloc));
     Ok(Command::Schema(Schema::Create(name(alloc)?, options)))
@@ -31,18 +32,22 @@ pub fn record(alloc: Global, value: i128) -> Result<Term, AllocError> {
     Ok(Term::Tuple(Terms::from_vec(elements)))
 }
 
+/// `{write, {t, 1, value}}`.
 pub fn write(alloc: Global, value: i128) -> Result<Command, AllocError> {
     Ok(Command::Do(Operation::Write(record(alloc, value)?)))
 }
 
+/// `{read, t, 1}`.
 pub fn read(alloc: Global) -> Result<Command, AllocError> {
     Ok(Command::Do(Operation::Read(name(alloc)?, Term::Int(1))))
 }
 
+/// `{read, t, 1, write}`.
 pub fn read_for_write(alloc: Global) -> Result<Command, AllocError> {
     Ok(Command::Do(Operation::ReadForWrite(name(alloc)?, Term::Int(1))))
 }
 
+/// `{subscribe, {table, t, simple}}`.
 pub fn subscribe(alloc: Global) -> Result<Command, AllocError> {
     Ok(Command::Subscribe(name(alloc)?, Level::Simple, false))
 }

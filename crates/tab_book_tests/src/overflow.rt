@@ -40,7 +40,7 @@ pub const BEGAN: u64 = 2;
 
 const LEFT: u64 = 3;
 
-/// The numbers of three commits, which begin behind a begin mark that is taken, and what the reader is shown then, in turn.
+/// The numbers of three commits, which begin behind a begin marker that is taken, and what the reader is shown then, in turn.
 static ROUNDS: [([u64; 3], [u64; 4]); 2] = [
     ([1, 2, 3], [101, 102, 203, ALL_TAKEN]),
     ([4, 5, 6], [104, 105, 206, ALL_TAKEN]),
@@ -72,11 +72,12 @@ fn commit<H: Host>(
     Ok(number_of(told.reply()))
 }
 
+/// What the reader is shown by a Take, as a number.
 pub fn shown<H: Host>(host: &H, shared: &Shared<H>, seat: &Seat, inbox: &mut Inbox<H>) -> u64 {
     shown_as(&shared.drained(host, seat, inbox))
 }
 
-/// Whether the reader subscribes, and is shown its begin mark.
+/// Whether the reader subscribes, and is shown its begin marker.
 fn watches<H: Host>(
     host: &H,
     alloc: Global,

@@ -381,7 +381,7 @@ pub copied_is_some : {T : Type 0} (o : Option (Bor T)) → is_some o ≡ is_some
 copied_is_some None = refl
 copied_is_some (Some x) = refl
 
--- a begin mark of a copy of the table's name, and of its records
+-- a begin marker of a copy of the table's name, and of its records
 pub began_with : (bs cs : List Subscriber) (n : ℕ) (t : List ℕ) (l : Level) (named : List ℕ) (records dump : Option Rattle.tab_term.specs.Data.PlainTerms) (m : Option Marked) → named ≡ t → records ≡ dump
     → Marks bs (at bs n) (λ b. record { table = named; level = l } ∷ b.watching) (Began named l records) m cs → Marks bs (at bs n) (λ b. record { table = t; level = l } ∷ b.watching) (Began t l dump) m cs
 began_with bs cs n t l named records dump m is same h =

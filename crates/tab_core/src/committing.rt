@@ -97,7 +97,7 @@ impl<P: Post + Drop> Core<P> {
         None
     }
 
-    /// A table's deletion owes end marks; no other schema command owes anything.
+    /// A table's deletion owes end markers; no other schema command owes anything.
     fn redefine(&mut self, session: u32, schema: Schema) -> Result<Stepped, AllocError>
         ensures done { IfOk result
             (λ s. StepsTo self.old session (DoCommand (command.Schema schema)) s self.new) }

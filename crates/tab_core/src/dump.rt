@@ -1,4 +1,4 @@
-//! The records that a begin mark carries.
+//! The records that a begin marker carries.
 
 ghost use Rattle.std.specs.Prelude.{◌≡◌, IfOk};
 ghost use Rattle.tab_model.specs.Slices.{dump_of as dump_in};

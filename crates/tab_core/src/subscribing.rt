@@ -20,7 +20,7 @@ use tab_subs::Marked;
 use tab_term::Atom;
 
 impl<P: Post + Drop> Core<P> {
-    /// The session watches the table from here on. Its begin mark has the table's records as they are committed, where a
+    /// The session watches the table from here on. Its begin marker has the table's records as they are committed, where a
     /// dump is asked for.
     pub(crate) fn subscribe(
         &mut self,

@@ -17,6 +17,7 @@ pub struct Counted<T> {
 }
 
 impl<T> Counted<T> {
+    /// The device around this one: no fault counted, and nothing that waits to be flushed.
     pub fn new(inner: T) -> Counted<T>
         ensures inner { result.inner ≡ inner }
         ensures faults { result.faults ≡ 0 }

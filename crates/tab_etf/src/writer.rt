@@ -30,6 +30,7 @@ pub struct Writer<'a, W> {
 }
 
 impl<'a, W: Target> Writer<'a, W> {
+    /// A writer to the device, with no byte kept. It takes no memory.
     pub fn new(device: &'a mut W) -> Writer<'a, W>
         ensures same { result.device.ghost_name ≡ device.entry.ghost_name }
         ensures output { output W.contents W.faults result

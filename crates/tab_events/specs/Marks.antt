@@ -1,4 +1,4 @@
--- Begin and end marks and overflow, as a subscriber is told them (this project's own).
+-- Begin and end markers and overflow, as a subscriber is told them (this project's own).
 use Rattle.std.specs.Prelude.{ℕ, suc, pos, List, Bool, true, false, ◌&&◌, ◌||◌, if◌then◌else◌, Option, Some, None, codes}
 use Rattle.std.specs.List.{list_all}
 use Rattle.std.specs.Str.{bytes_eq}

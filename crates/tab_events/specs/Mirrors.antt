@@ -1,5 +1,5 @@
--- What a mirror of a table does with a term (this project's own): the records of a dump mark are its rows, and the events
--- that follow change them, up to an end mark or an overflow.
+-- What a mirror of a table does with a term (this project's own): the records of a dump marker are its rows, and the events
+-- that follow change them, up to an end marker or an overflow.
 use Rattle.std.specs.Prelude.{ℕ, List, [], ◌∷◌, Bool, true, false, ◌||◌, Option, Some, None}
 use Rattle.tab_term.specs.Data.{PlainTerm}
 use Rattle.tab_model.specs.declared.data.Change.{Change}
@@ -27,7 +27,7 @@ changed kind None c = (None, Other)
 changed kind (Some rows) None = (Some rows, Other)
 changed kind (Some rows) (Some c) = (Some (apply kind rows c), Applied)
 
--- an overflow or an end mark leaves no rows; any other term is taken as an event of the table
+-- an overflow or an end marker leaves no rows; any other term is taken as an event of the table
 abbrev pub unless_ended : List ℕ → Kind → Option Rows → PlainTerm → Bool → Option Rows × Mirrored
 unless_ended t kind rows x true = (None, Ended)
 unless_ended t kind rows x false = changed kind rows (in_table t (change_of x))

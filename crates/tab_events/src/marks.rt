@@ -9,7 +9,7 @@ ghost use Rattle.tab_events.specs.Marks.{is_row_of as is_row_of_table, is_level 
 
 use tab_term::{Atom, Term};
 
-/// The records of a dump mark of the table: `{mnesia_table_begin, Tab, Level, Records}`.
+/// The records of a dump marker of the table: `{mnesia_table_begin, Tab, Level, Records}`.
 pub fn dumped<'a>(table: &Atom, told: &'a Term) -> Option<&'a [Term]>
     ensures { option_map (λ rs. terms_list (terms rs)) (option_copied result)
         ≡ dumped_of table.now (term told.now) }

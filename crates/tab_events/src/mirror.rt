@@ -17,7 +17,7 @@ use tab_model::{Change, Kind};
 use tab_rows::Rows;
 use tab_term::{Atom, Term};
 
-/// A table as a subscriber with a dump is told it: the records of the begin mark, and the events since.
+/// A table as a subscriber with a dump is told it: the records of the begin marker, and the events since.
 ///
 /// A batch is fed by its events, one by one.
 pub struct Mirror {
@@ -67,7 +67,7 @@ impl Mirror {
         }
     }
 
-    /// The table's records, from a begin mark with a dump on and up to an end.
+    /// The table's records, from a begin marker with a dump on and up to an end.
     pub fn rows(&self) -> Option<&Rows>
         ensures { option_copied result ≡ option_map (λ rows. (self.now.kind, rows)) self.now.rows }
     {

@@ -3,11 +3,11 @@
 /// What a term was to a mirror.
 #[derive(Clone, Copy, Debug, PartialEq, Eq)]
 pub enum Mirrored {
-    /// A dump mark of its table, whose records it has now.
+    /// A dump marker of its table, whose records it has now.
     Begun,
     /// An event of its table.
     Applied,
-    /// An end mark of its table, or an overflow: it has no rows now.
+    /// An end marker of its table, or an overflow: it has no rows now.
     Ended,
     /// Nothing to it.
     Other,

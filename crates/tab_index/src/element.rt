@@ -40,6 +40,7 @@ impl Drop for Nothing {
 }
 
 impl Nothing {
+    /// The empty list as a term. It takes no memory.
     pub fn new(alloc: Global) -> Nothing
         ensures { result ≡ list_of no_terms }
     {

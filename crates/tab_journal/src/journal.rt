@@ -84,12 +84,14 @@ impl Journal {
         Ok(())
     }
 
+    /// How many entries the journal has; at most its limit.
     pub fn len(&self) -> usize
         ensures { result ≡ length self.now.entries }
     {
         self.entries.len()
     }
 
+    /// Whether every entry is folded into the base.
     pub fn is_empty(&self) -> bool
         ensures { IsTrue result ↔ (self.now.entries ≡ []) }
     {

@@ -31,6 +31,7 @@ impl<'a> Model for Records<'a> {
 }
 
 impl<'a> Records<'a> {
+    /// The table's records in their order, each lent. It takes no memory.
     pub fn new(table: &'a IndexedTable) -> Records<'a>
         ensures { result ≡ table.now.rows }
     {

@@ -1,4 +1,4 @@
-//! Lists of terms that are handed on by a count of owners: replies, the dumps of begin marks, a commit's events.
+//! Lists of terms that are handed on by a count of owners: replies, the dumps of begin markers, a commit's events.
 //!
 //! What a table answers shares its memory with the table. It stays as it was when the table changes, and goes with the last
 //! who holds it.

@@ -25,6 +25,7 @@ impl Model for Holders {
 }
 
 impl Holders {
+    /// No holder. It takes no memory.
     pub fn new(alloc: Global) -> Holders
         ensures { result ≡ [] }
     {

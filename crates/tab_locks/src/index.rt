@@ -45,6 +45,7 @@ impl Model for Index {
 }
 
 impl Index {
+    /// No lock. It takes no memory.
     pub fn new(alloc: Global) -> Index
         ensures { result ≡ [] }
     {

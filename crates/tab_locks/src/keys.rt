@@ -42,6 +42,7 @@ impl Model for Keys {
 }
 
 impl Keys {
+    /// No key with a lock. It takes no memory.
     pub fn new(alloc: Global) -> Keys
         ensures { result ≡ [] }
     {

@@ -35,6 +35,7 @@ impl Model for OnTable {
 }
 
 impl OnTable {
+    /// A table without locks. It takes no memory.
     pub fn new(alloc: Global) -> OnTable
         ensures { result ≡ [] }
     {

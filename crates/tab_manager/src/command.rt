@@ -18,6 +18,7 @@ impl Drop for Asked {
 }
 
 impl Asked {
+    /// The command, once it has had its place in the log.
     pub fn into_command(self) -> Command
         ensures { result ≡ self.command }
     {
@@ -39,6 +40,7 @@ impl Drop for AskedSchema {
 }
 
 impl AskedSchema {
+    /// The schema command, once it has had its place in the log.
     pub fn into_schema(self) -> Schema
         ensures { result ≡ self.schema }
     {

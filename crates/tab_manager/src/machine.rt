@@ -58,6 +58,7 @@ impl Drop for Machine {
 }
 
 impl Machine {
+    /// No table, no session, and these limits. It takes no memory.
     pub fn new(alloc: Global, limits: Limits) -> Machine
         requires { limits.sessions ≤ 64 }
         ensures state { state_of result ≡ new limits }
@@ -89,6 +90,7 @@ impl Machine {
         None
     }
 
+    /// A step that neither subscribes nor ends a subscription. Where memory is refused nothing changes.
     pub fn step(&mut self, session: u32, step: Step) -> Result<Stepped, AllocError>
         requires quiet { IsTrue (is_quiet_step step) }
         requires kept { IsKept self.old }

@@ -19,6 +19,7 @@ impl Drop for Transaction {
 }
 
 impl Transaction {
+    /// The transaction's age, and what it has not committed.
     pub fn into_parts(self) -> (u64, TxStore)
         ensures { result ≡ (self.age, self.store) }
     {

@@ -181,6 +181,7 @@ impl<K: Abbreviate + Drop, V: Drop> Map<K, V> {
         }
     }
 
+    /// Whether the map has no entry, in constant time.
     pub fn is_empty(&self) -> bool
         ensures empty { IsTrue result ↔ (self.now ≡ []) }
         ensures ascends { Ascends K.cmp self.now }
@@ -230,6 +231,7 @@ impl<K: Abbreviate + Drop, V: Drop> Map<K, V> {
         }
     }
 
+    /// Whether the map has an entry with the key.
     pub fn contains_key(&self, key: &K) -> bool
         ensures found { result ≡ is_some (lookup K.cmp key.now self.now) }
         ensures ascends { Ascends K.cmp self.now }

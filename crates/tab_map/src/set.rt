@@ -43,6 +43,7 @@ impl<K: Abbreviate + Drop> Set<K> {
         })
     }
 
+    /// Whether the set has no key, in constant time.
     pub fn is_empty(&self) -> bool
         ensures empty { IsTrue result ↔ (self.now ≡ []) }
         ensures ascends { KeysAscend K.cmp self.now }
@@ -50,6 +51,7 @@ impl<K: Abbreviate + Drop> Set<K> {
         self.map.is_empty()
     }
 
+    /// Whether the key is in the set.
     pub fn contains(&self, key: &K) -> bool
         ensures found { result ≡ contains_key K.cmp key.now self.now }
         ensures ascends { KeysAscend K.cmp self.now }

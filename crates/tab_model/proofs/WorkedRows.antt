@@ -86,7 +86,7 @@ pub row_outbox_full : told_in (joins_with 1 1 ∷ creates 1 (codes "t") none ∷
 unfolding outcome canon int_contents
 row_outbox_full = refl
 
--- the post that callers tell of there: two marks and a deletion's mark were refused, and the overflow is then told
+-- the post that callers tell of there: two marks and a deletion's marker were refused, and the overflow is then told
 abbrev full_run : List Call
 full_run = joins_with 1 1 ∷ creates 1 (codes "t") none ∷ creates 1 (codes "u") none ∷ subscribes 1 (codes "t") ∷ call_over 1 (DoCommand (command.Subscribe (codes "u") Simple false)) (1 ∷ []) ∷ call_over 1 (DoCommand (command.Unsubscribe (codes "t") Simple)) (1 ∷ []) ∷ call_over 1 (DoCommand (command.Schema (Remove (codes "t")))) (1 ∷ []) ∷ takes 1 ∷ []
 

@@ -24,7 +24,7 @@ abbrev pub put_commit : State → Option Transaction → List Session
 put_commit σ None = []
 put_commit σ (Some transaction) = if is_empty (mid_of σ transaction).saved then filter (λ x. not (is_empty (batch_to (σ.commits + 1) (events_now σ transaction) x))) σ.sessions else []
 
--- those whom a schema command hands an end mark: who watches the table that it deletes; none where it is refused
+-- those whom a schema command hands an end marker: who watches the table that it deletes; none where it is refused
 abbrev pub put_schema : State → Schema → Option Transaction → List Session
 put_schema σ c (Some transaction) = []
 put_schema σ c None =

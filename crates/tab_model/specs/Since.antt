@@ -109,7 +109,7 @@ AllAged [] = Unit {0}
 AllAged (e ∷ es) = HasAge e × AllAged es
 
 -- a table's rows are those of it at the beginning of a subscription that stands, with the changes since applied: those of
--- the log, and those that the items due since the begin mark tell; and so are the records of its dump, where the mark has one
+-- the log, and those that the items due since the begin marker tell; and so are the records of its dump, where the mark has one
 pub record RowsSince (s : ℕ) (t : List ℕ) (l : Level) (log : List Entry) (rows : Rows) : Type 0 where
   pub subscription : IsInForceSince s t l log
   pub table : Table

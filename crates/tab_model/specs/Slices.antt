@@ -29,12 +29,12 @@ shape_at (Some l) e = Some (shape l e)
 abbrev pub batch_for : (List ℕ → Option Level) → ℕ → List Event → List Item
 batch_for levels n es = as_batch n (filter_map (λ e. shape_at (levels e.tab) e) es)
 
--- the records that a begin mark carries, where a dump was asked for
+-- the records that a begin marker carries, where a dump was asked for
 abbrev pub dump_of : Catalog → List ℕ → Bool → Option PlainTerms
 dump_of w t true = Some (plain_terms (rows_of w t))
 dump_of w t false = None
 
--- the end mark of a deleted table, where there is a subscription to it
+-- the end marker of a deleted table, where there is a subscription to it
 abbrev pub ended_item : List ℕ → Option Level → List Item
 ended_item t None = []
 ended_item t (Some l) = Ended t ending.Deleted ∷ []

@@ -92,15 +92,15 @@ pub struct Event {
     pub age: u64,
 }
 
-/// Why a subscription ended, as its end mark says.
+/// Why a subscription ended, as its end marker says.
 #[derive(Clone, Copy, Debug, PartialEq, Eq)]
 pub enum Ending {
     Unsubscribed,
     Deleted,
 }
 
-/// An item of an outbox: a begin mark (with the table's records where a dump was asked for), the events of one commit, an
-/// end mark.
+/// An item of an outbox: a begin marker (with the table's records where a dump was asked for), the events of one commit, an
+/// end marker.
 pub enum Item {
     Began(Atom, Level, Option<SharedTerms>),
     Batch(u64, EventTerms),

@@ -50,7 +50,7 @@ ghost use Rattle.tab_model.specs.Callers.{Hearsay, silence, entry_of_call, hear,
 /// the tables are those of running them so; each open transaction was told what it is told alone on the tables as they
 /// are now; and what a joined session has taken, followed by its outbox, is what the log owes it, each item once, in
 /// order. Each subscription was made on a table that stood then, and each commit's age is from 1 on. Where a subscription
-/// stands now, the changes of the commits since, and so those that the session's items since its begin mark tell, applied
+/// stands now, the changes of the commits since, and so those that the session's items since its begin marker tell, applied
 /// to the table's rows at its beginning, give the table's rows now.
 #[tactic(auto, using(crate::proofs::Schedules::schedule_legal, crate::proofs::Schedules::schedule_tables, crate::proofs::Schedules::schedule_told, crate::proofs::Schedules::schedule_rows, crate::proofs::Schedules::schedule_stood, crate::proofs::PositiveAges::schedule_aged, crate::proofs::Schedules::schedule_applied))]
 pub fn every_schedule()
@@ -193,7 +193,7 @@ pub fn survivors_right()
 
 /// The changes that a legal log made to a table that stood before it and that it doesn't delete, applied to the table's
 /// rows before it, give the rows after it: so the changes since a subscription that stands give the table now, from the
-/// rows at its beginning or from the dump of its begin mark. The changes are those that the events of the commits carry.
+/// rows at its beginning or from the dump of its begin marker. The changes are those that the events of the commits carry.
 #[tactic(auto, using(crate::proofs::EventsGiveTheRows::log_applies, crate::proofs::EventsGiveTheRows::events_carry))]
 pub fn events_give_the_rows()
     ensures log { (w : Catalog) (n : ℕ) (x : Table) (t : List ℕ) (log : List Entry)

@@ -50,6 +50,7 @@ impl Answer {
         }
     }
 
+    /// The reply of the one-shot.
     pub fn into_reply(self) -> SharedReply
         ensures { result ≡ self.reply }
     {

@@ -26,6 +26,7 @@ pub enum Answer {
 }
 
 impl Answer {
+    /// The reply that says it.
     pub fn into_reply(self) -> Reply
         ensures { result ≡ reply_of self }
     {

@@ -31,6 +31,7 @@ impl Drop for Pending {
 }
 
 impl Pending {
+    /// The operation, once it is performed.
     pub fn into_operation(self) -> Operation
         ensures { result ≡ self.operation }
     {

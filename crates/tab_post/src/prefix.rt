@@ -31,6 +31,7 @@ impl<E, J: Naming> Model for Prefix<E, J> {
 }
 
 impl<E, J: Naming> Prefix<E, J> {
+    /// How many mailboxes were seen.
     pub fn len(&self) -> u64
         ensures { result ≡ length self.now }
     {

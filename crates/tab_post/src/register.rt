@@ -31,6 +31,7 @@ impl<E> Model for Opened<E> {
 }
 
 impl<E> Opened<E> {
+    /// A register without mailboxes. It takes no memory.
     pub fn new() -> Opened<E> {
         let (seen, mut first, _second) = Seen::open(Start::alone(), 0, 0);
         Opened {

@@ -42,7 +42,7 @@ abbrev pub kind_word : Kind → List ℕ
 kind_word Set = codes "set"
 kind_word Bag = codes "bag"
 
--- the text of the atom that an end mark has
+-- the text of the atom that an end marker has
 abbrev pub ending_word : Ending → List ℕ
 ending_word Unsubscribed = codes "unsubscribed"
 ending_word Deleted = codes "deleted"

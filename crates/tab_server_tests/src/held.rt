@@ -52,7 +52,7 @@ impl<'a, H: Host> Write for Held<'a, H> {
     }
 }
 
-/// The begin mark, the events of two commits, and the overflow of the third.
+/// The begin marker, the events of two commits, and the overflow of the third.
 static FRAMES: &[u8] =
     b"\x00\x00\x00\x22\x83h\x03w\x12mnesia_table_beginw\x01tw\x06simple\x00\x00\x003\x83h\x02w\x12mnesia_table_eventh\x03w\x05writeh\x03w\x01ta\x01w\x01ah\x02w\x03tida\x01\x00\x00\x003\x83h\x02w\x12mnesia_table_eventh\x03w\x05writeh\x03w\x01ta\x02w\x01ah\x02w\x03tida\x02\x00\x00\x00\x16\x83h\x02w\x0fmnesia_overflowa\x03";
 

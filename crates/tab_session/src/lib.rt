@@ -1,4 +1,5 @@
-//! Sessions: a stream of requests in, the stream of their replies out.
+//! The replay: a stream of requests in, the stream of their replies out. Each request names its session, and all run on one
+//! core.
 #![tactic(auto)]
 
 mod answered;

@@ -104,7 +104,7 @@ impl<P: Post + Drop> Session<P> {
         }
     }
 
-    /// Watches the table, with its begin mark put.
+    /// Watches the table, with its begin marker put.
     pub fn subscribe(
         &mut self,
         alloc: Global,
@@ -130,7 +130,7 @@ impl<P: Post + Drop> Session<P> {
         Ok(Marked::Put)
     }
 
-    /// Watches the table no more, with its end mark put.
+    /// Watches the table no more, with its end marker put.
     pub fn unsubscribe(&mut self, alloc: Global, table: &Atom) -> Result<Marked, AllocError>
         ensures ok { IfOk result
             (λ m. self.new

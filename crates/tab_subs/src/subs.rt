@@ -93,7 +93,7 @@ impl<P: Post + Drop> Subs<P> {
         Some(self.sessions[place].take())
     }
 
-    /// The session watches the table, with its begin mark put into its post, which may refuse it. None of one that isn't
+    /// The session watches the table, with its begin marker put into its post, which may refuse it. None of one that isn't
     /// joined.
     pub fn subscribe(
         &mut self,
@@ -116,7 +116,7 @@ impl<P: Post + Drop> Subs<P> {
         Ok(Some(marked))
     }
 
-    /// The session watches the table no more, with its end mark put into its post, which may refuse it. None of one that
+    /// The session watches the table no more, with its end marker put into its post, which may refuse it. None of one that
     /// isn't joined.
     pub fn unsubscribe(
         &mut self,
@@ -160,7 +160,7 @@ impl<P: Post + Drop> Subs<P> {
         with_room(alloc, commit, due, None)
     }
 
-    /// What a table's deletion owes: an end mark to each session that watches it. The number is that of the next commit.
+    /// What a table's deletion owes: an end marker to each session that watches it. The number is that of the next commit.
     pub fn prepare_end(
         &self,
         alloc: Global,

@@ -35,6 +35,7 @@ impl Model for Changing {
 }
 
 impl Changing {
+    /// The catalog, with no table changed. It takes no memory.
     pub fn new(catalog: Catalog) -> Changing
         ensures { result ≡ catalog }
     {

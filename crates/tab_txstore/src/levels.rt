@@ -93,6 +93,7 @@ impl Levels {
         self.updates.as_slice()
     }
 
+    /// The updates that nothing undid, in order, without a copy.
     pub fn into_updates(self) -> Vec<Change>
         ensures { result.items ≡ self.now.updates }
     {

@@ -36,6 +36,7 @@ impl<'a> SocketFile<'a> {
         Ok((listener, file))
     }
 
+    /// Where the file lies.
     pub fn path(&self) -> &'a str {
         self.path
     }
