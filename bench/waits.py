@@ -23,10 +23,8 @@ from memory import (  # noqa: E402
     DUMP,
     MEGABYTE,
     NO_MORE,
-    WATCHED,
     Held,
     ask_long,
-    bag_record,
     fill,
     long_reads,
     long_record,
@@ -97,8 +95,8 @@ def at_once(server, client, prepare, count):
     return lambda: side_by_side([(work, ()) for work in works])
 
 
-def long_transactions(server, client):
-    return lambda: long_reads(6, 500)(server, client)
+def long_transactions(reads):
+    return lambda server, client: lambda: long_reads(6, reads)(server, client)
 
 
 def many_dumps(server, client):
@@ -124,11 +122,12 @@ def script_end(client):
     payload(client)
 
 
-def watched(server, client, count, request, size, events):
+def watched(server, client, name, count, request, size, events):
     """A one-shot, told in detail to so many that read nothing meanwhile, and take it behind it."""
+    table_at = ("table", name, "detailed")
     mirrors = [server.connect() for _ in range(count)]
     for mirror in mirrors:
-        script((mirror, ("subscribe", WATCHED), HERE_OK))
+        script((mirror, ("subscribe", table_at), HERE_OK))
         same("begin marker", mirror.event()[0], "mnesia_table_begin")
 
     def work():
@@ -136,26 +135,28 @@ def watched(server, client, count, request, size, events):
         for mirror in mirrors:
             for _ in range(events):
                 payload(mirror)
-            script((mirror, NO_MORE, HERE_OK))
+            script((mirror, ("unsubscribe", table_at), HERE_OK))
             mirror.event()
             mirror.close()
 
     return work
 
 
+def bag_asks(server, client, verb, first):
+    """So many of these at one key of a bag of its own, told in detail to one."""
+    name = f"bag{next(OWN)}"
+    script((client, ("create_table", name, [("type", "bag")]), ATOMIC))
+    fill(client, lambda number: (name, 0, number), BAGGED, 500)
+    request = ("transaction", [(verb, (name, 0, first + number)) for number in range(WRITES)], 0)
+    return watched(server, client, name, 1, request, size_of(("atomic", [OK] * WRITES)), WRITES)
+
+
 def bag_writes(server, client):
-    """To a bag's key that has them already but for the first time: they are deleted before."""
-    rows = [bag_record(BAGGED + number) for number in range(WRITES)]
-    script((client, ("transaction", [("delete_object", row) for row in rows], 0), ("atomic", [OK] * WRITES)))
-    request = ("transaction", [("write", row) for row in rows], 0)
-    return watched(server, client, 1, request, size_of(("atomic", [OK] * WRITES)), WRITES)
+    return bag_asks(server, client, "write", BAGGED)
 
 
 def bag_deletions(server, client):
-    rows = [bag_record(number) for number in range(WRITES)]
-    script((client, ("transaction", [("write", row) for row in rows], 0), ("atomic", [OK] * WRITES)))
-    request = ("transaction", [("delete_object", row) for row in rows], 0)
-    return watched(server, client, 1, request, size_of(("atomic", [OK] * WRITES)), WRITES)
+    return bag_asks(server, client, "delete_object", 0)
 
 
 def own_writes(server, client):
@@ -193,12 +194,14 @@ def index_folds(server, client):
 
 def many_watch(server, client):
     request = ("transaction", [("write", small_record(key)) for key in range(READS)], 0)
-    return watched(server, client, WATCHERS, request, size_of(("atomic", [OK] * READS)), READS)
+    return watched(server, client, "t", WATCHERS, request, size_of(("atomic", [OK] * READS)), READS)
 
 
 def rows(alone):
     """What, how its table is made, and what is done each time."""
-    small, one_key = table(small_record, RECORDS, 500), table(bag_record, BAGGED, 500, [("type", "bag")])
+    small, one = table(small_record, RECORDS, 500), table(small_record, 1)
+    # Sixteen are sent as much together as one is alone.
+    finds, reads, long = (FINDS, READS, 500) if alone else (FINDS // 16, READS // 16, 500 // 16)
     keys, records = list(range(RECORDS)), [small_record(key) for key in range(RECORDS)]
     indexed = [("t", key, 7) for key in range(RECORDS)]
 
@@ -207,8 +210,7 @@ def rows(alone):
         fill(client, lambda key: indexed[key], RECORDS, 500)
 
     yield "nothing", small, nothing
-    if alone:
-        yield "6 transactions of 500 reads of a record of 1 MB", table(long_record(MEGABYTE), 1), long_transactions
+    yield f"6 transactions of {long} reads of a record of 1 MB", table(long_record(MEGABYTE), 1), long_transactions(long)
     yield f"all_keys, {RECORDS} records", small, asks(("transaction", [ALL_KEYS], 0), size_of(("atomic", [keys])))
     yield f"match_object that finds all, {RECORDS} records", small, asks(("transaction", [ALL_RECORDS], 0), size_of(("atomic", [records])))
     none = ("match_object", ("t", "_", "none"))
@@ -219,16 +221,16 @@ def rows(alone):
            asks(("transaction", [half], 0), size_of(("atomic", [mixed[::2]]))))
     yield f"index_read that finds all, {RECORDS} records", with_index, asks(("transaction", [("index_read", "t", 7, "val")], 0), size_of(("atomic", [indexed])))
     yield f"a one-shot of {READS} writes, {RECORDS} records", small, own_writes
-    yield f"an index is added and taken away, of a table of {RECORDS} records", table(small_record, 1), own_index
+    yield f"an index is added and taken away, of a table of {RECORDS} records", one, own_index
+    yield (f"a one-shot of {finds} match_object that find half, {RECORDS} records", table(lambda key: mixed[key], RECORDS, 500),
+           asks(("transaction", [half] * finds, 0), size_of(("atomic", [mixed[::2]] * finds))))
+    yield f"a one-shot of {reads} all_keys, {RECORDS} records", small, asks(("transaction", [ALL_KEYS] * reads, 0), size_of(("atomic", [keys] * reads)))
+    yield f"{DUMPS} dumps, {RECORDS} records", small, many_dumps
+    yield f"a one-shot of {WRITES} writes to a key of a bag of its own, of {BAGGED} records, told in detail", one, bag_writes
+    yield f"a one-shot of {WRITES} deletions there, told in detail", one, bag_deletions
     if not alone:
         return
     yield f"{FOLDS} one-shots of {READS} reads that fold commands on a table of {RECORDS} records", small, index_folds
-    yield (f"a one-shot of {FINDS} match_object that find half, {RECORDS} records", table(lambda key: mixed[key], RECORDS, 500),
-           asks(("transaction", [half] * FINDS, 0), size_of(("atomic", [mixed[::2]] * FINDS))))
-    yield f"a one-shot of {READS} all_keys, {RECORDS} records", small, asks(("transaction", [ALL_KEYS] * READS, 0), size_of(("atomic", [keys] * READS)))
-    yield f"{DUMPS} dumps, {RECORDS} records", small, many_dumps
-    yield f"a one-shot of {WRITES} writes to a bag's key of {BAGGED}, told in detail", one_key, bag_writes
-    yield f"a one-shot of {WRITES} deletions there, told in detail", one_key, bag_deletions
     yield f"a one-shot of {READS} writes, told in detail to {WATCHERS}", small, many_watch
 
 

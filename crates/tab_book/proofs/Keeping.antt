@@ -28,7 +28,7 @@ use Rattle.tab_post.specs.Ends.{empty_outbox}
 use Rattle.tab_book.specs.declared.step.Step.{Step}
 use Rattle.tab_book.specs.declared.step.Step.TheVariants as step
 use Rattle.tab_book.specs.Running.{Running, IsRunning, HavePlaces, Holds}
-use Rattle.tab_book.specs.Steps.{oldest_joined, folded, with_folds, lacks_room, AreNeeded, FoldsWhileFull, StepsTo, MayFold, with_entries, leaves, has_room, with_new_session, StepsFrom, KeepsPosts, ask_of, is_never_refused}
+use Rattle.tab_book.specs.Steps.{oldest_joined, folded, with_folds, has_to_fold, AreNeeded, FoldsWhileFull, StepsTo, MayFold, with_entries, leaves, has_free_seat, with_new_session, StepsFrom, KeepsPosts, ask_of, is_never_refused}
 
 pub new_holds : (outbox seen : ℕ) (limits : Limits) (n : ℕ) → 1 ≤ outbox → 1 ≤ n → Holds outbox seen (new limits) (record { base = empty; entries = []; limit = n })
 new_holds outbox seen limits n room limit = record {
@@ -213,7 +213,7 @@ needed σ n a j now may h k lt = λ i. h.each k lt i && may i
 abbrev pub HasMadeRoom : Running → Running → ℕ → Ask → Type 0
 HasMadeRoom old mid n a =
     (folds : ℕ) × AreNeeded old.state n a old.journal folds
-    × (lacks_room old.state n a (with_folds old.state folds old.journal) ≡ false)
+    × (has_to_fold old.state n a (with_folds old.state folds old.journal) ≡ false)
     × (mid ≡ record { state = old.state; journal = with_folds old.state folds old.journal })
 
 pub room_made : (old mid : Running) (n : ℕ) (a : Ask) → may_enter old.state n a ≡ true → mid.state ≡ old.state
@@ -225,7 +225,7 @@ room_made old mid n a may same h vacant = (
   λ i. record { state = same i; journal = h.journal i },
 )
 
-pub room_there : (old mid : Running) (n : ℕ) (a : Ask) → lacks_room old.state n a old.journal ≡ false → mid ≡ old → HasMadeRoom old mid n a
+pub room_there : (old mid : Running) (n : ℕ) (a : Ask) → has_to_fold old.state n a old.journal ≡ false → mid ≡ old → HasMadeRoom old mid n a
 room_there old mid n a room is = (zero, λ k lt. absurd (omega (arith, lt)), room, is)
 
 -- a step that is made from there
@@ -346,7 +346,7 @@ own_ask seen step.Retry = tt
 
 -- ---- the next number joins
 
-pub joins_made : (σ : State) (over : List ℕ) (n : ℕ) (b : Outbox) → IsSound σ → has_room σ ≡ true → n ≡ σ.greatest + 1 → outcome σ over n (Join b) ≡ step_without_entry (with_new_session σ n b) reply.Done
+pub joins_made : (σ : State) (over : List ℕ) (n : ℕ) (b : Outbox) → IsSound σ → has_free_seat σ ≡ true → n ≡ σ.greatest + 1 → outcome σ over n (Join b) ≡ step_without_entry (with_new_session σ n b) reply.Done
 unfolding outcome
 joins_made σ over n b sound room is = by (session_at σ.sessions n) refl
   where
@@ -382,14 +382,14 @@ holds_more outbox seen more σ j le k = record { room = k.room; limit = k.limit;
 pub unseen : (seen : ℕ) (σ : State) (m : ℕ) → HavePlaces seen σ → seen ≤ m → (n : ℕ) (s : Session) → session_at σ.sessions n ≡ Some s → s.outbox.mailbox ≢ Some m
 unseen seen σ m places le n s here same = let h = subst (λ (x : Option ℕ). IfSome x (λ place. place < seen)) same (found_has (HasPlace seen) σ.sessions n s places here) in absurd (omega (arith, h, le))
 
-pub join_posts : (σ : State) (n : ℕ) (b : Outbox) → IsSound σ → has_room σ ≡ true → n ≡ σ.greatest + 1 → KeepsPosts σ (with_new_session σ n b)
+pub join_posts : (σ : State) (n : ℕ) (b : Outbox) → IsSound σ → has_free_seat σ ≡ true → n ≡ σ.greatest + 1 → KeepsPosts σ (with_new_session σ n b)
 join_posts σ n b sound room is m s x g h = post_stays σ sound [] n (Join b) m s x g (ap (λ (o : Outcome). session_at o.state.sessions m) (joins_made σ [] n b sound room is) ∙ h)
 
 pub keeps_own : (σ : State) → KeepsPosts σ σ
 keeps_own σ m s r g h = (cc, cc)
 
 -- the next number has joined with a mailbox whose place was not seen before
-pub joined_holds : (outbox seen more : ℕ) (σ τ : State) (j : JournalView) → Holds outbox seen σ j → has_room σ ≡ true → (n : ℕ) → n ≡ σ.greatest + 1 → (b : Outbox) (m : ℕ) → b ≡ empty_outbox m → seen ≤ m → m < more
+pub joined_holds : (outbox seen more : ℕ) (σ τ : State) (j : JournalView) → Holds outbox seen σ j → has_free_seat σ ≡ true → (n : ℕ) → n ≡ σ.greatest + 1 → (b : Outbox) (m : ℕ) → b ≡ empty_outbox m → seen ≤ m → m < more
     → τ ≡ with_new_session σ n b → IsSound τ → Holds outbox more τ j
 joined_holds outbox seen more σ τ j k room n is b m new le within made sound =
     subst (λ (x : State). Holds outbox more x j) (sym made)

@@ -50,12 +50,12 @@ pub record FoldsWhileFull (σ : State) (old new : JournalView) : Type 0 where
   pub journal : new ≡ with_folds σ folds old
 
 -- a step that may give an entry finds no room for it
-abbrev pub lacks_room : State → ℕ → Ask → JournalView → Bool
-lacks_room σ n a j = is_full j && may_enter σ n a
+abbrev pub has_to_fold : State → ℕ → Ask → JournalView → Bool
+has_to_fold σ n a j = is_full j && may_enter σ n a
 
 -- so many of its oldest entries are folded for a step, each of them where the step found no room for its entry
 abbrev pub AreNeeded : State → ℕ → Ask → JournalView → ℕ → Type 0
-AreNeeded σ n a j folds = (k : ℕ) → k < folds → lacks_room σ n a (with_folds σ k j) ≡ true
+AreNeeded σ n a j folds = (k : ℕ) → k < folds → has_to_fold σ n a (with_folds σ k j) ≡ true
 
 -- the journal with these entries behind its own
 abbrev pub with_entries : JournalView → List Entry → JournalView
@@ -88,7 +88,7 @@ pub record StepsFrom (σ : State) (journal : JournalView) (n : ℕ) (a : Ask) (r
 pub record StepsTo (old : Running) (n : ℕ) (a : Ask) (r : Reply) (new : Running) : Type 0 where
   pub folds : ℕ
   pub needed : AreNeeded old.state n a old.journal folds
-  pub enough : lacks_room old.state n a (with_folds old.state folds old.journal) ≡ false
+  pub enough : has_to_fold old.state n a (with_folds old.state folds old.journal) ≡ false
   pub step : StepsFrom old.state (with_folds old.state folds old.journal) n a r new
 
 -- one that was refused for memory changed nothing but that some of the entries that it folds may be folded
@@ -105,8 +105,8 @@ KeepsPosts σ τ = (m : ℕ) (s r : Session) → session_at σ.sessions m ≡ So
 -- ---- joining
 
 -- fewer are joined than the limit says, and a session's number is left, of which 2 ^ 32 - 1 is the greatest
-abbrev pub has_room : State → Bool
-has_room σ = nat_lt σ.greatest (2 ^ 32 - 1) && nat_lt (length σ.sessions) σ.limits.sessions
+abbrev pub has_free_seat : State → Bool
+has_free_seat σ = nat_lt σ.greatest (2 ^ 32 - 1) && nat_lt (length σ.sessions) σ.limits.sessions
 
 -- the state with one more session, which has this post, and whose number is now the greatest
 abbrev pub with_new_session : State → ℕ → Outbox → State
@@ -114,7 +114,7 @@ with_new_session σ n b = record σ { sessions = σ.sessions ++ fresh n b ∷ []
 
 -- a session joins with the next number; its post is the sending end of this mailbox, from which nothing was received
 pub record Joins (old : Running) (session mailbox : ℕ) (taken : List Item) (new : Running) : Type 0 where
-  pub room : has_room old.state ≡ true
+  pub room : has_free_seat old.state ≡ true
   pub number : session ≡ old.state.greatest + 1
   pub state : new.state ≡ with_new_session old.state session (empty_outbox mailbox)
   pub nothing_taken : taken ≡ []
@@ -124,5 +124,5 @@ pub record Joins (old : Running) (session mailbox : ℕ) (taken : List Item) (ne
 
 -- a join that changed nothing: no room is left, or there is room and memory was refused
 abbrev pub Refuses : Running → JoinFault → Running → Type 0
-Refuses old Limit new = (has_room old.state ≡ false) × (new ≡ old)
-Refuses old NoMemory new = (has_room old.state ≡ true) × (new ≡ old)
+Refuses old Limit new = (has_free_seat old.state ≡ false) × (new ≡ old)
+Refuses old NoMemory new = (has_free_seat old.state ≡ true) × (new ≡ old)

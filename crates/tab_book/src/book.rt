@@ -5,7 +5,7 @@ ghost use Rattle.tab_model.specs.History.{empty as empty_base};
 ghost use Rattle.tab_model.specs.State.{new as new_state, IsSound};
 ghost use Rattle.tab_post.specs.Ends.{as_outbox, mailbox_of, received};
 ghost use Rattle.tab_book.specs.Running.{IsRunning};
-ghost use Rattle.tab_book.specs.Steps.{Joins, Refuses, has_room as has_room_of, with_new_session, KeepsPosts};
+ghost use Rattle.tab_book.specs.Steps.{Joins, Refuses, has_free_seat as has_free_seat_of, with_new_session, KeepsPosts};
 
 use crate::step::JoinFault;
 use arrayvec::ArrayVec;
@@ -109,7 +109,7 @@ impl<H: Host> Book<H> {
         ensures err { IfErr result (λ e. Refuses self.old e self.new) }
         ensures posts { KeepsPosts self.old.state self.new.state }
     {
-        if !self.has_room() {
+        if !self.has_free_seat() {
             return Err(JoinFault::Limit);
         }
         let session = self.core.greatest() + 1;
@@ -139,8 +139,8 @@ impl<H: Host> Book<H> {
         self.core.ready()
     }
 
-    fn has_room(&self) -> bool
-        ensures { result ≡ has_room_of self.now.state }
+    fn has_free_seat(&self) -> bool
+        ensures { result ≡ has_free_seat_of self.now.state }
     {
         self.core.greatest() < u32::MAX && self.core.admits(self.core.greatest() + 1)
     }
@@ -153,7 +153,7 @@ fn seat<H: Host>(
     post: ChannelPost<H>,
 ) -> Result<(), AllocError>
     requires sound { IsSound core.old }
-    requires room { IsTrue (has_room_of core.old) }
+    requires room { IsTrue (has_free_seat_of core.old) }
     requires number { session ≡ core.old.greatest + 1 }
     ensures ok { OnOk result (core.new ≡ with_new_session core.old session (as_outbox post)) }
     ensures err { OnErr result (core.new ≡ core.old) }

@@ -1,4 +1,4 @@
--- Takes, and marks that are put into a session's post or refused by it.
+-- Takes, and markers that are put into a session's post or refused by it.
 use Rattle.std.proofs.Common.{◌≡◌, ℕ, List, [], ◌∷◌, ◌++◌, Bool, true, false, ◌&&◌, not, refl, sym, ap, ◌∙◌, subst, length, Option, Some, None}
 use Rattle.std.proofs.Common.{Bor}
 use Rattle.std.specs.Option.{option_copied}
@@ -82,14 +82,14 @@ module _ (bs : List Subscriber) (σ : State) (k : IsKept bs σ) (n : ℕ) (s : S
       ∙ ap (λ (x : Session). give (state_with bs σ) x (items_to_take x.outbox x.outbox.capacity) x.overflow) m.slot
       ∙ gives b m (items_to_take b.outbox b.outbox.capacity) b.overflow refl
 
-  -- ---- marks
+  -- ---- markers
 
   marks : (b : Subscriber) → IsMine b → (mm : Marked) (ws : List Watch) (x : Item) (e : Entry)
       → put_marker (state_with bs σ) (is_full mm) (dress (Some b) s) ws x e ≡ record { state = state_with (change bs (subs.marked mm ws x b)) σ; reply = (marked_reply (Some mm) e).reply; entry = (marked_reply (Some mm) e).entry }
   marks b m mark.Full ws x e = ap (λ τ. step_without_entry τ reply.OutboxFull) (changed b (record b { outbox = with_refusal b.outbox }) m refl)
   marks b m mark.Put ws x e = ap (λ τ. let o : Outcome = record { state = τ; reply = reply.SubscribedHere; entry = Some e } in o) (changed b (record b { watching = ws; outbox = with_items b.outbox (x ∷ []) }) m refl)
 
-  -- who refused the mark
+  -- who refused the marker
   abbrev pub over_of : Marked → List ℕ
   over_of mm = if is_full mm then n ∷ [] else []
 
@@ -103,7 +103,7 @@ module _ (bs : List Subscriber) (σ : State) (k : IsKept bs σ) (n : ℕ) (s : S
   abbrev Step : Command → List ℕ → Stepped → List Subscriber → Type 0
   Step c over r cs = Allowed (state_with bs σ) over n (DoCommand c) × (outcome (state_with bs σ) over n (DoCommand c) ≡ record { state = state_with cs σ; reply = r.reply; entry = r.entry })
 
-  -- a mark of the session's own command
+  -- a marker of the session's own command
   marked_step : (c : Command) → is_abort c ≡ false → (b : Subscriber) → IsMine b → is_waiting σ n ≡ false → (ws : List Watch) (x : Item) (e : Entry) (mm : Marked)
       → ((over : List ℕ) → do_command (state_with bs σ) over (dress (Some b) s) c ≡ put_marker (state_with bs σ) (has_session over s.number) (dress (Some b) s) ws x e)
       → put_command (state_with bs σ) (dress (Some b) s) c ≡ dress (Some b) s ∷ []
@@ -159,7 +159,7 @@ take_makes bs σ k n cs x h s' is = by (session_at σ.sessions n) refl
         bare_entry (Some (Rattle.tab_subs.specs.declared.answers.Taken.TheVariants.Overflow c)) = refl
         bare_entry (Some Rattle.tab_subs.specs.declared.answers.Taken.TheVariants.Empty) = refl
 
--- a command that begins or ends a subscription: what refuses it, and its mark
+-- a command that begins or ends a subscription: what refuses it, and its marker
 pub record IsMarking (σ : State) (c : Command) (f : Session → Option Reply) (ws : Session → List Watch) (x : Item) (e : ℕ → Entry) : Type 0 where
   pub no_abort : is_abort c ≡ false
   pub refuses : (over : List ℕ) (s : Session) (r : Reply) → f s ≡ Some r → (do_command σ over s c ≡ step_without_entry σ r) × (put_command σ s c ≡ [])
@@ -202,7 +202,7 @@ module _ (bs : List Subscriber) (σ : State) (k : IsKept bs σ) (n : ℕ) (c : C
   free_if s true h = cc
   free_if s false h = (refl, h)
 
-  -- what its post made of the mark
+  -- what its post made of the marker
   pub mark_makes : refused_by now n f (session_at now.sessions n) ≡ None → (w : Subscriber → List Watch) → ((b : Subscriber) (s : Session) → w b ≡ ws (dress (Some b) s)) → (m : Option Marked) (cs : List Subscriber)
       → Marks bs (at bs n) w x m cs → (s' : Stepped) → s' ≡ marked_reply m (e n) → Makes bs σ n (DoCommand c) s' cs σ
   mark_makes free w same m cs marked_as s' is = by (session_at σ.sessions n) refl
@@ -351,7 +351,7 @@ module _ (bs : List Subscriber) (σ : State) (n : ℕ) (t : List ℕ) (free : No
   pub overflow_untold : true ≡ is_some (subs.overflow_of (at bs n)) → Some reply.OverflowUntold ≡ refusal bs σ n of_subscribe
   overflow_untold e = sym (asked true _ _ (sym e) refl refl)
 
-  pub no_table : false ≡ is_some (subs.overflow_of (at bs n)) → false ≡ is_some (Rattle.tab_model.specs.Catalogs.find σ.tables t) → Some (reply.SubNoTable t) ≡ refusal bs σ n of_subscribe
+  pub no_table : false ≡ is_some (subs.overflow_of (at bs n)) → false ≡ is_some (Rattle.tab_model.specs.Catalogs.find σ.tables t) → Some (reply.UnknownTable t) ≡ refusal bs σ n of_subscribe
   no_table e f = sym (asked false false _ (sym e) (sym f) refl)
 
   pub subscribed_already : false ≡ is_some (subs.overflow_of (at bs n)) → true ≡ is_some (Rattle.tab_model.specs.Catalogs.find σ.tables t) → true ≡ is_some (subs.level_of (at bs n) t) → Some (reply.AlreadySubscribed t) ≡ refusal bs σ n of_subscribe

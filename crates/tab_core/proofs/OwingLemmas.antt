@@ -10,7 +10,7 @@ use Rattle.tab_model.specs.declared.data.Schema.{Schema}
 use Rattle.tab_model.specs.declared.data.Schema.TheVariants.{Create, Remove, AddIndex, DelIndex}
 use Rattle.tab_model.specs.declared.data.Command.{Command}
 use Rattle.tab_model.specs.declared.data.Command.TheVariants as command
-use Rattle.tab_model.specs.Events.{events, surviving}
+use Rattle.tab_model.specs.Events.{events, surviving_changes}
 use Rattle.tab_model.specs.Schemas.{table_of_schema, schema_refusal, removed_table}
 use Rattle.tab_model.specs.Slices.{batch_for, end_for}
 use Rattle.tab_model.specs.State as plain
@@ -102,7 +102,7 @@ module _ (bs : List Subscriber) (σ : State) (k : IsKept bs σ) (n : ℕ) where
 
   module _ (t : Transaction) (ends : outermost σ n ≡ Some t) where
     abbrev pub batch : List Watch → List Item
-    batch ws = batch_for (level_in ws) number (events σ.tables t.age (surviving t.moves t.told))
+    batch ws = batch_for (level_in ws) number (events σ.tables t.age (surviving_changes t.moves t.told))
 
     e : IsEnding σ n t
     e = is_ending σ n t ends
@@ -151,10 +151,10 @@ module _ (bs : List Subscriber) (σ : State) (k : IsKept bs σ) (n : ℕ) where
 
     -- where no one watches, it is the commit of the manager
     abbrev pub Unseen : Type 0
-    Unseen = are_watched bs (surviving t.moves t.told) ≡ false
+    Unseen = are_watched bs (surviving_changes t.moves t.told) ≡ false
 
     nothing_expected : Unseen → map (λ (b : Subscriber). batch b.watching) bs ≡ map (λ (b : Subscriber). []) bs
-    nothing_expected h = no_batches number bs σ.tables t.age (surviving t.moves t.told) h
+    nothing_expected h = no_batches number bs σ.tables t.age (surviving_changes t.moves t.told) h
 
     unnumbered : delivered bs [] (commit_now σ [] e.slot t (events_now σ t)) ≡ lifted bs (commit_now σ [] e.slot t (events_now σ t))
     unnumbered = refl
@@ -175,7 +175,7 @@ module _ (bs : List Subscriber) (σ : State) (k : IsKept bs σ) (n : ℕ) where
     abbrev pub a : Ask
     a = DoCommand (command.Schema c)
 
-    -- refused, with nothing due; or done, with who refused its mark
+    -- refused, with nothing due; or done, with who refused its marker
     pub data Schemed (o o' : List ℕ → Outcome) (puts : List Session) : Type 0 where
       refused : ((o []).entry ≡ None) → ((over : List ℕ) → o' over ≡ lifted bs (o [])) → IsSplitByOverflow puts [] → Schemed o o' puts
       done : (x : Entry) → ((o []).entry ≡ Some x) → with_overflowed [] x ≡ x → ((over : List ℕ) → o' over ≡ delivered (after number over (removed_table c) mark bs) over (o [])) → puts ≡ filter (owing number [] (removed_table c) mark) (map (session_with bs) σ.sessions) → Schemed o o' puts

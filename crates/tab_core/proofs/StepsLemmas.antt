@@ -10,7 +10,7 @@ use Rattle.tab_model.specs.declared.data.Move.{Move}
 use Rattle.tab_model.specs.declared.data.Schema.{Schema}
 use Rattle.tab_model.specs.declared.data.Command.{Command}
 use Rattle.tab_model.specs.declared.data.Command.TheVariants as command
-use Rattle.tab_model.specs.Events.{events, surviving}
+use Rattle.tab_model.specs.Events.{events, surviving_changes}
 use Rattle.tab_model.specs.Schemas.{removed_table}
 use Rattle.tab_model.specs.Slices.{batch_for, end_for}
 use Rattle.tab_model.specs.State as plain
@@ -101,14 +101,14 @@ module _ (bs : List Subscriber) (σ : State) (k : IsKept bs σ) (n : ℕ) (s : S
           by false p = refl
 
   -- one that no one watches
-  pub unseen_commit_makes : (t : Transaction) → outermost σ n ≡ Some t → are_watched bs (surviving t.moves t.told) ≡ false → manager.StepsTo σ n (DoCommand command.Commit) s τ → Makes bs σ n (DoCommand command.Commit) s bs τ
+  pub unseen_commit_makes : (t : Transaction) → outermost σ n ≡ Some t → are_watched bs (surviving_changes t.moves t.told) ≡ false → manager.StepsTo σ n (DoCommand command.Commit) s τ → Makes bs σ n (DoCommand command.Commit) s bs τ
   unseen_commit_makes t ends unseen h =
       let p = commit_unseen bs σ k n t ends unseen in
       (([], p.1, p.0 ∙ ap (lifted bs) h), same_after (DoCommand command.Commit) (commands_stay σ [] n command.Commit) h)
 
   -- and one that is delivered
   pub commit_makes : (t : Transaction) → outermost σ n ≡ Some t → manager.StepsTo σ n (DoCommand command.Commit) s τ
-      → (es : List Event) → es ≡ filter (is_watched bs) (events σ.tables t.age (surviving t.moves t.told)) → (cs : List Subscriber) (over : List ℕ)
+      → (es : List Event) → es ≡ filter (is_watched bs) (events σ.tables t.age (surviving_changes t.moves t.told)) → (cs : List Subscriber) (over : List ℕ)
       → Delivers (record { number = σ.commits + 1; items = map (λ (b : Subscriber). batch_for (level_in b.watching) (σ.commits + 1) es) bs; ended = None }) bs cs over
       → (s' : Stepped) → s' ≡ record { reply = s.reply; entry = option_map (with_overflowed over) s.entry } → Makes bs σ n (DoCommand command.Commit) s' cs τ
   commit_makes t ends h es events_are cs over d s' is = (
@@ -122,8 +122,8 @@ module _ (bs : List Subscriber) (σ : State) (k : IsKept bs σ) (n : ℕ) (s : S
     numbers_are ∙ same_after (DoCommand command.Commit) (commands_stay σ [] n command.Commit) h,
   )
     where
-      same : map (λ (b : Subscriber). batch_for (level_in b.watching) (σ.commits + 1) es) bs ≡ map (λ (b : Subscriber). batch_for (level_in b.watching) (σ.commits + 1) (events σ.tables t.age (surviving t.moves t.told))) bs
-      same = ap (λ xs. map (λ (b : Subscriber). batch_for (level_in b.watching) (σ.commits + 1) xs) bs) events_are ∙ batches_of_watched (σ.commits + 1) bs (events σ.tables t.age (surviving t.moves t.told))
+      same : map (λ (b : Subscriber). batch_for (level_in b.watching) (σ.commits + 1) es) bs ≡ map (λ (b : Subscriber). batch_for (level_in b.watching) (σ.commits + 1) (events σ.tables t.age (surviving_changes t.moves t.told))) bs
+      same = ap (λ xs. map (λ (b : Subscriber). batch_for (level_in b.watching) (σ.commits + 1) xs) bs) events_are ∙ batches_of_watched (σ.commits + 1) bs (events σ.tables t.age (surviving_changes t.moves t.told))
 
       numbers_are : numbers cs ≡ numbers bs
       numbers_are = ap numbers (d.given ∙ ap (λ items. given_all (σ.commits + 1) over None items bs) same) ∙ after_numbers (σ.commits + 1) over None (committing.batch bs σ k n t ends) bs
@@ -221,7 +221,7 @@ none_ended None h = refl
 none_ended (Some t) h = cc
 
 -- one that did nothing has no updates
-pub no_updates : (bs : List Subscriber) (σ : State) (n : ℕ) (t : Transaction) → outermost σ n ≡ Some t → takes_no_memory (state_with bs σ) n (DoCommand command.Commit) ≡ true → surviving t.moves t.told ≡ []
+pub no_updates : (bs : List Subscriber) (σ : State) (n : ℕ) (t : Transaction) → outermost σ n ≡ Some t → takes_no_memory (state_with bs σ) n (DoCommand command.Commit) ≡ true → surviving_changes t.moves t.told ≡ []
 no_updates bs σ n t ends h = by t.moves bare
   where
     bare : is_empty t.moves ≡ true
@@ -229,7 +229,7 @@ no_updates bs σ n t ends h = by t.moves bare
         let e = committing.is_ending σ n t ends in
         sym (ap (λ o. is_empty (plain.moves_in o)) (transactions_dressed bs σ n ∙ ap plain.transaction_in e.here ∙ e.opened)) ∙ did_nothing bs σ n t ends h
 
-    by : (xs : List Move) → is_empty xs ≡ true → surviving xs t.told ≡ []
+    by : (xs : List Move) → is_empty xs ≡ true → surviving_changes xs t.told ≡ []
     by [] q = refl
     by (x ∷ xs) q = cc
 

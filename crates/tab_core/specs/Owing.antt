@@ -3,7 +3,7 @@ use Rattle.std.specs.Prelude.{◌≡◌, ℕ, List, Bool, true, false, Option, S
 use Rattle.std.specs.List.{filter, list_any}
 use Rattle.tab_model.specs.declared.data.Change.{Change}
 use Rattle.tab_model.specs.declared.data.Event.{Event}
-use Rattle.tab_model.specs.Events.{change_all, events, surviving}
+use Rattle.tab_model.specs.Events.{change_all, events, surviving_changes}
 use Rattle.tab_model.specs.Operations.{table_of_change}
 use Rattle.tab_model.specs.State.{State, Transaction}
 use Rattle.tab_model.specs.Catalogs.{Catalog}
@@ -33,4 +33,4 @@ Owes w bs age cs (Some u) = (are_watched bs cs ≡ true) × Updates w bs age cs 
 pub record Commits (σ : State) (bs : List Subscriber) (n : ℕ) (u : Updated) : Type 0 where
   pub transaction : Transaction
   pub ends : outermost σ n ≡ Some transaction
-  pub updates : Updates σ.tables bs transaction.age (surviving transaction.moves transaction.told) u
+  pub updates : Updates σ.tables bs transaction.age (surviving_changes transaction.moves transaction.told) u

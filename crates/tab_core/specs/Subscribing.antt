@@ -1,4 +1,4 @@
--- What refuses a subscription or a schema command, and what marks and Takes are answered (the order of the refusals is this project's own rule).
+-- What refuses a subscription or a schema command, and what markers and Takes are answered (the order of the refusals is this project's own rule).
 use Rattle.std.specs.Prelude.{ℕ, if◌then◌else◌, is_some, Option, Some, None}
 use Rattle.tab_model.specs.declared.data.Entry.{Entry}
 use Rattle.tab_model.specs.declared.data.Reply.{Reply}

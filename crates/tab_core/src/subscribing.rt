@@ -73,7 +73,7 @@ impl<P: Post + Drop> Core<P> {
             return Ok(Some(Reply::OverflowUntold));
         }
         if self.manager.tables().table(table).is_none() {
-            return Ok(Some(Reply::SubNoTable(table.try_clone(self.alloc)?)));
+            return Ok(Some(Reply::UnknownTable(table.try_clone(self.alloc)?)));
         }
         if self.subs.level(session as u64, table).is_some() {
             return Ok(Some(Reply::AlreadySubscribed(table.try_clone(self.alloc)?)));
@@ -152,7 +152,7 @@ fn is_at(watched: Option<Level>, level: Level) -> bool
     )
 }
 
-/// The reply to a mark that was put into a post, or refused by it.
+/// The reply to a marker that was put into a post, or refused by it.
 fn marked_reply(marked: Option<Marked>, entry: Entry) -> Stepped
     ensures { result ≡ marked_reply_of marked entry }
 {

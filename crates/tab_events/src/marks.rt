@@ -1,4 +1,4 @@
-//! The marks that begin and end what a subscriber is told.
+//! The markers that begin and end what a subscriber is told.
 
 ghost use Rattle.std.specs.Prelude.{◌≡◌, option_map};
 ghost use Rattle.std.specs.List.{list_all};

@@ -4,7 +4,7 @@ ghost use Rattle.std.specs.Prelude.{◌≡◌, IfOk};
 ghost use Rattle.tab_term.specs.Data.{atom, pair as pair_of};
 ghost use Rattle.tab_term.specs.View.{term};
 ghost use Rattle.tab_lists.specs.EventTerms.{event_body, event_term};
-ghost use Rattle.tab_model.specs.Shapes.{shape as shape_of, simple as simple_of, detailed as detailed_of};
+ghost use Rattle.tab_model.specs.Shapes.{shape as shape_of, simple as simple_of, detailed_term as detailed_of};
 
 use std::alloc::{AllocError, Global};
 use tab_lists::{EventTerm, Tag};

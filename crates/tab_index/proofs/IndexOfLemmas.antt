@@ -12,13 +12,13 @@ use Rattle.tab_term.proofs.Total.{term_total}
 use Rattle.tab_map.specs.Entries.{lookup, insert_entry, remove_entry, AllAbove, Ascends}
 use Rattle.tab_map.specs.KeyList.{keys, contains_key, insert_key, remove_key, AllKeysAbove, KeysAscend}
 use Rattle.tab_map.proofs.KeyListLemmas.{keys_lookup, keys_insert, keys_remove}
-use Rattle.tab_model.specs.Shapes.{held}
+use Rattle.tab_model.specs.Shapes.{term_value}
 use Rattle.tab_records.proofs.LookUps.{lookup_insert, lookup_remove}
 use Rattle.tab_index.specs.IndexOf.{Entry, keys_in, has_pair, IsFilled, IsWith, IsWithout}
 
 -- ---- terms
 
-held_term : (t : Term) → held (term t) ≡ t
+held_term : (t : Term) → term_value (term t) ≡ t
 held_term (is.Int z) = refl
 held_term (is.Atom s) = refl
 held_term (is.Tuple ts) = refl
@@ -27,7 +27,7 @@ held_term (is.Bin b) = refl
 held_term (is.Map ps) = refl
 
 pub one_term : (a b : Term) → same (term a) (term b) ≡ true → a ≡ b
-one_term a b h = sym (held_term a) ∙ ap held ((same-Decides (term a) (term b)).0 h) ∙ held_term b
+one_term a b h = sym (held_term a) ∙ ap term_value ((same-Decides (term a) (term b)).0 h) ∙ held_term b
 
 -- ---- keys, seen as entries that say nothing
 

@@ -4,7 +4,7 @@ ghost use Rattle.std.specs.Option.{option_copied};
 ghost use Rattle.tab_term.specs.Order.{term_cmp};
 ghost use Rattle.tab_term.specs.View.{term, terms};
 ghost use Rattle.tab_model.specs.Names.{plain_terms};
-ghost use Rattle.tab_model.specs.Tables.{at, apply as apply_in, applied as applied_in, is_ordered};
+ghost use Rattle.tab_model.specs.Tables.{at, apply as apply_in, rows_after as applied_in, is_ordered};
 ghost use Rattle.tab_model.specs.Definitions.{has_number, with_indexes, add_number, less_number};
 ghost use Rattle.tab_model.specs.Catalogs.{with_rows, with_def};
 ghost use Rattle.tab_rows.specs.Joined.{joined, IsInOrder};

@@ -21,7 +21,7 @@ use Rattle.tab_model.specs.declared.data.Operation.{Operation}
 use Rattle.tab_model.specs.declared.data.Reply.{Reply}
 use Rattle.tab_model.specs.declared.data.Reply.TheVariants as reply
 use Rattle.tab_model.specs.Alone.{Mid, start, next, back, after, reply_to, replies}
-use Rattle.tab_model.specs.Events.{change_all, surviving, is_failure}
+use Rattle.tab_model.specs.Events.{change_all, surviving_changes, is_failure}
 use Rattle.tab_model.specs.History.{Base, IsHistory, tables_after, number_after}
 use Rattle.tab_model.specs.Log.{serial_from, catalog_after, IsRight, IsLegal, count_after}
 use Rattle.tab_model.specs.declared.data.Operation.TheVariants as op
@@ -57,7 +57,7 @@ all_changed_ordered w [] o = o
 all_changed_ordered w (c ∷ cs) o = all_changed_ordered (change_catalog w c) cs (changed_ordered w c o)
 
 pub folded_ordered : (w : Catalog) (e : Entry) → IsOrderedCatalog w → IsOrderedCatalog (tables_after w e)
-folded_ordered w (Committed n s age ms rs over) o = all_changed_ordered w (surviving ms rs) o
+folded_ordered w (Committed n s age ms rs over) o = all_changed_ordered w (surviving_changes ms rs) o
 folded_ordered w (Changed c over) o = cases (schema_refusal w c)
   where
     cases : (r : Option Reply) → IsOrderedCatalog (if is_some r then w else schema_effect w c)

@@ -2,7 +2,7 @@
 
 ghost use Rattle.std.specs.Prelude.{◌≡◌, ◌++◌, ◌∷◌, [], IfOk, OnOk, OnErr, Some, length};
 ghost use Rattle.tab_model.specs.Operations.{change_of_op};
-ghost use Rattle.tab_model.specs.Events.{is_failure as is_failure_of, surviving as surviving_of};
+ghost use Rattle.tab_model.specs.Events.{is_failure as is_failure_of, surviving_changes as surviving_of};
 ghost use Rattle.tab_journal.specs.Survivors.{next, opened, closed, ended, changed};
 
 use std::alloc::{AllocError, Global};

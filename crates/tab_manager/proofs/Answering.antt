@@ -21,7 +21,7 @@ use Rattle.tab_model.specs.declared.data.Reply.{Reply}
 use Rattle.tab_model.specs.declared.data.Reply.TheVariants as reply
 use Rattle.tab_model.specs.declared.data.Schema.{Schema}
 use Rattle.tab_model.specs.Ages.{Ages, Owned, all_of, forget, without}
-use Rattle.tab_model.specs.Events.{change_all, surviving}
+use Rattle.tab_model.specs.Events.{change_all, surviving_changes}
 use Rattle.tab_model.specs.Schemas.{table_of_schema, schema_refusal, schema_effect}
 use Rattle.tab_model.specs.Catalogs.{Catalog, find}
 use Rattle.tab_model.specs.State as plain
@@ -74,7 +74,7 @@ module _ (m : Machine) (n i : ℕ) (k : IsKept m) (there : IsHeldAt m.sessions.i
   pub no_updates : is_empty (moves_at (state_of m) n) ≡ true → t.store.levels.now.updates ≡ []
   no_updates h =
       let none : t.store.moves ≡ [] = empty_is t.store.moves (ap (λ (o : Option plain.Transaction). is_empty (plain.moves_in o)) (sym (keep.mine m n i k there t open_t)) ∙ h) in
-      updates_survive t.store m.catalog (keep.fit m n i k there t open_t) ∙ ap (λ xs. surviving xs t.store.told) none
+      updates_survive t.store m.catalog (keep.fit m n i k there t open_t) ∙ ap (λ xs. surviving_changes xs t.store.told) none
     where
       empty_is : {A : Type 0} (xs : List A) → is_empty xs ≡ true → xs ≡ []
       empty_is [] g = refl

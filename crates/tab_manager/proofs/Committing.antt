@@ -12,7 +12,7 @@ use Rattle.tab_model.specs.declared.data.Reply.TheVariants as reply
 use Rattle.tab_model.specs.declared.data.Entry.TheVariants as entry
 use Rattle.tab_model.specs.Ages.{Owned, without}
 use Rattle.tab_model.specs.Alone.{start, after}
-use Rattle.tab_model.specs.Events.{surviving, change_all}
+use Rattle.tab_model.specs.Events.{surviving_changes, change_all}
 use Rattle.tab_model.specs.Locks.{Lock, locks_of, Apart}
 use Rattle.tab_model.specs.Schemas.{table_of_schema, schema_effect, removed_table}
 use Rattle.tab_model.specs.Catalogs.{Catalog}
@@ -64,7 +64,7 @@ module _ (m : Machine) (n i : ℕ) (k : IsKept m) (there : IsHeldAt m.sessions.i
   -- its updates make the tables that it leaves
   pub tables_after : change_all m.catalog t.store.levels.now.updates ≡ (mid_of σ (transaction_of t)).now
   tables_after =
-      ap (change_all m.catalog) (updates_survive t.store m.catalog (keep.fit m n i k there t open_t) ∙ ap (surviving t.store.moves) (sym (keep.right m n i k there t open_t)))
+      ap (change_all m.catalog) (updates_survive t.store m.catalog (keep.fit m n i k there t open_t) ∙ ap (surviving_changes t.store.moves) (sym (keep.right m n i k there t open_t)))
       ∙ survivors_are m.catalog t.age t.store.moves
 
   pub commits : (w : Catalog) → w ≡ change_all m.catalog t.store.levels.now.updates

@@ -2,7 +2,7 @@
 use Rattle.std.proofs.Common.{◌≡◌, ℕ, suc, List, Bool, true, false, refl, sym, ap, ◌∙◌, subst, length, Option, Some, None, get_or}
 use Rattle.std.specs.Prelude.{◌==◌, if◌then◌else◌, is_some, IsSome, MatchOption, option_map}
 use Rattle.tab_model.specs.declared.data.Change.{Change}
-use Rattle.tab_model.specs.Events.{change_all, surviving}
+use Rattle.tab_model.specs.Events.{change_all, surviving_changes}
 use Rattle.tab_model.specs.Standing.{levels_in, levels_of}
 use Rattle.tab_model.specs.State as plain
 use Rattle.tab_model.specs.State.{State, Transaction, transaction_at, is_waiting, mid_of}
@@ -126,9 +126,9 @@ module _ (m : Machine) (n i : ℕ) (k : IsKept m) (there : IsHeldAt m.sessions.i
           same = one (sym (transactions ∙ ap (option_map transaction_of) e) ∙ at_n.1)
 
   -- its changes are those of its store
-  pub updates_are : (t : Transaction) (e : IsEnding m n i t) → change_all m.catalog (surviving t.moves t.told) ≡ change_all m.catalog e.held.store.levels.now.updates
+  pub updates_are : (t : Transaction) (e : IsEnding m n i t) → change_all m.catalog (surviving_changes t.moves t.told) ≡ change_all m.catalog e.held.store.levels.now.updates
   updates_are t e =
-      ap (λ (x : Transaction). change_all m.catalog (surviving x.moves x.told)) (sym e.is)
+      ap (λ (x : Transaction). change_all m.catalog (surviving_changes x.moves x.told)) (sym e.is)
       ∙ ap (change_all m.catalog) (sym (updates_survive e.held.store m.catalog (keep.fit m n i k there e.held e.opened)))
 
 -- who has a place has joined

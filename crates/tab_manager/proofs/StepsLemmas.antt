@@ -64,7 +64,7 @@ module _ (σ : State) (n : ℕ) where
   answer_takes a (reply.AlreadyExists t) inside other h = cc
   answer_takes a (reply.Locked t) inside other h = cc
   answer_takes a (reply.BadDefinition t x) inside other h = cc
-  answer_takes a (reply.SubNoTable t) inside other h = cc
+  answer_takes a (reply.UnknownTable t) inside other h = cc
   answer_takes a (reply.AlreadySubscribed t) inside other h = cc
   answer_takes a (reply.NotSubscribed t) inside other h = cc
   answer_takes a reply.OutboxFull inside other h = cc

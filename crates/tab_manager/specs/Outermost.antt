@@ -2,7 +2,7 @@
 -- gives its updates to its parent).
 use Rattle.std.specs.Prelude.{ℕ, List, if◌then◌else◌, Option, Some, None}
 use Rattle.tab_model.specs.declared.data.Change.{Change}
-use Rattle.tab_model.specs.Events.{surviving}
+use Rattle.tab_model.specs.Events.{surviving_changes}
 use Rattle.tab_model.specs.Outcome.{is_empty}
 use Rattle.tab_model.specs.State.{State, Transaction, is_waiting, mid_of, transaction_at}
 use Rattle.tab_manager.specs.declared.ending.Ending.{Ending}
@@ -18,7 +18,7 @@ outermost σ n = if is_waiting σ n then None else outermost_of σ (transaction_
 
 -- its age, and its updates in order
 abbrev pub ending_of : Transaction → ℕ × List Change
-ending_of t = (t.age, surviving t.moves t.told)
+ending_of t = (t.age, surviving_changes t.moves t.told)
 
 -- the age of a transaction that its commit ends, and its updates in order
 abbrev pub age_and_updates : Ending → ℕ × List Change

@@ -2,7 +2,7 @@
 
 ghost use Rattle.std.specs.Prelude.{◌≡◌, Some, IsFalse, option_map};
 ghost use Rattle.tab_model.specs.declared.data.Command.TheVariants as command;
-ghost use Rattle.tab_model.specs.Events.{change_all, surviving};
+ghost use Rattle.tab_model.specs.Events.{change_all, surviving_changes};
 ghost use Rattle.tab_model.specs.State.{Transaction as Opened, is_waiting};
 ghost use Rattle.tab_model.specs.Outcome.{DoCommand};
 ghost use Rattle.tab_manager.specs.SessionLists.{state_of, IsHeldAt};
@@ -65,7 +65,7 @@ impl Machine {
     pub fn commit_as(&mut self, session: u32, catalog: Catalog) -> Stepped
         requires kept { IsKept self.old }
         requires there { (t : Opened) × (outermost (state_of self.old) session ≡ Some t)
-            × (catalog ≡ change_all self.old.catalog (surviving t.moves t.told)) }
+            × (catalog ≡ change_all self.old.catalog (surviving_changes t.moves t.told)) }
         ensures done { StepsTo (state_of self.old) session (DoCommand command.Commit) result
             (state_of self.new) }
         ensures kept { IsKept self.new }

@@ -7,7 +7,7 @@
 
 ghost use Rattle.std.specs.Prelude.{◌≡◌, ◌≤◌, ◌^◌, ◌-◌, ◌&&◌, [], IfOk, IsOk, OnErr, Some, IsTrue, IsFalse, is_some, length, min, nat_lt, option_map};
 ghost use Rattle.tab_model.specs.declared.data.Command.TheVariants as command;
-ghost use Rattle.tab_model.specs.Events.{change_all, surviving};
+ghost use Rattle.tab_model.specs.Events.{change_all, surviving_changes};
 ghost use Rattle.tab_model.specs.Outcome.{DoCommand};
 ghost use Rattle.tab_model.specs.Standing.{levels_of};
 ghost use Rattle.tab_model.specs.State.{Transaction, new, session_at, is_waiting, IsSound};
@@ -98,7 +98,7 @@ impl Manager {
     /// The outermost commit of the session, whose changes the caller has made to the tables.
     pub fn commit(&mut self, session: u32, tables: Catalog) -> Stepped
         requires { (t : Transaction) × (outermost self.old session ≡ Some t)
-            × (tables ≡ change_all self.old.tables (surviving t.moves t.told)) }
+            × (tables ≡ change_all self.old.tables (surviving_changes t.moves t.told)) }
         ensures done { StepsTo self.old session (DoCommand command.Commit) result self.new }
         ensures sound { IsSound self.new }
         ensures rising { IsRising self.new }

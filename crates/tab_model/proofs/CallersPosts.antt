@@ -22,10 +22,10 @@ use Rattle.tab_model.specs.State.{Transaction, Outbox, Watch, Session, Queued, S
 use Rattle.tab_model.specs.Outcome.{Ask, Join, Leave, Retry, Take, DoCommand, Outcome, outcome, step_without_entry, with_transaction, with_changed, after_overflow, with_items, make, by_lock_answer, operate, retry_in, retry, begin, one_shot, abort, after_put, batch_to, end_to, without_deleted, commit, events_now, schema, put_marker, subscribe_refusal, do_command, give, leave, step_of_joined, fresh, step_of_stranger, step_of}
 use Rattle.tab_model.proofs.StepCases.{within_limit, try_again, open_level_1, open_child, commit_at, schema_if, subscribe_refusal_if, subscribe_if, unsubscribe_if, command_if, join_if}
 use Rattle.tab_model.specs.Run.{Call, outcome_of, after_all, entries, replies_of}
-use Rattle.tab_model.specs.Callers.{Post, with_overflow, queue_after_step, age_after_step, post_after_entry, post_after_marker, post_after_command, post_after_answer, post_after_step, Hearsay, silence, entry_of_call, hear, hear_all, hearsay_of, AreHeard, IsAsTold}
+use Rattle.tab_model.specs.Callers.{Post, with_overflow, queue_after_step, age_after_step, post_after_entry, post_after_marker, post_after_command, post_after_answer, post_after_step, Observation, no_observation, entry_of_call, observe, observe_all, observation_of, AreObserved, IsAsObserved}
 use Rattle.tab_model.proofs.SessionLists.{eq_true, found, session_at-change, session_at-push, session_at-without, session_at-map, mapped_some}
 use Rattle.tab_model.proofs.SoundSteps.{given_same, unwatched_same}
-use Rattle.tab_model.proofs.CallersLemmas.{IsHeard, new_heard, step_is_heard, step_heard}
+use Rattle.tab_model.proofs.CallersLemmas.{IsObserved, new_observed, step_is_observed, step_observed}
 
 abbrev post_of : Session → Post
 post_of s = record { refusals = s.outbox.refusals; overflow = s.overflow }
@@ -47,7 +47,7 @@ Quiet commits e = (n : ℕ) (p : Post) → post_after_entry n commits e p ≡ p
 abbrev TellsNothing : Ask → Reply → Type 0
 TellsNothing a r = (p : Post) → post_after_answer a r p ≡ p
 
--- of a command only a refused mark tells something
+-- of a command only a refused marker tells something
 other_answer : (c : Command) (r : Reply) → ((p : Post) → post_after_marker r p ≡ p) → TellsNothing (DoCommand c) r
 other_answer (command.Schema c) r h p = refl
 other_answer (command.TableInfo t i) r h p = refl
@@ -189,7 +189,7 @@ module _ (σ : State) (s : Session) (here : session_at σ.sessions s.number ≡ 
   schema_posted over c (Some t) = nothing_posted σ s.number _ _ (λ p. refl)
   schema_posted over c None = schema_if_posted over c _ _ _
 
-  -- a mark that its post takes or refuses
+  -- a marker that its post takes or refuses
   marked_posted : (c : Command) (full : Bool) (ws : List Watch) (x : Item) (e : Entry) → ((r : Reply) (p : Post) → post_after_command c r p ≡ post_after_marker r p) → commits_from σ.commits (e ∷ []) ≡ σ.commits → Quiet σ.commits (Some e) → Posted (DoCommand c) (put_marker σ full s ws x e)
   marked_posted c true ws x e marks commits quiet = own_posted _ (put_marker σ true s ws x e) _ refl refl (sym (marks _ _)) refl (λ n p. refl)
   marked_posted c false ws x e marks commits quiet = own_posted _ (put_marker σ false s ws x e) _ refl refl (sym (marks _ _)) (sym commits) quiet
@@ -285,18 +285,18 @@ commits_from-append : (c : ℕ) (xs ys : List Entry) → commits_from (commits_f
 commits_from-append c [] ys = refl
 commits_from-append c (x ∷ xs) ys = commits_from-append (count_after c x) xs ys
 
-told_post : (σ : State) (h : Hearsay) → IsAsTold σ h → (n : ℕ) → HasPost σ.sessions n (h.posts n)
+told_post : (σ : State) (h : Observation) → IsAsObserved σ h → (n : ℕ) → HasPost σ.sessions n (h.posts n)
 told_post σ h told n x e = λ i. record { refusals = told.refusals n x e i; overflow = told.overflow n x e i }
 
 -- a state that is as callers tell it stays so
-step_as_told : (σ : State) (h : Hearsay) (c : Call) → IsAsTold σ h → IsAsTold (outcome_of σ c).state (hear h c (outcome_of σ c).reply)
+step_as_told : (σ : State) (h : Observation) (c : Call) → IsAsObserved σ h → IsAsObserved (outcome_of σ c).state (observe h c (outcome_of σ c).reply)
 step_as_told σ h c told = record {
   callers = one.0;
   commits = posted.commits
       ∙ (λ i. commits_from (told.commits i) (entries (sym one.1 i)))
       ∙ commits_from-append 0 h.log (entries (entry_of_call h c r));
-  queue = sym heard.queue ∙ ap (λ qs. queue_after_step c.session (h.callers c.session) c.ask r qs) told.queue;
-  next_age = sym heard.next ∙ ap (λ a. age_after_step (h.callers c.session) c.ask r a) told.next_age;
+  queue = sym observed.queue ∙ ap (λ qs. queue_after_step c.session (h.callers c.session) c.ask r qs) told.queue;
+  next_age = sym observed.next ∙ ap (λ a. age_after_step (h.callers c.session) c.ask r a) told.next_age;
   overflow = λ n s e. ap (λ (p : Post). p.overflow) (post n s e);
   refusals = λ n s e. ap (λ (p : Post). p.refusals) (post n s e);
 }
@@ -307,28 +307,28 @@ step_as_told σ h c told = record {
     τ : State
     τ = (outcome_of σ c).state
 
-    one : AreHeard τ (hear h c r).callers × (entry_of_call h c r ≡ (outcome_of σ c).entry)
-    one = step_heard σ h c told.callers
+    one : AreObserved τ (observe h c r).callers × (entry_of_call h c r ≡ (outcome_of σ c).entry)
+    one = step_observed σ h c told.callers
 
-    heard : IsHeard σ c.session (h.callers c.session) c.over c.ask (outcome_of σ c)
-    heard = step_is_heard σ c.over c.session c.ask h.callers told.callers
+    observed : IsObserved σ c.session (h.callers c.session) c.over c.ask (outcome_of σ c)
+    observed = step_is_observed σ c.over c.session c.ask h.callers told.callers
 
     posted : IsPosted σ c.session c.ask (outcome_of σ c)
     posted = step_posted σ c.over c.session c.ask
 
-    post : (n : ℕ) → HasPost τ.sessions n ((hear h c r).posts n)
+    post : (n : ℕ) → HasPost τ.sessions n ((observe h c r).posts n)
     post n = subst (λ (e : Option Entry). HasPost τ.sessions n (post_after_step n (commits_from 0 h.log) c.session c.ask r e (h.posts n))) (sym one.1)
         (subst (λ (i : ℕ). HasPost τ.sessions n (post_after_step n i c.session c.ask r (outcome_of σ c).entry (h.posts n))) told.commits
         (posted.posts n (h.posts n) (told_post σ h told n)))
 
-run_as_told : (σ : State) (h : Hearsay) (calls : List Call) → IsAsTold σ h → IsAsTold (after_all σ calls) (hear_all h calls (replies_of σ calls))
+run_as_told : (σ : State) (h : Observation) (calls : List Call) → IsAsObserved σ h → IsAsObserved (after_all σ calls) (observe_all h calls (replies_of σ calls))
 run_as_told σ h [] told = told
-run_as_told σ h (c ∷ calls) told = run_as_told (outcome_of σ c).state (hear h c (outcome_of σ c).reply) calls (step_as_told σ h c told)
+run_as_told σ h (c ∷ calls) told = run_as_told (outcome_of σ c).state (observe h c (outcome_of σ c).reply) calls (step_as_told σ h c told)
 
 -- for every schedule the state is as its callers tell it
-pub schedule_as_told : (limits : Limits) (calls : List Call) → IsAsTold (after_all (new limits) calls) (hearsay_of limits calls)
+pub schedule_as_told : (limits : Limits) (calls : List Call) → IsAsObserved (after_all (new limits) calls) (observation_of limits calls)
 schedule_as_told limits calls =
-    run_as_told (new limits) silence calls (record { callers = new_heard limits; commits = refl; queue = refl; next_age = refl; overflow = λ n s e. cc; refusals = λ n s e. cc })
+    run_as_told (new limits) no_observation calls (record { callers = new_observed limits; commits = refl; queue = refl; next_age = refl; overflow = λ n s e. cc; refusals = λ n s e. cc })
 
 -- a Take tells the overflow that its session has
 take_tells : (σ : State) (over : List ℕ) (n i : ℕ) → (outcome σ over n Take).reply ≡ reply.Overflow i → (s : Session) × (session_at σ.sessions n ≡ Some s) × (s.overflow ≡ Some i)
@@ -345,7 +345,7 @@ take_tells σ over n i = cases (session_at σ.sessions n) refl
     cases (Some s) e h = (s, e, by_items s _ _ refl h)
 
 -- so what a Take is told is what callers tell
-pub schedule_told_overflow : (limits : Limits) (calls : List Call) (over : List ℕ) (n i : ℕ) → (outcome (after_all (new limits) calls) over n Take).reply ≡ reply.Overflow i → ((hearsay_of limits calls).posts n).overflow ≡ Some i
+pub schedule_told_overflow : (limits : Limits) (calls : List Call) (over : List ℕ) (n i : ℕ) → (outcome (after_all (new limits) calls) over n Take).reply ≡ reply.Overflow i → ((observation_of limits calls).posts n).overflow ≡ Some i
 schedule_told_overflow limits calls over n i told =
     let t = take_tells (after_all (new limits) calls) over n i told in
     sym ((schedule_as_told limits calls).overflow n t.0 t.1) ∙ t.2

@@ -15,10 +15,10 @@ use Rattle.tab_model.specs.declared.data.Schema.TheVariants.{Create, Remove, Add
 use Rattle.tab_model.specs.declared.data.Entry.{Entry}
 use Rattle.tab_model.specs.declared.data.Entry.TheVariants.{Committed, Changed, Subscribed, Unsubscribed}
 use Rattle.tab_model.specs.Definitions.{position}
-use Rattle.tab_model.specs.Tables.{Rows, apply, applied}
+use Rattle.tab_model.specs.Tables.{Rows, apply, rows_after}
 use Rattle.tab_model.specs.Catalogs.{Catalog, Table, find, place, rows_in, rows_of, with_rows, with_def}
 use Rattle.tab_model.specs.Operations.{table_of_change, change_table, change_catalog}
-use Rattle.tab_model.specs.Events.{surviving, change_all, events}
+use Rattle.tab_model.specs.Events.{surviving_changes, change_all, events}
 use Rattle.tab_model.specs.Schemas.{table_of_schema, schema_refusal, schema_effect, create_refusal, add_at, del_at, add_effect, del_effect}
 use Rattle.tab_model.specs.Log.{catalog_after, serial, serial_from, IsRight, IsLegal, count_after, commits_from}
 use Rattle.tab_model.specs.Since.{is_of, changes_in, changes_on, is_deletion_of, is_overflow_of, is_unsubscription_of, is_end_of, IsInForceSince}
@@ -51,7 +51,7 @@ changed_there w t c e = cases (find w (table_of_change c)) refl
         ∙ ap (λ b. if b then Some (with_rows y (apply y.def.kind y.rows c)) else find w t) (ap (λ n. bytes_eq n t) (find_name w (table_of_change c) y f) ∙ e)
 
 -- many changes
-changed_all : (w : Catalog) (x : Table) (t : List ℕ) (cs : List Change) → find w t ≡ Some x → find (change_all w cs) t ≡ Some (with_rows x (applied x.def.kind x.rows (filter (is_of t) cs)))
+changed_all : (w : Catalog) (x : Table) (t : List ℕ) (cs : List Change) → find w t ≡ Some x → find (change_all w cs) t ≡ Some (with_rows x (rows_after x.def.kind x.rows (filter (is_of t) cs)))
 changed_all w x t [] f = f
 changed_all w x t (c ∷ cs) f = cases (bytes_eq (table_of_change c) t) refl
     (λ e. changed_all (change_catalog w c) (with_rows x (apply x.def.kind x.rows c)) t cs (changed_here w x t c f e))
@@ -61,13 +61,13 @@ changed_all w x t (c ∷ cs) f = cases (bytes_eq (table_of_change c) t) refl
     rest = filter (is_of t) cs
 
     cases : (b : Bool) → bytes_eq (table_of_change c) t ≡ b
-        → (bytes_eq (table_of_change c) t ≡ true → find (change_all (change_catalog w c) cs) t ≡ Some (with_rows x (applied x.def.kind (apply x.def.kind x.rows c) rest)))
-        → (bytes_eq (table_of_change c) t ≡ false → find (change_all (change_catalog w c) cs) t ≡ Some (with_rows x (applied x.def.kind x.rows rest)))
-        → find (change_all (change_catalog w c) cs) t ≡ Some (with_rows x (applied x.def.kind x.rows (if b then c ∷ rest else rest)))
+        → (bytes_eq (table_of_change c) t ≡ true → find (change_all (change_catalog w c) cs) t ≡ Some (with_rows x (rows_after x.def.kind (apply x.def.kind x.rows c) rest)))
+        → (bytes_eq (table_of_change c) t ≡ false → find (change_all (change_catalog w c) cs) t ≡ Some (with_rows x (rows_after x.def.kind x.rows rest)))
+        → find (change_all (change_catalog w c) cs) t ≡ Some (with_rows x (rows_after x.def.kind x.rows (if b then c ∷ rest else rest)))
     cases true e here there = here e
     cases false e here there = there e
 
-applied-append : (kind : Kind) (rows : Rows) (cs ds : List Change) → applied kind rows (cs ++ ds) ≡ applied kind (applied kind rows cs) ds
+applied-append : (kind : Kind) (rows : Rows) (cs ds : List Change) → rows_after kind rows (cs ++ ds) ≡ rows_after kind (rows_after kind rows cs) ds
 applied-append kind rows [] ds = refl
 applied-append kind rows (c ∷ cs) ds = applied-append kind (apply kind rows c) cs ds
 
@@ -115,10 +115,10 @@ schema_here w x t (DelIndex u a) f e r d = let def : TableDef = del_at x.def (po
 }
 
 -- one entry
-entry_gives : (w : Catalog) (n : ℕ) (x : Table) (t : List ℕ) (e : Entry) → IsRight w n e → find w t ≡ Some x → is_deletion_of t e ≡ false → Stands (catalog_after w e) t x.def.kind (applied x.def.kind x.rows (changes_in t e))
+entry_gives : (w : Catalog) (n : ℕ) (x : Table) (t : List ℕ) (e : Entry) → IsRight w n e → find w t ≡ Some x → is_deletion_of t e ≡ false → Stands (catalog_after w e) t x.def.kind (rows_after x.def.kind x.rows (changes_in t e))
 entry_gives w n x t (Committed m s age xs rs over) r f d = record {
-  table = with_rows x (applied x.def.kind x.rows (filter (is_of t) (surviving xs rs)));
-  is = ap (λ v. find v t) (sym (survivors_are w age xs) ∙ ap (λ q. change_all w (surviving xs q)) r.1) ∙ changed_all w x t (surviving xs rs) f;
+  table = with_rows x (rows_after x.def.kind x.rows (filter (is_of t) (surviving_changes xs rs)));
+  is = ap (λ v. find v t) (sym (survivors_are w age xs) ∙ ap (λ q. change_all w (surviving_changes xs q)) r.1) ∙ changed_all w x t (surviving_changes xs rs) f;
   kind_is = refl;
   rows_are = refl;
 }
@@ -131,7 +131,7 @@ entry_gives w n x t (Subscribed s u l dump) r f d = record { table = x; is = f; 
 entry_gives w n x t (Unsubscribed s u) r f d = record { table = x; is = f; kind_is = refl; rows_are = refl }
 
 -- a whole log
-pub log_gives : (w : Catalog) (n : ℕ) (x : Table) (t : List ℕ) (log : List Entry) → IsLegal w n log → find w t ≡ Some x → list_any (is_deletion_of t) log ≡ false → Stands (serial_from w log) t x.def.kind (applied x.def.kind x.rows (changes_on t log))
+pub log_gives : (w : Catalog) (n : ℕ) (x : Table) (t : List ℕ) (log : List Entry) → IsLegal w n log → find w t ≡ Some x → list_any (is_deletion_of t) log ≡ false → Stands (serial_from w log) t x.def.kind (rows_after x.def.kind x.rows (changes_on t log))
 log_gives w n x t [] l f d = record { table = x; is = f; kind_is = refl; rows_are = refl }
 log_gives w n x t (e ∷ log) l f d =
     let p = or_parts (is_deletion_of t e) (list_any (is_deletion_of t) log) d in
@@ -141,14 +141,14 @@ log_gives w n x t (e ∷ log) l f d =
       table = rest.table;
       is = rest.is;
       kind_is = rest.kind_is ∙ one.kind_is;
-      rows_are = rest.rows_are ∙ (λ i. applied (one.kind_is i) (one.rows_are i) (changes_on t log)) ∙ sym (applied-append x.def.kind x.rows (changes_in t e) (changes_on t log));
+      rows_are = rest.rows_are ∙ (λ i. rows_after (one.kind_is i) (one.rows_are i) (changes_on t log)) ∙ sym (applied-append x.def.kind x.rows (changes_in t e) (changes_on t log));
     }
 
 -- the table's rows after a legal log that doesn't delete it are its rows before with the log's changes applied
-pub log_applies : (w : Catalog) (n : ℕ) (x : Table) (t : List ℕ) (log : List Entry) → IsLegal w n log → find w t ≡ Some x → list_any (is_deletion_of t) log ≡ false → rows_of (serial_from w log) t ≡ applied x.def.kind (rows_of w t) (changes_on t log)
+pub log_applies : (w : Catalog) (n : ℕ) (x : Table) (t : List ℕ) (log : List Entry) → IsLegal w n log → find w t ≡ Some x → list_any (is_deletion_of t) log ≡ false → rows_of (serial_from w log) t ≡ rows_after x.def.kind (rows_of w t) (changes_on t log)
 log_applies w n x t log l f d =
     let s = log_gives w n x t log l f d in
-    ap rows_in s.is ∙ s.rows_are ∙ ap (λ (o : Option Table). applied x.def.kind (rows_in o) (changes_on t log)) (sym f)
+    ap rows_in s.is ∙ s.rows_are ∙ ap (λ (o : Option Table). rows_after x.def.kind (rows_in o) (changes_on t log)) (sym f)
 
 or_both : (a b : Bool) → a ≡ false → b ≡ false → (a || b) ≡ false
 or_both true b h k = cc
@@ -171,7 +171,7 @@ legal-rest w n [] ys l = l
 legal-rest w n (x ∷ xs) ys l = legal-rest (catalog_after w x) (count_after n x) xs ys l.1
 
 -- the changes since a subscription that stands, applied to the rows at its beginning, give the rows now
-pub since_applies : (s : ℕ) (t : List ℕ) (l : Level) (log : List Entry) (x : Table) → IsLegal [] 0 log → (i : IsInForceSince s t l log) → find (serial i.earlier) t ≡ Some x → rows_of (serial log) t ≡ applied x.def.kind (rows_of (serial i.earlier) t) (changes_on t i.since)
+pub since_applies : (s : ℕ) (t : List ℕ) (l : Level) (log : List Entry) (x : Table) → IsLegal [] 0 log → (i : IsInForceSince s t l log) → find (serial i.earlier) t ≡ Some x → rows_of (serial log) t ≡ rows_after x.def.kind (rows_of (serial i.earlier) t) (changes_on t i.since)
 since_applies s t l log x legal i f =
     let parts : IsLegal [] 0 (i.earlier ++ Subscribed s t l i.dump ∷ i.since) = subst (λ (ys : List Entry). IsLegal [] 0 ys) i.is legal in
     let rest = legal-rest [] 0 i.earlier (Subscribed s t l i.dump ∷ i.since) parts in
@@ -188,9 +188,9 @@ terms_back (r ∷ rs) = ap (λ xs. r ∷ xs) (terms_back rs)
 pub dump_rows : (w : Catalog) (t : List ℕ) (records : PlainTerms) → dump_of w t true ≡ Some records → terms_list records ≡ rows_of w t
 dump_rows w t records h = let e : plain_terms (rows_of w t) ≡ records = cc in ap terms_list (sym e) ∙ terms_back (rows_of w t)
 
-pub dump_applies : (s : ℕ) (t : List ℕ) (l : Level) (log : List Entry) (x : Table) (records : PlainTerms) → IsLegal [] 0 log → (i : IsInForceSince s t l log) → find (serial i.earlier) t ≡ Some x → dump_of (serial i.earlier) t i.dump ≡ Some records → rows_of (serial log) t ≡ applied x.def.kind (terms_list records) (changes_on t i.since)
+pub dump_applies : (s : ℕ) (t : List ℕ) (l : Level) (log : List Entry) (x : Table) (records : PlainTerms) → IsLegal [] 0 log → (i : IsInForceSince s t l log) → find (serial i.earlier) t ≡ Some x → dump_of (serial i.earlier) t i.dump ≡ Some records → rows_of (serial log) t ≡ rows_after x.def.kind (terms_list records) (changes_on t i.since)
 dump_applies s t l log x records legal i f d =
-    since_applies s t l log x legal i f ∙ ap (λ rs. applied x.def.kind rs (changes_on t i.since)) (sym (cases i.dump d))
+    since_applies s t l log x legal i f ∙ ap (λ rs. rows_after x.def.kind rs (changes_on t i.since)) (sym (cases i.dump d))
   where
     cases : (b : Bool) → dump_of (serial i.earlier) t b ≡ Some records → terms_list records ≡ rows_of (serial i.earlier) t
     cases true h = dump_rows (serial i.earlier) t records h

@@ -10,11 +10,11 @@ use Rattle.tab_model.specs.declared.data.Entry.{Entry}
 use Rattle.tab_model.specs.declared.data.Entry.TheVariants.{Committed, Changed, Subscribed, Unsubscribed}
 use Rattle.tab_model.specs.declared.data.Reply.{Reply}
 use Rattle.tab_model.specs.Catalogs.{Catalog}
-use Rattle.tab_model.specs.Events.{surviving, change_all}
+use Rattle.tab_model.specs.Events.{surviving_changes, change_all}
 use Rattle.tab_model.proofs.SurvivorsRight.{survivors_are}
 use Rattle.tab_model.specs.Schemas.{removed_table, schema_refusal, schema_effect}
 use Rattle.tab_model.specs.Log.{count_after, catalog_after, serial, serial_from, level_after, in_force_from, level_if, has_session, is_removed, IsRight, IsLegal, commits_from}
-use Rattle.tab_model.specs.Slices.{expected_on, expected, slice_after, slice}
+use Rattle.tab_model.specs.Slices.{expected_on, expected_items, slice_after, slice}
 use Rattle.tab_model.specs.History.{tables_after, number_after, Subscription, Base, empty, is_of, level_at, in_force_since, expected_since, slice_since_after, slice_since, IsHistory, outlasts, with_subscription, subscriptions_after, after_fold, Admits, without_subscriber}
 use Rattle.tab_model.proofs.SessionLists.{eq_true, itself, differs', serial-push, in_force-push, legal-push}
 
@@ -130,7 +130,7 @@ unless_none (Some r) v w h = cc
 
 -- of a right entry, what was told gives what running it gives
 pub tables_right : (w : Catalog) (c : ℕ) (e : Entry) → IsRight w c e → tables_after w e ≡ catalog_after w e
-tables_right w c (Committed n s age ms rs over) h = ap (λ z. change_all w (surviving ms z)) (sym h.1) ∙ survivors_are w age ms
+tables_right w c (Committed n s age ms rs over) h = ap (λ z. change_all w (surviving_changes ms z)) (sym h.1) ∙ survivors_are w age ms
 tables_right w c (Changed x over) h = unless_none (schema_refusal w x) (schema_effect w x) w h
 tables_right w c (Subscribed s t l dump) h = refl
 tables_right w c (Unsubscribed s t) h = refl
@@ -181,7 +181,7 @@ history_more b log e w h r = record {
 }
 
 -- from the empty base
-expected_empty : (s : ℕ) (log : List Entry) (e : Entry) → expected_since empty s log e ≡ expected s log e
+expected_empty : (s : ℕ) (log : List Entry) (e : Entry) → expected_since empty s log e ≡ expected_items s log e
 expected_empty s log (Committed n x age xs rs over) = refl
 expected_empty s log (Changed c over) = refl
 expected_empty s log (Subscribed x t l dump) = refl

@@ -15,11 +15,11 @@ use Rattle.tab_model.specs.declared.data.Entry.TheVariants.{Committed, Changed, 
 use Rattle.tab_model.specs.Names.{terms_list}
 use Rattle.tab_model.specs.Catalogs.{Catalog}
 use Rattle.tab_model.specs.Operations.{table_of_change, change_catalog}
-use Rattle.tab_model.specs.Events.{surviving, event_of, events}
+use Rattle.tab_model.specs.Events.{surviving_changes, event_of, events}
 use Rattle.tab_model.specs.Schemas.{removed_table}
 use Rattle.tab_model.specs.Shapes.{shape, change_of}
 use Rattle.tab_model.specs.Log.{has_session, level_after, in_force, in_force_from, catalog_after, serial, IsRight, IsLegal, count_after, commits_from}
-use Rattle.tab_model.specs.Slices.{as_batch, shape_at, batch_for, ended_item, end_for, unless_over, expected, slice_after, slice, dump_of}
+use Rattle.tab_model.specs.Slices.{as_batch, shape_at, batch_for, ended_item, end_for, unless_over, expected_items, slice_after, slice, dump_of}
 use Rattle.tab_model.specs.Since.{is_of, changes_in, changes_on, is_end_of, is_subscription_of, IsInForceSince, changes_in_items, HasAge, AllAged}
 use Rattle.tab_model.proofs.SessionLists.{in_force-push, serial-push}
 use Rattle.tab_model.proofs.EventsGiveTheRows.{legal-rest, terms_back}
@@ -63,12 +63,12 @@ events_tell levels t l w age (c ∷ cs) h a k = cases (events_tell levels t l (c
 
 -- what one entry that doesn't end it tells
 entry_tells : (s : ℕ) (t : List ℕ) (l : Level) (before : List Entry) (n : ℕ) (e : Entry) → IsGood (serial before) → IsRight (serial before) n e → HasAge e → in_force s before t ≡ Some l → is_end_of s t e ≡ false
-    → changes_in_items t (expected s before e) ≡ changes_in t e
+    → changes_in_items t (expected_items s before e) ≡ changes_in t e
 entry_tells s t l before n (Committed m x age xs rs over) g r a h q =
-    ap (λ b. changes_in_items t (unless_over b (batch_for (in_force s before) m (events (serial before) age (surviving xs rs))))) q
-    ∙ batch_tells t m (filter_map (λ (e : Event). shape_at (in_force s before e.tab) e) (events (serial before) age (surviving xs rs)))
-    ∙ events_tell (in_force s before) t l (serial before) age (surviving xs rs) h a
-    (subst (λ q. WholeAll (surviving xs q)) r.1 (surviving_whole (serial before) age xs g))
+    ap (λ b. changes_in_items t (unless_over b (batch_for (in_force s before) m (events (serial before) age (surviving_changes xs rs))))) q
+    ∙ batch_tells t m (filter_map (λ (e : Event). shape_at (in_force s before e.tab) e) (events (serial before) age (surviving_changes xs rs)))
+    ∙ events_tell (in_force s before) t l (serial before) age (surviving_changes xs rs) h a
+    (subst (λ q. WholeAll (surviving_changes xs q)) r.1 (surviving_whole (serial before) age xs g))
 entry_tells s t l before n (Changed c over) g r a h q = by_over (has_session over s) (removed_table c)
   where
     by_level : (u : List ℕ) (o : Option Level) → changes_in_items t (ended_item u o) ≡ []
@@ -98,7 +98,7 @@ since_tells s t l before (e ∷ since) n g r a h q p =
     let ended = or_parts (is_end_of s t e) (list_any (is_end_of s t) since) q in
     let anew = or_parts (is_subscription_of s t e) (list_any (is_subscription_of s t) since) p in
     let next : serial (before ++ e ∷ []) ≡ catalog_after (serial before) e = serial-push [] before e in
-    told-append t (expected s before e) (slice_after s (before ++ e ∷ []) since)
+    told-append t (expected_items s before e) (slice_after s (before ++ e ∷ []) since)
     ∙ (λ i. entry_tells s t l before n e g r.0 a.0 h ended.0 i
     ++ since_tells s t l (before ++ e ∷ []) since (count_after n e) (good_serial [] (before ++ e ∷ []) (λ m x f. cc)) (subst (λ (w : Catalog). IsLegal w (count_after n e) since) (sym next) r.1) a.1
     (in_force-push s t None before e ∙ ap (λ b. level_after s t b e) h ∙ stands_on s t (Some l) e ended.0 anew.0) ended.1 anew.1 i)
@@ -123,8 +123,8 @@ items_tell s t l log legal aged i =
 slice_after-append : (s : ℕ) (before xs ys : List Entry) → slice_after s before (xs ++ ys) ≡ slice_after s before xs ++ slice_after s (before ++ xs) ys
 slice_after-append s before [] ys = ap (λ (zs : List Entry). slice_after s zs ys) (sym (append-nil before))
 slice_after-append s before (x ∷ xs) ys =
-    ap (λ zs. expected s before x ++ zs) (slice_after-append s (before ++ x ∷ []) xs ys ∙ ap (λ (zs : List Entry). slice_after s (before ++ x ∷ []) xs ++ slice_after s zs ys) (append_assoc before (x ∷ []) xs))
-    ∙ sym (append_assoc (expected s before x) _ _)
+    ap (λ zs. expected_items s before x ++ zs) (slice_after-append s (before ++ x ∷ []) xs ys ∙ ap (λ (zs : List Entry). slice_after s (before ++ x ∷ []) xs ++ slice_after s zs ys) (append_assoc before (x ∷ []) xs))
+    ∙ sym (append_assoc (expected_items s before x) _ _)
 
 -- the slice of a log in two parts
 pub slice_parts : (s : ℕ) (xs ys : List Entry) → slice s (xs ++ ys) ≡ slice s xs ++ slice_after s xs ys

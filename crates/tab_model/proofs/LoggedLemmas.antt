@@ -5,7 +5,7 @@ use Rattle.tab_model.specs.declared.data.Item.{Item}
 use Rattle.tab_model.specs.declared.data.Reply.{Reply}
 use Rattle.tab_model.specs.declared.data.Entry.{Entry}
 use Rattle.tab_model.specs.Log.{catalog_after, serial, level_after, IsRight, IsLegal, count_after, commits_from}
-use Rattle.tab_model.specs.Slices.{expected}
+use Rattle.tab_model.specs.Slices.{expected_items}
 use Rattle.tab_model.specs.State.{Session, State, session_at, level_in}
 use Rattle.tab_model.specs.Run.{entries, item_of, delivered_by, IsSessionTied, IsNew}
 use Rattle.tab_model.specs.Outcome.{Outcome, with_changed}
@@ -52,14 +52,14 @@ quiet_tied σ τ log tk tk' t ts cs le sessions same =
 -- how a session moves in a step with an entry
 pub record Moves (q : ℕ) (log : List Entry) (e : Entry) (x r : Session) : Type 0 where
   pub watching : (u : List ℕ) → level_in r.watching u ≡ level_after q u (level_in x.watching u) e
-  pub items : r.outbox.items ≡ x.outbox.items ++ expected q log e
+  pub items : r.outbox.items ≡ x.outbox.items ++ expected_items q log e
 
 -- a step with an entry
 pub entry_tied : (σ τ : State) (log : List Entry) (tk tk' : ℕ → List Item) (e : Entry) → IsLogged σ log tk
     → τ.tables ≡ catalog_after σ.tables e → τ.commits ≡ count_after σ.commits e → τ.greatest ≡ σ.greatest
     → IsRight σ.tables σ.commits e
     → ((q : ℕ) (r : Session) → session_at τ.sessions q ≡ Some r → (x : Session) × (session_at σ.sessions q ≡ Some x) × Moves q log e x r)
-    → ((q : ℕ) → σ.greatest < q → ((u : List ℕ) → level_after q u None e ≡ None) × (expected q log e ≡ []))
+    → ((q : ℕ) → σ.greatest < q → ((u : List ℕ) → level_after q u None e ≡ None) × (expected_items q log e ≡ []))
     → ((q : ℕ) → tk q ≡ tk' q)
     → IsLogged τ (log ++ e ∷ []) tk'
 entry_tied σ τ log tk tk' e t ts cs gs right sessions new same = record {
@@ -77,7 +77,7 @@ entry_tied σ τ log tk tk' e t ts cs gs right sessions new same = record {
     tied : (q : ℕ) (x r : Session) → IsSessionTied q x log (tk q) → Moves q log e x r → IsSessionTied q r (log ++ e ∷ []) (tk' q)
     tied q x r a m = record {
       watching = λ u. m.watching u ∙ ap (λ b. level_after q u b e) (a.watching u) ∙ sym (in_force-push q u None log e);
-      items = ap (λ xs. xs ++ r.outbox.items) (sym (same q)) ∙ ap (λ ys. tk q ++ ys) m.items ∙ sym (append_assoc (tk q) x.outbox.items (expected q log e)) ∙ ap (λ ys. ys ++ expected q log e) a.items ∙ sym (slice-push q log e);
+      items = ap (λ xs. xs ++ r.outbox.items) (sym (same q)) ∙ ap (λ ys. tk q ++ ys) m.items ∙ sym (append_assoc (tk q) x.outbox.items (expected_items q log e)) ∙ ap (λ ys. ys ++ expected_items q log e) a.items ∙ sym (slice-push q log e);
     }
 
 -- which session is found after one is changed

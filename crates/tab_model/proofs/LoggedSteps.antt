@@ -19,7 +19,7 @@ use Rattle.tab_model.specs.declared.data.Level.{Level}
 use Rattle.tab_model.specs.declared.data.Event.{Event}
 use Rattle.tab_model.specs.declared.data.Schema.{Schema}
 use Rattle.tab_model.specs.declared.data.Schema.TheVariants.{Create, Remove, AddIndex, DelIndex}
-use Rattle.tab_model.specs.Shapes.{held}
+use Rattle.tab_model.specs.Shapes.{term_value}
 use Rattle.tab_term.specs.Data.{atom, pair}
 use Rattle.tab_model.specs.declared.data.Command.{Command}
 use Rattle.tab_model.specs.declared.data.Command.TheVariants as command
@@ -34,11 +34,11 @@ use Rattle.tab_model.specs.Definitions.{fits_def, is_indexed, position, Parsed, 
 use Rattle.tab_model.specs.Catalogs.{Catalog, Table, find}
 use Rattle.tab_model.specs.Operations.{bad_type, failure_in, answer_or, answer}
 use Rattle.tab_model.specs.Alone.{Mid, start, replies, reply_to}
-use Rattle.tab_model.specs.Events.{events, surviving}
+use Rattle.tab_model.specs.Events.{events, surviving_changes}
 use Rattle.tab_model.specs.Ages.{Answer, Granted, Wait, Die}
 use Rattle.tab_model.specs.Schemas.{removed_table, schema_refusal, table_of_schema, create_refusal, bad_parse, remove_refusal, add_refusal, del_refusal, is_some_position}
 use Rattle.tab_model.specs.Log.{catalog_after, serial, has_session, is_removed, level_if, level_after, in_force, IsRight, count_after}
-use Rattle.tab_model.specs.Slices.{as_batch, shape_at, batch_for, dump_of, end_for, unless_over, expected}
+use Rattle.tab_model.specs.Slices.{as_batch, shape_at, batch_for, dump_of, end_for, unless_over, expected_items}
 use Rattle.tab_model.specs.State.{Transaction, Outbox, Watch, Session, Queued, State, new, session_at, transaction_in, moves_in, replies_in, age_in, without_request, level_in, without_watch, mid_of, IsSound}
 use Rattle.tab_model.specs.Run.{entries, item_of, delivered_by, JoinsEmpty, IsSessionTied, IsNew}
 use Rattle.tab_model.specs.Outcome.{Ask, Join, Leave, Retry, Take, DoCommand, step_without_entry, with_changed, with_transaction, with_queue, with_items, reply_or, make, by_lock_answer, operate, retry_in, retry, begin, one_shot, abort, after_overflow, after_put, batch_to, commit_now, events_now, commit, without_deleted, end_to, schema_now, schema, table_info, is_at, put_marker, subscribe_refusal, do_command, give, items_to_take, leave, step_of_joined, fresh, step_of_stranger, step_of, outcome}
@@ -109,7 +109,7 @@ unwatched_same (Some t) x = (refl, refl)
 
 -- what a commit or a deletion gives to one session
 given_moves : (q n : ℕ) (over : List ℕ) (items : List Item) (log : List Entry) (e : Entry) (x y : Session) → y.number ≡ q → y.outbox ≡ x.outbox
-    → expected q log e ≡ unless_over (has_session over q) items
+    → expected_items q log e ≡ unless_over (has_session over q) items
     → (has_session over q ≡ true → (u : List ℕ) → level_after q u (level_in x.watching u) e ≡ None)
     → (has_session over q ≡ false → (u : List ℕ) → level_in y.watching u ≡ level_after q u (level_in x.watching u) e)
     → Moves q log e x (after_put n over items y)
@@ -186,7 +186,7 @@ refusal_item w (AddIndex t a) = add_item (find w t)
   where
     add_item : (x : Option Table) → item_in (add_refusal t a x) ≡ []
     add_item None = refl
-    add_item (Some x) = if_none (not (is_some_position (position x.def (term a))) || is_indexed x.def (position x.def (term a))) (reply.BadDefinition t (held (pair (atom (codes "index")) (term a)))) refl
+    add_item (Some x) = if_none (not (is_some_position (position x.def (term a))) || is_indexed x.def (position x.def (term a))) (reply.BadDefinition t (term_value (pair (atom (codes "index")) (term a)))) refl
 refusal_item w (DelIndex t a) = del_item (find w t)
   where
     del_item : (x : Option Table) → item_in (del_refusal t a x) ≡ []
@@ -289,11 +289,11 @@ module _ (σ : State) (log : List Entry) (tk : ℕ → List Item) (t : IsLogged 
       low : (q : ℕ) → σ.greatest < q → q ≢ s.number
       low q h e = let j = sound.joined s.number s here in omega arith
 
-      -- a mark into the session's own post
+      -- a marker into the session's own post
       mark_tied : (over : Bool) (ws : List Watch) (x : Item) (e : Entry)
           → σ.tables ≡ catalog_after σ.tables e → σ.commits ≡ count_after σ.commits e → IsRight σ.tables σ.commits e
-          → ((u : List ℕ) → level_in ws u ≡ level_after s.number u (level_in s.watching u) e) → expected s.number log e ≡ x ∷ []
-          → ((q : ℕ) → q ≢ s.number → ((u : List ℕ) (b : Option Level) → level_after q u b e ≡ b) × (expected q log e ≡ []))
+          → ((u : List ℕ) → level_in ws u ≡ level_after s.number u (level_in s.watching u) e) → expected_items s.number log e ≡ x ∷ []
+          → ((q : ℕ) → q ≢ s.number → ((u : List ℕ) (b : Option Level) → level_after q u b e ≡ b) × (expected_items q log e ≡ []))
           → Ties s.number log tk (put_marker σ over s ws x e)
       mark_tied true ws x e ts cs right wat ow others = same_tied s here _ σ.queue σ.next_age reply.OutboxFull refl refl refl refl
       mark_tied false ws x e ts cs right wat ow others = entry_tied σ _ log tk _ e t ts cs refl right
@@ -332,16 +332,16 @@ module _ (σ : State) (log : List Entry) (tk : ℕ → List Item) (t : IsLogged 
           right : replies (start σ.tables transaction.age) transaction.moves ≡ transaction.told
           right = ap (λ (o : Option Transaction). replies (start σ.tables (age_in o)) (moves_in o)) (sym tx_is) ∙ sound.told s.number ∙ ap replies_in tx_is
 
-          fresh_expected : (q : ℕ) → ((u : List ℕ) → in_force q log u ≡ None) → expected q log e ≡ []
-          fresh_expected q h = (λ i. unless_over (has_session over q) (batch_for (λ u. h u i) (σ.commits + 1) (events (serial log) transaction.age (surviving transaction.moves transaction.told))))
-              ∙ ap (unless_over (has_session over q)) (batch_none (σ.commits + 1) (events (serial log) transaction.age (surviving transaction.moves transaction.told))) ∙ unless_nil (has_session over q)
+          fresh_expected : (q : ℕ) → ((u : List ℕ) → in_force q log u ≡ None) → expected_items q log e ≡ []
+          fresh_expected q h = (λ i. unless_over (has_session over q) (batch_for (λ u. h u i) (σ.commits + 1) (events (serial log) transaction.age (surviving_changes transaction.moves transaction.told))))
+              ∙ ap (unless_over (has_session over q)) (batch_none (σ.commits + 1) (events (serial log) transaction.age (surviving_changes transaction.moves transaction.told))) ∙ unless_nil (has_session over q)
 
           f : Session → Session
           f x = after_put (σ.commits + 1) over (batch_to (σ.commits + 1) (events_now σ transaction) x) x
 
           moves : (q : ℕ) (x y : Session) → session_at σ.sessions q ≡ Some x → y.number ≡ q → y.watching ≡ x.watching → y.outbox ≡ x.outbox → Moves q log e x (after_put (σ.commits + 1) over (batch_to (σ.commits + 1) (events_now σ transaction) y) y)
           moves q x y g num ws outbox = given_moves q (σ.commits + 1) over _ log e x y num outbox
-              (λ i. unless_over (has_session over q) (batch_for (λ u. (sym ((t.sessions q x g).watching u) ∙ ap (λ w. level_in w u) (sym ws)) i) (σ.commits + 1) (events (sym t.tables i) transaction.age (surviving transaction.moves transaction.told))))
+              (λ i. unless_over (has_session over q) (batch_for (λ u. (sym ((t.sessions q x g).watching u) ∙ ap (λ w. level_in w u) (sym ws)) i) (σ.commits + 1) (events (sym t.tables i) transaction.age (surviving_changes transaction.moves transaction.told))))
               (λ h u. ap (λ b. level_if (not b) (level_in x.watching u)) h)
               (λ h u. ap (λ w. level_in w u) ws ∙ ap (λ b. level_if (not b) (level_in x.watching u)) (sym h))
 
@@ -371,7 +371,7 @@ module _ (σ : State) (log : List Entry) (tk : ℕ → List Item) (t : IsLogged 
       e : Entry
       e = Changed c over
 
-      fresh_expected : (q : ℕ) → ((u : List ℕ) → in_force q log u ≡ None) → expected q log e ≡ []
+      fresh_expected : (q : ℕ) → ((u : List ℕ) → in_force q log u ≡ None) → expected_items q log e ≡ []
       fresh_expected q h = (λ i. unless_over (has_session over q) (end_for (λ u. h u i) (removed_table c))) ∙ ap (unless_over (has_session over q)) (end_none (removed_table c)) ∙ unless_nil (has_session over q)
 
       f : Session → Session

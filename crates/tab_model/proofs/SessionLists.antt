@@ -6,7 +6,7 @@ use Rattle.tab_model.specs.declared.data.Level.{Level}
 use Rattle.tab_model.specs.declared.data.Entry.{Entry}
 use Rattle.tab_model.specs.Catalogs.{Catalog}
 use Rattle.tab_model.specs.Log.{catalog_after, serial, serial_from, level_after, in_force, in_force_from, IsRight, count_after, IsLegal, commits_from}
-use Rattle.tab_model.specs.Slices.{expected, slice_after, slice}
+use Rattle.tab_model.specs.Slices.{expected_items, slice_after, slice}
 use Rattle.tab_model.specs.State.{Session, session_at}
 use Rattle.tab_model.specs.Outcome.{with_changed, without_session}
 
@@ -67,14 +67,14 @@ pub commits-push : (c : ℕ) (log : List Entry) (e : Entry) → commits_from c (
 commits-push c [] e = refl
 commits-push c (x ∷ log) e = commits-push (count_after c x) log e
 
-slice_after-push : (s : ℕ) (before log : List Entry) (e : Entry) → slice_after s before (log ++ e ∷ []) ≡ slice_after s before log ++ expected s (before ++ log) e
-slice_after-push s before [] e = append-nil _ ∙ ap (λ xs. expected s xs e) (sym (append-nil before))
+slice_after-push : (s : ℕ) (before log : List Entry) (e : Entry) → slice_after s before (log ++ e ∷ []) ≡ slice_after s before log ++ expected_items s (before ++ log) e
+slice_after-push s before [] e = append-nil _ ∙ ap (λ xs. expected_items s xs e) (sym (append-nil before))
 slice_after-push s before (x ∷ log) e =
-    ap (λ xs. expected s before x ++ xs) (slice_after-push s (before ++ x ∷ []) log e ∙ ap (λ xs. slice_after s (before ++ x ∷ []) log ++ expected s xs e) (append_assoc before (x ∷ []) log))
-    ∙ sym (append_assoc (expected s before x) _ _)
+    ap (λ xs. expected_items s before x ++ xs) (slice_after-push s (before ++ x ∷ []) log e ∙ ap (λ xs. slice_after s (before ++ x ∷ []) log ++ expected_items s xs e) (append_assoc before (x ∷ []) log))
+    ∙ sym (append_assoc (expected_items s before x) _ _)
 
 -- the slice of a log with one entry more is the slice of the log, and then what the entry owes
-pub slice-push : (s : ℕ) (log : List Entry) (e : Entry) → slice s (log ++ e ∷ []) ≡ slice s log ++ expected s log e
+pub slice-push : (s : ℕ) (log : List Entry) (e : Entry) → slice s (log ++ e ∷ []) ≡ slice s log ++ expected_items s log e
 slice-push s log e = slice_after-push s [] log e
 
 pub legal-push : (w : Catalog) (c : ℕ) (log : List Entry) (e : Entry) → IsLegal w c log → IsRight (serial_from w log) (commits_from c log) e → IsLegal w c (log ++ e ∷ [])
@@ -91,5 +91,5 @@ in_force_more s log e t = in_force-push s t None log e
 pub legal_more : (log : List Entry) (e : Entry) → IsLegal [] 0 log → IsRight (serial log) (commits_from 0 log) e → IsLegal [] 0 (log ++ e ∷ [])
 legal_more log e l r = legal-push [] 0 log e l r
 
-pub slice_more : (s : ℕ) (log : List Entry) (e : Entry) → slice s (log ++ e ∷ []) ≡ slice s log ++ expected s log e
+pub slice_more : (s : ℕ) (log : List Entry) (e : Entry) → slice s (log ++ e ∷ []) ≡ slice s log ++ expected_items s log e
 slice_more s log e = slice-push s log e

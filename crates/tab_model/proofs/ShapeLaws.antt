@@ -13,9 +13,9 @@ use Rattle.tab_model.specs.declared.data.Change.{Change}
 use Rattle.tab_model.specs.declared.data.Change.TheVariants as change
 use Rattle.tab_model.specs.declared.data.Event.{Event}
 use Rattle.tab_model.specs.Operations.{table_of_change}
-use Rattle.tab_model.specs.Shapes.{held, tid, five, simple, detailed, body, shape, is_record, is_id, write_in, object_deletion_in, key_deletion_in, deletion_in, in_table, simple_change, detailed_change, detailed_body, by_rest, change_in_body, change_in, change_of, is_whole, IsShaped, ShapesChange}
+use Rattle.tab_model.specs.Shapes.{term_value, tid, five, simple, detailed_term, body, shape, is_record, is_id, write_in, object_deletion_in, key_deletion_in, deletion_in, in_table, simple_change, detailed_change, detailed_body, by_rest, change_in_body, change_in, change_of, is_whole, IsShaped, ShapesChange}
 
-pub held_term : (r : Term) → held (term r) ≡ r
+pub held_term : (r : Term) → term_value (term r) ≡ r
 held_term (is.Int z) = refl
 held_term (is.Atom s) = refl
 held_term (is.Tuple ts) = refl
@@ -23,7 +23,7 @@ held_term (is.List ts) = refl
 held_term (is.Bin b) = refl
 held_term (is.Map ps) = refl
 
-pub term_held : (x : PlainTerm) → term (held x) ≡ x
+pub term_held : (x : PlainTerm) → term (term_value x) ≡ x
 term_held (int z) = refl
 term_held (atom s) = refl
 term_held (tuple ts) = refl
@@ -31,7 +31,7 @@ term_held (list ts) = refl
 term_held (bin b) = refl
 term_held (map ps) = refl
 
-deleted_record : (x : PlainTerm) → is_record x ≡ true → deletion_in x ≡ Some (change.DeleteObject (held x))
+deleted_record : (x : PlainTerm) → is_record x ≡ true → deletion_in x ≡ Some (change.DeleteObject (term_value x))
 deleted_record (tuple (one_more (atom t) (one_more k (one_more v vs)))) h = refl
 deleted_record x h = cc
 
@@ -41,16 +41,16 @@ one_of false c h = cc
 
 -- the change is told of the shape
 told_simple : (c : Change) (a : ℕ) → is_whole c ≡ true → change_of (pair (atom (codes "mnesia_table_event")) (simple c (suc a))) ≡ Some c
-told_simple (change.Write r) a w = one_of (is_record (term r)) (change.Write (held (term r))) w ∙ ap (λ x. Some (change.Write x)) (held_term r)
+told_simple (change.Write r) a w = one_of (is_record (term r)) (change.Write (term_value (term r))) w ∙ ap (λ x. Some (change.Write x)) (held_term r)
 told_simple (change.Delete t k) a w = ap (λ x. Some (change.Delete t x)) (held_term k)
-told_simple (change.DeleteObject r) a w = one_of (is_record (term r)) (change.DeleteObject (held (term r))) w ∙ ap (λ x. Some (change.DeleteObject x)) (held_term r)
+told_simple (change.DeleteObject r) a w = one_of (is_record (term r)) (change.DeleteObject (term_value (term r))) w ∙ ap (λ x. Some (change.DeleteObject x)) (held_term r)
 
 at_table : (t : List ℕ) (o : Option Change) (c : Change) → o ≡ Some c → table_of_change c ≡ t → in_table t o ≡ Some c
 at_table t o c h e = ap (in_table t) h ∙ ap (λ b. if b then Some c else None) ((bytes_eq-Decides (table_of_change c) t).1 e)
 
-told_detailed : (c : Change) (t : List ℕ) (old : PlainTerms) (a : ℕ) → is_whole c ≡ true → table_of_change c ≡ t → change_of (pair (atom (codes "mnesia_table_event")) (detailed c t old (suc a))) ≡ Some c
-told_detailed (change.Write r) t old a w e = at_table t (write_in (term r)) (change.Write r) (one_of (is_record (term r)) (change.Write (held (term r))) w ∙ ap (λ x. Some (change.Write x)) (held_term r)) e
-told_detailed (change.Delete u k) t old a w e = at_table t (Some (change.Delete u (held (term k)))) (change.Delete u k) (ap (λ x. Some (change.Delete u x)) (held_term k)) e
+told_detailed : (c : Change) (t : List ℕ) (old : PlainTerms) (a : ℕ) → is_whole c ≡ true → table_of_change c ≡ t → change_of (pair (atom (codes "mnesia_table_event")) (detailed_term c t old (suc a))) ≡ Some c
+told_detailed (change.Write r) t old a w e = at_table t (write_in (term r)) (change.Write r) (one_of (is_record (term r)) (change.Write (term_value (term r))) w ∙ ap (λ x. Some (change.Write x)) (held_term r)) e
+told_detailed (change.Delete u k) t old a w e = at_table t (Some (change.Delete u (term_value (term k)))) (change.Delete u k) (ap (λ x. Some (change.Delete u x)) (held_term k)) e
 told_detailed (change.DeleteObject r) t old a w e = at_table t (deletion_in (term r)) (change.DeleteObject r) (deleted_record (term r) w ∙ ap (λ x. Some (change.DeleteObject x)) (held_term r)) e
 
 told_at : (l : Level) (c : Change) (t : List ℕ) (old : PlainTerms) (a : ℕ) → is_whole c ≡ true → table_of_change c ≡ t → 0 < a → change_of (shape l (record { tab = t; change = c; old = old; age = a })) ≡ Some c
@@ -91,17 +91,17 @@ pub record Changes (x : PlainTerm) (c d : Change) : Type 0 where
   pub change_is : c ≡ d
   pub whole : is_whole c ≡ true
 
-written_is : (x : PlainTerm) (c : Change) → write_in x ≡ Some c → Changes x (change.Write (held x)) c
-written_is x c h = let p = if_some (is_record x) (change.Write (held x)) c h in record { change_is = p.1; whole = ap is_record (term_held x) ∙ p.0 }
+written_is : (x : PlainTerm) (c : Change) → write_in x ≡ Some c → Changes x (change.Write (term_value x)) c
+written_is x c h = let p = if_some (is_record x) (change.Write (term_value x)) c h in record { change_is = p.1; whole = ap is_record (term_held x) ∙ p.0 }
 
-object_is : (x : PlainTerm) (c : Change) → object_deletion_in x ≡ Some c → Changes x (change.DeleteObject (held x)) c
-object_is x c h = let p = if_some (is_record x) (change.DeleteObject (held x)) c h in record { change_is = p.1; whole = ap is_record (term_held x) ∙ p.0 }
+object_is : (x : PlainTerm) (c : Change) → object_deletion_in x ≡ Some c → Changes x (change.DeleteObject (term_value x)) c
+object_is x c h = let p = if_some (is_record x) (change.DeleteObject (term_value x)) c h in record { change_is = p.1; whole = ap is_record (term_held x) ∙ p.0 }
 
 pub record Pair (x : PlainTerm) (c : Change) : Type 0 where
   pub table : List ℕ
   pub key : PlainTerm
   pub is : pair (atom table) key ≡ x
-  pub change_is : change.Delete table (held key) ≡ c
+  pub change_is : change.Delete table (term_value key) ≡ c
 
 key_is : (x : PlainTerm) (c : Change) → key_deletion_in x ≡ Some c → Pair x c
 key_is (tuple (one_more (atom t) (one_more k none))) c h = record { table = t; key = k; is = refl; change_is = cc }
@@ -117,24 +117,24 @@ simple_is n x i c id h = cases (bytes_eq n (codes "write")) refl (bytes_eq n (co
         → (if p then write_in x else (if q then key_deletion_in x else (if r then object_deletion_in x else None))) ≡ Some c → BodyOf (one_more (atom n) (one_more x (one_more i none))) c
     cases true e q f r g h = let w = written_is x c h in record {
       level = Simple;
-      event = record { tab = table_of_change (change.Write (held x)); change = change.Write (held x); old = none; age = suc id.age };
+      event = record { tab = table_of_change (change.Write (term_value x)); change = change.Write (term_value x); old = none; age = suc id.age };
       is = λ j. triple (atom (sym (names_true n (codes "write") e) j)) (term_held x j) (id.is j);
       change_is = w.change_is;
-      shaped = shaped (change.Write (held x)) none id.age w.whole;
+      shaped = shaped (change.Write (term_value x)) none id.age w.whole;
     }
     cases false e true f r g h = let w = key_is x c h in record {
       level = Simple;
-      event = record { tab = w.table; change = change.Delete w.table (held w.key); old = none; age = suc id.age };
+      event = record { tab = w.table; change = change.Delete w.table (term_value w.key); old = none; age = suc id.age };
       is = (λ j. triple (atom (sym (names_true n (codes "delete") f) j)) (pair (atom w.table) (term_held w.key j)) (id.is j)) ∙ ap (λ y. triple (atom n) y i) w.is;
       change_is = w.change_is;
-      shaped = shaped (change.Delete w.table (held w.key)) none id.age refl;
+      shaped = shaped (change.Delete w.table (term_value w.key)) none id.age refl;
     }
     cases false e false f true g h = let w = object_is x c h in record {
       level = Simple;
-      event = record { tab = table_of_change (change.DeleteObject (held x)); change = change.DeleteObject (held x); old = none; age = suc id.age };
+      event = record { tab = table_of_change (change.DeleteObject (term_value x)); change = change.DeleteObject (term_value x); old = none; age = suc id.age };
       is = λ j. triple (atom (sym (names_true n (codes "delete_object") g) j)) (term_held x j) (id.is j);
       change_is = w.change_is;
-      shaped = shaped (change.DeleteObject (held x)) none id.age w.whole;
+      shaped = shaped (change.DeleteObject (term_value x)) none id.age w.whole;
     }
     cases false e false f false g h = cc
 
@@ -145,13 +145,13 @@ in_table_is t (Some d) c h = let p = if_some (bytes_eq (table_of_change d) t) d 
 -- what a detailed deletion deletes
 pub record Deletes (x : PlainTerm) (c : Change) : Type 0 where
   pub change : Change
-  pub is : (t : List ℕ) (old : PlainTerms) (a : ℕ) → detailed change t old a ≡ five (atom (codes "delete")) (atom t) x (list old) (tid a)
+  pub is : (t : List ℕ) (old : PlainTerms) (a : ℕ) → detailed_term change t old a ≡ five (atom (codes "delete")) (atom t) x (list old) (tid a)
   pub change_is : change ≡ c
   pub whole : is_whole change ≡ true
 
 object_deletes : (x : PlainTerm) (c : Change) → object_deletion_in x ≡ Some c → Deletes x c
 object_deletes x c h = let w = object_is x c h in record {
-  change = change.DeleteObject (held x);
+  change = change.DeleteObject (term_value x);
   is = λ t old a. ap (λ y. five (atom (codes "delete")) (atom t) y (list old) (tid a)) (term_held x);
   change_is = w.change_is;
   whole = w.whole;
@@ -159,7 +159,7 @@ object_deletes x c h = let w = object_is x c h in record {
 
 deletes_is : (x : PlainTerm) (c : Change) → deletion_in x ≡ Some c → Deletes x c
 deletes_is (tuple (one_more (atom u) (one_more k none))) c h = record {
-  change = change.Delete u (held k);
+  change = change.Delete u (term_value k);
   is = λ t old a. ap (λ y. five (atom (codes "delete")) (atom t) (pair (atom u) y) (list old) (tid a)) (term_held k);
   change_is = cc;
   whole = refl;
@@ -176,10 +176,10 @@ detailed_is n t x i old c id h = cases (bytes_eq n (codes "write")) refl (bytes_
         → (if p then in_table t (write_in x) else (if q then in_table t (deletion_in x) else None)) ≡ Some c → BodyOf (one_more (atom n) (one_more (atom t) (one_more x (one_more (list old) (one_more i none))))) c
     cases true e q f h = let u = in_table_is t (write_in x) c h in let w = written_is x c u.0 in record {
       level = Detailed;
-      event = record { tab = t; change = change.Write (held x); old = old; age = suc id.age };
+      event = record { tab = t; change = change.Write (term_value x); old = old; age = suc id.age };
       is = λ j. five (atom (sym (names_true n (codes "write") e) j)) (atom t) (term_held x j) (list old) (id.is j);
       change_is = w.change_is;
-      shaped = in_one (change.Write (held x)) c t old id.age w.change_is u.1 w.whole;
+      shaped = in_one (change.Write (term_value x)) c t old id.age w.change_is u.1 w.whole;
     }
     cases false e true f h = let u = in_table_is t (deletion_in x) c h in let w = deletes_is x c u.0 in record {
       level = Detailed;

@@ -10,7 +10,7 @@ use Rattle.tab_model.specs.declared.data.Entry.{Entry}
 use Rattle.tab_model.specs.declared.data.Entry.TheVariants.{Committed, Changed, Subscribed, Unsubscribed}
 use Rattle.tab_model.specs.Catalogs.{Catalog}
 use Rattle.tab_model.specs.Log.{catalog_after, serial, serial_from, level_after, in_force, in_force_from, count_after, IsRight, IsLegal, commits_from}
-use Rattle.tab_model.specs.Slices.{dump_of, expected_on, expected, slice_after, slice}
+use Rattle.tab_model.specs.Slices.{dump_of, expected_on, expected_items, slice_after, slice}
 use Rattle.tab_model.specs.History.{Base, empty, level_at, in_force_since, expected_since, slice_since_after, slice_since, IsHistory, after_fold, Admits, without_subscriber}
 use Rattle.tab_model.specs.State.{Session, State, new, session_at, level_in, IsSound}
 use Rattle.tab_model.specs.Outcome.{Ask, Join, Leave, Retry, Take, DoCommand, step_of, without_session, outcome}
@@ -143,7 +143,7 @@ in_force-append s t l [] ys = refl
 in_force-append s t l (x ∷ xs) ys = in_force-append s t (level_after s t l x) xs ys
 
 module _ (past : List Entry) (b : Base) (n : ℕ) (tables : b.tables ≡ serial past) (levels : (t : List ℕ) → level_at b.subscriptions n t ≡ in_force n past t) where
-  expected_is : (log : List Entry) (e : Entry) → expected n (past ++ log) e ≡ expected_since b n log e
+  expected_is : (log : List Entry) (e : Entry) → expected_items n (past ++ log) e ≡ expected_since b n log e
   expected_is log e = by e
     where
       catalog : serial (past ++ log) ≡ serial_from b.tables log
@@ -152,7 +152,7 @@ module _ (past : List Entry) (b : Base) (n : ℕ) (tables : b.tables ≡ serial 
       level : (λ t. in_force n (past ++ log) t) ≡ in_force_since b n log
       level i t = (in_force-append n t None past log ∙ ap (λ l. in_force_from n t l log) (sym (levels t))) i
 
-      by : (e : Entry) → expected n (past ++ log) e ≡ expected_since b n log e
+      by : (e : Entry) → expected_items n (past ++ log) e ≡ expected_since b n log e
       by (Committed m x age xs rs over) i = expected_on (catalog i) (level i) n (Committed m x age xs rs over)
       by (Changed c over) i = expected_on (catalog i) (level i) n (Changed c over)
       by (Subscribed x t l dump) i = expected_on (catalog i) (level i) n (Subscribed x t l dump)
@@ -201,10 +201,10 @@ both_nil (x ∷ xs) ys e = absurd (nil_cons x (xs ++ ys) (sym e))
 
 module _ (past : List Entry) (b : Base) (e : Entry) (log : List Entry) (σ : State) where
   -- who has not joined yet has subscribed to nothing
-  not_yet : FollowsLog past b (e ∷ log) σ → (n : ℕ) → σ.greatest < n → expected n past e ≡ []
+  not_yet : FollowsLog past b (e ∷ log) σ → (n : ℕ) → σ.greatest < n → expected_items n past e ≡ []
   not_yet k n h =
       let whole : slice n past ++ slice_after n past (e ∷ log) ≡ [] = sym (slice_parts n past (e ∷ log)) ∙ (k.tied.fresh n h).expected in
-      (both_nil (expected n past e) (slice_after n (past ++ e ∷ []) log) ((both_nil (slice n past) _ whole).1)).0
+      (both_nil (expected_items n past e) (slice_after n (past ++ e ∷ []) log) ((both_nil (slice n past) _ whole).1)).0
 
   admits : FollowsLog past b (e ∷ log) σ → (n : ℕ) → MayFollow σ n → Admits (still_joined σ e) n e
   admits k n may = by e refl
@@ -215,8 +215,8 @@ module _ (past : List Entry) (b : Base) (e : Entry) (log : List Entry) (σ : Sta
       by (Unsubscribed s t) q = tt
       by (Subscribed s t l dump) q = λ same. ap (is_joined σ) same ∙ here same may
         where
-          begun : σ.greatest < n → expected n past (Subscribed s t l dump) ≡ []
-          begun h = ap (expected n past) (sym q) ∙ not_yet k n h
+          begun : σ.greatest < n → expected_items n past (Subscribed s t l dump) ≡ []
+          begun h = ap (expected_items n past) (sym q) ∙ not_yet k n h
 
           item : (b : Bool) → (if b then Began t l (dump_of (serial past) t dump) ∷ [] else []) ≡ [] → b ≡ false
           item true h = absurd (nil_cons _ [] (sym h))

@@ -57,7 +57,7 @@ schema_if σ over c r busy room =
 -- what refuses a subscription but its post: an untold overflow, no such table, a subscription that there is
 abbrev pub subscribe_refusal_if : List ℕ → Bool → Bool → Bool → Option Reply
 subscribe_refusal_if t untold missing watched =
-    first_of (refusal_if untold reply.OverflowUntold ∷ refusal_if missing (reply.SubNoTable t) ∷ refusal_if watched (reply.AlreadySubscribed t) ∷ [])
+    first_of (refusal_if untold reply.OverflowUntold ∷ refusal_if missing (reply.UnknownTable t) ∷ refusal_if watched (reply.AlreadySubscribed t) ∷ [])
 
 -- a subscription: what refuses it but its post
 abbrev pub subscribe_if : State → List ℕ → Session → List ℕ → Level → Bool → Option Reply → Outcome

@@ -11,7 +11,7 @@ use Rattle.tab_model.specs.declared.data.Entry.{Entry}
 use Rattle.tab_model.specs.declared.data.Entry.TheVariants.{Subscribed, Unsubscribed}
 use Rattle.tab_model.specs.declared.data.Command.{Command}
 use Rattle.tab_model.specs.declared.data.Command.TheVariants as command
-use Rattle.tab_model.specs.Tables.{applied}
+use Rattle.tab_model.specs.Tables.{rows_after}
 use Rattle.tab_model.specs.Catalogs.{Catalog, Table, find, rows_in, rows_of}
 use Rattle.tab_model.specs.Ages.{Answer, Granted, Wait, Die}
 use Rattle.tab_model.specs.Log.{catalog_after, serial, serial_from}
@@ -190,8 +190,8 @@ module _ (σ : State) (log : List Entry) (tk : ℕ → List Item) (logged : IsLo
       serial_rows : rows_of σ.tables t ≡ rows_of (serial log) t
       serial_rows = ap (λ w. rows_of w t) logged.tables
 
-      now : (x : Table) → find (serial sub.earlier) t ≡ Some x → rows_of σ.tables t ≡ applied x.def.kind x.rows (changes_on t sub.since)
-      now x e = serial_rows ∙ since_applies n t l log x logged.legal sub e ∙ ap (λ (o : Option Table). applied x.def.kind (rows_in o) (changes_on t sub.since)) e
+      now : (x : Table) → find (serial sub.earlier) t ≡ Some x → rows_of σ.tables t ≡ rows_after x.def.kind x.rows (changes_on t sub.since)
+      now x e = serial_rows ∙ since_applies n t l log x logged.legal sub e ∙ ap (λ (o : Option Table). rows_after x.def.kind (rows_in o) (changes_on t sub.since)) e
 
       by_table : (o : Option Table) → find (serial sub.earlier) t ≡ o → is_some o ≡ true → RowsSince n t l log (rows_of σ.tables t)
       by_table None e h = cc
@@ -200,6 +200,6 @@ module _ (σ : State) (log : List Entry) (tk : ℕ → List Item) (logged : IsLo
         table = x;
         stood = e;
         now = now x e;
-        told = now x e ∙ ap (applied x.def.kind x.rows) (sym (items_tell n t l log logged.legal aged sub));
+        told = now x e ∙ ap (rows_after x.def.kind x.rows) (sym (items_tell n t l log logged.legal aged sub));
         dumped = λ records d. serial_rows ∙ dump_applies n t l log x records logged.legal sub e d;
       }

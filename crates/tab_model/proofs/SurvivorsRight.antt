@@ -9,7 +9,7 @@ use Rattle.tab_model.specs.Catalogs.{Catalog, Table, find}
 use Rattle.tab_model.specs.Operations.{table_of, failure_in, failure, answer_or, answer, change_of_op, change_by, change_catalog, effect}
 use Rattle.tab_model.specs.Alone.{Mid, start, without_innermost, back_to, back, next, after, replies}
 use Rattle.tab_model.proofs.OperationAnswers.{answers}
-use Rattle.tab_model.specs.Events.{drop_level, top_level, is_failure, with_change, survivors, surviving, change_all}
+use Rattle.tab_model.specs.Events.{drop_level, top_level, is_failure, with_change, survivors, surviving_changes, change_all}
 
 -- a reply tells whether the operation failed
 pub reply_tells : (x : Option Table) (o : Operation) → is_failure (Some (answer_or (failure_in x o) x o)) ≡ is_some (failure_in x o)
@@ -61,5 +61,5 @@ survives w now saved m (Close ∷ xs) k = survives w now (drop_level saved) (nex
 survives w now saved m (Undo ∷ xs) k = survives w (top_level saved) (drop_level saved) (next m Undo) xs (kept_back w now saved m k)
 
 -- the surviving updates, read off the replies, give the tables after the transaction
-pub survivors_are : (w : Catalog) (age : ℕ) (xs : List Move) → change_all w (surviving xs (replies (start w age) xs)) ≡ (after (start w age) xs).now
+pub survivors_are : (w : Catalog) (age : ℕ) (xs : List Move) → change_all w (surviving_changes xs (replies (start w age) xs)) ≡ (after (start w age) xs).now
 survivors_are w age xs = survives w [] [] (start w age) xs (record { now_is = refl; saved_are = refl; base_is = refl })

@@ -24,7 +24,7 @@ use Rattle.tab_model.specs.Tables.{apply}
 use Rattle.tab_model.specs.Catalogs.{Catalog, Table, name_of, find, place, without, with_rows, with_def}
 use Rattle.tab_model.specs.Operations.{table_of, failure_in, failure, change_of_op, table_of_change, change_table, change_catalog, change_by, answer}
 use Rattle.tab_model.specs.Alone.{Mid, start, without_innermost, back_to, back, next, after, replies}
-use Rattle.tab_model.specs.Events.{drop_level, top_level, is_failure, with_change, survivors, surviving}
+use Rattle.tab_model.specs.Events.{drop_level, top_level, is_failure, with_change, survivors, surviving_changes}
 use Rattle.tab_model.specs.Schemas.{schema_effect, create_parsed, add_at, del_at, add_effect, del_effect}
 use Rattle.tab_model.specs.Log.{catalog_after, serial_from}
 use Rattle.tab_model.specs.Shapes.{is_record, is_whole}
@@ -248,5 +248,5 @@ wholes cur saved m (Close ∷ xs) g h k = wholes cur (drop_level saved) (next m 
 wholes cur saved m (Undo ∷ xs) g h k = wholes (top_level saved) (drop_level saved) (next m Undo) xs (good_next m Undo g) (whole_top saved k) (whole_drop saved k)
 
 -- what survives a transaction on good tables is whole
-pub surviving_whole : (w : Catalog) (age : ℕ) (xs : List Move) → IsGood w → WholeAll (surviving xs (replies (start w age) xs))
+pub surviving_whole : (w : Catalog) (age : ℕ) (xs : List Move) → IsGood w → WholeAll (surviving_changes xs (replies (start w age) xs))
 surviving_whole w age xs g = wholes [] [] (start w age) xs (record { now = λ n t e. g n t e; saved = tt; base = λ n t e. g n t e }) tt tt

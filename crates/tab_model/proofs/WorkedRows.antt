@@ -19,12 +19,12 @@ use Rattle.tab_model.specs.declared.data.Limit.TheVariants as limit
 use Rattle.tab_model.specs.declared.data.Limits.{Limits}
 use Rattle.tab_model.specs.State.{new}
 use Rattle.tab_model.specs.declared.data.Change.TheVariants as change
-use Rattle.tab_model.specs.Shapes.{tid, five, held, change_of}
+use Rattle.tab_model.specs.Shapes.{tid, five, term_value, change_of}
 use Rattle.tab_model.specs.declared.data.Entry.TheVariants.{Changed, Subscribed}
 use Rattle.tab_model.specs.Log.{in_force}
 use Rattle.tab_model.specs.Outcome.{outcome, Retry, Leave, DoCommand}
 use Rattle.tab_model.specs.Run.{Call, replies_of}
-use Rattle.tab_model.specs.Callers.{silence, hear_all}
+use Rattle.tab_model.specs.Callers.{no_observation, observe_all}
 use Rattle.tab_model.proofs.WorkedFixtures.{num, record_of, rec, joins, joins_with, creates, call, call_over, does, begins, commits, writes, reads, subscribes, takes, told_in, bag}
 
 abbrev event : PlainTerm → PlainTerm
@@ -86,15 +86,15 @@ pub row_outbox_full : told_in (joins_with 1 1 ∷ creates 1 (codes "t") none ∷
 unfolding outcome canon int_contents
 row_outbox_full = refl
 
--- the post that callers tell of there: two marks and a deletion's marker were refused, and the overflow is then told
+-- the post that callers tell of there: two markers and a deletion's marker were refused, and the overflow is then told
 abbrev full_run : List Call
 full_run = joins_with 1 1 ∷ creates 1 (codes "t") none ∷ creates 1 (codes "u") none ∷ subscribes 1 (codes "t") ∷ call_over 1 (DoCommand (command.Subscribe (codes "u") Simple false)) (1 ∷ []) ∷ call_over 1 (DoCommand (command.Unsubscribe (codes "t") Simple)) (1 ∷ []) ∷ call_over 1 (DoCommand (command.Schema (Remove (codes "t")))) (1 ∷ []) ∷ takes 1 ∷ []
 
-pub row_refusals_counted : (hear_all silence full_run (told_in full_run)).posts 1 ≡ record { refusals = 3; overflow = Some 1 }
+pub row_refusals_counted : (observe_all no_observation full_run (told_in full_run)).posts 1 ≡ record { refusals = 3; overflow = Some 1 }
 unfolding outcome canon int_contents
 row_refusals_counted = refl
 
-pub row_overflow_told : (hear_all silence (full_run ++ takes 1 ∷ []) (told_in (full_run ++ takes 1 ∷ []))).posts 1 ≡ record { refusals = 3; overflow = None }
+pub row_overflow_told : (observe_all no_observation (full_run ++ takes 1 ∷ []) (told_in (full_run ++ takes 1 ∷ []))).posts 1 ≡ record { refusals = 3; overflow = None }
 unfolding outcome canon int_contents
 row_overflow_told = refl
 
@@ -197,14 +197,14 @@ pub row_options : told_in (joins 1
     ∷ creates 1 (codes "v") (options (indexes_are (words (num 3 ∷ word (codes "val") ∷ [])) ∷ pair (atom (codes "record_name")) (atom (codes "v")) ∷ pair (atom (codes "ram_copies")) (words []) ∷ []))
     ∷ call 1 (DoCommand (command.TableInfo (codes "v") item.Index)) ∷ call 1 (DoCommand (command.TableInfo (codes "v") item.Attributes)) ∷ call 1 (DoCommand (command.TableInfo (codes "v") item.Kind)) ∷ call 1 (DoCommand (command.TableInfo (codes "v") item.Size)) ∷ call 1 (DoCommand (command.TableInfo (codes "w") item.Size)) ∷ [])
     ≡ reply.Done
-    ∷ reply.BadDefinition (codes "v") (held (kind_is (codes "set")))
-    ∷ reply.BadDefinition (codes "v") (held (word (codes "attributes")))
-    ∷ reply.BadDefinition (codes "v") (held (indexes_are (num 1)))
-    ∷ reply.BadDefinition (codes "v") (held (indexes_are (word (codes "key"))))
-    ∷ reply.BadDefinition (codes "v") (held (indexes_are (num 2)))
-    ∷ reply.BadDefinition (codes "v") (held (pair (atom (codes "record_name")) (atom (codes "w"))))
+    ∷ reply.BadDefinition (codes "v") (term_value (kind_is (codes "set")))
+    ∷ reply.BadDefinition (codes "v") (term_value (word (codes "attributes")))
+    ∷ reply.BadDefinition (codes "v") (term_value (indexes_are (num 1)))
+    ∷ reply.BadDefinition (codes "v") (term_value (indexes_are (word (codes "key"))))
+    ∷ reply.BadDefinition (codes "v") (term_value (indexes_are (num 2)))
+    ∷ reply.BadDefinition (codes "v") (term_value (pair (atom (codes "record_name")) (atom (codes "w"))))
     ∷ reply.AtomicOk
-    ∷ reply.TableInfo (info.Index (numbers (3 ∷ []))) ∷ reply.TableInfo (info.Attributes (names (codes "key" ∷ codes "val" ∷ []))) ∷ reply.TableInfo (info.Kind Set) ∷ reply.TableInfo (info.Size 0) ∷ reply.SubNoTable (codes "w") ∷ []
+    ∷ reply.TableInfo (info.Index (numbers (3 ∷ []))) ∷ reply.TableInfo (info.Attributes (names (codes "key" ∷ codes "val" ∷ []))) ∷ reply.TableInfo (info.Kind Set) ∷ reply.TableInfo (info.Size 0) ∷ reply.UnknownTable (codes "w") ∷ []
 unfolding outcome canon int_contents
 row_options = refl
 
@@ -235,7 +235,7 @@ row_waiting_session = refl
 
 -- refusals outside a transaction, and of sessions that have not joined or join again
 pub row_refusals : told_in (joins 2 ∷ creates 2 (codes "t") none ∷ reads 2 (codes "t") 1 ∷ commits 2 ∷ call 2 Retry ∷ begins 9 ∷ joins 2 ∷ joins 1 ∷ call 2 Leave ∷ call 2 Leave ∷ joins 2 ∷ joins 3 ∷ begins 3 ∷ creates 3 (codes "u") none ∷ call 3 (DoCommand (command.Unsubscribe (codes "t") Simple)) ∷ subscribes 3 (codes "v") ∷ [])
-    ≡ reply.Done ∷ reply.AtomicOk ∷ reply.NoTransaction ∷ reply.NoTransaction ∷ reply.NotWaiting ∷ reply.BadSession ∷ reply.BadSession ∷ reply.BadSession ∷ reply.Done ∷ reply.BadSession ∷ reply.BadSession ∷ reply.Done ∷ reply.Tid 1 ∷ reply.InTransaction ∷ reply.NotSubscribed (codes "t") ∷ reply.SubNoTable (codes "v") ∷ []
+    ≡ reply.Done ∷ reply.AtomicOk ∷ reply.NoTransaction ∷ reply.NoTransaction ∷ reply.NotWaiting ∷ reply.BadSession ∷ reply.BadSession ∷ reply.BadSession ∷ reply.Done ∷ reply.BadSession ∷ reply.BadSession ∷ reply.Done ∷ reply.Tid 1 ∷ reply.InTransaction ∷ reply.NotSubscribed (codes "t") ∷ reply.UnknownTable (codes "v") ∷ []
 unfolding outcome canon int_contents
 row_refusals = refl
 
@@ -246,7 +246,7 @@ pub row_schema : told_in (joins 1 ∷ creates 1 (codes "t") none
     ∷ begins 1 ∷ writes 1 (codes "t") 1 (codes "a") ∷ does 1 (op.IndexRead (codes "t") (is.Atom (codes "a")) (is.Int (pos 3)))
     ∷ begins 1 ∷ does 1 (op.Write (is.Tuple (one_more (atom (codes "t")) (one_more (num 1) none)))) ∷ reads 1 (codes "t") 1 ∷ does 1 (op.ReadForWrite (codes "t") (is.Int (pos 2))) ∷ does 1 (op.ReadLockTable (codes "t")) ∷ commits 1
     ∷ call 1 (DoCommand (command.Schema (DelIndex (codes "t") (is.Atom (codes "val"))))) ∷ [])
-    ≡ reply.Done ∷ reply.AtomicOk ∷ reply.BadDefinition (codes "t") (held (indexes_are (word (codes "key")))) ∷ reply.NoIndex (codes "t") (is.Atom (codes "val")) ∷ reply.AtomicOk ∷ reply.BadDefinition (codes "t") (held (indexes_are (num 3)))
+    ≡ reply.Done ∷ reply.AtomicOk ∷ reply.BadDefinition (codes "t") (term_value (indexes_are (word (codes "key")))) ∷ reply.NoIndex (codes "t") (is.Atom (codes "val")) ∷ reply.AtomicOk ∷ reply.BadDefinition (codes "t") (term_value (indexes_are (num 3)))
     ∷ reply.Tid 1 ∷ reply.Done ∷ reply.Found (plain_terms (rec (codes "t") 1 (codes "a") ∷ [])) ∷ reply.Tid 1 ∷ reply.BadType (codes "t") (is.Tuple (one_more (atom (codes "t")) (one_more (num 1) none)))
     ∷ reply.Found (plain_terms (rec (codes "t") 1 (codes "a") ∷ [])) ∷ reply.Found none ∷ reply.Done ∷ reply.Atomic 1 ∷ reply.AtomicOk ∷ []
 unfolding outcome canon int_contents
@@ -282,7 +282,7 @@ other_tag = refl
 pub detailed_tag : change_of (event (five (atom (codes "delete_object")) (atom (codes "t")) (rec (codes "t") 1 (codes "a")) (list none) (tid 1))) ≡ None
 detailed_tag = refl
 
-pub record_deleted : change_of (event (five (atom (codes "delete")) (atom (codes "t")) (rec (codes "t") 1 (codes "a")) (list none) (tid 7))) ≡ Some (change.DeleteObject (held (rec (codes "t") 1 (codes "a"))))
+pub record_deleted : change_of (event (five (atom (codes "delete")) (atom (codes "t")) (rec (codes "t") 1 (codes "a")) (list none) (tid 7))) ≡ Some (change.DeleteObject (term_value (rec (codes "t") 1 (codes "a"))))
 record_deleted = refl
 
 pub key_deleted : change_of (event (triple (atom (codes "delete")) (pair (atom (codes "t")) (num 2)) (tid 1))) ≡ Some (change.Delete (codes "t") (is.Int (pos 2)))

@@ -82,19 +82,19 @@ after_undo k (reply.UserAbort reason) = caller_with_move k Undo None
 after_undo k r = k
 
 -- what a caller knows after a command of its own; schema commands, table_info and subscriptions change nothing
-abbrev pub hears_command : Caller → Command → Reply → Caller
-hears_command k command.Begin r = after_begin k r
-hears_command k command.Commit r = after_close k r
-hears_command k (command.Abort reason) r = after_undo k r
-hears_command k (command.Do o) r = after_operation k o r (kind_of r)
-hears_command k (command.OneShot parts retries) r = after_begin k r
-hears_command k c r = k
+abbrev pub caller_after_command : Caller → Command → Reply → Caller
+caller_after_command k command.Begin r = after_begin k r
+caller_after_command k command.Commit r = after_close k r
+caller_after_command k (command.Abort reason) r = after_undo k r
+caller_after_command k (command.Do o) r = after_operation k o r (kind_of r)
+caller_after_command k (command.OneShot parts retries) r = after_begin k r
+caller_after_command k c r = k
 
 -- what a caller knows after one step of its own
-abbrev pub hears : Caller → Ask → Reply → Caller
-hears k Retry r = after_answer k r (kind_of r) k.queued
-hears k (DoCommand c) r = hears_command k c r
-hears k a r = k
+abbrev pub caller_after_step : Caller → Ask → Reply → Caller
+caller_after_step k Retry r = after_answer k r (kind_of r) k.queued
+caller_after_step k (DoCommand c) r = caller_after_command k c r
+caller_after_step k a r = k
 
 -- the entry of an outermost commit, where its reply says that it is done
 abbrev pub commit_entry : ℕ → List ℕ → Caller → Reply → Option Entry
@@ -238,7 +238,7 @@ abbrev pub Callers : Type 0
 Callers = ℕ → Caller
 
 -- what callers can tell together: what each knows, the log, the queue, the next age, the posts
-pub record Hearsay : Type 0 where
+pub record Observation : Type 0 where
   pub callers : Callers
   pub log : List Entry
   pub queue : List Queued
@@ -246,8 +246,8 @@ pub record Hearsay : Type 0 where
   pub posts : ℕ → Post
 
 -- before all calls
-abbrev pub silence : Hearsay
-silence = record {
+abbrev pub no_observation : Observation
+no_observation = record {
   callers = λ m. newcomer;
   log = [];
   queue = [];
@@ -256,16 +256,16 @@ silence = record {
 }
 
 -- the entry that a call adds, read off its reply and what its caller knows
-abbrev pub entry_of_call : Hearsay → Call → Reply → Option Entry
+abbrev pub entry_of_call : Observation → Call → Reply → Option Entry
 entry_of_call h c r = entry_of_step c.session c.over (h.callers c.session) c.ask r
 
 -- after one call and its reply, of which the asker's caller alone learns
-abbrev pub hear : Hearsay → Call → Reply → Hearsay
-hear h c r =
+abbrev pub observe : Observation → Call → Reply → Observation
+observe h c r =
     let caller = h.callers c.session in
     let entry = entry_of_call h c r in
     record {
-      callers = λ m. if m == c.session then hears caller c.ask r else h.callers m;
+      callers = λ m. if m == c.session then caller_after_step caller c.ask r else h.callers m;
       log = h.log ++ entries entry;
       queue = queue_after_step c.session caller c.ask r h.queue;
       next_age = age_after_step caller c.ask r h.next_age;
@@ -274,24 +274,24 @@ hear h c r =
     }
 
 -- after calls that were answered so
-abbrev pub hear_all : Hearsay → List Call → List Reply → Hearsay
-hear_all h [] rs = h
-hear_all h (c ∷ cs) [] = h
-hear_all h (c ∷ cs) (r ∷ rs) = hear_all (hear h c r) cs rs
+abbrev pub observe_all : Observation → List Call → List Reply → Observation
+observe_all h [] rs = h
+observe_all h (c ∷ cs) [] = h
+observe_all h (c ∷ cs) (r ∷ rs) = observe_all (observe h c r) cs rs
 
 -- what the callers of a schedule can tell of it
-abbrev pub hearsay_of : Limits → List Call → Hearsay
-hearsay_of limits calls = hear_all silence calls (replies_of (new limits) calls)
+abbrev pub observation_of : Limits → List Call → Observation
+observation_of limits calls = observe_all no_observation calls (replies_of (new limits) calls)
 
 -- each open transaction is what its caller knows, each queued operation the one that its caller was last told to wait for
-pub record AreHeard (σ : State) (ks : Callers) : Type 0 where
+pub record AreObserved (σ : State) (ks : Callers) : Type 0 where
   pub known : (n : ℕ) (t : Transaction) → transaction_at σ n ≡ Some t → (ks n).transaction ≡ t
   pub waits : (n : ℕ) (q : Queued) → request_in σ.queue n ≡ Some q → (ks n).queued ≡ Some q.operation
   pub aged : (n : ℕ) → (ks n).transaction.age < σ.next_age
 
 -- a state is as callers tell it
-pub record IsAsTold (σ : State) (h : Hearsay) : Type 0 where
-  pub callers : AreHeard σ h.callers
+pub record IsAsObserved (σ : State) (h : Observation) : Type 0 where
+  pub callers : AreObserved σ h.callers
   pub commits : σ.commits ≡ commits_from 0 h.log
   pub queue : σ.queue ≡ h.queue
   pub next_age : σ.next_age ≡ h.next_age
@@ -301,5 +301,5 @@ pub record IsAsTold (σ : State) (h : Hearsay) : Type 0 where
       → s.outbox.refusals ≡ (h.posts n).refusals
 
 -- a reply that says nothing was done: nothing that callers can tell changes, whoever asked what
-abbrev pub IsUnheard : Reply → Type 0
-IsUnheard r = (h : Hearsay) (c : Call) → hear h c r ≡ h
+abbrev pub IsUnobserved : Reply → Type 0
+IsUnobserved r = (h : Observation) (c : Call) → observe h c r ≡ h

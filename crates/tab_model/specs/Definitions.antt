@@ -77,19 +77,19 @@ is_value tab n x =
     || (bytes_eq n (codes "ram_copies") && is_list x) || (bytes_eq n (codes "record_name") && same x (atom tab))
 
 -- the name of a term that is an option
-abbrev pub named : List ℕ → PlainTerm → PlainTerm → Option (List ℕ)
-named tab (atom n) x = if is_value tab n x then Some n else None
-named tab (int z) x = None
-named tab (tuple ts) x = None
-named tab (list ts) x = None
-named tab (bin b) x = None
-named tab (map ps) x = None
+abbrev pub name_of_option : List ℕ → PlainTerm → PlainTerm → Option (List ℕ)
+name_of_option tab (atom n) x = if is_value tab n x then Some n else None
+name_of_option tab (int z) x = None
+name_of_option tab (tuple ts) x = None
+name_of_option tab (list ts) x = None
+name_of_option tab (bin b) x = None
+name_of_option tab (map ps) x = None
 
 -- the name of the option that a tuple of these elements is: two elements, a name and a value that it may have
 abbrev pub option_of_two : List ℕ → PlainTerms → Option (List ℕ)
 option_of_two tab none = None
 option_of_two tab (one_more a none) = None
-option_of_two tab (one_more a (one_more b none)) = named tab a b
+option_of_two tab (one_more a (one_more b none)) = name_of_option tab a b
 option_of_two tab (one_more a (one_more b (one_more c ts))) = None
 
 -- the name of the option that a term is; none where it is no option

@@ -44,8 +44,8 @@ survivors cur saved (Close ∷ xs) (r ∷ rs) = survivors cur (drop_level saved)
 survivors cur saved (Undo ∷ xs) (r ∷ rs) = survivors (top_level saved) (drop_level saved) xs rs
 
 -- those of a whole transaction
-abbrev pub surviving : List Move → List (Option Reply) → List Change
-surviving xs rs = survivors [] [] xs rs
+abbrev pub surviving_changes : List Move → List (Option Reply) → List Change
+surviving_changes xs rs = survivors [] [] xs rs
 
 -- the event of a change, with the records of its key just before
 abbrev pub event_of : Catalog → ℕ → Change → Event

@@ -9,7 +9,7 @@ use Rattle.tab_model.specs.declared.data.Entry.{Entry}
 use Rattle.tab_model.specs.declared.data.Entry.TheVariants.{Committed, Changed, Subscribed, Unsubscribed}
 use Rattle.tab_model.specs.Catalogs.{Catalog}
 use Rattle.tab_model.specs.declared.data.Schema.{Schema}
-use Rattle.tab_model.specs.Events.{surviving, change_all}
+use Rattle.tab_model.specs.Events.{surviving_changes, change_all}
 use Rattle.tab_model.specs.Schemas.{removed_table, schema_refusal, schema_effect}
 use Rattle.tab_model.specs.Log.{serial_from, in_force_from, is_removed, has_session, IsLegal}
 use Rattle.tab_model.specs.Slices.{expected_on}
@@ -83,7 +83,7 @@ after_schema w c = if is_some (schema_refusal w c) then w else schema_effect w c
 
 -- the tables after one entry, read off what it was told: its surviving updates, or its schema command
 abbrev pub tables_after : Catalog → Entry → Catalog
-tables_after w (Committed n s age ms rs over) = change_all w (surviving ms rs)
+tables_after w (Committed n s age ms rs over) = change_all w (surviving_changes ms rs)
 tables_after w (Changed c over) = after_schema w c
 tables_after w (Subscribed s t l dump) = w
 tables_after w (Unsubscribed s t) = w

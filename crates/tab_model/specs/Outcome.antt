@@ -29,7 +29,7 @@ use Rattle.tab_model.specs.Names.{names, numbers}
 use Rattle.tab_model.specs.Catalogs.{Table, find}
 use Rattle.tab_model.specs.Alone.{Mid, reply_to}
 use Rattle.tab_model.specs.Operations.{failure}
-use Rattle.tab_model.specs.Events.{events, surviving}
+use Rattle.tab_model.specs.Events.{events, surviving_changes}
 use Rattle.tab_model.specs.Locks.{needs}
 use Rattle.tab_model.specs.Ages.{Answer, Granted, Wait, Die, decide, can_retry}
 use Rattle.tab_model.specs.Schemas.{table_of_schema, schema_refusal, schema_effect, removed_table}
@@ -255,7 +255,7 @@ commit_now σ over s transaction es =
 
 -- the events that a commit would give
 abbrev pub events_now : State → Transaction → List Event
-events_now σ transaction = events σ.tables transaction.age (surviving transaction.moves transaction.told)
+events_now σ transaction = events σ.tables transaction.age (surviving_changes transaction.moves transaction.told)
 
 -- a commit of the innermost level: the outermost, or a child's, which is a move of the transaction
 abbrev pub commit : State → List ℕ → Session → Option Transaction → Outcome
@@ -323,7 +323,7 @@ info_at t item.Size = reply.TableInfo (info.Size (length t.rows))
 
 -- the reply to table_info; a refusal where there is no table
 abbrev pub table_info : List ℕ → InfoItem → Option Table → Reply
-table_info n i None = reply.SubNoTable n
+table_info n i None = reply.UnknownTable n
 table_info n i (Some t) = info_at t i
 
 -- ---- subscriptions
@@ -354,7 +354,7 @@ put_marker σ false s ws x e =
 abbrev pub subscribe_refusals : State → Session → List ℕ → List (Option Reply)
 subscribe_refusals σ s t =
     refusal_if (is_some s.overflow) reply.OverflowUntold
-    ∷ refusal_if (not (is_some (find σ.tables t))) (reply.SubNoTable t)
+    ∷ refusal_if (not (is_some (find σ.tables t))) (reply.UnknownTable t)
     ∷ refusal_if (is_some (level_in s.watching t)) (reply.AlreadySubscribed t)
     ∷ []
 

@@ -11,7 +11,7 @@ use Rattle.tab_model.specs.declared.data.Reply.{Reply}
 use Rattle.tab_model.specs.declared.data.Reply.TheVariants as reply
 use Rattle.tab_model.specs.Definitions.{position, is_indexed, add_number, less_number, with_indexes, Parsed, Good, Bad, parse_options}
 use Rattle.tab_model.specs.Catalogs.{Catalog, Table, find, place, without, with_def}
-use Rattle.tab_model.specs.Shapes.{held}
+use Rattle.tab_model.specs.Shapes.{term_value}
 
 -- the table that a schema command names
 abbrev pub table_of_schema : Schema → List ℕ
@@ -28,7 +28,7 @@ is_some_position (Some p) = true
 -- the refusal of a new table for its options' first fault, if they have one
 abbrev pub bad_parse : List ℕ → Parsed → Option Reply
 bad_parse t (Good def) = None
-bad_parse t (Bad what) = Some (reply.BadDefinition t (held what))
+bad_parse t (Bad what) = Some (reply.BadDefinition t (term_value what))
 
 -- the refusals of a schema command on a catalog, but for locks and limits
 -- what refuses a new table: one of that name, or its options' first fault
@@ -46,7 +46,7 @@ abbrev pub add_refusal : List ℕ → Term → Option Table → Option Reply
 add_refusal t a None = Some (reply.NoTable t)
 add_refusal t a (Some x) =
     if not (is_some_position (position x.def (term a))) || is_indexed x.def (position x.def (term a))
-    then Some (reply.BadDefinition t (held (pair (atom (codes "index")) (term a)))) else None
+    then Some (reply.BadDefinition t (term_value (pair (atom (codes "index")) (term a)))) else None
 
 -- what refuses to take an index away: no such table, or no index there
 abbrev pub del_refusal : List ℕ → Term → Option Table → Option Reply

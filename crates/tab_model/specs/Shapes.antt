@@ -15,13 +15,13 @@ use Rattle.tab_model.specs.Operations.{table_of_change}
 pub use Rattle.tab_lists.specs.EventTerms.{tid, five}
 
 -- the value of the program that a term is
-abbrev pub held : PlainTerm → Term
-held (int z) = is.Int z
-held (atom s) = is.Atom s
-held (tuple ts) = is.Tuple ts
-held (list ts) = is.List ts
-held (bin b) = is.Bin b
-held (map ps) = is.Map ps
+abbrev pub term_value : PlainTerm → Term
+term_value (int z) = is.Int z
+term_value (atom s) = is.Atom s
+term_value (tuple ts) = is.Tuple ts
+term_value (list ts) = is.List ts
+term_value (bin b) = is.Bin b
+term_value (map ps) = is.Map ps
 
 -- the simple terms
 abbrev pub simple : Change → ℕ → PlainTerm
@@ -30,15 +30,15 @@ simple (change.Delete t k) age = triple (atom (codes "delete")) (pair (atom t) (
 simple (change.DeleteObject r) age = triple (atom (codes "delete_object")) (term r) (tid age)
 
 -- the detailed terms
-abbrev pub detailed : Change → List ℕ → PlainTerms → ℕ → PlainTerm
-detailed (change.Write r) t old age = five (atom (codes "write")) (atom t) (term r) (list old) (tid age)
-detailed (change.Delete t' k) t old age = five (atom (codes "delete")) (atom t) (pair (atom t') (term k)) (list old) (tid age)
-detailed (change.DeleteObject r) t old age = five (atom (codes "delete")) (atom t) (term r) (list old) (tid age)
+abbrev pub detailed_term : Change → List ℕ → PlainTerms → ℕ → PlainTerm
+detailed_term (change.Write r) t old age = five (atom (codes "write")) (atom t) (term r) (list old) (tid age)
+detailed_term (change.Delete t' k) t old age = five (atom (codes "delete")) (atom t) (pair (atom t') (term k)) (list old) (tid age)
+detailed_term (change.DeleteObject r) t old age = five (atom (codes "delete")) (atom t) (term r) (list old) (tid age)
 
 -- the second element of an event's term, which tells the change at a level
 abbrev pub body : Level → Event → PlainTerm
 body Simple e = simple e.change e.age
-body Detailed e = detailed e.change e.tab e.old e.age
+body Detailed e = detailed_term e.change e.tab e.old e.age
 
 -- an event's term at a level
 abbrev pub shape : Level → Event → PlainTerm
@@ -59,20 +59,20 @@ is_id x = false
 
 -- the write of a record; none where the term is no record
 abbrev pub write_in : PlainTerm → Option Change
-write_in x = if is_record x then Some (change.Write (held x)) else None
+write_in x = if is_record x then Some (change.Write (term_value x)) else None
 
 -- the deletion of a record; none where the term is no record
 abbrev pub object_deletion_in : PlainTerm → Option Change
-object_deletion_in x = if is_record x then Some (change.DeleteObject (held x)) else None
+object_deletion_in x = if is_record x then Some (change.DeleteObject (term_value x)) else None
 
 -- `{Tab, Key}`
 abbrev pub key_deletion_in : PlainTerm → Option Change
-key_deletion_in (tuple (one_more (atom t) (one_more k none))) = Some (change.Delete t (held k))
+key_deletion_in (tuple (one_more (atom t) (one_more k none))) = Some (change.Delete t (term_value k))
 key_deletion_in x = None
 
 -- a deletion of a key has arity 2, a record 3 or more
 abbrev pub deletion_in : PlainTerm → Option Change
-deletion_in (tuple (one_more (atom t) (one_more k none))) = Some (change.Delete t (held k))
+deletion_in (tuple (one_more (atom t) (one_more k none))) = Some (change.Delete t (term_value k))
 deletion_in x = object_deletion_in x
 
 -- the change where it is made in the table; none where it is made in another

@@ -12,9 +12,9 @@ use Rattle.tab_model.specs.declared.data.Item.TheVariants.{Began, Batch, Ended}
 use Rattle.tab_model.specs.Names.{terms_list}
 use Rattle.tab_model.specs.Shapes.{change_of}
 use Rattle.tab_model.specs.Operations.{table_of_change}
-use Rattle.tab_model.specs.Events.{surviving}
+use Rattle.tab_model.specs.Events.{surviving_changes}
 use Rattle.tab_model.specs.Schemas.{removed_table}
-use Rattle.tab_model.specs.Tables.{Rows, applied}
+use Rattle.tab_model.specs.Tables.{Rows, rows_after}
 use Rattle.tab_model.specs.Catalogs.{Catalog, Table, find}
 use Rattle.tab_model.specs.Log.{has_session, is_removed, catalog_after, serial}
 use Rattle.tab_model.specs.Slices.{dump_of, slice_after}
@@ -25,7 +25,7 @@ is_of t c = bytes_eq (table_of_change c) t
 
 -- the changes that one entry made to a table, in order (this project's own rule: one for each update that survived)
 abbrev pub changes_in : List ℕ → Entry → List Change
-changes_in t (Committed n s age xs rs over) = filter (is_of t) (surviving xs rs)
+changes_in t (Committed n s age xs rs over) = filter (is_of t) (surviving_changes xs rs)
 changes_in t (Changed c over) = []
 changes_in t (Subscribed s u l dump) = []
 changes_in t (Unsubscribed s u) = []
@@ -109,11 +109,11 @@ AllAged [] = Unit {0}
 AllAged (e ∷ es) = HasAge e × AllAged es
 
 -- a table's rows are those of it at the beginning of a subscription that stands, with the changes since applied: those of
--- the log, and those that the items due since the begin marker tell; and so are the records of its dump, where the mark has one
+-- the log, and those that the items due since the begin marker tell; and so are the records of its dump, where the marker has one
 pub record RowsSince (s : ℕ) (t : List ℕ) (l : Level) (log : List Entry) (rows : Rows) : Type 0 where
   pub subscription : IsInForceSince s t l log
   pub table : Table
   pub stood : find (serial subscription.earlier) t ≡ Some table
-  pub now : rows ≡ applied table.def.kind table.rows (changes_on t subscription.since)
-  pub told : rows ≡ applied table.def.kind table.rows (changes_in_items t (slice_after s (subscription.earlier ++ Subscribed s t l subscription.dump ∷ []) subscription.since))
-  pub dumped : (records : PlainTerms) → dump_of (serial subscription.earlier) t subscription.dump ≡ Some records → rows ≡ applied table.def.kind (terms_list records) (changes_on t subscription.since)
+  pub now : rows ≡ rows_after table.def.kind table.rows (changes_on t subscription.since)
+  pub told : rows ≡ rows_after table.def.kind table.rows (changes_in_items t (slice_after s (subscription.earlier ++ Subscribed s t l subscription.dump ∷ []) subscription.since))
+  pub dumped : (records : PlainTerms) → dump_of (serial subscription.earlier) t subscription.dump ≡ Some records → rows ≡ rows_after table.def.kind (terms_list records) (changes_on t subscription.since)

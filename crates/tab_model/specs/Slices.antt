@@ -1,4 +1,4 @@
--- The items that a log owes to each session (this project's own: batches, marks and overflow).
+-- The items that a log owes to each session (this project's own: batches, markers and overflow).
 use Rattle.std.specs.Prelude.{ℕ, List, [], ◌∷◌, ◌++◌, Bool, true, false, ◌==◌, if◌then◌else◌, Option, Some, None, filter_map}
 use Rattle.tab_term.specs.Data.{PlainTerm, PlainTerms}
 use Rattle.tab_model.specs.declared.data.Level.{Level}
@@ -10,7 +10,7 @@ use Rattle.tab_model.specs.declared.data.Entry.{Entry}
 use Rattle.tab_model.specs.declared.data.Entry.TheVariants.{Committed, Changed, Subscribed, Unsubscribed}
 use Rattle.tab_model.specs.Names.{plain_terms}
 use Rattle.tab_model.specs.Catalogs.{Catalog, rows_of}
-use Rattle.tab_model.specs.Events.{events, surviving}
+use Rattle.tab_model.specs.Events.{events, surviving_changes}
 use Rattle.tab_model.specs.Shapes.{shape}
 use Rattle.tab_model.specs.Schemas.{removed_table}
 use Rattle.tab_model.specs.Log.{serial, in_force, has_session}
@@ -52,7 +52,7 @@ unless_over false items = items
 -- what an entry owes to a session that has these levels, on the tables before it
 abbrev pub expected_on : Catalog → (List ℕ → Option Level) → ℕ → Entry → List Item
 expected_on w levels s (Committed n x age xs rs over) =
-    unless_over (has_session over s) (batch_for levels n (events w age (surviving xs rs)))
+    unless_over (has_session over s) (batch_for levels n (events w age (surviving_changes xs rs)))
 expected_on w levels s (Changed c over) =
     unless_over (has_session over s) (end_for levels (removed_table c))
 expected_on w levels s (Subscribed x t l dump) =
@@ -60,13 +60,13 @@ expected_on w levels s (Subscribed x t l dump) =
 expected_on w levels s (Unsubscribed x t) = if x == s then Ended t ending.Unsubscribed ∷ [] else []
 
 -- what an entry owes to a session, after the log before it
-abbrev pub expected : ℕ → List Entry → Entry → List Item
-expected s log e = expected_on (serial log) (in_force s log) s e
+abbrev pub expected_items : ℕ → List Entry → Entry → List Item
+expected_items s log e = expected_on (serial log) (in_force s log) s e
 
 -- what the second log owes to a session, in order, where the first log came before it
 abbrev pub slice_after : ℕ → List Entry → List Entry → List Item
 slice_after s log [] = []
-slice_after s log (e ∷ es) = expected s log e ++ slice_after s (log ++ e ∷ []) es
+slice_after s log (e ∷ es) = expected_items s log e ++ slice_after s (log ++ e ∷ []) es
 
 -- all that a log owes to a session, in order
 abbrev pub slice : ℕ → List Entry → List Item

@@ -68,9 +68,9 @@ apply kind rows (change.Delete t k) = delete rows (term k)
 apply kind rows (change.DeleteObject r) = delete_object rows (term r)
 
 -- the rows after changes, in turn
-abbrev pub applied : Kind → Rows → List Change → Rows
-applied kind rows [] = rows
-applied kind rows (c ∷ cs) = applied kind (apply kind rows c) cs
+abbrev pub rows_after : Kind → Rows → List Change → Rows
+rows_after kind rows [] = rows
+rows_after kind rows (c ∷ cs) = rows_after kind (apply kind rows c) cs
 
 -- these records put one by one among those, which are in canonical order
 abbrev pub whole_onto : Rows → Rows → Rows

@@ -141,7 +141,6 @@ pub enum Limit {
     Operations,
     Tables,
     Ages,
-    Journal,
 }
 
 /// The limits of a core: how many sessions may be joined at once, levels of a transaction, operations and child begins of
@@ -183,7 +182,7 @@ pub enum Reply {
     AlreadyExists(Atom),
     Locked(Atom),
     BadDefinition(Atom, Term),
-    SubNoTable(Atom),
+    UnknownTable(Atom),
     AlreadySubscribed(Atom),
     NotSubscribed(Atom),
     OutboxFull,
@@ -318,7 +317,7 @@ impl Drop for Reply {
             Reply::NoTable(name)
             | Reply::AlreadyExists(name)
             | Reply::Locked(name)
-            | Reply::SubNoTable(name)
+            | Reply::UnknownTable(name)
             | Reply::AlreadySubscribed(name)
             | Reply::NotSubscribed(name) => drop(name),
             Reply::BadType(name, term)

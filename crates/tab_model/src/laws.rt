@@ -26,17 +26,17 @@ ghost use Rattle.tab_model.specs.declared.data.Reply.TheVariants as reply;
 ghost use Rattle.tab_model.specs.declared.data.Schema.{Schema};
 ghost use Rattle.tab_model.specs.declared.data.Command.TheVariants as command;
 ghost use Rattle.tab_model.specs.Names.{terms_list};
-ghost use Rattle.tab_model.specs.Tables.{Rows, key, at, apply, applied, is_ordered, SameTable};
+ghost use Rattle.tab_model.specs.Tables.{Rows, key, at, apply, rows_after, is_ordered, SameTable};
 ghost use Rattle.tab_model.specs.Operations.{key_of_change};
 ghost use Rattle.tab_model.specs.Catalogs.{Catalog, Table, find, rows_of, IsOrderedCatalog};
 ghost use Rattle.tab_model.specs.Alone.{start, after, replies};
-ghost use Rattle.tab_model.specs.Events.{is_failure, surviving, events, change_all};
+ghost use Rattle.tab_model.specs.Events.{is_failure, surviving_changes, events, change_all};
 ghost use Rattle.tab_model.specs.Locks.{locks_of, Apart};
 ghost use Rattle.tab_model.specs.Shapes.{shape, change_of, IsShaped, ShapesChange};
 ghost use Rattle.tab_model.specs.Ages.{Ages, Owned, Granted, Wait, Die, Covered, Opposed, OpposedByOlder, OpposedBefore, Rises, decide, after_request, can_retry, after_retry, request_of, forget, Chain, last_of};
 ghost use Rattle.tab_model.specs.Log.{catalog_after, serial, serial_from, level_after, in_force, IsRight, IsLegal, commits_from};
 ghost use Rattle.tab_model.specs.Since.{changes_on, changes_in_items, is_deletion_of, IsInForceSince, AllWereInForce, AllAged, RowsSince};
-ghost use Rattle.tab_model.specs.Slices.{dump_of, expected, slice, slice_after};
+ghost use Rattle.tab_model.specs.Slices.{dump_of, expected_items, slice, slice_after};
 ghost use Rattle.tab_model.specs.History.{Base, empty, level_at, in_force_since, expected_since, slice_since, slice_since_after, IsHistory, tables_after, after_fold, Admits, without_subscriber};
 ghost use Rattle.tab_model.specs.State.{State, Session, Transaction, Queued, Outbox, new, session_at, transaction_at, request_in, ages_of, age_at, moves_at, replies_at, level_in, IsSound};
 ghost use Rattle.tab_model.specs.Reached.{IsRising};
@@ -44,7 +44,7 @@ ghost use Rattle.tab_model.specs.Outcome.{Ask, Join, Leave, Retry, Take, DoComma
 ghost use Rattle.tab_model.specs.Refusals.{AsBefore, effect_of_reply, with_count, request_of_ask, with_requests, transaction_anew, with_restart, IsRestart, EndsLevel, IsSole, LeavesAll};
 ghost use Rattle.tab_model.specs.Run.{Call, AllJoinEmpty, Begins, leave_call, JoinsEmpty, IsTied, outcome_of, after_all, log_of, delivered_to, entries, delivered_by};
 ghost use Rattle.tab_model.specs.Standing.{EndsTransaction, JoinsChannel, MayFollow, FollowsLog, still_joined, may_enter};
-ghost use Rattle.tab_model.specs.Callers.{Hearsay, silence, entry_of_call, hear, hearsay_of, AreHeard, IsAsTold, IsUnheard};
+ghost use Rattle.tab_model.specs.Callers.{Observation, no_observation, entry_of_call, observe, observation_of, AreObserved, IsAsObserved, IsUnobserved};
 
 /// For every schedule of steps: commits are numbered in order and were told what they are told alone in that order;
 /// the tables are those of running them so; each open transaction was told what it is told alone on the tables as they
@@ -68,7 +68,7 @@ pub fn every_schedule()
     ensures stood { (limits : Limits) (calls : List Call) → AllJoinEmpty calls
         → AllWereInForce [] (log_of (new limits) calls) }
     ensures aged { (limits : Limits) (calls : List Call) → AllAged (log_of (new limits) calls) }
-    ensures applied { (limits : Limits) (calls : List Call) (n : ℕ) (s : Session) (t : List ℕ)
+    ensures rows_after { (limits : Limits) (calls : List Call) (n : ℕ) (s : Session) (t : List ℕ)
         (l : Level) → AllJoinEmpty calls
         → session_at (after_all (new limits) calls).sessions n ≡ Some s
         → level_in s.watching t ≡ Some l
@@ -81,29 +81,29 @@ pub fn every_schedule()
 /// right on the tables as they are now; each queued operation is the one that its caller was last told to wait for. The queue
 /// is the operations told to wait that were not answered since, dropped by an abort or left; the number of commits is the
 /// log's; the next age is one more than the outermost begins. An overflow that a session was not told yet is its last one, with the number of its commit or, where
-/// the mark of a deletion was refused, of the next commit; a Take that is told an overflow is told that one. A post's refusals
-/// are those of its own puts: as many as it was handed in with, and one more, up to the greatest 64 bit number, for each mark
+/// the marker of a deletion was refused, of the next commit; a Take that is told an overflow is told that one. A post's refusals
+/// are those of its own puts: as many as it was handed in with, and one more, up to the greatest 64 bit number, for each marker
 /// that its session is told doesn't fit, and for each overflow. Each step keeps what callers know, and its entry is the one
 /// that its caller tells.
-#[tactic(auto, using(crate::proofs::CallersLemmas::new_heard, crate::proofs::CallersLemmas::schedule_log, crate::proofs::CallersLemmas::schedule_heard_legal, crate::proofs::CallersLemmas::schedule_heard_told, crate::proofs::CallersPosts::schedule_told_overflow))]
+#[tactic(auto, using(crate::proofs::CallersLemmas::new_observed, crate::proofs::CallersLemmas::schedule_log, crate::proofs::CallersLemmas::schedule_observed_legal, crate::proofs::CallersLemmas::schedule_observed_told, crate::proofs::CallersPosts::schedule_told_overflow))]
 pub fn callers_tell_the_log()
     ensures log { (limits : Limits) (calls : List Call) →
-        log_of (new limits) calls ≡ (hearsay_of limits calls).log }
+        log_of (new limits) calls ≡ (observation_of limits calls).log }
     ensures legal { (limits : Limits) (calls : List Call) → AllJoinEmpty calls →
-        IsLegal [] 0 (hearsay_of limits calls).log }
+        IsLegal [] 0 (observation_of limits calls).log }
     ensures state { (limits : Limits) (calls : List Call) →
-        IsAsTold (after_all (new limits) calls) (hearsay_of limits calls) }
+        IsAsObserved (after_all (new limits) calls) (observation_of limits calls) }
     ensures told { (limits : Limits) (calls : List Call) (n : ℕ) (t : Transaction) →
         transaction_at (after_all (new limits) calls) n ≡ Some t →
-        let k = ((hearsay_of limits calls).callers n).transaction in
+        let k = ((observation_of limits calls).callers n).transaction in
         replies (start (after_all (new limits) calls).tables k.age) k.moves ≡ k.told }
     ensures told_overflow { (limits : Limits) (calls : List Call) (over : List ℕ) (n i : ℕ) →
         (outcome (after_all (new limits) calls) over n Take).reply ≡ reply.Overflow i →
-        ((hearsay_of limits calls).posts n).overflow ≡ Some i }
-    ensures new_heard { (limits : Limits) → AreHeard (new limits) silence.callers }
-    ensures step { (σ : State) (h : Hearsay) (c : Call) → AreHeard σ h.callers →
+        ((observation_of limits calls).posts n).overflow ≡ Some i }
+    ensures new_observed { (limits : Limits) → AreObserved (new limits) no_observation.callers }
+    ensures step { (σ : State) (h : Observation) (c : Call) → AreObserved σ h.callers →
         let r = (outcome_of σ c).reply in
-        AreHeard (outcome_of σ c).state (hear h c r).callers
+        AreObserved (outcome_of σ c).state (observe h c r).callers
         × (entry_of_call h c r ≡ (outcome_of σ c).entry) }
 {}
 
@@ -188,7 +188,7 @@ pub fn waits_have_no_cycle()
 #[tactic(auto, using(crate::proofs::SurvivorsRight::survivors_are))]
 pub fn survivors_right()
     ensures { (w : Catalog) (age : ℕ) (xs : List Move)
-        → change_all w (surviving xs (replies (start w age) xs)) ≡ (after (start w age) xs).now }
+        → change_all w (surviving_changes xs (replies (start w age) xs)) ≡ (after (start w age) xs).now }
 {}
 
 /// The changes that a legal log made to a table that stood before it and that it doesn't delete, applied to the table's
@@ -198,15 +198,15 @@ pub fn survivors_right()
 pub fn events_give_the_rows()
     ensures log { (w : Catalog) (n : ℕ) (x : Table) (t : List ℕ) (log : List Entry)
         → IsLegal w n log → find w t ≡ Some x → IsFalse (list_any (is_deletion_of t) log)
-        → rows_of (serial_from w log) t ≡ applied x.def.kind (rows_of w t) (changes_on t log) }
+        → rows_of (serial_from w log) t ≡ rows_after x.def.kind (rows_of w t) (changes_on t log) }
     ensures since { (s : ℕ) (t : List ℕ) (l : Level) (log : List Entry) (x : Table)
         → IsLegal [] 0 log → (i : IsInForceSince s t l log) → find (serial i.earlier) t ≡ Some x
         → rows_of (serial log) t
-        ≡ applied x.def.kind (rows_of (serial i.earlier) t) (changes_on t i.since) }
+        ≡ rows_after x.def.kind (rows_of (serial i.earlier) t) (changes_on t i.since) }
     ensures dump { (s : ℕ) (t : List ℕ) (l : Level) (log : List Entry) (x : Table)
         (records : PlainTerms) → IsLegal [] 0 log → (i : IsInForceSince s t l log)
         → find (serial i.earlier) t ≡ Some x → dump_of (serial i.earlier) t i.dump ≡ Some records
-        → rows_of (serial log) t ≡ applied x.def.kind (terms_list records) (changes_on t i.since) }
+        → rows_of (serial log) t ≡ rows_after x.def.kind (terms_list records) (changes_on t i.since) }
     ensures carried { (w : Catalog) (age : ℕ) (cs : List Change)
         → map (λ (e : Event). e.change) (events w age cs) ≡ cs }
 {}
@@ -220,7 +220,7 @@ pub fn a_log_with_one_entry_more()
     ensures levels { (s : ℕ) (log : List Entry) (e : Entry) (t : List ℕ)
         → in_force s (log ++ e ∷ []) t ≡ level_after s t (in_force s log t) e }
     ensures items { (s : ℕ) (log : List Entry) (e : Entry)
-        → slice s (log ++ e ∷ []) ≡ slice s log ++ expected s log e }
+        → slice s (log ++ e ∷ []) ≡ slice s log ++ expected_items s log e }
     ensures legal { (log : List Entry) (e : Entry) → IsLegal [] 0 log
         → IsRight (serial log) (commits_from 0 log) e → IsLegal [] 0 (log ++ e ∷ []) }
 {}
@@ -280,7 +280,7 @@ pub fn events_tell_their_changes()
     ensures no_other { (x : PlainTerm) (c : Change) → change_of x ≡ Some c → ShapesChange x c }
 {}
 
-/// A refusal leaves the state as it was, and so does a schema command that isn't done. A mark that the post refuses leaves
+/// A refusal leaves the state as it was, and so does a schema command that isn't done. A marker that the post refuses leaves
 /// only that post's count one higher; a wait queues the operation and nothing else; a restart leaves level 1 open, empty
 /// and of the same age, and all else as it was.
 #[tactic(auto, using(crate::proofs::RefusalLaws::as_before, crate::proofs::RefusalLaws::schema_refused, crate::proofs::RefusalLaws::refusal_counted, crate::proofs::RefusalLaws::waits_queued, crate::proofs::RefusalLaws::restarts_empty, crate::proofs::RefusalLaws::restarted_open))]
@@ -422,23 +422,23 @@ pub fn a_refusal_leaves_all()
     ensures already_exists { (t : List ℕ) → LeavesAll (reply.AlreadyExists t) }
     ensures locked { (t : List ℕ) → LeavesAll (reply.Locked t) }
     ensures bad_definition { (t : List ℕ) (what : Term) → LeavesAll (reply.BadDefinition t what) }
-    ensures no_table { (t : List ℕ) → LeavesAll (reply.SubNoTable t) }
+    ensures no_table { (t : List ℕ) → LeavesAll (reply.UnknownTable t) }
     ensures already_subscribed { (t : List ℕ) → LeavesAll (reply.AlreadySubscribed t) }
     ensures not_subscribed { (t : List ℕ) → LeavesAll (reply.NotSubscribed t) }
     ensures overflow_untold { LeavesAll reply.OverflowUntold }
 {}
 
 /// Replies that tell nothing, whatever was asked: all that callers can tell stays, with no entry.
-#[tactic(auto, using(crate::proofs::Unheard::bad_command, crate::proofs::Unheard::no_memory, crate::proofs::Unheard::bad_session, crate::proofs::Unheard::no_transaction, crate::proofs::Unheard::waiting_now, crate::proofs::Unheard::in_transaction, crate::proofs::Unheard::not_waiting, crate::proofs::Unheard::system_limit))]
-pub fn what_was_not_done_is_not_heard()
-    ensures bad_command { IsUnheard reply.BadCommand }
-    ensures no_memory { IsUnheard reply.NoMemory }
-    ensures bad_session { IsUnheard reply.BadSession }
-    ensures no_transaction { IsUnheard reply.NoTransaction }
-    ensures waiting_now { IsUnheard reply.WaitingNow }
-    ensures in_transaction { IsUnheard reply.InTransaction }
-    ensures not_waiting { IsUnheard reply.NotWaiting }
-    ensures system_limit { (l : Limit) → IsUnheard (reply.SystemLimit l) }
+#[tactic(auto, using(crate::proofs::Unobserved::bad_command, crate::proofs::Unobserved::no_memory, crate::proofs::Unobserved::bad_session, crate::proofs::Unobserved::no_transaction, crate::proofs::Unobserved::waiting_now, crate::proofs::Unobserved::in_transaction, crate::proofs::Unobserved::not_waiting, crate::proofs::Unobserved::system_limit))]
+pub fn what_was_not_done_is_not_observed()
+    ensures bad_command { IsUnobserved reply.BadCommand }
+    ensures no_memory { IsUnobserved reply.NoMemory }
+    ensures bad_session { IsUnobserved reply.BadSession }
+    ensures no_transaction { IsUnobserved reply.NoTransaction }
+    ensures waiting_now { IsUnobserved reply.WaitingNow }
+    ensures in_transaction { IsUnobserved reply.InTransaction }
+    ensures not_waiting { IsUnobserved reply.NotWaiting }
+    ensures system_limit { (l : Limit) → IsUnobserved (reply.SystemLimit l) }
 {}
 
 /// Of a session that left a base keeps nothing once it is forgotten, and all else. A folded subscription whose session has

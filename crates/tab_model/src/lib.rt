@@ -21,7 +21,7 @@ pub use laws::{
     levels_end_alone, older_wait_and_younger_die, refusals_change_nothing, replies_stay,
     steps_keep_what_holds, subscriptions_are_in_the_log, survivors_right, tables_are_lists,
     these_steps_may_enter, waits_have_no_cycle, what_a_change_leaves,
-    what_was_not_done_is_not_heard, who_leaves_has_taken_a_beginning, who_left_is_forgotten,
+    what_was_not_done_is_not_observed, who_leaves_has_taken_a_beginning, who_left_is_forgotten,
 };
 pub use lists::{Atoms, Moves, Numbers, Parts, Replies};
 pub use shared_reply::SharedReply;

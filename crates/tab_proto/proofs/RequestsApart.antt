@@ -18,7 +18,7 @@ use Rattle.tab_model.specs.declared.data.Part.{Part}
 use Rattle.tab_model.specs.declared.data.Part.TheVariants as part
 use Rattle.tab_model.specs.declared.data.Command.{Command}
 use Rattle.tab_model.specs.declared.data.Command.TheVariants as command
-use Rattle.tab_model.specs.Shapes.{held}
+use Rattle.tab_model.specs.Shapes.{term_value}
 use Rattle.tab_model.proofs.ShapeLaws.{held_term}
 use Rattle.tab_proto.specs.declared.request.Request.{Request}
 use Rattle.tab_proto.specs.declared.request.Request.TheVariants as request
@@ -37,13 +37,13 @@ name_back (atom name) = name
 name_back t = []
 
 abbrev place_back : (List ℕ → Term → Operation) → PlainTerm → Operation
-place_back f (tuple (one_more t (one_more k none))) = f (name_back t) (held k)
+place_back f (tuple (one_more t (one_more k none))) = f (name_back t) (term_value k)
 place_back f t = op.AllKeys []
 
 abbrev unary_operation : Option Unary → PlainTerm → Operation
-unary_operation (Some unary.Write) x = op.Write (held x)
-unary_operation (Some unary.DeleteObject) x = op.DeleteObject (held x)
-unary_operation (Some unary.MatchObject) x = op.MatchObject (held x)
+unary_operation (Some unary.Write) x = op.Write (term_value x)
+unary_operation (Some unary.DeleteObject) x = op.DeleteObject (term_value x)
+unary_operation (Some unary.MatchObject) x = op.MatchObject (term_value x)
 unary_operation (Some unary.ReadForWrite) x = place_back op.ReadForWrite x
 unary_operation (Some unary.Delete) x = place_back op.Delete x
 unary_operation (Some unary.ReadLockTable) x = op.ReadLockTable (name_back x)
@@ -52,20 +52,20 @@ unary_operation u x = op.AllKeys (name_back x)
 
 abbrev operation_of : PlainTerm → Operation
 operation_of (tuple (one_more (atom w) (one_more x none))) = unary_operation (unary_in w) x
-operation_of (tuple (one_more (atom w) (one_more x (one_more y none)))) = op.Read (name_back x) (held y)
-operation_of (tuple (one_more (atom w) (one_more x (one_more y (one_more z none))))) = op.IndexRead (name_back x) (held y) (held z)
+operation_of (tuple (one_more (atom w) (one_more x (one_more y none)))) = op.Read (name_back x) (term_value y)
+operation_of (tuple (one_more (atom w) (one_more x (one_more y (one_more z none))))) = op.IndexRead (name_back x) (term_value y) (term_value z)
 operation_of t = op.AllKeys []
 
 abbrev unary_parts : Option Unary → List Part → PlainTerm → List Part
-unary_parts (Some unary.Abort) inner x = part.Abort (held x) ∷ []
+unary_parts (Some unary.Abort) inner x = part.Abort (term_value x) ∷ []
 unary_parts (Some unary.Transaction) inner x = part.Open ∷ (inner ++ part.Close ∷ [])
 unary_parts u inner x = part.Do (unary_operation u x) ∷ []
 
 abbrev mutual
   parts_of : PlainTerm → List Part
   parts_of (tuple (one_more (atom w) (one_more x none))) = unary_parts (unary_in w) (inner_parts x) x
-  parts_of (tuple (one_more (atom w) (one_more x (one_more y none)))) = part.Do (op.Read (name_back x) (held y)) ∷ []
-  parts_of (tuple (one_more (atom w) (one_more x (one_more y (one_more z none))))) = part.Do (op.IndexRead (name_back x) (held y) (held z)) ∷ []
+  parts_of (tuple (one_more (atom w) (one_more x (one_more y none)))) = part.Do (op.Read (name_back x) (term_value y)) ∷ []
+  parts_of (tuple (one_more (atom w) (one_more x (one_more y (one_more z none))))) = part.Do (op.IndexRead (name_back x) (term_value y) (term_value z)) ∷ []
   parts_of t = []
 
   inner_parts : PlainTerm → List Part
@@ -100,25 +100,25 @@ watch_back f (tuple (one_more w (one_more t (one_more l none)))) = f (name_back 
 watch_back f t = command.Begin
 
 abbrev unary_back : Option Unary → PlainTerm → Command
-unary_back (Some unary.Abort) x = command.Abort (held x)
+unary_back (Some unary.Abort) x = command.Abort (term_value x)
 unary_back (Some unary.DeleteTable) x = command.Schema (schema.Remove (name_back x))
 unary_back (Some unary.Subscribe) x = watch_back (λ t l. command.Subscribe t l false) x
 unary_back (Some unary.Unsubscribe) x = watch_back command.Unsubscribe x
 unary_back u x = command.Do (unary_operation u x)
 
 abbrev binary_back : Option Binary → PlainTerm → PlainTerm → Command
-binary_back (Some binary.AddTableIndex) x y = command.Schema (schema.AddIndex (name_back x) (held y))
+binary_back (Some binary.AddTableIndex) x y = command.Schema (schema.AddIndex (name_back x) (term_value y))
 binary_back (Some binary.CreateTable) x y = command.Schema (schema.Create (name_back x) (items_back y))
-binary_back (Some binary.DelTableIndex) x y = command.Schema (schema.DelIndex (name_back x) (held y))
+binary_back (Some binary.DelTableIndex) x y = command.Schema (schema.DelIndex (name_back x) (term_value y))
 binary_back (Some binary.Subscribe) x y = watch_back (λ t l. command.Subscribe t l true) x
 binary_back (Some binary.TableInfo) x y = command.TableInfo (name_back x) (item_back y)
 binary_back (Some binary.Transaction) x y = command.OneShot (inner_parts x) (number_back y)
-binary_back b x y = command.Do (op.Read (name_back x) (held y))
+binary_back b x y = command.Do (op.Read (name_back x) (term_value y))
 
 abbrev call_back : PlainTerms → Command
 call_back (one_more (atom w) (one_more x none)) = unary_back (unary_in w) x
 call_back (one_more (atom w) (one_more x (one_more y none))) = binary_back (binary_in w) x y
-call_back (one_more (atom w) (one_more x (one_more y (one_more z none)))) = command.Do (op.IndexRead (name_back x) (held y) (held z))
+call_back (one_more (atom w) (one_more x (one_more y (one_more z none)))) = command.Do (op.IndexRead (name_back x) (term_value y) (term_value z))
 call_back ts = command.Begin
 
 abbrev command_of : PlainTerm → Command

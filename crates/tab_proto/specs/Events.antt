@@ -18,7 +18,7 @@ abbrev pub event_frames : PlainTerms → List ℕ
 event_frames none = []
 event_frames (one_more e es) = frame (131 ∷ canon e) ++ event_frames es
 
--- the frames of an item by its events: one for each event of a batch, one for a mark
+-- the frames of an item by its events: one for each event of a batch, one for a marker
 abbrev pub item_frames : Item → List ℕ
 item_frames (Batch n events) = event_frames events
 item_frames (Began t l dump) = frame (131 ∷ canon (item_term (Began t l dump)))

@@ -39,7 +39,7 @@ abbrev pub is_watch : PlainTerm → Bool
 is_watch (tuple (one_more (atom w) (one_more (atom t) (one_more l none)))) = bytes_eq w (codes "table") && is_level l
 is_watch t = false
 
--- a subscription's word for a mark that carries the records
+-- a subscription's word for a marker that carries the records
 abbrev pub is_dump : PlainTerm → Bool
 is_dump (atom w) = bytes_eq w (codes "dump")
 is_dump t = false

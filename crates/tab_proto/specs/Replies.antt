@@ -35,7 +35,6 @@ limit_word limit.Nesting = codes "nesting"
 limit_word limit.Operations = codes "operations"
 limit_word limit.Tables = codes "tables"
 limit_word limit.Ages = codes "ages"
-limit_word limit.Journal = codes "journal"
 
 -- the text of the atom of a table's type
 abbrev pub kind_word : Kind → List ℕ
@@ -54,7 +53,7 @@ info_term (info.Attributes ns) = list ns
 info_term (info.Index ns) = list ns
 info_term (info.Size n) = number n
 
--- the term of an item as a Take is answered it: a mark, or a batch whole
+-- the term of an item as a Take is answered it: a marker, or a batch whole
 abbrev pub item_term : Item → PlainTerm
 item_term (Began t l None) = triple (atom (codes "mnesia_table_begin")) (atom t) (level_word l)
 item_term (Began t l (Some records)) = four (atom (codes "mnesia_table_begin")) (atom t) (level_word l) (list records)
@@ -79,7 +78,7 @@ reply_term (reply.UserAbort r) = aborted (term r)
 reply_term (reply.AlreadyExists t) = aborted (pair (atom (codes "already_exists")) (atom t))
 reply_term (reply.Locked t) = aborted (pair (atom (codes "locked")) (atom t))
 reply_term (reply.BadDefinition t w) = aborted (triple (atom (codes "bad_def")) (atom t) (term w))
-reply_term (reply.SubNoTable t) = error (pair (atom (codes "no_exists")) (atom t))
+reply_term (reply.UnknownTable t) = error (pair (atom (codes "no_exists")) (atom t))
 reply_term (reply.AlreadySubscribed t) = error (pair (atom (codes "already_subscribed")) (atom t))
 reply_term (reply.NotSubscribed t) = error (pair (atom (codes "not_subscribed")) (atom t))
 reply_term reply.OutboxFull = error (atom (codes "outbox_full"))

@@ -35,13 +35,13 @@ pub fn append_item(item: &Item, delivery: Delivery, out: &mut Vec<u8>) -> Result
     }
 }
 
-/// Adds of a batch a frame for each of its events, in order, else that of its mark. On an error some of them stand.
+/// Adds of a batch a frame for each of its events, in order, else that of its marker. On an error some of them stand.
 fn append_apart(item: &Item, out: &mut Vec<u8>) -> Result<(), EncodeFault>
     ensures { OnOk result (out.new.items ≡ out.old.items ++ item_frames item.now) }
 {
     match item {
         Item::Batch(_, events) => append_events(events, out),
-        mark => append_outline(&item_outline(mark), out),
+        marker => append_outline(&item_outline(marker), out),
     }
 }
 
@@ -87,7 +87,7 @@ pub fn write_item<W: Target>(
     }
 }
 
-/// Writes of a batch a frame for each of its events, in order, else that of its mark.
+/// Writes of a batch a frame for each of its events, in order, else that of its marker.
 fn write_apart<W: Target>(device: &mut W, item: &Item) -> Result<(), FrameFault>
     ensures ok { OnOk result
         (Appends (W.contents device.old) (W.contents device.new) (item_frames item.now)) }
@@ -98,7 +98,7 @@ fn write_apart<W: Target>(device: &mut W, item: &Item) -> Result<(), FrameFault>
 {
     match item {
         Item::Batch(_, events) => write_events(device, events),
-        mark => write_whole(device, mark),
+        marker => write_whole(device, marker),
     }
 }
 

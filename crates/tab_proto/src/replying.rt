@@ -124,7 +124,7 @@ pub(crate) fn outline_of(reply: &Reply) -> Outline<'_>
         Reply::AlreadyExists(table) => told_in("aborted", "already_exists", named(table)),
         Reply::Locked(table) => told_in("aborted", "locked", named(table)),
         Reply::BadDefinition(table, what) => aborted_for("bad_def", table, what),
-        Reply::SubNoTable(table) => told_in("error", "no_exists", named(table)),
+        Reply::UnknownTable(table) => told_in("error", "no_exists", named(table)),
         Reply::AlreadySubscribed(table) => told_in("error", "already_subscribed", named(table)),
         Reply::NotSubscribed(table) => told_in("error", "not_subscribed", named(table)),
         Reply::AtomicTerms(answers) => worded("atomic", Leaf::answers(answers)),
@@ -335,7 +335,6 @@ fn limit_word(limit: Limit) -> &'static str
         Limit::Operations => "operations",
         Limit::Tables => "tables",
         Limit::Ages => "ages",
-        Limit::Journal => "journal",
     }
 }
 

@@ -21,7 +21,7 @@ use Rattle.tab_map.proofs.AscendsLemmas.{ascends_insert, ascends_remove}
 use Rattle.tab_model.specs.Names.{less, plain_terms, terms_list}
 use Rattle.tab_model.specs.Tables.{Rows, key, has_key, at, put, delete, delete_object, insert, apply, follows, is_ordered}
 use Rattle.tab_model.specs.Operations.{key_of_change}
-use Rattle.tab_model.specs.Shapes.{held}
+use Rattle.tab_model.specs.Shapes.{term_value}
 use Rattle.tab_model.specs.declared.data.Kind.{Kind}
 use Rattle.tab_model.specs.declared.data.Kind.TheVariants.{Set, Bag}
 use Rattle.tab_model.specs.declared.data.Change.TheVariants as change
@@ -177,7 +177,7 @@ by_cells kind es fs c k kc s a t b f = same_lists (joined fs) (apply kind (joine
     cells_at q = at-joined fs q t b ∙ f q ∙ at_held q (term_cmp q k) refl ∙ sym (at-apply kind (joined es) c (term q) (ordered-joined es s a))
 
     cells : (q : PlainTerm) → at (joined fs) q ≡ at (apply kind (joined es) c) q
-    cells q = subst (λ (j : PlainTerm). at (joined fs) j ≡ at (apply kind (joined es) c) j) (term_held q) (cells_at (held q))
+    cells q = subst (λ (j : PlainTerm). at (joined fs) j ≡ at (apply kind (joined es) c) j) (term_held q) (cells_at (term_value q))
 
 -- a change that leaves records at its key
 pub joined-insert : (kind : Kind) (es : List Entry) (c : Change) (k : Term) (ts : PlainTerms) → key_of_change c ≡ term k → Ascends term_cmp es → AllKeyed es

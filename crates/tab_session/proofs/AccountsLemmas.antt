@@ -9,8 +9,8 @@ use Rattle.tab_model.specs.Reached.{IsRising}
 use Rattle.tab_model.specs.Outcome.{Ask, Outcome}
 use Rattle.tab_model.specs.Run as model
 use Rattle.tab_model.specs.Run.{entries, delivered_by, JoinsEmpty, IsTied}
-use Rattle.tab_model.specs.Callers.{Hearsay, entry_of_call, hear, hear_all, AreHeard}
-use Rattle.tab_model.proofs.CallersLemmas.{step_heard}
+use Rattle.tab_model.specs.Callers.{Observation, entry_of_call, observe, observe_all, AreObserved}
+use Rattle.tab_model.proofs.CallersLemmas.{step_observed}
 use Rattle.tab_model.proofs.ReachedWaits.{step_rising}
 use Rattle.tab_model.proofs.SoundSteps.{step_sound}
 use Rattle.tab_model.proofs.TiedSteps.{step_tied}
@@ -18,19 +18,19 @@ use Rattle.tab_session.specs.StepsMade.{IsStepMade}
 use Rattle.tab_session.specs.Accounts.{Exchange, Account, nothing_done, joined, calls_in, replies_in, of_made}
 
 -- what callers can tell after exchanges
-abbrev pub hears_all : Hearsay → List Exchange → Hearsay
-hears_all h xs = hear_all h (calls_in xs) (replies_in xs)
+abbrev pub observes_all : Observation → List Exchange → Observation
+observes_all h xs = observe_all h (calls_in xs) (replies_in xs)
 
-hears_both : (h : Hearsay) (xs ys : List Exchange) → hears_all h (xs ++ ys) ≡ hears_all (hears_all h xs) ys
-hears_both h [] ys = refl
-hears_both h (x ∷ xs) ys = hears_both (hear h x.call x.reply) xs ys
+observes_both : (h : Observation) (xs ys : List Exchange) → observes_all h (xs ++ ys) ≡ observes_all (observes_all h xs) ys
+observes_both h [] ys = refl
+observes_both h (x ∷ xs) ys = observes_both (observe h x.call x.reply) xs ys
 
 pub record Leads (σ μ : State) (a : Account) (taken : ℕ → List Item) : Type 0 where
   pub sound : IsSound σ → IsSound μ
   pub rising : IsSound σ → IsRising σ → IsRising μ
   pub tied : (log : List Entry) (before : ℕ → List Item) → IsSound σ → IsTied σ log before → IsTied μ (log ++ a.log) (λ m. before m ++ taken m)
-  pub heard : (h : Hearsay) → AreHeard σ h.callers → AreHeard μ (hears_all h a.exchanges).callers
-  pub told : (h : Hearsay) → AreHeard σ h.callers → (hears_all h a.exchanges).log ≡ h.log ++ a.log
+  pub observed : (h : Observation) → AreObserved σ h.callers → AreObserved μ (observes_all h a.exchanges).callers
+  pub told : (h : Observation) → AreObserved σ h.callers → (observes_all h a.exchanges).log ≡ h.log ++ a.log
 
 -- nothing is done
 pub stays : (σ μ : State) → μ ≡ σ → Leads σ μ nothing_done (λ m. [])
@@ -39,7 +39,7 @@ stays σ μ same = record {
   rising = λ k r. subst IsRising (sym same) r;
   tied = λ log before k t. subst (λ (x : State). IsTied x (log ++ []) (λ m. before m ++ [])) (sym same)
       (subst (λ (l : List Entry). IsTied σ l (λ m. before m ++ [])) (sym (append-nil log)) (subst (λ (f : ℕ → List Item). IsTied σ log f) (λ i m. sym (append-nil (before m)) i) t));
-  heard = λ h k. subst (λ (x : State). AreHeard x h.callers) (sym same) k;
+  observed = λ h k. subst (λ (x : State). AreObserved x h.callers) (sym same) k;
   told = λ h k. sym (append-nil h.log);
 }
 
@@ -52,8 +52,8 @@ steps σ μ n a r made empty =
       sound = λ k. subst IsSound (ap (λ (x : Outcome). x.state) o) (step_sound σ made.over n a k);
       rising = λ k h. subst IsRising (ap (λ (x : Outcome). x.state) o) (step_rising σ made.over n a k h);
       tied = λ log before k t. subst (λ (x : Outcome). IsTied x.state (log ++ entries x.entry) (λ m. before m ++ delivered_by m n x.reply)) o (step_tied σ log before made.over n a k empty t);
-      heard = λ h k. subst (λ (x : Outcome). AreHeard x.state (hear h c x.reply).callers) o (step_heard σ h c k).0;
-      told = λ h k. ap (λ e. h.log ++ entries e) (ap (λ (x : Outcome). entry_of_call h c x.reply) (sym o) ∙ (step_heard σ h c k).1 ∙ ap (λ (x : Outcome). x.entry) o);
+      observed = λ h k. subst (λ (x : Outcome). AreObserved x.state (observe h c x.reply).callers) o (step_observed σ h c k).0;
+      told = λ h k. ap (λ e. h.log ++ entries e) (ap (λ (x : Outcome). entry_of_call h c x.reply) (sym o) ∙ (step_observed σ h c k).1 ∙ ap (λ (x : Outcome). x.entry) o);
     }
 
 -- the one and then the other
@@ -64,10 +64,10 @@ then_leads σ ρ μ a b t u f g = record {
   tied = λ log before k h.
       subst (λ (l : List Entry). IsTied μ l (λ m. before m ++ (t m ++ u m))) (append_assoc log a.log b.log)
       (subst (λ (v : ℕ → List Item). IsTied μ ((log ++ a.log) ++ b.log) v) (λ i m. append_assoc (before m) (t m) (u m) i) (g.tied (log ++ a.log) (λ m. before m ++ t m) (f.sound k) (f.tied log before k h)));
-  heard = λ h k. subst (λ (x : Hearsay). AreHeard μ x.callers) (sym (hears_both h a.exchanges b.exchanges)) (g.heard (hears_all h a.exchanges) (f.heard h k));
+  observed = λ h k. subst (λ (x : Observation). AreObserved μ x.callers) (sym (observes_both h a.exchanges b.exchanges)) (g.observed (observes_all h a.exchanges) (f.observed h k));
   told = λ h k.
-      ap (λ (x : Hearsay). x.log) (hears_both h a.exchanges b.exchanges)
-      ∙ g.told (hears_all h a.exchanges) (f.heard h k)
+      ap (λ (x : Observation). x.log) (observes_both h a.exchanges b.exchanges)
+      ∙ g.told (observes_all h a.exchanges) (f.observed h k)
       ∙ ap (λ es. es ++ b.log) (f.told h k)
       ∙ append_assoc h.log a.log b.log;
 }

@@ -11,7 +11,7 @@ ghost use Rattle.tab_model.specs.declared.data.Reply.{Reply as ReplyOf};
 ghost use Rattle.tab_model.specs.declared.data.Reply.TheVariants as reply;
 ghost use Rattle.tab_model.specs.State.{State, IsSound, transaction_at, is_waiting};
 ghost use Rattle.tab_model.specs.Reached.{IsRising};
-ghost use Rattle.tab_model.specs.Callers.{Hearsay, hear_all, AreHeard};
+ghost use Rattle.tab_model.specs.Callers.{Observation, observe_all, AreObserved};
 ghost use Rattle.tab_model.specs.Refusals.{IsSole};
 ghost use Rattle.tab_model.specs.Run.{IsTied};
 ghost use Rattle.tab_proto.specs.Commands.{is_command};
@@ -38,13 +38,13 @@ pub fn runs_have_a_history()
         → IsTied σ log taken
         → IsTied s.last (log ++ (account outbox σ ps xs s).log) (λ m. taken m ++ taken_by m xs) }
     ensures told { (outbox : ℕ) (σ : State) (ps : List (List ℕ)) (xs : List AnswerOf)
-        (s : IsRun outbox σ ps xs) (h : Hearsay) → AreHeard σ h.callers
+        (s : IsRun outbox σ ps xs) (h : Observation) → AreObserved σ h.callers
         → let a = account outbox σ ps xs s in
-        (hear_all h (calls_in a.exchanges) (replies_in a.exchanges)).log ≡ h.log ++ a.log }
-    ensures heard { (outbox : ℕ) (σ : State) (ps : List (List ℕ)) (xs : List AnswerOf)
-        (s : IsRun outbox σ ps xs) (h : Hearsay) → AreHeard σ h.callers
+        (observe_all h (calls_in a.exchanges) (replies_in a.exchanges)).log ≡ h.log ++ a.log }
+    ensures observed { (outbox : ℕ) (σ : State) (ps : List (List ℕ)) (xs : List AnswerOf)
+        (s : IsRun outbox σ ps xs) (h : Observation) → AreObserved σ h.callers
         → let a = account outbox σ ps xs s in
-        AreHeard s.last (hear_all h (calls_in a.exchanges) (replies_in a.exchanges)).callers }
+        AreObserved s.last (observe_all h (calls_in a.exchanges) (replies_in a.exchanges)).callers }
 {}
 
 /// There is one answer to each payload; and where no memory was refused, the payloads alone say which: two runs over the

@@ -90,7 +90,7 @@ pub number-marked : (m : Marked) (ws : List Watch) (x : Item) (s : Subscriber) �
 number-marked mark.Put ws x s = refl
 number-marked mark.Full ws x s = refl
 
--- a mark at a session's place
+-- a marker at a session's place
 pub marks_there : (ss : List Subscriber) (n i : ℕ) (s y : Subscriber) (ws : Subscriber → List Watch) (x : Item) (m : Marked) → IsHeldAt ss n i → s ≡ get_or ss i s → y ≡ marked m (ws s) x s
     → IfSome s.outbox.capacity (λ c. is_full m ≡ nat_le c (length s.outbox.items)) → Marks ss (at ss n) ws x (Some m) (set ss i y)
 marks_there ss n i s y ws x m there is new decided =

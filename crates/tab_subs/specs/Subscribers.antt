@@ -48,17 +48,17 @@ given n over items s =
     if has_session over s.number then overflowed n s
     else record s { outbox = with_items s.outbox items }
 
--- a mark into the post, with what it then watches; or a refusal that the post counts
+-- a marker into the post, with what it then watches; or a refusal that the post counts
 abbrev pub marked : Marked → List Watch → Item → Subscriber → Subscriber
 marked mark.Full ws x s = record s { outbox = with_refusal s.outbox }
 marked mark.Put ws x s = record s { watching = ws; outbox = with_items s.outbox (x ∷ []) }
 
--- the mark found no room in the post
+-- the marker found no room in the post
 abbrev pub is_full : Marked → Bool
 is_full mark.Full = true
 is_full mark.Put = false
 
--- a mark, where the session is joined; a post's capacity decides where it has one
+-- a marker, where the session is joined; a post's capacity decides where it has one
 abbrev pub Marks : List Subscriber → Option Subscriber → (Subscriber → List Watch) → Item → Option Marked → List Subscriber → Type 0
 Marks ss None ws x m new = (m ≡ None) × (new ≡ ss)
 Marks ss (Some s) ws x None new = ⊥

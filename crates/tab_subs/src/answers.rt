@@ -9,7 +9,7 @@ pub enum Taken {
     Empty,
 }
 
-/// Whether a mark was put into the post, or refused by it.
+/// Whether a marker was put into the post, or refused by it.
 #[derive(Clone, Copy, Debug, PartialEq, Eq)]
 pub enum Marked {
     Put,

@@ -141,8 +141,8 @@ impl<P: Post + Drop> Session<P> {
             (λ c. is_full m ≡ nat_le c (length self.old.outbox.items))) }
         ensures err { OnErr result (self.new ≡ self.old) }
     {
-        let mark = Item::Ended(table.try_clone(alloc)?, Ending::Unsubscribed);
-        if self.post.put(mark).is_err() {
+        let marker = Item::Ended(table.try_clone(alloc)?, Ending::Unsubscribed);
+        if self.post.put(marker).is_err() {
             return Ok(Marked::Full);
         }
         forget(&mut self.watching, table);
@@ -196,7 +196,7 @@ impl<P: Post + Drop> Session<P> {
         Ok(Some(Item::Batch(commit, told)))
     }
 
-    /// The mark of a table's deletion, where the session watches it.
+    /// The marker of a table's deletion, where the session watches it.
     pub fn end_mark(&self, alloc: Global, table: &Atom) -> Result<Option<Item>, AllocError>
         ensures { IfOk result
             (λ item. option_to_list item ≡ end_for (level_in self.now.watching) (Some table.now)) }

@@ -126,7 +126,7 @@ pub fn table_info(
     ensures { IfOk result (λ reply. reply ≡ info_of name.now item (find catalog.now name.now)) }
 {
     match catalog.table(name) {
-        None => Ok(Reply::SubNoTable(name.try_clone(alloc)?)),
+        None => Ok(Reply::UnknownTable(name.try_clone(alloc)?)),
         Some(table) => Ok(Reply::TableInfo(info(alloc, table, item)?)),
     }
 }

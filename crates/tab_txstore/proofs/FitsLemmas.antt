@@ -16,7 +16,7 @@ use Rattle.tab_model.specs.Tables.{Rows, at}
 use Rattle.tab_model.specs.Catalogs.{Catalog, Table, find, rows_in, rows_of, cell, IsOrderedCatalog}
 use Rattle.tab_model.specs.Operations.{table_of, change_of_op, table_of_change, key_of_change, effect, change_by}
 use Rattle.tab_model.specs.Alone.{Mid, start, without_innermost, back_to, next, reply_to, after, replies}
-use Rattle.tab_model.specs.Events.{drop_level, top_level, is_failure, with_change, survivors, surviving}
+use Rattle.tab_model.specs.Events.{drop_level, top_level, is_failure, with_change, survivors, surviving_changes}
 use Rattle.tab_model.specs.Locks.{Lock, locks_of, Apart}
 use Rattle.tab_model.proofs.RepliesStay.{AgreeTab, Agree, SeesAll, keeps_after}
 use Rattle.tab_model.proofs.LocksApart.{seen, every, sees_own, writes_apart, agree_self, like_back}
@@ -25,7 +25,7 @@ use Rattle.tab_term.specs.Order.{bytes_cmp, term_cmp}
 use Rattle.tab_map.specs.Entries.{lookup, insert_entry}
 use Rattle.tab_model.specs.declared.data.Kind.{Kind}
 use Rattle.tab_model.specs.Names.{plain_terms}
-use Rattle.tab_model.specs.Shapes.{held}
+use Rattle.tab_model.specs.Shapes.{term_value}
 use Rattle.tab_model.specs.declared.data.Schema.{Schema}
 use Rattle.tab_model.specs.Schemas.{table_of_schema, schema_effect}
 use Rattle.tab_model.proofs.CatalogsOrdered.{no_cell_of, not_at, sees_not, agree_elsewhere}
@@ -78,7 +78,7 @@ touch_same (Some x) (Some y) v c a = λ i. touch_one (TableDef.name (a.0 i)) (Ta
     touch_one name kind here =
         insert_entry bytes_cmp (
           name,
-          insert_entry term_cmp (held (key_of_change c), plain_terms (left kind (or_committed (lookup term_cmp (held (key_of_change c)) (touched v name)) here) c)) (touched v name),
+          insert_entry term_cmp (term_value (key_of_change c), plain_terms (left kind (or_committed (lookup term_cmp (term_value (key_of_change c)) (touched v name)) here) c)) (touched v name),
         ) v
 touch_same None (Some y) v c a = absurd a
 touch_same (Some x) None v c a = absurd a
@@ -175,7 +175,7 @@ live w l (Undo ∷ xs) (r ∷ rs) = live w (ended l) xs rs ∙ back_same l.saved
     back_same [] = refl
     back_same (y ∷ ls) = refl
 
-pub updates_survive : (s : Store) (w : Catalog) → Fits s w → s.levels.now.updates ≡ surviving s.moves s.told
+pub updates_survive : (s : Store) (w : Catalog) → Fits s w → s.levels.now.updates ≡ surviving_changes s.moves s.told
 updates_survive s w f = ap (λ (l : Levels). l.now.updates) f.levels ∙ live w no_levels s.moves s.told
 
 -- ---- (4) what it shows

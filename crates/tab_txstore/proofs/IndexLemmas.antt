@@ -15,7 +15,7 @@ use Rattle.tab_records.proofs.LookUps.{lookup_above, below_all, at_all}
 use Rattle.tab_lists.specs.ByKey.{entry_onto, at_keys}
 use Rattle.tab_lists.proofs.MergedLemmas.{above_keys, ascends_keys, ascends_merged}
 use Rattle.tab_model.specs.Names.{terms_list}
-use Rattle.tab_model.specs.Shapes.{held}
+use Rattle.tab_model.specs.Shapes.{term_value}
 use Rattle.tab_model.specs.Tables.{Rows, has_key, at}
 use Rattle.tab_model.specs.WholeTables.{index_read}
 use Rattle.tab_model.proofs.ShapeLaws.{held_term, term_held}
@@ -32,7 +32,7 @@ use Rattle.tab_txstore.proofs.MergedLemmas.{or_else, lookup_both, filled, ascend
 -- ---- some of a table's keys
 
 one_key : (j k : Term) → term_cmp j k ≡ Equal → j ≡ k
-one_key j k e = sym (held_term j) ∙ ap held (canon_same (term j) (term k) e) ∙ held_term k
+one_key j k e = sym (held_term j) ∙ ap term_value (canon_same (term j) (term k) e) ∙ held_term k
 
 -- what is found at a key, where it is one of these
 abbrev found_at : Bool → Option PlainTerms → Option PlainTerms
@@ -110,7 +110,7 @@ module _ (xs es : Touched) (ks : List Term) (seen : Rows) (p : ℕ) (x : PlainTe
   found_seen =
       ap (filter (has_value p x)) (sym (joined_filled whole))
       ∙ same_lists (filter (has_value p x) (joined (filled whole))) (index_read seen p x) (ordered-filter (has_value p x) (joined (filled whole)) (ordered-joined (filled whole) up all_keyed)) (ordered-filter (has_value p x) seen h.ordered)
-      (λ k. swapped (has_value p x) (has_key k) (joined (filled whole)) ∙ subst (λ (j : PlainTerm). filter (has_value p x) (at (joined (filled whole)) j) ≡ filter (has_value p x) (at seen j)) (term_held k) (cell (held k)) ∙ sym (swapped (has_value p x) (has_key k) seen))
+      (λ k. swapped (has_value p x) (has_key k) (joined (filled whole)) ∙ subst (λ (j : PlainTerm). filter (has_value p x) (at (joined (filled whole)) j) ≡ filter (has_value p x) (at seen j)) (term_held k) (cell (term_value k)) ∙ sym (swapped (has_value p x) (has_key k) seen))
 
 pub index_seen : (xs es : Touched) (ks : List Term) (rows seen : Rows) (p : ℕ) (x : PlainTerm) → joined es ≡ rows → IsInOrder es → Ascends term_cmp xs → KeysAscend term_cmp ks → AreKeysWith rows p x ks → IsSeen xs rows seen
     → filter (has_value p x) (joined (merged xs (at_keys ks es))) ≡ index_read seen p x

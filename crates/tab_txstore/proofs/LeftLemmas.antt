@@ -10,7 +10,7 @@ use Rattle.tab_model.specs.Names.{plain_terms, terms_list}
 use Rattle.tab_model.specs.Tables.{Rows, at}
 use Rattle.tab_model.specs.Operations.{key_of_change}
 use Rattle.tab_model.specs.Catalogs.{Table}
-use Rattle.tab_model.specs.Shapes.{held}
+use Rattle.tab_model.specs.Shapes.{term_value}
 use Rattle.tab_model.proofs.ShapeLaws.{held_term}
 use Rattle.tab_lists.proofs.ListsLemmas.{plain-list}
 use Rattle.tab_txstore.specs.Overlays.{Touched, Overlay, touched_in, touched, or_committed, seen_at, left, touch}
@@ -29,7 +29,7 @@ seen_committed v t rows q ks h e =
     ∙ ap (λ z. or_committed (lookup term_cmp z (touched v t)) (at rows (term q))) (sym (held_term q))
 
 pub seen_apart : (v : Overlay) (t : List ℕ) (rows : Rows) (q : Term) → None ≡ lookup bytes_cmp t v → at rows (term q) ≡ seen_at (touched v t) rows (term q)
-seen_apart v t rows q h = ap (λ z. or_committed (lookup term_cmp (held (term q)) (touched_in z)) (at rows (term q))) h
+seen_apart v t rows q h = ap (λ z. or_committed (lookup term_cmp (term_value (term q)) (touched_in z)) (at rows (term q))) h
 
 pub touch_made : (x : Table) (v : Overlay) (c : Change) (name : List ℕ) (key : Term) (seen after : PlainTerms) (keys keys' : Touched) (v' : Overlay)
     → name ≡ x.def.name → term key ≡ key_of_change c → seen ≡ plain_terms (seen_at (touched v x.def.name) x.rows (term key)) → after ≡ plain_terms (left x.def.kind (terms_list seen) c)
@@ -38,7 +38,7 @@ touch_made x v c name key seen after keys keys' v' n k s a ks ks' vs =
     vs ∙ ap (λ z. insert_entry bytes_cmp (name, z) v) (ks' ∙ ap₂ (λ p q. insert_entry term_cmp (key, p) q) (a ∙ ap (λ z. plain_terms (left x.def.kind z c)) (ap terms_list s ∙ round (seen_at (touched v x.def.name) x.rows (term key)))) ks)
     ∙ ap (λ m. insert_entry bytes_cmp (m, insert_entry term_cmp (key, plain_terms (left x.def.kind (seen_at (touched v x.def.name) x.rows (term key)) c)) (touched v m)) v) n
     ∙ ap (λ q. insert_entry bytes_cmp (x.def.name, insert_entry term_cmp (q, plain_terms (left x.def.kind (seen_at (touched v x.def.name) x.rows (term key)) c)) (touched v x.def.name)) v) (sym (held_term key))
-    ∙ ap (λ q. insert_entry bytes_cmp (x.def.name, insert_entry term_cmp (held q, plain_terms (left x.def.kind (seen_at (touched v x.def.name) x.rows q) c)) (touched v x.def.name)) v) k
+    ∙ ap (λ q. insert_entry bytes_cmp (x.def.name, insert_entry term_cmp (term_value q, plain_terms (left x.def.kind (seen_at (touched v x.def.name) x.rows q) c)) (touched v x.def.name)) v) k
   where
     round : (xs : Rows) → terms_list (plain_terms xs) ≡ xs
     round [] = refl

@@ -20,7 +20,7 @@ use Rattle.tab_records.proofs.LookUps.{lookup_insert, lookup_above, below_all, a
 use Rattle.tab_rows.proofs.Cells.{at-joined, ordered-joined, found_in}
 use Rattle.tab_model.specs.Names.{terms_list}
 use Rattle.tab_model.specs.Tables.{Rows, key, has_key, at, keys}
-use Rattle.tab_model.specs.Shapes.{held}
+use Rattle.tab_model.specs.Shapes.{term_value}
 use Rattle.tab_model.proofs.ShapeLaws.{held_term, term_held}
 use Rattle.tab_model.proofs.TableLaws.{same_true, same_refl, same_lists}
 use Rattle.tab_txstore.specs.Overlays.{Touched, or_committed}
@@ -161,7 +161,7 @@ seen_merged xs es seen s o h = (same_lists (joined (filled (merged xs es))) seen
     cells_at q = at-joined (filled (merged xs es)) q up keyed ∙ lookup_filled (merged xs es) q (ascends_merged xs es o.ascends) ∙ finds q
 
     cells : (k : PlainTerm) → at (joined (filled (merged xs es))) k ≡ at seen k
-    cells k = subst (λ (j : PlainTerm). at (joined (filled (merged xs es))) j ≡ at seen j) (term_held k) (cells_at (held k))
+    cells k = subst (λ (j : PlainTerm). at (joined (filled (merged xs es))) j ≡ at seen j) (term_held k) (cells_at (term_value k))
 
 -- ---- its keys
 

@@ -25,7 +25,7 @@ use Rattle.tab_model.specs.declared.data.TableDef.{TableDef}
 use Rattle.tab_model.specs.Names.{plain_terms, terms_list}
 use Rattle.tab_model.specs.Tables.{Rows, key, at, insert, put_bag, apply, is_ordered}
 use Rattle.tab_model.specs.Operations.{table_of_change, key_of_change, change_table, change_catalog}
-use Rattle.tab_model.specs.Shapes.{held}
+use Rattle.tab_model.specs.Shapes.{term_value}
 use Rattle.tab_model.specs.Catalogs.{Catalog, Table, find, with_rows, IsOrderedCatalog}
 use Rattle.tab_model.proofs.TableLaws.{same_true, same_refl}
 use Rattle.tab_model.proofs.ChangeLaws.{at-apply, ordered-apply, find-place, none_left, at_end}
@@ -37,15 +37,15 @@ use Rattle.tab_txstore.specs.Overlays.{Touched, Overlay, touched_in, touched, or
 same_itself : (t : PlainTerm) → slice_cmp nat_cmp (canon t) (canon t) ≡ Equal
 same_itself t = Rattle.std.proofs.lemmas.Cmp.tied_itself nat_list_cmp_total (canon t)
 
-other_key : (k j : PlainTerm) (o : Ordering) → term_cmp (held k) (held j) ≡ o → (o ≡ Equal → ⊥) → same j k ≡ false
+other_key : (k j : PlainTerm) (o : Ordering) → term_cmp (term_value k) (term_value j) ≡ o → (o ≡ Equal → ⊥) → same j k ≡ false
 other_key k j o h n = cases (same j k) refl
   where
     cases : (b : Bool) → same j k ≡ b → b ≡ false
     cases false e = refl
     cases true e = absurd (n (sym h ∙ ap₂ (λ a b. slice_cmp nat_cmp (canon a) (canon b)) (term_held k) (term_held j) ∙ ap (λ a. slice_cmp nat_cmp (canon k) (canon a)) (same_true j k e) ∙ same_itself k))
 
-equal_key : (k j : PlainTerm) → term_cmp (held k) (held j) ≡ Equal → j ≡ k
-equal_key k j h = sym (sym (term_held k) ∙ canon_same (term (held k)) (term (held j)) h ∙ term_held j)
+equal_key : (k j : PlainTerm) → term_cmp (term_value k) (term_value j) ≡ Equal → j ≡ k
+equal_key k j h = sym (sym (term_held k) ∙ canon_same (term (term_value k)) (term (term_value j)) h ∙ term_held j)
 
 round : (xs : Rows) → terms_list (plain_terms xs) ≡ xs
 round [] = refl
@@ -103,9 +103,9 @@ shows_touch_key : (es : Touched) (x y : Table) (c : Change) → ShowsTable es x 
 shows_touch_key es x y c a = record {
   def = a.def;
   ordered = ordered-apply y.def.kind y.rows c a.ordered;
-  ascends = ascends_insert term_total (held (key_of_change c), here) es a.ascends;
-  cells = λ k. ap (λ z. or_committed z (at x.rows k)) (lookup_insert term_total (held (key_of_change c), here) es (held k) a.ascends)
-      ∙ cases k (term_cmp (held k) (held (key_of_change c))) refl ∙ sym (at-apply y.def.kind y.rows c k a.ordered);
+  ascends = ascends_insert term_total (term_value (key_of_change c), here) es a.ascends;
+  cells = λ k. ap (λ z. or_committed z (at x.rows k)) (lookup_insert term_total (term_value (key_of_change c), here) es (term_value k) a.ascends)
+      ∙ cases k (term_cmp (term_value k) (term_value (key_of_change c))) refl ∙ sym (at-apply y.def.kind y.rows c k a.ordered);
 }
   where
     here : PlainTerms
@@ -114,8 +114,8 @@ shows_touch_key es x y c a = record {
     made : terms_list here ≡ apply y.def.kind (at y.rows (key_of_change c)) c
     made = round (left x.def.kind (seen_at es x.rows (key_of_change c)) c) ∙ (λ i. left (TableDef.kind (sym a.def i)) (a.cells (key_of_change c) i) c) ∙ left_is y.def.kind y.rows c
 
-    cases : (k : PlainTerm) (o : Ordering) → term_cmp (held k) (held (key_of_change c)) ≡ o
-        → or_committed (match_ordering o (lookup term_cmp (held k) es) (Some here) (lookup term_cmp (held k) es)) (at x.rows k) ≡ (if same (key_of_change c) k then apply y.def.kind (at y.rows k) c else at y.rows k)
+    cases : (k : PlainTerm) (o : Ordering) → term_cmp (term_value k) (term_value (key_of_change c)) ≡ o
+        → or_committed (match_ordering o (lookup term_cmp (term_value k) es) (Some here) (lookup term_cmp (term_value k) es)) (at x.rows k) ≡ (if same (key_of_change c) k then apply y.def.kind (at y.rows k) c else at y.rows k)
     cases k Less h = a.cells k ∙ sym (ap (λ b. if b then apply y.def.kind (at y.rows k) c else at y.rows k) (other_key k (key_of_change c) Less h (λ g. cc)))
     cases k Greater h = a.cells k ∙ sym (ap (λ b. if b then apply y.def.kind (at y.rows k) c else at y.rows k) (other_key k (key_of_change c) Greater h (λ g. cc)))
     cases k Equal h =

@@ -11,7 +11,7 @@ use Rattle.tab_model.specs.declared.data.Change.{Change}
 use Rattle.tab_model.specs.declared.data.Kind.{Kind}
 use Rattle.tab_model.specs.Names.{plain_terms, terms_list}
 use Rattle.tab_model.specs.Operations.{key_of_change}
-use Rattle.tab_model.specs.Shapes.{held}
+use Rattle.tab_model.specs.Shapes.{term_value}
 use Rattle.tab_model.specs.Tables.{at}
 use Rattle.tab_model.specs.Catalogs.{Table}
 use Rattle.tab_txstore.specs.Kept.{Appends}
@@ -52,7 +52,7 @@ appended_touch x v k c r row name v' n kc rr a vs =
     vs ∙ ap (λ m. insert_entry bytes_cmp (m, revised_at term_cmp (λ records. with_one records (term row)) k (touched v m)) v) n
     ∙ ap (λ es. insert_entry bytes_cmp (x.def.name, es) v) (ap (revised_as term_cmp (λ records. with_one records (term row)) k (touched v x.def.name)) a.there
     ∙ ap (λ ts. insert_entry term_cmp (k, ts) (touched v x.def.name)) after
-    ∙ ap (λ q. insert_entry term_cmp (q, plain_terms (left x.def.kind (seen_at (touched v x.def.name) x.rows (key_of_change c)) c)) (touched v x.def.name)) (sym (held_term k) ∙ ap held kc))
+    ∙ ap (λ q. insert_entry term_cmp (q, plain_terms (left x.def.kind (seen_at (touched v x.def.name) x.rows (key_of_change c)) c)) (touched v x.def.name)) (sym (held_term k) ∙ ap term_value kc))
   where
     seen_is : seen_at (touched v x.def.name) x.rows (key_of_change c) ≡ terms_list a.records
     seen_is = ap (λ q. seen_at (touched v x.def.name) x.rows q) (sym kc) ∙ ap (λ q. or_committed (lookup term_cmp q (touched v x.def.name)) (at x.rows (term k))) (held_term k) ∙ ap (λ o. or_committed o (at x.rows (term k))) a.there

@@ -15,7 +15,7 @@ use Rattle.tab_model.specs.declared.data.Change.TheVariants as change
 use Rattle.tab_model.specs.Names.{plain_terms, terms_list}
 use Rattle.tab_model.specs.Tables.{Rows, at, delete_object}
 use Rattle.tab_model.specs.Operations.{key_of_change}
-use Rattle.tab_model.specs.Shapes.{held}
+use Rattle.tab_model.specs.Shapes.{term_value}
 use Rattle.tab_model.specs.Catalogs.{Table}
 
 -- the touched keys of one table, each with what stands there now; a key whose records are gone stays, with none
@@ -42,7 +42,7 @@ or_committed (Some ts) rows = terms_list ts
 
 -- what stands at a key for the transaction: what it left there, else what the committed table has there
 abbrev pub seen_at : Touched → Rows → PlainTerm → Rows
-seen_at es rows k = or_committed (lookup term_cmp (held k) es) (at rows k)
+seen_at es rows k = or_committed (lookup term_cmp (term_value k) es) (at rows k)
 
 -- a bag's records with one more, once
 abbrev pub with_row : Rows → PlainTerm → Rows
@@ -57,7 +57,7 @@ left kind rows (change.DeleteObject r) = delete_object rows (term r)
 
 -- a change, made on what the transaction sees at its key
 abbrev pub touch_key : Kind → Rows → Touched → Change → Touched
-touch_key kind rows es c = insert_entry term_cmp (held (key_of_change c), plain_terms (left kind (seen_at es rows (key_of_change c)) c)) es
+touch_key kind rows es c = insert_entry term_cmp (term_value (key_of_change c), plain_terms (left kind (seen_at es rows (key_of_change c)) c)) es
 
 -- a change, made on what the transaction sees of the table that is lent
 abbrev pub touch : Table → Overlay → Change → Overlay

@@ -8,7 +8,7 @@ ghost use Rattle.tab_model.specs.Schemas.{table_of_schema, schema_effect};
 ghost use Rattle.tab_model.specs.declared.data.Move.{Move};
 ghost use Rattle.tab_model.specs.declared.data.Reply.{Reply};
 ghost use Rattle.tab_model.specs.Alone.{start, after, replies};
-ghost use Rattle.tab_model.specs.Events.{surviving};
+ghost use Rattle.tab_model.specs.Events.{surviving_changes};
 ghost use Rattle.tab_model.specs.Locks.{Lock, locks_of, Apart};
 ghost use Rattle.tab_model.specs.Catalogs.{Catalog, Table, find, rows_of, cell, IsOrderedCatalog};
 ghost use Rattle.tab_model.specs.Tables.{keys};
@@ -38,7 +38,7 @@ pub fn a_store_fits()
 #[tactic(auto, using(crate::proofs::FitsLemmas::updates_survive, crate::proofs::FitsLemmas::cell_shown, crate::proofs::FitsLemmas::table_shown, crate::proofs::FitsLemmas::defs_shown, crate::proofs::FitsLemmas::depth_shown))]
 pub fn a_store_shows()
     ensures updates { (s : Store) (w : Catalog) → Fits s w
-        → s.levels.now.updates ≡ surviving s.moves s.told }
+        → s.levels.now.updates ≡ surviving_changes s.moves s.told }
     ensures cell { (w : Catalog) → IsOrderedCatalog w
         → (s : Store) (age : ℕ) (t : List ℕ) (x : Table) (k : PlainTerm) → Fits s w
         → replies (start w age) s.moves ≡ s.told → find w t ≡ Some x

@@ -23,8 +23,8 @@ returns-then-is_none-clause-ok g c =
     let σ = c.self.inside.manager in
     let n = c.args.session in
     let none = unseen bs σ c.args.self.now c.self.view_is n (λ μ s. None) None (free _ _ c.in_default.not-Some c.session_refusal.ensures) in
-    ap (λ t. Some (reply.SubNoTable t)) c.in_ok-try_clone.ensures
-    ∙ seen bs σ c.args.self.now c.self.view_is n (λ μ s. subscribe_refusal μ s c.args.table.now) (Some (reply.SubNoTable c.args.table.now))
+    ap (λ t. Some (reply.UnknownTable t)) c.in_ok-try_clone.ensures
+    ∙ seen bs σ c.args.self.now c.self.view_is n (λ μ s. subscribe_refusal μ s c.args.table.now) (Some (reply.UnknownTable c.args.table.now))
     (no_table bs σ n c.args.table.now none (c.if-is_some.ensures ∙ ap is_some c.overflow.ensures)
     (sym c.if-is_none.ensures ∙ copied_is_some c.table.result ∙ ap is_some c.table.ensures ∙ ap (λ w. is_some (find w c.args.table.now)) c.tables.ensures))
 
@@ -57,10 +57,10 @@ returns-in_err-try_clone-clause-free g c l dump h =
     let σ = c.self.inside.manager in
     let n = c.args.session in
     let none = unseen bs σ c.args.self.now c.self.view_is n (λ μ s. None) None (free _ _ c.in_default.not-Some c.session_refusal.ensures) in
-    let refused = seen bs σ c.args.self.now c.self.view_is n (λ μ s. subscribe_refusal μ s c.args.table.now) (Some (reply.SubNoTable c.args.table.now))
+    let refused = seen bs σ c.args.self.now c.self.view_is n (λ μ s. subscribe_refusal μ s c.args.table.now) (Some (reply.UnknownTable c.args.table.now))
     (no_table bs σ n c.args.table.now none (c.if-is_some.ensures ∙ ap is_some c.overflow.ensures)
     (sym c.if-is_none.ensures ∙ copied_is_some c.table.result ∙ ap is_some c.table.ensures ∙ ap (λ w. is_some (find w c.args.table.now)) c.tables.ensures)) in
-    absurd (differ _ h (subscribe_told c.args.self.now n c.args.table.now l dump (Some (reply.SubNoTable c.args.table.now)) refused refl))
+    absurd (differ _ h (subscribe_told c.args.self.now n c.args.table.now l dump (Some (reply.UnknownTable c.args.table.now)) refused refl))
 
 pub returns-in_err-try_clone-2-clause-free : goal.returns-in_err-try_clone-2-clause-free
 returns-in_err-try_clone-2-clause-free g c l dump h =

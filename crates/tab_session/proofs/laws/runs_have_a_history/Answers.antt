@@ -7,5 +7,5 @@ returns c = record {
   rising = λ outbox σ ps xs s. (run_leads outbox σ ps xs s).rising;
   tied = λ outbox σ ps xs s. (run_leads outbox σ ps xs s).tied;
   told = λ outbox σ ps xs s. (run_leads outbox σ ps xs s).told;
-  heard = λ outbox σ ps xs s. (run_leads outbox σ ps xs s).heard;
+  observed = λ outbox σ ps xs s. (run_leads outbox σ ps xs s).observed;
 }

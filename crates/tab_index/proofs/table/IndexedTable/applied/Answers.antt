@@ -1,6 +1,6 @@
 use Rattle.std.proofs.Common.{◌+◌, drop, sym, ap, ap₂, ◌∙◌, subst}
 use Rattle.std.proofs.lemmas.List.{at_drop_more}
-use Rattle.tab_model.specs.Tables.{apply, applied, is_ordered}
+use Rattle.tab_model.specs.Tables.{apply, rows_after, is_ordered}
 use Rattle.tab_model.proofs.ChangeLaws.{ordered-apply}
 use Rattle.tab_index.specs.Indexed.{AreIndexesOf}
 use Rattle.tab_index.proofs.table.IndexedTable.applied.Goals as goal
@@ -23,6 +23,6 @@ loop-change-preserved c =
         indexes_are = subst (λ r. AreIndexesOf r c.change_indexes.new.indexes.items) (sym rows) c.in_ok-change_indexes.ensures.indexes;
       };
       rows_are =
-          ap (λ r. applied kind r (drop (i + 1) changes)) (rows ∙ ap₂ (λ k d. apply k was.1 d) kept.kind c.change-item.is)
-          ∙ sym (at_drop_more (applied kind was.1) changes i change c.loop-change-test.true) ∙ c.loop-change.invariant.rows_are;
+          ap (λ r. rows_after kind r (drop (i + 1) changes)) (rows ∙ ap₂ (λ k d. apply k was.1 d) kept.kind c.change-item.is)
+          ∙ sym (at_drop_more (rows_after kind was.1) changes i change c.loop-change-test.true) ∙ c.loop-change.invariant.rows_are;
     }

@@ -1,5 +1,5 @@
 use Rattle.std.proofs.Common.{◌≡◌, drop}
-use Rattle.tab_model.specs.Tables.{applied}
+use Rattle.tab_model.specs.Tables.{rows_after}
 use Rattle.tab_index.specs.Indexed.{IsIndexed}
 use Rattle.tab_index.proofs.table.IndexedTable.applied.Given as goal
 
@@ -7,5 +7,5 @@ use Rattle.tab_index.proofs.table.IndexedTable.applied.Given as goal
 abbrev pub invariant-loop-change : goal.invariant-loop-change
 invariant-loop-change l = record {
   kept : IsIndexed l.def.value l.rows l.indexes.items;
-  rows_are : applied l.def.value.kind l.rows.1 (drop l.change-index l.changes) ≡ applied l.def.value.kind l.initial.rows.1 l.changes;
+  rows_are : rows_after l.def.value.kind l.rows.1 (drop l.change-index l.changes) ≡ rows_after l.def.value.kind l.initial.rows.1 l.changes;
 }

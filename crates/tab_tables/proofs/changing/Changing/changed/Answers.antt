@@ -1,7 +1,7 @@
 use Rattle.std.proofs.Common.{ap, sym, ◌∙◌}
 use Rattle.std.specs.Str.{bytes_eq}
 use Rattle.tab_model.specs.Operations.{table_of_change, change_catalog}
-use Rattle.tab_model.specs.Tables.{applied}
+use Rattle.tab_model.specs.Tables.{rows_after}
 use Rattle.tab_model.specs.Catalogs.{place, with_rows}
 use Rattle.tab_tables.specs.Newer.{with_newer}
 use Rattle.tab_tables.proofs.ChangingLemmas.{changed_beside}
@@ -13,6 +13,6 @@ returns-then-eq c =
     let t = c.in-Some.table in
     let change = c.args.change.now in
     let named = ap (λ d. bytes_eq d.name (table_of_change change)) (sym c.def.ensures) ∙ ap (bytes_eq c.def.result.now.name) (sym c.table_of_change-name.ensures) ∙ sym c.if-eq.ensures in
-    ap (place w) (c.in_ok-table.ensures ∙ ap (λ cs. with_rows t (applied t.def.kind t.rows cs)) c.from_ref.ensures.value)
+    ap (place w) (c.in_ok-table.ensures ∙ ap (λ cs. with_rows t (rows_after t.def.kind t.rows cs)) c.from_ref.ensures.value)
     ∙ changed_beside w t change named
     ∙ ap (λ v. change_catalog v change) (ap (with_newer w) (sym c.in-Some.is) ∙ c.self.view_is)

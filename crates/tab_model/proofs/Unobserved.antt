@@ -14,7 +14,7 @@ use Rattle.tab_model.specs.State.{Outbox, Queued}
 use Rattle.tab_model.specs.Run.{entries}
 use Rattle.tab_model.proofs.CallersLemmas.{same_if}
 use Rattle.tab_model.specs.Outcome.{Ask, Join, Leave, Retry, Take, DoCommand}
-use Rattle.tab_model.specs.Callers.{Caller, AnswerKind, NotMade, kind_of, after_operation, after_answer, after_begin, after_close, after_undo, hears, hears_command, commit_entry, schema_entry, subscription_entry, entry_of_command, entry_of_step, queue_after_operation, queue_after_answer, queue_after_abort, queue_after_leave, queue_after_command, queue_after_step, age_after_begin, age_after_command, age_after_step, Post, post_after_join, post_after_take, post_after_marker, post_after_command, post_after_answer, IsUnheard, post_after_step, entry_of_call, hear}
+use Rattle.tab_model.specs.Callers.{Caller, AnswerKind, NotMade, kind_of, after_operation, after_answer, after_begin, after_close, after_undo, caller_after_step, caller_after_command, commit_entry, schema_entry, subscription_entry, entry_of_command, entry_of_step, queue_after_operation, queue_after_answer, queue_after_abort, queue_after_leave, queue_after_command, queue_after_step, age_after_begin, age_after_command, age_after_step, Post, post_after_join, post_after_take, post_after_marker, post_after_command, post_after_answer, IsUnobserved, post_after_step, entry_of_call, observe}
 
 -- a reply that is none of those that tell something
 record IsSilent (r : Reply) : Type 0 where
@@ -37,7 +37,7 @@ module _ (r : Reply) (s : IsSilent r) where
   unretried k None = refl
   unretried k (Some o) = refl
 
-  command_knows : (k : Caller) (c : Command) → hears_command k c r ≡ k
+  command_knows : (k : Caller) (c : Command) → caller_after_command k c r ≡ k
   command_knows k (command.Schema c) = refl
   command_knows k (command.TableInfo t i) = refl
   command_knows k command.Begin = s.no_begin k
@@ -48,7 +48,7 @@ module _ (r : Reply) (s : IsSilent r) where
   command_knows k (command.Unsubscribe t l) = refl
   command_knows k (command.OneShot parts retries) = s.no_begin k
 
-  knows : (k : Caller) (a : Ask) → hears k a r ≡ k
+  knows : (k : Caller) (a : Ask) → caller_after_step k a r ≡ k
   knows k (Join b) = refl
   knows k Leave = refl
   knows k Retry = ap (λ (x : AnswerKind). after_answer k r x k.queued) s.not_made ∙ unretried k k.queued
@@ -131,8 +131,8 @@ module _ (r : Reply) (s : IsSilent r) where
   either true x y e = e
   either false x y e = refl
 
-  unheard : IsUnheard r
-  unheard h c = λ i. record {
+  unobserved : IsUnobserved r
+  unobserved h c = λ i. record {
     callers = λ m. callers m i;
     log = (ap (λ e. h.log ++ entries e) none ∙ append-nil h.log) i;
     queue = queue c.session k c.ask h.queue i;
@@ -146,34 +146,34 @@ module _ (r : Reply) (s : IsSilent r) where
       none : entry_of_call h c r ≡ None
       none = entry c.session c.over k c.ask
 
-      callers : (m : ℕ) → (hear h c r).callers m ≡ h.callers m
+      callers : (m : ℕ) → (observe h c r).callers m ≡ h.callers m
       callers m = ap (λ x. if m == c.session then x else h.callers m) (knows k c.ask) ∙ sym (same_if h.callers m c.session)
 
-      posts : (m : ℕ) → (hear h c r).posts m ≡ h.posts m
+      posts : (m : ℕ) → (observe h c r).posts m ≡ h.posts m
       posts m =
           ap (λ e. post_after_step m (commits_from 0 h.log) c.session c.ask r e (h.posts m)) none
           ∙ either (m == c.session) (post_after_answer c.ask r (h.posts m)) (h.posts m) (post c.ask (h.posts m))
 
-pub bad_command : IsUnheard reply.BadCommand
-bad_command = unheard reply.BadCommand (record { not_made = refl; no_begin = λ k. refl; no_close = λ k. refl; no_abort = λ k. refl; no_commit = λ n over k. refl; no_schema = λ over c. refl; no_mark = λ e. refl; no_drop = λ n qs. refl; no_leave = λ n qs. refl; no_age = λ k a. refl; no_join = λ b p. refl; no_take = λ p. refl; no_refusal = λ p. refl })
+pub bad_command : IsUnobserved reply.BadCommand
+bad_command = unobserved reply.BadCommand (record { not_made = refl; no_begin = λ k. refl; no_close = λ k. refl; no_abort = λ k. refl; no_commit = λ n over k. refl; no_schema = λ over c. refl; no_mark = λ e. refl; no_drop = λ n qs. refl; no_leave = λ n qs. refl; no_age = λ k a. refl; no_join = λ b p. refl; no_take = λ p. refl; no_refusal = λ p. refl })
 
-pub no_memory : IsUnheard reply.NoMemory
-no_memory = unheard reply.NoMemory (record { not_made = refl; no_begin = λ k. refl; no_close = λ k. refl; no_abort = λ k. refl; no_commit = λ n over k. refl; no_schema = λ over c. refl; no_mark = λ e. refl; no_drop = λ n qs. refl; no_leave = λ n qs. refl; no_age = λ k a. refl; no_join = λ b p. refl; no_take = λ p. refl; no_refusal = λ p. refl })
+pub no_memory : IsUnobserved reply.NoMemory
+no_memory = unobserved reply.NoMemory (record { not_made = refl; no_begin = λ k. refl; no_close = λ k. refl; no_abort = λ k. refl; no_commit = λ n over k. refl; no_schema = λ over c. refl; no_mark = λ e. refl; no_drop = λ n qs. refl; no_leave = λ n qs. refl; no_age = λ k a. refl; no_join = λ b p. refl; no_take = λ p. refl; no_refusal = λ p. refl })
 
-pub bad_session : IsUnheard reply.BadSession
-bad_session = unheard reply.BadSession (record { not_made = refl; no_begin = λ k. refl; no_close = λ k. refl; no_abort = λ k. refl; no_commit = λ n over k. refl; no_schema = λ over c. refl; no_mark = λ e. refl; no_drop = λ n qs. refl; no_leave = λ n qs. refl; no_age = λ k a. refl; no_join = λ b p. refl; no_take = λ p. refl; no_refusal = λ p. refl })
+pub bad_session : IsUnobserved reply.BadSession
+bad_session = unobserved reply.BadSession (record { not_made = refl; no_begin = λ k. refl; no_close = λ k. refl; no_abort = λ k. refl; no_commit = λ n over k. refl; no_schema = λ over c. refl; no_mark = λ e. refl; no_drop = λ n qs. refl; no_leave = λ n qs. refl; no_age = λ k a. refl; no_join = λ b p. refl; no_take = λ p. refl; no_refusal = λ p. refl })
 
-pub no_transaction : IsUnheard reply.NoTransaction
-no_transaction = unheard reply.NoTransaction (record { not_made = refl; no_begin = λ k. refl; no_close = λ k. refl; no_abort = λ k. refl; no_commit = λ n over k. refl; no_schema = λ over c. refl; no_mark = λ e. refl; no_drop = λ n qs. refl; no_leave = λ n qs. refl; no_age = λ k a. refl; no_join = λ b p. refl; no_take = λ p. refl; no_refusal = λ p. refl })
+pub no_transaction : IsUnobserved reply.NoTransaction
+no_transaction = unobserved reply.NoTransaction (record { not_made = refl; no_begin = λ k. refl; no_close = λ k. refl; no_abort = λ k. refl; no_commit = λ n over k. refl; no_schema = λ over c. refl; no_mark = λ e. refl; no_drop = λ n qs. refl; no_leave = λ n qs. refl; no_age = λ k a. refl; no_join = λ b p. refl; no_take = λ p. refl; no_refusal = λ p. refl })
 
-pub waiting_now : IsUnheard reply.WaitingNow
-waiting_now = unheard reply.WaitingNow (record { not_made = refl; no_begin = λ k. refl; no_close = λ k. refl; no_abort = λ k. refl; no_commit = λ n over k. refl; no_schema = λ over c. refl; no_mark = λ e. refl; no_drop = λ n qs. refl; no_leave = λ n qs. refl; no_age = λ k a. refl; no_join = λ b p. refl; no_take = λ p. refl; no_refusal = λ p. refl })
+pub waiting_now : IsUnobserved reply.WaitingNow
+waiting_now = unobserved reply.WaitingNow (record { not_made = refl; no_begin = λ k. refl; no_close = λ k. refl; no_abort = λ k. refl; no_commit = λ n over k. refl; no_schema = λ over c. refl; no_mark = λ e. refl; no_drop = λ n qs. refl; no_leave = λ n qs. refl; no_age = λ k a. refl; no_join = λ b p. refl; no_take = λ p. refl; no_refusal = λ p. refl })
 
-pub in_transaction : IsUnheard reply.InTransaction
-in_transaction = unheard reply.InTransaction (record { not_made = refl; no_begin = λ k. refl; no_close = λ k. refl; no_abort = λ k. refl; no_commit = λ n over k. refl; no_schema = λ over c. refl; no_mark = λ e. refl; no_drop = λ n qs. refl; no_leave = λ n qs. refl; no_age = λ k a. refl; no_join = λ b p. refl; no_take = λ p. refl; no_refusal = λ p. refl })
+pub in_transaction : IsUnobserved reply.InTransaction
+in_transaction = unobserved reply.InTransaction (record { not_made = refl; no_begin = λ k. refl; no_close = λ k. refl; no_abort = λ k. refl; no_commit = λ n over k. refl; no_schema = λ over c. refl; no_mark = λ e. refl; no_drop = λ n qs. refl; no_leave = λ n qs. refl; no_age = λ k a. refl; no_join = λ b p. refl; no_take = λ p. refl; no_refusal = λ p. refl })
 
-pub not_waiting : IsUnheard reply.NotWaiting
-not_waiting = unheard reply.NotWaiting (record { not_made = refl; no_begin = λ k. refl; no_close = λ k. refl; no_abort = λ k. refl; no_commit = λ n over k. refl; no_schema = λ over c. refl; no_mark = λ e. refl; no_drop = λ n qs. refl; no_leave = λ n qs. refl; no_age = λ k a. refl; no_join = λ b p. refl; no_take = λ p. refl; no_refusal = λ p. refl })
+pub not_waiting : IsUnobserved reply.NotWaiting
+not_waiting = unobserved reply.NotWaiting (record { not_made = refl; no_begin = λ k. refl; no_close = λ k. refl; no_abort = λ k. refl; no_commit = λ n over k. refl; no_schema = λ over c. refl; no_mark = λ e. refl; no_drop = λ n qs. refl; no_leave = λ n qs. refl; no_age = λ k a. refl; no_join = λ b p. refl; no_take = λ p. refl; no_refusal = λ p. refl })
 
-pub system_limit : (l : Limit) → IsUnheard (reply.SystemLimit l)
-system_limit l = unheard (reply.SystemLimit l) (record { not_made = refl; no_begin = λ k. refl; no_close = λ k. refl; no_abort = λ k. refl; no_commit = λ n over k. refl; no_schema = λ over c. refl; no_mark = λ e. refl; no_drop = λ n qs. refl; no_leave = λ n qs. refl; no_age = λ k a. refl; no_join = λ b p. refl; no_take = λ p. refl; no_refusal = λ p. refl })
+pub system_limit : (l : Limit) → IsUnobserved (reply.SystemLimit l)
+system_limit l = unobserved (reply.SystemLimit l) (record { not_made = refl; no_begin = λ k. refl; no_close = λ k. refl; no_abort = λ k. refl; no_commit = λ n over k. refl; no_schema = λ over c. refl; no_mark = λ e. refl; no_drop = λ n qs. refl; no_leave = λ n qs. refl; no_age = λ k a. refl; no_join = λ b p. refl; no_take = λ p. refl; no_refusal = λ p. refl })
