@@ -466,6 +466,24 @@ def too_long_behind_others(connection):
     same("its end", connection.stream.read(), b"")
 
 
+def of_any_length(client, mirror):
+    """Names as tables, attributes, keys and values: of up to 22 bytes, which stand in the term, and longer ones, which are shared."""
+    for letter, size in [("n", size) for size in (1, 21, 22, 23, 24, 254)] + [("ä", 10), ("ä", 11), ("ä", 12), ("ä", 254)]:
+        name, attribute, one, other, value = (letter * size + last for last in ("", "i", "k", "l", "v"))
+        first, second = (name, one, value), (name, other, value)
+        script(
+            (client, ("create_table", name, [("attributes", ["key", attribute]), ("index", [attribute])]), ATOMIC),
+            (mirror, ("subscribe", ("table", name, "detailed")), HERE_OK),
+            (client, ("transaction", [("write", second), ("write", first)], 0), ("atomic", [OK, OK])),
+            (client, ("transaction", [("index_read", name, value, attribute), ("match_object", (name, "_", value))], 0),
+             ("atomic", [[first, second]] * 2)),
+            (client, ("transaction", [("delete", (name, one)), ("all_keys", name)], 0), ("atomic", [OK, [other]])),
+        )
+        same("begin marker", mirror.event(), ("mnesia_table_begin", name, "detailed"))
+        for wanted in ("write", name, second, []), ("write", name, first, []), ("delete", name, (name, one), [first]):
+            same("an event", mirror.event()[1][:4], wanted)
+
+
 def cut(connection):
     """Its stream ends inside a frame: nothing is told, and the stream the other way ends too."""
     connection.socket.sendall(frame("commit")[:-1])
@@ -497,6 +515,7 @@ CASES = [
     ("a length too long", 2, [], frees(too_long)),
     ("a length too long behind others", 2, [], frees(too_long_behind_others)),
     ("a frame that is cut", 2, [], frees(cut)),
+    ("names of any length", 2, [], of_any_length),
     ("replies that are not read", 2, [], frees(unread)),
     ("a slow reader", 3, ["--outbox", "16"], slow(alone)),
     ("a slow reader of batches", 3, ["--outbox", "16", "--batches"], slow(in_batch)),

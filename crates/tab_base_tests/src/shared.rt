@@ -155,7 +155,7 @@ fn snapshot(alloc: Global, map: &Map<Term, Records>) -> Result<Snapshot, AllocEr
 fn condition(alloc: Global, wanted: &Wanted) -> Result<Condition, AllocError> {
     match wanted {
         Wanted::Any => {
-            let wildcard = Atom::new(String::from_str(alloc, "_")?).map_err(|_| AllocError)?;
+            let wildcard = Atom::new(alloc, "_").map_err(|_| AllocError)?;
             Ok(Condition::Matches(Term::Atom(wildcard)))
         }
         Wanted::Number(number) => Ok(Condition::Matches(Term::Int(*number))),

@@ -199,7 +199,7 @@ fn a_long_map_is_read_in_any_order(rt: HostRuntime) -> Result<(), Fail> {
 fn built(alloc: Global) -> Result<Term, Fail> {
     let mut elements = Vec::new(alloc);
     elements.push(Term::Bin(Bytes::from_vec(bytes(alloc, "0102")?)))?;
-    let name = Atom::new(String::from_str(alloc, "reply")?)?;
+    let name = Atom::new(alloc, "reply")?;
     elements.insert(0, Term::Atom(name))?;
     Ok(Term::Tuple(Terms::from_vec(elements)))
 }
