@@ -8,27 +8,24 @@ use Rattle.tab_model.specs.declared.data.Change.{Change}
 use Rattle.tab_model.specs.declared.data.Event.{Event}
 use Rattle.tab_model.specs.declared.data.Item.{Item}
 use Rattle.tab_model.specs.declared.data.Level.{Level}
-use Rattle.tab_model.specs.declared.data.Level.TheVariants.{Simple, Detailed}
 use Rattle.tab_model.specs.Events.{events, event_of, change_all}
 use Rattle.tab_model.specs.Operations.{table_of_change, change_catalog}
 use Rattle.tab_model.specs.Slices.{batch_for, as_batch, shape_at}
 use Rattle.tab_model.specs.State.{level_in}
 use Rattle.tab_model.specs.Catalogs.{Catalog}
-use Rattle.tab_subs.specs.Subscribers.{Subscriber, higher, watched}
+use Rattle.tab_subs.specs.Subscribers.{Subscriber, has_watcher}
 use Rattle.tab_core.specs.Owing.{is_watched, are_watched}
 
-both_none : (l r : Option Level) → is_some (higher l r) ≡ false → (l ≡ None) × (r ≡ None)
-both_none None None h = (refl, refl)
-both_none None (Some x) h = cc
-both_none (Some Detailed) r h = cc
-both_none (Some Simple) None h = cc
-both_none (Some Simple) (Some Simple) h = cc
-both_none (Some Simple) (Some Detailed) h = cc
+no_level : (l : Option Level) → is_some l ≡ false → l ≡ None
+no_level None h = refl
+no_level (Some x) h = cc
 
 -- what no one watches
-pub by_nobody : (bs : List Subscriber) (t : List ℕ) → is_some (watched bs t) ≡ false → AllByRecursion (λ (b : Subscriber). level_in b.watching t ≡ None) bs
+pub by_nobody : (bs : List Subscriber) (t : List ℕ) → has_watcher bs t ≡ false → AllByRecursion (λ (b : Subscriber). level_in b.watching t ≡ None) bs
 by_nobody [] t h = tt
-by_nobody (b ∷ bs) t h = let p = both_none (level_in b.watching t) (watched bs t) h in (p.0, by_nobody bs t (ap is_some p.1))
+by_nobody (b ∷ bs) t h =
+    let p = or_parts (is_some (level_in b.watching t)) (has_watcher bs t) h in
+    (no_level (level_in b.watching t) p.0, by_nobody bs t p.1)
 
 shaped_same : (f : List ℕ → Option Level) (p : Event → Bool) (es : List Event) → ((e : Event) → p e ≡ false → f e.tab ≡ None)
     → filter_map (λ (e : Event). shape_at (f e.tab) e) (filter p es) ≡ filter_map (λ (e : Event). shape_at (f e.tab) e) es
@@ -54,7 +51,7 @@ batches_of_watched n bs es = same_batches n (is_watched bs) es bs (λ e g. by_no
 pub none_watched : (bs : List Subscriber) (w : Catalog) (age : ℕ) (cs : List Change) → are_watched bs cs ≡ false → filter (is_watched bs) (events w age cs) ≡ []
 none_watched bs w age [] h = refl
 none_watched bs w age (c ∷ cs) h =
-    let p = or_parts (is_some (watched bs (table_of_change c))) (are_watched bs cs) h in
+    let p = or_parts (has_watcher bs (table_of_change c)) (are_watched bs cs) h in
     ap (λ b. if b then event_of w age c ∷ filter (is_watched bs) (events (change_catalog w c) age cs) else filter (is_watched bs) (events (change_catalog w c) age cs)) p.0
     ∙ none_watched bs (change_catalog w c) age cs p.1
 

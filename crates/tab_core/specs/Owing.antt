@@ -1,5 +1,5 @@
 -- What a commit owes to those who watch the tables that it changes (Mnesia User's Guide, "Mnesia Event Handling").
-use Rattle.std.specs.Prelude.{◌≡◌, ℕ, List, Bool, true, false, Option, Some, None, is_some}
+use Rattle.std.specs.Prelude.{◌≡◌, ℕ, List, Bool, true, false, Option, Some, None}
 use Rattle.std.specs.List.{filter, list_any}
 use Rattle.tab_model.specs.declared.data.Change.{Change}
 use Rattle.tab_model.specs.declared.data.Event.{Event}
@@ -8,16 +8,16 @@ use Rattle.tab_model.specs.Operations.{table_of_change}
 use Rattle.tab_model.specs.State.{State, Transaction}
 use Rattle.tab_model.specs.Catalogs.{Catalog}
 use Rattle.tab_manager.specs.Outermost.{outermost}
-use Rattle.tab_subs.specs.Subscribers.{Subscriber, watched}
+use Rattle.tab_subs.specs.Subscribers.{Subscriber, has_watcher}
 use Rattle.tab_core.specs.declared.committing.Updated.{Updated}
 
 -- some session watches the event's table
 abbrev pub is_watched : List Subscriber → Event → Bool
-is_watched bs e = is_some (watched bs e.tab)
+is_watched bs e = has_watcher bs e.tab
 
 -- some session watches the table of one of the changes
 abbrev pub are_watched : List Subscriber → List Change → Bool
-are_watched bs cs = list_any (λ c. is_some (watched bs (table_of_change c))) cs
+are_watched bs cs = list_any (λ c. has_watcher bs (table_of_change c)) cs
 
 -- the tables after the changes, and the events that someone watches
 pub record Updates (w : Catalog) (bs : List Subscriber) (age : ℕ) (cs : List Change) (u : Updated) : Type 0 where

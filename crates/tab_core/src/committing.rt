@@ -181,7 +181,7 @@ fn are_watched<P: Post + Drop>(subs: &Subs<P>, changes: &[Change], nameless: &At
     ensures { result ≡ are_watched_by subs.now changes.now }
 {
     for change in changes {
-        if subs.watched(table_of_change(change, nameless)).is_some() {
+        if subs.has_watcher(table_of_change(change, nameless)) {
             return true;
         }
     }
@@ -233,7 +233,7 @@ fn push_watched<P: Post + Drop>(
         ≡ events.old.items
         ++ filter (is_watched subs.now) (event_of changing.now age change.now ∷ [])) }
 {
-    if subs.watched(table_of_change(change, nameless)).is_none() {
+    if !subs.has_watcher(table_of_change(change, nameless)) {
         return Ok(());
     }
     let event = changing.event(alloc, age, change, nameless)?;

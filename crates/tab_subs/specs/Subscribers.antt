@@ -1,9 +1,9 @@
 -- The joined sessions: what each watches, and what its post shows (this project's own). The words are those of a core's
 -- sessions.
-use Rattle.std.specs.Prelude.{ℕ, ◌≡◌, ◌<◌, map, length, nat_le, IfSome, slice_index_or, slice_set, List, [], ◌∷◌, Bool, true, false, ◌==◌, if◌then◌else◌, Option, Some, None}
+use Rattle.std.specs.Prelude.{ℕ, ◌≡◌, ◌<◌, map, length, nat_le, IfSome, slice_index_or, slice_set, List, [], ◌∷◌, Bool, true, false, ◌==◌, if◌then◌else◌, Option, Some, None, is_some}
+use Rattle.std.specs.List.{list_any}
 use Rattle.tab_model.specs.declared.data.Item.{Item}
 use Rattle.tab_model.specs.declared.data.Level.{Level}
-use Rattle.tab_model.specs.declared.data.Level.TheVariants.{Simple, Detailed}
 use Rattle.tab_model.specs.Log.{has_session}
 use Rattle.tab_model.specs.State.{Outbox, Watch, level_in}
 use Rattle.tab_model.specs.Outcome.{with_items, with_refusal, items_to_take}
@@ -91,17 +91,9 @@ abbrev pub overflow_of : Option Subscriber → Option ℕ
 overflow_of None = None
 overflow_of (Some s) = s.overflow
 
--- the highest level at which anyone watches
-abbrev pub higher : Option Level → Option Level → Option Level
-higher (Some Detailed) l = Some Detailed
-higher (Some Simple) (Some Detailed) = Some Detailed
-higher (Some Simple) l = Some Simple
-higher None l = l
-
--- the highest level at which any of the subscribers watches a table
-abbrev pub watched : List Subscriber → List ℕ → Option Level
-watched [] t = None
-watched (s ∷ ss) t = higher (level_in s.watching t) (watched ss t)
+-- a subscriber watches the table
+abbrev pub has_watcher : List Subscriber → List ℕ → Bool
+has_watcher ss t = list_any (λ s. is_some (level_in s.watching t)) ss
 
 -- ---- places
 

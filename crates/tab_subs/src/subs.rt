@@ -7,7 +7,7 @@ ghost use Rattle.tab_model.specs.declared.data.Item.TheVariants as Item;
 ghost use Rattle.tab_model.specs.declared.data.Ending.TheVariants as Ending;
 ghost use Rattle.tab_outbox.specs.Mailboxes.{Meets};
 ghost use Rattle.tab_subs.specs.Deliveries.{Delivers};
-ghost use Rattle.tab_subs.specs.Subscribers.{Subscriber, fresh, at, without, taken_from, level_of, overflow_of, watched, higher as higher_of, IsHeldAt, Marks, AllBelow, numbers};
+ghost use Rattle.tab_subs.specs.Subscribers.{Subscriber, fresh, at, without, taken_from, level_of, overflow_of, has_watcher as has_watcher_of, IsHeldAt, Marks, AllBelow, numbers};
 
 use crate::answers::{Marked, Taken};
 use crate::prepared::{Prepared, next_due, with_room};
@@ -234,15 +234,11 @@ impl<P: Post + Drop> Subs<P> {
         self.sessions[place].overflow()
     }
 
-    /// The highest level at which a session watches the table.
-    pub fn watched(&self, table: &Atom) -> Option<Level>
-        ensures { result ≡ watched self.now table.now }
+    /// Whether a session watches the table.
+    pub fn has_watcher(&self, table: &Atom) -> bool
+        ensures { result ≡ has_watcher_of self.now table.now }
     {
-        let mut highest = None;
-        for slot in self.sessions.iter() {
-            highest = higher(highest, slot.level(table));
-        }
-        highest
+        self.sessions.iter().any(|slot| slot.level(table).is_some())
     }
 }
 
@@ -259,16 +255,6 @@ impl<P: Mailbox + Drop> Subs<P> {
             return None;
         };
         Some(self.sessions[place].meet(end))
-    }
-}
-
-fn higher(one: Option<Level>, other: Option<Level>) -> Option<Level>
-    ensures { result ≡ higher_of one other }
-{
-    match (one, other) {
-        (Some(Level::Detailed), _) | (_, Some(Level::Detailed)) => Some(Level::Detailed),
-        (None, None) => None,
-        _ => Some(Level::Simple),
     }
 }
 
