@@ -13,7 +13,7 @@ use tab_term::spelling::{
     ATOM_EXT, ATOM_UTF8_EXT, BINARY_EXT, INTEGER_EXT, NIL_EXT, SMALL_ATOM_EXT, SMALL_ATOM_UTF8_EXT,
     SMALL_BIG_EXT, SMALL_INTEGER_EXT, STRING_EXT,
 };
-use tab_term::{Atom, Bytes, Term, Terms};
+use tab_term::{Atom, Bytes, Term, TermFault, Terms};
 
 /// The first fault of a payload, with so many bytes of it left.
 pub fn stop(fault: Fault, left: usize) -> ReadError
@@ -169,10 +169,13 @@ fn small_big_of(bytes: &[u8]) -> Result<(Term, &[u8]), ReadError>
 
 // ---- atoms
 
-fn atom_of(text: String, left: usize) -> Result<Atom, ReadError>
-    ensures { Gives (λ a. a) result (atom_is (string_bytes text) left) }
+fn atom_of(alloc: Global, text: &str, left: usize) -> Result<Atom, ReadError>
+    ensures { Gives (λ a. a) result (atom_is text.now left) }
 {
-    Atom::new(text).map_err(|_| stop(Fault::Atom, left))
+    Atom::new(alloc, text).map_err(|fault| match fault {
+        TermFault::TooLong => stop(Fault::Atom, left),
+        TermFault::NoMemory => ReadError::Memory,
+    })
 }
 
 #[tactic(auto, using(crate::proofs::LeafLemmas::utf8_here, crate::proofs::LeafLemmas::utf8_not))]
@@ -180,7 +183,7 @@ fn utf8_name(alloc: Global, text: &[u8], left: usize) -> Result<Atom, ReadError>
     ensures { Gives (λ a. a) result (utf8_is text.now left) }
 {
     match std::str::from_utf8(text) {
-        Ok(text) => atom_of(String::from_str(alloc, text)?, left),
+        Ok(text) => atom_of(alloc, text, left),
         Err(_) => Err(stop(Fault::Atom, left)),
     }
 }
@@ -201,7 +204,8 @@ fn latin1_text(alloc: Global, bytes: &[u8]) -> Result<String, ReadError>
 fn latin1_name(alloc: Global, text: &[u8], left: usize) -> Result<Atom, ReadError>
     ensures { Gives (λ a. a) result (latin1_is text.now left) }
 {
-    atom_of(latin1_text(alloc, text)?, left)
+    let text = latin1_text(alloc, text)?;
+    atom_of(alloc, text.as_str(), left)
 }
 
 #[tactic(auto, unfolding(crate::specs::Reading::latin1_atom))]

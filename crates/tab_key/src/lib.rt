@@ -56,17 +56,17 @@ pub fn head(bytes: &[u8], count: u8, room: u64) -> u64
     ensures head { result ≡ head_of count bytes.now }
     ensures below { result < room }
 {
-    let [first, rest @ ..] = bytes else {
-        return 0;
-    };
-    if count == 0 {
-        return 0;
+    let taken = bytes.len().min(count as usize);
+    let mut number = 0;
+    let mut place = room;
+    for byte in &bytes[..taken] {
+        if *byte == 255 {
+            return number + (place - 1);
+        }
+        place >>= 8;
+        number += u64::from(*byte) * place;
     }
-    if *first == 255 {
-        return room - 1;
-    }
-    let below = room / 256;
-    u64::from(*first) * below + head(rest, count - 1, below)
+    number
 }
 
 /// The first seven bytes. Strings that differ only later tie.

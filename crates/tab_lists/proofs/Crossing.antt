@@ -40,10 +40,10 @@ Snapshot-sync : IsSync snapshot.the_row
 Snapshot-sync = search (sendable, Map-sync, declared_sync, as_row_sync, Term-send, Term-sync, Records-send, Records-sync) depth 20
 
 AtKeys-send : IsSend at_keys.the_row
-AtKeys-send = search (sendable, Set-send, declared_send, as_row_send, Term-send, Term-sync, Snapshot-send) depth 20
+AtKeys-send = search (Set-send, declared_send, as_row_send, Term-send, Term-sync, Snapshot-send) depth 20
 
 AtKeys-sync : IsSync at_keys.the_row
-AtKeys-sync = search (sendable, Set-sync, declared_sync, as_row_sync, Term-send, Term-sync, Snapshot-sync) depth 20
+AtKeys-sync = search (Set-sync, declared_sync, as_row_sync, Term-send, Term-sync, Snapshot-sync) depth 20
 
 Scope-send : IsSend scope.the_row
 Scope-send = search (sendable, Entry-send, declared_send, as_row_send, variants_send, Term-send, Term-sync, Records-send, Records-sync, Snapshot-send, AtKeys-send) depth 20

@@ -3,9 +3,9 @@ use mathlib.Core.List.{[], ◌∷◌}
 use denote.RattleType.{RattleType}
 use denote.Struct.Tuple.{Tuple, tuple_type}
 use denote.Struct.Field.{row_field, i128-field}
-use denote.Param.Send.{IsSend, IsSync, plain_send, plain_sync, sendable}
+use denote.Param.Send.{IsSend, IsSync, plain_send, plain_sync}
 use denote.Param.SendFields.{as_row_send, as_row_sync, declared_send, declared_sync}
-use Rattle.std.proofs.Crossing.{Vec-send, Vec-sync, Arc-send, Arc-sync}
+use Rattle.std.proofs.Crossing.{Vec-send, Vec-sync}
 use Rattle.tab_term.proofs.atom.Atom.TheSendSync as atom_marks
 use Rattle.tab_term.proofs.bytes.Bytes.TheSendSync as bytes_marks
 use Rattle.tab_term.proofs.term.Pairs.TheLaws.TheKnot.{send-Terms, sync-Terms, send-Term, sync-Term, send-Pairs, sync-Pairs}

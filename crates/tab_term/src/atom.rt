@@ -1,6 +1,8 @@
-ghost use Rattle.std.specs.Prelude.{◌≡◌, ◌<◌, ◌≤◌, nat_lt, length, string_bytes, IfOk, OnErr, IsErr, ◌↔◌};
+ghost use Rattle.std.specs.Prelude.{◌≡◌, ◌<◌, ◌≤◌, nat_lt, length, IfOk, IsOk, Err, ◌↔◌};
 ghost use Rattle.std.specs.Str.{chars};
+ghost use Rattle.tab_term.specs.declared.atom.TermFault.TheVariants.{TooLong, NoMemory};
 
+use crate::text::Text;
 use std::alloc::{AllocError, Global};
 use std::cmp::Ordering;
 use std::marker::Model;
@@ -13,47 +15,63 @@ pub enum TermFault {
     /// The text has more than 255 characters, whatever their bytes are.
     #[error("an atom has at most 255 characters")]
     TooLong,
+    #[error("no memory")]
+    NoMemory,
 }
 
-/// A name: a text of at most 255 characters.
+impl From<AllocError> for TermFault {
+    ghost from_gives = { λ _ e. e ≡ NoMemory };
+
+    fn from(_e: AllocError) -> TermFault {
+        TermFault::NoMemory
+    }
+}
+
+/// A name: a text of at most 255 characters. One of at most 22 bytes takes no memory.
 #[derive(Drop)]
 pub struct Atom {
-    text: String,
+    text: Text,
 }
 
 impl Model for Atom {
-    ghost use Rattle.std.specs.Prelude.{List, ℕ, string_bytes};
+    ghost use Rattle.std.specs.Prelude.{List, ℕ};
+    ghost use Rattle.tab_term.specs.Text.{text_bytes};
 
     ghost Value = { List ℕ };
 
-    ghost view = { λ a. string_bytes a.text };
+    ghost view = { λ a. text_bytes a.text };
 
     ghost use Rattle.std.specs.Prelude.{◌≤◌, length};
     ghost use Rattle.std.specs.Str.{chars};
 
-    ghost invariant = { λ a. length (chars (string_bytes a.text)) ≤ 255 };
+    ghost invariant = { λ a. length (chars (text_bytes a.text)) ≤ 255 };
 }
 
 impl Atom {
-    /// The atom of a text. It takes no memory: the text becomes the atom's. A text of at most 255 bytes needs no count.
-    pub fn new(text: String) -> Result<Atom, TermFault>
-        ensures ok { IfOk result (λ a. a ≡ string_bytes text) }
-        ensures fits { IsErr result ↔ (255 < length (chars (string_bytes text))) }
+    /// The atom of a text. A text of at most 255 bytes needs no count.
+    #[tactic(auto, using(crate::proofs::Lists::chars_of_bytes))]
+    pub fn new(alloc: Global, text: &str) -> Result<Atom, TermFault>
+        ensures ok { IfOk result (λ a. a ≡ text.now) }
+        ensures too_long { (result ≡ Err TooLong) ↔ (255 < length (chars text.now)) }
+        ensures short { length text.now ≤ 22 → IsOk result }
     {
-        if is_too_long(text.as_str()) {
+        if is_too_long(text) {
             return Err(TermFault::TooLong);
         }
-        Ok(Atom { text })
+        Ok(Atom {
+            text: Text::new(alloc, text)?,
+        })
     }
 
     /// The atom of a text that is known to be short, as of a word of a command.
     #[tactic(auto, using(crate::proofs::Lists::chars_of_bytes))]
     pub fn from_short_text(alloc: Global, text: &str) -> Result<Atom, AllocError>
         requires { length text.now ≤ 255 }
-        ensures { IfOk result (λ a. a ≡ text.now) }
+        ensures ok { IfOk result (λ a. a ≡ text.now) }
+        ensures short { length text.now ≤ 22 → IsOk result }
     {
         Ok(Atom {
-            text: String::from_str(alloc, text)?,
+            text: Text::new(alloc, text)?,
         })
     }
 
@@ -67,12 +85,13 @@ impl Atom {
         self.text.as_str()
     }
 
-    /// The same atom, in memory of its own.
-    pub fn try_clone(&self, alloc: Global) -> Result<Atom, AllocError>
-        ensures { IfOk result (λ a. a ≡ self.now) }
+    /// The same atom. One of at most 22 bytes takes no memory, and copies of a longer one share it.
+    pub fn try_clone(&self, _alloc: Global) -> Result<Atom, AllocError>
+        ensures ok { IfOk result (λ a. a ≡ self.now) }
+        ensures short { length self.now ≤ 22 → IsOk result }
     {
         Ok(Atom {
-            text: String::from_str(alloc, &self.text)?,
+            text: self.text.try_clone()?,
         })
     }
 }
@@ -103,7 +122,7 @@ impl PartialEq for Atom {
     ghost laws = { partial_equiv_from_equiv bytes_equiv };
 
     fn eq(&self, other: &Atom) -> bool {
-        self.text == other.text
+        self.as_str() == other.as_str()
     }
 }
 
@@ -131,7 +150,7 @@ impl Ord for Atom {
     ghost matches_eq = { matches_bytes };
 
     fn cmp(&self, other: &Atom) -> Ordering {
-        self.text.as_bytes().cmp(other.text.as_bytes())
+        self.as_str().as_bytes().cmp(other.as_str().as_bytes())
     }
 }
 
@@ -161,6 +180,6 @@ impl Abbreviate for Atom {
     ghost agrees = { head_less 7 };
 
     fn abbreviated(&self) -> u64 {
-        head(self.text.as_bytes(), 7, 0x100_0000_0000_0000)
+        head(self.as_str().as_bytes(), 7, 0x100_0000_0000_0000)
     }
 }
