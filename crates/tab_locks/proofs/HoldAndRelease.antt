@@ -1,5 +1,5 @@
 -- What a table of locks keeps over a lock more and over the release of an owner.
-use Rattle.std.proofs.Common.{◌≡◌, ℕ, List, [], ◌∷◌, ◌++◌, Bool, true, false, ◌||◌, ◌&&◌, not, refl, sym, ap, ◌∙◌, Some, Result, Ok, Err, is_ok, OnOk, OnErr, nat_cmp}
+use Rattle.std.proofs.Common.{◌≡◌, ℕ, List, [], ◌∷◌, ◌++◌, Bool, true, false, ◌||◌, ◌&&◌, not, refl, sym, ap, ◌∙◌, ◌↔◌, IsTrue, length, arith, Some, Result, Ok, Err, is_ok, OnOk, OnErr, nat_cmp}
 use Rattle.std.specs.Prelude.{if◌then◌else◌}
 use Rattle.std.specs.Global.{Vec}
 use Rattle.std.specs.List.{list_any}
@@ -55,3 +55,9 @@ pub indexed_released : (age : ℕ) (v : Vec code.Lock) (es new : Entries) (index
     → new ≡ remove_entry (is_at (nat_cmp age)) es → SameMembers (listed es) index → Drops (is_of age v.items) index after → SameMembers (listed new) after
 indexed_released age v es new index after s found is same gone = λ p.
     gone p ∙ same (λ x. p x && not (is_of age v.items x)) ∙ released p age v es s found ∙ ap (λ fs. list_any p (listed fs)) (sym is)
+
+-- without an owner there is no lock, and an empty index has them all
+pub nothing_indexed : (b : Bool) (es : Entries) (index : List Owned) → (IsTrue b ↔ (length es ≡ 0)) → b ≡ true → index ≡ [] → SameMembers (listed es) index
+nothing_indexed b [] index h t bare = λ p. ap (list_any p) bare
+nothing_indexed true (e ∷ es) index h t bare = absurd (omega (arith, h.0 refl))
+nothing_indexed false (e ∷ es) index h t bare = absurd cc

@@ -1,7 +1,8 @@
 -- Who reads and who writes one part of a table, as one list.
-use Rattle.std.proofs.Common.{◌≡◌, List, [], ◌∷◌, Bool, true, false, ◌||◌, ◌&&◌, not, refl, ap, ◌∙◌, length, arith}
+use Rattle.std.proofs.Common.{◌≡◌, List, [], ◌∷◌, Bool, true, false, ◌||◌, ◌&&◌, not, refl, sym, ap, ◌∙◌, Option, Some, None, length, arith}
 use Rattle.std.specs.Prelude.{◌==◌}
-use Rattle.std.specs.List.{list_any, filter}
+use Rattle.std.proofs.Math.Bool.{or-false}
+use Rattle.std.specs.List.{list_any, filter, cons_option}
 use Rattle.tab_locks.specs.Members.{HasMore, Drops}
 use Rattle.tab_locks.specs.Spots.{Holding, is_holding, same_mode}
 use Rattle.tab_locks.proofs.Passing.{any_filter, or_swap, or_twice}
@@ -15,7 +16,7 @@ same_modes true w e = e
 same_modes false true e = absurd cc
 same_modes false false e = refl
 
-it_is : (h x : Holding) → is_holding h x ≡ true → x ≡ h
+pub it_is : (h x : Holding) → is_holding h x ≡ true → x ≡ h
 it_is h x e = by (x.0 == h.0) refl e
   where
     by : (b : Bool) → (x.0 == h.0) ≡ b → (b && same_mode h.1 x.1) ≡ true → x ≡ h
@@ -33,3 +34,13 @@ again h (x ∷ rest) e = by (is_holding h x) refl e (again h rest)
 
 pub others : (h : Holding) (held new : List Holding) → new ≡ filter (λ x. not (is_holding h x)) held → Drops (is_holding h) held new
 others h held new is = λ p. ap (list_any p) is ∙ any_filter p (λ x. not (is_holding h x)) held
+
+-- the first holder, and the others
+any_first : (p : Holding → Bool) (first : Option Holding) (held : List Holding) → list_any p (cons_option first held) ≡ (list_any p (cons_option first []) || list_any p held)
+any_first p None held = refl
+any_first p (Some h) held = λ i. sym (or-false (p h)) i || list_any p held
+
+pub dropped_both : (h : Holding) (first left : Option Holding) (held new : List Holding) → Drops (is_holding h) (cons_option first []) (cons_option left []) → new ≡ filter (λ x. not (is_holding h x)) held
+    → Drops (is_holding h) (cons_option first held) (cons_option left new)
+dropped_both h first left held new one is = λ p.
+    any_first p left new ∙ (λ i. one p i || others h held new is p i) ∙ sym (any_first (λ x. p x && not (is_holding h x)) first held)

@@ -1,9 +1,12 @@
 -- The locks on the keys of one table, as one list.
-use Rattle.std.proofs.Common.{◌≡◌, List, [], Bool, true, false, ◌&&◌, refl, sym, ap, subst, ◌∙◌, Some, None}
+use Rattle.std.proofs.Common.{◌≡◌, List, [], Bool, true, false, ◌&&◌, refl, sym, ap, subst, ◌∙◌, Option, Some, None}
 use Rattle.std.proofs.Math.Bool.{and-true}
 use Rattle.std.specs.Prelude.{map}
 use Rattle.std.specs.List.{list_any}
 use Rattle.std.specs.List.Sorted.{IsStrictlySortedBy}
+use Rattle.std.specs.Option.{is_some}
+use Rattle.tab_locks.specs.Filled.{HasNoneEmpty}
+use Rattle.tab_locks.proofs.Filled.{filled_found}
 use Rattle.std.specs.BTreeMap.{is_at, insert_entry}
 use Rattle.std.specs.Map.{keys_of, values_of, lookup, set_value, remove_entry}
 use Rattle.tab_term.specs.declared.term.Term.{Term}
@@ -84,3 +87,13 @@ dropped_last k r v w es new s l bare is h =
 
 pub dropped_none : (k : Term) (r : Holding) (es new : Entries) → lookup (is_at (term_cmp k)) es ≡ None → new ≡ remove_entry (is_at (term_cmp k)) es → Drops (stands_on_key (term k) r) (key_spots es) (key_spots new)
 dropped_none k r es new l is = subst (λ (fs : Entries). Drops (stands_on_key (term k) r) (key_spots es) (key_spots fs)) {x = es} {y = new} (sym (is ∙ without_missing (is_at (term_cmp k)) es l)) (none_at k r es l)
+
+-- whether a key is there
+pub has_at : (k : Term) (es : Entries) → IsStrictlySortedBy term_cmp (keys_of es) → HasNoneEmpty es → is_some (lookup (is_at (term_cmp k)) es) ≡ list_any (λ s. same (term k) s.0) (key_spots es)
+has_at k es s filled = by (lookup (is_at (term_cmp k)) es) refl
+  where
+    by : (o : Option (List Holding)) → lookup (is_at (term_cmp k)) es ≡ o → is_some o ≡ list_any (λ s. same (term k) s.0) (key_spots es)
+    by None l = sym (free_at k es s l)
+    by (Some v) l =
+        sym (any_same (λ s. same (term k) s.0) (λ s. same (term k) s.0 && true) (key_spots es) (λ s. sym (and-true (same (term k) s.0)))
+        ∙ held_at (λ h. true) k es s ∙ ap (found_any (list_any (λ (h : Holding). true))) l ∙ filled_found (is_at (term_cmp k)) es v l filled)

@@ -11,3 +11,5 @@ pub mod HoldAndRelease
 pub mod WithoutLast
 pub mod Standing
 pub mod Filled
+pub mod Joined
+pub mod FirstLocks

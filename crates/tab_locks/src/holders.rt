@@ -1,5 +1,5 @@
-ghost use Rattle.std.specs.Prelude.{◌≡◌, [], OnOk, OnErr, IfOk, true};
-ghost use Rattle.std.specs.List.{list_any};
+ghost use Rattle.std.specs.Prelude.{◌≡◌, [], OnOk, OnErr, true};
+ghost use Rattle.std.specs.List.{list_any, cons_option};
 ghost use Rattle.tab_locks.specs.Questions.{fits};
 ghost use Rattle.tab_locks.specs.Members.{HasMore, Drops};
 ghost use Rattle.tab_locks.specs.Spots.{is_holding};
@@ -8,20 +8,22 @@ use crate::question::Question;
 use std::alloc::{AllocError, Global};
 use std::marker::Model;
 
-/// The owners of locks on one part of a table, by their ages, each with whether it holds for writing. Mostly there is one, and
-/// no more than two for each session.
+/// The owners of locks on one part of a table, by their ages, each with whether it holds for writing. Mostly there is one, which
+/// stands here itself and takes no memory, and no more than two for each session.
 #[derive(Drop)]
 pub(crate) struct Holders {
-    held: Vec<(u64, bool)>,
+    first: Option<(u64, bool)>,
+    others: Vec<(u64, bool)>,
 }
 
 impl Model for Holders {
     ghost use Rattle.std.specs.Prelude.{List};
+    ghost use Rattle.std.specs.List.{cons_option};
     ghost use Rattle.tab_locks.specs.Spots.{Holding};
 
     ghost Value = { List Holding };
 
-    ghost view = { λ a. a.held.items };
+    ghost view = { λ a. cons_option a.first a.others.items };
 }
 
 impl Holders {
@@ -30,24 +32,26 @@ impl Holders {
         ensures { result ≡ [] }
     {
         Holders {
-            held: Vec::new(alloc),
+            first: None,
+            others: Vec::new(alloc),
         }
     }
 
-    /// One holder alone.
-    pub fn only(alloc: Global, age: u64, write: bool) -> Result<Holders, AllocError>
-        ensures { IfOk result (λ holders. HasMore (age, write) [] holders) }
+    /// One holder alone. It takes no memory.
+    pub fn only(alloc: Global, age: u64, write: bool) -> Holders
+        ensures { HasMore (age, write) [] result }
     {
-        let mut holders = Holders::new(alloc);
-        holders.add(age, write)?;
-        Ok(holders)
+        Holders {
+            first: Some((age, write)),
+            others: Vec::new(alloc),
+        }
     }
 
     /// Whether anyone holds it.
     pub fn is_occupied(&self) -> bool
         ensures { result ≡ list_any (λ _. true) self.now }
     {
-        is_filled(&self.held)
+        self.first.is_some() || is_filled(&self.others)
     }
 
     /// Whether a holder stands in this relation to who asks.
@@ -55,7 +59,19 @@ impl Holders {
         ensures { result
             ≡ list_any (fits question.relation (question.age, question.write)) self.now }
     {
-        any_of(&self.held, question)
+        match self.first {
+            Some((age, write)) => question.fits(age, write) || any_of(&self.others, question),
+            None => any_of(&self.others, question),
+        }
+    }
+
+    fn has(&self, age: u64, write: bool) -> bool
+        ensures { result ≡ list_any (is_holding (age, write)) self.now }
+    {
+        match self.first {
+            Some(first) => is_it(first, age, write) || is_among(&self.others, age, write),
+            None => is_among(&self.others, age, write),
+        }
     }
 
     /// The transaction of this age holds it too.
@@ -63,9 +79,14 @@ impl Holders {
         ensures ok { OnOk result (HasMore (age, write) self.old self.new) }
         ensures err { OnErr result (self.new ≡ self.old) }
     {
-        if !is_among(&self.held, age, write) {
-            self.held.push((age, write))?;
+        if self.has(age, write) {
+            return Ok(());
         }
+        if self.first.is_none() {
+            self.first = Some((age, write));
+            return Ok(());
+        }
+        self.others.push((age, write))?;
         Ok(())
     }
 
@@ -73,8 +94,19 @@ impl Holders {
     pub fn remove(&mut self, age: u64, write: bool)
         ensures { Drops (is_holding (age, write)) self.old self.new }
     {
-        self.held.retain(|holding| !is_it(*holding, age, write));
+        self.first = unless_it(self.first, age, write);
+        self.others.retain(|holding| !is_it(*holding, age, write));
     }
+}
+
+fn unless_it(first: Option<(u64, bool)>, age: u64, write: bool) -> Option<(u64, bool)>
+    ensures { Drops (is_holding (age, write)) (cons_option first []) (cons_option result []) }
+{
+    let holding = first?;
+    if is_it(holding, age, write) {
+        return None;
+    }
+    first
 }
 
 fn is_it(holding: (u64, bool), age: u64, write: bool) -> bool

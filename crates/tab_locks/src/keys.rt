@@ -1,44 +1,40 @@
 ghost use Rattle.std.specs.Prelude.{◌≡◌, ◌&&◌, [], OnOk, OnErr, true, IsFalse};
-ghost use Rattle.std.specs.BTreeMap.{values, IsOrdered};
 ghost use Rattle.std.specs.List.{list_any};
+ghost use Rattle.tab_term.specs.Abbreviations.{number as number_of};
 ghost use Rattle.tab_term.specs.Same.{same};
 ghost use Rattle.tab_term.specs.View.{term};
 ghost use Rattle.tab_locks.specs.Questions.{fits};
 ghost use Rattle.tab_locks.specs.Members.{HasMore, SameMembers, Drops};
-ghost use Rattle.tab_locks.specs.Spots.{key_spots, stands_on_key};
-ghost use Rattle.tab_locks.specs.Filled.{HasNoneEmpty};
-ghost use Rattle.tab_term.specs.Order.{term_cmp};
+ghost use Rattle.tab_locks.specs.Spots.{stands_on_key};
 
+use crate::first_locks::FirstLocks;
 use crate::hindrance::Hindrance;
-use crate::holders::Holders;
 use crate::question::Question;
+use crate::tied_keys::TiedKeys;
 use std::alloc::{AllocError, Global};
-use std::collections::BTreeMap;
-use std::collections::btree_map::Entry;
 use std::marker::Model;
+use tab_key::Abbreviate;
 use tab_term::Term;
 
-/// The owners of locks on the keys of one table.
+/// The owners of locks on the keys of one table. The first lock of each number stands under the number; one on another key of that
+/// number, or another one on the same key, stands among the ties, in the order of terms.
 #[derive(Drop)]
 pub(crate) struct Keys {
-    holders: BTreeMap<Term, Holders>,
+    first: FirstLocks,
+    tied: TiedKeys,
 }
 
 impl Model for Keys {
-    ghost use Rattle.std.specs.Prelude.{List};
+    ghost use Rattle.std.specs.Prelude.{List, ◌++◌};
     ghost use Rattle.std.specs.Coded.{codes};
     ghost use Rattle.tab_term.specs.Code.{term_code};
-    ghost use Rattle.tab_locks.specs.Filled.{IsPruned};
-    ghost use Rattle.tab_locks.specs.Spots.{KeySpot, key_spots};
-    ghost use Rattle.tab_term.specs.Order.{term_cmp};
+    ghost use Rattle.tab_locks.specs.Spots.{KeySpot};
 
     ghost Value = { List KeySpot };
 
     ghost coded = { Prim.hlevel (codes, term_code) };
 
-    ghost view = { λ a. key_spots a.holders.entries };
-
-    ghost invariant = { λ a. IsPruned term_cmp a.holders };
+    ghost view = { λ a. a.first ++ a.tied };
 }
 
 impl Keys {
@@ -47,7 +43,8 @@ impl Keys {
         ensures { result ≡ [] }
     {
         Keys {
-            holders: BTreeMap::new(alloc),
+            first: FirstLocks::new(alloc),
+            tied: TiedKeys::new(alloc),
         }
     }
 
@@ -55,7 +52,7 @@ impl Keys {
     pub fn is_occupied(&self) -> bool
         ensures { result ≡ list_any (λ _. true) self.now }
     {
-        !self.holders.is_empty()
+        self.first.is_occupied() || self.tied.is_occupied()
     }
 
     /// Looks at every key that is locked.
@@ -63,7 +60,7 @@ impl Keys {
         ensures { result
             ≡ list_any (λ s. fits question.relation (question.age, question.write) s.1) self.now }
     {
-        any_of(&self.holders, question)
+        self.first.any_key(question) || self.tied.any_key(question)
     }
 
     /// Looks at that key alone.
@@ -73,13 +70,10 @@ impl Keys {
             same (term key.now) s.0 && fits question.relation
             (question.age, question.write) s.1) self.now }
     {
-        match self.holders.get(key) {
-            Some(holders) => holders.any(question),
-            None => false,
-        }
+        self.first.any_at(question, key) || self.tied.any_at(question, key)
     }
 
-    /// One search; what is made for a key that is not there goes where it is.
+    /// The transaction of this age holds a lock on the key too.
     pub fn add(
         &mut self,
         alloc: Global,
@@ -90,18 +84,25 @@ impl Keys {
         ensures ok { OnOk result (HasMore (term key.now, (age, write)) self.old self.new) }
         ensures err { OnErr result (SameMembers self.old self.new) }
     {
-        let only = Holders::only(alloc, age, write)?;
-        let entry = self.holders.entry(key.try_clone(alloc)?)?;
-        match entry {
-            Entry::Occupied(entry) => {
-                drop(only);
-                return entry.into_mut().add(age, write);
-            }
-            Entry::Vacant(entry) => {
-                entry.insert(only);
-            }
+        self.place(alloc, key.abbreviated(), key, age, write)
+    }
+
+    fn place(
+        &mut self,
+        alloc: Global,
+        number: u64,
+        key: &Term,
+        age: u64,
+        write: bool,
+    ) -> Result<(), AllocError>
+        requires { number ≡ number_of (term key.now) }
+        ensures ok { OnOk result (HasMore (term key.now, (age, write)) self.old self.new) }
+        ensures err { OnErr result (SameMembers self.old self.new) }
+    {
+        if self.first.add(alloc, number, key, age, write)? {
+            return Ok(());
         }
-        Ok(())
+        self.tied.add(alloc, key, age, write)
     }
 
     /// The same at a key that no one holds a lock on, and nothing at another.
@@ -116,60 +117,30 @@ impl Keys {
         ensures free { OnOk result (IsFalse (list_any (λ s. same (term key.now) s.0) self.old)) }
         ensures err { OnErr result (SameMembers self.old self.new) }
     {
-        let alone = Holders::only(alloc, age, write)?;
-        let entry = self.holders.entry(key.try_clone(alloc)?)?;
-        match entry {
-            // What a loan leaves is known, where a dropped entry tells nothing.
-            Entry::Occupied(entry) => {
-                entry.into_mut();
-                return Err(Hindrance);
+        let number = key.abbreviated();
+        match self.first.under_number(number, key) {
+            Some(lock) => {
+                if *key == lock.key {
+                    return Err(Hindrance);
+                }
+                self.tied.add_free(alloc, key, age, write)
             }
-            Entry::Vacant(entry) => {
-                entry.insert(alone);
+            None => {
+                if self.tied.has(key) {
+                    return Err(Hindrance);
+                }
+                Ok(self.place(alloc, number, key, age, write)?)
             }
         }
-        Ok(())
     }
 
     /// A key that no one holds a lock on goes away, so that a question about all of the table doesn't look at it.
     pub fn remove(&mut self, alloc: Global, key: Term, age: u64, write: bool)
         ensures { Drops (stands_on_key (term key) (age, write)) self.old self.new }
     {
-        take(&mut self.holders, alloc, key, age, write);
-    }
-}
-
-fn any_of(holders: &BTreeMap<Term, Holders>, question: Question) -> bool
-    ensures { result
-        ≡ list_any (λ v. list_any (fits question.relation (question.age, question.write)) v)
-        (values holders.now) }
-{
-    holders.values().any(|at_key| at_key.any(question))
-}
-
-/// Takes an owner away from a key, in one search, and the key itself where that was the last one.
-fn take(holders: &mut BTreeMap<Term, Holders>, alloc: Global, key: Term, age: u64, write: bool)
-    requires { HasNoneEmpty holders.old.entries }
-    ensures dropped { Drops (stands_on_key (term key) (age, write)) (key_spots holders.old.entries)
-        (key_spots holders.new.entries) }
-    ensures filled { HasNoneEmpty holders.new.entries }
-    ensures ordered { IsOrdered term_cmp holders.new }
-{
-    match holders.entry(key) {
-        Ok(entry) => match entry {
-            Entry::Occupied(mut entry) => {
-                let at_key = entry.get_mut();
-                at_key.remove(age, write);
-                if at_key.is_occupied() {
-                    return;
-                }
-                entry.remove();
-            }
-            // What a dropped entry leaves is not known, so it is filled and emptied.
-            Entry::Vacant(entry) => {
-                entry.insert_entry(Holders::new(alloc)).remove();
-            }
-        },
-        Err(_refused) => {}
+        self.first.remove(&key, age, write);
+        if self.tied.is_occupied() {
+            self.tied.remove(alloc, key, age, write);
+        }
     }
 }

@@ -5,14 +5,17 @@
 
 #![tactic(auto)]
 
+mod first_locks;
 mod hindrance;
 mod holders;
 mod index;
+mod key_lock;
 mod keys;
 mod laws;
 mod lock_table;
 mod on_table;
 mod question;
+mod tied_keys;
 
 pub use laws::a_lock_more_is_one_member_more;
 pub use lock_table::{Asked, Conflict, LockTable};

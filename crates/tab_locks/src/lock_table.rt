@@ -200,9 +200,15 @@ impl LockTable {
     pub fn release_all(&mut self, age: u64)
         ensures { self.new ≡ without age self.old }
     {
-        if let Some(locks) = self.owners.remove(&age) {
-            release(&mut self.index, self.alloc, age, locks);
+        let Some(locks) = self.owners.remove(&age) else {
+            return;
+        };
+        // Without another owner all of the index goes, and no lock is sought in it.
+        if self.owners.is_empty() {
+            self.index = Index::new(self.alloc);
+            return;
         }
+        release(&mut self.index, self.alloc, age, locks);
     }
 }
 

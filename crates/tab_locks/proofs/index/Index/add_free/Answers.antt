@@ -1,4 +1,4 @@
-use Rattle.std.proofs.Common.{◌≡◌, false, sym, ap, ◌∙◌, subst, ℕ, List, Bool}
+use Rattle.std.proofs.Common.{◌≡◌, false, sym, ap, ◌∙◌, subst, List, Bool}
 use Rattle.std.specs.Option.{option_copied_mut}
 use Rattle.std.specs.List.{list_any}
 use Rattle.std.proofs.lemmas.Result.{on_ok_weaker, on_err_weaker}

@@ -1,10 +1,16 @@
-use Rattle.std.proofs.Common.{ap, ◌∙◌, true}
+use Rattle.std.proofs.Common.{sym, ap, ◌∙◌, ◌||◌, true}
+use Rattle.std.proofs.lemmas.List.Folds.{list_any-append}
 use Rattle.std.specs.List.{list_any}
-use Rattle.tab_locks.proofs.Filled.{any_value}
-use Rattle.tab_locks.proofs.KeySpots.{any_held}
 use Rattle.tab_locks.proofs.keys.Keys.is_occupied.Goals as goal
 
-pub returns : goal.returns
-returns c =
-    let es = c.self.inside.holders.entries in
-    any_value c.is_empty.result es c.is_empty.ensures c.self.invariant.filled ∙ any_held (λ h. true) es ∙ ap (list_any (λ s. true)) c.self.view_is
+pub returns-then-is_occupied : goal.returns-then-is_occupied
+returns-then-is_occupied c =
+    c.if-is_occupied.true ∙ (λ i. (sym c.if-is_occupied.true ∙ c.is_occupied.ensures) i || list_any (λ s. true) c.self.inside.tied)
+    ∙ sym (list_any-append (λ s. true) c.self.inside.first c.self.inside.tied)
+    ∙ ap (list_any (λ s. true)) c.self.view_is
+
+pub returns-else-is_occupied : goal.returns-else-is_occupied
+returns-else-is_occupied c =
+    (λ i. (sym c.if-is_occupied.false ∙ c.is_occupied.ensures) i || c.is_occupied-else-is_occupied.ensures i)
+    ∙ sym (list_any-append (λ s. true) c.self.inside.first c.self.inside.tied)
+    ∙ ap (list_any (λ s. true)) c.self.view_is

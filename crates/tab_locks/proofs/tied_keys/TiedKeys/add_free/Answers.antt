@@ -15,7 +15,7 @@ use Rattle.tab_locks.specs.Spots.{Holding, KeySpot, key_spots}
 use Rattle.tab_locks.proofs.Filled.{filled_found, filled_written, filled_inserted}
 use Rattle.tab_locks.proofs.KeySpots.{same_at, new_at, free_at}
 use Rattle.tab_locks.proofs.PutEntry.{put_found}
-use Rattle.tab_locks.proofs.keys.Keys.add_free.Goals as goal
+use Rattle.tab_locks.proofs.tied_keys.TiedKeys.add_free.Goals as goal
 
 abbrev Entries : Type 0
 Entries = List (Term × List Holding)
@@ -50,12 +50,12 @@ returns-clause-ok c =
     let k = c.in_ok-try_clone.field-0 in
     let x : Holding = (c.args.age, c.args.write) in
     let es = c.self.inside.holders.entries in
-    let w = c.in_ok-alone.alone in
+    let w = c.only-alone.result in
     let new = (map_with_value c.in_ok-entry.entry w).entries in
     let at = is_at (term_cmp k) in
     let missing : lookup at es ≡ None = subst (λ e. MatchEntry e (ContainsKey term_cmp c.self.inside.holders k × (get_key term_cmp c.self.inside.holders k ≡ Some (entry_key e))) (lookup at es ≡ None)) c.in-Vacant.is c.in_ok-entry.ensures.found in
     let more = subst (λ (t : Term). HasMore (term t, x) c.args.self.now (key_spots new)) c.in_ok-try_clone.ensures
-    (subst (λ (s : List KeySpot). HasMore (term k, x) s (key_spots new)) c.self.view_is (new_at k k x w es new refl missing (c.in_ok-entry.ensures.update.1 w) c.in_ok-alone.ensures)) in
+    (subst (λ (s : List KeySpot). HasMore (term k, x) s (key_spots new)) c.self.view_is (new_at k k x w es new refl missing (c.in_ok-entry.ensures.update.1 w) c.only-alone.ensures)) in
     λ p. grind (arith, c.in-Vacant.is, c.insert.ensures.value, more p)
 
 pub returns-clause-free : goal.returns-clause-free
@@ -71,9 +71,9 @@ pub invariant_of-self-2 : goal.invariant_of-self-2
 invariant_of-self-2 c =
     let k = c.in_ok-try_clone.field-0 in
     let es = c.self.inside.holders.entries in
-    let w = c.in_ok-alone.alone in
+    let w = c.only-alone.result in
     let new = (map_with_value c.in_ok-entry.entry w).entries in
     record {
       ordered = subst (λ (fs : Entries). IsStrictlySortedBy term_cmp (keys_of fs)) (grind (arith, c.in-Vacant.is, c.insert.ensures.value)) (c.in_ok-entry.ensures.update.2 w);
-      filled = subst HasNoneEmpty (grind (arith, c.in-Vacant.is, c.insert.ensures.value)) (filled_inserted term_cmp k w es new (c.in_ok-entry.ensures.update.1 w) c.self.invariant.filled (c.in_ok-alone.ensures (λ h. true)));
+      filled = subst HasNoneEmpty (grind (arith, c.in-Vacant.is, c.insert.ensures.value)) (filled_inserted term_cmp k w es new (c.in_ok-entry.ensures.update.1 w) c.self.invariant.filled (c.only-alone.ensures (λ h. true)));
     }

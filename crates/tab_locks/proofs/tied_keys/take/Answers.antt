@@ -12,7 +12,7 @@ use Rattle.tab_locks.specs.Spots.{Holding, key_spots, stands_on_key}
 use Rattle.tab_locks.proofs.Passing.{none_there}
 use Rattle.tab_locks.proofs.KeySpots.{dropped_put, dropped_last, dropped_none, none_at}
 use Rattle.tab_locks.proofs.Filled.{filled_inserted, filled_without}
-use Rattle.tab_locks.proofs.keys.take.Goals as goal
+use Rattle.tab_locks.proofs.tied_keys.take.Goals as goal
 
 abbrev Entries : Type 0
 Entries = List (Term × List Holding)

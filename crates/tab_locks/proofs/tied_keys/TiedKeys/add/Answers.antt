@@ -15,7 +15,7 @@ use Rattle.tab_locks.specs.Spots.{Holding, KeySpot, key_spots}
 use Rattle.tab_locks.proofs.Filled.{filled_found, filled_grown, filled_written, filled_inserted}
 use Rattle.tab_locks.proofs.KeySpots.{more_at, same_at, new_at}
 use Rattle.tab_locks.proofs.PutEntry.{put_found}
-use Rattle.tab_locks.proofs.keys.Keys.add.Goals as goal
+use Rattle.tab_locks.proofs.tied_keys.TiedKeys.add.Goals as goal
 
 abbrev Entries : Type 0
 Entries = List (Term × List Holding)
@@ -67,21 +67,21 @@ returns-clause-ok c =
     let k = c.in_ok-try_clone.field-0 in
     let x : Holding = (c.args.age, c.args.write) in
     let es = c.self.inside.holders.entries in
-    let w = c.in_ok-only.only in
+    let w = c.only.result in
     let new = (map_with_value c.in_ok-entry.entry w).entries in
     let at = is_at (term_cmp k) in
     let missing : lookup at es ≡ None = subst (λ e. MatchEntry e (ContainsKey term_cmp c.self.inside.holders k × (get_key term_cmp c.self.inside.holders k ≡ Some (entry_key e))) (lookup at es ≡ None)) c.in-Vacant.is c.in_ok-entry.ensures.found in
     let more = subst (λ (t : Term). HasMore (term t, x) c.args.self.now (key_spots new)) c.in_ok-try_clone.ensures
-    (subst (λ (s : List KeySpot). HasMore (term k, x) s (key_spots new)) c.self.view_is (new_at k k x w es new refl missing (c.in_ok-entry.ensures.update.1 w) c.in_ok-only.ensures)) in
+    (subst (λ (s : List KeySpot). HasMore (term k, x) s (key_spots new)) c.self.view_is (new_at k k x w es new refl missing (c.in_ok-entry.ensures.update.1 w) c.only.ensures)) in
     λ p. grind (arith, c.in-Vacant.is, c.insert.ensures.value, more p)
 
 pub invariant_of-self-2 : goal.invariant_of-self-2
 invariant_of-self-2 c =
     let k = c.in_ok-try_clone.field-0 in
     let es = c.self.inside.holders.entries in
-    let w = c.in_ok-only.only in
+    let w = c.only.result in
     let new = (map_with_value c.in_ok-entry.entry w).entries in
     record {
       ordered = subst (λ (fs : Entries). IsStrictlySortedBy term_cmp (keys_of fs)) (grind (arith, c.in-Vacant.is, c.insert.ensures.value)) (c.in_ok-entry.ensures.update.2 w);
-      filled = subst HasNoneEmpty (grind (arith, c.in-Vacant.is, c.insert.ensures.value)) (filled_inserted term_cmp k w es new (c.in_ok-entry.ensures.update.1 w) c.self.invariant.filled (c.in_ok-only.ensures (λ h. true)));
+      filled = subst HasNoneEmpty (grind (arith, c.in-Vacant.is, c.insert.ensures.value)) (filled_inserted term_cmp k w es new (c.in_ok-entry.ensures.update.1 w) c.self.invariant.filled (c.only.ensures (λ h. true)));
     }

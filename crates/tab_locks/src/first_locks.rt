@@ -1,0 +1,143 @@
+ghost use Rattle.std.specs.Prelude.{◌≡◌, ◌&&◌, [], OnErr, IfOk, true, false, IsFalse};
+ghost use Rattle.std.specs.BTreeMap.{values};
+ghost use Rattle.std.specs.List.{list_any};
+ghost use Rattle.std.specs.Option.{IfNone, IfSome};
+ghost use Rattle.tab_term.specs.Abbreviations.{number as number_of};
+ghost use Rattle.tab_term.specs.Same.{same};
+ghost use Rattle.tab_term.specs.View.{term};
+ghost use Rattle.tab_locks.specs.Questions.{fits};
+ghost use Rattle.tab_locks.specs.Members.{HasMore, Drops};
+ghost use Rattle.tab_locks.specs.Spots.{stands_on_key};
+
+use crate::key_lock::KeyLock;
+use crate::question::Question;
+use std::alloc::{AllocError, Global};
+use std::collections::BTreeMap;
+use std::marker::Model;
+use tab_key::Abbreviate;
+use tab_term::Term;
+
+/// A lock on a key of each number: the first that came. Numbers are compared faster than terms, and mostly each key has a number
+/// of its own and one owner, so that a key is found by its number alone.
+#[derive(Drop)]
+pub(crate) struct FirstLocks {
+    locks: BTreeMap<u64, KeyLock>,
+}
+
+impl Model for FirstLocks {
+    ghost use Rattle.std.specs.Prelude.{List};
+    ghost use Rattle.std.specs.Coded.{codes};
+    ghost use Rattle.tab_term.specs.Code.{term_code};
+    ghost use Rattle.tab_locks.specs.Numbered.{IsNumbered, first_spots};
+    ghost use Rattle.tab_locks.specs.Spots.{KeySpot};
+
+    ghost Value = { List KeySpot };
+
+    ghost coded = { Prim.hlevel (codes, term_code) };
+
+    ghost view = { λ a. first_spots a.locks.entries };
+
+    ghost invariant = { λ a. IsNumbered a.locks };
+}
+
+impl FirstLocks {
+    /// No lock. It takes no memory.
+    pub fn new(alloc: Global) -> FirstLocks
+        ensures { result ≡ [] }
+    {
+        FirstLocks {
+            locks: BTreeMap::new(alloc),
+        }
+    }
+
+    /// Whether there is one.
+    pub fn is_occupied(&self) -> bool
+        ensures { result ≡ list_any (λ _. true) self.now }
+    {
+        !self.locks.is_empty()
+    }
+
+    /// Looks at all of them.
+    pub fn any_key(&self, question: Question) -> bool
+        ensures { result
+            ≡ list_any (λ s. fits question.relation (question.age, question.write) s.1) self.now }
+    {
+        any_of(&self.locks, question)
+    }
+
+    /// Looks at that key alone.
+    pub fn any_at(&self, question: Question, key: &Term) -> bool
+        ensures { result
+            ≡ list_any (λ s.
+            same (term key.now) s.0 && fits question.relation
+            (question.age, question.write) s.1) self.now }
+    {
+        match self.locks.get(&key.abbreviated()) {
+            Some(lock) => lock.fits_at(question, key),
+            None => false,
+        }
+    }
+
+    /// The lock under the number of this key, which may be on another one.
+    pub fn under_number(&self, number: u64, key: &Term) -> Option<&KeyLock>
+        requires { number ≡ number_of (term key.now) }
+        ensures none { IfNone result (IsFalse (list_any (λ s. same (term key.now) s.0) self.now)) }
+        ensures one { IfSome result
+            (λ l. list_any (λ s. same (term key.now) s.0) self.now
+            ≡ same (term key.now) (term l.now.key)) }
+    {
+        self.locks.get(&number)
+    }
+
+    /// Holds a lock on this key, where none stands under its number, or this very one does; else it tells that it does not, and
+    /// stays as it is.
+    pub fn add(
+        &mut self,
+        alloc: Global,
+        number: u64,
+        key: &Term,
+        age: u64,
+        write: bool,
+    ) -> Result<bool, AllocError>
+        requires { number ≡ number_of (term key.now) }
+        ensures more { IfOk result
+            (λ b. b ≡ true → HasMore (term key.now, (age, write)) self.old self.new) }
+        ensures same { IfOk result (λ b. b ≡ false → self.new ≡ self.old) }
+        ensures err { OnErr result (self.new ≡ self.old) }
+    {
+        if let Some(lock) = self.locks.get(&number) {
+            return Ok(lock.is(key, age, write));
+        }
+        let lock = KeyLock {
+            key: key.try_clone(alloc)?,
+            age,
+            write,
+        };
+        self.locks.insert(number, lock)?;
+        Ok(true)
+    }
+
+    /// This one is held no more.
+    pub fn remove(&mut self, key: &Term, age: u64, write: bool)
+        ensures { Drops (stands_on_key (term key.now) (age, write)) self.old self.new }
+    {
+        let number = key.abbreviated();
+        let Some(lock) = self.locks.get(&number) else {
+            return;
+        };
+        if !lock.is(key, age, write) {
+            return;
+        }
+        self.locks.remove(&number);
+    }
+}
+
+fn any_of(locks: &BTreeMap<u64, KeyLock>, question: Question) -> bool
+    ensures { result
+        ≡ list_any (λ l. fits question.relation (question.age, question.write) (l.age, l.write))
+        (values locks.now) }
+{
+    locks
+        .values()
+        .any(|lock| question.fits(lock.age, lock.write))
+}
