@@ -1,5 +1,5 @@
 -- Which pairs stand in an index after the keys of one value change.
-use Rattle.std.proofs.Common.{◌≡◌, ◌≢◌, List, [], ◌∷◌, Bool, true, false, not, ◌&&◌, ◌||◌, Some, None, Ordering, Less, Equal, Greater, refl, sym, ap, ◌∙◌, map}
+use Rattle.std.proofs.Common.{◌≡◌, ◌≢◌, List, [], ◌∷◌, Bool, true, false, not, ◌&&◌, ◌||◌, Some, None, Ordering, Less, Equal, Greater, refl, sym, ap, ◌∙◌, subst, map}
 use Rattle.std.specs.Prelude.{if◌then◌else◌, is_some}
 use Rattle.std.specs.Ordering.{match_ordering, is_eq}
 use Rattle.tab_term.specs.declared.term.Term.{Term}
@@ -11,7 +11,8 @@ use Rattle.tab_term.specs.View.{term}
 use Rattle.tab_term.proofs.Total.{term_total}
 use Rattle.tab_map.specs.Entries.{lookup, insert_entry, remove_entry, AllAbove, Ascends}
 use Rattle.tab_map.specs.KeyList.{keys, contains_key, insert_key, remove_key, AllKeysAbove, KeysAscend}
-use Rattle.tab_map.proofs.KeyListLemmas.{keys_lookup, keys_insert, keys_remove}
+use Rattle.tab_map.proofs.KeyListLemmas.{keys_lookup, keys_insert, keys_remove, keys_ascend}
+use Rattle.tab_map.proofs.AscendsLemmas.{ascends_insert}
 use Rattle.tab_model.specs.Shapes.{term_value}
 use Rattle.tab_records.proofs.LookUps.{lookup_insert, lookup_remove}
 use Rattle.tab_index.specs.IndexOf.{Entry, keys_in, has_pair, IsFilled, IsWith, IsWithout}
@@ -74,6 +75,11 @@ contains_remove j k ks s =
     cases Less = has_entry j ks
     cases Equal = refl
     cases Greater = has_entry j ks
+
+pub keys_ascend_insert : (k : Term) (ks : List Term) → KeysAscend term_cmp ks → KeysAscend term_cmp (insert_key term_cmp k ks)
+keys_ascend_insert k ks s =
+    subst (KeysAscend term_cmp) (keys_insert term_cmp (k, tt) (entries_of ks) ∙ ap (insert_key term_cmp k) (keys-entries ks))
+    (keys_ascend term_cmp (insert_entry term_cmp (k, tt) (entries_of ks)) (ascends_insert term_total (k, tt) (entries_of ks) (ascends-entries ks s)))
 
 insert_some : (k : Term) (ks : List Term) → insert_key term_cmp k ks ≢ []
 insert_some k [] e = cc

@@ -3,13 +3,12 @@ use Rattle.std.proofs.Common.{◌≡◌, ℕ, List, [], ◌∷◌, ◌++◌, Boo
 use Rattle.std.specs.Prelude.{if◌then◌else◌}
 use Rattle.std.specs.Cmp.{IsEquivalence}
 use Rattle.std.specs.List.{list_any}
-use Rattle.std.proofs.lemmas.List.Elements.{filter-append}
 use Rattle.std.proofs.lemmas.List.Folds.{list_any-append}
 use Rattle.tab_term.specs.declared.term.Term.{Term}
 use Rattle.tab_term.specs.Data.{PlainTerm}
 use Rattle.tab_term.specs.Same.{same, same_equiv}
 use Rattle.tab_term.specs.View.{term}
-use Rattle.tab_model.specs.Tables.{Rows, key, has_key, at, put, delete, delete_object, is_ordered}
+use Rattle.tab_model.specs.Tables.{Rows, key, at, put, delete, delete_object, is_ordered}
 use Rattle.tab_model.specs.WholeTables.{element}
 use Rattle.tab_model.specs.declared.data.Kind.TheVariants.{Set, Bag}
 use Rattle.tab_model.specs.declared.data.Change.TheVariants as change
@@ -116,9 +115,6 @@ put_to_bag p rows r es fs o = grown p rows (put Bag rows r) r es fs (λ x k. ap 
     cases : (x k : PlainTerm) (b : Bool) → list_any (same r) rows ≡ b → any_has p x (if b then at rows k else at rows k ++ (if same (key r) k then r ∷ [] else [])) ≡ ((same (element p r) x && same (key r) k) || any_has p x (at rows k))
     cases x k true e = there_already p rows r x k e
     cases x k false e = at_last p rows r x k
-
-pub put_last : (p : ℕ) (rows : Rows) (r : PlainTerm) (es fs : List Entry) → IsIndexOf rows p es → IsWith es fs (element p r) (key r) → IsIndexOf (rows ++ r ∷ []) p fs
-put_last p rows r es fs = grown p rows (rows ++ r ∷ []) r es fs (λ x k. ap (any_has p x) (filter-append (has_key k) rows (r ∷ [])) ∙ at_last p rows r x k ∙ turned p rows r x k)
 
 -- a set's record that has the value of the one before it
 pub put_over : (p : ℕ) (rows : Rows) (r : PlainTerm) (es : List Entry) → is_ordered rows ≡ true → map (element p) (at rows (key r)) ≡ element p r ∷ [] → IsIndexOf rows p es → IsIndexOf (put Set rows r) p es

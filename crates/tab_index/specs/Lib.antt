@@ -1,3 +1,4 @@
 pub mod IndexOf
 pub mod BoundKey
 pub mod Indexed
+pub mod Pairs

@@ -1,17 +1,18 @@
 //! One index of a table's records: for each value that records have at a position, the keys of those records.
 
-ghost use Rattle.std.specs.Prelude.{◌≡◌, ℕ, [], ◌∷◌, ◌++◌, not, ◌&&◌, IfOk, OnOk, IsTrue, map, true};
+ghost use Rattle.std.specs.Prelude.{◌≡◌, ℕ, [], ◌∷◌, not, ◌&&◌, IfOk, OnOk, IsTrue, map, true};
 ghost use Rattle.std.specs.List.{filter, list_any};
 ghost use Rattle.tab_term.specs.Order.{term_cmp};
 ghost use Rattle.tab_term.specs.Same.{same};
 ghost use Rattle.tab_term.specs.View.{term, terms};
-ghost use Rattle.tab_model.specs.Tables.{Rows as RowsOf, key as key_of_row, apply, put as put_in, delete as delete_in, delete_object as delete_object_in, is_ordered};
+ghost use Rattle.tab_model.specs.Tables.{key as key_of_row, apply, put as put_in, delete as delete_in, delete_object as delete_object_in, is_ordered};
 ghost use Rattle.tab_model.specs.WholeTables.{element as element_of};
 ghost use Rattle.tab_model.specs.declared.data.Kind.TheVariants as kind;
 ghost use Rattle.tab_map.specs.Entries.{lookup, Ascends};
 ghost use Rattle.tab_map.specs.KeyList.{KeysAscend};
 ghost use Rattle.tab_index.specs.IndexOf.{keys_in, IsIndexOf, IsWith, IsWithout, has_value};
 
+use crate::building::entries_of;
 use crate::element::{Nothing, element, key};
 use std::alloc::{AllocError, Global};
 use tab_map::{Map, Set};
@@ -118,29 +119,15 @@ impl Index {
         )
     }
 
-    /// The index of these records at the position, in one walk.
+    /// The index of these records at the position, in one sort.
     pub fn of(alloc: Global, position: u64, rows: &Rows) -> Result<Index, AllocError>
         ensures position { IfOk result (λ index. index.position ≡ position) }
         ensures index { IfOk result (λ index. IsIndexOf rows.now.1 index.position index.keys) }
     {
-        let mut index = Index::new(position);
-        for entry in rows.walk() {
-            index.add_all(alloc, entry.pair().1.iter())?;
-        }
-        Ok(index)
-    }
-
-    // Adds what each of these records has at the position.
-    fn add_all(&mut self, alloc: Global, records: Iter<'_>) -> Result<(), AllocError>
-        ensures position { self.new.position ≡ self.old.position }
-        ensures ok { OnOk result
-            ((rows : RowsOf) → IsIndexOf rows self.old.position self.old.keys
-            → IsIndexOf (rows ++ records.entry) self.new.position self.new.keys) }
-    {
-        for row in records {
-            self.add(alloc, row)?;
-        }
-        Ok(())
+        Ok(Index {
+            position,
+            keys: entries_of(alloc, position, rows)?,
+        })
     }
 
     // Takes out what the key's records have at the position.

@@ -5,6 +5,7 @@
 
 #![tactic(auto)]
 
+mod building;
 pub mod element;
 mod index;
 mod indexes;

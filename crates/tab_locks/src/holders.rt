@@ -8,8 +8,8 @@ use crate::question::Question;
 use std::alloc::{AllocError, Global};
 use std::marker::Model;
 
-/// The owners of locks on one part of a table, by their ages, each with whether it holds for writing. Mostly there is one, which
-/// stands here itself and takes no memory, and no more than two for each session.
+/// The owners of locks on one part of a table, by their ages, each with whether it holds for writing. Mostly there is one,
+/// which stands here itself and takes no memory, and no more than two for each session.
 #[derive(Drop)]
 pub(crate) struct Holders {
     first: Option<(u64, bool)>,

@@ -16,8 +16,8 @@ use std::marker::Model;
 use tab_key::Abbreviate;
 use tab_term::Term;
 
-/// The owners of locks on the keys of one table. The first lock of each number stands under the number; one on another key of that
-/// number, or another one on the same key, stands among the ties, in the order of terms.
+/// The owners of locks on the keys of one table. The first lock of each number stands under the number; one on another key of
+/// that number, or another one on the same key, stands among the ties, in the order of terms.
 #[derive(Drop)]
 pub(crate) struct Keys {
     first: FirstLocks,

@@ -23,7 +23,7 @@ returns-then-is_none-clause-ok g c =
     let σ = c.self.inside.manager in
     let n = c.args.session in
     let none = unseen bs σ c.args.self.now c.self.view_is n (λ μ s. None) None (free _ _ c.in_default.not-Some c.session_refusal.ensures) in
-    ap (λ t. Some (reply.UnknownTable t)) c.in_ok-try_clone.ensures
+    ap (λ t. Some (reply.UnknownTable t)) c.in_ok-try_clone.ensures.ok
     ∙ seen bs σ c.args.self.now c.self.view_is n (λ μ s. subscribe_refusal μ s c.args.table.now) (Some (reply.UnknownTable c.args.table.now))
     (no_table bs σ n c.args.table.now none (c.if-is_some.ensures ∙ ap is_some c.overflow.ensures)
     (sym c.if-is_none.ensures ∙ copied_is_some c.table.result ∙ ap is_some c.table.ensures ∙ ap (λ w. is_some (find w c.args.table.now)) c.tables.ensures))
@@ -34,7 +34,7 @@ returns-then-is_some-2-clause-ok g c =
     let σ = c.self.inside.manager in
     let n = c.args.session in
     let none = unseen bs σ c.args.self.now c.self.view_is n (λ μ s. None) None (free _ _ c.in_default.not-Some c.session_refusal.ensures) in
-    ap (λ t. Some (reply.AlreadySubscribed t)) c.in_ok-try_clone-2.ensures
+    ap (λ t. Some (reply.AlreadySubscribed t)) c.in_ok-try_clone-2.ensures.ok
     ∙ seen bs σ c.args.self.now c.self.view_is n (λ μ s. subscribe_refusal μ s c.args.table.now) (Some (reply.AlreadySubscribed c.args.table.now))
     (subscribed_already bs σ n c.args.table.now none (c.if-is_some.ensures ∙ ap is_some c.overflow.ensures)
     (sym c.if-is_none.ensures ∙ copied_is_some c.table.result ∙ ap is_some c.table.ensures ∙ ap (λ w. is_some (find w c.args.table.now)) c.tables.ensures)

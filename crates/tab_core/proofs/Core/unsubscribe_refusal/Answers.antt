@@ -21,7 +21,7 @@ returns-clause-ok g c =
     let σ = c.self.inside.manager in
     let n = c.args.session in
     let none = unseen bs σ c.args.self.now c.self.view_is n (λ μ s. None) None (free _ _ c.in_default.not-Some c.session_refusal.ensures) in
-    ap (λ t. Some (reply.NotSubscribed t)) c.in_ok-try_clone.ensures
+    ap (λ t. Some (reply.NotSubscribed t)) c.in_ok-try_clone.ensures.ok
     ∙ seen bs σ c.args.self.now c.self.view_is n (λ μ. unsubscribe_refusal c.args.table.now c.args.level) (Some (reply.NotSubscribed c.args.table.now))
     (not_subscribed bs σ n c.args.table.now none c.args.level (c.if-is_at.ensures ∙ ap (λ o. is_at o c.args.level) c.level.ensures))
 

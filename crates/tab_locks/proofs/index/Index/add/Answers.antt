@@ -45,7 +45,7 @@ returns-in_ok-insert-in-None-clause-ok c =
     let missing = sym (ap option_copied_mut (sym c.in-None.is) ∙ c.get_mut.ensures.value) in
     let before = λ (v : List Owned) (b : Bool). HasMore (c.args.age, lock l.table (part_of l.what) b) v (locks_in new) in
     let at_none = ap (λ (m : BTreeMap (List ℕ) (List Spot)). insert_entry bytes_cmp m.entries c.in_ok-try_clone-in-None.field-0 only) c.get_mut.follows.holds-at-none in
-    let more = new_in l.table c.in_ok-try_clone-in-None.field-0 (part_of l.what, (c.args.age, c.is_write-write.result)) only es new c.in_ok-try_clone-in-None.ensures missing
+    let more = new_in l.table c.in_ok-try_clone-in-None.field-0 (part_of l.what, (c.args.age, c.is_write-write.result)) only es new c.in_ok-try_clone-in-None.ensures.ok missing
     (c.in_ok-insert-in-None.ensures.entries ∙ at_none) c.in_ok-only-in-None.ensures in
     subst (λ (b : Bool). before c.args.self.now b) c.is_write-write.ensures (subst (λ (v : List Owned). before v c.is_write-write.result) c.self.view_is more)
 

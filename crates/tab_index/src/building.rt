@@ -1,0 +1,159 @@
+//! The entries of an index, all at once: one sort of the records' values, and one walk over them in their order.
+
+ghost use Rattle.std.specs.Prelude.{◌≡◌, ◌++◌, map, IfOk, OnOk};
+ghost use Rattle.std.specs.Ordering.{is_lt};
+ghost use Rattle.std.specs.List.Sorted.{IsPermutation, IsSortedBy};
+ghost use Rattle.tab_term.specs.Order.{term_cmp};
+ghost use Rattle.tab_term.specs.View.{term};
+ghost use Rattle.tab_map.specs.Entries.{Ascends};
+ghost use Rattle.tab_index.specs.IndexOf.{IsIndexOf};
+ghost use Rattle.tab_index.specs.Pairs.{pair_of, value_cmp, HasPairs, EndsUpTo, IsNext};
+
+use crate::element::{Nothing, element, key};
+use std::alloc::{AllocError, Global};
+use std::cmp::Ordering;
+use std::marker::Model;
+use tab_key::Abbreviate;
+use tab_map::{Map, Set};
+use tab_records::Iter;
+use tab_rows::Rows;
+use tab_term::Term;
+
+/// A record's value at the index's position, and its key.
+#[derive(Drop)]
+struct Pair<'a> {
+    // The value's, so that most comparisons follow no pointer.
+    number: u64,
+    value: &'a Term,
+    key: &'a Term,
+}
+
+impl<'a> Model for Pair<'a> {
+    ghost use Rattle.std.specs.Prelude.{◌≡◌};
+    ghost use Rattle.std.specs.Coded.{codes};
+    ghost use Rattle.tab_term.specs.Abbreviations.{number as number_of};
+    ghost use Rattle.tab_term.specs.Code.{term_code};
+    ghost use Rattle.tab_term.specs.View.{term};
+    ghost use Rattle.tab_index.specs.Pairs.{Pair as PairOf};
+
+    ghost Value = { PairOf };
+
+    ghost coded = { Prim.hlevel (codes, term_code) };
+
+    ghost view = { λ a. (term a.value.now, term a.key.now) };
+
+    ghost invariant = { λ a. a.number ≡ number_of (term a.value.now) };
+}
+
+impl<'a> Pair<'a> {
+    fn new(value: &'a Term, key: &'a Term) -> Pair<'a>
+        ensures { result ≡ (term value.now, term key.now) }
+    {
+        Pair {
+            number: value.abbreviated(),
+            value,
+            key,
+        }
+    }
+
+    /// By the values, which are compared only where their numbers tie.
+    fn order(&self, other: &Pair<'_>) -> Ordering
+        ensures { result ≡ value_cmp self.now other.now }
+    {
+        if self.number < other.number {
+            Ordering::Less
+        } else if other.number < self.number {
+            Ordering::Greater
+        } else {
+            self.value.cmp(other.value)
+        }
+    }
+}
+
+/// The entries of an index of these records at the position.
+pub fn entries_of(
+    alloc: Global,
+    position: u64,
+    rows: &Rows,
+) -> Result<Map<Term, Set<Term>>, AllocError>
+    ensures { IfOk result (IsIndexOf rows.now.1 position) }
+{
+    let nothing = Nothing::new(alloc);
+    let mut pairs = pairs_of(alloc, position, rows, &nothing)?;
+    sort_pairs(&mut pairs)?;
+    let entries = grouped(alloc, pairs.as_slice())?;
+    Map::from_sorted(alloc, entries)
+}
+
+// The pair of each record, in the order of the records.
+fn pairs_of<'a>(
+    alloc: Global,
+    position: u64,
+    rows: &'a Rows,
+    nothing: &'a Nothing,
+) -> Result<Vec<Pair<'a>>, AllocError>
+    ensures { IfOk result (λ pairs. pairs.items ≡ map (pair_of position) rows.now.1) }
+{
+    let mut pairs = Vec::with_capacity(alloc, rows.size())?;
+    for entry in rows.walk() {
+        add_pairs(&mut pairs, position, entry.pair().1.iter(), nothing)?;
+    }
+    Ok(pairs)
+}
+
+fn add_pairs<'a>(
+    pairs: &mut Vec<Pair<'a>>,
+    position: u64,
+    records: Iter<'a>,
+    nothing: &'a Nothing,
+) -> Result<(), AllocError>
+    ensures { OnOk result
+        (pairs.new.items ≡ pairs.old.items ++ map (pair_of position) records.entry) }
+{
+    for row in records {
+        pairs.push(Pair::new(element(row, position, nothing), key(row, nothing)))?;
+    }
+    Ok(())
+}
+
+// By the values. The sort is stable, so the keys of a value keep their order, in which a set takes them the soonest.
+fn sort_pairs(pairs: &mut Vec<Pair<'_>>) -> Result<(), AllocError>
+    ensures permutation { IsPermutation pairs.old.items pairs.new.items }
+    ensures sorted { OnOk result
+        (IsSortedBy (λ a b. is_lt (value_cmp a b)) pairs.new.items) }
+{
+    pairs.sort_by(|first, second| first.order(second))
+}
+
+// An entry for each value, in the order of the values.
+fn grouped(alloc: Global, pairs: &[Pair<'_>]) -> Result<Vec<(Term, Set<Term>)>, AllocError>
+    requires { IsSortedBy (λ a b. is_lt (value_cmp a b)) pairs.now }
+    ensures ascends { IfOk result (λ entries. Ascends term_cmp entries.items) }
+    ensures pairs { IfOk result (λ entries. HasPairs pairs.now entries.items) }
+{
+    let mut entries = Vec::new(alloc);
+    for pair in pairs {
+        add_pair(&mut entries, alloc, pair)?;
+    }
+    Ok(entries)
+}
+
+// Adds a pair whose value is not below the last entry's: its key to that entry, or an entry after that.
+fn add_pair(
+    entries: &mut Vec<(Term, Set<Term>)>,
+    alloc: Global,
+    pair: &Pair<'_>,
+) -> Result<(), AllocError>
+    requires { EndsUpTo entries.old.items pair.now.0 }
+    ensures { OnOk result (IsNext entries.old.items entries.new.items pair.now) }
+{
+    if let Some(last) = entries.last_mut() {
+        if last.0 == *pair.value {
+            return last.1.insert(alloc, pair.key.try_clone(alloc)?);
+        }
+    }
+    let mut keys = Set::new();
+    keys.insert(alloc, pair.key.try_clone(alloc)?)?;
+    entries.push((pair.value.try_clone(alloc)?, keys))?;
+    Ok(())
+}
