@@ -5,7 +5,7 @@ use std::alloc::{AllocError, Global};
 use std::test::Fail;
 use tab_etf::{Counted, decode};
 use tab_lists::{Answer, Answers, EventTerm, EventTerms, SharedEvent, SharedTerms, Tag};
-use tab_model::{Command, Ending, Item, Level, Reply, SharedReply};
+use tab_model::{Command, Ending, Item, Level, Reply};
 use tab_proto::{
     Delivery, append_item, append_reply, append_reply_within, command, term_of, write_item,
     write_reply,
@@ -153,23 +153,24 @@ fn items_are_sent(rt: HostRuntime) -> Result<(), Fail> {
     Ok(())
 }
 
-/// Both of a pair have the reply, the second when the first is gone.
+/// Both of a pair of lists are spelled, the second when the first is gone.
 #[test]
 fn replies_are_spelled(rt: HostRuntime) -> Result<(), Fail> {
     let alloc = rt.alloc();
     let mut records = Vec::new(alloc);
     records.push(Term::Int(3))?;
     let records = SharedTerms::from_terms(Terms::from_vec(records));
-    let (first, second) = SharedReply::pair(alloc, Reply::Found(records))?;
+    let (first, second) = records.pair(alloc)?;
+    let (first, second) = (Reply::Found(first), Reply::Found(second));
     let mut frame = Vec::new(alloc);
-    append_reply(Some(7), first.reply(), &mut frame)?;
+    append_reply(Some(7), &first, &mut frame)?;
     drop(first);
     assert_eq!(rt;
         frame.as_slice(),
         b"\0\0\0\x09\x83h\x02a\x07k\0\x01\x03".as_slice()
     );
     let mut device = Counted::new(Vec::new(alloc));
-    write_reply(&mut device, None, second.reply())?;
+    write_reply(&mut device, None, &second)?;
     assert_eq!(rt;
         device.into_inner().as_slice(),
         b"\0\0\0\x0e\x83h\x02w\x05replyk\0\x01\x03".as_slice()

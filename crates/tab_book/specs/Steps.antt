@@ -122,7 +122,7 @@ pub record Joins (old : Running) (session mailbox : ℕ) (taken : List Item) (ne
   pub fresh : (n : ℕ) (s : Session) → session_at old.state.sessions n ≡ Some s → s.outbox.mailbox ≢ Some mailbox
   pub journal : new.journal ≡ old.journal
 
--- a join that changed nothing: no room is left, or there is room and memory was refused
+-- a join that changed nothing: no seat is free, or one is and memory was refused
 abbrev pub Refuses : Running → JoinFault → Running → Type 0
 Refuses old Limit new = (has_free_seat old.state ≡ false) × (new ≡ old)
 Refuses old NoMemory new = (has_free_seat old.state ≡ true) × (new ≡ old)

@@ -1,6 +1,7 @@
 //! Commands, in few words. The one record is `{t, 1, Value}`.
 use std::alloc::{AllocError, Global};
-use tab_model::{Command, Level, Limits, Operation, Reply, Schema};
+use tab_lists::SharedTerms;
+use tab_model::{Command, Kept, Level, Limits, LoggedReply, Operation, Reply, Schema};
 use tab_term::{Atom, Term, Terms};
 
 pub const LIMITS: Limits = Limits {
@@ -63,13 +64,23 @@ pub fn number_of(reply: &Reply) -> u64 {
 /// The value of the one record that a read found.
 pub fn value_in(reply: &Reply) -> Option<i128> {
     match reply {
-        Reply::Found(records) => {
-            let mut records = records.iter();
-            match (records.next(), records.next()) {
-                (Some(record), None) => value_of(record),
-                _ => None,
-            }
-        }
+        Reply::Found(records) => value_alone(records),
+        _ => None,
+    }
+}
+
+/// The value of the one record that a read of a trace found.
+pub fn value_logged(logged: &LoggedReply) -> Option<i128> {
+    match &logged.kept {
+        Kept::Found(records) => value_alone(records),
+        _ => None,
+    }
+}
+
+fn value_alone(records: &SharedTerms) -> Option<i128> {
+    let mut records = records.iter();
+    match (records.next(), records.next()) {
+        (Some(record), None) => value_of(record),
         _ => None,
     }
 }

@@ -2,7 +2,9 @@
 
 ghost use Rattle.std.specs.Prelude.{◌≡◌, ◌≤◌};
 
-use crate::commands::{LIMITS, create, number_of, read_for_write, record, value_in, write};
+use crate::commands::{
+    LIMITS, create, number_of, read_for_write, record, value_in, value_logged, write,
+};
 use std::alloc::{AllocError, Global};
 use std::marker::{Brand, PhantomData};
 use std::sync::Wait;
@@ -123,7 +125,7 @@ fn is_commit(entry: &Entry, session: u64, raised: Raised) -> bool {
                 *number == raised.commit
                     && *by == session
                     && *age == raised.age
-                    && value_in(first.reply()) == Some(raised.value)
+                    && value_logged(first) == Some(raised.value)
                     && is_next(raised)
             }
             _ => false,

@@ -3,7 +3,7 @@ use std::alloc::{AllocError, Global};
 use tab_journal::Journal;
 use tab_lists::SharedTerms;
 use tab_model::{
-    Entry, Level, Move, Moves, Numbers, Operation, Replies, Reply, Schema, SharedReply,
+    Entry, Level, LoggedReply, Move, Moves, Numbers, Operation, Replies, Reply, Schema, SharedReply,
 };
 use tab_records::Iter;
 use tab_term::{Term, Terms};
@@ -98,13 +98,25 @@ fn found(alloc: Global, value: i128) -> Result<SharedTerms, AllocError> {
     Ok(SharedTerms::from_terms(Terms::from_vec(records)))
 }
 
-fn told_of(alloc: Global, made: &Made) -> Result<Option<SharedReply>, AllocError> {
+fn logged(alloc: Global, reply: Reply) -> Result<LoggedReply, AllocError> {
+    let (told, logged) = SharedReply::pair(alloc, reply)?;
+    drop(told);
+    Ok(logged)
+}
+
+fn told_of(alloc: Global, made: &Made) -> Result<Option<LoggedReply>, AllocError> {
     Ok(match made {
-        Made::Write(_) => Some(SharedReply::new(Reply::Done)),
-        Made::Read(value) => Some(SharedReply::new(Reply::Found(found(alloc, *value)?))),
-        Made::Fail => Some(SharedReply::new(Reply::NoTable(atom(alloc, "nosuch")?))),
-        Made::Open => Some(SharedReply::new(Reply::Tid(1))),
-        Made::Close => Some(SharedReply::new(Reply::AtomicOk)),
+        Made::Write(_) => Some(logged(alloc, Reply::Done)?),
+        Made::Read(value) => {
+            let records = found(alloc, *value)?;
+            Some(logged(alloc, Reply::Found(records))?)
+        }
+        Made::Fail => {
+            let table = atom(alloc, "nosuch")?;
+            Some(logged(alloc, Reply::NoTable(table))?)
+        }
+        Made::Open => Some(LoggedReply::tid(1)),
+        Made::Close => Some(LoggedReply::atomic_ok()),
         Made::Undo => None,
     })
 }

@@ -34,7 +34,8 @@ use Rattle.tab_model.specs.Tables.{is_ordered, apply}
 use Rattle.tab_model.specs.Catalogs.{Catalog, Table, IsOrderedCatalog, name_of, find, place, with_rows}
 use Rattle.tab_model.proofs.ChangeLaws.{find-place, ordered-apply}
 use Rattle.tab_model.proofs.CatalogsOrdered.{ordered-after, schema_ordered}
-use Rattle.tab_journal.specs.Audits.{is_done, is_found, is_no_table, is_bad_type, is_no_index, is_answer, is_tid, is_atomic_ok, same_tables, Follows, RunsAs, Enters, Leads, with_now}
+use Rattle.tab_model.specs.Logged.{is_tid, is_atomic_ok}
+use Rattle.tab_journal.specs.Audits.{is_done, is_found, is_no_table, is_bad_type, is_no_index, is_answer, same_tables, Follows, RunsAs, Enters, Leads, with_now}
 
 -- ---- tables stay in order
 

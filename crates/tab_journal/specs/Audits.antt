@@ -55,16 +55,6 @@ is_answer (reply.BadType t x) r = is_bad_type t x r
 is_answer (reply.NoIndex t x) r = is_no_index t x r
 is_answer x r = false
 
--- the same as a child's begin is told, and its commit
-abbrev pub is_tid : ℕ → Option Reply → Bool
-is_tid age (Some (reply.Tid n)) = age == n
-is_tid age r = false
-
--- the reply is there, and is {atomic, ok}
-abbrev pub is_atomic_ok : Option Reply → Bool
-is_atomic_ok (Some reply.AtomicOk) = true
-is_atomic_ok r = false
-
 -- ---- the same tables
 
 -- the same names in the same order

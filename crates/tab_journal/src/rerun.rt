@@ -14,10 +14,10 @@ use std::alloc::{AllocError, Global};
 use std::collections::VecDeque;
 use std::marker::Model;
 use std::slice;
-use tab_model::{Move, Operation, Reply, SharedReply};
+use tab_model::{LoggedReply, Move, Operation};
 use tab_operations::{Pending, perform};
 use tab_tables::{Catalog, Lender};
-use tab_txstore::{TxStore, is_failure};
+use tab_txstore::TxStore;
 
 /// A transaction in its midst, on whole versions of the tables, which share what does not change.
 struct Midst {
@@ -78,7 +78,7 @@ impl Midst {
         self,
         alloc: Global,
         step: &Move,
-        told: &Option<SharedReply>,
+        told: &Option<LoggedReply>,
     ) -> Result<Option<Midst>, AllocError>
         ensures { IfOk result (Follows self step.now told.now) }
     {
@@ -87,7 +87,7 @@ impl Midst {
                 let Some(told) = told else {
                     return Ok(None);
                 };
-                self.operate(alloc, operation, told.reply())
+                self.operate(alloc, operation, told)
             }
             Move::Open => {
                 if !is_tid(told, self.age) {
@@ -114,14 +114,14 @@ impl Midst {
         self,
         alloc: Global,
         operation: &Operation,
-        told: &Reply,
+        told: &LoggedReply,
     ) -> Result<Option<Midst>, AllocError>
         ensures { IfOk result (Follows self (moves_of.Do operation.now) (Some told.now)) }
     {
         if !is_told(alloc, &self.now, operation, told)? {
             return Ok(None);
         }
-        if is_failure(told) {
+        if told.is_failure() {
             return Ok(Some(self.back()?));
         }
         Ok(Some(self.change(alloc, operation)?))
@@ -234,7 +234,7 @@ fn is_told(
     alloc: Global,
     tables: &Catalog,
     operation: &Operation,
-    told: &Reply,
+    told: &LoggedReply,
 ) -> Result<bool, AllocError>
     requires { IsOrderedCatalog tables.now }
     ensures { IfOk result (λ is. Decides is (answer_of tables.now operation.now ≡ told.now)) }
@@ -254,7 +254,7 @@ pub fn rerun(
     tables: &Catalog,
     age: u64,
     moves: &[Move],
-    told: &[Option<SharedReply>],
+    told: &[Option<LoggedReply>],
 ) -> Result<Option<Catalog>, AllocError>
     requires { IsOrderedCatalog tables.now }
     ensures { IfOk result (RunsAs tables.now age moves.now told.now) }

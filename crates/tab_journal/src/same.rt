@@ -1,14 +1,17 @@
 //! Whether replies and tables are the same as others.
 
-ghost use Rattle.std.specs.Prelude.{◌≡◌, ◌&&◌};
+ghost use Rattle.std.specs.Prelude.{◌≡◌, ◌&&◌, IsFalse};
 ghost use Rattle.std.specs.Str.{bytes_eq};
 ghost use Rattle.tab_term.specs.Same.{all_same};
-ghost use Rattle.tab_journal.specs.Audits.{is_done as is_done_of, is_found as is_found_of, is_no_table as is_no_table_of, is_bad_type as is_bad_type_of, is_no_index as is_no_index_of, is_answer as is_answer_of, is_tid as is_tid_of, is_atomic_ok as is_atomic_ok_of, same_def, same_kind, same_names, same_numbers, same_rows, same_table, same_tables};
+ghost use Rattle.tab_model.specs.declared.data.Reply.TheVariants as reply;
+ghost use Rattle.tab_model.specs.Shared.{is_found as has_rows};
+ghost use Rattle.tab_model.specs.Logged.{is_short, is_tid as is_tid_of, is_atomic_ok as is_atomic_ok_of};
+ghost use Rattle.tab_journal.specs.Audits.{is_no_table as is_no_table_of, is_bad_type as is_bad_type_of, is_no_index as is_no_index_of, is_answer as is_answer_of, same_def, same_kind, same_names, same_numbers, same_rows, same_table, same_tables};
 
 use crate::records::Records;
 use tab_index::IndexedTable;
 use tab_lists::SharedTerms;
-use tab_model::{Kind, Reply, SharedReply, TableDef};
+use tab_model::{Kept, Kind, LoggedReply, Reply, TableDef};
 use tab_tables::Catalog;
 use tab_term::{Atom, Term};
 
@@ -25,17 +28,17 @@ fn are_same(ones: &SharedTerms, others: &SharedTerms) -> bool
     left.next().is_none()
 }
 
-fn is_done(told: &Reply) -> bool
-    ensures { result ≡ is_done_of told.now }
+fn is_done(answer: &Reply) -> bool
+    ensures { result ≡ is_answer_of answer.now reply.Done }
 {
-    matches!(told, Reply::Done)
+    matches!(answer, Reply::Done)
 }
 
-fn is_found(records: &SharedTerms, told: &Reply) -> bool
-    ensures { result ≡ is_found_of records.now told.now }
+fn is_found(answer: &Reply, others: &SharedTerms) -> bool
+    ensures { result ≡ is_answer_of answer.now (reply.Found others.now) }
 {
-    match told {
-        Reply::Found(others) => are_same(records, others),
+    match answer {
+        Reply::Found(records) => are_same(records, others),
         _ => false,
     }
 }
@@ -67,13 +70,13 @@ fn is_no_index(name: &Atom, attribute: &Term, told: &Reply) -> bool
     }
 }
 
-/// Whether what was told is this answer of an operation.
-pub fn is_answer(answer: &Reply, told: &Reply) -> bool
+// A trace keeps a failure behind a count, and every other answer in itself.
+fn is_same_failure(answer: &Reply, told: &Reply) -> bool
+    requires short { IsFalse (is_short told.now) }
+    requires found { IsFalse (has_rows told.now) }
     ensures { result ≡ is_answer_of answer.now told.now }
 {
     match answer {
-        Reply::Done => is_done(told),
-        Reply::Found(records) => is_found(records, told),
         Reply::NoTable(name) => is_no_table(name, told),
         Reply::BadType(name, row) => is_bad_type(name, row, told),
         Reply::NoIndex(name, attribute) => is_no_index(name, attribute, told),
@@ -81,25 +84,34 @@ pub fn is_answer(answer: &Reply, told: &Reply) -> bool
     }
 }
 
+/// Whether what was told is this answer of an operation.
+pub fn is_answer(answer: &Reply, told: &LoggedReply) -> bool
+    ensures { result ≡ is_answer_of answer.now told.now }
+{
+    match &told.kept {
+        Kept::Done => is_done(answer),
+        Kept::Found(records) => is_found(answer, records),
+        Kept::Other(told) => is_same_failure(answer, told),
+        Kept::Tid(_) | Kept::AtomicOk => false,
+    }
+}
+
 /// Whether what was told is the begin of a child of the transaction with this age.
-pub fn is_tid(told: &Option<SharedReply>, age: u64) -> bool
+pub fn is_tid(told: &Option<LoggedReply>, age: u64) -> bool
     ensures { result ≡ is_tid_of age told.now }
 {
     match told {
-        Some(told) => match told.reply() {
-            Reply::Tid(other) => age == *other,
-            _ => false,
-        },
+        Some(told) => told.is_tid(age),
         None => false,
     }
 }
 
 /// Whether what was told is the commit of a child.
-pub fn is_atomic_ok(told: &Option<SharedReply>) -> bool
+pub fn is_atomic_ok(told: &Option<LoggedReply>) -> bool
     ensures { result ≡ is_atomic_ok_of told.now }
 {
     match told {
-        Some(told) => matches!(told.reply(), Reply::AtomicOk),
+        Some(told) => told.is_atomic_ok(),
         None => false,
     }
 }

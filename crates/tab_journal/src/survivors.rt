@@ -8,7 +8,7 @@ ghost use Rattle.tab_journal.specs.Survivors.{next, opened, closed, ended, chang
 use std::alloc::{AllocError, Global};
 use std::collections::VecDeque;
 use std::marker::Model;
-use tab_model::{Change, Move, Operation, Reply, SharedReply};
+use tab_model::{Change, LoggedReply, Move, Operation};
 
 /// The updates so far that stand.
 pub struct Survivors {
@@ -41,14 +41,11 @@ impl Drop for Survivors {
     }
 }
 
-fn is_failure(told: &Option<SharedReply>) -> bool
+fn is_failure(told: &Option<LoggedReply>) -> bool
     ensures { result ≡ is_failure_of told.now }
 {
     match told {
-        Some(told) => matches!(
-            told.reply(),
-            Reply::NoTable(_) | Reply::BadType(_, _) | Reply::NoIndex(_, _)
-        ),
+        Some(told) => told.is_failure(),
         None => false,
     }
 }
@@ -116,7 +113,7 @@ impl Survivors {
         &mut self,
         alloc: Global,
         step: &Move,
-        told: &Option<SharedReply>,
+        told: &Option<LoggedReply>,
     ) -> Result<(), AllocError>
         ensures { OnOk result (self.new ≡ next self.old step.now told.now) }
     {
@@ -156,7 +153,7 @@ impl Survivors {
 pub fn surviving(
     alloc: Global,
     moves: &[Move],
-    told: &[Option<SharedReply>],
+    told: &[Option<LoggedReply>],
 ) -> Result<Vec<Change>, AllocError>
     ensures { IfOk result (λ changes. changes.items ≡ surviving_of moves.now told.now) }
 {

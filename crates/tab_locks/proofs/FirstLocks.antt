@@ -22,7 +22,7 @@ use Rattle.tab_locks.specs.Numbered.{spot_of, first_spots, IsUnderNumbers}
 use Rattle.tab_locks.specs.Spots.{Holding, KeySpot, stands_on_key, is_holding}
 use Rattle.tab_locks.proofs.Lookups.{found_any, any_found, any_insert}
 use Rattle.tab_locks.proofs.Holdings.{it_is}
-use Rattle.tab_locks.proofs.Passing.{any_same, any_map, or_swap, or_twice}
+use Rattle.tab_locks.proofs.Passing.{any_same, any_map, any_but, or_swap, or_twice}
 
 abbrev Entries : Type 0
 Entries = List (ℕ × KeyLock)
@@ -125,14 +125,6 @@ first_again k r v es l it = λ p.
     let one : f v ≡ p (term k, r) = λ i. p (sym ((same-Decides (term k) (term v.key)).0 parts.0) i, it_is r (v.age, v.write) parts.1 i) in
     let all : list_any p (first_spots es) ≡ (f v || rest) = any_map p spot_of es ∙ any_without at f v es l in
     all ∙ or_twice (f v) rest ∙ (λ i. one i || sym all i)
-
-any_but : {X : Type 0} (p gone : X → Bool) (xs : List X) → list_any gone xs ≡ false → list_any (λ x. p x && not (gone x)) xs ≡ list_any p xs
-any_but p gone [] h = refl
-any_but p gone (x ∷ xs) h = by (gone x) refl h (any_but p gone xs)
-  where
-    by : (b : Bool) → gone x ≡ b → (b || list_any gone xs) ≡ false → (list_any gone xs ≡ false → list_any (λ x. p x && not (gone x)) xs ≡ list_any p xs) → ((p x && not (gone x)) || list_any (λ x. p x && not (gone x)) xs) ≡ (p x || list_any p xs)
-    by true t n ih = absurd cc
-    by false t n ih = λ i. (ap (λ b. p x && not b) t ∙ and-true (p x)) i || ih n i
 
 -- nothing of this owner and mode stands on the key
 pub kept_first : (k : Term) (r : Holding) (es : Entries) → IsStrictlySortedBy nat_cmp (keys_of es) → IsUnderNumbers es

@@ -1,5 +1,5 @@
 -- Whether some member of a list passes a test.
-use Rattle.std.proofs.Common.{◌≡◌, List, [], ◌∷◌, ◌++◌, Bool, true, false, ◌||◌, ◌&&◌, not, refl, sym, ◌∙◌}
+use Rattle.std.proofs.Common.{◌≡◌, List, [], ◌∷◌, ◌++◌, Bool, true, false, ◌||◌, ◌&&◌, not, refl, sym, ap, ◌∙◌}
 use Rattle.std.proofs.Math.Bool.{and-true, and-false}
 use Rattle.std.specs.Prelude.{map, if◌then◌else◌}
 use Rattle.std.specs.List.{list_any, filter, flat_map}
@@ -49,6 +49,15 @@ module _ {X : Type 0} where
       by : (b : Bool) → q x ≡ b → (b || list_any q xs) ≡ false → (list_any q xs ≡ false → list_any p xs ≡ false) → (p x || list_any p xs) ≡ false
       by true e h ih = absurd cc
       by false e h ih = λ i. f x e i || ih h i
+
+  -- where none goes, all stay
+  pub any_but : (p gone : X → Bool) (xs : List X) → list_any gone xs ≡ false → list_any (λ x. p x && not (gone x)) xs ≡ list_any p xs
+  any_but p gone [] h = refl
+  any_but p gone (x ∷ xs) h = by (gone x) refl h (any_but p gone xs)
+    where
+      by : (b : Bool) → gone x ≡ b → (b || list_any gone xs) ≡ false → (list_any gone xs ≡ false → list_any (λ x. p x && not (gone x)) xs ≡ list_any p xs) → ((p x && not (gone x)) || list_any (λ x. p x && not (gone x)) xs) ≡ (p x || list_any p xs)
+      by true t n ih = absurd cc
+      by false t n ih = λ i. (ap (λ b. p x && not b) t ∙ and-true (p x)) i || ih n i
 
   -- what has no member
   pub none_there : (xs : List X) (b : Bool) → not b ≡ true → b ≡ list_any (λ x. true) xs → [] ≡ xs

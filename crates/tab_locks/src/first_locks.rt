@@ -17,8 +17,8 @@ use std::marker::Model;
 use tab_key::Abbreviate;
 use tab_term::Term;
 
-/// A lock on a key of each number: the first that came. Numbers are compared faster than terms, and mostly each key has a
-/// number of its own and one owner, so that a key is found by its number alone.
+/// A lock on a key of each number: the first that came. Integers of up to four bytes and most short texts have numbers of their
+/// own, so that such a key with one owner is found by comparing integers alone.
 #[derive(Drop)]
 pub(crate) struct FirstLocks {
     locks: BTreeMap<u64, KeyLock>,

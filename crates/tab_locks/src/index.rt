@@ -95,7 +95,7 @@ impl Index {
         }
     }
 
-    /// The same where no one holds a lock on what this one is on, and else nothing: one search tells and adds.
+    /// The same where no one holds a lock on what this one is on, and else nothing.
     pub fn add_free(&mut self, alloc: Global, age: u64, lock: &Lock) -> Result<(), Hindrance>
         ensures ok { OnOk result (HasMore (age, lock_of lock.now) self.old self.new) }
         ensures free { OnOk result

@@ -16,8 +16,8 @@ use std::marker::Model;
 use tab_key::Abbreviate;
 use tab_term::Term;
 
-/// The owners of locks on the keys of one table. The first lock of each number stands under the number; one on another key of
-/// that number, or another one on the same key, stands among the ties, in the order of terms.
+/// The owners of locks on the keys of one table. A lock stands under its key's number where no other stood there when it came; one
+/// on another key of that number, or another one on the same key, stands among the ties, in the order of terms.
 #[derive(Drop)]
 pub(crate) struct Keys {
     first: FirstLocks,
@@ -134,12 +134,13 @@ impl Keys {
         }
     }
 
-    /// A key that no one holds a lock on goes away, so that a question about all of the table doesn't look at it.
+    /// The transaction of this age holds that lock no more. It takes no memory.
     pub fn remove(&mut self, alloc: Global, key: Term, age: u64, write: bool)
         ensures { Drops (stands_on_key (term key) (age, write)) self.old self.new }
     {
         self.first.remove(&key, age, write);
-        if self.tied.is_occupied() {
+        // To seek a key among the ties that is not there would take memory.
+        if self.tied.has(&key) {
             self.tied.remove(alloc, key, age, write);
         }
     }

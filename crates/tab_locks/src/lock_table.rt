@@ -133,8 +133,8 @@ impl LockTable {
         keep(locks, &mut self.index, self.alloc, age, lock)
     }
 
-    /// Holds a lock where one of its owner's serves for it, or no one's is in conflict with it. Mostly no one holds a lock there, and
-    /// then to ask and to hold is one search. To tell of a conflict takes no memory that may be refused.
+    /// Holds a lock where one of its owner's serves for it, or no one's is in conflict with it. Mostly no one holds a lock there,
+    /// and then it is held at once, with no question before. To tell of a conflict takes no memory that may be refused.
     pub fn ask(&mut self, age: u64, lock: Lock) -> Result<Asked, AllocError>
         ensures answer { IfOk result
             (λ a. conflict_in a ≡ in_the_way (age, lock_of lock) self.old) }

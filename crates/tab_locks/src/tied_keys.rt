@@ -18,7 +18,8 @@ use std::collections::btree_map::Entry;
 use std::marker::Model;
 use tab_term::Term;
 
-/// The owners of locks on keys whose numbers have other locks: on another key that ties with theirs, or on the same one.
+/// The owners of locks on keys whose numbers had another lock when they came: on another key that ties with theirs, or on the
+/// same one.
 #[derive(Drop)]
 pub(crate) struct TiedKeys {
     holders: BTreeMap<Term, Holders>,

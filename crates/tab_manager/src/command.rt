@@ -18,7 +18,7 @@ impl Drop for Asked {
 }
 
 impl Asked {
-    /// The command, once it has had its place in the log.
+    /// The command, to be looked at.
     pub fn into_command(self) -> Command
         ensures { result ≡ self.command }
     {
@@ -40,7 +40,7 @@ impl Drop for AskedSchema {
 }
 
 impl AskedSchema {
-    /// The schema command, once it has had its place in the log.
+    /// The schema command, to be done.
     pub fn into_schema(self) -> Schema
         ensures { result ≡ self.schema }
     {

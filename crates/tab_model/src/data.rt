@@ -1,6 +1,7 @@
 //! Data that code and definitions share. Ages, numbers of sessions and commits, and positions are from 1 on.
-ghost use Rattle.std.specs.Prelude.{◌≡◌, MatchResult, IsFalse};
+ghost use Rattle.std.specs.Prelude.{◌≡◌, MatchResult, IsFalse, Some};
 ghost use Rattle.tab_model.specs.declared.data.Reply.TheVariants as reply;
+ghost use Rattle.tab_model.specs.Events.{is_failure as is_failure_of};
 ghost use Rattle.tab_model.specs.Shared.{is_found};
 
 use crate::lists::{Atoms, Moves, Numbers, Parts, Replies};
@@ -214,6 +215,16 @@ impl Reply {
             Reply::Found(rows) => Ok(rows),
             reply => Err(reply),
         }
+    }
+
+    /// Whether an operation that is told this ends its level.
+    pub fn is_failure(&self) -> bool
+        ensures { result ≡ is_failure_of (Some self.now) }
+    {
+        matches!(
+            self,
+            Reply::NoTable(_) | Reply::BadType(_, _) | Reply::NoIndex(_, _)
+        )
     }
 }
 

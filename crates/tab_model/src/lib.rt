@@ -8,6 +8,7 @@ mod copying;
 mod data;
 mod laws;
 mod lists;
+mod logged_reply;
 mod shared_reply;
 
 pub use data::{
@@ -24,4 +25,5 @@ pub use laws::{
     what_was_not_done_is_not_observed, who_leaves_has_taken_a_beginning, who_left_is_forgotten,
 };
 pub use lists::{Atoms, Moves, Numbers, Parts, Replies};
+pub use logged_reply::{Kept, LoggedReply};
 pub use shared_reply::SharedReply;

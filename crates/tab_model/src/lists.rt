@@ -1,6 +1,6 @@
 //! Lists that stand inside the data, each seen as a plain list.
 use crate::data::{Move, Part};
-use crate::shared_reply::SharedReply;
+use crate::logged_reply::LoggedReply;
 use std::marker::Model;
 use tab_term::Atom;
 
@@ -54,7 +54,7 @@ impl Model for Moves {
 /// What a transaction was told: None for an abort.
 #[derive(Drop)]
 pub struct Replies {
-    pub items: Vec<Option<SharedReply>>,
+    pub items: Vec<Option<LoggedReply>>,
 }
 
 impl Model for Replies {

@@ -1,10 +1,11 @@
 //! A reply that stands once for all who hold it.
 
-ghost use Rattle.std.specs.Prelude.{◌≡◌, IfOk, MatchResult, IsFalse};
-ghost use Rattle.tab_model.specs.declared.data.Reply.TheVariants as reply;
+ghost use Rattle.std.specs.Prelude.{◌≡◌, IfOk, IsOk, MatchResult, IsFalse};
+ghost use Rattle.tab_model.specs.declared.data.Reply.TheVariants as reply_of;
 ghost use Rattle.tab_model.specs.Shared.{is_found};
 
 use crate::data::Reply;
+use crate::logged_reply::LoggedReply;
 use std::alloc::{AllocError, Global};
 use std::marker::Model;
 use std::sync::Arc;
@@ -56,26 +57,27 @@ impl SharedReply {
         }
     }
 
-    /// The same reply twice: the parts that it has stand once, and go with the last of the two. `Done` takes no memory.
-    /// A list is shared by itself, so that each of the two can hand it on.
-    pub fn pair(alloc: Global, reply: Reply) -> Result<(SharedReply, SharedReply), AllocError>
-        ensures { IfOk result (λ both. (both.0 ≡ reply) × (both.1 ≡ reply)) }
+    /// The same reply twice, for who is told it and for the trace: the parts that it has stand once, and go with the last of
+    /// the two. `Done` takes no memory. A list is shared by itself, so that each of the two can hand it on.
+    pub fn pair(alloc: Global, reply: Reply) -> Result<(SharedReply, LoggedReply), AllocError>
+        ensures both { IfOk result (λ both. (both.0 ≡ reply) × (both.1 ≡ reply)) }
+        ensures done { reply ≡ reply_of.Done → IsOk result }
     {
-        if matches!(&reply, Reply::Done) {
-            return Ok((SharedReply::new(Reply::Done), SharedReply::new(Reply::Done)));
+        if let Some(logged) = LoggedReply::short(&reply) {
+            return Ok((SharedReply::new(reply), logged));
         }
         match reply.into_found() {
             Ok(rows) => {
-                let (one, other) = rows.pair(alloc)?;
+                let (told, logged) = rows.pair(alloc)?;
                 Ok((
-                    SharedReply::new(Reply::Found(one)),
-                    SharedReply::new(Reply::Found(other)),
+                    SharedReply::new(Reply::Found(told)),
+                    LoggedReply::found(logged),
                 ))
             }
             Err(reply) => {
-                let one = Arc::new(alloc, reply)?;
-                let other = Arc::try_clone(&one)?;
-                Ok((SharedReply::of_shared(one), SharedReply::of_shared(other)))
+                let told = Arc::new(alloc, reply)?;
+                let logged = Arc::try_clone(&told)?;
+                Ok((SharedReply::of_shared(told), LoggedReply::other(logged)))
             }
         }
     }
@@ -101,7 +103,7 @@ impl SharedReply {
 
     /// The list of a reply that found one, without a copy. Any other reply is given back.
     pub fn into_found(self) -> Result<SharedTerms, SharedReply>
-        ensures { MatchResult result (λ rows. self ≡ reply.Found rows)
+        ensures { MatchResult result (λ rows. self ≡ reply_of.Found rows)
             (λ told. (told ≡ self) × (IsFalse (is_found self))) }
     {
         let SharedReply { owned } = self;

@@ -31,7 +31,7 @@ impl Drop for Pending {
 }
 
 impl Pending {
-    /// The operation, once it is performed.
+    /// The operation, for its place in the trace.
     pub fn into_operation(self) -> Operation
         ensures { result ≡ self.operation }
     {
@@ -86,8 +86,8 @@ fn perform_on(
     ensures err { OnErr result (store.new ≡ store.old) }
 {
     let answer = answered(alloc, store, committed, &pending.operation)?;
-    let (reply, told) = SharedReply::pair(alloc, answer.into_reply())?;
-    store.make(alloc, committed, pending.into_operation(), told)?;
+    let (reply, logged) = SharedReply::pair(alloc, answer.into_reply())?;
+    store.make(alloc, committed, pending.into_operation(), logged)?;
     Ok(reply)
 }
 
@@ -103,7 +103,7 @@ fn fail(
     ensures answer { IfOk result (λ r. r ≡ reply.NoTable name) }
     ensures err { OnErr result (store.new ≡ store.old) }
 {
-    let (reply, told) = SharedReply::pair(alloc, Reply::NoTable(name))?;
-    store.fail(pending.into_operation(), told)?;
+    let (reply, logged) = SharedReply::pair(alloc, Reply::NoTable(name))?;
+    store.fail(pending.into_operation(), logged)?;
     Ok(reply)
 }

@@ -13,10 +13,7 @@ use tab_term::Term;
 pub fn is_failure(reply: &Reply) -> bool
     ensures { result ≡ is_failure_of (Some reply.now) }
 {
-    matches!(
-        reply,
-        Reply::NoTable(_) | Reply::BadType(_, _) | Reply::NoIndex(_, _)
-    )
+    reply.is_failure()
 }
 
 /// The change that an operation makes.

@@ -10,14 +10,14 @@ ghost use Rattle.tab_txstore.specs.Merged.{IsSnapshot};
 ghost use Rattle.tab_txstore.specs.Overlays.{touched, seen_at};
 ghost use Rattle.tab_txstore.specs.Stores.{no_levels, nested, joined, ended, changed, levels_next};
 
-use crate::change::{change_of, is_failure};
+use crate::change::change_of;
 use crate::touching::{seen_entry, touch};
 use std::alloc::{AllocError, Global};
 use std::marker::Model;
 use tab_index::IndexedTable;
 use tab_lists::Snapshot;
 use tab_map::{Entry, Map};
-use tab_model::{Change, Operation, Reply};
+use tab_model::{Change, LoggedReply, Operation};
 use tab_records::Records;
 use tab_term::{Atom, Term};
 
@@ -156,14 +156,14 @@ impl Levels {
         alloc: Global,
         committed: &IndexedTable,
         operation: &Operation,
-        reply: &Reply,
+        reply: &LoggedReply,
     ) -> Result<(), AllocError>
         ensures ok { OnOk result
             (self.new ≡ levels_next (Some committed.now) self.old (Do operation.now)
             (Some reply.now)) }
         ensures err { OnErr result (self.new ≡ self.old) }
     {
-        if is_failure(reply) {
+        if reply.is_failure() {
             self.end();
             return Ok(());
         }

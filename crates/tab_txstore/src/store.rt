@@ -15,7 +15,7 @@ use std::marker::Model;
 use tab_index::IndexedTable;
 use tab_lists::Snapshot;
 use tab_map::{Entry, Map};
-use tab_model::{Change, Move, Moves, Operation, Replies, Reply, SharedReply};
+use tab_model::{Change, LoggedReply, Move, Moves, Operation, Replies};
 use tab_records::Records;
 use tab_term::{Atom, Term};
 
@@ -23,7 +23,7 @@ use tab_term::{Atom, Term};
 pub struct TxStore {
     // With room for the ends of the levels that are open.
     moves: Vec<Move>,
-    told: Vec<Option<SharedReply>>,
+    told: Vec<Option<LoggedReply>>,
     // Of the moves, those that count towards the limit.
     count: usize,
     levels: Levels,
@@ -73,7 +73,7 @@ pub struct Finished {
 /// An operation with its reply, which waits for its place.
 struct Made {
     operation: Operation,
-    reply: SharedReply,
+    reply: LoggedReply,
 }
 
 // A derived Drop would be taken apart, variant by variant, at each exit of each caller.
@@ -86,7 +86,7 @@ impl Drop for Made {
 }
 
 impl Made {
-    fn into_parts(self) -> (Operation, SharedReply)
+    fn into_parts(self) -> (Operation, LoggedReply)
         ensures { result ≡ (self.operation, self.reply) }
     {
         let Made { operation, reply } = self;
@@ -114,7 +114,7 @@ impl TxStore {
         alloc: Global,
         committed: &IndexedTable,
         operation: Operation,
-        reply: SharedReply,
+        reply: LoggedReply,
     ) -> Result<(), AllocError>
         ensures ok { OnOk result
             (self.new ≡ store_next (Some committed.now) self.old (Do operation) (Some reply)) }
@@ -137,7 +137,7 @@ impl TxStore {
         reserve(&mut self.moves, self.levels.depth(), 1)?;
         reserve_told(&mut self.told, self.levels.depth(), 1)?;
         self.levels
-            .operate(alloc, committed, &made.operation, made.reply.reply())?;
+            .operate(alloc, committed, &made.operation, &made.reply)?;
         let (operation, reply) = made.into_parts();
         put_move(&mut self.moves, Move::Do(operation));
         put_told(&mut self.told, Some(reply));
@@ -146,7 +146,7 @@ impl TxStore {
     }
 
     /// An operation that has no table, with its reply: its level ends.
-    pub fn fail(&mut self, operation: Operation, reply: SharedReply) -> Result<(), AllocError>
+    pub fn fail(&mut self, operation: Operation, reply: LoggedReply) -> Result<(), AllocError>
         requires { IsTrue (is_failure_of (Some reply)) }
         ensures ok { OnOk result (self.new ≡ store_next None self.old (Do operation) (Some reply)) }
         ensures err { OnErr result (self.new ≡ self.old) }
@@ -180,7 +180,7 @@ impl TxStore {
         reserve_told(&mut self.told, self.levels.depth(), 2)?;
         self.levels.nest()?;
         put_move(&mut self.moves, Move::Open);
-        put_told(&mut self.told, Some(SharedReply::new(Reply::Tid(age))));
+        put_told(&mut self.told, Some(LoggedReply::tid(age)));
         self.count += 1;
         Ok(())
     }
@@ -191,7 +191,7 @@ impl TxStore {
         ensures { self.new ≡ store_next None self.old CloseOf (Some told_of.AtomicOk) }
     {
         put_move(&mut self.moves, Move::Close);
-        put_told(&mut self.told, Some(SharedReply::new(Reply::AtomicOk)));
+        put_told(&mut self.told, Some(LoggedReply::atomic_ok()));
         self.levels.join();
     }
 
@@ -299,7 +299,7 @@ fn reserve(moves: &mut Vec<Move>, depth: usize, more: usize) -> Result<(), Alloc
 }
 
 fn reserve_told(
-    told: &mut Vec<Option<SharedReply>>,
+    told: &mut Vec<Option<LoggedReply>>,
     depth: usize,
     more: usize,
 ) -> Result<(), AllocError>
@@ -327,7 +327,7 @@ fn put_move(moves: &mut Vec<Move>, next: Move)
     moves.push_reserved(next);
 }
 
-fn put_told(told: &mut Vec<Option<SharedReply>>, next: Option<SharedReply>)
+fn put_told(told: &mut Vec<Option<LoggedReply>>, next: Option<LoggedReply>)
     requires { vec_len told.old < vec_capacity told.old }
     ensures items { told.new.items ≡ told.old.items ++ next ∷ [] }
     ensures len { vec_len told.new ≡ vec_len told.old + 1 }

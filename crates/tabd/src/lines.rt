@@ -31,7 +31,7 @@ pub struct Lines<R, E> {
 }
 
 impl<R: Wait, E: Target> Lines<R, E> {
-    /// Lines to this device, behind a lock. Of the log only where it is asked for.
+    /// Writes lines to this device, behind a lock; of the log only what is asked for.
     pub fn new(rt: R, alloc: Global, log: Log, meters: Option<Meters>, device: E) -> Lines<R, E> {
         Lines {
             rt,

@@ -15,7 +15,7 @@ pub invariant_of-self-2 : goal.invariant_of-self-2
 invariant_of-self-2 g c = record {
   same = (subscription_made c.self.inside.subs c.self.inside.manager c.args.self.now c.self.invariant c.self.view_is c.args.session c.args.table c.args.level c.args.dump
       (free _ _ c.in_default.not-Some c.in_ok-refusal.ensures.ok) c.in_ok-marked.marked c.subscribe.new.self
-      (began_with c.self.inside.subs c.subscribe.new.self c.args.session c.args.table c.args.level c.in_ok-named.named c.in_ok-records.records (dump_of c.self.inside.manager.tables c.args.table c.args.dump) c.in_ok-marked.marked c.in_ok-named.ensures
+      (began_with c.self.inside.subs c.subscribe.new.self c.args.session c.args.table c.args.level c.in_ok-named.named c.in_ok-records.records (dump_of c.self.inside.manager.tables c.args.table c.args.dump) c.in_ok-marked.marked c.in_ok-named.ensures.ok
       (c.in_ok-records.ensures ∙ ap (λ w. dump_of w c.args.table c.args.dump) c.tables.ensures) c.in_ok-marked.ensures.ok)
       c.marked_reply.result c.marked_reply.ensures).1;
   sound = c.self.invariant.sound;
@@ -26,7 +26,7 @@ pub returns-clause-done : goal.returns-clause-done
 returns-clause-done g c =
     (subscription_made c.self.inside.subs c.self.inside.manager c.args.self.now c.self.invariant c.self.view_is c.args.session c.args.table c.args.level c.args.dump
     (free _ _ c.in_default.not-Some c.in_ok-refusal.ensures.ok) c.in_ok-marked.marked c.subscribe.new.self
-    (began_with c.self.inside.subs c.subscribe.new.self c.args.session c.args.table c.args.level c.in_ok-named.named c.in_ok-records.records (dump_of c.self.inside.manager.tables c.args.table c.args.dump) c.in_ok-marked.marked c.in_ok-named.ensures
+    (began_with c.self.inside.subs c.subscribe.new.self c.args.session c.args.table c.args.level c.in_ok-named.named c.in_ok-records.records (dump_of c.self.inside.manager.tables c.args.table c.args.dump) c.in_ok-marked.marked c.in_ok-named.ensures.ok
     (c.in_ok-records.ensures ∙ ap (λ w. dump_of w c.args.table c.args.dump) c.tables.ensures) c.in_ok-marked.ensures.ok)
     c.marked_reply.result c.marked_reply.ensures).0
 

@@ -9,4 +9,4 @@ returns-clause-ok c =
     let test = λ (x : Subscription). not (is_of c.args.session c.args.table.now x) in
     let kept = filter_same _ test _ (λ x b f t. search rules) _ _ c.retain.ensures.filtered ∙ ap (filter test) c.in_ok-reserve.ensures.items in
     let new : Subscription = record { session = c.args.session; table = c.args.table.now; level = c.args.level } in
-    c.push_reserved.ensures.items ∙ (λ i. kept i ++ record { session = c.args.session; table = c.in_ok-name.ensures i; level = c.args.level } ∷ [])
+    c.push_reserved.ensures.items ∙ (λ i. kept i ++ record { session = c.args.session; table = c.in_ok-name.ensures.ok i; level = c.args.level } ∷ [])

@@ -14,4 +14,4 @@ returns-in-Some-clause-answer c =
 pub returns-clause-answer : goal.returns-clause-answer
 returns-clause-answer c =
     let absent = ap (find c.args.catalog.now) (sym c.table_of-name.ensures) ∙ sym c.table.ensures ∙ ap option_copied c.in-None.is in
-    IfOk-weaker c.fail.result _ _ (λ r h age ordered fits told. h ∙ ap reply.NoTable (c.in_ok-name-in-None.ensures ∙ c.table_of-name.ensures) ∙ absence_shown c.args.catalog.now ordered c.args.store.now age fits told c.args.pending.operation absent) c.fail.ensures.answer
+    IfOk-weaker c.fail.result _ _ (λ r h age ordered fits told. h ∙ ap reply.NoTable (c.in_ok-name-in-None.ensures.ok ∙ c.table_of-name.ensures) ∙ absence_shown c.args.catalog.now ordered c.args.store.now age fits told c.args.pending.operation absent) c.fail.ensures.answer

@@ -11,12 +11,12 @@ use Rattle.tab_txstore.proofs.touching.touch.Goals as goal
 
 pub append-requires : goal.append-requires
 append-requires c =
-    let name = c.in_ok-name.ensures ∙ ap (λ (d : TableDef). d.name) c.def.ensures in
+    let name = c.in_ok-name.ensures.ok ∙ ap (λ (d : TableDef). d.name) c.def.ensures in
     appends_there c.args.committed.now c.args.overlay.now c.in_ok-key.key c.args.change.now c.in-Some.row.now c.in_ok-name.name name c.in-Some.ensures
 
 pub returns-in-Some-clause-ok : goal.returns-in-Some-clause-ok
 returns-in-Some-clause-ok c =
-    let name = c.in_ok-name.ensures ∙ ap (λ (d : TableDef). d.name) c.def.ensures in
+    let name = c.in_ok-name.ensures.ok ∙ ap (λ (d : TableDef). d.name) c.def.ensures in
     appended_touch c.args.committed.now c.args.overlay.now c.in_ok-key.key c.args.change.now c.in-Some.row.now c.in_ok-row.row c.in_ok-name.name c.append.new.overlay name c.in_ok-key.ensures c.in_ok-row.ensures c.in-Some.ensures c.in_ok-append.ensures.ok
 
 pub returns-clause-ok : goal.returns-clause-ok
@@ -25,7 +25,7 @@ returns-clause-ok c =
     let u = c.args.change.now in
     let x = c.args.committed.now in
     let key = c.in_ok-key.key in
-    let name = c.in_ok-name.ensures ∙ ap (λ (d : TableDef). d.name) c.def.ensures in
+    let name = c.in_ok-name.ensures.ok ∙ ap (λ (d : TableDef). d.name) c.def.ensures in
     let keys = touched v c.in_ok-name.name in
     touch_made x v u c.in_ok-name.name key (plain_terms (seen_at (touched v x.def.name) x.rows (term key))) c.in_ok-records.records keys (insert_entry term_cmp (key, c.in_ok-records.records) keys) c.put.new.overlay
     name c.in_ok-key.ensures refl c.in_ok-records.ensures refl refl c.in_ok-put.ensures.ok

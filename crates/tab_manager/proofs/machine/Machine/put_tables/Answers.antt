@@ -15,7 +15,7 @@ returns-then-busy-clause-ok c =
     let n = c.args.session in
     let i = c.args.place in
     answering.schema_locked m n i c.requires.there c.requires.outside c.requires.idle c.requires.kept c.args.asked.schema c.requires.done.0 (ap (λ t. Rattle.std.specs.List.list_any (Rattle.tab_model.specs.State.is_in t) (Rattle.tab_model.specs.Ages.all_of m.ages)) (sym c.table_of.ensures) ∙ sym c.busy.ensures ∙ c.if-busy.true)
-    ∙ ap (λ t. step_without_entry (state_of m) (reply.Locked t)) (sym (c.in_ok-name.ensures ∙ c.table_of-then-busy.ensures)) ∙ answering.without_entry (state_of m) (reply.Locked c.in_ok-name.name) c.without_entry.result c.without_entry.ensures
+    ∙ ap (λ t. step_without_entry (state_of m) (reply.Locked t)) (sym (c.in_ok-name.ensures.ok ∙ c.table_of-then-busy.ensures)) ∙ answering.without_entry (state_of m) (reply.Locked c.in_ok-name.name) c.without_entry.result c.without_entry.ensures
 
 pub returns-then-not-has_room-clause-ok : goal.returns-then-not-has_room-clause-ok
 returns-then-not-has_room-clause-ok c =

@@ -4,7 +4,7 @@ use Rattle.tab_txstore.proofs.store.TxStore.put_made.Goals as goal
 
 pub invariant_of-self-2 : goal.invariant_of-self-2
 invariant_of-self-2 c =
-    let less = next_no_more c.args.committed.now c.self.inside.levels c.operate.new.self c.args.made.operation c.reply.result.now c.in_ok-operate.ensures.ok in (
+    let less = next_no_more c.args.committed.now c.self.inside.levels c.operate.new.self c.args.made.operation c.args.made.reply c.in_ok-operate.ensures.ok in (
       room _ _ _ _ _ _ _ _ c.depth.ensures c.in_ok-reserve.ensures.room less c.put_move.ensures.len c.put_move.ensures.room,
       room _ _ _ _ _ _ _ _ c.depth-2.ensures c.in_ok-reserve_told.ensures.room less c.put_told.ensures.len c.put_told.ensures.room,
       counted_one c.self.inside.moves.items _ _ _ _ c.in_ok-reserve.ensures.items c.put_move.ensures.items refl c.self.invariant.2,
