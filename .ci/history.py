@@ -318,14 +318,14 @@ class Watcher:
             self.unsubscribe(self.chance.choice(sorted(self.watched)))
 
     def finish(self):
-        """Unsubscribes, and reads up to its last mark; with more room, for else each frame takes its time."""
+        """Unsubscribes, and reads up to its last marker; with more room, for else each frame takes its time."""
         self.connection.socket.setsockopt(socket.SOL_SOCKET, socket.SO_RCVBUF, 1_048_576)
         end = now() + PATIENCE
         while self.watched and now() < end:
             self.unsubscribe(min(self.watched))
             self.pump(0.01)
         marked = lambda: sum(term[0] in ("mnesia_table_begin", "mnesia_table_end") for term, _ in self.frames) == len(self.marks)
-        self.until("its marks", marked)
+        self.until("its markers", marked)
         self.pump(0.05)
         self.connection.close()
 

@@ -135,7 +135,7 @@ class Times:
 
 def stretches(frames):
     """Of each commit that a recorder was told without a gap before it, the age of the one before, and its age and events. The first
-    is behind None; it watches both tables again from their second mark on."""
+    is behind None; it watches both tables again from their second marker on."""
     age, marks = None, 0
     for kind, group in itertools.groupby((term for term, _ in frames), lambda term: term[0] == "mnesia_table_event" and term[1][-1][1]):
         group = list(group)

@@ -171,7 +171,7 @@ def dumps(count, records):
         mirror = server.connect()
         queue(mirror, client, [DUMP, NO_MORE] * count)
         held = server.kilobytes()
-        # A reply and a mark for each subscription and for its end, and the reply to what stands behind them.
+        # A reply and a marker for each subscription and for its end, and the reply to what stands behind them.
         found = [len(payload(mirror)) for _ in range(4 * count + 1)]
         same("dumps", found.count(size), count)
         return held

@@ -125,7 +125,7 @@ def bytes_are_counted(server):
     script((mirror, ("unsubscribe", ("table", "t", "simple")), HERE_OK), (mirror, watch("dump"), HERE_OK))
     script((first, "begin", ("tid", 6)), (first, ("all_keys", "t"), [0, 1, 2, 3, 4, 5]))
     same("the records", len(first.ask(("match_object", ("t", "_", "_")))), 6)
-    # Two marks, six events of five commits, and a mark with the records.
+    # Two markers, six events of five commits, and a marker with the records.
     told = [mirror.event() for _ in range(9)]
     same("the dump", len(told[-1][3]), 6)
     server.has(read_bytes_total=first.sent + mirror.sent, written_bytes_total=first.received + mirror.received, items_sent_total=8)

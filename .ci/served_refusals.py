@@ -181,7 +181,7 @@ def probe(connection):
 
 class Case:
     """What connections 1 and 2 are asked before, a request of connection 1 and its reply; whether it is asked in a transaction,
-    whether it waits for the transaction of connection 2, and whether it puts a mark, for which it may be closed."""
+    whether it waits for the transaction of connection 2, and whether it puts a marker, for which it may be closed."""
 
     def __init__(self, name, before, request, reply, inside=False, waits=False, marks=False, words=()):
         self.name, self.before, self.request, self.reply, self.words = name, before, request, reply, words

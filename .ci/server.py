@@ -360,7 +360,7 @@ def in_batch(number, value):
 
 
 def batches(one, other, mirror):
-    """A commit's events come in one frame, with its number, where what the session watches was changed; marks come as ever."""
+    """A commit's events come in one frame, with its number, where what the session watches was changed; markers come as ever."""
     script(
         (one, CREATE, ATOMIC),
         (one, ("create_table", "u", []), ATOMIC),
@@ -467,7 +467,7 @@ def too_long_behind_others(connection):
 
 
 def of_any_length(client, mirror):
-    """Names as tables, attributes, keys and values: of up to 22 bytes, which stand in the term, and longer ones, which are shared."""
+    """Names of any length come back as they were sent: of up to 22 bytes, which stand in the term, and longer ones, which are shared."""
     for letter, size in [("n", size) for size in (1, 21, 22, 23, 24, 254)] + [("ä", 10), ("ä", 11), ("ä", 12), ("ä", 254)]:
         name, attribute, one, other, value = (letter * size + last for last in ("", "i", "k", "l", "v"))
         first, second = (name, one, value), (name, other, value)

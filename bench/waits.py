@@ -197,11 +197,11 @@ def many_watch(server, client):
     return watched(server, client, "t", WATCHERS, request, size_of(("atomic", [OK] * READS)), READS)
 
 
-def rows(alone):
+def rows(count):
     """What, how its table is made, and what is done each time."""
     small, one = table(small_record, RECORDS, 500), table(small_record, 1)
-    # Sixteen are sent as much together as one is alone.
-    finds, reads, long = (FINDS, READS, 500) if alone else (FINDS // 16, READS // 16, 500 // 16)
+    # Of what is sent as a reply many are sent as much together as one is alone.
+    finds, reads, long = FINDS // count, READS // count, 500 // count
     keys, records = list(range(RECORDS)), [small_record(key) for key in range(RECORDS)]
     indexed = [("t", key, 7) for key in range(RECORDS)]
 
@@ -228,7 +228,7 @@ def rows(alone):
     yield f"{DUMPS} dumps, {RECORDS} records", small, many_dumps
     yield f"a one-shot of {WRITES} writes to a key of a bag of its own, of {BAGGED} records, told in detail", one, bag_writes
     yield f"a one-shot of {WRITES} deletions there, told in detail", one, bag_deletions
-    if not alone:
+    if count > 1:
         return
     yield f"{FOLDS} one-shots of {READS} reads that fold commands on a table of {RECORDS} records", small, index_folds
     yield f"a one-shot of {READS} writes, told in detail to {WATCHERS}", small, many_watch
@@ -239,7 +239,7 @@ def main():
         sys.exit(__doc__)
     rounds, count = [int(word) for word in sys.argv[2:]] + [3, 1][len(sys.argv) - 2 :]
     print("what | reads | median | longest")
-    for what, make, prepare in rows(count == 1):
+    for what, make, prepare in rows(count):
         waited = []
         with Held(os.path.abspath(sys.argv[1])) as server:
             client = server.connect()

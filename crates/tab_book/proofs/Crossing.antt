@@ -16,7 +16,7 @@ use Rattle.tab_term.specs.contracts.atom.Atom as atom
 use Rattle.tab_model.specs.contracts.data.Operation as operation
 use Rattle.tab_model.specs.contracts.data.Reply as reply
 use Rattle.tab_model.specs.contracts.data.Entry as entry
-use Rattle.tab_model.specs.contracts.shared_reply.SharedReply as told
+use Rattle.tab_model.specs.contracts.logged_reply.LoggedReply as logged
 use Rattle.tab_model.specs.contracts.data.Item as item
 use Rattle.tab_model.specs.contracts.data.TableInfo as info
 use Rattle.tab_model.specs.contracts.data.Change as change
@@ -39,6 +39,9 @@ use Rattle.tab_locks.specs.contracts.lock_table.LockTable as locks
 use Rattle.tab_locks.specs.contracts.index.Index as places
 use Rattle.tab_locks.specs.contracts.on_table.OnTable as on_table
 use Rattle.tab_locks.specs.contracts.keys.Keys as keys
+use Rattle.tab_locks.specs.contracts.first_locks.FirstLocks as first_locks
+use Rattle.tab_locks.specs.contracts.key_lock.KeyLock as key_lock
+use Rattle.tab_locks.specs.contracts.tied_keys.TiedKeys as tied_keys
 use Rattle.tab_locks.proofs.holders.Holders.TheSendSync as holders_marks
 use Rattle.tab_waitdie.specs.contracts.ages.Ages as ages
 use Rattle.tab_manager.specs.contracts.Manager as manager
@@ -95,8 +98,8 @@ reply-sync =
     let a = as_row_sync atom.the_field atom_marks.the_sync in let xs = as_row_sync (row_field answers.the_row) Answers-sync in let ss = as_row_sync (row_field shared_terms.the_row) SharedTerms-sync in let n = as_row_sync u64-field (plain_sync _ _ _ _ _) in
     variants_sync reply.enum (tt, (tt, (tt, (tt, (tt, (tt, (tt, ((limit_marks.the_sync, tt), (tt, ((a, tt), ((a, (Term-sync, tt)), ((a, (Term-sync, tt)), ((Term-sync, tt), ((a, tt), ((a, tt), ((a, (Term-sync, tt)), ((a, tt), ((a, tt), ((a, tt), (tt, (tt, (tt, (tt, (tt, ((n, tt), ((n, tt), (tt, ((xs, tt), (tt, (tt, ((ss, tt), (tt, ((info-sync, tt), ((item-sync, tt), ((n, tt), (tt, tt))))))))))))))))))))))))))))))))))))
 
-told-send : IsSend told.the_row
-told-send = search (parts, reply-send, reply-sync) depth 20
+logged-send : IsSend logged.the_row
+logged-send = search (parts, reply-send, reply-sync, SharedTerms-send) depth 20
 
 move-send : IsSend move.the_row
 move-send = search (parts, operation-send) depth 20
@@ -105,7 +108,7 @@ moves-send : IsSend moves.the_row
 moves-send = search (parts, move-send) depth 20
 
 replies-send : IsSend replies.the_row
-replies-send = search (parts, told-send) depth 20
+replies-send = search (parts, logged-send) depth 20
 
 schema-send : IsSend schema.the_row
 schema-send = search (parts, Term-send, Terms-send) depth 20
@@ -141,13 +144,22 @@ overlay-send : IsSend levels.the_row
 overlay-send = search (parts, change-send, Term-send, Term-sync, Records-send, Records-sync) depth 30
 
 store-send : IsSend store.the_row
-store-send = search (parts, move-send, told-send, overlay-send) depth 30
+store-send = search (parts, move-send, logged-send, overlay-send) depth 30
 
 lock-send : IsSend lock.the_row
 lock-send = search (parts, Term-send) depth 20
 
+key_lock-send : IsSend key_lock.the_row
+key_lock-send = search (parts, Term-send) depth 20
+
+first_locks-send : IsSend first_locks.the_row
+first_locks-send = search (parts, key_lock-send) depth 30
+
+tied_keys-send : IsSend tied_keys.the_row
+tied_keys-send = search (parts, Term-send, holders_marks.the_send) depth 30
+
 keys-send : IsSend keys.the_row
-keys-send = search (parts, Term-send, holders_marks.the_send) depth 30
+keys-send = search (parts, first_locks-send, tied_keys-send) depth 30
 
 on_table-send : IsSend on_table.the_row
 on_table-send = search (parts, keys-send, holders_marks.the_send) depth 30
