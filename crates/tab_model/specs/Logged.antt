@@ -1,5 +1,5 @@
 -- A reply as a trace keeps it.
-use Rattle.std.specs.Prelude.{◌≡◌, ℕ, Bool, true, false, ◌==◌, Option, Some, None}
+use Rattle.std.specs.Prelude.{◌≡◌, ℕ, Bool, true, false, ◌==◌, Option, Some}
 use Rattle.tab_model.specs.declared.data.Reply.{Reply}
 use Rattle.tab_model.specs.declared.data.Reply.TheVariants as reply
 use Rattle.tab_model.specs.declared.logged_reply.Kept.{Kept}
@@ -29,7 +29,7 @@ IsKept kept.AtomicOk = Unit {0}
 IsKept (kept.Found rows) = Unit {0}
 IsKept (kept.Other r) = (is_short r.value ≡ false) × (is_found r.value ≡ false)
 
--- the same as a child's begin is told, and its commit
+-- the reply is there, and is that of a child's begin with this age
 abbrev pub is_tid : ℕ → Option Reply → Bool
 is_tid age (Some (reply.Tid n)) = age == n
 is_tid age r = false

@@ -176,6 +176,7 @@ pub enum Reply {
     NoMemory,
     SystemLimit(Limit),
     BadSession,
+    /// An operation or a schema command found no table of this name.
     NoTable(Atom),
     BadType(Atom, Term),
     NoIndex(Atom, Term),
@@ -183,6 +184,7 @@ pub enum Reply {
     AlreadyExists(Atom),
     Locked(Atom),
     BadDefinition(Atom, Term),
+    /// There is no table of this name to tell of, or to subscribe to.
     UnknownTable(Atom),
     AlreadySubscribed(Atom),
     NotSubscribed(Atom),

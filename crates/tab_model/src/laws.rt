@@ -68,7 +68,7 @@ pub fn every_schedule()
     ensures stood { (limits : Limits) (calls : List Call) → AllJoinEmpty calls
         → AllWereInForce [] (log_of (new limits) calls) }
     ensures aged { (limits : Limits) (calls : List Call) → AllAged (log_of (new limits) calls) }
-    ensures rows_after { (limits : Limits) (calls : List Call) (n : ℕ) (s : Session) (t : List ℕ)
+    ensures rows_since { (limits : Limits) (calls : List Call) (n : ℕ) (s : Session) (t : List ℕ)
         (l : Level) → AllJoinEmpty calls
         → session_at (after_all (new limits) calls).sessions n ≡ Some s
         → level_in s.watching t ≡ Some l
@@ -422,7 +422,7 @@ pub fn a_refusal_leaves_all()
     ensures already_exists { (t : List ℕ) → LeavesAll (reply.AlreadyExists t) }
     ensures locked { (t : List ℕ) → LeavesAll (reply.Locked t) }
     ensures bad_definition { (t : List ℕ) (what : Term) → LeavesAll (reply.BadDefinition t what) }
-    ensures no_table { (t : List ℕ) → LeavesAll (reply.UnknownTable t) }
+    ensures unknown_table { (t : List ℕ) → LeavesAll (reply.UnknownTable t) }
     ensures already_subscribed { (t : List ℕ) → LeavesAll (reply.AlreadySubscribed t) }
     ensures not_subscribed { (t : List ℕ) → LeavesAll (reply.NotSubscribed t) }
     ensures overflow_untold { LeavesAll reply.OverflowUntold }

@@ -25,7 +25,7 @@ pub enum Term {
     Map(Pairs),
 }
 
-// An integer takes as much: an atom's text of more than 24 bytes would make each term a third larger.
+// An integer takes as much: an atom's text of more than 24 bytes would make each term half as large again.
 const _: () = prove!(size_of::<Term>() == 32);
 
 // A derived drop would be taken apart, variant by variant, at each exit of each function that holds a term.

@@ -8,7 +8,7 @@ use std::marker::Model;
 use std::sync::Arc;
 
 /// The most bytes of a short text. With its length and a tag they fill the three words that a term has beside its own tag.
-pub const SHORT: usize = 22;
+const SHORT: usize = 22;
 
 /// A text. Only a long one takes memory.
 pub enum Text {

@@ -34,8 +34,8 @@ returns-clause-locked c = λ t. leaves _ refl
 pub returns-clause-bad_definition : goal.returns-clause-bad_definition
 returns-clause-bad_definition c = λ t what. leaves _ refl
 
-pub returns-clause-no_table : goal.returns-clause-no_table
-returns-clause-no_table c = λ t. leaves _ refl
+pub returns-clause-unknown_table : goal.returns-clause-unknown_table
+returns-clause-unknown_table c = λ t. leaves _ refl
 
 pub returns-clause-already_subscribed : goal.returns-clause-already_subscribed
 returns-clause-already_subscribed c = λ t. leaves _ refl
