@@ -166,6 +166,33 @@ fn steps_of_large_maps_are_short(rt: HostRuntime) -> Result<(), Fail> {
     Ok(())
 }
 
+fn rising(alloc: Global, count: u32) -> Result<Map<u32, ()>, AllocError> {
+    let mut map = Map::new();
+    for n in 0..count {
+        map.insert(alloc, n, ())?;
+    }
+    Ok(map)
+}
+
+// Of 29,000 entries whose keys came in order: rows of 28 entries each, with one between two, and nodes of 8 branches.
+const NODES_OF_RISING_KEYS: usize = 1_000 * 8 / 7;
+
+/// Keys that come in order leave rows that are nearly full behind them, and an insert and a removal in turn neither split nor merge.
+#[test]
+fn rising_keys_fill_rows(rt: HostRuntime) -> Result<(), Fail> {
+    let alloc = rt.alloc();
+    let mut map = rising(alloc, 29_000)?;
+    assert!(rt; map.nodes() < NODES_OF_RISING_KEYS);
+    for n in 29_000..29_100u32 {
+        map.insert(alloc, n, ())?;
+        let nodes = map.nodes();
+        map.remove(alloc, &n)?;
+        assert!(rt; map.nodes() == nodes);
+        map.insert(alloc, n, ())?;
+    }
+    Ok(())
+}
+
 #[test]
 fn drops_a_million(rt: HostRuntime) -> Result<(), Fail> {
     let mut map = Map::new();

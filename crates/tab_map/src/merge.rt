@@ -1,4 +1,5 @@
-//! Children that a removal has made short are merged with a neighbour, where the two fit one.
+//! Children that a removal has made short are merged with a neighbour, where the two fit one. A row that they become has room
+//! left, so that an insert and a removal in turn don't split and merge each time.
 ghost use Rattle.std.specs.Prelude.{◌≡◌, ◌∷◌, ◌++◌, IfOk, IfSome};
 ghost use Rattle.tab_map.specs.Entries.{Ascends};
 ghost use Rattle.tab_map.specs.InOrder.{node_entries};
@@ -30,7 +31,7 @@ impl<K: Abbreviate + Drop, V: Drop> Map<K, V> {
     {
         match (&self.root, &right.root) {
             (Tree::Leaf(left), Tree::Leaf(right))
-                if left.len().saturating_add(right.len()) < row::FULL => {
+                if left.len().saturating_add(right.len()) < row::FULL - row::FULL / 8 => {
                 let mut items = row::copied(alloc, left.as_slice())?;
                 items.push(entry.try_clone()?)?;
                 let mut more = row::copied(alloc, right.as_slice())?;

@@ -4,7 +4,8 @@ use tab_key::Abbreviate;
 
 impl<K: Abbreviate + Drop, V: Drop> Map<K, V> {
     /// The number of the map's nodes, rows among them, counted in O(n / 8): a row that a removal leaves with fewer than 8
-    /// of its 32 entries, or a node with fewer than 4 of its 16 branches, is merged with a neighbour that has room for it.
+    /// of its 32 entries, or a node with fewer than 4 of its 16 branches, is merged with a neighbour that has room for it, and a
+    /// split leaves no row but a node's last with fewer.
     pub fn nodes(&self) -> usize {
         match &self.root {
             Tree::Empty => 0,

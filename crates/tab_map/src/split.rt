@@ -1,6 +1,7 @@
-//! Rows and nodes that are too long are split at their middle. All memory is taken before an entry moves, and what
-//! is refused memory stays long.
-ghost use Rattle.std.specs.Prelude.{◌≡◌, ◌≤◌, ◌∷◌, ◌++◌, IfOk, OnErr, length};
+//! Rows and nodes that are too long are split at their middle, but for a row that is its node's last: keys that come in order
+//! all go there, and leave rows that are nearly full behind them. All memory is taken before an entry moves, and what is refused memory stays
+//! long. There the lower row gives back the room that it has no entries for, and so does each lower node.
+ghost use Rattle.std.specs.Prelude.{◌≡◌, ◌≤◌, ◌<◌, ◌+◌, ◌*◌, ◌∷◌, [], ◌++◌, IfOk, OnErr, length, vec_len};
 ghost use Rattle.tab_map.specs.Entries.{Ascends};
 ghost use Rattle.tab_map.specs.InOrder.{node_entries};
 
@@ -10,6 +11,54 @@ use std::alloc::{AllocError, Global};
 use std::mem;
 use std::sync::Arc;
 use tab_key::Abbreviate;
+
+/// Where a row stands in its node.
+#[derive(Clone, Copy)]
+enum Side {
+    /// Others may follow it.
+    Within,
+    Last,
+}
+
+impl Side {
+    // How many entries of a long row go to its lower part, with the one that stands between the two.
+    fn cut(self, len: usize) -> usize
+        requires { 1 ≤ len }
+        ensures some { 1 ≤ result }
+        ensures within { result ≤ len }
+        ensures half { len ≤ 2 * result }
+        ensures rest { 8 ≤ len → result < len }
+    {
+        match self {
+            Side::Within => len / 2 + 1,
+            Side::Last => len - len / 8,
+        }
+    }
+
+    // Takes the last entry of a lower row out. Keys that come in order go to none but the last row, so one that they leave
+    // behind gives back its room.
+    fn take_last<T>(self, items: &mut Vec<T>) -> T
+        requires { 0 < vec_len items.old }
+        ensures items { items.old.items ≡ items.new.items ++ result ∷ [] }
+        ensures len { vec_len items.new + 1 ≡ vec_len items.old }
+    {
+        match self {
+            Side::Within => items.take_last(),
+            Side::Last => take_last_fitting(items),
+        }
+    }
+}
+
+// Takes the last one out, and gives back the room beside the others.
+fn take_last_fitting<T>(items: &mut Vec<T>) -> T
+    requires { 0 < vec_len items.old }
+    ensures items { items.old.items ≡ items.new.items ++ result ∷ [] }
+    ensures len { vec_len items.new + 1 ≡ vec_len items.old }
+{
+    let last = items.take_last();
+    items.shrink_to_fit();
+    last
+}
 
 impl<K: Abbreviate + Drop, V: Drop> Map<K, V> {
     fn is_long(&self) -> bool {
@@ -36,7 +85,7 @@ impl<K: Abbreviate + Drop, V: Drop> Map<K, V> {
         let Some(node) = Arc::get_mut(&mut root) else {
             return Err(AllocError);
         };
-        let half = self.lower_half(alloc)?;
+        let half = self.lower_part(alloc, Side::Within)?;
         node.branches.push_reserved(half);
         node.last = mem::replace(self, Map::new());
         self.root = Tree::Node(root);
@@ -54,15 +103,15 @@ impl<K: Abbreviate + Drop, V: Drop> Map<K, V> {
         Ok(Arc::new(alloc, Node { branches, last })?)
     }
 
-    // Takes the entries up to the middle one out.
-    fn lower_half(&mut self, alloc: Global) -> Result<Branch<K, V>, AllocError>
+    // Takes the entries up to the middle one out, or up to the first of the last few.
+    fn lower_part(&mut self, alloc: Global, side: Side) -> Result<Branch<K, V>, AllocError>
         ensures ok { IfOk result (λ half. self.old ≡ half.below ++ half.entry ∷ self.new) }
         ensures err { OnErr result (self.new ≡ self.old) }
         ensures ascends { Ascends K.cmp self.old }
     {
         match &mut self.root {
             Tree::Empty => Err(AllocError),
-            Tree::Leaf(items) => Map::lower_row(alloc, items),
+            Tree::Leaf(items) => Map::lower_row(alloc, items, side),
             Tree::Node(node) => Map::lower_node(alloc, node),
         }
     }
@@ -70,6 +119,7 @@ impl<K: Abbreviate + Drop, V: Drop> Map<K, V> {
     fn lower_row(
         alloc: Global,
         items: &mut Arc<Vec<Entry<K, V>>, Global>,
+        side: Side,
     ) -> Result<Branch<K, V>, AllocError>
         requires { Ascends K.cmp items.old.value.items }
         ensures ok { IfOk result
@@ -87,8 +137,8 @@ impl<K: Abbreviate + Drop, V: Drop> Map<K, V> {
         if items.is_empty() {
             return Err(AllocError);
         }
-        let upper = items.split_off(items.len() / 2 + 1)?;
-        let entry = items.take_last();
+        let upper = items.split_off(side.cut(items.len()))?;
+        let entry = side.take_last(items);
         *lower = mem::replace(items, upper);
         let below = Map {
             root: Tree::Leaf(row),
@@ -120,7 +170,7 @@ impl<K: Abbreviate + Drop, V: Drop> Map<K, V> {
             return Err(AllocError);
         }
         let upper = node.branches.split_off(node.branches.len() / 2 + 1)?;
-        let middle = node.branches.take_last();
+        let middle = take_last_fitting(&mut node.branches);
         lower.branches = mem::replace(&mut node.branches, upper);
         lower.last = middle.below;
         let below = Map {
@@ -156,8 +206,8 @@ impl<K: Abbreviate + Drop, V: Drop> Node<K, V> {
     {
         self.branches.reserve(1)?;
         let half = match self.branches.get_mut(n) {
-            Some(branch) => branch.below.lower_half(alloc)?,
-            None => self.last.lower_half(alloc)?,
+            Some(branch) => branch.below.lower_part(alloc, Side::Within)?,
+            None => self.last.lower_part(alloc, Side::Last)?,
         };
         let Ok(()) = self.branches.insert(n, half) else {
             unreachable!()
