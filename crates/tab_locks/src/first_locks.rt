@@ -1,4 +1,4 @@
-ghost use Rattle.std.specs.Prelude.{◌≡◌, ◌&&◌, [], OnErr, IfOk, true, false, IsFalse};
+ghost use Rattle.std.specs.Prelude.{◌≡◌, ◌&&◌, ◌==◌, not, [], OnOk, OnErr, IfOk, true, false, IsTrue, IsFalse};
 ghost use Rattle.std.specs.BTreeMap.{values};
 ghost use Rattle.std.specs.List.{list_any};
 ghost use Rattle.std.specs.Option.{IfNone, IfSome};
@@ -9,10 +9,12 @@ ghost use Rattle.tab_locks.specs.Questions.{fits};
 ghost use Rattle.tab_locks.specs.Members.{HasMore, Drops};
 ghost use Rattle.tab_locks.specs.Spots.{stands_on_key};
 
+use crate::hindrance::Hindrance;
 use crate::key_lock::KeyLock;
 use crate::question::Question;
 use std::alloc::{AllocError, Global};
 use std::collections::BTreeMap;
+use std::collections::btree_map::Entry;
 use std::marker::Model;
 use tab_key::Abbreviate;
 use tab_term::Term;
@@ -90,7 +92,7 @@ impl FirstLocks {
     }
 
     /// Holds a lock on this key, where none stands under its number, or this very one does; else it tells that it does not, and
-    /// stays as it is.
+    /// stays as it is. One search: a lock that is not there goes where it ends, and only such a one takes memory.
     pub fn add(
         &mut self,
         alloc: Global,
@@ -103,17 +105,52 @@ impl FirstLocks {
         ensures more { IfOk result
             (λ b. b ≡ true → HasMore (term key.now, (age, write)) self.old self.new) }
         ensures same { IfOk result (λ b. b ≡ false → self.new ≡ self.old) }
+        ensures tied { IfOk result
+            (λ b. b ≡ false → IsTrue (list_any
+            (λ s. (number_of s.0 == number) && not
+            (stands_on_key (term key.now) (age, write) s)) self.old)) }
         ensures err { OnErr result (self.new ≡ self.old) }
     {
-        if let Some(lock) = self.locks.get(&number) {
-            return Ok(lock.is(key, age, write));
+        match self.locks.entry(number)? {
+            Entry::Occupied(entry) => return Ok(entry.into_mut().is(key, age, write)),
+            vacant => {
+                vacant.or_try_insert_with(|| KeyLock::new(alloc, key, age, write))?;
+            }
         }
-        let lock = KeyLock {
-            key: key.try_clone(alloc)?,
-            age,
-            write,
-        };
-        self.locks.insert(number, lock)?;
+        Ok(true)
+    }
+
+    /// The same at a key that has no lock here, in one search too; `false` where another key's lock has its number. At a key that
+    /// has one it is hindered.
+    pub fn add_free(
+        &mut self,
+        alloc: Global,
+        number: u64,
+        key: &Term,
+        age: u64,
+        write: bool,
+    ) -> Result<bool, Hindrance>
+        requires { number ≡ number_of (term key.now) }
+        ensures more { IfOk result
+            (λ b. b ≡ true → HasMore (term key.now, (age, write)) self.old self.new) }
+        ensures same { IfOk result (λ b. b ≡ false → self.new ≡ self.old) }
+        ensures tied { IfOk result
+            (λ b. b ≡ false → IsTrue (list_any (λ s. number_of s.0 == number) self.old)) }
+        ensures free { OnOk result (IsFalse (list_any (λ s. same (term key.now) s.0) self.old)) }
+        ensures err { OnErr result (self.new ≡ self.old) }
+    {
+        let place = self.locks.entry(number)?;
+        match place {
+            Entry::Occupied(entry) => {
+                if *key == entry.into_mut().key {
+                    return Err(Hindrance);
+                }
+                return Ok(false);
+            }
+            vacant => {
+                vacant.or_try_insert_with(|| KeyLock::new(alloc, key, age, write))?;
+            }
+        }
         Ok(true)
     }
 

@@ -1,10 +1,11 @@
-ghost use Rattle.std.specs.Prelude.{◌≡◌, ◌&&◌};
+ghost use Rattle.std.specs.Prelude.{◌≡◌, ◌&&◌, IfOk};
 ghost use Rattle.tab_term.specs.Same.{same};
 ghost use Rattle.tab_term.specs.View.{term};
 ghost use Rattle.tab_locks.specs.Questions.{fits};
 ghost use Rattle.tab_locks.specs.Spots.{is_holding};
 
 use crate::question::Question;
+use std::alloc::{AllocError, Global};
 use tab_term::Term;
 
 /// A lock on a key, with its owner's age and whether it is held for writing.
@@ -16,13 +17,25 @@ pub(crate) struct KeyLock {
 }
 
 impl KeyLock {
+    /// One on a copy of this key.
+    pub fn new(alloc: Global, key: &Term, age: u64, write: bool) -> Result<KeyLock, AllocError>
+        ensures { IfOk result
+            (λ l. (l.key ≡ key.now) × (l.age ≡ age) × (l.write ≡ write)) }
+    {
+        Ok(KeyLock {
+            key: key.try_clone(alloc)?,
+            age,
+            write,
+        })
+    }
+
     /// Whether it is on this key, and this owner's in this mode.
     pub fn is(&self, key: &Term, age: u64, write: bool) -> bool
         ensures { result
             ≡ (same (term key.now) (term self.now.key) && is_holding (age, write)
             (self.now.age, self.now.write)) }
     {
-        *key == self.key && self.age == age && self.write == write
+        self.age == age && self.write == write && *key == self.key
     }
 
     /// Whether it is on this key, and its owner stands in this relation to who asks.
@@ -31,6 +44,6 @@ impl KeyLock {
             ≡ (same (term key.now) (term self.now.key) && fits question.relation
             (question.age, question.write) (self.now.age, self.now.write)) }
     {
-        *key == self.key && question.fits(self.age, self.write)
+        question.fits(self.age, self.write) && *key == self.key
     }
 }

@@ -118,6 +118,29 @@ impl Keys {
         ensures err { OnErr result (SameMembers self.old self.new) }
     {
         let number = key.abbreviated();
+        if self.tied.is_occupied() {
+            return self.add_free_beside_ties(alloc, number, key, age, write);
+        }
+        if self.first.add_free(alloc, number, key, age, write)? {
+            return Ok(());
+        }
+        self.tied.add_free(alloc, key, age, write)
+    }
+
+    // A key among the ties may have no lock under its number, where to make room for one would take memory.
+    fn add_free_beside_ties(
+        &mut self,
+        alloc: Global,
+        number: u64,
+        key: &Term,
+        age: u64,
+        write: bool,
+    ) -> Result<(), Hindrance>
+        requires { number ≡ number_of (term key.now) }
+        ensures ok { OnOk result (HasMore (term key.now, (age, write)) self.old self.new) }
+        ensures free { OnOk result (IsFalse (list_any (λ s. same (term key.now) s.0) self.old)) }
+        ensures err { OnErr result (SameMembers self.old self.new) }
+    {
         match self.first.under_number(number, key) {
             Some(lock) => {
                 if *key == lock.key {

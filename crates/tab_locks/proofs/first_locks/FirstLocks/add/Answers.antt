@@ -1,39 +1,84 @@
-use Rattle.std.proofs.Common.{◌≡◌, ℕ, sym, ap, ◌∙◌, subst, List, Some, None, nat_cmp}
+use Rattle.std.proofs.Common.{◌≡◌, ℕ, sym, ap, ◌∙◌, subst, List, Some, None, nat_cmp, arith, rules, of_calls}
 use Rattle.std.specs.BTreeMap.{is_at}
-use Rattle.std.specs.Map.{lookup}
-use Rattle.std.specs.Option.{option_copied}
+use Rattle.std.specs.BTreeMap.Entry.{map_with_value, entry_value}
+use Rattle.std.specs.List.{list_any}
+use Rattle.std.specs.List.Sorted.{IsStrictlySortedBy}
+use Rattle.std.specs.Map.{keys_of, lookup}
 use Rattle.tab_term.specs.Abbreviations.{number}
 use Rattle.tab_term.specs.View.{term}
-use Rattle.tab_term.specs.declared.term.Term.{Term}
 use Rattle.tab_locks.specs.declared.key_lock.KeyLock.{KeyLock}
 use Rattle.tab_locks.specs.Members.{HasMore}
-use Rattle.tab_locks.specs.Numbered.{first_spots}
+use Rattle.tab_locks.specs.Numbered.{first_spots, IsUnderNumbers}
 use Rattle.tab_locks.specs.Spots.{KeySpot}
-use Rattle.tab_locks.proofs.FirstLocks.{first_again, more_first, numbered_after}
+use Rattle.tab_locks.proofs.FirstLocks.{put_back, first_again, tied_first, more_made, numbered_made}
+use Rattle.tab_locks.proofs.PutEntry.{at_vacant, was_made}
 use Rattle.tab_locks.proofs.first_locks.FirstLocks.add.Goals as goal
+
+abbrev Entries : Type 0
+Entries = List (ℕ × KeyLock)
+
+pub invariant_of-self-in-Occupied : goal.invariant_of-self-in-Occupied
+invariant_of-self-in-Occupied c =
+    let v = c.into_mut.result.now in
+    let es = c.self.inside.locks.entries in
+    let new = (map_with_value c.in_ok-vacant.vacant v).entries in
+    let found : lookup (is_at (nat_cmp c.args.number)) es ≡ Some v = sym c.in_ok-vacant.ensures.value ∙ ap entry_value c.in-Occupied.is ∙ c.into_mut.ensures.value in
+    let back = put_back c.args.number v es new c.in_ok-vacant.ensures.ordered found (c.in_ok-vacant.ensures.update.1 v) in
+    record {
+      ordered = subst (λ (fs : Entries). IsStrictlySortedBy nat_cmp (keys_of fs)) (grind (arith, c.in-Occupied.is)) (c.in_ok-vacant.ensures.update.2 v);
+      under = subst IsUnderNumbers (grind (arith, c.in-Occupied.is)) (subst IsUnderNumbers (sym back) c.self.invariant.under);
+    }
+
+pub returns-in-Occupied-clause-same : goal.returns-in-Occupied-clause-same
+returns-in-Occupied-clause-same c = λ other.
+    let v = c.into_mut.result.now in
+    let es = c.self.inside.locks.entries in
+    let new = (map_with_value c.in_ok-vacant.vacant v).entries in
+    let found : lookup (is_at (nat_cmp c.args.number)) es ≡ Some v = sym c.in_ok-vacant.ensures.value ∙ ap entry_value c.in-Occupied.is ∙ c.into_mut.ensures.value in
+    let back = put_back c.args.number v es new c.in_ok-vacant.ensures.ordered found (c.in_ok-vacant.ensures.update.1 v) in
+    let same = ap first_spots back ∙ c.self.view_is in
+    grind (arith, c.in-Occupied.is, same)
+
+pub returns-in-Occupied-clause-more : goal.returns-in-Occupied-clause-more
+returns-in-Occupied-clause-more c = λ there p.
+    let k = c.args.key.now in
+    let v = c.into_mut.result.now in
+    let es = c.self.inside.locks.entries in
+    let new = (map_with_value c.in_ok-vacant.vacant v).entries in
+    let found : lookup (is_at (nat_cmp c.args.number)) es ≡ Some v = sym c.in_ok-vacant.ensures.value ∙ ap entry_value c.in-Occupied.is ∙ c.into_mut.ensures.value in
+    let back = put_back c.args.number v es new c.in_ok-vacant.ensures.ordered found (c.in_ok-vacant.ensures.update.1 v) in
+    let same = ap first_spots back ∙ c.self.view_is in
+    let under : lookup (is_at (nat_cmp (number (term k)))) es ≡ Some v = ap (λ (n : ℕ). lookup (is_at (nat_cmp n)) es) (sym c.requires) ∙ found in
+    let again = subst (λ (s : List KeySpot). HasMore (term k, (c.args.age, c.args.write)) s s) c.self.view_is (first_again k (c.args.age, c.args.write) v es under (sym c.is.ensures ∙ there)) in
+    grind (arith, c.in-Occupied.is, same, again p)
+
+pub returns-in-Occupied-clause-tied : goal.returns-in-Occupied-clause-tied
+returns-in-Occupied-clause-tied c = λ other.
+    let k = c.args.key.now in
+    let v = c.into_mut.result.now in
+    let es = c.self.inside.locks.entries in
+    let found : lookup (is_at (nat_cmp c.args.number)) es ≡ Some v = sym c.in_ok-vacant.ensures.value ∙ ap entry_value c.in-Occupied.is ∙ c.into_mut.ensures.value in
+    let tied = tied_first k (c.args.age, c.args.write) c.args.number v es c.self.invariant.under found (sym c.is.ensures ∙ other) in
+    grind (arith, tied, c.self.view_is)
 
 pub invariant_of-self-2 : goal.invariant_of-self-2
 invariant_of-self-2 c =
-    let lock : KeyLock = record { key = c.in_ok-try_clone.field-0; age = c.args.age; write = c.args.write } in
+    let w = c.in_ok-or_try_insert_with-in_default.field-0.now in
+    let es = c.self.inside.locks.entries in
+    let new = (map_with_value c.in_ok-vacant.vacant w).entries in
+    let missing : lookup (is_at (nat_cmp c.args.number)) es ≡ None = at_vacant _ _ c.in_ok-vacant.vacant c.in_default.not-Occupied c.in_ok-vacant.ensures.found in
+    let made : (w.key ≡ c.args.key.now) × (w.age ≡ c.args.age) × (w.write ≡ c.args.write) = let h = was_made _ (entry_value c.in_ok-vacant.vacant) w (c.in_ok-vacant.ensures.value ∙ missing) c.in_ok-or_try_insert_with-in_default.ensures.value in search (rules, of_calls) in
     record {
-      ordered = c.insert.ensures.ordered;
-      under = numbered_after c.args.number lock c.self.inside.locks.entries c.insert.new.self.entries c.insert.result c.insert.ensures.entries c.insert.ensures.err
-          (ap (λ (t : Term). number (term t)) c.in_ok-try_clone.ensures ∙ sym c.requires) c.self.invariant.under;
+      ordered = subst (λ (fs : Entries). IsStrictlySortedBy nat_cmp (keys_of fs)) (grind arith) (c.in_ok-vacant.ensures.update.2 w);
+      under = subst IsUnderNumbers (grind arith) (numbered_made c.args.key.now c.args.number w es new c.requires made.0 (c.in_ok-vacant.ensures.update.1 w) c.self.invariant.under);
     }
 
 pub returns-clause-more : goal.returns-clause-more
-returns-clause-more c = λ added.
-    let lock : KeyLock = record { key = c.in_ok-try_clone.field-0; age = c.args.age; write = c.args.write } in
+returns-clause-more c = λ put_in p.
+    let w = c.in_ok-or_try_insert_with-in_default.field-0.now in
     let es = c.self.inside.locks.entries in
-    let new = c.insert.new.self.entries in
-    let missing : lookup (is_at (nat_cmp c.args.number)) es ≡ None = sym c.get.ensures.value ∙ ap option_copied c.in_default.is in
-    subst (λ (t : Term). HasMore (term t, (c.args.age, c.args.write)) c.args.self.now (first_spots new)) c.in_ok-try_clone.ensures
-    (subst (λ (s : List KeySpot). HasMore (term c.in_ok-try_clone.field-0, (c.args.age, c.args.write)) s (first_spots new)) c.self.view_is
-    (more_first c.args.number lock es new missing c.in_ok-insert.ensures.entries))
-
-pub returns-in-Some-clause-more : goal.returns-in-Some-clause-more
-returns-in-Some-clause-more c = λ there.
-    let k = c.args.key.now in
-    let es = c.self.inside.locks.entries in
-    let found : lookup (is_at (nat_cmp (number (term k)))) es ≡ Some c.in-Some.lock.now = ap (λ (n : ℕ). lookup (is_at (nat_cmp n)) es) (sym c.requires) ∙ sym c.get.ensures.value ∙ ap option_copied c.in-Some.is in
-    subst (λ (s : List KeySpot). HasMore (term k, (c.args.age, c.args.write)) s s) c.self.view_is (first_again k (c.args.age, c.args.write) c.in-Some.lock.now es found (sym c.is.ensures ∙ there))
+    let new = (map_with_value c.in_ok-vacant.vacant w).entries in
+    let missing : lookup (is_at (nat_cmp c.args.number)) es ≡ None = at_vacant _ _ c.in_ok-vacant.vacant c.in_default.not-Occupied c.in_ok-vacant.ensures.found in
+    let made : (w.key ≡ c.args.key.now) × (w.age ≡ c.args.age) × (w.write ≡ c.args.write) = let h = was_made _ (entry_value c.in_ok-vacant.vacant) w (c.in_ok-vacant.ensures.value ∙ missing) c.in_ok-or_try_insert_with-in_default.ensures.value in search (rules, of_calls) in
+    let more = more_made c.args.key.now (c.args.age, c.args.write) c.args.number w es new missing (c.in_ok-vacant.ensures.update.1 w) made in
+    grind (arith, more p, ap (list_any p) c.self.view_is)
