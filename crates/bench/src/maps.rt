@@ -9,6 +9,7 @@ use std::time::{Duration, Instant};
 use tab_index::IndexedTable;
 use tab_map::Map;
 use tab_model::{Atoms, Change, Kind, Numbers, TableDef};
+use tab_rows::{Form, Update};
 use tab_term::{Atom, Term, Terms};
 
 /// What is measured, and whether it changes in place, or into a new version while the old one stands.
@@ -45,7 +46,7 @@ enum Store {
 #[derive(Drop)]
 struct Put {
     key: Term,
-    write: Change,
+    write: Update,
 }
 
 /// How long a row's calls took over all rounds.
@@ -98,7 +99,7 @@ fn random(place: u64) -> u64 {
 
 fn written(alloc: Global, number: u64) -> Result<Put, AllocError> {
     Ok(Put {
-        write: Change::Write(record(alloc, number)?),
+        write: Update::new(Change::Write(record(alloc, number)?)),
         key: Term::Int(i128::from(number)),
     })
 }
@@ -170,7 +171,7 @@ fn put_one(alloc: Global, store: &mut Store, put: &Put) -> Result<(), AllocError
         Store::Map(map) => map.insert(alloc, put.key.try_clone(alloc)?, 1)?,
         Store::MapVersions(map) => *map = map.inserted(alloc, put.key.try_clone(alloc)?, 1)?,
         Store::Records(map) => {
-            if let Change::Write(record) = &put.write {
+            if let Form::Change(Change::Write(record)) = put.write.form() {
                 map.insert(put.key.try_clone(alloc)?, record.try_clone(alloc)?)?;
             }
         }

@@ -5,7 +5,7 @@ use denote.Param.Send.{IsSend, IsSync, plain_send, plain_sync, sendable, view_se
 use denote.Param.SendFields.{as_row_send, as_row_sync, declared_send, declared_sync, variants_send, variants_sync}
 use Rattle.std.proofs.Crossing.{Vec-send, Vec-sync, Arc-send, Arc-sync, crosses, frees, send as heap_send}
 use Rattle.std.proofs.MapsCrossing.{BTreeMap-send}
-use Rattle.tab_map.proofs.Crossing.{Map-send, Map-sync}
+use Rattle.tab_map.proofs.Crossing.{Entry-send, Map-send, Map-sync}
 use Rattle.tab_term.proofs.atom.Atom.TheSendSync as atom_marks
 use Rattle.tab_records.proofs.Crossing.{Records-send, Records-sync}
 use Rattle.tab_lists.proofs.Crossing.{SharedTerms-send, SharedTerms-sync, Answers-send, Answers-sync, EventTerms-send, EventTerms-sync}
@@ -31,6 +31,8 @@ use Rattle.tab_model.proofs.data.Level.TheSendSync as level_marks
 use Rattle.tab_model.proofs.data.TableDef.TheSendSync as definition_marks
 use Rattle.tab_index.specs.contracts.index.Index as index
 use Rattle.tab_rows.specs.contracts.rows.Rows as rows
+use Rattle.tab_rows.specs.contracts.only_record.OnlyRecord as only_record
+use Rattle.tab_rows.specs.contracts.update.Update as update
 use Rattle.tab_index.specs.contracts.table.IndexedTable as table
 use Rattle.tab_tables.specs.contracts.catalog.Catalog as catalog
 use Rattle.tab_txstore.specs.contracts.levels.Levels as levels
@@ -140,8 +142,14 @@ catalog-send = search (parts, table-send, table-sync) depth 30
 change-send : IsSend change.the_row
 change-send = search (parts, Term-send) depth 20
 
+only_record-send : IsSend only_record.the_row
+only_record-send = search (parts, Entry-send, Term-send, Term-sync, Records-send, Records-sync) depth 30
+
+update-send : IsSend update.the_row
+update-send = search (parts, change-send, only_record-send) depth 30
+
 overlay-send : IsSend levels.the_row
-overlay-send = search (parts, change-send, Term-send, Term-sync, Records-send, Records-sync) depth 30
+overlay-send = search (parts, update-send, Term-send, Term-sync, Records-send, Records-sync) depth 30
 
 store-send : IsSend store.the_row
 store-send = search (parts, move-send, logged-send, overlay-send) depth 30

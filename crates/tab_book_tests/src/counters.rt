@@ -16,6 +16,7 @@ use tab_book::{Book, Seat, Shared};
 use tab_journal::Journal;
 use tab_model::{Change, Command, Entry, Limits, Reply, SharedReply};
 use tab_post::{Channel, Host, Inbox, Naming, Opened};
+use tab_rows::Update;
 use tab_tables::{Catalog, Lender};
 
 const THREADS: usize = 4;
@@ -282,8 +283,8 @@ fn is_history_of_199(
     journal: &Journal,
     tables: &Catalog,
 ) -> Result<bool, AllocError> {
-    let change = Change::Write(record(alloc, 199)?);
-    let others = tables.updated(alloc, &[change], &Lender::None)?;
+    let update = Update::new(Change::Write(record(alloc, 199)?));
+    let others = tables.updated(alloc, &[update], &Lender::None)?;
     journal.audit(alloc, journal.base(), &others)
 }
 

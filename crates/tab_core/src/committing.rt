@@ -15,10 +15,11 @@ use crate::Core;
 use crate::step::with_overflowed;
 use std::alloc::{AllocError, Global};
 use tab_manager::{Ending, Manager, Step, Stepped};
-use tab_model::{Change, Command, Event, Reply, Schema};
+use tab_model::{Command, Event, Reply, Schema};
 use tab_outbox::Post;
+use tab_rows::Update;
 use tab_subs::Subs;
-use tab_tables::{Catalog, Changing, table_of_change};
+use tab_tables::{Catalog, Changing, table_of_update};
 use tab_term::Atom;
 
 /// The tables that a commit leaves, and those of its events that someone watches.
@@ -176,12 +177,12 @@ fn expected<P: Post + Drop>(
 }
 
 /// Whether someone watches a table of the changes.
-fn are_watched<P: Post + Drop>(subs: &Subs<P>, changes: &[Change], nameless: &Atom) -> bool
+fn are_watched<P: Post + Drop>(subs: &Subs<P>, updates: &[Update], nameless: &Atom) -> bool
     requires { nameless.now ≡ [] }
-    ensures { result ≡ are_watched_by subs.now changes.now }
+    ensures { result ≡ are_watched_by subs.now updates.now }
 {
-    for change in changes {
-        if subs.has_watcher(table_of_change(change, nameless)) {
+    for update in updates {
+        if subs.has_watcher(table_of_update(update, nameless)) {
             return true;
         }
     }
@@ -201,17 +202,17 @@ fn changed_tables<P: Post + Drop>(
 {
     let mut changing = Changing::new(tables.share()?);
     let mut events = Vec::new(alloc);
-    for change in ending.updates {
+    for update in ending.updates {
         push_watched(
             alloc,
             &mut events,
             &changing,
             subs,
             ending.age,
-            change,
+            update,
             nameless,
         )?;
-        changing = changing.changed(alloc, change, nameless, &ending.lender)?;
+        changing = changing.changed(alloc, update, nameless, &ending.lender)?;
     }
     let tables = changing.into_catalog(alloc)?;
     Ok(Updated { tables, events })
@@ -224,19 +225,19 @@ fn push_watched<P: Post + Drop>(
     changing: &Changing,
     subs: &Subs<P>,
     age: u64,
-    change: &Change,
+    update: &Update,
     nameless: &Atom,
 ) -> Result<(), AllocError>
     requires { nameless.now ≡ [] }
     ensures { OnOk result
         (events.new.items
         ≡ events.old.items
-        ++ filter (is_watched subs.now) (event_of changing.now age change.now ∷ [])) }
+        ++ filter (is_watched subs.now) (event_of changing.now age update.now ∷ [])) }
 {
-    if !subs.has_watcher(table_of_change(change, nameless)) {
+    if !subs.has_watcher(table_of_update(update, nameless)) {
         return Ok(());
     }
-    let event = changing.event(alloc, age, change, nameless)?;
+    let event = changing.event(alloc, age, update, nameless)?;
     events.push(event)?;
     Ok(())
 }

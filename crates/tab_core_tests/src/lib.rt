@@ -1,5 +1,6 @@
 //! Tests of the public calls of the machine of steps and of what it stands on, where a stream of the built program can't show
-//! them: a run of steps, devices that fail, mirrors, audits, and one-shots on a session that is played.
+//! them: a run of steps, devices that fail, mirrors, audits, records in entries of their own, and one-shots on a session that is
+//! played.
 
 #![tactic(auto)]
 
@@ -13,5 +14,7 @@ mod journal;
 mod one_shots;
 #[cfg(test)]
 mod played;
+#[cfg(test)]
+mod rows;
 #[cfg(test)]
 mod steps;

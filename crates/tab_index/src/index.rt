@@ -5,7 +5,7 @@ ghost use Rattle.std.specs.List.{filter, list_any};
 ghost use Rattle.tab_term.specs.Order.{term_cmp};
 ghost use Rattle.tab_term.specs.Same.{same};
 ghost use Rattle.tab_term.specs.View.{term, terms};
-ghost use Rattle.tab_model.specs.Tables.{key as key_of_row, apply, put as put_in, delete as delete_in, delete_object as delete_object_in, is_ordered};
+ghost use Rattle.tab_model.specs.Tables.{key as key_of_row, apply, put, delete as delete_in, delete_object as delete_object_in, is_ordered};
 ghost use Rattle.tab_model.specs.WholeTables.{element as element_of};
 ghost use Rattle.tab_model.specs.declared.data.Kind.TheVariants as kind;
 ghost use Rattle.tab_map.specs.Entries.{lookup, Ascends};
@@ -18,7 +18,7 @@ use std::alloc::{AllocError, Global};
 use tab_map::{Map, Set};
 use tab_model::{Change, Kind};
 use tab_records::Iter;
-use tab_rows::Rows;
+use tab_rows::{Form, Rows, Update};
 use tab_term::Term;
 
 /// An index at a position: each value with the keys of the records that have it there.
@@ -150,7 +150,7 @@ impl Index {
         requires ordered { IsTrue (is_ordered rows.now.1) }
         ensures position { self.new.position ≡ self.old.position }
         ensures ok { OnOk result
-            (IsIndexOf (put_in kind.Set rows.now.1 (term row.now)) self.new.position
+            (IsIndexOf (put kind.Set rows.now.1 (term row.now)) self.new.position
             self.new.keys) }
     {
         let nothing = Nothing::new(alloc);
@@ -216,7 +216,20 @@ impl Index {
     }
 
     /// Makes the index of `rows` that of the rows after the change.
-    pub fn change(&mut self, alloc: Global, rows: &Rows, change: &Change) -> Result<(), AllocError>
+    pub fn update(&mut self, alloc: Global, rows: &Rows, update: &Update) -> Result<(), AllocError>
+        requires index { IsIndexOf rows.now.1 self.old.position self.old.keys }
+        requires ordered { IsTrue (is_ordered rows.now.1) }
+        ensures position { self.new.position ≡ self.old.position }
+        ensures ok { OnOk result
+            (IsIndexOf (apply rows.now.0 rows.now.1 update.now) self.new.position self.new.keys) }
+    {
+        match update.form() {
+            Form::Only(only) => self.write(alloc, rows, only.row()),
+            Form::Change(change) => self.change(alloc, rows, change),
+        }
+    }
+
+    fn change(&mut self, alloc: Global, rows: &Rows, change: &Change) -> Result<(), AllocError>
         requires index { IsIndexOf rows.now.1 self.old.position self.old.keys }
         requires ordered { IsTrue (is_ordered rows.now.1) }
         ensures position { self.new.position ≡ self.old.position }
@@ -224,12 +237,22 @@ impl Index {
             (IsIndexOf (apply rows.now.0 rows.now.1 change.now) self.new.position self.new.keys) }
     {
         match change {
-            Change::Write(row) => match rows.kind() {
-                Kind::Set => self.replace(alloc, rows, row),
-                Kind::Bag => self.add(alloc, row),
-            },
+            Change::Write(row) => self.write(alloc, rows, row),
             Change::Delete(_, key) => self.forget(alloc, rows, key),
             Change::DeleteObject(row) => self.forget_object(alloc, rows, row),
+        }
+    }
+
+    fn write(&mut self, alloc: Global, rows: &Rows, row: &Term) -> Result<(), AllocError>
+        requires index { IsIndexOf rows.now.1 self.old.position self.old.keys }
+        requires ordered { IsTrue (is_ordered rows.now.1) }
+        ensures position { self.new.position ≡ self.old.position }
+        ensures ok { OnOk result
+            (IsIndexOf (put rows.now.0 rows.now.1 (term row.now)) self.new.position self.new.keys) }
+    {
+        match rows.kind() {
+            Kind::Set => self.replace(alloc, rows, row),
+            Kind::Bag => self.add(alloc, row),
         }
     }
 }

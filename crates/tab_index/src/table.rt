@@ -20,9 +20,9 @@ use std::slice;
 use std::sync::Arc;
 use tab_lists::SharedTerms;
 use tab_map::{Entry, Iter, Map, Set};
-use tab_model::{Change, TableDef};
+use tab_model::TableDef;
 use tab_records::Records;
-use tab_rows::Rows;
+use tab_rows::{Rows, Update};
 use tab_schema::with_positions;
 use tab_term::Term;
 
@@ -165,7 +165,7 @@ impl IndexedTable {
         None
     }
 
-    /// The table with an index at the position, which is made in one walk. Where there is one already, the same table.
+    /// The table with an index at the position, which is made in one walk and a sort. Where there is one already, the same table.
     pub fn add_index(&self, alloc: Global, position: u64) -> Result<IndexedTable, AllocError>
         ensures { IfOk result
             (λ table. table
@@ -207,19 +207,20 @@ impl IndexedTable {
         })
     }
 
-    /// The table after the changes, in turn. This one stays as it was, and shares what did not change. Where another table
-    /// lends its records, one that is written and is the only one of its key in both is shared, in place of a copy.
+    /// The table after the changes, in turn. This one stays as it was, and shares what did not change. A set takes the entry
+    /// that an update has for its record. Where another bag lends its records, one that is written, and stands at the same place
+    /// of its key there, is shared too, in place of a copy.
     pub fn updated(
         &self,
         alloc: Global,
-        changes: &[Change],
+        updates: &[Update],
         lender: Option<&Map<Term, Records>>,
     ) -> Result<IndexedTable, AllocError>
         ensures { IfOk result
             (λ table. table
-            ≡ with_rows self.now (applied_in self.now.def.kind self.now.rows changes.now)) }
+            ≡ with_rows self.now (applied_in self.now.def.kind self.now.rows updates.now)) }
     {
-        self.share(alloc)?.applied(alloc, changes, lender)
+        self.share(alloc)?.applied(alloc, updates, lender)
     }
 
     /// The table after the changes, in turn, in place where nothing is shared; records are lent as to `updated`. An error
@@ -227,20 +228,20 @@ impl IndexedTable {
     pub fn applied(
         self,
         alloc: Global,
-        changes: &[Change],
+        updates: &[Update],
         lender: Option<&Map<Term, Records>>,
     ) -> Result<IndexedTable, AllocError>
         ensures { IfOk result
-            (λ table. table ≡ with_rows self (applied_in self.def.kind self.rows changes.now)) }
+            (λ table. table ≡ with_rows self (applied_in self.def.kind self.rows updates.now)) }
     {
         let IndexedTable {
             def,
             mut rows,
             mut indexes,
         } = self;
-        for change in changes {
-            change_indexes(alloc, &mut indexes, &rows, change)?;
-            change_rows(alloc, &mut rows, change, lender)?;
+        for update in updates {
+            change_indexes(alloc, &mut indexes, &rows, update)?;
+            rows.update(alloc, update, lender)?;
         }
         Ok(IndexedTable { def, rows, indexes })
     }
@@ -250,18 +251,18 @@ impl IndexedTable {
     pub fn change(
         &mut self,
         alloc: Global,
-        change: &Change,
+        update: &Update,
         lender: Option<&Map<Term, Records>>,
     ) -> Result<(), AllocError>
         ensures ok { OnOk result
-            (self.new ≡ with_rows self.old (apply_in self.old.def.kind self.old.rows change.now)) }
+            (self.new ≡ with_rows self.old (apply_in self.old.def.kind self.old.rows update.now)) }
         ensures err { OnErr result (self.new ≡ self.old) }
     {
         if self.indexes.is_empty() {
-            change_rows(alloc, &mut self.rows, change, lender)?;
+            self.rows.update(alloc, update, lender)?;
             return Ok(());
         }
-        *self = self.updated(alloc, slice::from_ref(change), lender)?;
+        *self = self.updated(alloc, slice::from_ref(update), lender)?;
         Ok(())
     }
 }
@@ -270,32 +271,16 @@ fn change_indexes(
     alloc: Global,
     indexes: &mut Vec<Index>,
     rows: &Rows,
-    change: &Change,
+    update: &Update,
 ) -> Result<(), AllocError>
     requires indexes { AreIndexesOf rows.now.1 indexes.old.items }
     requires ordered { IsTrue (is_ordered rows.now.1) }
     ensures positions { OnOk result (positions indexes.new.items ≡ positions indexes.old.items) }
     ensures indexes { OnOk result
-        (AreIndexesOf (apply_in rows.now.0 rows.now.1 change.now) indexes.new.items) }
+        (AreIndexesOf (apply_in rows.now.0 rows.now.1 update.now) indexes.new.items) }
 {
     for index in indexes.iter_mut() {
-        index.change(alloc, rows, change)?;
+        index.update(alloc, rows, update)?;
     }
     Ok(())
-}
-
-fn change_rows(
-    alloc: Global,
-    rows: &mut Rows,
-    change: &Change,
-    lender: Option<&Map<Term, Records>>,
-) -> Result<(), AllocError>
-    ensures ok { OnOk result (rows.new ≡ (rows.old.0, apply_in rows.old.0 rows.old.1 change.now)) }
-    ensures err { OnErr result (rows.new ≡ rows.old) }
-{
-    match change {
-        Change::Write(row) => rows.put(alloc, row, lender),
-        Change::Delete(_, key) => rows.delete(alloc, key),
-        Change::DeleteObject(row) => rows.delete_object(alloc, row),
-    }
 }

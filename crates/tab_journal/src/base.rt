@@ -91,9 +91,10 @@ impl Base {
                 overflowed,
                 ..
             } => {
-                let changes = surviving(alloc, moves.items.as_slice(), told.items.as_slice())?;
+                let moves = moves.items.as_slice();
+                let updates = surviving(alloc, tables, moves, told.items.as_slice())?;
                 let lender = Lender::Tables(tables);
-                self.tables.update(alloc, changes.as_slice(), &lender)?;
+                self.tables.update(alloc, updates.as_slice(), &lender)?;
                 keep(&mut self.subscriptions, overflowed.items.as_slice(), None);
                 self.commits = *number;
             }

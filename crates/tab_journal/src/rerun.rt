@@ -9,15 +9,15 @@ ghost use Rattle.tab_model.specs.Catalogs.{IsOrderedCatalog};
 ghost use Rattle.tab_journal.specs.Audits.{Follows, RunsAs, with_now};
 
 use crate::same::{is_answer, is_atomic_ok, is_tid};
-use crate::survivors::change_of;
 use std::alloc::{AllocError, Global};
 use std::collections::VecDeque;
 use std::marker::Model;
 use std::slice;
 use tab_model::{LoggedReply, Move, Operation};
 use tab_operations::{Pending, perform};
+use tab_rows::Update;
 use tab_tables::{Catalog, Lender};
-use tab_txstore::TxStore;
+use tab_txstore::{TxStore, change_of};
 
 /// A transaction in its midst, on whole versions of the tables, which share what does not change.
 struct Midst {
@@ -224,7 +224,10 @@ fn effect(alloc: Global, tables: &Catalog, operation: &Operation) -> Result<Cata
     ensures { IfOk result (λ after. after ≡ effect_of tables.now operation.now) }
 {
     match change_of(alloc, operation)? {
-        Some(change) => tables.updated(alloc, slice::from_ref(&change), &Lender::None),
+        Some(change) => {
+            let update = Update::new(change);
+            tables.updated(alloc, slice::from_ref(&update), &Lender::None)
+        }
         None => tables.share(),
     }
 }

@@ -1,6 +1,7 @@
 //! The updates of a transaction that no level's end undid, read off its moves and their replies.
 
 ghost use Rattle.std.specs.Prelude.{◌≡◌, ◌++◌, ◌∷◌, [], IfOk, OnOk, OnErr, Some, length};
+ghost use Rattle.tab_model.specs.declared.data.Change.TheVariants as change;
 ghost use Rattle.tab_model.specs.Operations.{change_of_op};
 ghost use Rattle.tab_model.specs.Events.{is_failure as is_failure_of, surviving_changes as surviving_of};
 ghost use Rattle.tab_journal.specs.Survivors.{next, opened, closed, ended, changed};
@@ -8,11 +9,15 @@ ghost use Rattle.tab_journal.specs.Survivors.{next, opened, closed, ended, chang
 use std::alloc::{AllocError, Global};
 use std::collections::VecDeque;
 use std::marker::Model;
-use tab_model::{Change, LoggedReply, Move, Operation};
+use tab_model::{Change, Kind, LoggedReply, Move, Operation};
+use tab_rows::{OnlyRecord, Update};
+use tab_tables::{Catalog, tag};
+use tab_term::{Atom, Term};
+use tab_txstore::change_of;
 
 /// The updates so far that stand.
 pub struct Survivors {
-    changes: Vec<Change>,
+    updates: Vec<Update>,
     // How many stood when each open level began, innermost first.
     begun: VecDeque<usize>,
 }
@@ -27,16 +32,16 @@ impl Model for Survivors {
 
     ghost coded = { Prim.hlevel (codes, term_code, terms_code, pairs_code) };
 
-    ghost view = { λ a. standing a.changes.items a.begun.items };
+    ghost view = { λ a. standing a.updates.items a.begun.items };
 
-    ghost invariant = { λ a. Falls (length a.changes.items) a.begun.items };
+    ghost invariant = { λ a. Falls (length a.updates.items) a.begun.items };
 }
 
 // A derived Drop would be taken apart, field by field, at each exit of each caller.
 impl Drop for Survivors {
     fn drop(self) {
-        let Survivors { changes, begun } = self;
-        drop(changes);
+        let Survivors { updates, begun } = self;
+        drop(updates);
         drop(begun);
     }
 }
@@ -50,19 +55,34 @@ fn is_failure(told: &Option<LoggedReply>) -> bool
     }
 }
 
-/// What an operation changes; None for one that reads or locks.
-pub fn change_of(alloc: Global, operation: &Operation) -> Result<Option<Change>, AllocError>
-    ensures { IfOk result (λ change. change ≡ change_of_op operation.now) }
+/// What an operation changes; None for one that reads or locks. The write of a record that one of these tables, of type set,
+/// has takes no memory for it.
+fn update_of(
+    alloc: Global,
+    tables: &Catalog,
+    operation: &Operation,
+) -> Result<Option<Update>, AllocError>
+    ensures { IfOk result (λ update. update ≡ change_of_op operation.now) }
 {
-    match operation {
-        Operation::Write(row) => Ok(Some(Change::Write(row.try_clone(alloc)?))),
-        Operation::DeleteObject(row) => Ok(Some(Change::DeleteObject(row.try_clone(alloc)?))),
-        Operation::Delete(name, key) => {
-            let name = name.try_clone(alloc)?;
-            Ok(Some(Change::Delete(name, key.try_clone(alloc)?)))
-        }
-        _ => Ok(None),
+    if let Operation::Write(row) = operation {
+        return Ok(Some(write_of(alloc, tables, row)?));
     }
+    match change_of(alloc, operation)? {
+        Some(change) => Ok(Some(Update::new(change))),
+        None => Ok(None),
+    }
+}
+
+fn write_of(alloc: Global, tables: &Catalog, row: &Term) -> Result<Update, AllocError>
+    ensures { IfOk result (λ update. update ≡ change.Write row.now) }
+{
+    let nameless = Atom::from_short_text(alloc, "")?;
+    if let Some(table) = tables.table(tag(row, &nameless)) {
+        if let Kind::Set = table.def().kind {
+            return Ok(Update::only(OnlyRecord::new(alloc, row, Some(table.records()))?));
+        }
+    }
+    Ok(Update::new(Change::Write(row.try_clone(alloc)?)))
 }
 
 impl Survivors {
@@ -70,7 +90,7 @@ impl Survivors {
         ensures { result ≡ record { now = []; saved = [] } }
     {
         Survivors {
-            changes: Vec::new(alloc),
+            updates: Vec::new(alloc),
             begun: VecDeque::new(alloc),
         }
     }
@@ -78,7 +98,7 @@ impl Survivors {
     fn open(&mut self) -> Result<(), AllocError>
         ensures { OnOk result (self.new ≡ opened self.old) }
     {
-        self.begun.push_front(self.changes.len())?;
+        self.begun.push_front(self.updates.len())?;
         Ok(())
     }
 
@@ -92,17 +112,22 @@ impl Survivors {
         ensures { self.new ≡ ended self.old }
     {
         match self.begun.pop_front() {
-            Some(count) => self.changes.truncate(count),
-            None => self.changes.truncate(0),
+            Some(count) => self.updates.truncate(count),
+            None => self.updates.truncate(0),
         }
     }
 
-    fn operate(&mut self, alloc: Global, operation: &Operation) -> Result<(), AllocError>
+    fn operate(
+        &mut self,
+        alloc: Global,
+        tables: &Catalog,
+        operation: &Operation,
+    ) -> Result<(), AllocError>
         ensures { OnOk result (self.new ≡ changed self.old (change_of_op operation.now)) }
     {
-        match change_of(alloc, operation)? {
-            Some(change) => {
-                self.changes.push(change)?;
+        match update_of(alloc, tables, operation)? {
+            Some(update) => {
+                self.updates.push(update)?;
                 Ok(())
             }
             None => Ok(()),
@@ -112,6 +137,7 @@ impl Survivors {
     fn follow(
         &mut self,
         alloc: Global,
+        tables: &Catalog,
         step: &Move,
         told: &Option<LoggedReply>,
     ) -> Result<(), AllocError>
@@ -123,7 +149,7 @@ impl Survivors {
                     self.end();
                     return Ok(());
                 }
-                self.operate(alloc, operation)?;
+                self.operate(alloc, tables, operation)?;
                 Ok(())
             }
             Move::Open => {
@@ -141,28 +167,29 @@ impl Survivors {
         }
     }
 
-    fn into_changes(self) -> Vec<Change>
+    fn into_updates(self) -> Vec<Update>
         ensures { result.items ≡ self.now }
     {
-        let Survivors { changes, begun: _ } = self;
-        changes
+        let Survivors { updates, begun: _ } = self;
+        updates
     }
 }
 
-/// The updates that no level's end undid, in order.
+/// The updates that no level's end undid, in order. A record that one of these tables, of type set, has is shared with it.
 pub fn surviving(
     alloc: Global,
+    tables: &Catalog,
     moves: &[Move],
     told: &[Option<LoggedReply>],
-) -> Result<Vec<Change>, AllocError>
-    ensures { IfOk result (λ changes. changes.items ≡ surviving_of moves.now told.now) }
+) -> Result<Vec<Update>, AllocError>
+    ensures { IfOk result (λ updates. updates.items ≡ surviving_of moves.now told.now) }
 {
     let mut survivors = Survivors::new(alloc);
     for (place, step) in moves.iter().enumerate() {
         let Some(reply) = told.get(place) else {
-            return Ok(survivors.into_changes());
+            return Ok(survivors.into_updates());
         };
-        survivors.follow(alloc, step, reply)?;
+        survivors.follow(alloc, tables, step, reply)?;
     }
-    Ok(survivors.into_changes())
+    Ok(survivors.into_updates())
 }

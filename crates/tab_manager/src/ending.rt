@@ -13,14 +13,14 @@ ghost use Rattle.tab_manager.specs.Steps.{StepsTo};
 use crate::levels::finish;
 use crate::machine::Machine;
 use crate::step::Stepped;
-use tab_model::Change;
+use tab_rows::Update;
 use tab_tables::{Catalog, Lender};
 
-/// A transaction that its commit would end: its age, its updates in order, and the records that it lends to the tables.
+/// A transaction that its commit would end: its age, its updates in order, and the records that it lends to bags.
 #[derive(Clone, Copy)]
 pub struct Ending<'a> {
     pub age: u64,
-    pub updates: &'a [Change],
+    pub updates: &'a [Update],
     pub lender: Lender<'a>,
 }
 

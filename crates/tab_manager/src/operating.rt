@@ -20,7 +20,6 @@ use std::alloc::{AllocError, Global};
 use tab_model::{Limit, Reply, SharedReply};
 use tab_operations::{Pending, needs, perform};
 use tab_tables::Catalog;
-use tab_txstore::is_failure;
 use tab_waitdie::{Ages, Answer};
 
 /// What an operation was told, and whether it ended its transaction: by a failure at level 1.
@@ -170,7 +169,7 @@ fn work_in(
     let outermost = transaction.store.depth() == 0;
     match perform(alloc, catalog, &mut transaction.store, pending) {
         Ok(reply) => {
-            let over = outermost && is_failure(reply.reply());
+            let over = outermost && reply.reply().is_failure();
             Ok(Worked { reply, over })
         }
         Err(error) => {

@@ -6,16 +6,19 @@ ghost use Rattle.tab_map.specs.Entries.{insert_entry};
 ghost use Rattle.tab_term.specs.Order.{term_cmp};
 ghost use Rattle.tab_term.specs.View.{term, terms};
 ghost use Rattle.tab_model.specs.Names.{plain_terms, terms_list};
-ghost use Rattle.tab_model.specs.Tables.{at, key as key_of_row, put as put_in, delete as delete_in, delete_object as delete_object_in};
-ghost use Rattle.tab_rows.specs.Joined.{joined, IsInOrder};
+ghost use Rattle.tab_model.specs.Tables.{apply, at, key as key_of_row, put as put_in, delete as delete_in, delete_object as delete_object_in};
+ghost use Rattle.tab_rows.specs.Joined.{joined, IsInOrder, IsOnly};
+ghost use Rattle.tab_rows.specs.OnlyRecords.{record_in};
 
 use crate::append::Append;
 use crate::entries::{copy_of_key, entry_of};
+use crate::only_record::OnlyRecord;
+use crate::update::{Form, Update};
 use std::alloc::{AllocError, Global};
 use std::marker::Model;
 use tab_lists::SharedTerms;
 use tab_map::{Entry, Iter, Map};
-use tab_model::Kind;
+use tab_model::{Change, Kind};
 use tab_records::Records;
 use tab_term::{Term, Terms};
 
@@ -159,9 +162,55 @@ impl Rows {
         }
     }
 
+    /// Makes a change. A set takes the entry that a record has already, and copies nothing. Other records are lent as to `put`.
+    pub fn update(
+        &mut self,
+        alloc: Global,
+        update: &Update,
+        lender: Option<&Map<Term, Records>>,
+    ) -> Result<(), AllocError>
+        ensures ok { OnOk result
+            (self.new ≡ (self.old.0, apply self.old.0 self.old.1 update.now)) }
+        ensures err { OnErr result (self.new ≡ self.old) }
+    {
+        match update.form() {
+            Form::Only(only) => self.put_only(alloc, only),
+            Form::Change(change) => self.change(alloc, change, lender),
+        }
+    }
+
+    fn put_only(&mut self, alloc: Global, only: &OnlyRecord) -> Result<(), AllocError>
+        ensures ok { OnOk result
+            (self.new ≡ (self.old.0, put_in self.old.0 self.old.1 (term only.now))) }
+        ensures err { OnErr result (self.new ≡ self.old) }
+    {
+        match self.kind {
+            Kind::Set => self.put_entry(alloc, only.share()?),
+            Kind::Bag => self.add(alloc, only.row(), None),
+        }
+    }
+
+    /// Makes a change; records are lent as to `put`.
+    pub fn change(
+        &mut self,
+        alloc: Global,
+        change: &Change,
+        lender: Option<&Map<Term, Records>>,
+    ) -> Result<(), AllocError>
+        ensures ok { OnOk result
+            (self.new ≡ (self.old.0, apply self.old.0 self.old.1 change.now)) }
+        ensures err { OnErr result (self.new ≡ self.old) }
+    {
+        match change {
+            Change::Write(row) => self.put(alloc, row, lender),
+            Change::Delete(_, key) => self.delete(alloc, key),
+            Change::DeleteObject(row) => self.delete_object(alloc, row),
+        }
+    }
+
     /// Writes a record. In a set it takes the place of its key's records; in a bag it comes after them, and where an
-    /// equal record is there already, nothing moves. Where another table lends its records, and has this one at the same place
-    /// of its key, the entry is shared in place of a copy.
+    /// equal record is there already, nothing moves. Where another bag lends its records, and has this one at the same place of its
+    /// key, the entry is shared in place of a copy.
     pub fn put(
         &mut self,
         alloc: Global,
@@ -173,24 +222,20 @@ impl Rows {
         ensures err { OnErr result (self.new ≡ self.old) }
     {
         match self.kind {
-            Kind::Set => self.set(alloc, row, lender),
+            Kind::Set => self.put_entry(alloc, entry_of(alloc, row, None)?),
             Kind::Bag => self.add(alloc, row, lender),
         }
     }
 
-    fn set(
-        &mut self,
-        alloc: Global,
-        row: &Term,
-        lender: Option<&Map<Term, Records>>,
-    ) -> Result<(), AllocError>
+    // Puts a record in the entry that has it alone.
+    fn put_entry(&mut self, alloc: Global, entry: Entry<Term, Records>) -> Result<(), AllocError>
         requires kind { self.old.0 ≡ Kind.Set }
+        requires only { IsOnly (term (record_in entry)) entry }
         ensures ok { OnOk result
-            (self.new ≡ (self.old.0, put_in self.old.0 self.old.1 (term row.now))) }
+            (self.new ≡ (self.old.0, put_in self.old.0 self.old.1 (term (record_in entry)))) }
         ensures err { OnErr result (self.new ≡ self.old) }
     {
         let size = one_more(self.size)?;
-        let entry = entry_of(alloc, row, lender)?;
         let before = replace(&mut self.records, alloc, entry)?;
         self.size = size - before;
         Ok(())

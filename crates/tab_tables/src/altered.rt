@@ -7,26 +7,26 @@ use std::alloc::{AllocError, Global};
 use std::slice;
 use tab_index::IndexedTable;
 use tab_map::{Map, Revise};
-use tab_model::Change;
 use tab_records::Records;
+use tab_rows::Update;
 use tab_term::Term;
 
 /// What a change makes of its table.
 #[derive(Drop)]
 pub struct Altered<'a> {
-    pub change: &'a Change,
+    pub update: &'a Update,
     /// Records of the table that are lent.
     pub records: Option<&'a Map<Term, Records>>,
 }
 
 impl<'a> Revise<IndexedTable> for Altered<'a> {
-    ghost becomes = { λ a table. with_rows table (apply table.def.kind table.rows a.change.now) };
+    ghost becomes = { λ a table. with_rows table (apply table.def.kind table.rows a.update.now) };
 
     fn revise(self, alloc: Global, table: &mut IndexedTable) -> Result<(), AllocError> {
-        table.change(alloc, self.change, self.records)
+        table.change(alloc, self.update, self.records)
     }
 
     fn revised(self, alloc: Global, table: &IndexedTable) -> Result<IndexedTable, AllocError> {
-        table.updated(alloc, slice::from_ref(self.change), self.records)
+        table.updated(alloc, slice::from_ref(self.update), self.records)
     }
 }

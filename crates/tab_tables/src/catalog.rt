@@ -8,12 +8,12 @@ ghost use Rattle.tab_tables.specs.Named.{catalog_of};
 use crate::altered::Altered;
 use crate::changing::Changing;
 use crate::lender::Lender;
-use crate::tags::table_of_change;
+use crate::tags::table_of_update;
 use std::alloc::{AllocError, Global};
 use std::marker::Model;
 use tab_index::IndexedTable;
 use tab_map::{Iter, Map};
-use tab_model::Change;
+use tab_rows::Update;
 use tab_term::Atom;
 
 /// All tables, by name. Sharing them takes constant time.
@@ -93,15 +93,15 @@ impl Catalog {
     pub fn updated(
         &self,
         alloc: Global,
-        changes: &[Change],
+        updates: &[Update],
         lender: &Lender<'_>,
     ) -> Result<Catalog, AllocError>
-        ensures { IfOk result (λ catalog. catalog ≡ change_all self.now changes.now) }
+        ensures { IfOk result (λ catalog. catalog ≡ change_all self.now updates.now) }
     {
         let nameless = Atom::from_short_text(alloc, "")?;
         let mut changing = Changing::new(self.share()?);
-        for change in changes {
-            changing = changing.changed(alloc, change, &nameless, lender)?;
+        for update in updates {
+            changing = changing.changed(alloc, update, &nameless, lender)?;
         }
         changing.into_catalog(alloc)
     }
@@ -111,15 +111,15 @@ impl Catalog {
     pub fn update(
         &mut self,
         alloc: Global,
-        changes: &[Change],
+        updates: &[Update],
         lender: &Lender<'_>,
     ) -> Result<(), AllocError>
-        ensures ok { OnOk result (self.new ≡ change_all self.old changes.now) }
+        ensures ok { OnOk result (self.new ≡ change_all self.old updates.now) }
         ensures err { OnErr result (self.new ≡ self.old) }
     {
-        match changes {
-            [change] => self.change(alloc, change, lender)?,
-            _ => *self = self.updated(alloc, changes, lender)?,
+        match updates {
+            [update] => self.change(alloc, update, lender)?,
+            _ => *self = self.updated(alloc, updates, lender)?,
         }
         Ok(())
     }
@@ -127,17 +127,17 @@ impl Catalog {
     fn change(
         &mut self,
         alloc: Global,
-        change: &Change,
+        update: &Update,
         lender: &Lender<'_>,
     ) -> Result<(), AllocError>
-        ensures ok { OnOk result (self.new ≡ change_catalog self.old change.now) }
+        ensures ok { OnOk result (self.new ≡ change_catalog self.old update.now) }
         ensures err { OnErr result (self.new ≡ self.old) }
     {
         let nameless = Atom::from_short_text(alloc, "")?;
-        let name = table_of_change(change, &nameless).try_clone(alloc)?;
-        let records = lender.records(&name);
+        let name = table_of_update(update, &nameless).try_clone(alloc)?;
+        let records = lender.records(update, &name);
         self.by_name
-            .revise(alloc, name, Altered { change, records })?;
+            .revise(alloc, name, Altered { update, records })?;
         Ok(())
     }
 

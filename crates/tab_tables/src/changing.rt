@@ -5,12 +5,12 @@ ghost use Rattle.tab_model.specs.Operations.{table_of_change as table_of, change
 
 use crate::catalog::Catalog;
 use crate::lender::Lender;
-use crate::tags::table_of_change;
+use crate::tags::table_of_update;
 use std::alloc::{AllocError, Global};
 use std::marker::Model;
 use std::slice;
 use tab_index::IndexedTable;
-use tab_model::Change;
+use tab_rows::Update;
 use tab_term::Atom;
 
 /// All tables, and a newer version of one of them that isn't in its place yet: while changes are of one table, it alone is
@@ -49,27 +49,27 @@ impl Changing {
     pub fn changed(
         self,
         alloc: Global,
-        change: &Change,
+        update: &Update,
         nameless: &Atom,
         lender: &Lender<'_>,
     ) -> Result<Changing, AllocError>
         requires { nameless.now ≡ [] }
-        ensures { IfOk result (λ next. next ≡ change_catalog self change.now) }
+        ensures { IfOk result (λ next. next ≡ change_catalog self update.now) }
     {
         let Changing { catalog, newer } = self;
-        let name = table_of_change(change, nameless);
+        let name = table_of_update(update, nameless);
         let Some(table) = newer else {
-            return Changing::started(alloc, catalog, name, change, lender);
+            return Changing::started(alloc, catalog, name, update, lender);
         };
         if table.def().name == *name {
-            let records = lender.records(name);
-            let table = table.applied(alloc, slice::from_ref(change), records)?;
+            let records = lender.records(update, name);
+            let table = table.applied(alloc, slice::from_ref(update), records)?;
             return Ok(Changing {
                 catalog,
                 newer: Some(table),
             });
         }
-        Changing::started(alloc, catalog.with(alloc, table)?, name, change, lender)
+        Changing::started(alloc, catalog.with(alloc, table)?, name, update, lender)
     }
 
     // The tables after a change of this one, whose new version shares what does not change.
@@ -77,16 +77,16 @@ impl Changing {
         alloc: Global,
         catalog: Catalog,
         name: &Atom,
-        change: &Change,
+        update: &Update,
         lender: &Lender<'_>,
     ) -> Result<Changing, AllocError>
-        requires { name.now ≡ table_of change.now }
-        ensures { IfOk result (λ next. next ≡ change_catalog catalog change.now) }
+        requires { name.now ≡ table_of update.now }
+        ensures { IfOk result (λ next. next ≡ change_catalog catalog update.now) }
     {
         let newer = match catalog.table(name) {
             Some(table) => {
-                let records = lender.records(name);
-                Some(table.updated(alloc, slice::from_ref(change), records)?)
+                let records = lender.records(update, name);
+                Some(table.updated(alloc, slice::from_ref(update), records)?)
             }
             None => None,
         };

@@ -9,12 +9,12 @@ ghost use Rattle.tab_model.specs.Operations.{key_of_change};
 ghost use Rattle.tab_model.specs.Catalogs.{cell, find};
 
 use crate::changing::Changing;
-use crate::tags::table_of_change;
+use crate::tags::table_of_update;
 use std::alloc::{AllocError, Global};
 use tab_index::IndexedTable;
 use tab_lists::SharedTerms;
-use tab_model::{Change, Event};
-use tab_rows::copy_of_key;
+use tab_model::Event;
+use tab_rows::Update;
 use tab_term::{Atom, Term, Terms};
 
 impl Changing {
@@ -23,17 +23,17 @@ impl Changing {
         &self,
         alloc: Global,
         age: u64,
-        change: &Change,
+        update: &Update,
         nameless: &Atom,
     ) -> Result<Event, AllocError>
         requires { nameless.now ≡ [] }
-        ensures { IfOk result (λ event. event ≡ event_of self.now age change.now) }
+        ensures { IfOk result (λ event. event ≡ event_of self.now age update.now) }
     {
-        let name = table_of_change(change, nameless);
-        let key = key_of(alloc, change)?;
+        let name = table_of_update(update, nameless);
+        let key = update.copy_of_key(alloc)?;
         let old = self.records(alloc, name, &key)?;
         let tab = name.try_clone(alloc)?;
-        let change = copy_of(alloc, change)?;
+        let change = update.to_change(alloc)?;
         Ok(Event {
             tab,
             change,
@@ -62,30 +62,5 @@ impl Changing {
             return Some(newer);
         }
         self.catalog.table(name)
-    }
-}
-
-/// A copy of the key that a change is made at.
-fn key_of(alloc: Global, change: &Change) -> Result<Term, AllocError>
-    ensures { IfOk result (λ key. term key ≡ key_of_change change.now) }
-{
-    match change {
-        Change::Write(row) => copy_of_key(alloc, row),
-        Change::Delete(_, key) => key.try_clone(alloc),
-        Change::DeleteObject(row) => copy_of_key(alloc, row),
-    }
-}
-
-/// The same change, in memory of its own.
-fn copy_of(alloc: Global, change: &Change) -> Result<Change, AllocError>
-    ensures { IfOk result (λ copy. copy ≡ change.now) }
-{
-    match change {
-        Change::Write(row) => Ok(Change::Write(row.try_clone(alloc)?)),
-        Change::Delete(name, key) => {
-            let name = name.try_clone(alloc)?;
-            Ok(Change::Delete(name, key.try_clone(alloc)?))
-        }
-        Change::DeleteObject(row) => Ok(Change::DeleteObject(row.try_clone(alloc)?)),
     }
 }

@@ -2,11 +2,13 @@
 
 use crate::catalog::Catalog;
 use tab_map::Map;
+use tab_model::Change;
 use tab_records::Records;
+use tab_rows::{Form, Update};
 use tab_term::{Atom, Term};
 
-/// Who lends records to tables that are written to. A record that is written is shared with it where it is the only one of
-/// its key in both; nothing else is taken from it.
+/// Who lends records to bags that are written to. A record that is written is shared with it where it stands at the same place
+/// of its key in both; nothing else is taken from it. What a set is written has an entry of its own.
 #[derive(Clone, Copy)]
 pub enum Lender<'a> {
     /// Nobody.
@@ -18,8 +20,11 @@ pub enum Lender<'a> {
 }
 
 impl<'a> Lender<'a> {
-    /// The records of a table, by key.
-    pub(crate) fn records(&self, name: &Atom) -> Option<&'a Map<Term, Records>> {
+    /// The records of the update's table, by key, where it writes one that has no entry of its own.
+    pub(crate) fn records(&self, update: &Update, name: &Atom) -> Option<&'a Map<Term, Records>> {
+        let Form::Change(Change::Write(_)) = update.form() else {
+            return None;
+        };
         match self {
             Lender::None => None,
             Lender::Tables(tables) => Some(tables.table(name)?.records()),

@@ -5,10 +5,21 @@ ghost use Rattle.tab_term.specs.View.{term};
 ghost use Rattle.tab_model.specs.Operations.{tag as tag_of, table_of_change as table_of};
 
 use tab_model::Change;
+use tab_rows::{Form, Update};
 use tab_term::{Atom, Term};
 
-/// The table that a change is made in: where its record begins with no name, the nameless one.
-pub fn table_of_change<'a>(change: &'a Change, nameless: &'a Atom) -> &'a Atom
+/// The table that an update is made in: where its record begins with no name, the nameless one.
+pub fn table_of_update<'a>(update: &'a Update, nameless: &'a Atom) -> &'a Atom
+    requires { nameless.now ≡ [] }
+    ensures { result.now ≡ table_of update.now }
+{
+    match update.form() {
+        Form::Only(only) => tag(only.row(), nameless),
+        Form::Change(change) => table_of_change(change, nameless),
+    }
+}
+
+fn table_of_change<'a>(change: &'a Change, nameless: &'a Atom) -> &'a Atom
     requires { nameless.now ≡ [] }
     ensures { result.now ≡ table_of change.now }
 {

@@ -5,7 +5,10 @@ use Rattle.tab_term.specs.Data.{PlainTerms}
 use Rattle.tab_term.specs.Order.{bytes_cmp, term_cmp}
 use Rattle.tab_term.specs.View.{term}
 use Rattle.tab_map.specs.Entries.{lookup, insert_entry}
+use Rattle.tab_rows.specs.Joined.{IsOnly}
 use Rattle.tab_model.specs.declared.data.Change.{Change}
+use Rattle.tab_model.specs.declared.data.Change.TheVariants.{Write}
+use Rattle.tab_model.specs.declared.data.Kind.TheVariants.{Set}
 use Rattle.tab_model.specs.Names.{plain_terms, terms_list}
 use Rattle.tab_model.specs.Tables.{Rows, at}
 use Rattle.tab_model.specs.Operations.{key_of_change}
@@ -43,3 +46,15 @@ touch_made x v c name key seen after keys keys' v' n k s a ks ks' vs =
     round : (xs : Rows) → terms_list (plain_terms xs) ≡ xs
     round [] = refl
     round (x ∷ xs) = ap (λ ys. x ∷ ys) (round xs)
+
+-- a record's own entry, put at its key, is the write to a set
+pub touch_only : (x : Table) (v : Overlay) (row : Term) (name : List ℕ) (e : Term × PlainTerms) (v' : Overlay)
+    → name ≡ x.def.name → x.def.kind ≡ Set → IsOnly (term row) e → v' ≡ insert_entry bytes_cmp (name, insert_entry term_cmp e (touched v name)) v → v' ≡ touch x v (Write row)
+touch_only x v row name e v' n s only vs =
+    touch_made x v (Write row) name e.0 seen e.1 (touched v name) (insert_entry term_cmp e (touched v name)) v' n only.key refl after refl refl vs
+  where
+    seen : PlainTerms
+    seen = plain_terms (seen_at (touched v x.def.name) x.rows (term e.0))
+
+    after : e.1 ≡ plain_terms (left x.def.kind (terms_list seen) (Write row))
+    after = sym (plain-list e.1) ∙ ap plain_terms only.only ∙ ap (λ k. plain_terms (left k (terms_list seen) (Write row))) (sym s)

@@ -1,20 +1,9 @@
-//! What an operation changes, and at which key.
-ghost use Rattle.std.specs.Prelude.{◌≡◌, IfOk, Some};
-ghost use Rattle.tab_term.specs.View.{term};
-ghost use Rattle.tab_model.specs.Operations.{change_of_op, key_of_change};
-ghost use Rattle.tab_model.specs.Events.{is_failure as is_failure_of};
+//! What an operation changes.
+ghost use Rattle.std.specs.Prelude.{◌≡◌, IfOk};
+ghost use Rattle.tab_model.specs.Operations.{change_of_op};
 
 use std::alloc::{AllocError, Global};
-use tab_model::{Change, Operation, Reply};
-use tab_rows::copy_of_key;
-use tab_term::Term;
-
-/// Whether an operation that is told this ends its level.
-pub fn is_failure(reply: &Reply) -> bool
-    ensures { result ≡ is_failure_of (Some reply.now) }
-{
-    reply.is_failure()
-}
+use tab_model::{Change, Operation};
 
 /// The change that an operation makes.
 pub fn change_of(alloc: Global, operation: &Operation) -> Result<Option<Change>, AllocError>
@@ -28,16 +17,5 @@ pub fn change_of(alloc: Global, operation: &Operation) -> Result<Option<Change>,
             Ok(Some(Change::Delete(name, key.try_clone(alloc)?)))
         }
         _ => Ok(None),
-    }
-}
-
-/// A copy of the key that a change is made at.
-pub fn key_of(alloc: Global, change: &Change) -> Result<Term, AllocError>
-    ensures { IfOk result (λ key. term key ≡ key_of_change change.now) }
-{
-    match change {
-        Change::Write(row) => copy_of_key(alloc, row),
-        Change::Delete(_, key) => key.try_clone(alloc),
-        Change::DeleteObject(row) => copy_of_key(alloc, row),
     }
 }

@@ -5,27 +5,30 @@ ghost use Rattle.tab_term.specs.Order.{bytes_cmp};
 ghost use Rattle.tab_term.specs.View.{term};
 ghost use Rattle.tab_map.specs.Entries.{lookup};
 ghost use Rattle.tab_model.specs.Names.{plain_terms};
+ghost use Rattle.tab_model.specs.declared.data.Change.TheVariants.{Write};
+ghost use Rattle.tab_model.specs.declared.data.Kind.TheVariants.{Set};
 ghost use Rattle.tab_model.specs.declared.data.Move.TheVariants.{Do};
 ghost use Rattle.tab_txstore.specs.Merged.{IsSnapshot};
 ghost use Rattle.tab_txstore.specs.Overlays.{touched, seen_at};
 ghost use Rattle.tab_txstore.specs.Stores.{no_levels, nested, joined, ended, changed, levels_next};
 
 use crate::change::change_of;
-use crate::touching::{seen_entry, touch};
+use crate::touching::{put_only, seen_entry, touch};
 use std::alloc::{AllocError, Global};
 use std::marker::Model;
 use tab_index::IndexedTable;
 use tab_lists::Snapshot;
 use tab_map::{Entry, Map};
-use tab_model::{Change, LoggedReply, Operation};
+use tab_model::{Change, Kind, LoggedReply, Operation};
 use tab_records::Records;
+use tab_rows::{OnlyRecord, Update};
 use tab_term::{Atom, Term};
 
 /// The innermost level as it is, with what each open level goes back to.
 pub struct Levels {
     overlay: Map<Atom, Map<Term, Records>>,
     // Of all levels together, in order.
-    updates: Vec<Change>,
+    updates: Vec<Update>,
     // Outermost first.
     saved: Vec<Saved>,
 }
@@ -87,14 +90,14 @@ impl Levels {
     }
 
     /// The updates that nothing undid, in order.
-    pub fn updates(&self) -> &[Change]
+    pub fn updates(&self) -> &[Update]
         ensures { result.now ≡ self.now.now.updates }
     {
         self.updates.as_slice()
     }
 
     /// The updates that nothing undid, in order, without a copy.
-    pub fn into_updates(self) -> Vec<Change>
+    pub fn into_updates(self) -> Vec<Update>
         ensures { result.items ≡ self.now.updates }
     {
         let Levels {
@@ -167,10 +170,31 @@ impl Levels {
             self.end();
             return Ok(());
         }
+        if let (Kind::Set, Operation::Write(row)) = (committed.def().kind, operation) {
+            return self.write(alloc, committed, OnlyRecord::new(alloc, row, None)?);
+        }
         match change_of(alloc, operation)? {
             Some(change) => self.change(alloc, committed, Draft { change }),
             None => Ok(()),
         }
+    }
+
+    /// Writes a record to a committed set. The overlay and the update have it in one entry.
+    fn write(
+        &mut self,
+        alloc: Global,
+        committed: &IndexedTable,
+        only: OnlyRecord,
+    ) -> Result<(), AllocError>
+        requires kind { committed.now.def.kind ≡ Set }
+        ensures ok { OnOk result
+            (self.new ≡ changed (Some committed.now) self.old (Some (Write only))) }
+        ensures err { OnErr result (self.new ≡ self.old) }
+    {
+        self.updates.reserve(1)?;
+        put_only(&mut self.overlay, alloc, committed, &only)?;
+        push_update(&mut self.updates, Update::only(only));
+        Ok(())
     }
 
     /// Makes a change over a committed table.
@@ -186,7 +210,7 @@ impl Levels {
     {
         self.updates.reserve(1)?;
         touch(&mut self.overlay, alloc, committed, &draft.change)?;
-        push_change(&mut self.updates, draft.into_change());
+        push_update(&mut self.updates, Update::new(draft.into_change()));
         Ok(())
     }
 
@@ -261,9 +285,9 @@ impl Draft {
     }
 }
 
-fn push_change(changes: &mut Vec<Change>, next: Change)
-    requires { vec_len changes.old < vec_capacity changes.old }
-    ensures { changes.new.items ≡ changes.old.items ++ next ∷ [] }
+fn push_update(updates: &mut Vec<Update>, next: Update)
+    requires { vec_len updates.old < vec_capacity updates.old }
+    ensures { updates.new.items ≡ updates.old.items ++ next ∷ [] }
 {
-    changes.push_reserved(next);
+    updates.push_reserved(next);
 }

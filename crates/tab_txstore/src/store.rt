@@ -15,8 +15,9 @@ use std::marker::Model;
 use tab_index::IndexedTable;
 use tab_lists::Snapshot;
 use tab_map::{Entry, Map};
-use tab_model::{Change, LoggedReply, Move, Moves, Operation, Replies};
+use tab_model::{LoggedReply, Move, Moves, Operation, Replies};
 use tab_records::Records;
+use tab_rows::Update;
 use tab_term::{Atom, Term};
 
 /// What a transaction did, what it was told, and what it left at the keys that it touched.
@@ -67,7 +68,7 @@ impl Drop for TxStore {
 pub struct Finished {
     pub moves: Moves,
     pub told: Replies,
-    pub updates: Vec<Change>,
+    pub updates: Vec<Update>,
 }
 
 /// An operation with its reply, which waits for its place.
@@ -230,7 +231,7 @@ impl TxStore {
     }
 
     /// The updates that nothing undid, in order.
-    pub fn updates(&self) -> &[Change]
+    pub fn updates(&self) -> &[Update]
         ensures { result.now ≡ self.now.levels.now.updates }
     {
         self.levels.updates()

@@ -6,32 +6,32 @@ ghost use Rattle.tab_term.specs.View.{term, terms};
 ghost use Rattle.tab_model.specs.Names.{plain_terms, terms_list};
 ghost use Rattle.tab_map.specs.Entries.{lookup, insert_entry};
 ghost use Rattle.tab_map.specs.Revised.{revised_at};
+ghost use Rattle.tab_model.specs.declared.data.Change.TheVariants as change_of;
+ghost use Rattle.tab_model.specs.declared.data.Kind.TheVariants as kind_of;
 ghost use Rattle.tab_records.specs.Forms.{with_one};
 ghost use Rattle.tab_txstore.specs.Overlays.{touched, left as left_of, seen_at, touch as touch_of};
 ghost use Rattle.tab_txstore.specs.Kept.{Appends};
 
-use crate::change::key_of;
 use crate::left::left;
 use std::alloc::{AllocError, Global};
 use tab_index::IndexedTable;
 use tab_map::{Entry, Map, Revise};
 use tab_model::{Change, Kind};
 use tab_records::Records;
-use tab_rows::Append;
+use tab_rows::{Append, OnlyRecord, key_of};
 use tab_term::{Atom, Term};
 
-/// Records that come to stand at a key.
+/// An entry that comes to stand at its key.
 #[derive(Drop)]
 struct PutAt {
-    key: Term,
-    records: Records,
+    entry: Entry<Term, Records>,
 }
 
 impl Revise<Map<Term, Records>> for PutAt {
-    ghost becomes = { λ a keys. insert_entry term_cmp (a.key, a.records) keys };
+    ghost becomes = { λ a keys. insert_entry term_cmp a.entry keys };
 
     fn revise(self, alloc: Global, keys: &mut Map<Term, Records>) -> Result<(), AllocError> {
-        keys.insert(alloc, self.key, self.records)
+        keys.insert_entry(alloc, self.entry)
     }
 
     fn revised(
@@ -39,7 +39,9 @@ impl Revise<Map<Term, Records>> for PutAt {
         alloc: Global,
         keys: &Map<Term, Records>,
     ) -> Result<Map<Term, Records>, AllocError> {
-        keys.inserted(alloc, self.key, self.records)
+        let mut keys = keys.share()?;
+        keys.insert_entry(alloc, self.entry)?;
+        Ok(keys)
     }
 }
 
@@ -101,7 +103,7 @@ pub fn seen_entry<'a>(
     }
 }
 
-/// Makes a change over a committed table.
+/// Makes a change over a committed table. Writes to sets come by `put_only`.
 pub fn touch(
     overlay: &mut Map<Atom, Map<Term, Records>>,
     alloc: Global,
@@ -119,11 +121,30 @@ pub fn touch(
         return Ok(());
     }
     let records = left_at(overlay, alloc, committed, &key, change)?;
-    put(overlay, alloc, name, key, records)?;
+    let entry = Entry::new(alloc, (key, records))?;
+    put(overlay, alloc, name, entry)?;
     Ok(())
 }
 
-// What a change leaves at its key. A write to a set takes the place of what stands there, so that it isn't looked for.
+/// Writes a record to a committed set: its entry takes the place of what stands at its key, so that nothing is looked for.
+pub fn put_only(
+    overlay: &mut Map<Atom, Map<Term, Records>>,
+    alloc: Global,
+    committed: &IndexedTable,
+    only: &OnlyRecord,
+) -> Result<(), AllocError>
+    requires kind { committed.now.def.kind ≡ kind_of.Set }
+    ensures ok { OnOk result
+        (overlay.new ≡ touch_of committed.now overlay.old (change_of.Write only.now)) }
+    ensures err { OnErr result (overlay.new ≡ overlay.old) }
+{
+    let name = committed.def().name.try_clone(alloc)?;
+    let entry = only.share()?;
+    put(overlay, alloc, name, entry)?;
+    Ok(())
+}
+
+// What a change leaves at its key.
 fn left_at(
     overlay: &Map<Atom, Map<Term, Records>>,
     alloc: Global,
@@ -140,9 +161,6 @@ fn left_at(
         (term key.now)))) change.now)) }
 {
     let kind = committed.def().kind;
-    if let (Kind::Set, Change::Write(row)) = (kind, change) {
-        return Ok(Records::only(row.try_clone(alloc)?));
-    }
     match seen_entry(overlay, committed, key) {
         Some(entry) => left(alloc, kind, &entry.pair().1, change),
         None => left(alloc, kind, &Records::new(), change),
@@ -173,25 +191,24 @@ fn appended<'a>(
     }
 }
 
-// Puts the records at the key of the table.
+// Puts the entry at its key of the table.
 fn put(
     overlay: &mut Map<Atom, Map<Term, Records>>,
     alloc: Global,
     table: Atom,
-    key: Term,
-    records: Records,
+    entry: Entry<Term, Records>,
 ) -> Result<(), AllocError>
     ensures ok { OnOk result
         (overlay.new ≡ insert_entry bytes_cmp
-        (table, insert_entry term_cmp (key, records) (touched overlay.old table)) overlay.old) }
+        (table, insert_entry term_cmp entry (touched overlay.old table)) overlay.old) }
     ensures err { OnErr result (overlay.new ≡ overlay.old) }
 {
     if overlay.contains_key(&table) {
-        overlay.revise(alloc, table, PutAt { key, records })?;
+        overlay.revise(alloc, table, PutAt { entry })?;
         return Ok(());
     }
     let mut keys = Map::new();
-    keys.insert(alloc, key, records)?;
+    keys.insert_entry(alloc, entry)?;
     overlay.insert(alloc, table, keys)?;
     Ok(())
 }

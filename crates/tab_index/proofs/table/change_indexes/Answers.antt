@@ -18,22 +18,22 @@ loop-index-init c =
       left = λ k d l h. all k d h;
     }
 
-pub change-requires-clause-index : goal.change-requires-clause-index
-change-requires-clause-index c =
+pub update-requires-clause-index : goal.update-requires-clause-index
+update-requires-clause-index c =
     c.loop-index.invariant.left c.loop-index.index-index c.index-item.result (omega arith) (within _ _ _ c.loop-index.auto.index-items c.loop-index-test.true)
 
 pub loop-index-preserved : goal.loop-index-preserved
 loop-index-preserved c =
     let xs = c.loop-index.index-items in
     let i = c.loop-index.index-index in
-    let y = c.change.new.self in
+    let y = c.update.new.self in
     record {
-      positions_are = map-set_same (λ (j : Index). j.position) xs i y c.index-item.result c.change.ensures.position ∙ c.loop-index.invariant.positions_are;
-      done = one_done (apply c.args.rows.now.0 c.args.rows.now.1 c.args.change.now) xs i y (within _ _ _ c.loop-index.auto.index-items c.loop-index-test.true) c.loop-index.invariant.done c.in_ok-change.ensures.ok;
+      positions_are = map-set_same (λ (j : Index). j.position) xs i y c.index-item.result c.update.ensures.position ∙ c.loop-index.invariant.positions_are;
+      done = one_done (apply c.args.rows.now.0 c.args.rows.now.1 c.args.update.now) xs i y (within _ _ _ c.loop-index.auto.index-items c.loop-index-test.true) c.loop-index.invariant.done c.in_ok-update.ensures.ok;
       left = others_left c.args.rows.now.1 xs i y c.loop-index.invariant.left;
     }
 
 pub returns-clause-indexes : goal.returns-clause-indexes
 returns-clause-indexes c =
-    all_done (apply c.args.rows.now.0 c.args.rows.now.1 c.args.change.now) c.loop-index.index-items _ c.args.indexes.now.len c.loop-index.index-index
+    all_done (apply c.args.rows.now.0 c.args.rows.now.1 c.args.update.now) c.loop-index.index-items _ c.args.indexes.now.len c.loop-index.index-index
     (sym (c.loop-index.auto.index-items ∙ c.deref_mut-index-items.ensures.len)) (subst (λ n. n ≤ c.loop-index.index-index) (sym c.loop-index.auto.index-items) c.loop-index-test.false) c.loop-index.invariant.done

@@ -8,6 +8,6 @@ use Rattle.tab_index.proofs.table.change_indexes.Given as goal
 abbrev pub invariant-loop-index : goal.invariant-loop-index
 invariant-loop-index l = record {
   positions_are : positions l.index-items ≡ positions l.fn.indexes.items;
-  done : FirstAreOf (apply l.rows.0 l.rows.1 l.change) l.index-items l.index-index;
+  done : FirstAreOf (apply l.rows.0 l.rows.1 l.update) l.index-items l.index-index;
   left : OthersAreOf l.rows.1 l.index-items l.index-index;
 }

@@ -8,11 +8,11 @@ use Rattle.tab_txstore.proofs.touching.put.Goals as goal
 pub returns-then-contains_key-clause-ok : goal.returns-then-contains_key-clause-ok
 returns-then-contains_key-clause-ok c =
     c.in_ok-revise.ensures.ok
-    ∙ revised_there (λ (es : Touched). insert_entry term_cmp (c.args.key, c.args.records) es) c.args.table c.args.overlay.now (sym c.contains_key.ensures.found ∙ c.if-contains_key.true)
+    ∙ revised_there (λ (es : Touched). insert_entry term_cmp c.args.entry es) c.args.table c.args.overlay.now (sym c.contains_key.ensures.found ∙ c.if-contains_key.true)
 
 pub returns-clause-ok : goal.returns-clause-ok
 returns-clause-ok c =
-    let f = λ (es : Touched). insert_entry term_cmp (c.args.key, c.args.records) es in
-    c.in_ok-insert-2.ensures.ok
-    ∙ ap (λ es. insert_entry bytes_cmp (c.args.table, es) c.args.overlay.now) (c.in_ok-insert.ensures.ok ∙ ap f c.new-keys.ensures)
+    let f = λ (es : Touched). insert_entry term_cmp c.args.entry es in
+    c.in_ok-insert.ensures.ok
+    ∙ ap (λ es. insert_entry bytes_cmp (c.args.table, es) c.args.overlay.now) (c.in_ok-insert_entry.ensures.ok ∙ ap f c.new-keys.ensures)
     ∙ first_touched f c.args.table c.args.overlay.now (sym c.contains_key.ensures.found ∙ c.if-contains_key.false)

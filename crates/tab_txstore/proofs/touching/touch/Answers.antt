@@ -1,5 +1,5 @@
 use Rattle.std.proofs.Common.{refl, ap, ◌∙◌}
-use Rattle.tab_term.specs.Order.{term_cmp}
+use Rattle.tab_term.specs.Order.{bytes_cmp, term_cmp}
 use Rattle.tab_term.specs.View.{term}
 use Rattle.tab_map.specs.Entries.{insert_entry}
 use Rattle.tab_model.specs.declared.data.TableDef.{TableDef}
@@ -28,4 +28,5 @@ returns-clause-ok c =
     let name = c.in_ok-name.ensures.ok ∙ ap (λ (d : TableDef). d.name) c.def.ensures in
     let keys = touched v c.in_ok-name.name in
     touch_made x v u c.in_ok-name.name key (plain_terms (seen_at (touched v x.def.name) x.rows (term key))) c.in_ok-records.records keys (insert_entry term_cmp (key, c.in_ok-records.records) keys) c.put.new.overlay
-    name c.in_ok-key.ensures refl c.in_ok-records.ensures refl refl c.in_ok-put.ensures.ok
+    name c.in_ok-key.ensures refl c.in_ok-records.ensures refl refl
+    (c.in_ok-put.ensures.ok ∙ ap (λ e. insert_entry bytes_cmp (c.in_ok-name.name, insert_entry term_cmp e keys) v) c.in_ok-entry.ensures)

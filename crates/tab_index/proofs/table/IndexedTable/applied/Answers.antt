@@ -5,24 +5,24 @@ use Rattle.tab_model.proofs.ChangeLaws.{ordered-apply}
 use Rattle.tab_index.specs.Indexed.{AreIndexesOf}
 use Rattle.tab_index.proofs.table.IndexedTable.applied.Goals as goal
 
-pub loop-change-preserved : goal.loop-change-preserved
-loop-change-preserved c =
-    let was = c.loop-change.rows in
-    let new = c.change_rows.new.rows in
+pub loop-update-preserved : goal.loop-update-preserved
+loop-update-preserved c =
+    let was = c.loop-update.rows in
+    let new = c.update.new.self in
     let kind = c.self.inside.def.value.kind in
-    let change = c.change-item.result in
-    let kept = c.loop-change.invariant.kept in
-    let changes = c.args.changes.now in
-    let i = c.loop-change.change-index in
-    let rows = ap (λ v. v.1) c.in_ok-change_rows.ensures.ok in
+    let change = c.update-item.result in
+    let kept = c.loop-update.invariant.kept in
+    let changes = c.args.updates.now in
+    let i = c.loop-update.update-index in
+    let rows = ap (λ v. v.1) c.in_ok-update.ensures.ok in
     record {
       kept = record {
-        kind = ap (λ v. v.0) c.in_ok-change_rows.ensures.ok ∙ kept.kind;
+        kind = ap (λ v. v.0) c.in_ok-update.ensures.ok ∙ kept.kind;
         ordered = ap is_ordered rows ∙ ordered-apply was.0 was.1 change kept.ordered;
         positions_are = c.in_ok-change_indexes.ensures.positions ∙ kept.positions_are;
         indexes_are = subst (λ r. AreIndexesOf r c.change_indexes.new.indexes.items) (sym rows) c.in_ok-change_indexes.ensures.indexes;
       };
       rows_are =
-          ap (λ r. rows_after kind r (drop (i + 1) changes)) (rows ∙ ap₂ (λ k d. apply k was.1 d) kept.kind c.change-item.is)
-          ∙ sym (at_drop_more (rows_after kind was.1) changes i change c.loop-change-test.true) ∙ c.loop-change.invariant.rows_are;
+          ap (λ r. rows_after kind r (drop (i + 1) changes)) (rows ∙ ap₂ (λ k d. apply k was.1 d) kept.kind c.update-item.is)
+          ∙ sym (at_drop_more (rows_after kind was.1) changes i change c.loop-update-test.true) ∙ c.loop-update.invariant.rows_are;
     }

@@ -4,8 +4,8 @@ use Rattle.tab_index.specs.Indexed.{IsIndexed}
 use Rattle.tab_index.proofs.table.IndexedTable.applied.Given as goal
 
 -- the changes that are left lead to the same records
-abbrev pub invariant-loop-change : goal.invariant-loop-change
-invariant-loop-change l = record {
+abbrev pub invariant-loop-update : goal.invariant-loop-update
+invariant-loop-update l = record {
   kept : IsIndexed l.def.value l.rows l.indexes.items;
-  rows_are : rows_after l.def.value.kind l.rows.1 (drop l.change-index l.changes) ≡ rows_after l.def.value.kind l.initial.rows.1 l.changes;
+  rows_are : rows_after l.def.value.kind l.rows.1 (drop l.update-index l.updates) ≡ rows_after l.def.value.kind l.initial.rows.1 l.updates;
 }

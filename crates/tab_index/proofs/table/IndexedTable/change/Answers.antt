@@ -9,11 +9,11 @@ pub invariant_of-self-then-is_empty : goal.invariant_of-self-then-is_empty
 invariant_of-self-then-is_empty c =
     let was = c.self.inside.rows in
     let kept = c.self.invariant in
-    let changed = c.in_ok-change_rows.ensures.ok in
+    let changed = c.in_ok-update.ensures.ok in
     let none = eqb-true _ 0 (sym c.if-is_empty.ensures) in
     record {
       kind = ap (λ v. v.0) changed ∙ kept.kind;
-      ordered = ap is_ordered (ap (λ v. v.1) changed) ∙ ordered-apply was.0 was.1 c.args.change.now kept.ordered;
+      ordered = ap is_ordered (ap (λ v. v.1) changed) ∙ ordered-apply was.0 was.1 c.args.update.now kept.ordered;
       positions_are = kept.positions_are;
       indexes_are = λ k d h. absurd (omega (arith, none, h));
     }

@@ -5,7 +5,7 @@ use Rattle.tab_journal.proofs.AuditLemmas.{all_changed_ordered, folded_ordered}
 use Rattle.tab_journal.proofs.base.Base.fold.Goals as goal
 
 pub invariant_of-self-in-Committed : goal.invariant_of-self-in-Committed
-invariant_of-self-in-Committed c = subst IsOrderedCatalog (sym c.in_ok-update-in-Committed.ensures.ok) (all_changed_ordered c.self.inside.tables c.as_slice-in-Committed-2.result.now c.self.invariant)
+invariant_of-self-in-Committed c = subst IsOrderedCatalog (sym c.in_ok-update-in-Committed.ensures.ok) (all_changed_ordered c.self.inside.tables c.as_slice-in-Committed.result.now c.self.invariant)
 
 pub invariant_of-self-in-Changed : goal.invariant_of-self-in-Changed
 invariant_of-self-in-Changed c =

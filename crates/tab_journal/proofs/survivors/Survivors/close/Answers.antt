@@ -5,5 +5,5 @@ use Rattle.tab_journal.proofs.survivors.Survivors.close.Goals as goal
 
 pub invariant_of-self : goal.invariant_of-self
 invariant_of-self c =
-    subst (λ (ns : List ℕ). Falls (length c.self.inside.changes.items) ns) (sym c.pop_front-parent.ensures.rest)
-    (falls_rest (length c.self.inside.changes.items) c.self.inside.begun.items c.self.invariant)
+    subst (λ (ns : List ℕ). Falls (length c.self.inside.updates.items) ns) (sym c.pop_front-parent.ensures.rest)
+    (falls_rest (length c.self.inside.updates.items) c.self.inside.begun.items c.self.invariant)

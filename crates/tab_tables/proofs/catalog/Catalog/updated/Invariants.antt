@@ -3,5 +3,5 @@ use Rattle.tab_model.specs.Events.{change_all}
 use Rattle.tab_tables.proofs.catalog.Catalog.updated.Given as goal
 
 -- the changes that are left lead to the same tables
-abbrev pub invariant-loop-change : goal.invariant-loop-change
-invariant-loop-change l = change_all l.changing (drop l.change-index l.changes) ≡ change_all l.self l.changes
+abbrev pub invariant-loop-update : goal.invariant-loop-update
+invariant-loop-update l = change_all l.changing (drop l.update-index l.updates) ≡ change_all l.self l.updates
