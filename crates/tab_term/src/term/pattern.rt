@@ -20,6 +20,8 @@ pub fn matches(pattern: &Term, subject: &Term) -> bool
     ensures { result ≡ matches_of (term pattern.now) (term subject.now) }
 {
     match (pattern, subject) {
+        // As the last arm would, without a call: a number is what a pattern most often binds.
+        (Term::Int(x), Term::Int(y)) => *x == *y,
         (Term::Atom(name), other) => is_wildcard(name) || pattern == other,
         (Term::Tuple(patterns), Term::Tuple(subjects)) => all_match(patterns, subjects),
         (Term::List(patterns), Term::List(subjects)) => all_match(patterns, subjects),
