@@ -13,6 +13,8 @@ use Rattle.tab_term.proofs.atom.Atom.TheSendSync as atom_marks
 use Rattle.tab_lists.specs.contracts.answers.Answers as answers
 use Rattle.tab_lists.specs.contracts.events.EventTerm as event_term
 use Rattle.tab_lists.specs.contracts.events.EventTerms as event_terms
+use Rattle.tab_lists.specs.contracts.events.EventsForm as events_form
+use Rattle.tab_lists.specs.contracts.events.SharedEvent as shared_event
 use Rattle.tab_lists.specs.contracts.condition.Condition as condition
 use Rattle.tab_lists.specs.contracts.query.Query as query
 use Rattle.tab_lists.specs.contracts.query.Scope as scope
@@ -81,8 +83,20 @@ EventTerm-send = search (sendable, declared_send, as_row_send, variants_send, Te
 EventTerm-sync : IsSync event_term.the_row
 EventTerm-sync = search (sendable, declared_sync, as_row_sync, variants_sync, Term-sync, atom_marks.the_sync, SharedTerms-sync) depth 20
 
+SharedEvent-send : IsSend shared_event.the_row
+SharedEvent-send = search (sendable, Arc-send, declared_send, as_row_send, EventTerm-send, EventTerm-sync) depth 20
+
+SharedEvent-sync : IsSync shared_event.the_row
+SharedEvent-sync = search (sendable, Arc-sync, declared_sync, as_row_sync, EventTerm-send, EventTerm-sync) depth 20
+
+EventsForm-send : IsSend events_form.the_row
+EventsForm-send = search (sendable, Vec-send, declared_send, as_row_send, variants_send, SharedEvent-send) depth 20
+
+EventsForm-sync : IsSync events_form.the_row
+EventsForm-sync = search (sendable, Vec-sync, declared_sync, as_row_sync, variants_sync, SharedEvent-sync) depth 20
+
 pub EventTerms-send : IsSend event_terms.the_row
-EventTerms-send = search (sendable, Vec-send, Arc-send, declared_send, as_row_send, EventTerm-send, EventTerm-sync) depth 20
+EventTerms-send = search (sendable, declared_send, as_row_send, EventsForm-send) depth 20
 
 pub EventTerms-sync : IsSync event_terms.the_row
-EventTerms-sync = search (sendable, Vec-sync, Arc-sync, declared_sync, as_row_sync, EventTerm-send, EventTerm-sync) depth 20
+EventTerms-sync = search (sendable, declared_sync, as_row_sync, EventsForm-sync) depth 20

@@ -1,5 +1,5 @@
 -- Which records are found (Mnesia Reference Manual, match_object/1 and index_read/3).
-use Rattle.std.specs.Prelude.{Bool, List, Option, Some, None}
+use Rattle.std.specs.Prelude.{Bool, true, List, Option, Some, None}
 use Rattle.std.specs.List.{filter}
 use Rattle.tab_term.specs.Data.{PlainTerm}
 use Rattle.tab_term.specs.Pattern.{matches}
@@ -18,3 +18,8 @@ meets (condition.Has n v) r = same (element n r) (term v)
 abbrev pub chosen : Option Condition → List PlainTerm → List PlainTerm
 chosen None rs = rs
 chosen (Some c) rs = filter (meets c) rs
+
+-- whether a record is among them
+abbrev pub is_chosen : Option Condition → PlainTerm → Bool
+is_chosen None r = true
+is_chosen (Some c) r = meets c r

@@ -2,7 +2,10 @@ pub mod ByKey
 pub mod Elements
 pub mod Conditions
 pub mod Snapshots
+pub mod Left
+pub mod Sources
 pub mod Lists
 pub mod Answers
 pub mod AnswersFall
 pub mod EventTerms
+pub mod EventsForms

@@ -1,12 +1,16 @@
 //! Events as they are told, given by their parts.
 
-ghost use Rattle.std.specs.Prelude.{◌≡◌, ◌≤◌, ◌==◌, ◌++◌, ◌∷◌, [], OnOk, IfOk, length, Some, None};
+ghost use Rattle.std.specs.Prelude.{◌≡◌, ◌≤◌, ◌+◌, ◌==◌, ◌++◌, ◌∷◌, [], OnOk, OnErr, IfOk, length, vec_len, vec_capacity, Some, None};
 ghost use Rattle.tab_term.specs.Data.{none, count, plain_terms, terms_list};
 ghost use Rattle.tab_lists.specs.EventTerms.{tag_word, event_term, event_terms};
+ghost use Rattle.tab_lists.specs.EventsForms.{events_in};
+ghost use Rattle.tab_lists.specs.declared.events.EventTerm.{EventTerm};
+ghost use Rattle.tab_lists.specs.declared.events.EventsForm.TheVariants as form;
 
 use crate::shared_terms::SharedTerms;
 use std::alloc::{AllocError, Global};
 use std::marker::Model;
+use std::slice;
 use std::sync::Arc;
 use tab_term::{Atom, Term};
 
@@ -154,13 +158,46 @@ impl SharedEvent {
 
 /// The events of a commit, in their order. Contracts see the terms that they are.
 pub struct EventTerms {
-    items: Vec<SharedEvent>,
+    alloc: Global,
+    events: EventsForm,
+}
+
+/// How the events are kept: one, as most commits have, takes no list; none and several stand in a vector.
+pub enum EventsForm {
+    One(SharedEvent),
+    Many(Vec<SharedEvent>),
+}
+
+// A derived drop would be taken apart, variant by variant, at each exit of each function that holds events.
+impl Drop for EventsForm {
+    fn drop(self) {
+        match self {
+            EventsForm::One(event) => drop(event),
+            EventsForm::Many(events) => drop(events),
+        }
+    }
+}
+
+impl EventsForm {
+    /// One event more behind the one that this is, in a vector with room for both.
+    fn with(self, mut both: Vec<SharedEvent>, event: SharedEvent) -> EventsForm
+        requires room { vec_len both + 2 ≤ vec_capacity both }
+        requires none { both.items ≡ [] }
+        requires one { (e : EventTerm) × (self ≡ form.One e) }
+        ensures { events_in result ≡ events_in self ++ event ∷ [] }
+    {
+        if let EventsForm::One(first) = self {
+            both.push_reserved(first);
+            both.push_reserved(event);
+        }
+        EventsForm::Many(both)
+    }
 }
 
 impl Drop for EventTerms {
     fn drop(self) {
-        let EventTerms { items } = self;
-        drop(items);
+        let EventTerms { alloc: _, events } = self;
+        drop(events);
     }
 }
 
@@ -173,8 +210,9 @@ impl Model for EventTerms {
     ghost coded = { terms_code };
 
     ghost use Rattle.tab_lists.specs.EventTerms.{event_terms};
+    ghost use Rattle.tab_lists.specs.EventsForms.{events_in};
 
-    ghost view = { λ a. event_terms a.items.items };
+    ghost view = { λ a. event_terms (events_in a.events) };
 }
 
 impl EventTerms {
@@ -183,17 +221,33 @@ impl EventTerms {
         ensures { result ≡ none }
     {
         EventTerms {
-            items: Vec::new(alloc),
+            alloc,
+            events: EventsForm::Many(Vec::new(alloc)),
         }
     }
 
-    /// One event more, behind the others.
+    /// One event more, behind the others. The first takes no memory.
     #[tactic(auto, using(crate::proofs::EventsLemmas::events_push))]
     pub fn push(&mut self, event: SharedEvent) -> Result<(), AllocError>
-        ensures { OnOk result
+        ensures ok { OnOk result
             (self.new ≡ plain_terms (terms_list self.old ++ event_term event ∷ [])) }
+        ensures err { OnErr result (self.new ≡ self.old) }
     {
-        self.items.push(event)?;
+        match &mut self.events {
+            EventsForm::Many(events) if !events.is_empty() => {
+                events.push(event)?;
+                return Ok(());
+            }
+            EventsForm::Many(_) => {
+                self.events = EventsForm::One(event);
+                return Ok(());
+            }
+            EventsForm::One(_) => {}
+        }
+        let both = Vec::with_capacity(self.alloc, 2)?;
+        let none = EventsForm::Many(Vec::new(self.alloc));
+        let first = std::mem::replace(&mut self.events, none);
+        self.events = first.with(both, event);
         Ok(())
     }
 
@@ -202,7 +256,7 @@ impl EventTerms {
     pub fn is_empty(&self) -> bool
         ensures { result ≡ (count self.now == 0) }
     {
-        self.items.is_empty()
+        self.as_slice().is_empty()
     }
 
     /// The events, in their order.
@@ -211,6 +265,9 @@ impl EventTerms {
         ensures items { event_terms result.now ≡ self.now }
         ensures len { length result.now ≡ count self.now }
     {
-        self.items.as_slice()
+        match &self.events {
+            EventsForm::One(event) => slice::from_ref(event),
+            EventsForm::Many(events) => events.as_slice(),
+        }
     }
 }

@@ -6,8 +6,8 @@ ghost use Rattle.std.specs.Option.{option_copied};
 ghost use Rattle.tab_term.specs.Data.{terms_list};
 ghost use Rattle.tab_term.specs.View.{term, terms};
 ghost use Rattle.tab_lists.specs.ByKey.{filled_keys, joined};
-ghost use Rattle.tab_lists.specs.Conditions.{chosen};
-ghost use Rattle.tab_lists.specs.Lists.{found_by, rest_of, records_left, steps_left};
+ghost use Rattle.tab_lists.specs.Conditions.{chosen, is_chosen};
+ghost use Rattle.tab_lists.specs.Lists.{found_by, near_of, rest_of, records_left, steps_left};
 ghost use Rattle.tab_lists.specs.Snapshots.{records_in};
 
 use crate::condition::Condition;
@@ -15,6 +15,7 @@ use crate::merged::Merged;
 use crate::query::{Query, Scope};
 use std::iter::FusedIterator;
 use std::marker::Model;
+use tab_records::Records;
 use tab_term::Term;
 
 /// The terms of a list in their order, seen as the list of those that are left.
@@ -33,8 +34,8 @@ pub enum Walk<'a> {
 /// A walk over records.
 #[derive(Drop)]
 pub struct RecordWalk<'a> {
-    // What is left of those that were come to last.
-    near: tab_records::Iter<'a>,
+    // What is left of the records that were come to last. A key's one record is given at once, and is never near.
+    near: Option<tab_records::Iter<'a>>,
     // Those behind them.
     rest: Option<Merged<'a>>,
     // Only what meets it is given.
@@ -67,7 +68,7 @@ impl<'a> Iter<'a> {
     {
         Iter {
             walk: Walk::Records(RecordWalk {
-                near,
+                near: Some(near),
                 rest: None,
                 condition: None,
             }),
@@ -87,7 +88,7 @@ impl<'a> Iter<'a> {
     {
         Iter {
             walk: Walk::Records(RecordWalk {
-                near: tab_records::Iter::over(&[]),
+                near: None,
                 rest: Some(entries),
                 condition: None,
             }),
@@ -109,14 +110,13 @@ impl<'a> Iter<'a> {
 }
 
 // The records of a query's scope.
-fn looked_at(scope: &Scope) -> (tab_records::Iter<'_>, Option<Merged<'_>>)
-    ensures { result.0 ++ rest_of result.1 ≡ records_in scope.now }
+fn looked_at(scope: &Scope) -> (Option<tab_records::Iter<'_>>, Option<Merged<'_>>)
+    ensures { near_of result.0 ++ rest_of result.1 ≡ records_in scope.now }
 {
-    let none = tab_records::Iter::over(&[]);
     match scope {
-        Scope::Key(entry) => (entry.pair().1.iter(), None),
-        Scope::All(snapshot) => (none, Some(snapshot.walk())),
-        Scope::Keys(at) => (none, Some(at.snapshot.walk_at(&at.keys))),
+        Scope::Key(entry) => (Some(entry.pair().1.iter()), None),
+        Scope::All(snapshot) => (None, Some(snapshot.walk())),
+        Scope::Keys(at) => (None, Some(at.snapshot.walk_at(&at.keys))),
     }
 }
 
@@ -126,14 +126,16 @@ fn next_filled<'a>(entries: &mut Merged<'a>) -> Option<&'a Term>
         (λ key. filled_keys entries.old ≡ term key.now ∷ filled_keys entries.new) }
 {
     while let Some((key, records)) = entries.take() {
-        if records.first().is_some() {
+        if records.len() > 0 {
             return Some(key);
         }
     }
     None
 }
 
-// The first of these terms that meets the condition, where there is one.
+// The first of these terms that meets the condition, where there is one. Inlined, it would make a call of `next_near`, which
+// mostly finds nothing near.
+#[inline(never)]
 fn next_chosen<'a>(
     near: &mut tab_records::Iter<'a>,
     condition: Option<&Condition>,
@@ -154,14 +156,61 @@ fn next_chosen<'a>(
     None
 }
 
-// The records that come next, which stand together.
-fn next_records<'a>(rest: &mut Option<Merged<'a>>) -> Option<tab_records::Iter<'a>>
+// The first of what is left near, if anything is.
+fn next_near<'a>(
+    near: &mut Option<tab_records::Iter<'a>>,
+    condition: Option<&Condition>,
+) -> Option<&'a Term>
+    ensures { MatchOption result
+        ((chosen (option_copied condition.entry) (near_of near.old) ≡ []) × (near_of near.new ≡ []))
+        (λ first. chosen (option_copied condition.entry) (near_of near.old)
+        ≡ term first.now ∷ chosen (option_copied condition.entry) (near_of near.new)) }
+{
+    next_chosen(near.as_mut()?, condition)
+}
+
+// Whether a walk gives the record.
+fn is_given(row: &Term, condition: Option<&Condition>) -> bool
+    ensures { result ≡ is_chosen (option_copied condition.entry) (term row.now) }
+{
+    match condition {
+        Some(condition) => condition.is_met_by(row),
+        None => true,
+    }
+}
+
+// The first of one key's records that a walk gives. One alone, as a set has, is looked at where it stands, with no iterator;
+// of several the others stay near.
+fn first_given<'a>(
+    near: &mut Option<tab_records::Iter<'a>>,
+    records: &'a Records,
+    condition: Option<&Condition>,
+) -> Option<&'a Term>
+    requires { near_of near.old ≡ [] }
+    ensures { MatchOption result
+        ((chosen (option_copied condition.entry) (terms_list records.now) ≡ [])
+        × (near_of near.new ≡ []))
+        (λ first. chosen (option_copied condition.entry) (terms_list records.now)
+        ≡ term first.now ∷ chosen (option_copied condition.entry) (near_of near.new)) }
+{
+    match records.single() {
+        Some(row) if is_given(row, condition) => Some(row),
+        Some(_) => None,
+        None => {
+            *near = Some(records.iter());
+            next_near(near, condition)
+        }
+    }
+}
+
+// The records that come next, those of one key.
+fn next_records<'a>(rest: &mut Option<Merged<'a>>) -> Option<&'a Records>
     ensures terms { MatchOption result ((rest_of rest.old ≡ []) × (rest_of rest.new ≡ []))
-        (λ near. rest_of rest.old ≡ near ++ rest_of rest.new) }
+        (λ records. rest_of rest.old ≡ terms_list records.now ++ rest_of rest.new) }
     ensures fewer { IfSome result (λ _. steps_left rest.new < steps_left rest.old) }
 {
     let (_, records) = rest.as_mut()?.take()?;
-    Some(records.iter())
+    Some(records)
 }
 
 impl<'a> RecordWalk<'a> {
@@ -169,12 +218,15 @@ impl<'a> RecordWalk<'a> {
         ensures { MatchOption result ((records_left self.old ≡ []) × (records_left self.new ≡ []))
             (λ first. records_left self.old ≡ term first.now ∷ records_left self.new) }
     {
-        loop {
-            if let Some(first) = next_chosen(&mut self.near, self.condition) {
+        if let Some(first) = next_near(&mut self.near, self.condition) {
+            return Some(first);
+        }
+        while let Some(records) = next_records(&mut self.rest) {
+            if let Some(first) = first_given(&mut self.near, records, self.condition) {
                 return Some(first);
             }
-            self.near = next_records(&mut self.rest)?;
         }
+        None
     }
 }
 

@@ -1,16 +1,17 @@
 -- Records by numbers: one more behind them, and one less among them.
 use Rattle.std.proofs.Common.{◌≡◌, ◌<◌, ◌≤◌, ◌+◌, ◌-◌, subst, ℕ, suc, List, [], ◌∷◌, ◌++◌, length, length-append, Bool, true, false, not, ◌||◌, refl, sym, ap, ◌∙◌, Ordering, Less, Equal, Greater, arith}
-use Rattle.std.specs.Prelude.{if◌then◌else◌, Option, Some, None, slice_get, is_some}
+use Rattle.std.specs.Prelude.{◌≢◌, if◌then◌else◌, Option, Some, None, MatchOption, slice_get, is_some}
 use Rattle.std.specs.Cmp.{IsEquivalence, nat_cmp_is, ranked}
 use Rattle.std.specs.Cmp.Lexicographic.{slice_cmp}
 use Rattle.std.specs.List.{filter, list_any}
 use Rattle.std.specs.Ordering.{nat_cmp, match_ordering}
 use Rattle.std.proofs.lemmas.Bool.{false≢true}
 use Rattle.std.proofs.lemmas.Cmp.{tied_itself, nat_list_cmp_total}
+use denote.Ref.{Bor}
 use Rattle.tab_term.specs.declared.term.Term.{Term}
 use Rattle.tab_term.specs.View.{term}
 use Rattle.tab_term.specs.Canon.{canon}
-use Rattle.tab_term.specs.Data.{PlainTerm, count, plain_terms, terms_list}
+use Rattle.tab_term.specs.Data.{PlainTerm, PlainTerms, none, one_more, count, plain_terms, terms_list}
 use Rattle.tab_term.specs.Order.{term_cmp}
 use Rattle.tab_term.specs.OrderLaws.{canon_same}
 use Rattle.tab_term.specs.Same.{same, same-Decides, same_equiv}
@@ -327,3 +328,25 @@ first_in (y ∷ es) e h = ap first_or (sym h)
 pub none_in : (es : List Entry) → None ≡ slice_get es 0 → records_in es ≡ []
 none_in [] h = refl
 none_in (y ∷ es) h = absurd (false≢true (ap is_some h))
+
+-- ---- one alone
+
+-- where one record is counted, it is the first
+pub single_in : (es : List Entry) (e : Entry) → length (records_in es) ≡ 1 → Some e ≡ slice_get es 0 → records_in es ≡ term e.1.0 ∷ []
+single_in [] e n h = absurd (false≢true (ap is_some (sym h)))
+single_in (y ∷ []) e n h = ap all_of (sym h)
+  where
+    all_of : Option Entry → List PlainTerm
+    all_of None = []
+    all_of (Some z) = term z.1.0 ∷ []
+single_in (y ∷ z ∷ es) e n h = absurd (omega (arith, n))
+
+-- where one record is counted, there is a first
+pub single_there : (es : List Entry) → length (records_in es) ≡ 1 → None ≡ slice_get es 0 → ⊥
+single_there [] n h = omega (arith, n)
+single_there (y ∷ es) n h = false≢true (ap is_some h)
+
+pub single_plain : (ts : List PlainTerm) (all : PlainTerms) (r : Option (Bor Term)) → plain_terms ts ≡ all
+    → MatchOption r (length ts ≢ 1) (λ row. ts ≡ term row.now ∷ []) → MatchOption r (count all ≢ 1) (λ row. all ≡ one_more (term row.now) none)
+single_plain ts all None e h = λ n. h (sym (count-plain ts) ∙ ap count e ∙ n)
+single_plain ts all (Some row) e h = sym e ∙ ap plain_terms h

@@ -1,6 +1,6 @@
 //! Several records of a key, by the numbers of their writes.
 
-ghost use Rattle.std.specs.Prelude.{◌≡◌, [], ◌∷◌, ◌++◌, IfOk, IfSome, OnOk, OnErr, MatchOption, length, not, IsFalse};
+ghost use Rattle.std.specs.Prelude.{◌≡◌, ◌≢◌, [], ◌∷◌, ◌++◌, IfOk, IfSome, OnOk, OnErr, MatchOption, length, not, IsFalse};
 ghost use Rattle.std.specs.List.{filter, list_any};
 ghost use Rattle.std.specs.Option.{option_copied};
 ghost use Rattle.tab_term.specs.Same.{same};
@@ -86,6 +86,19 @@ impl Numbered {
         match &self.numbers {
             Some(numbers) => numbers.count,
             None => 0,
+        }
+    }
+
+    /// The record, where there is one alone. The count tells, so of several none is looked up.
+    pub fn single(&self) -> Option<&Term>
+        ensures { MatchOption result (length self.now ≢ 1) (λ row. self.now ≡ term row.now ∷ []) }
+    {
+        if self.len() != 1 {
+            return None;
+        }
+        match self.by_number.first() {
+            Some(entry) => Some(&entry.pair().1.pair().0),
+            None => None,
         }
     }
 

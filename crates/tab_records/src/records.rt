@@ -1,6 +1,6 @@
 //! The records of one key.
 
-ghost use Rattle.std.specs.Prelude.{◌≡◌, [], ◌∷◌, ◌++◌, IfOk, OnOk, OnErr, MatchOption, not, IsFalse};
+ghost use Rattle.std.specs.Prelude.{◌≡◌, ◌≢◌, [], ◌∷◌, ◌++◌, IfOk, OnOk, OnErr, MatchOption, not, IsFalse};
 ghost use Rattle.std.specs.List.{filter, list_any};
 ghost use Rattle.tab_term.specs.Data.{none, one_more, count, plain_terms, terms_list};
 ghost use Rattle.tab_term.specs.Same.{same};
@@ -95,6 +95,17 @@ impl Records {
         match &self.form {
             Form::One(_) => 1,
             Form::Many(records) => records.len(),
+        }
+    }
+
+    /// The record, where there is one alone.
+    pub fn single(&self) -> Option<&Term>
+        ensures { MatchOption result (count self.now ≢ 1)
+            (λ row. self.now ≡ one_more (term row.now) none) }
+    {
+        match &self.form {
+            Form::One(record) => Some(record),
+            Form::Many(records) => records.single(),
         }
     }
 

@@ -1,10 +1,10 @@
-use Rattle.std.proofs.Common.{◌≡◌}
-use Rattle.tab_lists.specs.Lists.{records_left, steps_left}
+use Rattle.std.proofs.Common.{◌≡◌, []}
+use Rattle.tab_lists.specs.Lists.{near_of, records_left, steps_left}
 use Rattle.tab_lists.proofs.iter.RecordWalk.take.Given as goal
 
--- what is left is as it was
-abbrev pub invariant-loop-first : goal.invariant-loop-first
-invariant-loop-first l = records_left l.self ≡ records_left l.initial.self
+-- what is left is as it was, and none of it is near
+abbrev pub invariant-loop-records : goal.invariant-loop-records
+invariant-loop-records l = (near_of l.self.near ≡ []) × (records_left l.self ≡ records_left l.fn.self)
 
-abbrev pub decreases-loop-first : goal.decreases-loop-first
-decreases-loop-first l = steps_left l.self.rest
+abbrev pub decreases-loop-records : goal.decreases-loop-records
+decreases-loop-records l = steps_left l.self.rest

@@ -30,7 +30,7 @@ loop-event-preserved g c =
       same = set_same c.loop-event.event-items i c.told.new.self e c.told.ensures.same ∙ same;
       told =
           event_told (λ (x : Event). shape_at (level_in watching x.tab) x) events i e (terms_list c.loop-event.told) (terms_list c.push.new.self) term
-          (subst (λ z. i < length z) same (within _ _ _ c.loop-event.auto.event-items c.loop-event-test.true)) (c.event-item.is ∙ ap (λ z. get_or z i e) same) told (ap terms_list c.in_ok-push.ensures ∙ list-plain (terms_list c.loop-event.told ++ term ∷ []))
+          (subst (λ z. i < length z) same (within _ _ _ c.loop-event.auto.event-items c.loop-event-test.true)) (c.event-item.is ∙ ap (λ z. get_or z i e) same) told (ap terms_list c.in_ok-push.ensures.ok ∙ list-plain (terms_list c.loop-event.told ++ term ∷ []))
           ∙ c.loop-event.invariant.told;
     }
 

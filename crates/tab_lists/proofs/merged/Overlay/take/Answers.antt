@@ -1,12 +1,13 @@
-use Rattle.std.proofs.Common.{◌≡◌, ap, ap₂, sym, ◌∙◌, subst, List, Some, slice_get, refl}
+use Rattle.std.proofs.Common.{ap, sym, ◌∙◌, subst, List, slice_get}
 use Rattle.std.specs.Option.{option_copied}
 use Rattle.tab_term.specs.Order.{term_cmp}
 use Rattle.tab_map.specs.Entries.{Ascends}
-use Rattle.tab_lists.specs.declared.merged.Merged.TheInside.{Inside}
+use Rattle.tab_lists.specs.declared.merged.Overlay.TheInside.{Inside}
 use Rattle.tab_lists.specs.ByKey.{Entry, merged}
-use Rattle.tab_lists.specs.Lists.{Gives, ahead, left_of}
+use Rattle.tab_lists.specs.Left.{ahead, left_of}
+use Rattle.tab_lists.specs.Lists.{Gives}
 use Rattle.tab_lists.proofs.WalkLemmas.{none_first, alone, rest_alone, less, greater, equal}
-use Rattle.tab_lists.proofs.merged.Merged.take.Goals as goal
+use Rattle.tab_lists.proofs.merged.Overlay.take.Goals as goal
 
 pub returns-in_default : goal.returns-in_default
 returns-in_default c =
