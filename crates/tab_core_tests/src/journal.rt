@@ -3,7 +3,8 @@ use std::alloc::{AllocError, Global};
 use tab_journal::Journal;
 use tab_lists::SharedTerms;
 use tab_model::{
-    Entry, Level, LoggedReply, Move, Moves, Numbers, Operation, Replies, Reply, Schema, SharedReply,
+    Entry, Kind, Level, LoggedOperation, LoggedReply, Move, Moves, Numbers, Operation, Replies,
+    Reply, Schema, SharedReply,
 };
 use tab_records::Iter;
 use tab_term::{Term, Terms};
@@ -81,11 +82,15 @@ fn record(alloc: Global, value: i128) -> Result<Term, AllocError> {
     Ok(Term::Tuple(Terms::from_vec(row)))
 }
 
+fn do_of(alloc: Global, operation: Operation) -> Result<Move, AllocError> {
+    Ok(Move::Do(LoggedOperation::new(alloc, Kind::Set, operation)?))
+}
+
 fn move_of(alloc: Global, made: &Made) -> Result<Move, AllocError> {
     Ok(match made {
-        Made::Write(value) => Move::Do(Operation::Write(record(alloc, *value)?)),
-        Made::Read(_) => Move::Do(Operation::Read(atom(alloc, "t")?, Term::Int(1))),
-        Made::Fail => Move::Do(Operation::Read(atom(alloc, "nosuch")?, Term::Int(1))),
+        Made::Write(value) => do_of(alloc, Operation::Write(record(alloc, *value)?))?,
+        Made::Read(_) => do_of(alloc, Operation::Read(atom(alloc, "t")?, Term::Int(1)))?,
+        Made::Fail => do_of(alloc, Operation::Read(atom(alloc, "nosuch")?, Term::Int(1)))?,
         Made::Open => Move::Open,
         Made::Close => Move::Close,
         Made::Undo => Move::Undo,

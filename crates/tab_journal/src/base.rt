@@ -71,8 +71,8 @@ impl Base {
         self.subscriptions.as_slice()
     }
 
-    /// Takes an entry in. Of one that subscribes it is said whether its session is still joined. Records that stand in these
-    /// tables as the entry wrote them are shared with them.
+    /// Takes an entry in. Of one that subscribes it is said whether its session is still joined. A set's
+    /// record is shared with the entry's move; a bag's, where it stands in these tables as the entry wrote it, with them.
     pub(crate) fn fold(
         &mut self,
         alloc: Global,
@@ -92,7 +92,7 @@ impl Base {
                 ..
             } => {
                 let moves = moves.items.as_slice();
-                let updates = surviving(alloc, tables, moves, told.items.as_slice())?;
+                let updates = surviving(alloc, moves, told.items.as_slice())?;
                 let lender = Lender::Tables(tables);
                 self.tables.update(alloc, updates.as_slice(), &lender)?;
                 keep(&mut self.subscriptions, overflowed.items.as_slice(), None);

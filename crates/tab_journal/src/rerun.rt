@@ -13,11 +13,10 @@ use std::alloc::{AllocError, Global};
 use std::collections::VecDeque;
 use std::marker::Model;
 use std::slice;
-use tab_model::{LoggedReply, Move, Operation};
+use tab_model::{LoggedOperation, LoggedReply, Move};
 use tab_operations::{Pending, perform};
-use tab_rows::Update;
 use tab_tables::{Catalog, Lender};
-use tab_txstore::{TxStore, change_of};
+use tab_txstore::{TxStore, update_of};
 
 /// A transaction in its midst, on whole versions of the tables, which share what does not change.
 struct Midst {
@@ -113,7 +112,7 @@ impl Midst {
     fn operate(
         self,
         alloc: Global,
-        operation: &Operation,
+        operation: &LoggedOperation,
         told: &LoggedReply,
     ) -> Result<Option<Midst>, AllocError>
         ensures { IfOk result (Follows self (moves_of.Do operation.now) (Some told.now)) }
@@ -128,7 +127,7 @@ impl Midst {
     }
 
     /// Makes an operation that does not fail.
-    fn change(self, alloc: Global, operation: &Operation) -> Result<Midst, AllocError>
+    fn change(self, alloc: Global, operation: &LoggedOperation) -> Result<Midst, AllocError>
         ensures { IfOk result (λ run. run ≡ with_now self (effect_of self.now operation.now)) }
     {
         let after = effect(alloc, &self.now, operation)?;
@@ -220,14 +219,15 @@ impl Midst {
 }
 
 /// The tables after an operation that does not fail.
-fn effect(alloc: Global, tables: &Catalog, operation: &Operation) -> Result<Catalog, AllocError>
+fn effect(
+    alloc: Global,
+    tables: &Catalog,
+    operation: &LoggedOperation,
+) -> Result<Catalog, AllocError>
     ensures { IfOk result (λ after. after ≡ effect_of tables.now operation.now) }
 {
-    match change_of(alloc, operation)? {
-        Some(change) => {
-            let update = Update::new(change);
-            tables.updated(alloc, slice::from_ref(&update), &Lender::None)
-        }
+    match update_of(alloc, operation)? {
+        Some(update) => tables.updated(alloc, slice::from_ref(&update), &Lender::None),
         None => tables.share(),
     }
 }
@@ -236,14 +236,14 @@ fn effect(alloc: Global, tables: &Catalog, operation: &Operation) -> Result<Cata
 fn is_told(
     alloc: Global,
     tables: &Catalog,
-    operation: &Operation,
+    operation: &LoggedOperation,
     told: &LoggedReply,
 ) -> Result<bool, AllocError>
     requires { IsOrderedCatalog tables.now }
     ensures { IfOk result (λ is. Decides is (answer_of tables.now operation.now ≡ told.now)) }
 {
     let pending = Pending {
-        operation: operation.try_clone(alloc)?,
+        operation: operation.to_operation(alloc)?,
     };
     let mut store = TxStore::new(alloc);
     let answer = perform(alloc, tables, &mut store, pending)?;

@@ -1,7 +1,6 @@
 //! The updates of a transaction that no level's end undid, read off its moves and their replies.
 
-ghost use Rattle.std.specs.Prelude.{◌≡◌, ◌++◌, ◌∷◌, [], IfOk, OnOk, OnErr, Some, length};
-ghost use Rattle.tab_model.specs.declared.data.Change.TheVariants as change;
+ghost use Rattle.std.specs.Prelude.{◌≡◌, [], IfOk, OnOk};
 ghost use Rattle.tab_model.specs.Operations.{change_of_op};
 ghost use Rattle.tab_model.specs.Events.{is_failure as is_failure_of, surviving_changes as surviving_of};
 ghost use Rattle.tab_journal.specs.Survivors.{next, opened, closed, ended, changed};
@@ -9,11 +8,9 @@ ghost use Rattle.tab_journal.specs.Survivors.{next, opened, closed, ended, chang
 use std::alloc::{AllocError, Global};
 use std::collections::VecDeque;
 use std::marker::Model;
-use tab_model::{Change, Kind, LoggedReply, Move, Operation};
-use tab_rows::{OnlyRecord, Update};
-use tab_tables::{Catalog, tag};
-use tab_term::{Atom, Term};
-use tab_txstore::change_of;
+use tab_model::{LoggedOperation, LoggedReply, Move};
+use tab_rows::Update;
+use tab_txstore::update_of;
 
 /// The updates so far that stand.
 pub struct Survivors {
@@ -55,36 +52,6 @@ fn is_failure(told: &Option<LoggedReply>) -> bool
     }
 }
 
-/// What an operation changes; None for one that reads or locks. The write of a record that one of these tables, of type set,
-/// has takes no memory for it.
-fn update_of(
-    alloc: Global,
-    tables: &Catalog,
-    operation: &Operation,
-) -> Result<Option<Update>, AllocError>
-    ensures { IfOk result (λ update. update ≡ change_of_op operation.now) }
-{
-    if let Operation::Write(row) = operation {
-        return Ok(Some(write_of(alloc, tables, row)?));
-    }
-    match change_of(alloc, operation)? {
-        Some(change) => Ok(Some(Update::new(change))),
-        None => Ok(None),
-    }
-}
-
-fn write_of(alloc: Global, tables: &Catalog, row: &Term) -> Result<Update, AllocError>
-    ensures { IfOk result (λ update. update ≡ change.Write row.now) }
-{
-    let nameless = Atom::from_short_text(alloc, "")?;
-    if let Some(table) = tables.table(tag(row, &nameless)) {
-        if let Kind::Set = table.def().kind {
-            return Ok(Update::only(OnlyRecord::new(alloc, row, Some(table.records()))?));
-        }
-    }
-    Ok(Update::new(Change::Write(row.try_clone(alloc)?)))
-}
-
 impl Survivors {
     fn new(alloc: Global) -> Survivors
         ensures { result ≡ record { now = []; saved = [] } }
@@ -117,15 +84,10 @@ impl Survivors {
         }
     }
 
-    fn operate(
-        &mut self,
-        alloc: Global,
-        tables: &Catalog,
-        operation: &Operation,
-    ) -> Result<(), AllocError>
+    fn operate(&mut self, alloc: Global, operation: &LoggedOperation) -> Result<(), AllocError>
         ensures { OnOk result (self.new ≡ changed self.old (change_of_op operation.now)) }
     {
-        match update_of(alloc, tables, operation)? {
+        match update_of(alloc, operation)? {
             Some(update) => {
                 self.updates.push(update)?;
                 Ok(())
@@ -137,7 +99,6 @@ impl Survivors {
     fn follow(
         &mut self,
         alloc: Global,
-        tables: &Catalog,
         step: &Move,
         told: &Option<LoggedReply>,
     ) -> Result<(), AllocError>
@@ -149,7 +110,7 @@ impl Survivors {
                     self.end();
                     return Ok(());
                 }
-                self.operate(alloc, tables, operation)?;
+                self.operate(alloc, operation)?;
                 Ok(())
             }
             Move::Open => {
@@ -175,10 +136,9 @@ impl Survivors {
     }
 }
 
-/// The updates that no level's end undid, in order. A record that one of these tables, of type set, has is shared with it.
+/// The updates that no level's end undid, in order. A record that was written to a set is shared with the moves.
 pub fn surviving(
     alloc: Global,
-    tables: &Catalog,
     moves: &[Move],
     told: &[Option<LoggedReply>],
 ) -> Result<Vec<Update>, AllocError>
@@ -189,7 +149,7 @@ pub fn surviving(
         let Some(reply) = told.get(place) else {
             return Ok(survivors.into_updates());
         };
-        survivors.follow(alloc, tables, step, reply)?;
+        survivors.follow(alloc, step, reply)?;
     }
     Ok(survivors.into_updates())
 }

@@ -1,10 +1,14 @@
 //! Data that code and definitions share. Ages, numbers of sessions and commits, and positions are from 1 on.
-ghost use Rattle.std.specs.Prelude.{◌≡◌, MatchResult, IsFalse, Some};
+ghost use Rattle.std.specs.Prelude.{◌≡◌, IfOk, MatchResult, IsFalse, Some};
 ghost use Rattle.tab_model.specs.declared.data.Reply.TheVariants as reply;
 ghost use Rattle.tab_model.specs.Events.{is_failure as is_failure_of};
+ghost use Rattle.tab_model.specs.LoggedOperations.{operation_in};
 ghost use Rattle.tab_model.specs.Shared.{is_found};
 
 use crate::lists::{Atoms, Moves, Numbers, Parts, Replies};
+use crate::logged_operation::{LoggedOperation, OperationForm, form_of_write};
+use std::alloc::{AllocError, Global};
+use std::sync::Arc;
 use tab_lists::{Answers, EventTerms, SharedTerms};
 use tab_term::{Atom, Term, Terms};
 
@@ -42,7 +46,7 @@ pub enum Operation {
 
 /// A step of a transaction: an operation, a child's begin, a child's commit, an abort of the innermost level.
 pub enum Move {
-    Do(Operation),
+    Do(LoggedOperation),
     Open,
     Close,
     Undo,
@@ -205,6 +209,20 @@ pub enum Reply {
     Taken(Item),
     Overflow(u64),
     Empty,
+}
+
+impl Operation {
+    /// The form that a trace keeps it in.
+    pub(crate) fn into_form(self, alloc: Global, kind: Kind) -> Result<OperationForm, AllocError>
+        ensures { IfOk result (λ form. operation_in form ≡ self) }
+    {
+        match self {
+            Operation::Write(row) => form_of_write(alloc, kind, row),
+            Operation::Read(name, key) => Ok(OperationForm::Read(name, key)),
+            Operation::ReadForWrite(name, key) => Ok(OperationForm::ReadForWrite(name, key)),
+            operation => Ok(OperationForm::Other(Arc::new(alloc, operation)?)),
+        }
+    }
 }
 
 impl Reply {

@@ -1,6 +1,6 @@
 //! What a table server is, as plain data: the words that code and contracts share, the definitions of what each
-//! step does (specs/), and their laws (`laws`). Nothing here runs a table; memory is taken by `SharedReply::pair` and
-//! `Operation::try_clone` alone.
+//! step does (specs/), and their laws (`laws`). Nothing here runs a table; memory is taken for the replies and operations that
+//! a trace keeps, for a record's own entry, and for copies of operations and keys.
 
 #![tactic(auto)]
 
@@ -8,7 +8,9 @@ mod copying;
 mod data;
 mod laws;
 mod lists;
+mod logged_operation;
 mod logged_reply;
+mod only_record;
 mod shared_reply;
 
 pub use data::{
@@ -25,5 +27,7 @@ pub use laws::{
     what_was_not_done_is_not_observed, who_leaves_has_taken_a_beginning, who_left_is_forgotten,
 };
 pub use lists::{Atoms, Moves, Numbers, Parts, Replies};
+pub use logged_operation::{LoggedOperation, OperationForm};
 pub use logged_reply::{Kept, LoggedReply};
+pub use only_record::{OnlyRecord, copy_of_key};
 pub use shared_reply::SharedReply;

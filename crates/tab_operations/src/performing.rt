@@ -104,6 +104,6 @@ fn fail(
     ensures err { OnErr result (store.new ≡ store.old) }
 {
     let (reply, logged) = SharedReply::pair(alloc, Reply::NoTable(name))?;
-    store.fail(pending.into_operation(), logged)?;
+    store.fail(alloc, pending.into_operation(), logged)?;
     Ok(reply)
 }

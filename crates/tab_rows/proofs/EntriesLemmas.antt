@@ -7,7 +7,7 @@ use Rattle.tab_term.specs.View.{term}
 use Rattle.tab_lists.specs.ByKey.{Entry}
 use Rattle.tab_records.specs.Forms.{first_of}
 use Rattle.tab_model.proofs.ShapeLaws.{term_held, held_term}
-use Rattle.tab_rows.specs.OnlyRecords.{first_record, record_in}
+use Rattle.tab_model.specs.OnlyRecords.{first_record, record_in}
 
 pub only_first : (ts : PlainTerms) (x : PlainTerm) → first_of ts ≡ x ∷ [] → count ts ≡ 1 → terms_list ts ≡ x ∷ []
 only_first none x h one = absurd (omega (arith, one))

@@ -5,7 +5,7 @@ use Rattle.tab_term.specs.View.{term}
 use Rattle.tab_term.specs.Data.{PlainTerm, PlainTerms}
 use Rattle.tab_map.specs.Entries.{Ascends}
 use Rattle.tab_model.specs.Names.{plain_terms, terms_list}
-use Rattle.tab_model.specs.Tables.{has_key, key}
+use Rattle.tab_model.specs.Tables.{has_key}
 use Rattle.tab_term.specs.Order.{term_cmp}
 pub use Rattle.tab_lists.specs.ByKey.{Entry, joined}
 
@@ -18,11 +18,6 @@ pub record IsKeyed (e : Entry) : Type 0 where
 abbrev pub AllKeyed : List Entry → Type 0
 AllKeyed [] = Unit {0}
 AllKeyed (e ∷ es) = IsKeyed e × AllKeyed es
-
--- a key has just this record
-pub record IsOnly (row : PlainTerm) (e : Entry) : Type 0 where
-  pub key : term e.0 ≡ key row
-  pub only : terms_list e.1 ≡ row ∷ []
 
 -- what the map of a table's records keeps
 pub record IsInOrder (es : List Entry) : Type 0 where

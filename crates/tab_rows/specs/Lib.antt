@@ -1,3 +1,2 @@
 pub mod Joined
-pub mod OnlyRecords
 pub mod Updates

@@ -5,12 +5,13 @@ ghost use Rattle.std.specs.Option.{option_copied};
 ghost use Rattle.tab_term.specs.View.{term};
 ghost use Rattle.tab_model.specs.Names.{terms_list};
 ghost use Rattle.tab_model.specs.Tables.{key as key_of_row};
-ghost use Rattle.tab_rows.specs.Joined.{IsOnly};
+ghost use Rattle.tab_model.specs.OnlyRecords.{IsOnly};
 
 use std::alloc::{AllocError, Global};
 use tab_map::{Entry, Map};
+use tab_model::OnlyRecord;
 use tab_records::Records;
-use tab_term::{Term, Terms};
+use tab_term::Term;
 
 /// The record's key, its second element.
 fn key_in(row: &Term) -> Option<&Term>
@@ -19,19 +20,6 @@ fn key_in(row: &Term) -> Option<&Term>
     match row {
         Term::Tuple(elements) => elements.as_slice().get(1),
         _ => None,
-    }
-}
-
-/// A copy of the record's key, its second element. Where it has none, the empty list.
-pub fn copy_of_key(alloc: Global, row: &Term) -> Result<Term, AllocError>
-    ensures { IfOk result (λ k. term k ≡ key_of_row (term row.now)) }
-{
-    match row {
-        Term::Tuple(elements) => match elements.as_slice() {
-            [_, key, ..] => key.try_clone(alloc),
-            _ => Ok(Term::List(Terms::from_vec(Vec::new(alloc)))),
-        },
-        _ => Ok(Term::List(Terms::from_vec(Vec::new(alloc)))),
     }
 }
 
@@ -71,6 +59,5 @@ pub fn entry_of(
             return entry.try_clone();
         }
     }
-    let key = copy_of_key(alloc, row)?;
-    Entry::new(alloc, (key, Records::only(row.try_clone(alloc)?)))
+    OnlyRecord::new(alloc, row.try_clone(alloc)?)?.to_entry()
 }

@@ -9,12 +9,10 @@
 
 mod append;
 mod entries;
-mod only_record;
 mod rows;
 mod update;
 
 pub use append::Append;
-pub use only_record::OnlyRecord;
 pub use rows::Rows;
 pub use tab_model::Kind;
 pub use update::{Form, Update, key_of};

@@ -7,18 +7,17 @@ ghost use Rattle.tab_term.specs.Order.{term_cmp};
 ghost use Rattle.tab_term.specs.View.{term, terms};
 ghost use Rattle.tab_model.specs.Names.{plain_terms, terms_list};
 ghost use Rattle.tab_model.specs.Tables.{apply, at, key as key_of_row, put as put_in, delete as delete_in, delete_object as delete_object_in};
-ghost use Rattle.tab_rows.specs.Joined.{joined, IsInOrder, IsOnly};
-ghost use Rattle.tab_rows.specs.OnlyRecords.{record_in};
+ghost use Rattle.tab_model.specs.OnlyRecords.{IsOnly, record_in};
+ghost use Rattle.tab_rows.specs.Joined.{joined, IsInOrder};
 
 use crate::append::Append;
-use crate::entries::{copy_of_key, entry_of};
-use crate::only_record::OnlyRecord;
+use crate::entries::entry_of;
 use crate::update::{Form, Update};
 use std::alloc::{AllocError, Global};
 use std::marker::Model;
 use tab_lists::SharedTerms;
 use tab_map::{Entry, Iter, Map};
-use tab_model::{Change, Kind};
+use tab_model::{Change, Kind, OnlyRecord, copy_of_key};
 use tab_records::Records;
 use tab_term::{Term, Terms};
 
@@ -185,7 +184,7 @@ impl Rows {
         ensures err { OnErr result (self.new ≡ self.old) }
     {
         match self.kind {
-            Kind::Set => self.put_entry(alloc, only.share()?),
+            Kind::Set => self.put_entry(alloc, only.to_entry()?),
             Kind::Bag => self.add(alloc, only.row(), None),
         }
     }

@@ -6,11 +6,9 @@ ghost use Rattle.tab_rows.specs.Updates.{change_in};
 ghost use Rattle.tab_term.specs.View.{term};
 ghost use Rattle.tab_model.specs.Operations.{key_of_change};
 
-use crate::entries::copy_of_key;
-use crate::only_record::OnlyRecord;
 use std::alloc::{AllocError, Global};
 use std::marker::Model;
-use tab_model::Change;
+use tab_model::{Change, OnlyRecord, copy_of_key};
 use tab_term::Term;
 
 /// A change on its way to its table. Contracts see the change.

@@ -5,7 +5,7 @@ use Rattle.tab_term.specs.Data.{PlainTerms}
 use Rattle.tab_term.specs.Order.{bytes_cmp, term_cmp}
 use Rattle.tab_term.specs.View.{term}
 use Rattle.tab_map.specs.Entries.{lookup, insert_entry}
-use Rattle.tab_rows.specs.Joined.{IsOnly}
+use Rattle.tab_model.specs.OnlyRecords.{IsOnly}
 use Rattle.tab_model.specs.declared.data.Change.{Change}
 use Rattle.tab_model.specs.declared.data.Change.TheVariants.{Write}
 use Rattle.tab_model.specs.declared.data.Kind.TheVariants.{Set}

@@ -5,23 +5,21 @@ ghost use Rattle.tab_term.specs.Order.{bytes_cmp};
 ghost use Rattle.tab_term.specs.View.{term};
 ghost use Rattle.tab_map.specs.Entries.{lookup};
 ghost use Rattle.tab_model.specs.Names.{plain_terms};
-ghost use Rattle.tab_model.specs.declared.data.Change.TheVariants.{Write};
-ghost use Rattle.tab_model.specs.declared.data.Kind.TheVariants.{Set};
 ghost use Rattle.tab_model.specs.declared.data.Move.TheVariants.{Do};
 ghost use Rattle.tab_txstore.specs.Merged.{IsSnapshot};
 ghost use Rattle.tab_txstore.specs.Overlays.{touched, seen_at};
 ghost use Rattle.tab_txstore.specs.Stores.{no_levels, nested, joined, ended, changed, levels_next};
 
-use crate::change::change_of;
-use crate::touching::{put_only, seen_entry, touch};
+use crate::change::update_of;
+use crate::touching::{seen_entry, touch};
 use std::alloc::{AllocError, Global};
 use std::marker::Model;
 use tab_index::IndexedTable;
 use tab_lists::Snapshot;
 use tab_map::{Entry, Map};
-use tab_model::{Change, Kind, LoggedReply, Operation};
+use tab_model::{LoggedOperation, LoggedReply};
 use tab_records::Records;
-use tab_rows::{OnlyRecord, Update};
+use tab_rows::Update;
 use tab_term::{Atom, Term};
 
 /// The innermost level as it is, with what each open level goes back to.
@@ -158,7 +156,7 @@ impl Levels {
         &mut self,
         alloc: Global,
         committed: &IndexedTable,
-        operation: &Operation,
+        operation: &LoggedOperation,
         reply: &LoggedReply,
     ) -> Result<(), AllocError>
         ensures ok { OnOk result
@@ -170,47 +168,26 @@ impl Levels {
             self.end();
             return Ok(());
         }
-        if let (Kind::Set, Operation::Write(row)) = (committed.def().kind, operation) {
-            return self.write(alloc, committed, OnlyRecord::new(alloc, row, None)?);
-        }
-        match change_of(alloc, operation)? {
-            Some(change) => self.change(alloc, committed, Draft { change }),
+        match update_of(alloc, operation)? {
+            Some(update) => self.change(alloc, committed, update),
             None => Ok(()),
         }
     }
 
-    /// Writes a record to a committed set. The overlay and the update have it in one entry.
-    fn write(
-        &mut self,
-        alloc: Global,
-        committed: &IndexedTable,
-        only: OnlyRecord,
-    ) -> Result<(), AllocError>
-        requires kind { committed.now.def.kind ≡ Set }
-        ensures ok { OnOk result
-            (self.new ≡ changed (Some committed.now) self.old (Some (Write only))) }
-        ensures err { OnErr result (self.new ≡ self.old) }
-    {
-        self.updates.reserve(1)?;
-        put_only(&mut self.overlay, alloc, committed, &only)?;
-        push_update(&mut self.updates, Update::only(only));
-        Ok(())
-    }
-
-    /// Makes a change over a committed table.
+    /// Makes a change over a committed table. The overlay and the update have a set's record in one entry.
     fn change(
         &mut self,
         alloc: Global,
         committed: &IndexedTable,
-        draft: Draft,
+        update: Update,
     ) -> Result<(), AllocError>
         ensures ok { OnOk result
-            (self.new ≡ changed (Some committed.now) self.old (Some draft.change)) }
+            (self.new ≡ changed (Some committed.now) self.old (Some update)) }
         ensures err { OnErr result (self.new ≡ self.old) }
     {
         self.updates.reserve(1)?;
-        touch(&mut self.overlay, alloc, committed, &draft.change)?;
-        push_update(&mut self.updates, Update::new(draft.into_change()));
+        touch(&mut self.overlay, alloc, committed, &update)?;
+        push_update(&mut self.updates, update);
         Ok(())
     }
 
@@ -260,28 +237,6 @@ impl Levels {
         self.overlay = Map::new();
         self.updates.truncate(0);
         self.saved.truncate(0);
-    }
-}
-
-/// A change that waits for its place.
-pub struct Draft {
-    change: Change,
-}
-
-// A derived Drop would be taken apart, variant by variant, at each exit of each caller.
-impl Drop for Draft {
-    fn drop(self) {
-        let Draft { change } = self;
-        drop(change);
-    }
-}
-
-impl Draft {
-    fn into_change(self) -> Change
-        ensures { result ≡ self.change }
-    {
-        let Draft { change } = self;
-        change
     }
 }
 

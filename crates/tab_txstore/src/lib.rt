@@ -14,6 +14,6 @@ mod store;
 mod touching;
 mod views;
 
-pub use change::change_of;
+pub use change::update_of;
 pub use laws::{a_store_fits, a_store_shows, keys_are_seen};
 pub use store::{Finished, TxStore};

@@ -15,7 +15,7 @@ use std::marker::Model;
 use tab_index::IndexedTable;
 use tab_lists::Snapshot;
 use tab_map::{Entry, Map};
-use tab_model::{LoggedReply, Move, Moves, Operation, Replies};
+use tab_model::{Kind, LoggedOperation, LoggedReply, Move, Moves, Operation, Replies};
 use tab_records::Records;
 use tab_rows::Update;
 use tab_term::{Atom, Term};
@@ -73,7 +73,7 @@ pub struct Finished {
 
 /// An operation with its reply, which waits for its place.
 struct Made {
-    operation: Operation,
+    operation: LoggedOperation,
     reply: LoggedReply,
 }
 
@@ -87,7 +87,7 @@ impl Drop for Made {
 }
 
 impl Made {
-    fn into_parts(self) -> (Operation, LoggedReply)
+    fn into_parts(self) -> (LoggedOperation, LoggedReply)
         ensures { result ≡ (self.operation, self.reply) }
     {
         let Made { operation, reply } = self;
@@ -121,6 +121,7 @@ impl TxStore {
             (self.new ≡ store_next (Some committed.now) self.old (Do operation) (Some reply)) }
         ensures err { OnErr result (self.new ≡ self.old) }
     {
+        let operation = LoggedOperation::new(alloc, committed.def().kind, operation)?;
         self.put_made(alloc, committed, Made { operation, reply })
     }
 
@@ -147,11 +148,18 @@ impl TxStore {
     }
 
     /// An operation that has no table, with its reply: its level ends.
-    pub fn fail(&mut self, operation: Operation, reply: LoggedReply) -> Result<(), AllocError>
+    pub fn fail(
+        &mut self,
+        alloc: Global,
+        operation: Operation,
+        reply: LoggedReply,
+    ) -> Result<(), AllocError>
         requires { IsTrue (is_failure_of (Some reply)) }
         ensures ok { OnOk result (self.new ≡ store_next None self.old (Do operation) (Some reply)) }
         ensures err { OnErr result (self.new ≡ self.old) }
     {
+        // There is no table, so no set takes the record: it stays a term, as a bag's does.
+        let operation = LoggedOperation::new(alloc, Kind::Bag, operation)?;
         self.put_failed(Made { operation, reply })
     }
 

@@ -16,9 +16,9 @@ use crate::left::left;
 use std::alloc::{AllocError, Global};
 use tab_index::IndexedTable;
 use tab_map::{Entry, Map, Revise};
-use tab_model::{Change, Kind};
+use tab_model::{Change, Kind, OnlyRecord};
 use tab_records::Records;
-use tab_rows::{Append, OnlyRecord, key_of};
+use tab_rows::{Append, Form, Update, key_of};
 use tab_term::{Atom, Term};
 
 /// An entry that comes to stand at its key.
@@ -103,8 +103,26 @@ pub fn seen_entry<'a>(
     }
 }
 
-/// Makes a change over a committed table. Writes to sets come by `put_only`.
+/// Makes a change over a committed table.
 pub fn touch(
+    overlay: &mut Map<Atom, Map<Term, Records>>,
+    alloc: Global,
+    committed: &IndexedTable,
+    update: &Update,
+) -> Result<(), AllocError>
+    ensures ok { OnOk result (overlay.new ≡ touch_of committed.now overlay.old update.now) }
+    ensures err { OnErr result (overlay.new ≡ overlay.old) }
+{
+    match update.form() {
+        Form::Change(change) => touch_change(overlay, alloc, committed, change),
+        Form::Only(only) => match committed.def().kind {
+            Kind::Set => put_only(overlay, alloc, committed, only),
+            Kind::Bag => touch_change(overlay, alloc, committed, &update.to_change(alloc)?),
+        },
+    }
+}
+
+fn touch_change(
     overlay: &mut Map<Atom, Map<Term, Records>>,
     alloc: Global,
     committed: &IndexedTable,
@@ -126,8 +144,8 @@ pub fn touch(
     Ok(())
 }
 
-/// Writes a record to a committed set: its entry takes the place of what stands at its key, so that nothing is looked for.
-pub fn put_only(
+// Writes a record to a committed set: its entry takes the place of what stands at its key, so that nothing is looked for.
+fn put_only(
     overlay: &mut Map<Atom, Map<Term, Records>>,
     alloc: Global,
     committed: &IndexedTable,
@@ -139,7 +157,7 @@ pub fn put_only(
     ensures err { OnErr result (overlay.new ≡ overlay.old) }
 {
     let name = committed.def().name.try_clone(alloc)?;
-    let entry = only.share()?;
+    let entry = only.to_entry()?;
     put(overlay, alloc, name, entry)?;
     Ok(())
 }

@@ -13,5 +13,5 @@ returns c =
     let fits = subst (λ (s : Store). Fits s w) (sym c.new-store.ensures) (fits_new w) in
     let told = subst (λ (s : Store). replies (start w 0) s.moves ≡ s.told) (sym c.new-store.ensures) refl in
     told_decided w c.args.operation.now c.in_ok-answer.answer c.args.told.now c.is_answer.result
-    (c.in_ok-answer.ensures.answer 0 c.requires fits told ∙ ap (answer (after (start w 0) c.new-store.result.moves).now) c.in_ok-try_clone.ensures ∙ ap (λ (s : Store). answer (after (start w 0) s.moves).now c.args.operation.now) c.new-store.ensures)
+    (c.in_ok-answer.ensures.answer 0 c.requires fits told ∙ ap (answer (after (start w 0) c.new-store.result.moves).now) c.in_ok-to_operation.ensures ∙ ap (λ (s : Store). answer (after (start w 0) s.moves).now c.args.operation.now) c.new-store.ensures)
     (c.is_answer.ensures ∙ ap (λ r. is_answer r c.args.told.now) c.reply.ensures)

@@ -3,7 +3,7 @@ use Rattle.tab_term.specs.View.{term}
 use Rattle.tab_model.specs.Names.{terms_list}
 use Rattle.tab_model.specs.Tables.{put}
 use Rattle.tab_rows.specs.Joined.{joined, IsKept}
-use Rattle.tab_rows.specs.OnlyRecords.{record_in}
+use Rattle.tab_model.specs.OnlyRecords.{record_in}
 use Rattle.tab_rows.proofs.Cells.{Writes, put_set}
 use Rattle.tab_rows.proofs.SizeLemmas.{counted_insert}
 use Rattle.tab_rows.proofs.rows.Rows.put_entry.Goals as goal
