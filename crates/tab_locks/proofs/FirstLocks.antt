@@ -1,29 +1,31 @@
 -- The first lock of each number: which keys have one, and what one more, or one less, makes of them.
-use Rattle.std.proofs.Common.{◌≡◌, ℕ, List, [], ◌∷◌, Bool, true, false, ◌||◌, ◌&&◌, not, cond, refl, sym, ap, subst, ◌∙◌, ◌↔◌, IsTrue, length, arith, Option, Some, None, Ordering, Less, Equal, Greater, nat_cmp, ◌==◌, eq-eqb}
+use Rattle.std.proofs.Common.{◌≡◌, ℕ, List, [], ◌∷◌, Bool, true, false, ◌||◌, ◌&&◌, not, cond, refl, sym, ap, subst, ◌∙◌, arith, Option, Some, None, Ordering, Less, Equal, Greater, nat_cmp, ◌==◌, eq-eqb}
 use Rattle.std.proofs.Math.Bool.{and-true, and-false}
 use Rattle.std.proofs.lemmas.Bool.{and_parts}
 use Rattle.std.proofs.lemmas.Bool.Decides.{nat_tests}
-use Rattle.std.proofs.lemmas.Map.Keys.{IsDistinct-from_sorted}
-use Rattle.std.proofs.lemmas.Map.Steps.{set_value_same}
-use Rattle.std.specs.BTreeMap.{is_at, insert_entry}
+use Rattle.std.proofs.lemmas.Map.{lookup-none}
+use Rattle.std.proofs.lemmas.Map.Entries.{none_past_head}
+use Rattle.std.proofs.lemmas.Map.Keys.{IsDistinct-tail}
+use Rattle.std.specs.BTreeMap.{is_at}
 use Rattle.std.specs.Cmp.{nat_cmp_total, eq_by_cmp_equiv}
 use Rattle.std.specs.List.{list_any}
-use Rattle.std.specs.List.Sorted.{IsStrictlySortedBy}
-use Rattle.std.specs.Map.{keys_of, values_of, lookup, remove_entry}
+use Rattle.std.specs.Map.{keys_of, lookup, remove_entry}
 use Rattle.std.specs.Option.{option_copied, IfNone, IfSome}
-use Rattle.std.specs.Ordering.{match_ordering, eq_by_cmp, is_eq}
+use Rattle.std.specs.Ordering.{eq_by_cmp, is_eq}
 use Rattle.std.specs.Borrow.{Bor}
 use Rattle.tab_term.specs.Abbreviations.{number}
 use Rattle.tab_term.specs.Same.{same, same-Decides}
 use Rattle.tab_term.specs.View.{term}
 use Rattle.tab_term.specs.declared.term.Term.{Term}
 use Rattle.tab_locks.specs.declared.key_lock.KeyLock.{KeyLock}
+use Rattle.tab_locks.specs.declared.met.Met.{Met}
+use Rattle.tab_locks.specs.declared.met.Met.TheVariants.{Nothing, Itself, ItsKey, AnotherKey}
 use Rattle.tab_locks.specs.Members.{HasMore, Drops}
-use Rattle.tab_locks.specs.Numbered.{spot_of, first_spots, IsUnderNumbers}
+use Rattle.tab_locks.specs.Numbered.{spot_of, first_spots, IsApart, IsUnderNumbers, lock_on, met_by, met_in, holds, Puts}
 use Rattle.tab_locks.specs.Spots.{Holding, KeySpot, stands_on_key, is_holding}
-use Rattle.tab_locks.proofs.Lookups.{found_any, any_found, any_insert}
+use Rattle.tab_locks.proofs.Lookups.{found_any, any_found}
 use Rattle.tab_locks.proofs.Holdings.{it_is}
-use Rattle.tab_locks.proofs.PutEntry.{put_found}
+use Rattle.tab_locks.proofs.MapMembers.{more_mapped}
 use Rattle.tab_locks.proofs.Passing.{any_same, any_map, any_but, or_swap, or_twice}
 
 abbrev Entries : Type 0
@@ -34,14 +36,28 @@ Entries = List (ℕ × KeyLock)
 same_number : (a b : ℕ) → nat_cmp a b ≡ Equal → a ≡ b
 same_number a b h = grind (arith, nat_tests)
 
-numbered_inserted : (q : ℕ) (w : KeyLock) (es : Entries) → number (term w.key) ≡ q → IsUnderNumbers es → IsUnderNumbers (insert_entry nat_cmp es q w)
-numbered_inserted q w [] is own = (is, tt)
-numbered_inserted q w (e ∷ es) is own = by (nat_cmp q e.0) refl (numbered_inserted q w es is own.1)
+-- whether one stands under another number, as a test of the members
+abbrev is_elsewhere : ℕ × KeyLock → Bool
+is_elsewhere e = not (number (term e.1.key) == e.0)
+
+none_elsewhere : (es : Entries) → IsUnderNumbers es → list_any is_elsewhere es ≡ false
+none_elsewhere [] own = refl
+none_elsewhere (e ∷ es) own = λ i. not (eq-eqb (number (term e.1.key)) e.0 own.0 i) || none_elsewhere es own.1 i
+
+under_numbers : (es : Entries) → list_any is_elsewhere es ≡ false → IsUnderNumbers es
+under_numbers [] h = tt
+under_numbers (e ∷ es) h = by (number (term e.1.key) == e.0) refl h (under_numbers es)
   where
-    by : (o : Ordering) → nat_cmp q e.0 ≡ o → IsUnderNumbers (insert_entry nat_cmp es q w) → IsUnderNumbers (match_ordering o ((q, w) ∷ e ∷ es) ((e.0, w) ∷ es) (e ∷ insert_entry nat_cmp es q w))
-    by Less t ih = (is, own)
-    by Equal t ih = (is ∙ same_number q e.0 t, own.1)
-    by Greater t ih = (own.0, ih)
+    by : (b : Bool) → (number (term e.1.key) == e.0) ≡ b → (not b || list_any is_elsewhere es) ≡ false → (list_any is_elsewhere es ≡ false → IsUnderNumbers es) → IsUnderNumbers (e ∷ es)
+    by true t n ih = (grind (arith, t), ih n)
+    by false t n ih = absurd cc
+
+-- a lock on a key of the number is put there
+pub numbered_put : (k : Term) (r : Holding) (q : ℕ) (m : Met) (es new : Entries) → q ≡ number (term k) → Puts q (lock_on k r) es new m → IsUnderNumbers es → IsUnderNumbers new
+numbered_put k r q Nothing es new one put own = under_numbers new (put is_elsewhere ∙ (λ i. not (eq-eqb (number (term k)) q (sym one) i) || none_elsewhere es own i))
+numbered_put k r q Itself es new one put own = subst IsUnderNumbers (sym put) own
+numbered_put k r q ItsKey es new one put own = subst IsUnderNumbers (sym put) own
+numbered_put k r q AnotherKey es new one put own = subst IsUnderNumbers (sym put) own
 
 pub numbered_without : (test : ℕ → Bool) (es : Entries) → IsUnderNumbers es → IsUnderNumbers (remove_entry test es)
 numbered_without test [] own = own
@@ -60,10 +76,6 @@ numbered_found q v (e ∷ es) own l = by (nat_cmp q e.0) refl l (numbered_found 
     by Less t n ih = ih n
     by Equal t n ih = let is : v ≡ e.1 = cc in ap (λ (l : KeyLock). number (term l.key)) is ∙ own.0 ∙ sym (same_number q e.0 t)
     by Greater t n ih = ih n
-
--- a lock that is found is put back where it was
-pub put_back : (q : ℕ) (v : KeyLock) (es new : Entries) → IsStrictlySortedBy nat_cmp (keys_of es) → lookup (is_at (nat_cmp q)) es ≡ Some v → new ≡ insert_entry nat_cmp es q v → new ≡ es
-put_back q v es new s l is = is ∙ put_found nat_cmp nat_cmp_total q v v es s l ∙ set_value_same (is_at (nat_cmp q)) es v l
 
 -- ---- a key
 
@@ -84,17 +96,17 @@ any_numbered : (f g : ℕ × KeyLock → Bool) (es : Entries) → IsUnderNumbers
 any_numbered f g [] own h = refl
 any_numbered f g (e ∷ es) own h = λ i. h e own.0 i || any_numbered f g es own.1 h i
 
-pub held_first : (p : Holding → Bool) (k : Term) (es : Entries) → IsStrictlySortedBy nat_cmp (keys_of es) → IsUnderNumbers es
+pub held_first : (p : Holding → Bool) (k : Term) (es : Entries) → IsApart es → IsUnderNumbers es
     → list_any (λ s. same (term k) s.0 && p s.1) (first_spots es) ≡ found_any (λ (l : KeyLock). same (term k) (term l.key) && p (l.age, l.write)) (lookup (is_at (nat_cmp (number (term k)))) es)
 held_first p k es s own =
     let q = number (term k) in
     let g = λ (l : KeyLock). same (term k) (term l.key) && p (l.age, l.write) in
     any_map (λ s. same (term k) s.0 && p s.1) spot_of es
     ∙ any_numbered (λ (e : ℕ × KeyLock). g e.1) (λ (e : ℕ × KeyLock). is_at (nat_cmp q) e.0 && g e.1) es own (λ e o. by_number k e (p (e.1.age, e.1.write)) o)
-    ∙ any_found (eq_by_cmp nat_cmp) (eq_by_cmp_equiv nat_cmp_total) q (λ (e : ℕ × KeyLock). is_at (nat_cmp q) e.0 && g e.1) g es (IsDistinct-from_sorted nat_cmp (keys_of es) s) (λ e. refl)
+    ∙ any_found (eq_by_cmp nat_cmp) (eq_by_cmp_equiv nat_cmp_total) q (λ (e : ℕ × KeyLock). is_at (nat_cmp q) e.0 && g e.1) g es s (λ e. refl)
 
 -- whether a key has one
-pub has_first : (k : Term) (es : Entries) → IsStrictlySortedBy nat_cmp (keys_of es) → IsUnderNumbers es
+pub has_first : (k : Term) (es : Entries) → IsApart es → IsUnderNumbers es
     → list_any (λ s. same (term k) s.0) (first_spots es) ≡ found_any (λ (l : KeyLock). same (term k) (term l.key)) (lookup (is_at (nat_cmp (number (term k)))) es)
 has_first k es s own =
     any_same (λ s. same (term k) s.0) (λ s. same (term k) s.0 && true) (first_spots es) (λ s. sym (and-true (same (term k) s.0)))
@@ -106,30 +118,17 @@ has_first k es s own =
     by (Some l) = and-true (same (term k) (term l.key))
 
 -- the same by what stands under its number
-pub has_at_number : (k : Term) (q : ℕ) (o : Option KeyLock) (es : Entries) → IsStrictlySortedBy nat_cmp (keys_of es) → IsUnderNumbers es → q ≡ number (term k) → lookup (is_at (nat_cmp q)) es ≡ o
+has_at_number : (k : Term) (q : ℕ) (o : Option KeyLock) (es : Entries) → IsApart es → IsUnderNumbers es → q ≡ number (term k) → lookup (is_at (nat_cmp q)) es ≡ o
     → list_any (λ s. same (term k) s.0) (first_spots es) ≡ found_any (λ (l : KeyLock). same (term k) (term l.key)) o
 has_at_number k q o es s own one l = has_first k es s own ∙ ap (found_any (λ (l : KeyLock). same (term k) (term l.key))) (ap (λ (n : ℕ). lookup (is_at (nat_cmp n)) es) (sym one) ∙ l)
 
-pub any_holding : (p : Holding → Bool) (es : Entries) → list_any (λ (l : KeyLock). p (l.age, l.write)) (values_of es) ≡ list_any (λ s. p s.1) (first_spots es)
-any_holding p es = any_map (λ (l : KeyLock). p (l.age, l.write)) (λ (e : ℕ × KeyLock). e.1) es ∙ sym (any_map (λ s. p s.1) spot_of es)
+pub any_holding : (p : Holding → Bool) (es : Entries) → list_any (λ (e : ℕ × KeyLock). p (e.1.age, e.1.write)) es ≡ list_any (λ s. p s.1) (first_spots es)
+any_holding p es = sym (any_map (λ s. p s.1) spot_of es)
 
-pub some_first : (b : Bool) (es : Entries) → (IsTrue b ↔ (length es ≡ 0)) → not b ≡ list_any (λ s. true) (first_spots es)
-some_first b [] h = ap not (h.1 refl)
-some_first true (e ∷ es) h = absurd (omega (arith, h.0 refl))
-some_first false (e ∷ es) h = refl
+pub some_first : (es : Entries) → list_any (λ e. true) es ≡ list_any (λ s. true) (first_spots es)
+some_first es = sym (any_map (λ s. true) spot_of es)
 
 -- ---- one more, and one less
-
-more_first : (q : ℕ) (w : KeyLock) (es new : Entries) → lookup (is_at (nat_cmp q)) es ≡ None → new ≡ insert_entry nat_cmp es q w → HasMore (term w.key, (w.age, w.write)) (first_spots es) (first_spots new)
-more_first q w es new l is = λ p.
-    any_map p spot_of new ∙ ap (list_any (λ e. p (spot_of e))) is
-    ∙ any_insert nat_cmp (λ e. p (spot_of e)) q w es l
-    ∙ (λ i. p (term w.key, (w.age, w.write)) || sym (any_map p spot_of es) i)
-
--- a lock on this key is put in where its number has none
-pub more_made : (k : Term) (r : Holding) (q : ℕ) (w : KeyLock) (es new : Entries) → lookup (is_at (nat_cmp q)) es ≡ None → new ≡ insert_entry nat_cmp es q w
-    → (w.key ≡ k) × (w.age ≡ r.0) × (w.write ≡ r.1) → HasMore (term k, r) (first_spots es) (first_spots new)
-more_made k r q w es new l is made = λ p. more_first q w es new l is p ∙ (λ i. p (term (made.0 i), (made.1 i, made.2 i)) || list_any p (first_spots es))
 
 any_without : (test : ℕ → Bool) (f : KeyLock → Bool) (v : KeyLock) (es : Entries) → lookup test es ≡ Some v → list_any (λ (e : ℕ × KeyLock). f e.1) es ≡ (f v || list_any (λ (e : ℕ × KeyLock). f e.1) (remove_entry test es))
 any_without test f v [] l = absurd cc
@@ -150,16 +149,16 @@ number_taken : (q : ℕ) (v : KeyLock) (es : Entries) → IsUnderNumbers es → 
 number_taken q v es own l = eq-eqb (number (term v.key)) q (numbered_found q v es own l)
 
 -- some lock has the number, and one that is not this very one
-pub taken_first : (q : ℕ) (v : KeyLock) (es : Entries) → IsUnderNumbers es → lookup (is_at (nat_cmp q)) es ≡ Some v → list_any (λ s. number s.0 == q) (first_spots es) ≡ true
+taken_first : (q : ℕ) (v : KeyLock) (es : Entries) → IsUnderNumbers es → lookup (is_at (nat_cmp q)) es ≡ Some v → list_any (λ s. number s.0 == q) (first_spots es) ≡ true
 taken_first q v es own l = any_at_number (λ s. number s.0 == q) q v es l (number_taken q v es own l)
 
-pub tied_first : (k : Term) (r : Holding) (q : ℕ) (v : KeyLock) (es : Entries) → IsUnderNumbers es → lookup (is_at (nat_cmp q)) es ≡ Some v → (same (term k) (term v.key) && is_holding r (v.age, v.write)) ≡ false
+tied_first : (k : Term) (r : Holding) (q : ℕ) (v : KeyLock) (es : Entries) → IsUnderNumbers es → lookup (is_at (nat_cmp q)) es ≡ Some v → (same (term k) (term v.key) && is_holding r (v.age, v.write)) ≡ false
     → list_any (λ s. (number s.0 == q) && not (stands_on_key (term k) r s)) (first_spots es) ≡ true
 tied_first k r q v es own l other =
     any_at_number (λ s. (number s.0 == q) && not (stands_on_key (term k) r s)) q v es l (λ i. number_taken q v es own l i && not (other i))
 
 -- what stands there already
-pub first_again : (k : Term) (r : Holding) (v : KeyLock) (es : Entries) → lookup (is_at (nat_cmp (number (term k)))) es ≡ Some v → (same (term k) (term v.key) && is_holding r (v.age, v.write)) ≡ true
+first_again : (k : Term) (r : Holding) (v : KeyLock) (es : Entries) → lookup (is_at (nat_cmp (number (term k)))) es ≡ Some v → (same (term k) (term v.key) && is_holding r (v.age, v.write)) ≡ true
     → HasMore (term k, r) (first_spots es) (first_spots es)
 first_again k r v es l it = λ p.
     let at = is_at (nat_cmp (number (term k))) in
@@ -171,17 +170,26 @@ first_again k r v es l it = λ p.
     all ∙ or_twice (f v) rest ∙ (λ i. one i || sym all i)
 
 -- nothing of this owner and mode stands on the key
-pub kept_first : (k : Term) (r : Holding) (es : Entries) → IsStrictlySortedBy nat_cmp (keys_of es) → IsUnderNumbers es
+pub kept_first : (k : Term) (r : Holding) (es : Entries) → IsApart es → IsUnderNumbers es
     → found_any (λ (l : KeyLock). same (term k) (term l.key) && is_holding r (l.age, l.write)) (lookup (is_at (nat_cmp (number (term k)))) es) ≡ false → Drops (stands_on_key (term k) r) (first_spots es) (first_spots es)
 kept_first k r es s own h = λ p. sym (any_but p (stands_on_key (term k) r) (first_spots es) (held_first (is_holding r) k es s own ∙ h))
 
-pub dropped_first : (k : Term) (r : Holding) (v : KeyLock) (es new : Entries) → IsStrictlySortedBy nat_cmp (keys_of new) → IsUnderNumbers es → lookup (is_at (nat_cmp (number (term k)))) es ≡ Some v
-    → (same (term k) (term v.key) && is_holding r (v.age, v.write)) ≡ true → new ≡ remove_entry (is_at (nat_cmp (number (term k)))) es → lookup (is_at (nat_cmp (number (term k)))) new ≡ None
+without_it : (q : ℕ) (es : Entries) → IsApart es → lookup (is_at (nat_cmp q)) (remove_entry (is_at (nat_cmp q)) es) ≡ None
+without_it q [] d = refl
+without_it q (e ∷ es) d = by (is_at (nat_cmp q) e.0) refl (without_it q es (IsDistinct-tail (eq_by_cmp nat_cmp) e.0 (keys_of es) d))
+  where
+    by : (b : Bool) → is_at (nat_cmp q) e.0 ≡ b → lookup (is_at (nat_cmp q)) (remove_entry (is_at (nat_cmp q)) es) ≡ None → lookup (is_at (nat_cmp q)) (cond b es (e ∷ remove_entry (is_at (nat_cmp q)) es)) ≡ None
+    by true t ih = lookup-none (is_at (nat_cmp q)) es (none_past_head (eq_by_cmp_equiv nat_cmp_total) q e es d t)
+    by false t ih = ap (λ b. cond b (Some e.1) (lookup (is_at (nat_cmp q)) (remove_entry (is_at (nat_cmp q)) es))) t ∙ ih
+
+pub dropped_first : (k : Term) (r : Holding) (v : KeyLock) (es new : Entries) → IsApart es → IsApart new → IsUnderNumbers es → lookup (is_at (nat_cmp (number (term k)))) es ≡ Some v
+    → (same (term k) (term v.key) && is_holding r (v.age, v.write)) ≡ true → new ≡ remove_entry (is_at (nat_cmp (number (term k)))) es
     → Drops (stands_on_key (term k) r) (first_spots es) (first_spots new)
-dropped_first k r v es new s own l it is none = λ p.
+dropped_first k r v es new d s own l it is = λ p.
     let gone = stands_on_key (term k) r in
     let at = is_at (nat_cmp (number (term k))) in
     let q = λ (x : KeySpot). p x && not (gone x) in
+    let none : lookup at new ≡ None = ap (lookup at) is ∙ without_it (number (term k)) es d in
     let left : IsUnderNumbers new = subst IsUnderNumbers (sym is) (numbered_without at es own) in
     let bare : list_any gone (first_spots new) ≡ false = held_first (is_holding r) k new s left ∙ ap (found_any (λ (l : KeyLock). same (term k) (term l.key) && is_holding r (l.age, l.write))) none in
     let out : q (term v.key, (v.age, v.write)) ≡ false = ap (λ b. p (term v.key, (v.age, v.write)) && not b) it ∙ and-false (p (term v.key, (v.age, v.write))) in
@@ -191,8 +199,70 @@ dropped_first k r v es new s own l it is none = λ p.
     ∙ sym (any_map q spot_of new)
     ∙ any_but p gone (first_spots new) bare)
 
-pub numbered_made : (k : Term) (q : ℕ) (w : KeyLock) (es new : Entries) → q ≡ number (term k) → w.key ≡ k → new ≡ insert_entry nat_cmp es q w → IsUnderNumbers es → IsUnderNumbers new
-numbered_made k q w es new one made is own = subst IsUnderNumbers (sym is) (numbered_inserted q w es (ap (λ (t : Term). number (term t)) made ∙ sym one) own)
+-- ---- what a lock meets
+
+holds_by : (a b : Bool) → holds (met_by a b) ≡ (a && b)
+holds_by false b = refl
+holds_by true false = refl
+holds_by true true = refl
+
+not_nothing : (a b : Bool) → Nothing ≡ met_by a b → ⊥
+not_nothing false b n = absurd cc
+not_nothing true false n = absurd cc
+not_nothing true true n = absurd cc
+
+not_its : (a b : Bool) → AnotherKey ≡ met_by a b → a ≡ false
+not_its false b n = refl
+not_its true false n = absurd cc
+not_its true true n = absurd cc
+
+module _ (k : Term) (r : Holding) (q : ℕ) (es : Entries) where
+  abbrev its : KeyLock → Bool
+  its v = same (term k) (term v.key)
+
+  abbrev under : Option KeyLock
+  under = lookup (is_at (nat_cmp q)) es
+
+  -- it stands there now
+  pub held_more : (m : Met) (new : Entries) → q ≡ number (term k) → m ≡ met_in k r under → Puts q (lock_on k r) es new m → holds m ≡ true → HasMore (term k, r) (first_spots es) (first_spots new)
+  held_more Nothing new one is put h = more_mapped spot_of (q, lock_on k r) es new put
+  held_more Itself new one is put h = subst (λ (fs : Entries). HasMore (term k, r) (first_spots es) (first_spots fs)) (sym put) (by under refl is)
+    where
+      by : (o : Option KeyLock) → under ≡ o → Itself ≡ met_in k r o → HasMore (term k, r) (first_spots es) (first_spots es)
+      by None l n = absurd cc
+      by (Some v) l n = first_again k r v es (ap (λ (n : ℕ). lookup (is_at (nat_cmp n)) es) (sym one) ∙ l) (sym (ap holds n ∙ holds_by (its v) (is_holding r (v.age, v.write))))
+  held_more ItsKey new one is put h = absurd cc
+  held_more AnotherKey new one is put h = absurd cc
+
+  -- another one does
+  pub tied_other : (m : Met) → IsUnderNumbers es → m ≡ met_in k r under → holds m ≡ false → list_any (λ s. (number s.0 == q) && not (stands_on_key (term k) r s)) (first_spots es) ≡ true
+  tied_other m own is h = by under refl is
+    where
+      by : (o : Option KeyLock) → under ≡ o → m ≡ met_in k r o → list_any (λ s. (number s.0 == q) && not (stands_on_key (term k) r s)) (first_spots es) ≡ true
+      by None l n = let held : holds m ≡ true = ap holds n in absurd cc
+      by (Some v) l n = tied_first k r q v es own l (sym (ap holds n ∙ holds_by (its v) (is_holding r (v.age, v.write))) ∙ h)
+
+  -- nothing did, or one on another key
+  pub free_before : IsApart es → IsUnderNumbers es → q ≡ number (term k) → Nothing ≡ met_in k r under → list_any (λ s. same (term k) s.0) (first_spots es) ≡ false
+  free_before d own one is = by under refl is
+    where
+      by : (o : Option KeyLock) → under ≡ o → Nothing ≡ met_in k r o → list_any (λ s. same (term k) s.0) (first_spots es) ≡ false
+      by None l n = has_at_number k q None es d own one l
+      by (Some v) l n = absurd (not_nothing (its v) (is_holding r (v.age, v.write)) n)
+
+  pub free_beside : IsApart es → IsUnderNumbers es → q ≡ number (term k) → AnotherKey ≡ met_in k r under → list_any (λ s. same (term k) s.0) (first_spots es) ≡ false
+  free_beside d own one is = by under refl is
+    where
+      by : (o : Option KeyLock) → under ≡ o → AnotherKey ≡ met_in k r o → list_any (λ s. same (term k) s.0) (first_spots es) ≡ false
+      by None l n = absurd cc
+      by (Some v) l n = has_at_number k q (Some v) es d own one l ∙ not_its (its v) (is_holding r (v.age, v.write)) n
+
+  pub taken_beside : IsUnderNumbers es → AnotherKey ≡ met_in k r under → list_any (λ s. number s.0 == q) (first_spots es) ≡ true
+  taken_beside own is = by under refl is
+    where
+      by : (o : Option KeyLock) → under ≡ o → AnotherKey ≡ met_in k r o → list_any (λ s. number s.0 == q) (first_spots es) ≡ true
+      by None l n = absurd cc
+      by (Some v) l n = taken_first q v es own l
 
 -- what a look-up by number tells of a key
 pub none_found : (g : KeyLock → Bool) (r : Option (Bor KeyLock)) (x : Bool) → x ≡ found_any g (option_copied r) → IfNone r (x ≡ false)

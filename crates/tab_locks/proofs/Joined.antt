@@ -15,6 +15,9 @@ module _ {X : Type 0} where
   more_after x a b new h = λ p.
       list_any-append p a new ∙ (λ i. list_any p a || h p i) ∙ or_swap (list_any p a) (p x) (list_any p b) ∙ (λ i. p x || sym (list_any-append p a b) i)
 
+  pub same_before : (a new b : List X) → SameMembers a new → SameMembers (a ++ b) (new ++ b)
+  same_before a new b h = λ p. list_any-append p new b ∙ (λ i. h p i || list_any p b) ∙ sym (list_any-append p a b)
+
   pub same_after : (a b new : List X) → SameMembers b new → SameMembers (a ++ b) (a ++ new)
   same_after a b new h = λ p. list_any-append p a new ∙ (λ i. list_any p a || h p i) ∙ sym (list_any-append p a b)
 

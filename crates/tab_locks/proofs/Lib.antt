@@ -12,4 +12,6 @@ pub mod WithoutLast
 pub mod Standing
 pub mod Filled
 pub mod Joined
+pub mod FirstTable
+pub mod NumberedLocks
 pub mod FirstLocks

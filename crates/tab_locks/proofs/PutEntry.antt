@@ -1,30 +1,13 @@
 -- A key of a map: what is put at it, and what is left without it.
-use Rattle.std.proofs.Common.{◌≡◌, List, [], ◌∷◌, Bool, true, false, cond, refl, sym, ap, ◌∙◌, Option, Some, None, Ordering, Less, Equal, Greater}
+use Rattle.std.proofs.Common.{◌≡◌, List, [], ◌∷◌, Bool, true, false, cond, refl, sym, ap, ◌∙◌, Some, None, Ordering, Less, Equal, Greater}
 use Rattle.std.specs.Cmp.{IsTotalOrder, eq_by_cmp_equiv}
 use Rattle.std.specs.List.Sorted.{IsStrictlySortedBy}
 use Rattle.std.specs.Ordering.{match_ordering, is_eq}
 use Rattle.std.specs.BTreeMap.{is_at, insert_entry}
-use Rattle.std.specs.BTreeMap.Entry.{MatchEntry}
-use Rattle.std.specs.Option.{UnwrapsOrElse}
-use Rattle.std.specs.declared.collections.btree_map.Entry.TheVariants.{Vacant, Occupied}
-use Rattle.std.specs.declared.cmp.Ord as ord
-use Rattle.std.specs.declared.cmp.PartialEq as eq
-use Rattle.std.specs.declared.cmp.PartialOrd as partial
-use Rattle.std.specs.declared.collections.btree_map.Entry.{Entry}
-use Rattle.std.specs.declared.collections.btree_map.OccupiedEntry.{OccupiedEntry}
 use Rattle.std.specs.Map.{keys_of, lookup, set_value, remove_entry}
 use Rattle.std.proofs.lemmas.Map.{lookup-none}
 use Rattle.std.proofs.lemmas.Map.Entries.{none_below_head}
 use Rattle.std.proofs.lemmas.Map.Keys.{sorted_tail}
-
--- what holds of an entry that is not occupied, and of what is put there
-pub at_vacant : {K X Z : Type 0} {g : ord.Ghosts K} {g' : eq.Ghosts K} {g'' : partial.Ghosts K} (P Q : Type 0) (e : Entry K X Z g g' g'') → ((o : OccupiedEntry K X Z g g' g'') → e ≡ Occupied o → ⊥) → MatchEntry e P Q → Q
-at_vacant P Q (Vacant v) other h = h
-at_vacant P Q (Occupied o) other h = absurd (other o refl)
-
-pub was_made : {X : Type 0} (P : X → Type 0) (o : Option X) (w : X) → o ≡ None → UnwrapsOrElse o P w → P w
-was_made P None w n h = h
-was_made P (Some v) w n h = absurd cc
 
 itself : {K : Type 0} (cmp : K → K → Ordering) → IsTotalOrder cmp → (k : K) → is_at (cmp k) k ≡ true
 itself cmp o k = (eq_by_cmp_equiv o).refl k

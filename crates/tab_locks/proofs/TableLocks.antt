@@ -28,10 +28,10 @@ use Rattle.tab_model.specs.State.{is_in}
 abbrev Entries : Type 0
 Entries = List (List ℕ × List Spot)
 
-is_table : (t u : List ℕ) → is_at (bytes_cmp t) u ≡ bytes_eq t u
+pub is_table : (t u : List ℕ) → is_at (bytes_cmp t) u ≡ bytes_eq t u
 is_table t u = sym (matches_bytes t u)
 
-one_table : (t u : List ℕ) → is_at (bytes_cmp t) u ≡ true → t ≡ u
+pub one_table : (t u : List ℕ) → is_at (bytes_cmp t) u ≡ true → t ≡ u
 one_table t u h = (bytes_eq-Decides t u).0 (sym (is_table t u) ∙ h)
 
 by_parts : (a b c d : Bool) → (a && (b && (c && d))) ≡ (b && (d && (a && c)))
@@ -54,7 +54,7 @@ by_parts_and false true c true e = refl
 by_parts_and false true c false e = refl
 by_parts_and false false c d e = refl
 
-asked_by_parts : (r : Relation) (age : ℕ) (write : Bool) (t u : List ℕ) (part : Part) (s : Spot)
+pub asked_by_parts : (r : Relation) (age : ℕ) (write : Bool) (t u : List ℕ) (part : Part) (s : Spot)
     → asked r (age, lock t part write) (s.1.0, lock u s.0 s.1.1) ≡ (bytes_eq t u && (reaches r part s.0 && fits r (age, write) s.1))
 asked_by_parts Meeting age write t u part s = ap (λ b. bytes_eq t u && b) (sym (and-true (meets part s.0)))
 asked_by_parts Opposing age write t u part s = by_parts (not (s.1.0 == age)) (bytes_eq t u) (write || s.1.1) (meets part s.0)

@@ -1,5 +1,4 @@
 ghost use Rattle.std.specs.Prelude.{◌≡◌, ◌&&◌, ◌==◌, not, [], OnOk, OnErr, IfOk, true, false, IsTrue, IsFalse};
-ghost use Rattle.std.specs.BTreeMap.{values};
 ghost use Rattle.std.specs.List.{list_any};
 ghost use Rattle.std.specs.Option.{IfNone, IfSome};
 ghost use Rattle.tab_term.specs.Abbreviations.{number as number_of};
@@ -11,10 +10,10 @@ ghost use Rattle.tab_locks.specs.Spots.{stands_on_key};
 
 use crate::hindrance::Hindrance;
 use crate::key_lock::KeyLock;
+use crate::met::Met;
+use crate::numbered_locks::NumberedLocks;
 use crate::question::Question;
 use std::alloc::{AllocError, Global};
-use std::collections::BTreeMap;
-use std::collections::btree_map::Entry;
 use std::marker::Model;
 use tab_key::Abbreviate;
 use tab_term::Term;
@@ -23,7 +22,7 @@ use tab_term::Term;
 /// own, so that such a key with one owner is found by comparing integers alone.
 #[derive(Drop)]
 pub(crate) struct FirstLocks {
-    locks: BTreeMap<u64, KeyLock>,
+    locks: NumberedLocks,
 }
 
 impl Model for FirstLocks {
@@ -37,7 +36,7 @@ impl Model for FirstLocks {
 
     ghost coded = { Prim.hlevel (codes, term_code) };
 
-    ghost view = { λ a. first_spots a.locks.entries };
+    ghost view = { λ a. first_spots a.locks };
 
     ghost invariant = { λ a. IsNumbered a.locks };
 }
@@ -48,7 +47,7 @@ impl FirstLocks {
         ensures { result ≡ [] }
     {
         FirstLocks {
-            locks: BTreeMap::new(alloc),
+            locks: NumberedLocks::new(alloc),
         }
     }
 
@@ -56,7 +55,7 @@ impl FirstLocks {
     pub fn is_occupied(&self) -> bool
         ensures { result ≡ list_any (λ _. true) self.now }
     {
-        !self.locks.is_empty()
+        self.locks.is_occupied()
     }
 
     /// Looks at all of them.
@@ -64,7 +63,7 @@ impl FirstLocks {
         ensures { result
             ≡ list_any (λ s. fits question.relation (question.age, question.write) s.1) self.now }
     {
-        any_of(&self.locks, question)
+        self.locks.any(question)
     }
 
     /// Looks at that key alone.
@@ -74,7 +73,7 @@ impl FirstLocks {
             same (term key.now) s.0 && fits question.relation
             (question.age, question.write) s.1) self.now }
     {
-        match self.locks.get(&key.abbreviated()) {
+        match self.locks.get(key.abbreviated()) {
             Some(lock) => lock.fits_at(question, key),
             None => false,
         }
@@ -88,7 +87,7 @@ impl FirstLocks {
             (λ l. list_any (λ s. same (term key.now) s.0) self.now
             ≡ same (term key.now) (term l.now.key)) }
     {
-        self.locks.get(&number)
+        self.locks.get(number)
     }
 
     /// Holds a lock on this key, where none stands under its number, or this very one does; else it tells that it does not, and
@@ -111,13 +110,8 @@ impl FirstLocks {
             (stands_on_key (term key.now) (age, write) s)) self.old)) }
         ensures err { OnErr result (self.new ≡ self.old) }
     {
-        match self.locks.entry(number)? {
-            Entry::Occupied(entry) => return Ok(entry.into_mut().is(key, age, write)),
-            vacant => {
-                vacant.or_try_insert_with(|| KeyLock::new(alloc, key, age, write))?;
-            }
-        }
-        Ok(true)
+        let met = self.locks.place(alloc, number, key, age, write)?;
+        Ok(met.is_held())
     }
 
     /// The same at a key that has no lock here, in one search too; `false` where another key's lock has its number. At a key that
@@ -139,19 +133,11 @@ impl FirstLocks {
         ensures free { OnOk result (IsFalse (list_any (λ s. same (term key.now) s.0) self.old)) }
         ensures err { OnErr result (self.new ≡ self.old) }
     {
-        let place = self.locks.entry(number)?;
-        match place {
-            Entry::Occupied(entry) => {
-                if *key == entry.into_mut().key {
-                    return Err(Hindrance);
-                }
-                return Ok(false);
-            }
-            vacant => {
-                vacant.or_try_insert_with(|| KeyLock::new(alloc, key, age, write))?;
-            }
+        match self.locks.place(alloc, number, key, age, write)? {
+            Met::Nothing => Ok(true),
+            Met::AnotherKey => Ok(false),
+            Met::Itself | Met::ItsKey => Err(Hindrance),
         }
-        Ok(true)
     }
 
     /// This one is held no more.
@@ -159,22 +145,12 @@ impl FirstLocks {
         ensures { Drops (stands_on_key (term key.now) (age, write)) self.old self.new }
     {
         let number = key.abbreviated();
-        let Some(lock) = self.locks.get(&number) else {
+        let Some(lock) = self.locks.get(number) else {
             return;
         };
         if !lock.is(key, age, write) {
             return;
         }
-        self.locks.remove(&number);
+        self.locks.remove(number);
     }
-}
-
-fn any_of(locks: &BTreeMap<u64, KeyLock>, question: Question) -> bool
-    ensures { result
-        ≡ list_any (λ l. fits question.relation (question.age, question.write) (l.age, l.write))
-        (values locks.now) }
-{
-    locks
-        .values()
-        .any(|lock| question.fits(lock.age, lock.write))
 }

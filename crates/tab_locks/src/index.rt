@@ -1,47 +1,48 @@
 ghost use Rattle.std.specs.Prelude.{◌≡◌, [], OnOk, OnErr, IsFalse};
-ghost use Rattle.std.specs.BTreeMap.{IsOrdered};
-ghost use Rattle.std.specs.List.{list_any};
-ghost use Rattle.std.specs.Str.{bytes_eq};
+ghost use Rattle.std.specs.BTreeMap.{is_at};
+ghost use Rattle.std.specs.List.{list_any, cons_option};
+ghost use Rattle.std.specs.Map.{lookup};
+ghost use Rattle.std.specs.Option.{option_copied};
 ghost use Rattle.tab_model.specs.State.{is_in};
-ghost use Rattle.tab_locks.specs.Plain.{is_write as is_write_of, lock_of};
+ghost use Rattle.tab_locks.specs.Plain.{lock_of};
 ghost use Rattle.tab_locks.specs.Questions.{asked, meets_at};
 ghost use Rattle.tab_locks.specs.Members.{HasMore, SameMembers, Drops};
-ghost use Rattle.tab_locks.specs.Spots.{locks_in, holds_at};
-ghost use Rattle.tab_locks.specs.Filled.{HasNoneEmpty};
+ghost use Rattle.tab_locks.specs.Spots.{holds_at};
 ghost use Rattle.tab_term.specs.Order.{bytes_cmp};
 
 use crate::hindrance::Hindrance;
 use crate::on_table::OnTable;
 use crate::question::{Question, Relation};
+use crate::tables::{Tables, is_write};
 use std::alloc::{AllocError, Global};
-use std::collections::BTreeMap;
-use std::collections::btree_map::Entry;
 use std::marker::Model;
-use tab_model::{Lock, Mode};
+use tab_model::Lock;
 use tab_term::Atom;
 
-/// The owners of locks, by table and key.
+/// The owners of locks, by table and key. Mostly all are on one table, which stands here itself, where a map's first entry
+/// takes a node with room for 15. A table that comes while another stands here goes among the others, until no lock is on it.
 #[derive(Drop)]
 pub(crate) struct Index {
-    tables: BTreeMap<Atom, OnTable>,
+    first: Option<(Atom, OnTable)>,
+    others: Tables,
 }
 
 impl Model for Index {
-    ghost use Rattle.std.specs.Prelude.{List};
+    ghost use Rattle.std.specs.Prelude.{List, [], ◌++◌, IfSome};
     ghost use Rattle.std.specs.Coded.{codes};
+    ghost use Rattle.std.specs.List.{cons_option};
     ghost use Rattle.tab_term.specs.Code.{term_code};
     ghost use Rattle.tab_model.specs.Ages.{Owned};
-    ghost use Rattle.tab_locks.specs.Filled.{IsPruned};
+    ghost use Rattle.tab_locks.specs.Filled.{StandsBeside};
     ghost use Rattle.tab_locks.specs.Spots.{locks_in};
-    ghost use Rattle.tab_term.specs.Order.{bytes_cmp};
 
     ghost Value = { List Owned };
 
     ghost coded = { Prim.hlevel (codes, term_code) };
 
-    ghost view = { λ a. locks_in a.tables.entries };
+    ghost view = { λ a. locks_in (cons_option a.first []) ++ a.others };
 
-    ghost invariant = { λ a. IsPruned bytes_cmp a.tables };
+    ghost invariant = { λ a. IfSome a.first (StandsBeside a.others) };
 }
 
 impl Index {
@@ -50,7 +51,8 @@ impl Index {
         ensures { result ≡ [] }
     {
         Index {
-            tables: BTreeMap::new(alloc),
+            first: None,
+            others: Tables::new(alloc),
         }
     }
 
@@ -58,14 +60,16 @@ impl Index {
     pub fn any(&self, relation: Relation, age: u64, lock: &Lock) -> bool
         ensures { result ≡ list_any (asked relation (age, lock_of lock.now)) self.now }
     {
-        let question = Question {
-            relation,
-            age,
-            write: is_write(lock.mode),
-        };
-        match self.tables.get(&lock.table) {
-            Some(spots) => spots.any(question, &lock.what),
-            None => false,
+        match under(&self.first, &lock.table) {
+            Some(spots) => {
+                let question = Question {
+                    relation,
+                    age,
+                    write: is_write(lock.mode),
+                };
+                spots.any(question, &lock.what)
+            }
+            None => self.others.any(relation, age, lock),
         }
     }
 
@@ -73,25 +77,27 @@ impl Index {
     pub fn is_locked(&self, table: &Atom) -> bool
         ensures { result ≡ list_any (is_in table.now) self.now }
     {
-        match self.tables.get(table) {
+        match under(&self.first, table) {
             Some(spots) => spots.is_occupied(),
-            None => false,
+            None => self.others.is_locked(table),
         }
     }
 
-    /// The transaction of this age holds the lock too.
+    /// The transaction of this age holds the lock too. Where no table stands first, that of the lock does, unless it is among the
+    /// others.
     pub fn add(&mut self, alloc: Global, age: u64, lock: &Lock) -> Result<(), AllocError>
         ensures ok { OnOk result (HasMore (age, lock_of lock.now) self.old self.new) }
         ensures err { OnErr result (SameMembers self.old self.new) }
     {
         let write = is_write(lock.mode);
-        match self.tables.get_mut(&lock.table) {
-            Some(spots) => spots.add(alloc, &lock.what, age, write),
-            None => {
+        match &mut self.first {
+            Some(first) if first.0 == lock.table => first.1.add(alloc, &lock.what, age, write),
+            None if !self.others.is_locked(&lock.table) => {
                 let only = OnTable::only(alloc, &lock.what, age, write)?;
-                self.tables.insert(lock.table.try_clone(alloc)?, only)?;
+                self.first = Some((lock.table.try_clone(alloc)?, only));
                 Ok(())
             }
+            _ => self.others.add(alloc, age, lock),
         }
     }
 
@@ -102,9 +108,14 @@ impl Index {
             (IsFalse (list_any (meets_at (age, lock_of lock.now)) self.old)) }
         ensures err { OnErr result (SameMembers self.old self.new) }
     {
-        match self.tables.get_mut(&lock.table) {
-            Some(spots) => spots.add_free(alloc, &lock.what, age, is_write(lock.mode)),
-            None => Ok(self.add(alloc, age, lock)?),
+        match &mut self.first {
+            Some(first) if first.0 == lock.table => {
+                first
+                    .1
+                    .add_free(alloc, &lock.what, age, is_write(lock.mode))
+            }
+            None if !self.others.is_locked(&lock.table) => Ok(self.add(alloc, age, lock)?),
+            _ => self.others.add_free(alloc, age, lock),
         }
     }
 
@@ -112,43 +123,23 @@ impl Index {
     pub fn remove(&mut self, alloc: Global, age: u64, lock: Lock)
         ensures { Drops (holds_at age (lock_of lock)) self.old self.new }
     {
-        take(&mut self.tables, alloc, age, lock);
-    }
-}
-
-/// Takes an owner away from the table and part of a lock, in one search of each, and the table where that was the last one.
-fn take(tables: &mut BTreeMap<Atom, OnTable>, alloc: Global, age: u64, lock: Lock)
-    requires { HasNoneEmpty tables.old.entries }
-    ensures dropped { Drops (holds_at age (lock_of lock)) (locks_in tables.old.entries)
-        (locks_in tables.new.entries) }
-    ensures filled { HasNoneEmpty tables.new.entries }
-    ensures ordered { IsOrdered bytes_cmp tables.new }
-{
-    let Lock { table, what, mode } = lock;
-    match tables.entry(table) {
-        Ok(entry) => match entry {
-            Entry::Occupied(mut entry) => {
-                let spots = entry.get_mut();
-                spots.remove(alloc, what, age, is_write(mode));
-                if spots.is_occupied() {
-                    return;
+        match &mut self.first {
+            Some(first) if first.0 == lock.table => {
+                first.1.remove(alloc, lock.what, age, is_write(lock.mode));
+                if !first.1.is_occupied() {
+                    self.first = None;
                 }
-                entry.remove();
             }
-            // What a dropped entry leaves is not known, so it is filled and emptied.
-            Entry::Vacant(entry) => {
-                entry.insert_entry(OnTable::new(alloc)).remove();
-            }
-        },
-        Err(_refused) => {}
+            _ => self.others.remove(alloc, age, lock),
+        }
     }
 }
 
-fn is_write(mode: Mode) -> bool
-    ensures { result ≡ is_write_of mode }
+fn under<'a>(first: &'a Option<(Atom, OnTable)>, table: &Atom) -> Option<&'a OnTable>
+    ensures { option_copied result ≡ lookup (is_at (bytes_cmp table.now)) (cons_option first.now []) }
 {
-    match mode {
-        Mode::Read => false,
-        Mode::Write => true,
+    match first {
+        Some(first) if first.0 == *table => Some(&first.1),
+        _ => None,
     }
 }

@@ -1,9 +1,11 @@
 ghost use Rattle.std.specs.Prelude.{◌≡◌, ◌&&◌, IfOk};
 ghost use Rattle.tab_term.specs.Same.{same};
 ghost use Rattle.tab_term.specs.View.{term};
+ghost use Rattle.tab_locks.specs.Numbered.{met_by as met_of};
 ghost use Rattle.tab_locks.specs.Questions.{fits};
 ghost use Rattle.tab_locks.specs.Spots.{is_holding};
 
+use crate::met::Met;
 use crate::question::Question;
 use std::alloc::{AllocError, Global};
 use tab_term::Term;
@@ -36,6 +38,21 @@ impl KeyLock {
             (self.now.age, self.now.write)) }
     {
         self.age == age && self.write == write && *key == self.key
+    }
+
+    /// What a lock on this key, of this owner and mode, meets in this one.
+    pub fn met_by(&self, key: &Term, age: u64, write: bool) -> Met
+        ensures { result
+            ≡ met_of (same (term key.now) (term self.now.key)) (is_holding (age, write)
+            (self.now.age, self.now.write)) }
+    {
+        if *key != self.key {
+            return Met::AnotherKey;
+        }
+        if self.age == age && self.write == write {
+            return Met::Itself;
+        }
+        Met::ItsKey
     }
 
     /// Whether it is on this key, and its owner stands in this relation to who asks.

@@ -13,8 +13,11 @@ mod key_lock;
 mod keys;
 mod laws;
 mod lock_table;
+mod met;
+mod numbered_locks;
 mod on_table;
 mod question;
+mod tables;
 mod tied_keys;
 
 pub use laws::a_lock_more_is_one_member_more;

@@ -1,84 +1,25 @@
-use Rattle.std.proofs.Common.{◌≡◌, ℕ, sym, ap, ◌∙◌, subst, List, Some, None, nat_cmp, arith, rules, of_calls}
-use Rattle.std.specs.BTreeMap.{is_at}
-use Rattle.std.specs.BTreeMap.Entry.{map_with_value, entry_value}
+use Rattle.std.proofs.Common.{sym, ap, ◌∙◌, ◌&&◌, ◌||◌, ◌==◌, not}
 use Rattle.std.specs.List.{list_any}
-use Rattle.std.specs.List.Sorted.{IsStrictlySortedBy}
-use Rattle.std.specs.Map.{keys_of, lookup}
 use Rattle.tab_term.specs.Abbreviations.{number}
 use Rattle.tab_term.specs.View.{term}
-use Rattle.tab_locks.specs.declared.key_lock.KeyLock.{KeyLock}
-use Rattle.tab_locks.specs.Members.{HasMore}
-use Rattle.tab_locks.specs.Numbered.{first_spots, IsUnderNumbers}
-use Rattle.tab_locks.specs.Spots.{KeySpot}
-use Rattle.tab_locks.proofs.FirstLocks.{put_back, first_again, tied_first, more_made, numbered_made}
-use Rattle.tab_locks.proofs.PutEntry.{at_vacant, was_made}
+use Rattle.tab_locks.specs.Spots.{stands_on_key}
+use Rattle.tab_locks.proofs.FirstLocks.{numbered_put, held_more, tied_other}
 use Rattle.tab_locks.proofs.first_locks.FirstLocks.add.Goals as goal
 
-abbrev Entries : Type 0
-Entries = List (ℕ × KeyLock)
-
-pub invariant_of-self-in-Occupied : goal.invariant_of-self-in-Occupied
-invariant_of-self-in-Occupied c =
-    let v = c.into_mut.result.now in
-    let es = c.self.inside.locks.entries in
-    let new = (map_with_value c.in_ok-vacant.vacant v).entries in
-    let found : lookup (is_at (nat_cmp c.args.number)) es ≡ Some v = sym c.in_ok-vacant.ensures.value ∙ ap entry_value c.in-Occupied.is ∙ c.into_mut.ensures.value in
-    let back = put_back c.args.number v es new c.in_ok-vacant.ensures.ordered found (c.in_ok-vacant.ensures.update.1 v) in
-    record {
-      ordered = subst (λ (fs : Entries). IsStrictlySortedBy nat_cmp (keys_of fs)) (grind (arith, c.in-Occupied.is)) (c.in_ok-vacant.ensures.update.2 v);
-      under = subst IsUnderNumbers (grind (arith, c.in-Occupied.is)) (subst IsUnderNumbers (sym back) c.self.invariant.under);
-    }
-
-pub returns-in-Occupied-clause-same : goal.returns-in-Occupied-clause-same
-returns-in-Occupied-clause-same c = λ other.
-    let v = c.into_mut.result.now in
-    let es = c.self.inside.locks.entries in
-    let new = (map_with_value c.in_ok-vacant.vacant v).entries in
-    let found : lookup (is_at (nat_cmp c.args.number)) es ≡ Some v = sym c.in_ok-vacant.ensures.value ∙ ap entry_value c.in-Occupied.is ∙ c.into_mut.ensures.value in
-    let back = put_back c.args.number v es new c.in_ok-vacant.ensures.ordered found (c.in_ok-vacant.ensures.update.1 v) in
-    let same = ap first_spots back ∙ c.self.view_is in
-    grind (arith, c.in-Occupied.is, same)
-
-pub returns-in-Occupied-clause-more : goal.returns-in-Occupied-clause-more
-returns-in-Occupied-clause-more c = λ there p.
-    let k = c.args.key.now in
-    let v = c.into_mut.result.now in
-    let es = c.self.inside.locks.entries in
-    let new = (map_with_value c.in_ok-vacant.vacant v).entries in
-    let found : lookup (is_at (nat_cmp c.args.number)) es ≡ Some v = sym c.in_ok-vacant.ensures.value ∙ ap entry_value c.in-Occupied.is ∙ c.into_mut.ensures.value in
-    let back = put_back c.args.number v es new c.in_ok-vacant.ensures.ordered found (c.in_ok-vacant.ensures.update.1 v) in
-    let same = ap first_spots back ∙ c.self.view_is in
-    let under : lookup (is_at (nat_cmp (number (term k)))) es ≡ Some v = ap (λ (n : ℕ). lookup (is_at (nat_cmp n)) es) (sym c.requires) ∙ found in
-    let again = subst (λ (s : List KeySpot). HasMore (term k, (c.args.age, c.args.write)) s s) c.self.view_is (first_again k (c.args.age, c.args.write) v es under (sym c.is.ensures ∙ there)) in
-    grind (arith, c.in-Occupied.is, same, again p)
-
-pub returns-in-Occupied-clause-tied : goal.returns-in-Occupied-clause-tied
-returns-in-Occupied-clause-tied c = λ other.
-    let k = c.args.key.now in
-    let v = c.into_mut.result.now in
-    let es = c.self.inside.locks.entries in
-    let found : lookup (is_at (nat_cmp c.args.number)) es ≡ Some v = sym c.in_ok-vacant.ensures.value ∙ ap entry_value c.in-Occupied.is ∙ c.into_mut.ensures.value in
-    let tied = tied_first k (c.args.age, c.args.write) c.args.number v es c.self.invariant.under found (sym c.is.ensures ∙ other) in
-    grind (arith, tied, c.self.view_is)
-
 pub invariant_of-self-2 : goal.invariant_of-self-2
-invariant_of-self-2 c =
-    let w = c.in_ok-or_try_insert_with-in_default.field-0.now in
-    let es = c.self.inside.locks.entries in
-    let new = (map_with_value c.in_ok-vacant.vacant w).entries in
-    let missing : lookup (is_at (nat_cmp c.args.number)) es ≡ None = at_vacant _ _ c.in_ok-vacant.vacant c.in_default.not-Occupied c.in_ok-vacant.ensures.found in
-    let made : (w.key ≡ c.args.key.now) × (w.age ≡ c.args.age) × (w.write ≡ c.args.write) = let h = was_made _ (entry_value c.in_ok-vacant.vacant) w (c.in_ok-vacant.ensures.value ∙ missing) c.in_ok-or_try_insert_with-in_default.ensures.value in search (rules, of_calls) in
-    record {
-      ordered = subst (λ (fs : Entries). IsStrictlySortedBy nat_cmp (keys_of fs)) (grind arith) (c.in_ok-vacant.ensures.update.2 w);
-      under = subst IsUnderNumbers (grind arith) (numbered_made c.args.key.now c.args.number w es new c.requires made.0 (c.in_ok-vacant.ensures.update.1 w) c.self.invariant.under);
-    }
+invariant_of-self-2 c = record {
+  apart = c.in_ok-met.ensures.apart;
+  under = numbered_put c.args.key.now (c.args.age, c.args.write) c.args.number c.in_ok-met.met c.self.inside.locks c.place.new.self c.requires c.in_ok-met.ensures.put c.self.invariant.under;
+}
 
 pub returns-clause-more : goal.returns-clause-more
-returns-clause-more c = λ put_in p.
-    let w = c.in_ok-or_try_insert_with-in_default.field-0.now in
-    let es = c.self.inside.locks.entries in
-    let new = (map_with_value c.in_ok-vacant.vacant w).entries in
-    let missing : lookup (is_at (nat_cmp c.args.number)) es ≡ None = at_vacant _ _ c.in_ok-vacant.vacant c.in_default.not-Occupied c.in_ok-vacant.ensures.found in
-    let made : (w.key ≡ c.args.key.now) × (w.age ≡ c.args.age) × (w.write ≡ c.args.write) = let h = was_made _ (entry_value c.in_ok-vacant.vacant) w (c.in_ok-vacant.ensures.value ∙ missing) c.in_ok-or_try_insert_with-in_default.ensures.value in search (rules, of_calls) in
-    let more = more_made c.args.key.now (c.args.age, c.args.write) c.args.number w es new missing (c.in_ok-vacant.ensures.update.1 w) made in
-    grind (arith, more p, ap (list_any p) c.self.view_is)
+returns-clause-more c = λ there p.
+    let k = c.args.key.now in
+    held_more k (c.args.age, c.args.write) c.args.number c.self.inside.locks c.in_ok-met.met c.place.new.self c.requires c.in_ok-met.ensures.met c.in_ok-met.ensures.put (sym c.is_held.ensures ∙ there) p
+    ∙ (λ i. p (term k, (c.args.age, c.args.write)) || list_any p (c.self.view_is i))
+
+pub returns-clause-tied : goal.returns-clause-tied
+returns-clause-tied c = λ other.
+    let k = c.args.key.now in
+    ap (list_any (λ s. (number s.0 == c.args.number) && not (stands_on_key (term k) (c.args.age, c.args.write) s))) (sym c.self.view_is)
+    ∙ tied_other k (c.args.age, c.args.write) c.args.number c.self.inside.locks c.in_ok-met.met c.self.invariant.under c.in_ok-met.ensures.met (sym c.is_held.ensures ∙ other)

@@ -1,106 +1,55 @@
-use Rattle.std.proofs.Common.{◌≡◌, ℕ, sym, ap, ◌∙◌, subst, List, Some, None, nat_cmp, arith, rules, of_calls}
-use Rattle.std.specs.BTreeMap.{is_at}
-use Rattle.std.specs.BTreeMap.Entry.{map_with_value, entry_value}
+use Rattle.std.proofs.Common.{◌≡◌, sym, ap, ◌∙◌, subst, ◌||◌, ◌==◌, true, false, IfOk, OnOk, IsTrue, IsFalse}
 use Rattle.std.specs.List.{list_any}
-use Rattle.std.specs.List.Sorted.{IsStrictlySortedBy}
-use Rattle.std.specs.Map.{keys_of, lookup}
+use Rattle.tab_term.specs.Abbreviations.{number}
 use Rattle.tab_term.specs.Same.{same}
 use Rattle.tab_term.specs.View.{term}
-use Rattle.tab_locks.specs.declared.key_lock.KeyLock.{KeyLock}
-use Rattle.tab_locks.specs.Numbered.{first_spots, IsUnderNumbers}
-use Rattle.tab_locks.proofs.FirstLocks.{put_back, taken_first, has_at_number, more_made, numbered_made}
-use Rattle.tab_locks.proofs.PutEntry.{at_vacant, was_made}
+use Rattle.tab_locks.specs.Members.{HasMore}
+use Rattle.tab_locks.specs.Numbered.{first_spots, holds}
+use Rattle.tab_locks.specs.Spots.{KeySpot}
+use Rattle.tab_locks.proofs.FirstLocks.{numbered_put, held_more, taken_beside, free_before, free_beside}
 use Rattle.tab_locks.proofs.first_locks.FirstLocks.add_free.Goals as goal
-
-abbrev Entries : Type 0
-Entries = List (ℕ × KeyLock)
-
-pub invariant_of-self-then-eq : goal.invariant_of-self-then-eq
-invariant_of-self-then-eq c =
-    let v = c.into_mut.result.now in
-    let es = c.self.inside.locks.entries in
-    let new = (map_with_value c.in_ok-place.place v).entries in
-    let found : lookup (is_at (nat_cmp c.args.number)) es ≡ Some v = sym c.in_ok-place.ensures.value ∙ ap entry_value c.in-Occupied.is ∙ c.into_mut.ensures.value in
-    let back = put_back c.args.number v es new c.in_ok-place.ensures.ordered found (c.in_ok-place.ensures.update.1 v) in
-    record {
-      ordered = subst (λ (fs : Entries). IsStrictlySortedBy nat_cmp (keys_of fs)) (grind (arith, c.in-Occupied.is)) (c.in_ok-place.ensures.update.2 v);
-      under = subst IsUnderNumbers (grind (arith, c.in-Occupied.is)) (subst IsUnderNumbers (sym back) c.self.invariant.under);
-    }
-
-pub returns-then-eq-clause-err : goal.returns-then-eq-clause-err
-returns-then-eq-clause-err c =
-    let v = c.into_mut.result.now in
-    let es = c.self.inside.locks.entries in
-    let new = (map_with_value c.in_ok-place.place v).entries in
-    let found : lookup (is_at (nat_cmp c.args.number)) es ≡ Some v = sym c.in_ok-place.ensures.value ∙ ap entry_value c.in-Occupied.is ∙ c.into_mut.ensures.value in
-    let back = put_back c.args.number v es new c.in_ok-place.ensures.ordered found (c.in_ok-place.ensures.update.1 v) in
-    let same = ap first_spots back ∙ c.self.view_is in
-    grind (arith, c.in-Occupied.is, same)
-
-pub invariant_of-self-in-Occupied : goal.invariant_of-self-in-Occupied
-invariant_of-self-in-Occupied c =
-    let v = c.into_mut.result.now in
-    let es = c.self.inside.locks.entries in
-    let new = (map_with_value c.in_ok-place.place v).entries in
-    let found : lookup (is_at (nat_cmp c.args.number)) es ≡ Some v = sym c.in_ok-place.ensures.value ∙ ap entry_value c.in-Occupied.is ∙ c.into_mut.ensures.value in
-    let back = put_back c.args.number v es new c.in_ok-place.ensures.ordered found (c.in_ok-place.ensures.update.1 v) in
-    record {
-      ordered = subst (λ (fs : Entries). IsStrictlySortedBy nat_cmp (keys_of fs)) (grind (arith, c.in-Occupied.is)) (c.in_ok-place.ensures.update.2 v);
-      under = subst IsUnderNumbers (grind (arith, c.in-Occupied.is)) (subst IsUnderNumbers (sym back) c.self.invariant.under);
-    }
-
-pub returns-in-Occupied-clause-same : goal.returns-in-Occupied-clause-same
-returns-in-Occupied-clause-same c = λ other.
-    let v = c.into_mut.result.now in
-    let es = c.self.inside.locks.entries in
-    let new = (map_with_value c.in_ok-place.place v).entries in
-    let found : lookup (is_at (nat_cmp c.args.number)) es ≡ Some v = sym c.in_ok-place.ensures.value ∙ ap entry_value c.in-Occupied.is ∙ c.into_mut.ensures.value in
-    let back = put_back c.args.number v es new c.in_ok-place.ensures.ordered found (c.in_ok-place.ensures.update.1 v) in
-    let same = ap first_spots back ∙ c.self.view_is in
-    grind (arith, c.in-Occupied.is, same)
-
-pub returns-in-Occupied-clause-tied : goal.returns-in-Occupied-clause-tied
-returns-in-Occupied-clause-tied c = λ other.
-    let v = c.into_mut.result.now in
-    let es = c.self.inside.locks.entries in
-    let found : lookup (is_at (nat_cmp c.args.number)) es ≡ Some v = sym c.in_ok-place.ensures.value ∙ ap entry_value c.in-Occupied.is ∙ c.into_mut.ensures.value in
-    let tied = taken_first c.args.number v es c.self.invariant.under found in
-    grind (arith, tied, c.self.view_is)
-
-pub returns-in-Occupied-clause-free : goal.returns-in-Occupied-clause-free
-returns-in-Occupied-clause-free c =
-    let k = c.args.key.now in
-    let v = c.into_mut.result.now in
-    let es = c.self.inside.locks.entries in
-    let found : lookup (is_at (nat_cmp c.args.number)) es ≡ Some v = sym c.in_ok-place.ensures.value ∙ ap entry_value c.in-Occupied.is ∙ c.into_mut.ensures.value in
-    ap (list_any (λ s. same (term k) s.0)) (sym c.self.view_is)
-    ∙ has_at_number k c.args.number (Some v) es c.in_ok-place.ensures.ordered c.self.invariant.under c.requires found ∙ sym c.eq.ensures ∙ c.if-eq.false
+use Rattle.tab_locks.proofs.first_locks.FirstLocks.add_free.Goals.{in-Nothing, in-AnotherKey, in-Itself}
 
 pub invariant_of-self-2 : goal.invariant_of-self-2
-invariant_of-self-2 c =
-    let w = c.in_ok-or_try_insert_with-in_default.field-0.now in
-    let es = c.self.inside.locks.entries in
-    let new = (map_with_value c.in_ok-place.place w).entries in
-    let missing : lookup (is_at (nat_cmp c.args.number)) es ≡ None = at_vacant _ _ c.in_ok-place.place c.in_default.not-Occupied c.in_ok-place.ensures.found in
-    let made : (w.key ≡ c.args.key.now) × (w.age ≡ c.args.age) × (w.write ≡ c.args.write) = let h = was_made _ (entry_value c.in_ok-place.place) w (c.in_ok-place.ensures.value ∙ missing) c.in_ok-or_try_insert_with-in_default.ensures.value in search (rules, of_calls) in
-    record {
-      ordered = subst (λ (fs : Entries). IsStrictlySortedBy nat_cmp (keys_of fs)) (grind arith) (c.in_ok-place.ensures.update.2 w);
-      under = subst IsUnderNumbers (grind arith) (numbered_made c.args.key.now c.args.number w es new c.requires made.0 (c.in_ok-place.ensures.update.1 w) c.self.invariant.under);
-    }
+invariant_of-self-2 c = record {
+  apart = c.in_ok-place.ensures.apart;
+  under = numbered_put c.args.key.now (c.args.age, c.args.write) c.args.number c.in_ok-place.field-0 c.self.inside.locks c.place.new.self c.requires c.in_ok-place.ensures.put c.self.invariant.under;
+}
 
 pub returns-clause-more : goal.returns-clause-more
-returns-clause-more c = λ put_in p.
-    let w = c.in_ok-or_try_insert_with-in_default.field-0.now in
-    let es = c.self.inside.locks.entries in
-    let new = (map_with_value c.in_ok-place.place w).entries in
-    let missing : lookup (is_at (nat_cmp c.args.number)) es ≡ None = at_vacant _ _ c.in_ok-place.place c.in_default.not-Occupied c.in_ok-place.ensures.found in
-    let made : (w.key ≡ c.args.key.now) × (w.age ≡ c.args.age) × (w.write ≡ c.args.write) = let h = was_made _ (entry_value c.in_ok-place.place) w (c.in_ok-place.ensures.value ∙ missing) c.in_ok-or_try_insert_with-in_default.ensures.value in search (rules, of_calls) in
-    let more = more_made c.args.key.now (c.args.age, c.args.write) c.args.number w es new missing (c.in_ok-place.ensures.update.1 w) made in
-    grind (arith, more p, ap (list_any p) c.self.view_is)
+returns-clause-more c =
+    let k = c.args.key.now in
+    let old = c.args.self.now in
+    let new = first_spots c.place.new.self in
+    elim c.match-branch-2.branch [
+      | in-Nothing w ↦ subst (λ x. IfOk x (λ b. b ≡ true → HasMore {X = KeySpot} (term k, (c.args.age, c.args.write)) old new)) (sym w.result-is)
+          (λ t p. held_more k (c.args.age, c.args.write) c.args.number c.self.inside.locks c.in_ok-place.field-0 c.place.new.self c.requires c.in_ok-place.ensures.met c.in_ok-place.ensures.put (ap holds w.in-Nothing.is) p
+          ∙ (λ i. p (term k, (c.args.age, c.args.write)) || list_any p (c.self.view_is i)))
+      | in-AnotherKey w ↦ subst (λ x. IfOk x (λ b. b ≡ true → HasMore {X = KeySpot} (term k, (c.args.age, c.args.write)) old new)) (sym w.result-is) (λ t. absurd cc)
+      | in-Itself w ↦ subst (λ x. IfOk x (λ b. b ≡ true → HasMore {X = KeySpot} (term k, (c.args.age, c.args.write)) old new)) (sym w.result-is) tt
+    ]
+
+pub returns-clause-tied : goal.returns-clause-tied
+returns-clause-tied c =
+    let some = λ (s : KeySpot). number s.0 == c.args.number in
+    elim c.match-branch-2.branch [
+      | in-Nothing w ↦ subst (λ x. IfOk x (λ b. b ≡ false → IsTrue (list_any some c.args.self.now))) (sym w.result-is) (λ f. absurd cc)
+      | in-AnotherKey w ↦ subst (λ x. IfOk x (λ b. b ≡ false → IsTrue (list_any some c.args.self.now))) (sym w.result-is)
+          (λ f. ap (list_any some) (sym c.self.view_is)
+          ∙ taken_beside c.args.key.now (c.args.age, c.args.write) c.args.number c.self.inside.locks c.self.invariant.under (sym w.in-AnotherKey.is ∙ c.in_ok-place.ensures.met))
+      | in-Itself w ↦ subst (λ x. IfOk x (λ b. b ≡ false → IsTrue (list_any some c.args.self.now))) (sym w.result-is) tt
+    ]
 
 pub returns-clause-free : goal.returns-clause-free
 returns-clause-free c =
     let k = c.args.key.now in
-    let es = c.self.inside.locks.entries in
-    let missing : lookup (is_at (nat_cmp c.args.number)) es ≡ None = at_vacant _ _ c.in_ok-place.place c.in_default.not-Occupied c.in_ok-place.ensures.found in
-    ap (list_any (λ s. same (term k) s.0)) (sym c.self.view_is) ∙ has_at_number k c.args.number None es c.in_ok-place.ensures.ordered c.self.invariant.under c.requires missing
+    let its = λ (s : KeySpot). same (term k) s.0 in
+    elim c.match-branch-2.branch [
+      | in-Nothing w ↦ subst (λ x. OnOk x (IsFalse (list_any its c.args.self.now))) (sym w.result-is)
+          (ap (list_any its) (sym c.self.view_is)
+          ∙ free_before k (c.args.age, c.args.write) c.args.number c.self.inside.locks c.self.invariant.apart c.self.invariant.under c.requires (sym w.in-Nothing.is ∙ c.in_ok-place.ensures.met))
+      | in-AnotherKey w ↦ subst (λ x. OnOk x (IsFalse (list_any its c.args.self.now))) (sym w.result-is)
+          (ap (list_any its) (sym c.self.view_is)
+          ∙ free_beside k (c.args.age, c.args.write) c.args.number c.self.inside.locks c.self.invariant.apart c.self.invariant.under c.requires (sym w.in-AnotherKey.is ∙ c.in_ok-place.ensures.met))
+      | in-Itself w ↦ subst (λ x. OnOk x (IsFalse (list_any its c.args.self.now))) (sym w.result-is) tt
+    ]

@@ -15,19 +15,19 @@ pub returns-in-Some : goal.returns-in-Some
 returns-in-Some c =
     let p = fits c.args.question.relation (c.args.question.age, c.args.question.write) in
     let k = c.args.key.now in
-    let es = c.self.inside.locks.entries in
+    let es = c.self.inside.locks in
     c.fits_at.ensures
     ∙ ap (found_any (λ (l : KeyLock). same (term k) (term l.key) && p (l.age, l.write)))
     (ap option_copied (sym c.in-Some.is) ∙ c.get.ensures.value ∙ ap (λ (n : ℕ). lookup (is_at (nat_cmp n)) es) c.abbreviated.ensures)
-    ∙ sym (held_first p k es c.self.invariant.ordered c.self.invariant.under)
+    ∙ sym (held_first p k es c.self.invariant.apart c.self.invariant.under)
     ∙ ap (list_any (λ s. same (term k) s.0 && p s.1)) c.self.view_is
 
 pub returns-in-None : goal.returns-in-None
 returns-in-None c =
     let p = fits c.args.question.relation (c.args.question.age, c.args.question.write) in
     let k = c.args.key.now in
-    let es = c.self.inside.locks.entries in
+    let es = c.self.inside.locks in
     ap (found_any (λ (l : KeyLock). same (term k) (term l.key) && p (l.age, l.write)))
     (ap option_copied (sym c.in-None.is) ∙ c.get.ensures.value ∙ ap (λ (n : ℕ). lookup (is_at (nat_cmp n)) es) c.abbreviated.ensures)
-    ∙ sym (held_first p k es c.self.invariant.ordered c.self.invariant.under)
+    ∙ sym (held_first p k es c.self.invariant.apart c.self.invariant.under)
     ∙ ap (list_any (λ s. same (term k) s.0 && p s.1)) c.self.view_is

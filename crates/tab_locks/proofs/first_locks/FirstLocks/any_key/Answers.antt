@@ -7,4 +7,4 @@ use Rattle.tab_locks.proofs.first_locks.FirstLocks.any_key.Goals as goal
 pub returns : goal.returns
 returns c =
     let p = fits c.args.question.relation (c.args.question.age, c.args.question.write) in
-    c.any_of.ensures ∙ any_holding p c.self.inside.locks.entries ∙ ap (list_any (λ s. p s.1)) c.self.view_is
+    c.any.ensures ∙ any_holding p c.self.inside.locks ∙ ap (list_any (λ s. p s.1)) c.self.view_is

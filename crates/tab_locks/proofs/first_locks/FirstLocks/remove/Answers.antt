@@ -16,9 +16,9 @@ use Rattle.tab_locks.proofs.first_locks.FirstLocks.remove.Goals as goal
 pub returns-in_default : goal.returns-in_default
 returns-in_default c =
     let k = c.args.key.now in
-    let es = c.self.inside.locks.entries in
+    let es = c.self.inside.locks in
     let missing : lookup (is_at (nat_cmp (number (term k)))) es ≡ None = ap (λ (n : ℕ). lookup (is_at (nat_cmp n)) es) (sym c.abbreviated-number.ensures) ∙ sym c.get.ensures.value ∙ ap option_copied c.in_default.is in
-    let kept = kept_first k (c.args.age, c.args.write) es c.self.invariant.ordered c.self.invariant.under
+    let kept = kept_first k (c.args.age, c.args.write) es c.self.invariant.apart c.self.invariant.under
     (ap (found_any (λ (l : KeyLock). same (term k) (term l.key) && is_holding (c.args.age, c.args.write) (l.age, l.write))) missing) in
     subst (λ (v : List KeySpot). Drops (stands_on_key (term k) (c.args.age, c.args.write)) v v) c.self.view_is kept
 
@@ -26,26 +26,25 @@ pub invariant_of-self : goal.invariant_of-self
 invariant_of-self c =
     let at = is_at (nat_cmp c.abbreviated-number.result) in
     record {
-      ordered = c.remove.ensures.ordered;
-      under = subst IsUnderNumbers (sym c.remove.ensures.entries) (numbered_without at c.self.inside.locks.entries c.self.invariant.under);
+      apart = c.remove.ensures.apart;
+      under = subst IsUnderNumbers (sym c.remove.ensures.entries) (numbered_without at c.self.inside.locks c.self.invariant.under);
     }
 
 pub returns : goal.returns
 returns c =
     let k = c.args.key.now in
-    let es = c.self.inside.locks.entries in
-    let new = c.remove.new.self.entries in
+    let es = c.self.inside.locks in
+    let new = c.remove.new.self in
     let found : lookup (is_at (nat_cmp (number (term k)))) es ≡ Some c.in-Some.lock.now = ap (λ (n : ℕ). lookup (is_at (nat_cmp n)) es) (sym c.abbreviated-number.ensures) ∙ sym c.get.ensures.value ∙ ap option_copied c.in-Some.is in
     let is : new ≡ remove_entry (is_at (nat_cmp (number (term k)))) es = c.remove.ensures.entries ∙ ap (λ (n : ℕ). remove_entry (is_at (nat_cmp n)) es) c.abbreviated-number.ensures in
-    let none : lookup (is_at (nat_cmp (number (term k)))) new ≡ None = ap (λ (n : ℕ). lookup (is_at (nat_cmp n)) new) (sym c.abbreviated-number.ensures) ∙ c.remove.ensures.updates.1 in
     subst (λ (v : List KeySpot). Drops (stands_on_key (term k) (c.args.age, c.args.write)) v (first_spots new)) c.self.view_is
-    (dropped_first k (c.args.age, c.args.write) c.in-Some.lock.now es new c.remove.ensures.ordered c.self.invariant.under found (sym c.is.ensures ∙ c.if-not-is.false) is none)
+    (dropped_first k (c.args.age, c.args.write) c.in-Some.lock.now es new c.self.invariant.apart c.remove.ensures.apart c.self.invariant.under found (sym c.is.ensures ∙ c.if-not-is.false) is)
 
 pub returns-then-not-is : goal.returns-then-not-is
 returns-then-not-is c =
     let k = c.args.key.now in
-    let es = c.self.inside.locks.entries in
+    let es = c.self.inside.locks in
     let g = λ (l : KeyLock). same (term k) (term l.key) && is_holding (c.args.age, c.args.write) (l.age, l.write) in
     let found : lookup (is_at (nat_cmp (number (term k)))) es ≡ Some c.in-Some.lock.now = ap (λ (n : ℕ). lookup (is_at (nat_cmp n)) es) (sym c.abbreviated-number.ensures) ∙ sym c.get.ensures.value ∙ ap option_copied c.in-Some.is in
-    let kept = kept_first k (c.args.age, c.args.write) es c.self.invariant.ordered c.self.invariant.under (ap (found_any g) found ∙ sym c.is.ensures ∙ c.if-not-is.true) in
+    let kept = kept_first k (c.args.age, c.args.write) es c.self.invariant.apart c.self.invariant.under (ap (found_any g) found ∙ sym c.is.ensures ∙ c.if-not-is.true) in
     subst (λ (v : List KeySpot). Drops (stands_on_key (term k) (c.args.age, c.args.write)) v v) c.self.view_is kept

@@ -1,70 +1,70 @@
-use Rattle.std.proofs.Common.{◌≡◌, false, sym, ap, ◌∙◌, subst, List, Bool}
-use Rattle.std.specs.Option.{option_copied_mut}
-use Rattle.std.specs.List.{list_any}
+use Rattle.std.proofs.Common.{◌≡◌, false, ap, sym, subst, ◌∙◌, List, [], ◌∷◌, ◌++◌, Bool, None, arith}
+use Rattle.std.specs.BTreeMap.{is_at}
+use Rattle.std.specs.List.{list_any, cons_option}
+use Rattle.std.specs.Map.{lookup}
 use Rattle.std.proofs.lemmas.Result.{on_ok_weaker, on_err_weaker}
+use Rattle.tab_term.specs.Order.{bytes_cmp}
 use Rattle.tab_model.specs.Ages.{Owned}
-use Rattle.tab_model.specs.Locks.{lock, meets}
+use Rattle.tab_model.specs.Locks.{lock}
+use Rattle.tab_locks.specs.declared.question.Relation.TheVariants.{Meeting}
 use Rattle.tab_locks.specs.Members.{HasMore, SameMembers}
 use Rattle.tab_locks.specs.Plain.{part_of, is_write, lock_of}
 use Rattle.tab_locks.specs.Questions.{meets_at}
-use Rattle.tab_locks.specs.Spots.{Spot, locks_in}
-use Rattle.tab_locks.proofs.Lookups.{found_any}
-use Rattle.tab_locks.proofs.TableLocks.{more_in, same_in, free_in}
+use Rattle.tab_locks.specs.Spots.{locks_in}
+use Rattle.tab_locks.proofs.FirstTable.{named, under_it, under_none, more_first, same_first, free_first, asked_others, none_asked, elsewhere_none, elsewhere_named, elsewhere_found}
 use Rattle.tab_locks.proofs.index.Index.add_free.Goals as goal
-use Rattle.tab_term.specs.Order.{bytes_cmp}
-use Rattle.tab_locks.proofs.Filled.{filled_found, filled_grown, filled_written}
-use Rattle.std.specs.BTreeMap.{is_at}
+use Rattle.tab_locks.proofs.index.Index.add_free.Goals.{in_default-via-in-Some+else-eq, in_default-via-in-None+else-not-is_locked}
 
 pub returns-in-Some-clause-ok : goal.returns-in-Some-clause-ok
 returns-in-Some-clause-ok c =
     let l = c.args.lock.now in
-    let es = c.self.inside.tables.entries in
+    let e = c.in-Some.first in
+    let os = c.self.inside.others in
     let w = c.add_free.new.self in
-    let new = (c.get_mut.follows.lender w).entries in
-    let found = sym (ap option_copied_mut (sym c.in-Some.is) ∙ c.get_mut.ensures.value) in
-    let before = λ (v : List Owned) (b : Bool). HasMore (c.args.age, lock l.table (part_of l.what) b) v (locks_in new) in
+    let there = named l.table e.0 c.eq.result c.eq.ensures ∙ c.if-eq.true in
+    let before = λ (v : List Owned) (b : Bool). HasMore (c.args.age, lock l.table (part_of l.what) b) v (locks_in ((e.0, w) ∷ []) ++ os) in
     on_ok_weaker c.add_free.result
-    (λ h. let more = more_in l.table (part_of l.what, (c.args.age, c.is_write.result)) c.in-Some.spots.now w es new found (c.get_mut.follows.holds w).0 h in
+    (λ h. let more = more_first l.table (part_of l.what, (c.args.age, c.is_write.result)) e w c.self.inside.first os c.in-Some.is there h in
     subst (λ (b : Bool). before c.args.self.now b) c.is_write.ensures (subst (λ (v : List Owned). before v c.is_write.result) c.self.view_is more))
     c.add_free.ensures.ok
 
 pub returns-in-Some-clause-free : goal.returns-in-Some-clause-free
 returns-in-Some-clause-free c =
     let l = c.args.lock.now in
-    let part = part_of l.what in
-    let es = c.self.inside.tables.entries in
-    let found = sym (ap option_copied_mut (sym c.in-Some.is) ∙ c.get_mut.ensures.value) in
-    let of = λ (v : List Owned) (b : Bool). list_any (meets_at (c.args.age, lock l.table part b)) v ≡ false in
+    let e = c.in-Some.first in
+    let there = named l.table e.0 c.eq.result c.eq.ensures ∙ c.if-eq.true in
     on_ok_weaker c.add_free.result
-    (λ h. let free = free_in c.args.age c.is_write.result l.table part es c.self.invariant.ordered (ap (found_any (list_any (λ (s : Spot). meets part s.0))) found ∙ h) in
-    subst (λ (b : Bool). of c.args.self.now b) c.is_write.ensures (subst (λ (v : List Owned). of v c.is_write.result) c.self.view_is free))
+    (λ h. subst (λ (v : List Owned). list_any (meets_at (c.args.age, lock_of l)) v ≡ false) c.self.view_is
+    (free_first l.table c.args.age (is_write l.mode) (part_of l.what) e.1 c.self.inside.first c.self.inside.others (under_it l.table e c.self.inside.first c.in-Some.is there) c.self.invariant h))
     c.add_free.ensures.free
 
 pub returns-in-Some-clause-err : goal.returns-in-Some-clause-err
 returns-in-Some-clause-err c =
-    let es = c.self.inside.tables.entries in
+    let l = c.args.lock.now in
+    let e = c.in-Some.first in
+    let os = c.self.inside.others in
     let w = c.add_free.new.self in
-    let new = (c.get_mut.follows.lender w).entries in
-    let found = sym (ap option_copied_mut (sym c.in-Some.is) ∙ c.get_mut.ensures.value) in
-    let before = λ (v : List Owned). SameMembers v (locks_in new) in
-    on_err_weaker c.add_free.result (λ h. subst before c.self.view_is (same_in c.args.lock.now.table c.in-Some.spots.now w es new found (c.get_mut.follows.holds w).0 h)) c.add_free.ensures.err
-
-pub invariant_of-self : goal.invariant_of-self
-invariant_of-self c =
-    let w = c.add_free.new.self in
-    let es = c.self.inside.tables.entries in
-    let found = sym (ap option_copied_mut (sym c.in-Some.is) ∙ c.get_mut.ensures.value) in
-    let was = filled_found (is_at (bytes_cmp c.args.lock.now.table)) es c.in-Some.spots.now found c.self.invariant.filled in
-    let one = filled_grown c.add_free.result (part_of c.args.lock.now.what, (c.args.age, c.is_write.result)) c.in-Some.spots.now w was c.add_free.ensures.ok c.add_free.ensures.err in
-    record {
-      ordered = (c.get_mut.follows.holds w).4;
-      filled = filled_written (is_at (bytes_cmp c.args.lock.now.table)) w es (c.get_mut.follows.lender w).entries (c.get_mut.follows.holds w).0 c.self.invariant.filled one;
-    }
+    let there = named l.table e.0 c.eq.result c.eq.ensures ∙ c.if-eq.true in
+    on_err_weaker c.add_free.result (λ h. subst (λ (v : List Owned). SameMembers v (locks_in ((e.0, w) ∷ []) ++ os)) c.self.view_is (same_first l.table e w c.self.inside.first os c.in-Some.is there h)) c.add_free.ensures.err
 
 pub returns-in_ok-add-in-None-clause-free : goal.returns-in_ok-add-in-None-clause-free
 returns-in_ok-add-in-None-clause-free c =
     let l = c.args.lock.now in
-    let part = part_of l.what in
-    let missing = sym (ap option_copied_mut (sym c.in-None.is) ∙ c.get_mut.ensures.value) in
+    let os = c.self.inside.others in
+    let unlocked = sym c.is_locked.ensures ∙ c.if-not-is_locked.true in
     subst (λ (v : List Owned). list_any (meets_at (c.args.age, lock_of l)) v ≡ false) c.self.view_is
-    (free_in c.args.age (is_write l.mode) l.table part c.self.inside.tables.entries c.self.invariant.ordered (ap (found_any (list_any (λ (s : Spot). meets part s.0))) missing))
+    (asked_others l.table Meeting c.args.age (is_write l.mode) (part_of l.what) c.self.inside.first os (under_none l.table c.self.inside.first c.in-None.is)
+    ∙ none_asked l.table Meeting c.args.age (is_write l.mode) (part_of l.what) os unlocked)
+
+pub returns-in_default-clause-free : goal.returns-in_default-clause-free
+returns-in_default-clause-free c =
+    let l = c.args.lock.now in
+    let first = c.self.inside.first in
+    let free = λ (missing : lookup (is_at (bytes_cmp l.table)) (cons_option first []) ≡ None) (same : c.in_default.self-inside.others ≡ c.self.inside.others). on_ok_weaker c.add_free-in_default.result
+    (λ h. subst (λ (v : List Owned). list_any (meets_at (c.args.age, lock_of l)) v ≡ false) c.self.view_is
+    (asked_others l.table Meeting c.args.age (is_write l.mode) (part_of l.what) first c.self.inside.others missing ∙ sym (ap (list_any (meets_at (c.args.age, lock_of l))) same) ∙ h))
+    c.add_free-in_default.ensures.free in
+    elim c.in_default.branch [
+      | in_default-via-in-Some+else-eq w ↦ free (elsewhere_found l.table first (elsewhere_named l.table w.in-Some.first w.eq.result first w.in-Some.is w.eq.ensures w.if-eq.false)) (grind (arith, w.self-inside-is))
+      | in_default-via-in-None+else-not-is_locked w ↦ free (elsewhere_found l.table first (elsewhere_none l.table first w.in-None.is)) (grind (arith, w.self-inside-is))
+    ]

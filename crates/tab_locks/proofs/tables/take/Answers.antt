@@ -11,7 +11,7 @@ use Rattle.tab_locks.specs.Spots.{Spot, locks_in, stands_on, holds_at}
 use Rattle.tab_locks.proofs.Passing.{none_there}
 use Rattle.tab_locks.proofs.TableLocks.{dropped_put, dropped_last, dropped_none, none_in}
 use Rattle.tab_locks.proofs.Filled.{filled_inserted, filled_without}
-use Rattle.tab_locks.proofs.index.take.Goals as goal
+use Rattle.tab_locks.proofs.tables.take.Goals as goal
 
 abbrev Entries : Type 0
 Entries = List (List ℕ × List Spot)
