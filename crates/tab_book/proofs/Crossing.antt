@@ -16,7 +16,10 @@ use Rattle.tab_term.specs.contracts.atom.Atom as atom
 use Rattle.tab_model.specs.contracts.data.Operation as operation
 use Rattle.tab_model.specs.contracts.data.Reply as reply
 use Rattle.tab_model.specs.contracts.data.Entry as entry
+use Rattle.tab_model.specs.contracts.logged_operation.LoggedOperation as logged_operation
+use Rattle.tab_model.specs.contracts.logged_operation.OperationForm as operation_form
 use Rattle.tab_model.specs.contracts.logged_reply.LoggedReply as logged
+use Rattle.tab_model.specs.contracts.only_record.OnlyRecord as only_record
 use Rattle.tab_model.specs.contracts.data.Item as item
 use Rattle.tab_model.specs.contracts.data.TableInfo as info
 use Rattle.tab_model.specs.contracts.data.Change as change
@@ -31,7 +34,6 @@ use Rattle.tab_model.proofs.data.Level.TheSendSync as level_marks
 use Rattle.tab_model.proofs.data.TableDef.TheSendSync as definition_marks
 use Rattle.tab_index.specs.contracts.index.Index as index
 use Rattle.tab_rows.specs.contracts.rows.Rows as rows
-use Rattle.tab_rows.specs.contracts.only_record.OnlyRecord as only_record
 use Rattle.tab_rows.specs.contracts.update.Update as update
 use Rattle.tab_index.specs.contracts.table.IndexedTable as table
 use Rattle.tab_tables.specs.contracts.catalog.Catalog as catalog
@@ -39,9 +41,11 @@ use Rattle.tab_txstore.specs.contracts.levels.Levels as levels
 use Rattle.tab_txstore.specs.contracts.store.TxStore as store
 use Rattle.tab_locks.specs.contracts.lock_table.LockTable as locks
 use Rattle.tab_locks.specs.contracts.index.Index as places
+use Rattle.tab_locks.specs.contracts.tables.Tables as lock_tables
 use Rattle.tab_locks.specs.contracts.on_table.OnTable as on_table
 use Rattle.tab_locks.specs.contracts.keys.Keys as keys
 use Rattle.tab_locks.specs.contracts.first_locks.FirstLocks as first_locks
+use Rattle.tab_locks.specs.contracts.numbered_locks.NumberedLocks as numbered_locks
 use Rattle.tab_locks.specs.contracts.key_lock.KeyLock as key_lock
 use Rattle.tab_locks.specs.contracts.tied_keys.TiedKeys as tied_keys
 use Rattle.tab_locks.proofs.holders.Holders.TheSendSync as holders_marks
@@ -78,6 +82,18 @@ ruleset parts = (sendable, as_row_send, as_row_sync, declared_send, declared_syn
 operation-send : IsSend operation.the_row
 operation-send = search (parts, Term-send, Terms-send) depth 20
 
+operation-sync : IsSync operation.the_row
+operation-sync = search (parts, Term-sync, Terms-sync) depth 20
+
+only_record-send : IsSend only_record.the_row
+only_record-send = search (parts, Entry-send, Term-send, Term-sync, Records-send, Records-sync) depth 30
+
+operation_form-send : IsSend operation_form.the_row
+operation_form-send = search (parts, only_record-send, Term-send, operation-send, operation-sync) depth 20
+
+logged_operation-send : IsSend logged_operation.the_row
+logged_operation-send = search (parts, operation_form-send) depth 20
+
 info-send : IsSend info.the_row
 info-send = search (parts, Terms-send) depth 20
 
@@ -104,7 +120,7 @@ logged-send : IsSend logged.the_row
 logged-send = search (parts, reply-send, reply-sync, SharedTerms-send) depth 20
 
 move-send : IsSend move.the_row
-move-send = search (parts, operation-send) depth 20
+move-send = search (parts, logged_operation-send) depth 20
 
 moves-send : IsSend moves.the_row
 moves-send = search (parts, move-send) depth 20
@@ -142,9 +158,6 @@ catalog-send = search (parts, table-send, table-sync) depth 30
 change-send : IsSend change.the_row
 change-send = search (parts, Term-send) depth 20
 
-only_record-send : IsSend only_record.the_row
-only_record-send = search (parts, Entry-send, Term-send, Term-sync, Records-send, Records-sync) depth 30
-
 update-send : IsSend update.the_row
 update-send = search (parts, change-send, only_record-send) depth 30
 
@@ -160,8 +173,11 @@ lock-send = search (parts, Term-send) depth 20
 key_lock-send : IsSend key_lock.the_row
 key_lock-send = search (parts, Term-send) depth 20
 
+numbered_locks-send : IsSend numbered_locks.the_row
+numbered_locks-send = search (parts, key_lock-send) depth 30
+
 first_locks-send : IsSend first_locks.the_row
-first_locks-send = search (parts, key_lock-send) depth 30
+first_locks-send = search (parts, numbered_locks-send) depth 30
 
 tied_keys-send : IsSend tied_keys.the_row
 tied_keys-send = search (parts, Term-send, holders_marks.the_send) depth 30
@@ -172,8 +188,11 @@ keys-send = search (parts, first_locks-send, tied_keys-send) depth 30
 on_table-send : IsSend on_table.the_row
 on_table-send = search (parts, keys-send, holders_marks.the_send) depth 30
 
+lock_tables-send : IsSend lock_tables.the_row
+lock_tables-send = search (parts, on_table-send) depth 30
+
 places-send : IsSend places.the_row
-places-send = search (parts, on_table-send) depth 30
+places-send = search (parts, on_table-send, lock_tables-send) depth 30
 
 locks-send : IsSend locks.the_row
 locks-send = search (parts, lock-send, places-send) depth 30
