@@ -20,12 +20,22 @@ pub fn matches(pattern: &Term, subject: &Term) -> bool
     ensures { result ≡ matches_of (term pattern.now) (term subject.now) }
 {
     match (pattern, subject) {
-        // As the last arm would, without a call: a number is what a pattern most often binds.
-        (Term::Int(x), Term::Int(y)) => *x == *y,
         (Term::Atom(name), other) => is_wildcard(name) || pattern == other,
         (Term::Tuple(patterns), Term::Tuple(subjects)) => all_match(patterns, subjects),
         (Term::List(patterns), Term::List(subjects)) => all_match(patterns, subjects),
         _ => pattern == subject,
+    }
+}
+
+/// `matches` that makes no call for a number, which is what a pattern most often binds.
+#[inline]
+#[cycle(matching)]
+fn element_matches(pattern: &Term, subject: &Term) -> bool
+    ensures { result ≡ matches_of (term pattern.now) (term subject.now) }
+{
+    match (pattern, subject) {
+        (Term::Int(x), Term::Int(y)) => *x == *y,
+        _ => matches(pattern, subject),
     }
 }
 
@@ -39,7 +49,7 @@ fn all_match(patterns: &Terms, subjects: &Terms) -> bool
     }
     // Records of one table are the same in front, and so are its patterns.
     for i in (0..patterns.len()).rev() {
-        if !matches(&patterns[i], &subjects[i]) {
+        if !element_matches(&patterns[i], &subjects[i]) {
             return false;
         }
     }

@@ -14,12 +14,12 @@ all_match-loop-i-init t c = all_taken matches all_match refl (λ x y xs ys. refl
 
 pub all_match-loop-i-preserved : goal.all_match-loop-i-preserved
 all_match-loop-i-preserved t c =
-    let back = last_pass matches all_match refl (λ x y xs ys. refl) c.as_slice-patterns.result.now c.as_slice-subjects.result.now c.loop-i.i (c.loop-i.i - 1) c.index-patterns-i.result c.index-subjects-i.result (omega (arith, c.loop-i-test.true)) (omega (arith, c.loop-i.auto.i)) c.if-patterns-subjects.false c.index-patterns-i.is c.index-subjects-i.is (sym c.matches.ensures ∙ c.if-not-matches.false) in
+    let back = last_pass matches all_match refl (λ x y xs ys. refl) c.as_slice-patterns.result.now c.as_slice-subjects.result.now c.loop-i.i (c.loop-i.i - 1) c.index-patterns-i.result c.index-subjects-i.result (omega (arith, c.loop-i-test.true)) (omega (arith, c.loop-i.auto.i)) c.if-patterns-subjects.false c.index-patterns-i.is c.index-subjects-i.is (sym c.element_matches.ensures ∙ c.if-not-element_matches.false) in
     sym back ∙ c.loop-i.invariant
 
-pub all_match-returns-then-not-matches : goal.all_match-returns-then-not-matches
-all_match-returns-then-not-matches t c =
-    let back = last_fail matches all_match refl (λ x y xs ys. refl) c.as_slice-patterns.result.now c.as_slice-subjects.result.now c.loop-i.i (c.loop-i.i - 1) c.index-patterns-i.result c.index-subjects-i.result (omega (arith, c.loop-i-test.true)) (omega (arith, c.loop-i.auto.i)) c.if-patterns-subjects.false c.index-patterns-i.is c.index-subjects-i.is (sym c.matches.ensures ∙ c.if-not-matches.true) in
+pub all_match-returns-then-not-element_matches : goal.all_match-returns-then-not-element_matches
+all_match-returns-then-not-element_matches t c =
+    let back = last_fail matches all_match refl (λ x y xs ys. refl) c.as_slice-patterns.result.now c.as_slice-subjects.result.now c.loop-i.i (c.loop-i.i - 1) c.index-patterns-i.result c.index-subjects-i.result (omega (arith, c.loop-i-test.true)) (omega (arith, c.loop-i.auto.i)) c.if-patterns-subjects.false c.index-patterns-i.is c.index-subjects-i.is (sym c.element_matches.ensures ∙ c.if-not-element_matches.true) in
     let differ = sym c.loop-i.invariant ∙ back in
     sym (ap₂ all_match (sym (ap terms c.as_slice-patterns.ensures.value ∙ c.patterns.view_is)) (sym (ap terms c.as_slice-subjects.ensures.value ∙ c.subjects.view_is)) ∙ differ)
 
