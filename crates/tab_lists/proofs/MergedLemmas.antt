@@ -1,5 +1,5 @@
 -- A transaction's own keys among those of a table: what comes first.
-use Rattle.std.proofs.Common.{◌≡◌, [], ◌∷◌, refl, sym, ap, ◌∙◌, List, Option, Some, None, Ordering, Less, Equal, Greater}
+use Rattle.std.proofs.Common.{◌≡◌, [], ◌∷◌, refl, ap, ◌∙◌, List, Option, Some, None, Ordering, Less, Equal, Greater}
 use Rattle.std.specs.Ordering.{match_ordering, ordering_reverse}
 use Rattle.tab_term.specs.declared.term.Term.{Term}
 use Rattle.tab_term.specs.Data.{PlainTerms}

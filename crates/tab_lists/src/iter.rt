@@ -34,7 +34,8 @@ pub enum Walk<'a> {
 /// A walk over records.
 #[derive(Drop)]
 pub struct RecordWalk<'a> {
-    // What is left of the records that were come to last. A key's one record is given at once, and is never near.
+    // What is left of the records that were come to last. A walk over a table gives a key's one record at once, and never has
+    // it near; a walk over one key has it near.
     near: Option<tab_records::Iter<'a>>,
     // Those behind them.
     rest: Option<Merged<'a>>,
@@ -126,7 +127,7 @@ fn next_filled<'a>(entries: &mut Merged<'a>) -> Option<&'a Term>
         (λ key. filled_keys entries.old ≡ term key.now ∷ filled_keys entries.new) }
 {
     while let Some((key, records)) = entries.take() {
-        if records.len() > 0 {
+        if !records.is_empty() {
             return Some(key);
         }
     }

@@ -21,7 +21,7 @@ pub struct Committed<'a> {
     left: Left<'a>,
 }
 
-/// The entries behind the first.
+/// A walk over a table's entries: over all of them, or over those at some keys.
 #[derive(Drop)]
 pub enum Left<'a> {
     All(Iter<'a, Term, Records>),
@@ -100,12 +100,12 @@ impl<'a> Committed<'a> {
 
 /// A transaction's own entries and the table's, seen as one list in the order of the keys.
 #[derive(Drop)]
-pub struct Overlay<'a> {
+pub struct Union<'a> {
     own: Iter<'a, Term, Records>,
     committed: Committed<'a>,
 }
 
-impl<'a> Model for Overlay<'a> {
+impl<'a> Model for Union<'a> {
     ghost use Rattle.std.specs.Prelude.{List};
     ghost use Rattle.std.specs.Coded.{codes};
     ghost use Rattle.tab_term.specs.Code.{term_code, terms_code, pairs_code};
@@ -124,7 +124,7 @@ impl<'a> Model for Overlay<'a> {
     ghost invariant = { λ a. Ascends term_cmp a.own × Ascends term_cmp a.committed };
 }
 
-impl<'a> Overlay<'a> {
+impl<'a> Union<'a> {
     // Inlined, it would double the price of a step over a table's entries alone, which would save registers for it.
     #[inline(never)]
     fn take(&mut self) -> Option<(&'a Term, &'a Records)>
@@ -160,7 +160,7 @@ pub enum Sources<'a> {
     /// The table's alone. Mostly the transaction touched none of its keys, and then nothing is compared or looked at ahead.
     Table(Left<'a>),
     /// Those of both.
-    Both(Overlay<'a>),
+    Both(Union<'a>),
 }
 
 impl<'a> Model for Merged<'a> {
@@ -216,7 +216,7 @@ impl<'a> Merged<'a> {
         }
         let committed = Committed::new(committed);
         Merged {
-            sources: Sources::Both(Overlay { own, committed }),
+            sources: Sources::Both(Union { own, committed }),
         }
     }
 
@@ -224,6 +224,7 @@ impl<'a> Merged<'a> {
     pub fn take(&mut self) -> Option<(&'a Term, &'a Records)>
         ensures { Gives self.old result self.new }
     {
+        // The arms of a table alone repeat those of `Left::take`, which saves each of its steps a call.
         match &mut self.sources {
             Sources::Table(Left::All(entries)) => next_of(entries),
             Sources::Table(Left::At(entries)) => entries.take(),

@@ -1,18 +1,13 @@
--- Maps without empty lists, over a value written in its place, and without the entry of one key.
+-- Lists that have a member, with one more; maps of such lists alone, with a value written or put in, and without one key's entry.
 use Rattle.std.proofs.Common.{◌≡◌, List, [], ◌∷◌, Bool, true, false, not, cond, refl, sym, ap, subst, ◌∙◌, ◌||◌, ◌↔◌, IsTrue, length, arith, Some, Result, Ok, Err, OnOk, OnErr}
 use Rattle.std.specs.Map.{values_of, lookup, set_value, remove_entry}
 use Rattle.std.specs.List.{list_any}
 use Rattle.std.specs.BTreeMap.{insert_entry}
 use Rattle.std.specs.declared.cmp.Ordering.{Ordering}
-use Rattle.std.proofs.lemmas.List.Elements.{All-cons, All-head, All-tail}
+use Rattle.std.proofs.lemmas.List.Elements.{All-head, All-tail}
 use Rattle.std.proofs.lemmas.Map.Views.{All-values-insert_entry, All-values-set_value, All-map-remove_entry}
 use Rattle.tab_locks.specs.Members.{HasMore, SameMembers}
 use Rattle.tab_locks.specs.Filled.{IsFilled, HasNoneEmpty}
-
--- what was found to have a member
-pub filled_seen : {X : Type 0} (xs : List X) (b : Bool) → not b ≡ false → b ≡ list_any (λ x. true) xs → IsFilled xs
-filled_seen xs true h is = sym is
-filled_seen xs false h is = absurd cc
 
 -- one member more, or the same
 pub filled_grown : {X T E : Type 0} (r : Result T E) (x : X) (v w : List X) → IsFilled v → OnOk r (HasMore x v w) → OnErr r (SameMembers v w) → IsFilled w
@@ -48,15 +43,3 @@ module _ {K X : Type 0} where
 
   pub filled_without : (test : K → Bool) (es : List (K × List X)) → HasNoneEmpty es → HasNoneEmpty (remove_entry test es)
   filled_without test es filled = All-map-remove_entry test (λ (e : K × List X). e.1) IsFilled es filled
-
-  others_filled : (test : K → Bool) (w : List X) (es : List (K × List X)) → HasNoneEmpty es → HasNoneEmpty (remove_entry test (set_value test es w))
-  others_filled test w [] filled = filled
-  others_filled test w (e ∷ es) filled = by (test e.0) refl (others_filled test w es (All-tail IsFilled _ _ filled))
-    where
-      by : (b : Bool) → test e.0 ≡ b → HasNoneEmpty (remove_entry test (set_value test es w)) → HasNoneEmpty (remove_entry test (cond b ((e.0, w) ∷ es) (e ∷ set_value test es w)))
-      by true is h = subst (λ b. HasNoneEmpty (cond b es ((e.0, w) ∷ remove_entry test es))) (sym is) (All-tail IsFilled _ _ filled)
-      by false is h = subst (λ b. HasNoneEmpty (cond b (set_value test es w) (e ∷ remove_entry test (set_value test es w)))) (sym is) (All-cons IsFilled e.1 (values_of (remove_entry test (set_value test es w))) (All-head IsFilled _ _ filled) h)
-
-  -- whatever is written at a key, without that key's entry
-  pub filled_but_there : (test : K → Bool) (w : List X) (es new : List (K × List X)) → new ≡ set_value test es w → HasNoneEmpty es → HasNoneEmpty (remove_entry test new)
-  filled_but_there test w es new is filled = subst (λ ns. HasNoneEmpty (remove_entry test ns)) (sym is) (others_filled test w es filled)

@@ -4,16 +4,11 @@ use Rattle.std.proofs.Math.Bool.{or_assoc}
 use Rattle.std.proofs.lemmas.List.Folds.{list_any-append}
 use Rattle.std.specs.List.{list_any}
 use Rattle.tab_locks.specs.Members.{HasMore, SameMembers, Drops}
-use Rattle.tab_locks.proofs.Passing.{or_swap}
 
 module _ {X : Type 0} where
   pub more_before : (x : X) (a new b : List X) → HasMore x a new → HasMore x (a ++ b) (new ++ b)
   more_before x a new b h = λ p.
       list_any-append p new b ∙ (λ i. h p i || list_any p b) ∙ or_assoc (p x) (list_any p a) (list_any p b) ∙ (λ i. p x || sym (list_any-append p a b) i)
-
-  pub more_after : (x : X) (a b new : List X) → HasMore x b new → HasMore x (a ++ b) (a ++ new)
-  more_after x a b new h = λ p.
-      list_any-append p a new ∙ (λ i. list_any p a || h p i) ∙ or_swap (list_any p a) (p x) (list_any p b) ∙ (λ i. p x || sym (list_any-append p a b) i)
 
   pub same_before : (a new b : List X) → SameMembers a new → SameMembers (a ++ b) (new ++ b)
   same_before a new b h = λ p. list_any-append p new b ∙ (λ i. h p i || list_any p b) ∙ sym (list_any-append p a b)

@@ -131,12 +131,12 @@ listed_open age empty v es s bare is = by (lookup (is_at (nat_cmp age)) es) refl
 
 without_own : (age k : ℕ) (ls : List code.Lock) (ys : List Owned) → (k == age) ≡ true → without age (owned_by k ls ++ ys) ≡ without age ys
 without_own age k [] ys h = refl
-without_own age k (l ∷ ls) ys h = (λ i. if h i then without age (owned_by k ls ++ ys) else (k, lock_of l) ∷ without age (owned_by k ls ++ ys)) ∙ without_own age k ls ys h
+without_own age k (l ∷ ls) ys h = (λ i. if not (h i) then (k, lock_of l) ∷ without age (owned_by k ls ++ ys) else without age (owned_by k ls ++ ys)) ∙ without_own age k ls ys h
 
 without_other : (age k : ℕ) (ls : List code.Lock) (ys : List Owned) → (k == age) ≡ false → without age (owned_by k ls ++ ys) ≡ owned_by k ls ++ without age ys
 without_other age k [] ys h = refl
 without_other age k (l ∷ ls) ys h =
-    (λ i. if h i then without age (owned_by k ls ++ ys) else (k, lock_of l) ∷ without age (owned_by k ls ++ ys)) ∙ ap (λ zs. (k, lock_of l) ∷ zs) (without_other age k ls ys h)
+    (λ i. if not (h i) then (k, lock_of l) ∷ without age (owned_by k ls ++ ys) else without age (owned_by k ls ++ ys)) ∙ ap (λ zs. (k, lock_of l) ∷ zs) (without_other age k ls ys h)
 
 without_none : (age : ℕ) (es : Entries) → AllByRecursion (λ k. nat_cmp age k ≡ Less) (keys_of es) → without age (listed es) ≡ listed es
 without_none age [] h = refl

@@ -54,9 +54,3 @@ pub clear : (r : Owned) (held : List Owned) → list_any (meets_at r) held ≡ f
 clear r held h =
     λ i. if sym (any_below (covers_own r) (meets_at r) held (apart_covers r) h) i then None
     else Some (if sym (any_below (opposes r) (meets_at r) held (apart_opposes r) h) i then (if list_any (blocks r) held then WithOlder else WithYounger) else Free)
-
-pub own_serves : (r : Owned) (held : List Owned) → list_any (covers_own r) held ≡ true → None ≡ standing r held
-own_serves r held h = λ i. if sym h i then None else Some (conflict_with r held)
-
-pub none_serves : (r : Owned) (held : List Owned) → list_any (covers_own r) held ≡ false → Some (conflict_with r held) ≡ standing r held
-none_serves r held h = λ i. if sym h i then None else Some (conflict_with r held)

@@ -1,4 +1,4 @@
--- Maps that keep nothing of what is gone: no empty list stands under a key.
+-- Lists that have a member, maps of such lists alone, and a table that has a lock and stands beside others.
 use Rattle.std.specs.Prelude.{◌≡◌, ℕ, List, true, IsFalse}
 use Rattle.std.specs.BTreeMap.{BTreeMap, IsOrdered}
 use Rattle.std.specs.List.{All, list_any}

@@ -1,19 +1,16 @@
-ghost use Rattle.std.specs.Prelude.{◌≡◌, [], OnOk, OnErr, IsFalse};
-ghost use Rattle.std.specs.BTreeMap.{is_at};
-ghost use Rattle.std.specs.List.{list_any, cons_option};
-ghost use Rattle.std.specs.Map.{lookup};
-ghost use Rattle.std.specs.Option.{option_copied};
+ghost use Rattle.std.specs.Prelude.{◌≡◌, [], IfOk, OnOk, OnErr, IsFalse};
+ghost use Rattle.std.specs.List.{list_any};
 ghost use Rattle.tab_model.specs.State.{is_in};
-ghost use Rattle.tab_locks.specs.Plain.{lock_of};
+ghost use Rattle.tab_locks.specs.Plain.{is_write as is_write_of, lock_of, part_of};
 ghost use Rattle.tab_locks.specs.Questions.{asked, meets_at};
 ghost use Rattle.tab_locks.specs.Members.{HasMore, SameMembers, Drops};
 ghost use Rattle.tab_locks.specs.Spots.{holds_at};
-ghost use Rattle.tab_term.specs.Order.{bytes_cmp};
 
+use crate::first::under;
 use crate::hindrance::Hindrance;
 use crate::on_table::OnTable;
-use crate::question::{Question, Relation};
-use crate::tables::{Tables, is_write};
+use crate::question::{Question, Relation, is_write};
+use crate::tables::Tables;
 use std::alloc::{AllocError, Global};
 use std::marker::Model;
 use tab_model::Lock;
@@ -61,14 +58,7 @@ impl Index {
         ensures { result ≡ list_any (asked relation (age, lock_of lock.now)) self.now }
     {
         match under(&self.first, &lock.table) {
-            Some(spots) => {
-                let question = Question {
-                    relation,
-                    age,
-                    write: is_write(lock.mode),
-                };
-                spots.any(question, &lock.what)
-            }
+            Some(spots) => spots.any(Question::of(relation, age, lock), &lock.what),
             None => self.others.any(relation, age, lock),
         }
     }
@@ -93,8 +83,7 @@ impl Index {
         match &mut self.first {
             Some(first) if first.0 == lock.table => first.1.add(alloc, &lock.what, age, write),
             None if !self.others.is_locked(&lock.table) => {
-                let only = OnTable::only(alloc, &lock.what, age, write)?;
-                self.first = Some((lock.table.try_clone(alloc)?, only));
+                self.first = Some(table_with(alloc, age, lock)?);
                 Ok(())
             }
             _ => self.others.add(alloc, age, lock),
@@ -114,7 +103,10 @@ impl Index {
                     .1
                     .add_free(alloc, &lock.what, age, is_write(lock.mode))
             }
-            None if !self.others.is_locked(&lock.table) => Ok(self.add(alloc, age, lock)?),
+            None if !self.others.is_locked(&lock.table) => {
+                self.first = Some(table_with(alloc, age, lock)?);
+                Ok(())
+            }
             _ => self.others.add_free(alloc, age, lock),
         }
     }
@@ -135,11 +127,12 @@ impl Index {
     }
 }
 
-fn under<'a>(first: &'a Option<(Atom, OnTable)>, table: &Atom) -> Option<&'a OnTable>
-    ensures { option_copied result ≡ lookup (is_at (bytes_cmp table.now)) (cons_option first.now []) }
+/// A lock's table, with this lock alone.
+fn table_with(alloc: Global, age: u64, lock: &Lock) -> Result<(Atom, OnTable), AllocError>
+    ensures { IfOk result
+        (λ t. (t.0 ≡ lock.now.table)
+        × HasMore (part_of lock.now.what, (age, is_write_of lock.now.mode)) [] t.1) }
 {
-    match first {
-        Some(first) if first.0 == *table => Some(&first.1),
-        _ => None,
-    }
+    let only = OnTable::only(alloc, &lock.what, age, is_write(lock.mode))?;
+    Ok((lock.table.try_clone(alloc)?, only))
 }

@@ -5,6 +5,7 @@
 
 #![tactic(auto)]
 
+mod first;
 mod first_locks;
 mod hindrance;
 mod holders;

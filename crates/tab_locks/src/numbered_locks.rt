@@ -7,6 +7,7 @@ ghost use Rattle.std.specs.Ordering.{nat_cmp};
 ghost use Rattle.tab_locks.specs.Numbered.{IsApart, Inserts, Puts, lock_on, met_in};
 ghost use Rattle.tab_locks.specs.Questions.{fits};
 
+use crate::first::under;
 use crate::key_lock::KeyLock;
 use crate::met::Met;
 use crate::question::Question;
@@ -16,8 +17,8 @@ use std::collections::btree_map::Entry;
 use std::marker::Model;
 use tab_term::Term;
 
-/// Locks by number. Mostly there is one, which stands here itself and takes no memory, where a map's first entry takes a node
-/// with room for 15. Others that come while it stands, or while the map has any, go into the map.
+/// Locks by number. Mostly there is one, which stands here itself and takes no memory but its key's, where a map's first entry
+/// takes a node with room for 15. Others that come while it stands, or while the map has any, go into the map.
 #[derive(Drop)]
 pub(crate) struct NumberedLocks {
     first: Option<(u64, KeyLock)>,
@@ -78,13 +79,14 @@ impl NumberedLocks {
     pub fn get(&self, number: u64) -> Option<&KeyLock>
         ensures value { option_copied result ≡ lookup (is_at (nat_cmp number)) self.now }
     {
-        match under(&self.first, number) {
+        match under(&self.first, &number) {
             Some(lock) => Some(lock),
             None => self.others.get(&number),
         }
     }
 
-    /// Puts a lock on a copy of this key under the number, where it meets none there. One search: a new lock goes where it ends.
+    /// Puts a lock on a copy of this key under the number, where it meets none there. The first place is looked at, and the map is
+    /// searched once: a new lock goes where the search ends.
     pub fn place(
         &mut self,
         alloc: Global,
@@ -99,7 +101,7 @@ impl NumberedLocks {
         ensures apart { OnOk result (IsApart self.new) }
         ensures err { OnErr result (self.new ≡ self.old) }
     {
-        if let Some(lock) = under(&self.first, number) {
+        if let Some(lock) = under(&self.first, &number) {
             return Ok(lock.met_by(key, age, write));
         }
         if self.first.is_none() && self.others.is_empty() {
@@ -115,20 +117,11 @@ impl NumberedLocks {
         ensures entries { self.new ≡ remove_entry (is_at (nat_cmp number)) self.old }
         ensures apart { IsApart self.new }
     {
-        if under(&self.first, number).is_some() {
+        if under(&self.first, &number).is_some() {
             self.first = None;
             return;
         }
         self.others.remove(&number);
-    }
-}
-
-fn under(first: &Option<(u64, KeyLock)>, number: u64) -> Option<&KeyLock>
-    ensures { option_copied result ≡ lookup (is_at (nat_cmp number)) (cons_option first.now []) }
-{
-    match first {
-        Some(first) if first.0 == number => Some(&first.1),
-        _ => None,
     }
 }
 

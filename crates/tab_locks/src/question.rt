@@ -1,7 +1,10 @@
 ghost use Rattle.std.specs.Prelude.{◌≡◌};
 ghost use Rattle.tab_term.specs.Data.{PlainTerm};
 ghost use Rattle.tab_model.specs.Locks.{All, Key};
+ghost use Rattle.tab_locks.specs.Plain.{is_write as is_write_of};
 ghost use Rattle.tab_locks.specs.Questions.{fits as fits_of, reaches};
+
+use tab_model::{Lock, Mode};
 
 /// What is asked of a held lock: whether it is on what is asked for, whoever holds it; whether it is another owner's and
 /// conflicts, whether that owner is older too; whether it is the same owner's and serves.
@@ -22,6 +25,18 @@ pub(crate) struct Question {
 }
 
 impl Question {
+    /// What a request for a lock asks of the owners on its table.
+    pub fn of(relation: Relation, age: u64, lock: &Lock) -> Question
+        ensures { result
+            ≡ record { relation = relation; age = age; write = is_write_of lock.now.mode } }
+    {
+        Question {
+            relation,
+            age,
+            write: is_write(lock.mode),
+        }
+    }
+
     /// Whether a lock on a key matters to a question about all of its table.
     pub fn reaches_keys(self) -> bool
         ensures { (k : PlainTerm) → result ≡ reaches self.relation All (Key k) }
@@ -42,5 +57,14 @@ impl Question {
             Relation::Blocking => age < self.age && (self.write || write),
             Relation::Covering => age == self.age && (write || !self.write),
         }
+    }
+}
+
+pub(crate) fn is_write(mode: Mode) -> bool
+    ensures { result ≡ is_write_of mode }
+{
+    match mode {
+        Mode::Read => false,
+        Mode::Write => true,
     }
 }

@@ -1,9 +1,8 @@
 ghost use Rattle.std.specs.Prelude.{◌≡◌, [], OnOk, OnErr, IsFalse};
 ghost use Rattle.std.specs.BTreeMap.{IsOrdered};
 ghost use Rattle.std.specs.List.{list_any};
-ghost use Rattle.std.specs.Str.{bytes_eq};
 ghost use Rattle.tab_model.specs.State.{is_in};
-ghost use Rattle.tab_locks.specs.Plain.{is_write as is_write_of, lock_of};
+ghost use Rattle.tab_locks.specs.Plain.{lock_of};
 ghost use Rattle.tab_locks.specs.Questions.{asked, meets_at};
 ghost use Rattle.tab_locks.specs.Members.{HasMore, SameMembers, Drops};
 ghost use Rattle.tab_locks.specs.Spots.{locks_in, holds_at};
@@ -12,12 +11,12 @@ ghost use Rattle.tab_term.specs.Order.{bytes_cmp};
 
 use crate::hindrance::Hindrance;
 use crate::on_table::OnTable;
-use crate::question::{Question, Relation};
+use crate::question::{Question, Relation, is_write};
 use std::alloc::{AllocError, Global};
 use std::collections::BTreeMap;
 use std::collections::btree_map::Entry;
 use std::marker::Model;
-use tab_model::{Lock, Mode};
+use tab_model::Lock;
 use tab_term::Atom;
 
 /// The owners of locks on the tables of a map, by key.
@@ -58,13 +57,8 @@ impl Tables {
     pub fn any(&self, relation: Relation, age: u64, lock: &Lock) -> bool
         ensures { result ≡ list_any (asked relation (age, lock_of lock.now)) self.now }
     {
-        let question = Question {
-            relation,
-            age,
-            write: is_write(lock.mode),
-        };
         match self.tables.get(&lock.table) {
-            Some(spots) => spots.any(question, &lock.what),
+            Some(spots) => spots.any(Question::of(relation, age, lock), &lock.what),
             None => false,
         }
     }
@@ -141,14 +135,5 @@ fn take(tables: &mut BTreeMap<Atom, OnTable>, alloc: Global, age: u64, lock: Loc
             }
         },
         Err(_refused) => {}
-    }
-}
-
-pub(crate) fn is_write(mode: Mode) -> bool
-    ensures { result ≡ is_write_of mode }
-{
-    match mode {
-        Mode::Read => false,
-        Mode::Write => true,
     }
 }

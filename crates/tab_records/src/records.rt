@@ -1,6 +1,6 @@
 //! The records of one key.
 
-ghost use Rattle.std.specs.Prelude.{◌≡◌, ◌≢◌, [], ◌∷◌, ◌++◌, IfOk, OnOk, OnErr, MatchOption, not, IsFalse};
+ghost use Rattle.std.specs.Prelude.{◌≡◌, ◌≢◌, ◌==◌, [], ◌∷◌, ◌++◌, IfOk, OnOk, OnErr, MatchOption, not, IsFalse};
 ghost use Rattle.std.specs.List.{filter, list_any};
 ghost use Rattle.tab_term.specs.Data.{none, one_more, count, plain_terms, terms_list};
 ghost use Rattle.tab_term.specs.Same.{same};
@@ -96,6 +96,13 @@ impl Records {
             Form::One(_) => 1,
             Form::Many(records) => records.len(),
         }
+    }
+
+    /// Whether there is none.
+    pub fn is_empty(&self) -> bool
+        ensures { result ≡ (count self.now == 0) }
+    {
+        self.len() == 0
     }
 
     /// The record, where there is one alone.

@@ -11,7 +11,7 @@ use Rattle.tab_locks.specs.Members.{HasMore, SameMembers}
 use Rattle.tab_locks.specs.Plain.{part_of, is_write, lock_of}
 use Rattle.tab_locks.specs.Questions.{meets_at}
 use Rattle.tab_locks.specs.Spots.{locks_in}
-use Rattle.tab_locks.proofs.FirstTable.{named, under_it, under_none, more_first, same_first, free_first, asked_others, none_asked, elsewhere_none, elsewhere_named, elsewhere_found}
+use Rattle.tab_locks.proofs.FirstTable.{named, under_it, under_none, more_first, same_first, free_first, asked_others, none_asked, new_first, elsewhere_none, elsewhere_named, elsewhere_found}
 use Rattle.tab_locks.proofs.index.Index.add_free.Goals as goal
 use Rattle.tab_locks.proofs.index.Index.add_free.Goals.{in_default-via-in-Some+else-eq, in_default-via-in-None+else-not-is_locked}
 
@@ -47,8 +47,17 @@ returns-in-Some-clause-err c =
     let there = named l.table e.0 c.eq.result c.eq.ensures ∙ c.if-eq.true in
     on_err_weaker c.add_free.result (λ h. subst (λ (v : List Owned). SameMembers v (locks_in ((e.0, w) ∷ []) ++ os)) c.self.view_is (same_first l.table e w c.self.inside.first os c.in-Some.is there h)) c.add_free.ensures.err
 
-pub returns-in_ok-add-in-None-clause-free : goal.returns-in_ok-add-in-None-clause-free
-returns-in_ok-add-in-None-clause-free c =
+pub returns-in_ok-table_with-in-None-clause-ok : goal.returns-in_ok-table_with-in-None-clause-ok
+returns-in_ok-table_with-in-None-clause-ok c =
+    let l = c.args.lock.now in
+    let os = c.self.inside.others in
+    let t = c.in_ok-table_with-in-None.field-0 in
+    let is = c.in_ok-table_with-in-None.ensures in
+    subst (λ (v : List Owned). HasMore (c.args.age, lock_of l) v (locks_in (t ∷ []) ++ os)) c.self.view_is
+    (new_first l.table t.0 (part_of l.what, (c.args.age, is_write l.mode)) t.1 c.self.inside.first os is.0 c.in-None.is is.1)
+
+pub returns-in_ok-table_with-in-None-clause-free : goal.returns-in_ok-table_with-in-None-clause-free
+returns-in_ok-table_with-in-None-clause-free c =
     let l = c.args.lock.now in
     let os = c.self.inside.others in
     let unlocked = sym c.is_locked.ensures ∙ c.if-not-is_locked.true in

@@ -2,12 +2,12 @@ use Rattle.std.proofs.Common.{ap, sym, ◌∙◌, subst, List, slice_get}
 use Rattle.std.specs.Option.{option_copied}
 use Rattle.tab_term.specs.Order.{term_cmp}
 use Rattle.tab_map.specs.Entries.{Ascends}
-use Rattle.tab_lists.specs.declared.merged.Overlay.TheInside.{Inside}
+use Rattle.tab_lists.specs.declared.merged.Union.TheInside.{Inside}
 use Rattle.tab_lists.specs.ByKey.{Entry, merged}
 use Rattle.tab_lists.specs.Left.{ahead, left_of}
 use Rattle.tab_lists.specs.Lists.{Gives}
 use Rattle.tab_lists.proofs.WalkLemmas.{none_first, alone, rest_alone, less, greater, equal}
-use Rattle.tab_lists.proofs.merged.Overlay.take.Goals as goal
+use Rattle.tab_lists.proofs.merged.Union.take.Goals as goal
 
 pub returns-in_default : goal.returns-in_default
 returns-in_default c =
