@@ -28,14 +28,14 @@ use Rattle.tab_model.specs.Alone.{Mid, start, after, replies, back_to, back, nex
 use Rattle.tab_model.specs.Ages.{Answer, Granted, Wait, Die}
 use Rattle.tab_model.specs.Schemas.{is_some_position, bad_parse, create_refusal, remove_refusal, add_refusal, del_refusal, schema_refusal, removed_table}
 use Rattle.tab_model.specs.State.{Transaction, Outbox, Watch, Session, Queued, State, new, session_at, transaction_in, moves_in, replies_in, age_in, transaction_at, request_in, without_request, is_waiting, level_in, mid_of}
-use Rattle.tab_model.specs.Outcome.{Ask, Join, Leave, Retry, Take, DoCommand, Outcome, outcome, step_without_entry, with_transaction, with_queue, with_changed, with_move, ends_transaction, make, begun_anew, by_lock_answer, operate, retry_in, retry, begin, one_shot, abort, after_put, batch_to, end_to, without_deleted, commit, events_now, schema, put_marker, subscribe_refusal, do_command, is_abort, give, leave, step_of_joined, fresh, step_of_stranger, step_of}
+use Rattle.tab_model.specs.declared.ask.Ask.TheVariants.{Join, Leave, Retry, Take, Do as DoCommand}
+use Rattle.tab_model.specs.Outcome.{Ask, Outcome, outcome, step_without_entry, with_transaction, with_queue, with_changed, with_move, ends_transaction, make, begun_anew, by_lock_answer, operate, retry_in, retry, begin, one_shot, abort, after_put, batch_to, end_to, without_deleted, commit, events_now, schema, put_marker, subscribe_refusal, do_command, is_abort, give, leave, step_of_joined, fresh, step_of_stranger, step_of}
 use Rattle.tab_model.proofs.StepCases.{after_move, within_limit, try_again, open_level_1, open_child, commit_at, schema_if, subscribe_refusal_if, subscribe_if, unsubscribe_if, command_if, join_if}
 use Rattle.tab_model.specs.Run.{Call, outcome_of, after_all, entries, log_of, replies_of, AllJoinEmpty}
 use Rattle.tab_model.specs.Log.{IsLegal}
 use Rattle.tab_model.specs.Callers.{Caller, Callers, caller_with_move, caller_anew, AnswerKind, Made, kind_of, after_operation, after_answer, after_begin, caller_after_command, caller_after_step, commit_entry, schema_entry, subscription_entry, entry_of_command, entry_of_step, queue_after_operation, queue_after_answer, queue_after_command, queue_after_step, age_after_begin, age_after_command, age_after_step, AreObserved, Observation, no_observation, entry_of_call, observe, observe_all, observation_of}
 use Rattle.tab_model.proofs.SessionLists.{eq_true, itself, found, session_at-change, session_at-push, session_at-without, session_at-map, mapped}
 use Rattle.tab_model.proofs.OperationAnswers.{answers}
-use Rattle.tab_model.proofs.RefusalLaws.{without-filter}
 use Rattle.tab_model.proofs.Schedules.{schedule_legal, schedule_told}
 use Rattle.tab_model.proofs.SoundSteps.{given_same, unwatched_same}
 
@@ -302,7 +302,7 @@ module _ (σ : State) (s : Session) (k : Caller) (here : session_at σ.sessions 
         (subst (λ (z : Option Operation). Keeps σ s.number (after_answer k R Made z) τ) (sym (waits q asked))
         (made_kept (without_request σ.queue s.number) None t (Do q.operation) reply.Done e (request_in-without σ.queue s.number) (λ p h. cc)));
     entry = refl;
-    queue = ap (λ (z : AnswerKind). queue_after_answer s.number z σ.queue) (is_made (find (mid_of σ t).now (table_of q.operation)) q.operation) ∙ sym (without-filter σ.queue s.number);
+    queue = ap (λ (z : AnswerKind). queue_after_answer s.number z σ.queue) (is_made (find (mid_of σ t).now (table_of q.operation)) q.operation);
     next = refl;
   }
     where
@@ -363,7 +363,7 @@ module _ (σ : State) (s : Session) (k : Caller) (here : session_at σ.sessions 
   abort_observed over r (Some t) e = record {
     keeps = made_kept (without_request σ.queue s.number) None t Undo (reply.UserAbort r) e (request_in-without σ.queue s.number) (λ p h. cc);
     entry = refl;
-    queue = sym (without-filter σ.queue s.number);
+    queue = refl;
     next = refl;
   }
 
@@ -498,7 +498,7 @@ module _ (σ : State) (s : Session) (k : Caller) (here : session_at σ.sessions 
       later = omega arith;
     };
     entry = refl;
-    queue = sym (without-filter σ.queue s.number);
+    queue = refl;
     next = refl;
   }
 

@@ -16,7 +16,8 @@ use Rattle.tab_model.specs.Catalogs.{find}
 use Rattle.tab_model.specs.Ages.{Answer, Granted, Wait, Die}
 use Rattle.tab_model.specs.Schemas.{schema_refusal}
 use Rattle.tab_model.specs.State.{Transaction, Watch, Session, Queued, State, session_at, level_in, mid_of}
-use Rattle.tab_model.specs.Outcome.{Ask, Join, Leave, Retry, Take, DoCommand, Outcome, outcome, with_changed, by_lock_answer, operate, retry_in, retry, begin, one_shot, abort, commit, schema, is_at, put_marker, subscribe_refusal, do_command, give, items_to_take, step_of_joined, step_of_stranger, step_of}
+use Rattle.tab_model.specs.declared.ask.Ask.TheVariants.{Join, Leave, Retry, Take, Do as DoCommand}
+use Rattle.tab_model.specs.Outcome.{Ask, Outcome, outcome, with_changed, by_lock_answer, operate, retry_in, retry, begin, one_shot, abort, commit, schema, is_at, put_marker, subscribe_refusal, do_command, give, items_to_take, step_of_joined, step_of_stranger, step_of}
 use Rattle.tab_model.proofs.StepCases.{within_limit, try_again, open_level_1, open_child, commit_at, schema_if, subscribe_if, unsubscribe_if, command_if, join_if}
 use Rattle.tab_model.specs.Run.{item_of}
 use Rattle.tab_model.specs.Standing.{AreChannels}

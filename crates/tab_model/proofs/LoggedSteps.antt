@@ -41,7 +41,8 @@ use Rattle.tab_model.specs.Log.{catalog_after, serial, has_session, is_removed, 
 use Rattle.tab_model.specs.Slices.{as_batch, shape_at, batch_for, dump_of, end_for, unless_over, expected_items}
 use Rattle.tab_model.specs.State.{Transaction, Outbox, Watch, Session, Queued, State, new, session_at, transaction_in, moves_in, replies_in, age_in, without_request, level_in, without_watch, mid_of, IsSound}
 use Rattle.tab_model.specs.Run.{entries, item_of, delivered_by, JoinsEmpty, IsSessionTied, IsNew}
-use Rattle.tab_model.specs.Outcome.{Ask, Join, Leave, Retry, Take, DoCommand, step_without_entry, with_changed, with_transaction, with_queue, with_items, reply_or, make, by_lock_answer, operate, retry_in, retry, begin, one_shot, abort, after_overflow, after_put, batch_to, commit_now, events_now, commit, without_deleted, end_to, schema_now, schema, table_info, is_at, put_marker, subscribe_refusal, do_command, give, items_to_take, leave, step_of_joined, fresh, step_of_stranger, step_of, outcome}
+use Rattle.tab_model.specs.declared.ask.Ask.TheVariants.{Join, Leave, Retry, Take, Do as DoCommand}
+use Rattle.tab_model.specs.Outcome.{Ask, step_without_entry, with_changed, with_transaction, with_queue, with_items, reply_or, make, by_lock_answer, operate, retry_in, retry, begin, one_shot, abort, after_overflow, after_put, batch_to, commit_now, events_now, commit, without_deleted, end_to, schema_now, schema, table_info, is_at, put_marker, subscribe_refusal, do_command, give, items_to_take, leave, step_of_joined, fresh, step_of_stranger, step_of, outcome}
 use Rattle.tab_model.proofs.StepCases.{within_limit, try_again, open_level_1, open_child, commit_at, schema_if, subscribe_refusal_if, subscribe_if, unsubscribe_if, command_if, join_if}
 use Rattle.tab_model.proofs.SessionLists.{eq_true, differs, differs', itself, found, session_at-push, session_at-without, session_at-map, mapped_some}
 use Rattle.tab_model.proofs.LoggedLemmas.{IsLogged, kept, none_taken, Ties, quiet_tied, Moves, entry_tied, changed_some}
@@ -91,7 +92,7 @@ left_level (x ∷ xs) t u = cases (left_level xs t u) (bytes_eq x.table t) refl 
   where
     cases : level_in (without_watch xs t) u ≡ level_if (not (bytes_eq t u)) (level_in xs u)
         → (a : Bool) → bytes_eq x.table t ≡ a → (b : Bool) → bytes_eq x.table u ≡ b → (c : Bool) → bytes_eq t u ≡ c
-        → level_in (if a then without_watch xs t else x ∷ without_watch xs t) u ≡ level_if (not c) (if b then Some x.level else level_in xs u)
+        → level_in (if not a then x ∷ without_watch xs t else without_watch xs t) u ≡ level_if (not c) (if b then Some x.level else level_in xs u)
     cases ih true e b f true g = ih ∙ ap (λ k. level_if (not k) (level_in xs u)) g
     cases ih true e true f false g = absurd (false≢true (sym g ∙ ap (λ n. bytes_eq n u) (sym (bytes_true x.table t e)) ∙ f))
     cases ih true e false f false g = ih ∙ ap (λ k. level_if (not k) (level_in xs u)) g

@@ -1,5 +1,5 @@
 -- Ages are from 1 on: of open transactions, and of each commit in the log of a schedule.
-use Rattle.std.proofs.Common.{◌≡◌, ℕ, ◌+◌, ◌<◌, List, [], ◌∷◌, ◌++◌, Bool, true, false, refl, sym, ◌∙◌, subst, arith, Option, Some, None}
+use Rattle.std.proofs.Common.{◌≡◌, ℕ, ◌+◌, ◌<◌, List, [], ◌∷◌, ◌++◌, Bool, true, false, not, refl, sym, ◌∙◌, subst, arith, Option, Some, None}
 use Rattle.std.specs.Prelude.{◌==◌, if◌then◌else◌, map}
 use Rattle.tab_term.specs.declared.term.Term.{Term}
 use Rattle.tab_model.specs.declared.data.Operation.{Operation}
@@ -21,7 +21,8 @@ use Rattle.tab_model.specs.Alone.{reply_to}
 use Rattle.tab_model.specs.Since.{HasAge, AllAged}
 use Rattle.tab_model.specs.State.{Transaction, Watch, Session, Queued, State, new, session_at, mid_of}
 use Rattle.tab_model.specs.Reached.{IsAged, AreAged}
-use Rattle.tab_model.specs.Outcome.{Ask, Join, Leave, Retry, Take, DoCommand, Outcome, outcome, with_transaction, with_changed, without_session, ends_transaction, by_lock_answer, operate, retry_in, retry, begin, one_shot, abort, after_put, batch_to, end_to, without_deleted, commit, events_now, schema, put_marker, give, step_of_joined, fresh, step_of_stranger, step_of}
+use Rattle.tab_model.specs.declared.ask.Ask.TheVariants.{Join, Leave, Retry, Take, Do as DoCommand}
+use Rattle.tab_model.specs.Outcome.{Ask, Outcome, outcome, with_transaction, with_changed, without_session, ends_transaction, by_lock_answer, operate, retry_in, retry, begin, one_shot, abort, after_put, batch_to, end_to, without_deleted, commit, events_now, schema, put_marker, give, step_of_joined, fresh, step_of_stranger, step_of}
 use Rattle.tab_model.proofs.StepCases.{after_move, within_limit, try_again, open_level_1, open_child, commit_at, schema_if, subscribe_if, unsubscribe_if, command_if, join_if}
 use Rattle.tab_model.specs.Run.{Call, outcome_of, entries, log_of}
 use Rattle.tab_model.proofs.SoundSteps.{given_same, unwatched_same}
@@ -50,7 +51,7 @@ aged_without : (sessions : List Session) (n : ℕ) → AreAged sessions → AreA
 aged_without [] n h = tt
 aged_without (x ∷ xs) n h = cases (x.number == n) (aged_without xs n h.1)
   where
-    cases : (b : Bool) → AreAged (without_session xs n) → AreAged (if b then without_session xs n else x ∷ without_session xs n)
+    cases : (b : Bool) → AreAged (without_session xs n) → AreAged (if not b then x ∷ without_session xs n else without_session xs n)
     cases true r = r
     cases false r = (h.0, r)
 

@@ -16,7 +16,8 @@ use Rattle.tab_model.specs.Locks.{needs}
 use Rattle.tab_model.specs.Log.{has_session}
 use Rattle.tab_model.specs.Schemas.{table_of_schema, schema_refusal, removed_table}
 use Rattle.tab_model.specs.State.{AreDistinct, IsSound, Outbox, Transaction, Watch, Session, Queued, State, session_at, request_in, is_waiting, ages_of, is_busy, level_in, mid_of, count_moves}
-use Rattle.tab_model.specs.Outcome.{Ask, Join, Leave, Retry, Take, DoCommand, Outcome, outcome, is_empty, with_changed, without_session, by_lock_answer, operate, retry_in, retry, begin, one_shot, abort, after_overflow, with_items, items_to_take, after_put, batch_to, commit, events_now, without_deleted, end_to, has_room, schema, put_marker, subscribe_refusal, is_at, do_command, is_abort, give, step_of_stranger, step_of_joined, step_of}
+use Rattle.tab_model.specs.declared.ask.Ask.TheVariants.{Join, Leave, Retry, Take, Do as DoCommand}
+use Rattle.tab_model.specs.Outcome.{Ask, Outcome, outcome, is_empty, with_changed, without_session, by_lock_answer, operate, retry_in, retry, begin, one_shot, abort, after_overflow, with_items, items_to_take, after_put, batch_to, commit, events_now, without_deleted, end_to, has_room, schema, put_marker, subscribe_refusal, is_at, do_command, is_abort, give, step_of_stranger, step_of_joined, step_of}
 use Rattle.tab_model.proofs.StepCases.{within_limit, try_again, open_level_1, open_child, commit_at, schema_if, subscribe_if, unsubscribe_if, command_if, join_if}
 use Rattle.std.proofs.lemmas.Bool.Decides.{nat_tests}
 use Rattle.tab_model.proofs.SessionLists.{eq_true, itself, found}
@@ -64,7 +65,7 @@ module _ (P : ℕ → Option ℕ → Option ℕ → Type 0) where
   removes [] k n = tt
   removes (x ∷ ss) k n = by (x.number == n) (removes ss k.1 n)
     where
-      by : (b : Bool) → AllHave (without_session ss n) → AllHave (if b then without_session ss n else x ∷ without_session ss n)
+      by : (b : Bool) → AllHave (without_session ss n) → AllHave (if not b then x ∷ without_session ss n else without_session ss n)
       by true rest = rest
       by false rest = (k.0, rest)
 

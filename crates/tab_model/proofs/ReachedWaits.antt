@@ -24,7 +24,8 @@ use Rattle.tab_model.specs.Ages.{Owned, Answer, Granted, Wait, Die, blocks, deci
 use Rattle.tab_model.specs.Schemas.{removed_table}
 use Rattle.tab_model.specs.State.{Transaction, Outbox, Watch, Session, Queued, State, new, session_at, transaction_in, transaction_at, request_in, without_request, is_waiting, with_age, locks_held_by, locks_held_in, locks_queued_in, ages_of, OwnedBy, HasAge, IsSound}
 use Rattle.tab_model.specs.Reached.{IsRising}
-use Rattle.tab_model.specs.Outcome.{Ask, Join, Leave, Retry, Take, DoCommand, outcome, with_transaction, with_queue, with_changed, without_session, make, begun_anew, by_lock_answer, operate, retry_in, retry, begin, one_shot, abort, after_put, batch_to, end_to, without_deleted, commit, events_now, schema, put_marker, is_abort, do_command, give, leave, step_of_joined, fresh, step_of_stranger, step_of}
+use Rattle.tab_model.specs.declared.ask.Ask.TheVariants.{Join, Leave, Retry, Take, Do as DoCommand}
+use Rattle.tab_model.specs.Outcome.{Ask, outcome, with_transaction, with_queue, with_changed, without_session, make, begun_anew, by_lock_answer, operate, retry_in, retry, begin, one_shot, abort, after_put, batch_to, end_to, without_deleted, commit, events_now, schema, put_marker, is_abort, do_command, give, leave, step_of_joined, fresh, step_of_stranger, step_of}
 use Rattle.tab_model.proofs.StepCases.{after_move, within_limit, try_again, open_level_1, open_child, commit_at, schema_if, subscribe_if, unsubscribe_if, command_if, join_if}
 use Rattle.tab_model.specs.Run.{Call, outcome_of, after_all}
 use Rattle.tab_model.proofs.SessionLists.{eq_true, found, session_at-push, session_at-without}
@@ -59,7 +60,7 @@ fewer_queue n held earlier earlier' (q ∷ qs) f h = cases (q.session == n)
     x : Owned
     x = (q.age, needs q.operation)
 
-    cases : (b : Bool) → RisesAfter held earlier' (locks_queued_in (without_request qs n)) → RisesAfter held (earlier' ++ x ∷ []) (locks_queued_in (without_request qs n)) → RisesAfter held earlier' (locks_queued_in (if b then without_request qs n else q ∷ without_request qs n))
+    cases : (b : Bool) → RisesAfter held earlier' (locks_queued_in (without_request qs n)) → RisesAfter held (earlier' ++ x ∷ []) (locks_queued_in (without_request qs n)) → RisesAfter held earlier' (locks_queued_in (if not b then q ∷ without_request qs n else without_request qs n))
     cases true g k = g
     cases false g k = (h.0, f (blocks x) h.1, k)
 
@@ -77,7 +78,7 @@ pub owned_without : (f g : ℕ → Option Transaction) (n : ℕ) (qs : List Queu
 owned_without f g n [] h o = tt
 owned_without f g n (q ∷ qs) h o = cases (q.session == n) refl (owned_without f g n qs h o.1)
   where
-    cases : (b : Bool) → (q.session == n) ≡ b → OwnedBy g (without_request qs n) → OwnedBy g (if b then without_request qs n else q ∷ without_request qs n)
+    cases : (b : Bool) → (q.session == n) ≡ b → OwnedBy g (without_request qs n) → OwnedBy g (if not b then q ∷ without_request qs n else without_request qs n)
     cases true e ih = ih
     cases false e ih = (subst (λ (t : Option Transaction). HasAge t q.age) (sym (h q.session e)) o.0, ih)
 
@@ -92,9 +93,9 @@ Match n a (q ∷ qs) = ((q.session == n) ≡ (q.age == a)) × Match n a qs
 
 pub without_match : (n a : ℕ) (qs : List Queued) → Match n a qs → locks_queued_in (without_request qs n) ≡ without a (locks_queued_in qs)
 without_match n a [] m = refl
-without_match n a (q ∷ qs) m = ap (λ b. locks_queued_in (if b then without_request qs n else q ∷ without_request qs n)) m.0 ∙ cases (q.age == a) (without_match n a qs m.1)
+without_match n a (q ∷ qs) m = ap (λ b. locks_queued_in (if not b then q ∷ without_request qs n else without_request qs n)) m.0 ∙ cases (q.age == a) (without_match n a qs m.1)
   where
-    cases : (b : Bool) → locks_queued_in (without_request qs n) ≡ without a (locks_queued_in qs) → locks_queued_in (if b then without_request qs n else q ∷ without_request qs n) ≡ (if b then without a (locks_queued_in qs) else (q.age, needs q.operation) ∷ without a (locks_queued_in qs))
+    cases : (b : Bool) → locks_queued_in (without_request qs n) ≡ without a (locks_queued_in qs) → locks_queued_in (if not b then q ∷ without_request qs n else without_request qs n) ≡ (if not b then (q.age, needs q.operation) ∷ without a (locks_queued_in qs) else without a (locks_queued_in qs))
     cases true ih = ih
     cases false ih = ap (λ xs. (q.age, needs q.operation) ∷ xs) ih
 
@@ -152,7 +153,7 @@ held_without p (y ∷ sessions) n h =
     let q = or_parts (list_any p (locks_held_by y.transaction)) (list_any p (locks_held_in sessions)) (sym (list_any-append p (locks_held_by y.transaction) (locks_held_in sessions)) ∙ h) in
     cases (y.number == n) q.0 (held_without p sessions n q.1)
   where
-    cases : (b : Bool) → list_any p (locks_held_by y.transaction) ≡ false → list_any p (locks_held_in (without_session sessions n)) ≡ false → list_any p (locks_held_in (if b then without_session sessions n else y ∷ without_session sessions n)) ≡ false
+    cases : (b : Bool) → list_any p (locks_held_by y.transaction) ≡ false → list_any p (locks_held_in (without_session sessions n)) ≡ false → list_any p (locks_held_in (if not b then y ∷ without_session sessions n else without_session sessions n)) ≡ false
     cases true a ih = ih
     cases false a ih = list_any-append p (locks_held_by y.transaction) (locks_held_in (without_session sessions n)) ∙ (λ i. a i || ih i)
 

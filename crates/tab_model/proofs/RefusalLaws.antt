@@ -32,7 +32,8 @@ use Rattle.tab_model.proofs.SurvivorsRight.{reply_tells}
 use Rattle.tab_model.specs.Schemas.{is_some_position, bad_parse, create_refusal, remove_refusal, add_refusal, del_refusal, schema_refusal}
 use Rattle.tab_model.specs.Ages.{Answer, Granted, Wait, Die}
 use Rattle.tab_model.specs.State.{Transaction, Outbox, Watch, Session, Queued, State, session_at, mid_of, level_in, without_request, request_in, is_waiting, transaction_at, transaction_in}
-use Rattle.tab_model.specs.Outcome.{Ask, Join, Leave, Retry, Take, DoCommand, Outcome, outcome, step_without_entry, with_queue, with_transaction, with_changed, ends_transaction, is_empty, make, reply_or, by_lock_answer, operate, retry_in, retry, begin, one_shot, abort, commit, schema, table_info, put_marker, subscribe_refusal, do_command, give, step_of_joined, step_of_stranger, step_of}
+use Rattle.tab_model.specs.declared.ask.Ask.TheVariants.{Join, Leave, Retry, Take, Do as DoCommand}
+use Rattle.tab_model.specs.Outcome.{Ask, Outcome, outcome, step_without_entry, with_queue, with_transaction, with_changed, ends_transaction, is_empty, make, reply_or, by_lock_answer, operate, retry_in, retry, begin, one_shot, abort, commit, schema, table_info, put_marker, subscribe_refusal, do_command, give, step_of_joined, step_of_stranger, step_of}
 use Rattle.tab_model.proofs.StepCases.{after_move, within_limit, try_again, open_level_1, open_child, commit_at, schema_if, subscribe_refusal_if, subscribe_if, unsubscribe_if, command_if, join_if}
 use Rattle.tab_model.specs.Refusals.{EffectOfReply, AsBefore, Counted, Queues, Emptied, Changes, effect_of_reply, with_count, queued_for, request_of_ask, with_requests, transaction_anew, with_restart, IsRestart, EndsLevel}
 
@@ -298,21 +299,12 @@ pub after-more : (m : Mid) (xs : List Move) (x : Move) → after m (xs ++ x ∷ 
 after-more m [] x = refl
 after-more m (y ∷ xs) x = after-more (next m y) xs x
 
--- a session's requests go, the others' stay in their order
-pub without-filter : (qs : List Queued) (n : ℕ) → without_request qs n ≡ filter (λ q. not (q.session == n)) qs
-without-filter [] n = refl
-without-filter (q ∷ qs) n = cases (q.session == n) (without-filter qs n)
-  where
-    cases : (b : Bool) → without_request qs n ≡ filter (λ q. not (q.session == n)) qs → (if b then without_request qs n else q ∷ without_request qs n) ≡ (if not b then q ∷ filter (λ q. not (q.session == n)) qs else filter (λ q. not (q.session == n)) qs)
-    cases true ih = ih
-    cases false ih = ap (λ xs. q ∷ xs) ih
-
 -- a request that doesn't wait isn't in the queue
 pub none_queued : (qs : List Queued) (n : ℕ) → is_some (request_in qs n) ≡ false → without_request qs n ≡ qs
 none_queued [] n e = refl
 none_queued (q ∷ qs) n e = cases (q.session == n) e (none_queued qs n)
   where
-    cases : (b : Bool) → is_some (if b then Some q else request_in qs n) ≡ false → (is_some (request_in qs n) ≡ false → without_request qs n ≡ qs) → (if b then without_request qs n else q ∷ without_request qs n) ≡ q ∷ qs
+    cases : (b : Bool) → is_some (if b then Some q else request_in qs n) ≡ false → (is_some (request_in qs n) ≡ false → without_request qs n ≡ qs) → (if not b then q ∷ without_request qs n else without_request qs n) ≡ q ∷ qs
     cases true h ih = cc
     cases false h ih = ap (λ xs. q ∷ xs) (ih h)
 
@@ -345,7 +337,7 @@ level_ended σ τ n s t x r here is gone ended = subst (λ (υ : State). EndsLev
       locks = locks-more t.moves x ∙ ap (λ ls. locks_of t.moves ++ ls) (sym (locks-more [] x));
       slot = own;
       others = λ m other. other_sessions σ.sessions s n m then_is here other;
-      queue = without-filter σ.queue n;
+      queue = refl;
       next_age = refl;
       commits = refl;
       greatest = refl;

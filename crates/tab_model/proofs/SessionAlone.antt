@@ -28,7 +28,8 @@ use Rattle.tab_model.specs.Ages.{Owned, Answer, Granted, Wait, Die, opposes, dec
 use Rattle.tab_model.specs.Log.{has_session}
 use Rattle.tab_model.specs.Schemas.{is_some_position, bad_parse, create_refusal, remove_refusal, add_refusal, del_refusal, schema_refusal, removed_table}
 use Rattle.tab_model.specs.State.{Transaction, Outbox, Watch, Session, Queued, State, session_at, with_age, locks_held_by, mid_of, level_in, request_in}
-use Rattle.tab_model.specs.Outcome.{Ask, Join, Leave, Retry, Take, DoCommand, Outcome, outcome, step_without_entry, with_transaction, with_changed, without_session, make, by_lock_answer, operate, retry, begin, one_shot, abort, after_put, commit, without_deleted, end_to, batch_to, events_now, schema, table_info, put_marker, subscribe_refusal, do_command, give, step_of_joined, step_of_stranger, step_of}
+use Rattle.tab_model.specs.declared.ask.Ask.TheVariants.{Join, Leave, Retry, Take, Do as DoCommand}
+use Rattle.tab_model.specs.Outcome.{Ask, Outcome, outcome, step_without_entry, with_transaction, with_changed, without_session, make, by_lock_answer, operate, retry, begin, one_shot, abort, after_put, commit, without_deleted, end_to, batch_to, events_now, schema, table_info, put_marker, subscribe_refusal, do_command, give, step_of_joined, step_of_stranger, step_of}
 use Rattle.tab_model.proofs.StepCases.{within_limit, open_level_1, open_child, commit_at, schema_if, subscribe_refusal_if, subscribe_if, unsubscribe_if, command_if, join_if}
 use Rattle.tab_model.specs.Refusals.{EffectOfReply, Changes, Queues, Emptied, effect_of_reply, IsOnlySession, IsSole}
 use Rattle.tab_model.proofs.RefusalLaws.{move_answers}
@@ -68,7 +69,7 @@ without_sole : (n : ℕ) (xs : List Session) (m : ℕ) → IsOnlySession n xs �
 without_sole n [] m h = tt
 without_sole n (x ∷ []) m h = cases (x.number == m)
   where
-    cases : (b : Bool) → IsOnlySession n (if b then [] else x ∷ [])
+    cases : (b : Bool) → IsOnlySession n (if not b then x ∷ [] else [])
     cases true = tt
     cases false = h
 without_sole n (x ∷ y ∷ xs) m h = absurd h

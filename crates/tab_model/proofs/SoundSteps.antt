@@ -25,7 +25,8 @@ use Rattle.tab_model.specs.Ages.{Answer, Granted, Wait, Die, opposes, decide, be
 use Rattle.tab_model.specs.Schemas.{table_of_schema, schema_effect, removed_table}
 use Rattle.tab_model.specs.Log.{has_session}
 use Rattle.tab_model.specs.State.{Transaction, Outbox, Watch, Session, Queued, State, session_at, transaction_in, moves_in, replies_in, age_in, transaction_at, moves_at, age_at, locks_held_by, locks_held_in, locks_queued_in, ages_of, is_in, is_busy, without_request, mid_of, IsSound}
-use Rattle.tab_model.specs.Outcome.{Ask, Join, Leave, Retry, Take, DoCommand, with_changed, without_session, with_transaction, with_session, with_queue, with_move, ends_transaction, make, begun_anew, by_lock_answer, operate, retry_in, retry, begin, one_shot, abort, after_put, after_overflow, with_items, batch_to, commit_now, events_now, commit, without_deleted, end_to, schema_now, schema, put_marker, do_command, give, leave, step_of_joined, fresh, step_of_stranger, step_of, outcome}
+use Rattle.tab_model.specs.declared.ask.Ask.TheVariants.{Join, Leave, Retry, Take, Do as DoCommand}
+use Rattle.tab_model.specs.Outcome.{Ask, with_changed, without_session, with_transaction, with_session, with_queue, with_move, ends_transaction, make, begun_anew, by_lock_answer, operate, retry_in, retry, begin, one_shot, abort, after_put, after_overflow, with_items, batch_to, commit_now, events_now, commit, without_deleted, end_to, schema_now, schema, put_marker, do_command, give, leave, step_of_joined, fresh, step_of_stranger, step_of, outcome}
 use Rattle.tab_model.proofs.StepCases.{after_move, within_limit, try_again, open_level_1, open_child, commit_at, schema_if, subscribe_if, unsubscribe_if, command_if, join_if}
 use Rattle.tab_model.proofs.SessionLists.{other_number, found, session_at-change, session_at-push, session_at-without, session_at-map, mapped}
 use Rattle.tab_model.proofs.LocksApart.{stays}

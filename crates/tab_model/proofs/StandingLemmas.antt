@@ -13,7 +13,8 @@ use Rattle.tab_model.specs.Log.{catalog_after, serial, serial_from, level_after,
 use Rattle.tab_model.specs.Slices.{dump_of, expected_on, expected_items, slice_after, slice}
 use Rattle.tab_model.specs.History.{Base, empty, level_at, in_force_since, expected_since, slice_since_after, slice_since, IsHistory, after_fold, Admits, without_subscriber}
 use Rattle.tab_model.specs.State.{Session, State, new, session_at, level_in, IsSound}
-use Rattle.tab_model.specs.Outcome.{Ask, Join, Leave, Retry, Take, DoCommand, step_of, without_session, outcome}
+use Rattle.tab_model.specs.declared.ask.Ask.TheVariants.{Join, Leave, Retry, Take, Do as DoCommand}
+use Rattle.tab_model.specs.Outcome.{Ask, step_of, without_session, outcome}
 use Rattle.tab_model.specs.Run.{entries, item_of, JoinsEmpty, IsTied}
 use Rattle.tab_model.specs.Standing.{JoinsChannel, is_joined, MayFollow, FollowsLog, still_joined}
 use Rattle.tab_model.proofs.SessionLists.{other_number, found, itself, session_at-without, serial_more, in_force_more, commits-push}

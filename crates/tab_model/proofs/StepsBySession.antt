@@ -263,7 +263,7 @@ pub distinct-without : (sessions : List Session) (n : ℕ) → AreDistinct sessi
 distinct-without [] n d = tt
 distinct-without (x ∷ xs) n d = cases (distinct-without xs n d.1) (x.number == n)
   where
-    cases : AreDistinct (without_session xs n) → (b : Bool) → AreDistinct (if b then without_session xs n else x ∷ without_session xs n)
+    cases : AreDistinct (without_session xs n) → (b : Bool) → AreDistinct (if not b then x ∷ without_session xs n else without_session xs n)
     cases ih true = ih
     cases ih false = (without_none xs n x.number d.0, ih)
 

@@ -17,7 +17,8 @@ use Rattle.tab_model.specs.Ages.{Answer, Granted, Wait, Die}
 use Rattle.tab_model.specs.Log.{catalog_after, serial, serial_from}
 use Rattle.tab_model.specs.Since.{changes_on, IsInForceSince, WasInForce, AllWereInForce, AllAged, RowsSince}
 use Rattle.tab_model.specs.State.{Transaction, Watch, Session, Queued, State, session_at, level_in}
-use Rattle.tab_model.specs.Outcome.{Ask, Join, Leave, Retry, Take, DoCommand, outcome, by_lock_answer, operate, retry_in, retry, begin, one_shot, abort, commit, schema, put_marker, subscribe_refusal, give, step_of_joined, step_of_stranger, step_of}
+use Rattle.tab_model.specs.declared.ask.Ask.TheVariants.{Join, Leave, Retry, Take, Do as DoCommand}
+use Rattle.tab_model.specs.Outcome.{Ask, outcome, by_lock_answer, operate, retry_in, retry, begin, one_shot, abort, commit, schema, put_marker, subscribe_refusal, give, step_of_joined, step_of_stranger, step_of}
 use Rattle.tab_model.proofs.StepCases.{within_limit, try_again, open_level_1, open_child, commit_at, schema_if, subscribe_refusal_if, subscribe_if, unsubscribe_if, command_if, join_if}
 use Rattle.tab_model.specs.Run.{entries}
 use Rattle.tab_model.proofs.EventsGiveTheRows.{since_applies, dump_applies}

@@ -13,7 +13,8 @@ use Rattle.tab_model.specs.Log.{commits_from}
 use Rattle.tab_model.specs.State.{Outbox, Queued}
 use Rattle.tab_model.specs.Run.{entries}
 use Rattle.tab_model.proofs.CallersLemmas.{same_if}
-use Rattle.tab_model.specs.Outcome.{Ask, Join, Leave, Retry, Take, DoCommand}
+use Rattle.tab_model.specs.declared.ask.Ask.TheVariants.{Join, Leave, Retry, Take, Do as DoCommand}
+use Rattle.tab_model.specs.Outcome.{Ask}
 use Rattle.tab_model.specs.Callers.{Caller, AnswerKind, NotMade, kind_of, after_operation, after_answer, after_begin, after_close, after_undo, caller_after_step, caller_after_command, commit_entry, schema_entry, subscription_entry, entry_of_command, entry_of_step, queue_after_operation, queue_after_answer, queue_after_abort, queue_after_leave, queue_after_command, queue_after_step, age_after_begin, age_after_command, age_after_step, Post, post_after_join, post_after_take, post_after_marker, post_after_command, post_after_answer, IsUnobserved, post_after_step, entry_of_call, observe}
 
 -- a reply that is none of those that tell something

@@ -18,7 +18,8 @@ use Rattle.tab_model.specs.Ages.{Answer, Granted, Wait, Die}
 use Rattle.tab_model.specs.Schemas.{removed_table}
 use Rattle.tab_model.specs.Slices.{slice}
 use Rattle.tab_model.specs.State.{Transaction, Outbox, Watch, Session, Queued, State, new, session_at}
-use Rattle.tab_model.specs.Outcome.{Ask, Join, Leave, Retry, Take, DoCommand, outcome, with_transaction, with_changed, make, by_lock_answer, operate, retry_in, retry, begin, one_shot, abort, after_put, batch_to, end_to, without_deleted, commit, events_now, schema, put_marker, do_command, give, step_of_joined, fresh, step_of_stranger, step_of}
+use Rattle.tab_model.specs.declared.ask.Ask.TheVariants.{Join, Leave, Retry, Take, Do as DoCommand}
+use Rattle.tab_model.specs.Outcome.{Ask, outcome, with_transaction, with_changed, make, by_lock_answer, operate, retry_in, retry, begin, one_shot, abort, after_put, batch_to, end_to, without_deleted, commit, events_now, schema, put_marker, do_command, give, step_of_joined, fresh, step_of_stranger, step_of}
 use Rattle.tab_model.proofs.StepCases.{within_limit, try_again, open_level_1, open_child, commit_at, schema_if, subscribe_if, unsubscribe_if, command_if, join_if}
 use Rattle.tab_model.specs.Run.{Call, outcome_of, after_all, log_of, delivered_by, delivered_to, item_of, AllJoinEmpty, Begins, leave_call}
 use Rattle.tab_model.proofs.SessionLists.{eq_true, found, session_at-map, mapped, session_at-without, itself}

@@ -22,7 +22,8 @@ use Rattle.tab_model.specs.declared.data.Change.TheVariants as change
 use Rattle.tab_model.specs.Shapes.{tid, five, term_value, change_of}
 use Rattle.tab_model.specs.declared.data.Entry.TheVariants.{Changed, Subscribed}
 use Rattle.tab_model.specs.Log.{in_force}
-use Rattle.tab_model.specs.Outcome.{outcome, Retry, Leave, DoCommand}
+use Rattle.tab_model.specs.declared.ask.Ask.TheVariants.{Retry, Leave, Do as DoCommand}
+use Rattle.tab_model.specs.Outcome.{outcome}
 use Rattle.tab_model.specs.Run.{Call, replies_of}
 use Rattle.tab_model.specs.Callers.{no_observation, observe_all}
 use Rattle.tab_model.proofs.WorkedFixtures.{num, record_of, rec, joins, joins_with, creates, call, call_over, does, begins, commits, writes, reads, subscribes, takes, told_in, bag}

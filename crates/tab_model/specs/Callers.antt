@@ -15,7 +15,8 @@ use Rattle.tab_model.specs.declared.data.Entry.{Entry}
 use Rattle.tab_model.specs.declared.data.Entry.TheVariants.{Committed, Changed, Subscribed, Unsubscribed}
 use Rattle.tab_model.specs.Log.{has_session, commits_from}
 use Rattle.tab_model.specs.State.{Transaction, Outbox, Queued, Session, State, new, session_at, transaction_at, request_in}
-use Rattle.tab_model.specs.Outcome.{Ask, Join, Leave, Retry, Take, DoCommand}
+use Rattle.tab_model.specs.declared.ask.Ask.TheVariants.{Join, Leave, Retry, Take, Do as DoCommand}
+use Rattle.tab_model.specs.Outcome.{Ask}
 use Rattle.tab_model.specs.Run.{Call, entries, replies_of}
 
 -- what a session's caller knows: the moves of its last transaction since its begin or its last restart, with their replies, and

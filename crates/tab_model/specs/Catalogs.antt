@@ -1,5 +1,5 @@
 -- All tables, in the order of their names' bytes (the order is this project's own rule).
-use Rattle.std.specs.Prelude.{◌≡◌, ℕ, List, [], ◌∷◌, true, if◌then◌else◌, Option, Some, None}
+use Rattle.std.specs.Prelude.{◌≡◌, ℕ, List, [], ◌∷◌, true, if◌then◌else◌, Option, Some, None, find as first_of}
 use Rattle.std.specs.Str.{bytes_eq}
 use Rattle.tab_term.specs.Data.{PlainTerm}
 use Rattle.tab_model.specs.declared.data.TableDef.{TableDef}
@@ -21,8 +21,7 @@ name_of t = t.def.name
 
 -- the table of a name
 abbrev pub find : Catalog → List ℕ → Option Table
-find [] n = None
-find (t ∷ w) n = if bytes_eq (name_of t) n then Some t else find w n
+find w n = first_of (λ t. bytes_eq (name_of t) n) w
 
 -- in place of the table of that name, or where its name stands in order
 abbrev pub place : Catalog → Table → Catalog

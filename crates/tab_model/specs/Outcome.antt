@@ -2,8 +2,10 @@
 -- request or refused for memory is no step. The order of the checks, the refusals, the numbers of commits, the outboxes and
 -- their overflow are this project's own rules; transactions, locks and subscriptions follow the Mnesia User's Guide,
 -- "Transactions and Other Access Contexts" and "Mnesia Event Handling".
-use Rattle.std.specs.Prelude.{ℕ, suc, ◌+◌, ◌-◌, ◌^◌, min, List, [], ◌∷◌, ◌++◌, Bool, true, false, not, ◌&&◌, ◌==◌, nat_lt, nat_le, if◌then◌else◌, Option, Some, None, is_some, map, length}
+use Rattle.std.specs.Prelude.{ℕ, suc, ◌+◌, ◌-◌, ◌^◌, min, List, [], ◌∷◌, ◌++◌, Bool, true, false, not, ◌&&◌, ◌==◌, nat_lt, nat_le, if◌then◌else◌, Option, Some, None, is_some, map, length, filter}
 use Rattle.tab_term.specs.declared.term.Term.{Term}
+use Rattle.tab_model.specs.declared.ask.Ask.{Ask as AskWith}
+use Rattle.tab_model.specs.declared.ask.Ask.TheVariants.{Join, Leave, Retry, Take, Do as DoCommand}
 use Rattle.tab_model.specs.declared.data.Operation.{Operation}
 use Rattle.tab_model.specs.declared.data.Move.{Move}
 use Rattle.tab_model.specs.declared.data.Move.TheVariants.{Do, Open, Close, Undo}
@@ -37,11 +39,9 @@ use Rattle.tab_model.specs.Log.{has_session}
 use Rattle.tab_model.specs.Slices.{batch_for, end_for, dump_of}
 use Rattle.tab_model.specs.State.{Transaction, Outbox, Watch, Session, Queued, State, session_at, request_in, without_request, is_waiting, ages_of, is_busy, level_in, without_watch, count_moves, mid_of}
 
--- what a session asks
-pub data Ask : Type 0 where
-  Join : Outbox → Ask
-  Leave Retry Take : Ask
-  DoCommand : Command → Ask
+-- what a session asks, who joins with an outbox
+abbrev pub Ask : Type 0
+Ask = AskWith Outbox
 
 -- what a step comes to: the state after it, its reply, and the entry that it adds to the log, if it adds one
 pub record Outcome : Type 0 where
@@ -82,8 +82,7 @@ with_changed (x ∷ xs) s = if x.number == s.number then s ∷ xs else x ∷ wit
 
 -- the sessions without that of a number, the others in their order
 abbrev pub without_session : List Session → ℕ → List Session
-without_session [] n = []
-without_session (x ∷ xs) n = if x.number == n then without_session xs n else x ∷ without_session xs n
+without_session xs n = filter (λ x. not (x.number == n)) xs
 
 -- the session with this transaction open, or with none, and all else as it was
 abbrev pub with_transaction : Session → Option Transaction → Session

@@ -9,7 +9,8 @@ use Rattle.tab_model.specs.declared.data.Move.{Move}
 use Rattle.tab_model.specs.Alone.{start, after, back}
 use Rattle.tab_model.specs.Locks.{locks_of}
 use Rattle.tab_model.specs.State.{Transaction, Session, Queued, State, session_at, transaction_in, transaction_at, mid_of}
-use Rattle.tab_model.specs.Outcome.{Ask, DoCommand, outcome, with_transaction, with_session, with_queue, with_refusal, begun_anew, with_move, is_empty}
+use Rattle.tab_model.specs.declared.ask.Ask.TheVariants.{Do as DoCommand}
+use Rattle.tab_model.specs.Outcome.{Ask, outcome, with_transaction, with_session, with_queue, with_refusal, begun_anew, with_move, is_empty}
 
 -- what a reply says of the state after it (this project's own rule, but for a restart: Mnesia User's Guide,
 -- "Locking"): as before; as before but for the post's count of refusals; one request more in the queue; the

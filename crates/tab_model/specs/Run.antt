@@ -16,7 +16,8 @@ use Rattle.tab_model.specs.Since.{AllWereInForce, AllAged, RowsSince}
 use Rattle.tab_model.specs.Catalogs.{rows_of}
 use Rattle.tab_model.specs.State.{Transaction, Session, State, session_at, is_waiting, is_busy, level_in, mid_of}
 use Rattle.tab_model.specs.Reached.{AreAged}
-use Rattle.tab_model.specs.Outcome.{Ask, Join, Leave, Retry, Take, DoCommand, Outcome, outcome, is_empty, batch_to, end_to, events_now, subscribe_refusal, is_at}
+use Rattle.tab_model.specs.declared.ask.Ask.TheVariants.{Join, Leave, Retry, Take, Do as DoCommand}
+use Rattle.tab_model.specs.Outcome.{Ask, Outcome, outcome, is_empty, batch_to, end_to, events_now, subscribe_refusal, is_at}
 
 -- those whose posts are handed an item in a step
 -- who watches what an outermost commit changes; none by a child's

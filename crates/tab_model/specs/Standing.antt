@@ -8,7 +8,8 @@ use Rattle.tab_model.specs.declared.data.Entry.TheVariants.{Committed, Changed, 
 use Rattle.tab_model.specs.Log.{serial, in_force, commits_from}
 use Rattle.tab_model.specs.History.{Base, level_at}
 use Rattle.tab_model.specs.State.{Transaction, State, session_at, transaction_at, mid_of}
-use Rattle.tab_model.specs.Outcome.{Ask, Join, Leave, Retry, Take, DoCommand}
+use Rattle.tab_model.specs.declared.ask.Ask.TheVariants.{Join, Leave, Retry, Take, Do as DoCommand}
+use Rattle.tab_model.specs.Outcome.{Ask}
 use Rattle.tab_model.specs.Run.{IsTied}
 
 -- all posts are channels', which take nothing back

@@ -1,5 +1,5 @@
 -- What a core is, as plain data (this project's own).
-use Rattle.std.specs.Prelude.{◌≡◌, ◌≢◌, ◌<◌, ◌≤◌, ℕ, suc, List, [], ◌∷◌, ◌++◌, Bool, ◌==◌, if◌then◌else◌, Option, Some, None, is_some}
+use Rattle.std.specs.Prelude.{◌≡◌, ◌≢◌, ◌<◌, ◌≤◌, ℕ, suc, List, [], ◌∷◌, ◌++◌, Bool, not, ◌==◌, if◌then◌else◌, Option, Some, None, is_some, find, filter}
 use Rattle.std.specs.List.{list_any}
 use Rattle.std.specs.Str.{bytes_eq}
 use Rattle.tab_model.specs.declared.data.Operation.{Operation}
@@ -65,8 +65,7 @@ new limits = record { tables = []; sessions = []; queue = []; next_age = 1; comm
 
 -- the session of a number, where it is joined
 abbrev pub session_at : List Session → ℕ → Option Session
-session_at [] n = None
-session_at (s ∷ sessions) n = if s.number == n then Some s else session_at sessions n
+session_at sessions n = find (λ s. s.number == n) sessions
 
 -- the moves of an open transaction; empty where none is open
 abbrev pub moves_in : Option Transaction → List Move
@@ -106,13 +105,11 @@ age_at σ n = age_in (transaction_at σ n)
 
 -- a session's first request in the queue, where it has one
 abbrev pub request_in : List Queued → ℕ → Option Queued
-request_in [] n = None
-request_in (q ∷ qs) n = if q.session == n then Some q else request_in qs n
+request_in qs n = find (λ q. q.session == n) qs
 
 -- the queue without a session's requests, the others in their order
 abbrev pub without_request : List Queued → ℕ → List Queued
-without_request [] n = []
-without_request (q ∷ qs) n = if q.session == n then without_request qs n else q ∷ without_request qs n
+without_request qs n = filter (λ q. not (q.session == n)) qs
 
 -- whether a session has a request queued
 abbrev pub is_waiting : State → ℕ → Bool
@@ -158,8 +155,7 @@ level_in (x ∷ xs) t = if bytes_eq x.table t then Some x.level else level_in xs
 
 -- what a session watches, without a table
 abbrev pub without_watch : List Watch → List ℕ → List Watch
-without_watch [] t = []
-without_watch (x ∷ xs) t = if bytes_eq x.table t then without_watch xs t else x ∷ without_watch xs t
+without_watch xs t = filter (λ x. not (bytes_eq x.table t)) xs
 
 -- operations and child begins of this attempt
 abbrev pub count_moves : List Move → ℕ

@@ -7,6 +7,7 @@ ghost use Rattle.tab_model.specs.Shared.{is_found};
 
 use crate::lists::{Atoms, Moves, Numbers, Parts, Replies};
 use crate::logged_operation::{LoggedOperation, OperationForm, form_of_write};
+use crate::shared_item::SharedItem;
 use std::alloc::{AllocError, Global};
 use std::sync::Arc;
 use tab_lists::{Answers, EventTerms, SharedTerms};
@@ -206,7 +207,7 @@ pub enum Reply {
     Found(SharedTerms),
     SubscribedHere,
     TableInfo(TableInfo),
-    Taken(Item),
+    Taken(SharedItem),
     Overflow(u64),
     Empty,
 }

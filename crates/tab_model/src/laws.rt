@@ -40,7 +40,8 @@ ghost use Rattle.tab_model.specs.Slices.{dump_of, expected_items, slice, slice_a
 ghost use Rattle.tab_model.specs.History.{Base, empty, level_at, in_force_since, expected_since, slice_since, slice_since_after, IsHistory, tables_after, after_fold, Admits, without_subscriber};
 ghost use Rattle.tab_model.specs.State.{State, Session, Transaction, Queued, Outbox, new, session_at, transaction_at, request_in, ages_of, age_at, moves_at, replies_at, level_in, IsSound};
 ghost use Rattle.tab_model.specs.Reached.{IsRising};
-ghost use Rattle.tab_model.specs.Outcome.{Ask, Join, Leave, Retry, Take, DoCommand, outcome};
+ghost use Rattle.tab_model.specs.declared.ask.Ask.TheVariants.{Join, Leave, Retry, Take, Do as DoCommand};
+ghost use Rattle.tab_model.specs.Outcome.{Ask, outcome};
 ghost use Rattle.tab_model.specs.Refusals.{AsBefore, effect_of_reply, with_count, request_of_ask, with_requests, transaction_anew, with_restart, IsRestart, EndsLevel, IsSole, LeavesAll};
 ghost use Rattle.tab_model.specs.Run.{Call, AllJoinEmpty, Begins, leave_call, JoinsEmpty, IsTied, outcome_of, after_all, log_of, delivered_to, entries, delivered_by};
 ghost use Rattle.tab_model.specs.Standing.{EndsTransaction, JoinsChannel, MayFollow, FollowsLog, still_joined, may_enter};

@@ -4,6 +4,7 @@
 
 #![tactic(auto)]
 
+mod ask;
 mod copying;
 mod data;
 mod laws;
@@ -11,8 +12,10 @@ mod lists;
 mod logged_operation;
 mod logged_reply;
 mod only_record;
+mod shared_item;
 mod shared_reply;
 
+pub use ask::Ask;
 pub use data::{
     Change, Command, Ending, Entry, Event, InfoItem, Item, Kind, Level, Limit, Limits, Lock, Mode,
     Move, Operation, Part, Reply, Schema, TableDef, TableInfo, What,
@@ -30,4 +33,5 @@ pub use lists::{Atoms, Moves, Numbers, Parts, Replies};
 pub use logged_operation::{LoggedOperation, OperationForm};
 pub use logged_reply::{Kept, LoggedReply};
 pub use only_record::{OnlyRecord, copy_of_key};
+pub use shared_item::SharedItem;
 pub use shared_reply::SharedReply;

@@ -26,7 +26,7 @@ without_filtered age [] = refl
 without_filtered age (x ∷ ws) = by (x.age == age) (without_filtered age ws)
   where
     by : (b : Bool) → queued (filter (λ w. not (w.age == age)) ws) ≡ without age (queued ws)
-        → queued (if not b then x ∷ filter (λ w. not (w.age == age)) ws else filter (λ w. not (w.age == age)) ws) ≡ (if b then without age (queued ws) else owned x ∷ without age (queued ws))
+        → queued (if not b then x ∷ filter (λ w. not (w.age == age)) ws else filter (λ w. not (w.age == age)) ws) ≡ (if not b then owned x ∷ without age (queued ws) else without age (queued ws))
     by true ih = ih
     by false ih = ap (λ zs. owned x ∷ zs) ih
 

@@ -1,6 +1,6 @@
 use Rattle.std.proofs.Common.{refl, sym}
 use Rattle.tab_model.specs.declared.data.Command.TheVariants as command
-use Rattle.tab_model.specs.Outcome.{Join, Leave, Retry, Take, DoCommand}
+use Rattle.tab_model.specs.declared.ask.Ask.TheVariants.{Join, Leave, Retry, Take, Do as DoCommand}
 use Rattle.tab_model.proofs.Entering.{schema_may, subscribe_may, unsubscribe_may, never_of}
 use Rattle.tab_model.proofs.laws.these_steps_may_enter.Goals as goal
 
