@@ -9,7 +9,7 @@ use std::sync::Wait;
 use std::test::*;
 use std::thread::{Threads, join};
 use tab_lists::EventTerms;
-use tab_outbox::{Item, Mailbox, Met, Post, Refused};
+use tab_outbox::{Item, Mailbox, Met, Post, Refused, SharedItem};
 use tab_post::{Channel, ChannelPost, Host, Inbox, Naming, NewMailbox, Opened};
 
 /// Items are batches without events, known by their commits.
@@ -66,8 +66,8 @@ static CALLS: [(usize, usize, Call); 31] = [
 /// No item has this number.
 const NONE: u64 = 1_000_000;
 
-fn batch(alloc: Global, commit: u64) -> Item {
-    Item::Batch(commit, EventTerms::new(alloc))
+fn batch(alloc: Global, commit: u64) -> Result<SharedItem, AllocError> {
+    SharedItem::new(alloc, Item::Batch(commit, EventTerms::new(alloc)))
 }
 
 fn number_of(item: &Item) -> u64 {
@@ -79,17 +79,24 @@ fn number_of(item: &Item) -> u64 {
 
 fn received<H: Host>(inbox: &mut Inbox<H>) -> u64 {
     match inbox.receive() {
-        Some(item) => number_of(&item),
+        Some(item) => number_of(item.item()),
         None => NONE,
     }
 }
 
 /// The item that is handed back since the mailbox is full, or since nobody takes any more; None where it is put.
-fn put<H: Host>(post: &mut ChannelPost<H>, item: Item) -> Option<(bool, Item)> {
+fn put<H: Host>(post: &mut ChannelPost<H>, item: SharedItem) -> Option<(bool, SharedItem)> {
     match post.put(item) {
         Ok(()) => None,
         Err(Refused::Full(back)) => Some((true, back)),
         Err(Refused::Gone(back)) => Some((false, back)),
+    }
+}
+
+fn is_put<H: Host>(post: &mut ChannelPost<H>, alloc: Global, commit: u64) -> bool {
+    match batch(alloc, commit) {
+        Ok(item) => put(post, item).is_none(),
+        Err(_) => false,
     }
 }
 
@@ -99,8 +106,11 @@ fn is_handed_back<H: Host>(
     commit: u64,
     full: bool,
 ) -> bool {
-    match put(post, batch(alloc, commit)) {
-        Some((is_full, item)) => is_full == full && number_of(&item) == commit,
+    let Ok(item) = batch(alloc, commit) else {
+        return false;
+    };
+    match put(post, item) {
+        Some((is_full, item)) => is_full == full && number_of(item.item()) == commit,
         None => false,
     }
 }
@@ -108,7 +118,7 @@ fn is_handed_back<H: Host>(
 /// What the two ends find: the item that was taken, or as many more than NONE as there are.
 fn met<H: Host>(post: &mut ChannelPost<H>, inbox: &mut Inbox<H>) -> u64 {
     match post.meet(inbox) {
-        Met::Going(item) => number_of(&item),
+        Met::Going(item) => number_of(item.item()),
         Met::Apart => NONE + 1,
         Met::All => NONE + 2,
     }
@@ -121,7 +131,7 @@ fn is_right<H: Host>(
     call: &Call,
 ) -> bool {
     match call {
-        Call::Put(commit) => put(post, batch(alloc, *commit)).is_none(),
+        Call::Put(commit) => is_put(post, alloc, *commit),
         Call::Full(commit) => is_handed_back(post, alloc, *commit, true),
         Call::Pull => post.pull().is_none(),
         Call::Refusals(count) => post.refusals() == *count,
@@ -200,7 +210,7 @@ fn put_all<H: Host>(rt: H, alloc: Global, mut post: ChannelPost<H>) -> ChannelPo
         if next >= COUNT {
             break;
         }
-        if put(&mut post, batch(alloc, next)).is_none() {
+        if is_put(&mut post, alloc, next) {
             next += 1;
         }
     }

@@ -15,7 +15,7 @@ use tab_post::{Channel, Host, Inbox, Naming, Opened};
 /// What is shown at an inbox, as a number: a batch of one event is 100 and its commit, an overflow 200 and its commit.
 fn shown_as(drained: &Drained) -> u64 {
     match drained {
-        Drained::Going(item) => number_in(item),
+        Drained::Going(item) => number_in(item.item()),
         Drained::AllTaken => ALL_TAKEN,
         Drained::Overflow(number) => number.saturating_add(200),
         Drained::Left => LEFT,

@@ -12,3 +12,4 @@ pub use post::Post;
 pub use refused::Refused;
 pub use ring::RingPost;
 pub use tab_events::Item;
+pub use tab_model::SharedItem;

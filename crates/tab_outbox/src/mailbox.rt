@@ -5,7 +5,7 @@ ghost use Rattle.tab_model.specs.declared.data.Item.{Item as ItemOf};
 ghost use Rattle.tab_outbox.specs.Mailboxes.{Tells};
 
 use crate::post::Post;
-use tab_events::Item;
+use tab_model::SharedItem;
 
 /// What a post and an end that meet show.
 #[derive(Drop)]
@@ -13,7 +13,7 @@ pub enum Met {
     /// They are of two mailboxes.
     Apart,
     /// An item was left, and is now taken.
-    Going(Item),
+    Going(SharedItem),
     /// All that was put is taken.
     All,
 }

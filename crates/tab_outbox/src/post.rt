@@ -6,7 +6,7 @@ ghost use Rattle.tab_model.specs.Outcome.{with_items, with_refusal, items_to_tak
 ghost use Rattle.tab_outbox.specs.Posts.{refused_item, GivesFirst};
 
 use crate::refused::Refused;
-use tab_events::Item;
+use tab_model::SharedItem;
 
 /// Where items are put for one subscriber.
 pub trait Post {
@@ -17,7 +17,7 @@ pub trait Post {
     ghost stays: { Self → Self → Type 0 };
 
     /// Puts an item behind the others, or hands it back.
-    fn put(&mut self, item: Item) -> Result<(), Refused>
+    fn put(&mut self, item: SharedItem) -> Result<(), Refused>
         ensures stays { stays self.old self.new }
         ensures decided { IfSome (outbox self.old).capacity
             (λ c. is_err result ≡ nat_le c (length (outbox self.old).items)) }
@@ -26,7 +26,7 @@ pub trait Post {
             (λ r. (refused_item r ≡ item) × (outbox self.new ≡ with_refusal (outbox self.old))) };
 
     /// Takes the first item. Of a post without a capacity of its own the items are taken at its other end.
-    fn pull(&mut self) -> Option<Item>
+    fn pull(&mut self) -> Option<SharedItem>
         ensures stays { stays self.old self.new }
         ensures item { MatchOption result
             ((items_to_take (outbox self.old) (outbox self.old).capacity ≡ [])

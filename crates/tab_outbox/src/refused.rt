@@ -1,9 +1,9 @@
 //! Items that were not taken.
-use tab_events::Item;
+use tab_model::SharedItem;
 
 /// An item that was not taken, and why: the post is full, or nobody takes from it any more.
 #[derive(Drop)]
 pub enum Refused {
-    Full(Item),
-    Gone(Item),
+    Full(SharedItem),
+    Gone(SharedItem),
 }

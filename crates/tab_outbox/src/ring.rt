@@ -7,12 +7,12 @@ use crate::refused::Refused;
 use circular_buffer::HeapCircularBuffer;
 use std::alloc::{AllocError, Global};
 use std::marker::Model;
-use tab_events::Item;
+use tab_model::SharedItem;
 
 /// A ring of items, for one thread.
 #[derive(Drop)]
 pub struct RingPost {
-    items: HeapCircularBuffer<Item>,
+    items: HeapCircularBuffer<SharedItem>,
     refusals: u64,
 }
 
@@ -58,7 +58,7 @@ impl Post for RingPost {
 
     ghost stays_on = { λ x y z p q. q ∙ p };
 
-    fn put(&mut self, item: Item) -> Result<(), Refused>
+    fn put(&mut self, item: SharedItem) -> Result<(), Refused>
         ensures stays { self.new.capacity ≡ self.old.capacity }
         ensures decided { is_err result ≡ nat_le self.old.capacity (length self.old.items) }
         ensures ok { OnOk result
@@ -77,7 +77,7 @@ impl Post for RingPost {
         }
     }
 
-    fn pull(&mut self) -> Option<Item> {
+    fn pull(&mut self) -> Option<SharedItem> {
         self.items.pop_front()
     }
 

@@ -2,16 +2,18 @@
 use denote.RattleType.{RattleType}
 use denote.Hole.{as_row}
 use denote.Struct.Field.{row_field, u64-field}
-use denote.Param.Send.{IsSend, plain_send}
-use denote.Param.SendFields.{as_row_send, declared_send, variants_send}
+use denote.Param.Send.{IsSend, IsSync, plain_send, plain_sync, sendable}
+use denote.Param.SendFields.{as_row_send, as_row_sync, declared_send, declared_sync, variants_send, variants_sync}
+use Rattle.std.proofs.Crossing.{Arc-send}
 use Rattle.std.proofs.alloc.Global.TheSendSync as global_marks
 use Rattle.std.below.std_heap.proofs.GlobalAllocator.TheSendSync as heap_marks
 use Rattle.tab_term.proofs.atom.Atom.TheSendSync as atom_marks
-use Rattle.tab_lists.proofs.Crossing.{EventTerms-send, SharedTerms-send}
+use Rattle.tab_lists.proofs.Crossing.{EventTerms-send, EventTerms-sync, SharedTerms-send, SharedTerms-sync}
 use Rattle.tab_term.specs.contracts.atom.Atom as atom
 use Rattle.tab_lists.specs.contracts.events.EventTerms as event_terms
 use Rattle.tab_lists.specs.contracts.shared_terms.SharedTerms as shared_terms
 use Rattle.tab_model.specs.contracts.data.Item as item
+use Rattle.tab_model.specs.contracts.shared_item.SharedItem as shared_item
 use Rattle.tab_post.specs.declared.naming.Naming.{Ghosts}
 use Rattle.tab_post.specs.contracts.prefix.Prefix as prefix
 use Rattle.tab_post.proofs.prefix.Prefix.TheSendSync as prefix_marks
@@ -37,8 +39,8 @@ events_field = as_row_send (row_field event_terms.the_row) EventTerms-send
 atom_field : IsSend (as_row atom.the_field)
 atom_field = as_row_send atom.the_field atom_marks.the_send
 
-item_send : IsSend item.the_row
-item_send =
+one_item_send : IsSend item.the_row
+one_item_send =
     variants_send item.enum (
       (atom_field, (level_marks.the_send, (option_marks.the_send shared_terms.the_row SharedTerms-send, tt))),
       (
@@ -47,8 +49,15 @@ item_send =
       ),
     )
 
-pass_send : IsSend (seat.the_row (badge.the_row (key.the_row item.the_row)) (doing.the_row item.the_row pass_view.the_row))
-pass_send = seat_marks.the_send (badge.the_row (key.the_row item.the_row)) (doing.the_row item.the_row pass_view.the_row) (badge_marks.the_send (key.the_row item.the_row))
+one_item_sync : IsSync item.the_row
+one_item_sync = search (sendable, as_row_sync, declared_sync, variants_sync, atom_marks.the_sync, level_marks.the_sync, ending_marks.the_sync, option_marks.the_sync, SharedTerms-sync, EventTerms-sync) depth 20
+
+-- the count of who is given an item may be raised and lowered by each thread
+item_send : IsSend shared_item.the_row
+item_send = search (sendable, Arc-send, declared_send, as_row_send, one_item_send, one_item_sync) depth 20
+
+pass_send : IsSend (seat.the_row (badge.the_row (key.the_row shared_item.the_row)) (doing.the_row shared_item.the_row pass_view.the_row))
+pass_send = seat_marks.the_send (badge.the_row (key.the_row shared_item.the_row)) (doing.the_row shared_item.the_row pass_view.the_row) (badge_marks.the_send (key.the_row shared_item.the_row))
 
 prefix_send : (E J : RattleType) (names : Ghosts J.Denot) → IsSend (as_row (prefix.the_field E J names))
 prefix_send E J names = prefix_marks.the_send E J names

@@ -14,15 +14,15 @@ use crate::register::Register;
 use crate::rule::{Ends, InOrder, PassView};
 use crossbeam_channel::{Pass, RuledReceiver, bounded_with};
 use std::alloc::{AllocError, Global};
-use tab_outbox::Item;
+use tab_outbox::SharedItem;
 
 /// A mailbox into which nothing was put and which has no place yet. It has room for all that it may hold, so it takes long
 /// to make; to give it a place takes no memory.
 #[derive(Drop)]
 pub struct NewMailbox {
     sender: Channel,
-    receiver: RuledReceiver<Item, PassView, InOrder>,
-    pass: Pass<Item, PassView>,
+    receiver: RuledReceiver<SharedItem, PassView, InOrder>,
+    pass: Pass<SharedItem, PassView>,
     ghost ends: { receives_on receiver ≡ sends_on sender },
     ghost seated: { IsSeatAt (sends_on sender) pass },
     ghost new: { view pass ≡ pass_view true true [] [] },
@@ -37,7 +37,7 @@ impl NewMailbox {
         requires { 0 < capacity }
         ensures { IfOk result (λ m. room_of m ≡ capacity) }
     {
-        let (sender, receiver, pass) = bounded_with::<Item, PassView, InOrder, Global>(
+        let (sender, receiver, pass) = bounded_with::<SharedItem, PassView, InOrder, Global>(
             alloc, capacity,
         )?;
         Ok(NewMailbox {

@@ -11,14 +11,14 @@ use crate::post::Channel;
 use crate::prefix::Prefix;
 use crate::rule::{InOrder, PassView, Taken};
 use crossbeam_channel::{Pass, RuledReceiver};
-use tab_outbox::Item;
+use tab_outbox::SharedItem;
 
 /// The receiving end of a mailbox.
 #[derive(Drop)]
 pub struct Inbox<H: Host> {
     pub(crate) rt: H,
-    pub(crate) channel: RuledReceiver<Item, PassView, InOrder>,
-    pub(crate) pass: Pass<Item, PassView>,
+    pub(crate) channel: RuledReceiver<SharedItem, PassView, InOrder>,
+    pub(crate) pass: Pass<SharedItem, PassView>,
     pub(crate) place: u64,
     pub(crate) prefix: Prefix<Channel, H>,
     ghost seated: { IsSeatAt (receives_on channel) pass },
@@ -31,7 +31,7 @@ impl<H: Host> Inbox<H> {
     ghost use Rattle.tab_post.specs.Ends.{received, IsSameInbox};
 
     /// The next item that was sent, which it waits for. None where it hears that the post was dropped and nothing is left.
-    pub fn receive(&mut self) -> Option<Item>
+    pub fn receive(&mut self) -> Option<SharedItem>
         ensures next { MatchOption result (received self.new ≡ received self.old)
             (λ x. received self.new ≡ received self.old ++ x ∷ []) }
         ensures stays { IsSameInbox self.old self.new }
@@ -42,7 +42,7 @@ impl<H: Host> Inbox<H> {
     }
 
     /// The next item that was sent, where it is there already.
-    pub fn try_receive(&mut self) -> Option<Item>
+    pub fn try_receive(&mut self) -> Option<SharedItem>
         ensures next { MatchOption result (received self.new ≡ received self.old)
             (λ x. received self.new ≡ received self.old ++ x ∷ []) }
         ensures stays { IsSameInbox self.old self.new }

@@ -10,17 +10,17 @@ use crate::naming::Host;
 use crate::prefix::Prefix;
 use crate::rule::{InOrder, PassView, Sent};
 use crossbeam_channel::{Pass, RuledSender, TrySendError};
-use tab_outbox::{Item, Post, Refused};
+use tab_outbox::{Post, Refused, SharedItem};
 
 /// What names a mailbox: its channel, as its sender knows it.
-pub type Channel = RuledSender<Item, PassView, InOrder>;
+pub type Channel = RuledSender<SharedItem, PassView, InOrder>;
 
 /// The sending end of a mailbox.
 #[derive(Drop)]
 pub struct ChannelPost<H: Host> {
     pub(crate) rt: H,
     pub(crate) channel: Channel,
-    pub(crate) pass: Pass<Item, PassView>,
+    pub(crate) pass: Pass<SharedItem, PassView>,
     pub(crate) refusals: u64,
     pub(crate) place: u64,
     pub(crate) prefix: Prefix<Channel, H>,
@@ -45,7 +45,7 @@ impl<H: Host> Post for ChannelPost<H> {
     ghost stays_on = { λ x y z p q. (q.0 ∙ p.0, q.1 ∙ p.1) };
 
     /// One attempt, which never waits for room.
-    fn put(&mut self, item: Item) -> Result<(), Refused>
+    fn put(&mut self, item: SharedItem) -> Result<(), Refused>
         ensures stays { IsSamePost self.old self.new }
         ensures decided { IfSome (as_outbox self.old).capacity
             (λ c. is_err result ≡ nat_le c (length (as_outbox self.old).items)) }
@@ -74,7 +74,7 @@ impl<H: Host> Post for ChannelPost<H> {
     }
 
     /// None: items are taken at the other end.
-    fn pull(&mut self) -> Option<Item>
+    fn pull(&mut self) -> Option<SharedItem>
         ensures stays { IsSamePost self.old self.new }
         ensures item { IsNone result × (self.new ≡ self.old) }
     {

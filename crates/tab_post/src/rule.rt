@@ -1,20 +1,20 @@
 //! The rule of a mailbox, and the moves that it allows.
 use crossbeam_channel::protocol::{Join, Lesson, Outcome, Protocol, Split};
 use std::collections::LinkedList;
-use tab_outbox::Item;
+use tab_outbox::SharedItem;
 
 /// What a pass knows: which ends it stands for, what was sent by it and what was taken by it. No value of it is made.
 pub struct PassView {
     pub sends: bool,
     pub takes: bool,
-    pub sent: LinkedList<Item>,
-    pub taken: LinkedList<Item>,
+    pub sent: LinkedList<SharedItem>,
+    pub taken: LinkedList<SharedItem>,
 }
 
 /// What was sent is what was taken, followed by what the channel holds.
 pub struct InOrder;
 
-impl Protocol<Item, PassView> for InOrder {
+impl Protocol<SharedItem, PassView> for InOrder {
     ghost use Rattle.std.specs.Prelude.{true, []};
     ghost use Rattle.tab_post.specs.Rule.{pass_view, Relayed};
 
@@ -59,7 +59,7 @@ impl Split<PassView> for Idle {
 /// A send, which appends.
 pub struct Sent;
 
-impl Outcome<Item, PassView> for Sent {
+impl Outcome<SharedItem, PassView> for Sent {
     ghost use Rattle.std.specs.Prelude.{◌≡◌, [], ◌∷◌, ◌++◌};
     ghost use Rattle.tab_post.specs.Rule.{pass_view};
 
@@ -67,7 +67,7 @@ impl Outcome<Item, PassView> for Sent {
 }
 
 /// The channel was full, of the last items that were sent.
-impl Lesson<Item, PassView> for Sent {
+impl Lesson<SharedItem, PassView> for Sent {
     ghost use Rattle.tab_post.specs.Rule.{EndsWith};
 
     ghost fact = { λ v items. EndsWith v.sent items };
@@ -76,7 +76,7 @@ impl Lesson<Item, PassView> for Sent {
 /// A receive, which takes the front.
 pub struct Taken;
 
-impl Outcome<Item, PassView> for Taken {
+impl Outcome<SharedItem, PassView> for Taken {
     ghost use Rattle.std.specs.Prelude.{◌≡◌, [], ◌∷◌, ◌++◌};
     ghost use Rattle.tab_post.specs.Rule.{pass_view};
 
@@ -84,7 +84,7 @@ impl Outcome<Item, PassView> for Taken {
 }
 
 /// A pass that takes alone learns nothing of an empty channel, since more may be sent at once.
-impl Lesson<Item, PassView> for Taken {
+impl Lesson<SharedItem, PassView> for Taken {
     ghost use Rattle.std.specs.Prelude.{⊤};
 
     ghost fact = { λ v items. ⊤ };
@@ -93,7 +93,7 @@ impl Lesson<Item, PassView> for Taken {
 /// A receive by a pass of both ends.
 pub struct Meets;
 
-impl Outcome<Item, PassView> for Meets {
+impl Outcome<SharedItem, PassView> for Meets {
     ghost use Rattle.std.specs.Prelude.{◌≡◌, [], ◌∷◌, ◌++◌};
     ghost use Rattle.tab_outbox.specs.Mailboxes.{StartsWith};
     ghost use Rattle.tab_post.specs.Rule.{pass_view};
@@ -103,7 +103,7 @@ impl Outcome<Item, PassView> for Meets {
 }
 
 /// The channel was empty: all that was sent was taken.
-impl Lesson<Item, PassView> for Meets {
+impl Lesson<SharedItem, PassView> for Meets {
     ghost use Rattle.std.specs.Prelude.{◌≡◌, ◌++◌};
 
     ghost fact = { λ v items. v.sent ≡ v.taken ++ items };

@@ -39,7 +39,7 @@ pub fn event_loop<H: Host, W: Write, N: Notes>(
         let Some(item) = events.inbox.receive() else {
             return;
         };
-        if events.send_from(&item).is_err() {
+        if events.send_from(item.item()).is_err() {
             return;
         }
     }
@@ -85,7 +85,7 @@ impl<'a, H: Host, W: Write, N: Notes> Events<'a, H, W, N> {
             let Some(item) = self.inbox.try_receive() else {
                 break;
             };
-            self.keep(&item)?;
+            self.keep(item.item())?;
             count = count.saturating_add(1);
         }
         if count >= self.shared.outbox() {
@@ -98,7 +98,7 @@ impl<'a, H: Host, W: Write, N: Notes> Events<'a, H, W, N> {
     fn keep_rest(&mut self) -> Result<(), Unwritten> {
         for _ in self.host.forever() {
             match self.shared.drained(self.host, self.seat, self.inbox) {
-                Drained::Going(item) => self.keep(&item)?,
+                Drained::Going(item) => self.keep(item.item())?,
                 Drained::Overflow(number) => {
                     self.notes
                         .note(Note::Overflowed(self.seat.session(), number));

@@ -1,4 +1,3 @@
 mod Places
-mod Watching
 mod Delivering
 mod Batches

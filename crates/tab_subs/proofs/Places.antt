@@ -7,7 +7,7 @@ use Rattle.tab_model.specs.declared.data.Item.{Item}
 use Rattle.tab_model.specs.State.{Watch}
 use Rattle.tab_subs.specs.declared.answers.Marked.{Marked}
 use Rattle.tab_subs.specs.declared.answers.Marked.TheVariants as mark
-use Rattle.std.specs.List.{list_any, filter}
+use Rattle.std.specs.List.{list_any}
 use Rattle.tab_subs.specs.Subscribers.{Subscriber, at, change, without, give, marked, is_full, Marks, numbers, Ascends, AllAbove, AllBelow, IsHeldAt}
 use Rattle.tab_model.specs.Outcome.{items_to_take}
 use Rattle.tab_subs.specs.Subscribers as subs
@@ -47,15 +47,6 @@ nowhere n (x ∷ ss) (suc i) le none =
     let p = or_parts (x.number == n) (list_any (λ v. v.number == n) (take i ss)) none in
     (λ j. if p.0 j then Some x else at ss n) ∙ nowhere n ss i (omega arith) p.1
 
-pub without_filtered : (n : ℕ) (ss : List Subscriber) → filter (λ s. not (s.number == n)) ss ≡ without ss n
-without_filtered n [] = refl
-without_filtered n (x ∷ ss) = by (x.number == n) (without_filtered n ss)
-  where
-    by : (b : Bool) → filter (λ s. not (s.number == n)) ss ≡ without ss n
-        → (if not b then x ∷ filter (λ s. not (s.number == n)) ss else filter (λ s. not (s.number == n)) ss) ≡ (if b then without ss n else x ∷ without ss n)
-    by true ih = ih
-    by false ih = ap (λ zs. x ∷ zs) ih
-
 -- ---- ascending numbers
 
 all_above_more : (n m : ℕ) (ss : List Subscriber) (s : Subscriber) → AllAbove n (numbers ss) → n < s.number → AllAbove n (numbers (ss ++ s ∷ []))
@@ -66,21 +57,21 @@ pub ascends_more : (ss : List Subscriber) (s : Subscriber) → Ascends (numbers 
 ascends_more [] s h below = (tt, tt)
 ascends_more (x ∷ ss) s h below = (all_above_more x.number 0 ss s h.0 below.0, ascends_more ss s h.1 below.1)
 
-above_if : (b : Bool) (n : ℕ) (x : Subscriber) (rest : List Subscriber) → n < x.number → AllAbove n (numbers rest) → AllAbove n (numbers (if b then rest else x ∷ rest))
-above_if true n x rest lt h = h
-above_if false n x rest lt h = (lt, h)
+above_if : (b : Bool) (n : ℕ) (x : Subscriber) (rest : List Subscriber) → n < x.number → AllAbove n (numbers rest) → AllAbove n (numbers (if b then x ∷ rest else rest))
+above_if true n x rest lt h = (lt, h)
+above_if false n x rest lt h = h
 
 above_without : (n m : ℕ) (ss : List Subscriber) → AllAbove n (numbers ss) → AllAbove n (numbers (without ss m))
 above_without n m [] h = tt
-above_without n m (x ∷ ss) h = above_if (x.number == m) n x (without ss m) h.0 (above_without n m ss h.1)
+above_without n m (x ∷ ss) h = above_if (not (x.number == m)) n x (without ss m) h.0 (above_without n m ss h.1)
 
-ascends_if : (b : Bool) (x : Subscriber) (rest : List Subscriber) → AllAbove x.number (numbers rest) → Ascends (numbers rest) → Ascends (numbers (if b then rest else x ∷ rest))
-ascends_if true x rest above h = h
-ascends_if false x rest above h = (above, h)
+ascends_if : (b : Bool) (x : Subscriber) (rest : List Subscriber) → AllAbove x.number (numbers rest) → Ascends (numbers rest) → Ascends (numbers (if b then x ∷ rest else rest))
+ascends_if true x rest above h = (above, h)
+ascends_if false x rest above h = h
 
 pub ascends_without : (m : ℕ) (ss : List Subscriber) → Ascends (numbers ss) → Ascends (numbers (without ss m))
 ascends_without m [] h = tt
-ascends_without m (x ∷ ss) h = ascends_if (x.number == m) x (without ss m) (above_without x.number m ss h.0) (ascends_without m ss h.1)
+ascends_without m (x ∷ ss) h = ascends_if (not (x.number == m)) x (without ss m) (above_without x.number m ss h.0) (ascends_without m ss h.1)
 
 pub ascends_set : (ss : List Subscriber) (i : ℕ) (s y : Subscriber) → s ≡ get_or ss i s → y.number ≡ s.number → Ascends (numbers ss) → Ascends (numbers (set ss i y))
 ascends_set ss i s y is same h =

@@ -1,6 +1,11 @@
 -- What is due for a commit or for a table's deletion, and its delivery (this project's own).
 use Rattle.std.specs.Prelude.{◌≡◌, ℕ, List, [], ◌∷◌, Bool, true, false, Option, Some, None, length, nat_le, IfSome}
 use Rattle.tab_model.specs.declared.data.Item.{Item}
+use Rattle.tab_model.specs.declared.data.Item.TheVariants.{Batch}
+use Rattle.tab_model.specs.declared.data.Event.{Event}
+use Rattle.tab_model.specs.declared.data.Level.{Level}
+use Rattle.tab_term.specs.Data.{none, one_more}
+use Rattle.tab_model.specs.Shapes.{shape}
 use Rattle.tab_model.specs.Log.{has_session}
 use Rattle.tab_model.specs.State.{Outbox, without_watch}
 use Rattle.tab_model.specs.Outcome.{with_items}
@@ -11,6 +16,10 @@ pub record Owed : Type 0 where
   pub number : ℕ
   pub items : List (List Item)
   pub ended : Option (List ℕ)
+
+-- the item of a commit with one event, for who watches its table at this level
+abbrev pub only_batch : ℕ → Level → Event → Item
+only_batch n l e = Batch n (one_more (shape l e) none)
 
 -- there are none past the last
 abbrev pub first_of : List (List Item) → List Item

@@ -1,6 +1,6 @@
 -- The joined sessions: what each watches, and what its post shows (this project's own). The words are those of a core's
 -- sessions.
-use Rattle.std.specs.Prelude.{ℕ, ◌≡◌, ◌<◌, map, length, nat_le, IfSome, slice_index_or, slice_set, List, [], ◌∷◌, Bool, true, false, ◌==◌, if◌then◌else◌, Option, Some, None, is_some}
+use Rattle.std.specs.Prelude.{ℕ, ◌≡◌, ◌<◌, map, length, nat_le, IfSome, slice_index_or, slice_set, List, [], ◌∷◌, Bool, true, false, not, ◌==◌, if◌then◌else◌, Option, Some, None, is_some, find, filter}
 use Rattle.std.specs.List.{list_any}
 use Rattle.tab_model.specs.declared.data.Item.{Item}
 use Rattle.tab_model.specs.declared.data.Level.{Level}
@@ -25,8 +25,7 @@ fresh n b = record { number = n; watching = []; outbox = b; overflow = None }
 
 -- the subscriber of this number, the first if there are several
 abbrev pub at : List Subscriber → ℕ → Option Subscriber
-at [] n = None
-at (s ∷ ss) n = if s.number == n then Some s else at ss n
+at ss n = find (λ s. s.number == n) ss
 
 -- the list with s in the place of the first subscriber of its number; nothing is added where there is none
 abbrev pub change : List Subscriber → Subscriber → List Subscriber
@@ -35,8 +34,7 @@ change (x ∷ xs) s = if x.number == s.number then s ∷ xs else x ∷ change xs
 
 -- the list without the subscribers of this number
 abbrev pub without : List Subscriber → ℕ → List Subscriber
-without [] n = []
-without (x ∷ xs) n = if x.number == n then without xs n else x ∷ without xs n
+without ss n = filter (λ s. not (s.number == n)) ss
 
 -- an item that the post refuses ends its subscriptions
 abbrev pub overflowed : ℕ → Subscriber → Subscriber

@@ -1,10 +1,10 @@
 //! What a session is answered.
-use tab_events::Item;
+use tab_model::SharedItem;
 
 /// What a Take gives: the next item, else the number of an overflow, which is told once, else nothing.
 #[derive(Drop)]
 pub enum Taken {
-    Item(Item),
+    Item(SharedItem),
     Overflow(u64),
     Empty,
 }

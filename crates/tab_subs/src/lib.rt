@@ -5,6 +5,7 @@
 #![tactic(auto)]
 
 mod answers;
+mod only_event;
 mod prepared;
 mod session;
 mod shaped;

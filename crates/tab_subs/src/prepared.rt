@@ -6,14 +6,14 @@ ghost use Rattle.tab_subs.specs.Deliveries.{first_of, rest_of};
 use std::alloc::{AllocError, Global};
 use std::collections::VecDeque;
 use std::marker::Model;
-use tab_events::Item;
+use tab_model::SharedItem;
 use tab_term::Atom;
 
 /// What a commit or a table's deletion owes to each session, with all memory that its delivery takes.
 #[derive(Drop)]
 pub struct Prepared {
     pub(crate) number: u64,
-    pub(crate) due: VecDeque<Option<Item>>,
+    pub(crate) due: VecDeque<Option<SharedItem>>,
     // Room for the sessions that overflow.
     pub(crate) over: Vec<u64>,
     pub(crate) ended: Option<Atom>,
@@ -39,7 +39,7 @@ impl Model for Prepared {
 pub fn with_room(
     alloc: Global,
     number: u64,
-    due: VecDeque<Option<Item>>,
+    due: VecDeque<Option<SharedItem>>,
     ended: Option<Atom>,
 ) -> Result<Prepared, AllocError>
     ensures { IfOk result
@@ -55,7 +55,7 @@ pub fn with_room(
 }
 
 /// The item of the next subscriber.
-pub fn next_due(due: &mut VecDeque<Option<Item>>) -> Option<Item>
+pub fn next_due(due: &mut VecDeque<Option<SharedItem>>) -> Option<SharedItem>
     ensures first { option_to_list result ≡ first_of (map option_to_list due.old.items) }
     ensures rest { map option_to_list due.new.items ≡ rest_of (map option_to_list due.old.items) }
     ensures fewer { IsSome result → length due.new.items + 1 ≤ length due.old.items }

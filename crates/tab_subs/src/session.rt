@@ -18,7 +18,7 @@ use std::alloc::{AllocError, Global};
 use std::marker::Model;
 use tab_events::{Item, Level};
 use tab_lists::{EventTerms, SharedTerms};
-use tab_model::Ending;
+use tab_model::{Ending, SharedItem};
 use tab_outbox::{Mailbox, Met, Post};
 use tab_term::Atom;
 
@@ -122,8 +122,9 @@ impl<P: Post + Drop> Session<P> {
         ensures err { OnErr result (self.new ≡ self.old) }
     {
         let named = table.try_clone(alloc)?;
+        let marker = SharedItem::new(alloc, Item::Began(named, level, dump))?;
         self.watching.insert(0, Watched { table, level })?;
-        if self.post.put(Item::Began(named, level, dump)).is_err() {
+        if self.post.put(marker).is_err() {
             self.watching.remove(0);
             return Ok(Marked::Full);
         }
@@ -141,7 +142,8 @@ impl<P: Post + Drop> Session<P> {
             (λ c. is_full m ≡ nat_le c (length self.old.outbox.items))) }
         ensures err { OnErr result (self.new ≡ self.old) }
     {
-        let marker = Item::Ended(table.try_clone(alloc)?, Ending::Unsubscribed);
+        let ended = Item::Ended(table.try_clone(alloc)?, Ending::Unsubscribed);
+        let marker = SharedItem::new(alloc, ended)?;
         if self.post.put(marker).is_err() {
             return Ok(Marked::Full);
         }
@@ -151,7 +153,7 @@ impl<P: Post + Drop> Session<P> {
 
     /// Puts an item that is due, unless the post refuses it, which ends all subscriptions. Where a table is gone, it is
     /// watched no more. Answers whether the item was refused.
-    pub fn receive(&mut self, number: u64, item: Option<Item>, ended: Option<&Atom>) -> bool
+    pub fn receive(&mut self, number: u64, item: Option<SharedItem>, ended: Option<&Atom>) -> bool
         ensures received { self.new
             ≡ received number result (option_to_list item)
             (unwatched (option_copied ended.entry) self.old) }
@@ -177,7 +179,7 @@ impl<P: Post + Drop> Session<P> {
         alloc: Global,
         commit: u64,
         events: &mut Vec<Shaped<'_>>,
-    ) -> Result<Option<Item>, AllocError>
+    ) -> Result<Option<SharedItem>, AllocError>
         ensures item { IfOk result
             (λ item. option_to_list item
             ≡ batch_for (level_in self.now.watching) commit events.old.items) }
@@ -193,18 +195,19 @@ impl<P: Post + Drop> Session<P> {
         if told.is_empty() {
             return Ok(None);
         }
-        Ok(Some(Item::Batch(commit, told)))
+        Ok(Some(SharedItem::new(alloc, Item::Batch(commit, told))?))
     }
 
     /// The marker of a table's deletion, where the session watches it.
-    pub fn end_mark(&self, alloc: Global, table: &Atom) -> Result<Option<Item>, AllocError>
+    pub fn end_mark(&self, alloc: Global, table: &Atom) -> Result<Option<SharedItem>, AllocError>
         ensures { IfOk result
             (λ item. option_to_list item ≡ end_for (level_in self.now.watching) (Some table.now)) }
     {
         if self.level(table).is_none() {
             return Ok(None);
         }
-        Ok(Some(Item::Ended(table.try_clone(alloc)?, Ending::Deleted)))
+        let ended = Item::Ended(table.try_clone(alloc)?, Ending::Deleted);
+        Ok(Some(SharedItem::new(alloc, ended)?))
     }
 }
 

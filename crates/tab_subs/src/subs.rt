@@ -1,6 +1,6 @@
 //! All sessions' subscriptions.
 
-ghost use Rattle.std.specs.Prelude.{◌≡◌, ◌<◌, ◌∷◌, ◌++◌, [], Some, None, IfOk, OnOk, OnErr, MatchOption, map, option_map};
+ghost use Rattle.std.specs.Prelude.{◌≡◌, ◌<◌, ◌∷◌, ◌++◌, [], Some, None, IfOk, OnOk, OnErr, MatchOption, map, option_map, option_to_list};
 ghost use Rattle.tab_model.specs.Slices.{batch_for, end_for};
 ghost use Rattle.tab_model.specs.State.{level_in, without_watch};
 ghost use Rattle.tab_model.specs.declared.data.Item.TheVariants as Item;
@@ -10,6 +10,7 @@ ghost use Rattle.tab_subs.specs.Deliveries.{Delivers};
 ghost use Rattle.tab_subs.specs.Subscribers.{Subscriber, fresh, at, without, taken_from, level_of, overflow_of, has_watcher as has_watcher_of, IsHeldAt, Marks, AllBelow, numbers};
 
 use crate::answers::{Marked, Taken};
+use crate::only_event::OnlyEvent;
 use crate::prepared::{Prepared, next_due, with_room};
 use crate::session::Session;
 use crate::shaped::Shaped;
@@ -18,7 +19,7 @@ use std::collections::VecDeque;
 use std::marker::Model;
 use tab_events::{Event, Level};
 use tab_lists::SharedTerms;
-use tab_model::Numbers;
+use tab_model::{Numbers, SharedItem};
 use tab_outbox::{Mailbox, Met, Post};
 use tab_term::Atom;
 
@@ -152,12 +153,51 @@ impl<P: Post + Drop> Subs<P> {
               ended = None;
             }) }
     {
+        let due = match events {
+            [event] => self.due_of_one(alloc, commit, event)?,
+            _ => self.due_of(alloc, commit, events)?,
+        };
+        with_room(alloc, commit, due, None)
+    }
+
+    /// What a commit with one event owes, which is one item a level.
+    fn due_of_one(
+        &self,
+        alloc: Global,
+        commit: u64,
+        event: &Event,
+    ) -> Result<VecDeque<Option<SharedItem>>, AllocError>
+        ensures { IfOk result
+            (λ due. map option_to_list due.items
+            ≡ map
+            (λ s. batch_for (level_in s.watching) commit (event.now ∷ [])) self.now) }
+    {
+        let mut only = OnlyEvent::new(commit, event);
+        let mut due = VecDeque::with_capacity(alloc, self.sessions.len())?;
+        for slot in self.sessions.iter() {
+            due.push_back(only.due(alloc, slot.level(&event.tab))?)?;
+        }
+        Ok(due)
+    }
+
+    /// What a commit owes: a batch of its own to each session that is told of it.
+    fn due_of(
+        &self,
+        alloc: Global,
+        commit: u64,
+        events: &[Event],
+    ) -> Result<VecDeque<Option<SharedItem>>, AllocError>
+        ensures { IfOk result
+            (λ due. map option_to_list due.items
+            ≡ map
+            (λ s. batch_for (level_in s.watching) commit events.now) self.now) }
+    {
         let mut shaped = unshaped(alloc, events)?;
         let mut due = VecDeque::with_capacity(alloc, self.sessions.len())?;
         for slot in self.sessions.iter() {
             due.push_back(slot.batch(alloc, commit, &mut shaped)?)?;
         }
-        with_room(alloc, commit, due, None)
+        Ok(due)
     }
 
     /// What a table's deletion owes: an end marker to each session that watches it. The number is that of the next commit.

@@ -1,11 +1,8 @@
-use Rattle.std.proofs.Common.{◌∙◌, not, rules}
+use Rattle.std.proofs.Common.{not, rules}
 use Rattle.std.specs.Str.{bytes_eq}
 use Rattle.std.proofs.lemmas.Fn.{filter_same}
 use Rattle.tab_model.specs.State.{Watch}
-use Rattle.tab_subs.proofs.Watching.{without_filtered}
 use Rattle.tab_subs.proofs.watched.forget.Goals as goal
 
 pub returns : goal.returns
-returns c =
-    filter_same _ (λ (w : Watch). not (bytes_eq w.table c.args.table.now)) _ (λ w b f t. search rules) _ _ c.retain.ensures.filtered
-    ∙ without_filtered c.args.watching.now.items c.args.table.now
+returns c = filter_same _ (λ (w : Watch). not (bytes_eq w.table c.args.table.now)) _ (λ w b f t. search rules) _ _ c.retain.ensures.filtered

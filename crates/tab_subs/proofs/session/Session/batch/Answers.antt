@@ -46,6 +46,7 @@ pub returns-clause-item : goal.returns-clause-item
 returns-clause-item g c =
     let events = c.args.events.now.items in
     let i = c.loop-event.event-index in
-    batch_told c.args.commit (λ (x : Event). shape_at (level_in c.args.self.now.watching x.tab) x) events i (terms_list c.loop-event.told) c.loop-event.told
+    ap (λ z. z ∷ []) c.in_ok-new.ensures
+    ∙ batch_told c.args.commit (λ (x : Event). shape_at (level_in c.args.self.now.watching x.tab) x) events i (terms_list c.loop-event.told) c.loop-event.told
     (subst (λ z. length z ≤ i) c.loop-event.invariant.same (past i _ _ c.loop-event.auto.event-items c.loop-event-test.false))
     (λ e. eqb-false (count c.loop-event.told) 0 (sym c.is_empty.ensures ∙ c.if-is_empty.false) (count-list c.loop-event.told ∙ e)) (sym (plain-list c.loop-event.told)) c.loop-event.invariant.told

@@ -6,11 +6,10 @@ use Rattle.tab_model.specs.State.{level_in}
 use Rattle.tab_subs.specs.Subscribers.{Subscriber}
 use Rattle.tab_subs.specs.Deliveries.{Owed}
 use Rattle.tab_subs.proofs.Batches.{all_made}
-use Rattle.tab_subs.proofs.subs.Subs.prepare.Goals as goal
+use Rattle.tab_subs.proofs.subs.Subs.due_of.Goals as goal
 
 pub returns : goal.returns
 returns g c =
     let items = λ (ss : List Subscriber). map (λ (s : Subscriber). batch_for (level_in s.watching) c.args.commit c.args.events.now) ss in
     let due = all_made items (map option_to_list c.loop-slot.due.items) c.deref-slot-items.result.now c.loop-slot.slot-index refl c.loop-slot-test.false c.loop-slot.invariant.due in
-    subst (λ (z : List (List Item)). IfOk c.with_room.result (λ (p : Owed). p ≡ record { number = c.args.commit; items = z; ended = None }))
-    (due ∙ ap items (c.deref-slot-items.ensures.value ∙ c.self.view_is)) c.with_room.ensures
+    due ∙ ap items (c.deref-slot-items.ensures.value ∙ c.self.view_is)

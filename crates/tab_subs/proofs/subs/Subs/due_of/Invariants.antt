@@ -3,7 +3,7 @@ use Rattle.std.specs.Prelude.{option_to_list}
 use Rattle.tab_model.specs.Slices.{batch_for}
 use Rattle.tab_model.specs.State.{level_in}
 use Rattle.tab_subs.specs.Subscribers.{Subscriber}
-use Rattle.tab_subs.proofs.subs.Subs.prepare.Given as goal
+use Rattle.tab_subs.proofs.subs.Subs.due_of.Given as goal
 
 abbrev pub invariant-loop-slot : goal.invariant-loop-slot
 invariant-loop-slot g l = record {

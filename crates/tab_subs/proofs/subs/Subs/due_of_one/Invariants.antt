@@ -1,0 +1,12 @@
+use Rattle.std.proofs.Common.{◌≡◌, ◌++◌, ◌∷◌, [], drop, map}
+use Rattle.std.specs.Prelude.{option_to_list}
+use Rattle.tab_model.specs.Slices.{batch_for}
+use Rattle.tab_model.specs.State.{level_in}
+use Rattle.tab_subs.specs.Subscribers.{Subscriber}
+use Rattle.tab_subs.proofs.subs.Subs.due_of_one.Given as goal
+
+abbrev pub invariant-loop-slot : goal.invariant-loop-slot
+invariant-loop-slot g l = record {
+  only : l.only ≡ (l.commit, l.event);
+  due : map option_to_list l.due.items ++ map (λ (s : Subscriber). batch_for (level_in s.watching) l.commit (l.event ∷ [])) (drop l.slot-index l.slot-items) ≡ map (λ (s : Subscriber). batch_for (level_in s.watching) l.commit (l.event ∷ [])) l.slot-items;
+}
