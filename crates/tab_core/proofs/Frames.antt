@@ -14,7 +14,8 @@ use Rattle.tab_model.specs.Ages.{Answer, Granted, Wait, Die, decide, can_retry}
 use Rattle.tab_model.specs.Locks.{needs}
 use Rattle.tab_model.specs.State as plain
 use Rattle.tab_model.specs.State.{Transaction, Session, Queued, State, session_at, transaction_at, request_in, without_request, is_waiting, ages_of, is_in, is_busy, locks_held_by, locks_held_in, locks_queued_in, mid_of, count_moves}
-use Rattle.tab_model.specs.Outcome.{Retry, DoCommand, Outcome, outcome, step_without_entry, is_empty, with_changed, with_transaction, with_session, with_queue, make, ends_transaction, reply_or, by_lock_answer, operate, retry_in, retry, begin, one_shot, abort, commit, do_command, is_abort, step_of, begun_anew}
+use Rattle.tab_model.specs.declared.ask.Ask.TheVariants.{Retry, Do as DoCommand}
+use Rattle.tab_model.specs.Outcome.{Outcome, outcome, step_without_entry, is_empty, with_changed, with_transaction, with_session, with_queue, make, ends_transaction, reply_or, by_lock_answer, operate, retry_in, retry, begin, one_shot, abort, commit, do_command, is_abort, step_of, begun_anew}
 use Rattle.tab_model.proofs.StepCases.{after_move, within_limit, try_again, open_level_1, open_child, commit_at, command_if}
 use Rattle.tab_model.specs.Alone.{reply_to}
 use Rattle.tab_manager.specs.Outermost.{outermost, outermost_of}

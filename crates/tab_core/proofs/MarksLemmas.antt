@@ -1,5 +1,5 @@
 -- Takes, and markers that are put into a session's post or refused by it.
-use Rattle.std.proofs.Common.{◌≡◌, ℕ, List, [], ◌∷◌, ◌++◌, Bool, true, false, ◌&&◌, not, refl, sym, ap, ◌∙◌, subst, length, Option, Some, None}
+use Rattle.std.proofs.Common.{◌≡◌, ℕ, List, [], ◌∷◌, Bool, true, false, ◌&&◌, not, refl, sym, ap, ◌∙◌, subst, length, Option, Some, None}
 use Rattle.std.proofs.Common.{Bor}
 use Rattle.std.specs.Option.{option_copied}
 use Rattle.std.specs.Prelude.{◌==◌, ◌||◌, if◌then◌else◌, is_some, nat_le, IfSome, map, option_map}
@@ -17,7 +17,8 @@ use Rattle.tab_model.specs.Log.{has_session}
 use Rattle.tab_model.specs.Slices.{dump_of}
 use Rattle.tab_model.specs.State.{Watch, Session, State, session_at, is_waiting, level_in, without_watch}
 use Rattle.tab_model.specs.Outcome as plain
-use Rattle.tab_model.specs.Outcome.{Take, DoCommand, Outcome, outcome, step_without_entry, with_items, with_refusal, items_to_take, give, put_marker, do_command, refusal_if, subscribe_refusal, unsubscribe_refusal, is_at, is_abort}
+use Rattle.tab_model.specs.declared.ask.Ask.TheVariants.{Take, Do as DoCommand}
+use Rattle.tab_model.specs.Outcome.{Outcome, outcome, step_without_entry, with_items, with_refusal, items_to_take, give, put_marker, do_command, refusal_if, subscribe_refusal, unsubscribe_refusal, is_at, is_abort}
 use Rattle.tab_model.proofs.StepCases.{command_if, subscribe_refusal_if, subscribe_if, unsubscribe_if}
 use Rattle.tab_model.specs.Run.{Allowed, IsSplitByOverflow, put_ask, put_command}
 use Rattle.tab_model.proofs.Splits.{none_handed, split_fits}
@@ -447,3 +448,14 @@ post_seen bs σ k n = by (session_at σ.sessions n) refl
     by (Some s) e =
         let m = mine bs σ k n s e in
         ap (option_map (λ (b : Subscriber). b.outbox)) m.1.there ∙ ap (λ (x : Session). Some x.outbox) (sym m.1.slot) ∙ ap (option_map (λ (x : Session). x.outbox)) (sym (mapped_some bs σ n s e))
+
+-- ---- its overflow
+
+pub overflow_seen : (bs : List Subscriber) (σ : State) → IsKept bs σ → (n : ℕ) → IfSome (session_at (state_with bs σ).sessions n) (λ (s : Session). subs.overflow_of (at bs n) ≡ s.overflow)
+overflow_seen bs σ k n = by (session_at σ.sessions n) refl
+  where
+    by : (o : Option Session) → session_at σ.sessions n ≡ o → IfSome (session_at (state_with bs σ).sessions n) (λ (s : Session). subs.overflow_of (at bs n) ≡ s.overflow)
+    by None e = subst (λ p. IfSome p (λ (s : Session). subs.overflow_of (at bs n) ≡ s.overflow)) (sym (mapped_none bs σ n e)) tt
+    by (Some s) e =
+        let m = mine bs σ k n s e in
+        subst (λ p. IfSome p (λ (x : Session). subs.overflow_of (at bs n) ≡ x.overflow)) (sym (mapped_some bs σ n s e)) (ap subs.overflow_of m.1.there ∙ ap (λ (x : Session). x.overflow) (sym m.1.slot))

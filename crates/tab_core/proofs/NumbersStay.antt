@@ -18,7 +18,8 @@ use Rattle.tab_model.specs.Ages.{Answer, Granted, Wait, Die, decide, can_retry}
 use Rattle.tab_model.specs.Locks.{needs}
 use Rattle.tab_model.specs.Schemas.{table_of_schema, schema_refusal, removed_table}
 use Rattle.tab_model.specs.State.{Transaction, Watch, Session, Queued, State, session_at, request_in, is_waiting, ages_of, is_busy, level_in, mid_of, count_moves}
-use Rattle.tab_model.specs.Outcome.{Retry, DoCommand, Outcome, outcome, is_empty, with_changed, make, by_lock_answer, operate, retry_in, retry, begin, one_shot, abort, batch_to, commit, events_now, without_deleted, end_to, has_room, schema, put_marker, subscribe_refusal, is_at, do_command, is_abort, step_of}
+use Rattle.tab_model.specs.declared.ask.Ask.TheVariants.{Retry, Do as DoCommand}
+use Rattle.tab_model.specs.Outcome.{Outcome, outcome, is_empty, with_changed, make, by_lock_answer, operate, retry_in, retry, begin, one_shot, abort, batch_to, commit, events_now, without_deleted, end_to, has_room, schema, put_marker, subscribe_refusal, is_at, do_command, is_abort, step_of}
 use Rattle.tab_model.proofs.StepCases.{within_limit, try_again, open_level_1, open_child, commit_at, schema_if, subscribe_if, unsubscribe_if, command_if}
 use Rattle.tab_model.proofs.SessionLists.{eq_true}
 use Rattle.tab_model.proofs.SoundSteps.{given_same, unwatched_same}

@@ -15,7 +15,8 @@ use Rattle.tab_model.specs.Schemas.{table_of_schema, schema_refusal, removed_tab
 use Rattle.tab_model.specs.Slices.{batch_for, end_for}
 use Rattle.tab_model.specs.State as plain
 use Rattle.tab_model.specs.State.{Transaction, Watch, Session, State, session_at, transaction_at, is_waiting, is_busy, level_in, mid_of}
-use Rattle.tab_model.specs.Outcome.{Ask, DoCommand, Outcome, outcome, is_empty, with_changed, with_transaction, after_put, batch_to, commit_now, commit, events_now, without_deleted, end_to, schema_now, has_room, schema, do_command, is_abort, step_of}
+use Rattle.tab_model.specs.declared.ask.Ask.TheVariants.{Do as DoCommand}
+use Rattle.tab_model.specs.Outcome.{Ask, Outcome, outcome, is_empty, with_changed, with_transaction, after_put, batch_to, commit_now, commit, events_now, without_deleted, end_to, schema_now, has_room, schema, do_command, is_abort, step_of}
 use Rattle.tab_model.proofs.StepCases.{commit_at, schema_if, command_if}
 use Rattle.tab_model.specs.Run.{Allowed, IsSplitByOverflow, put_ask, put_commit, put_schema}
 use Rattle.tab_model.proofs.Splits.{none_handed}

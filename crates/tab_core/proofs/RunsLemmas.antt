@@ -4,7 +4,6 @@ use Rattle.std.specs.Prelude.{Bool, false, ◌==◌, if◌then◌else◌}
 use Rattle.tab_model.specs.declared.data.Entry.{Entry}
 use Rattle.tab_model.specs.declared.data.Item.{Item}
 use Rattle.tab_model.specs.declared.data.Reply.{Reply}
-use Rattle.tab_model.specs.declared.data.Reply.TheVariants as reply
 use Rattle.tab_model.specs.State.{State, IsSound}
 use Rattle.tab_model.specs.Reached.{IsRising}
 use Rattle.tab_model.specs.Outcome.{Ask, outcome}
@@ -12,31 +11,30 @@ use Rattle.tab_model.specs.Run.{entries, delivered_by, JoinsEmpty, IsTied, item_
 use Rattle.tab_model.proofs.SoundSteps.{step_sound}
 use Rattle.tab_model.proofs.ReachedWaits.{step_rising}
 use Rattle.tab_model.proofs.TiedSteps.{step_tied}
-use Rattle.tab_core.specs.declared.step.Step.{Step}
+use Rattle.tab_model.specs.declared.ask.Ask.{Ask as AskWith}
 use Rattle.tab_manager.specs.declared.step.Stepped.{Stepped}
 use Rattle.tab_model.specs.State.{Outbox}
-use Rattle.tab_model.specs.Run.{Allowed}
 use Rattle.tab_core.specs.Runs.{ask_of, asks_of, AllJoinEmpty, StepsTo, StepsOrNoMemory, RunsTo, taken_in}
 
 -- the run so far, in a form that the rest completes
-pub record IsRunning {P : Type 0} (f : P → Outbox) (first now : State) (all rest : List (ℕ × Step P)) (told : List Reply) : Type 0 where
+pub record IsRunning {P : Type 0} (f : P → Outbox) (first now : State) (all rest : List (ℕ × AskWith P)) (told : List Reply) : Type 0 where
   pub log : List Entry
   pub onward : (rs : List Reply) (more : List Entry) (τ : State) → RunsTo now (asks_of f rest) rs more τ → RunsTo first (asks_of f all) (told ++ rs) (log ++ more) τ
 
-pub starts : {P : Type 0} (f : P → Outbox) (σ : State) (steps : List (ℕ × Step P)) → IsRunning f σ σ steps steps []
+pub starts : {P : Type 0} (f : P → Outbox) (σ : State) (steps : List (ℕ × AskWith P)) → IsRunning f σ σ steps steps []
 starts f σ steps = record { log = []; onward = λ rs more τ r. r }
 
 pub takes_of : (σ μ : State) (n : ℕ) (a : Ask) (s : Stepped) → StepsTo σ n a s μ → StepsOrNoMemory σ (n, a) s.reply (entries s.entry) μ
 takes_of σ μ n a s (over, allowed, m) = inl (over, allowed, ap (λ o. o.state) m, ap (λ o. o.reply) m, ap (λ o. entries o.entry) m)
 
-pub goes_on : {P : Type 0} (f : P → Outbox) (first σ μ : State) (all rest : List (ℕ × Step P)) (s : ℕ × Step P) (told : List Reply) (r : Reply) (es : List Entry) → StepsOrNoMemory σ (s.0, ask_of f s.1) r es μ → IsRunning f first σ all (s ∷ rest) told → IsRunning f first μ all rest (told ++ r ∷ [])
+pub goes_on : {P : Type 0} (f : P → Outbox) (first σ μ : State) (all rest : List (ℕ × AskWith P)) (s : ℕ × AskWith P) (told : List Reply) (r : Reply) (es : List Entry) → StepsOrNoMemory σ (s.0, ask_of f s.1) r es μ → IsRunning f first σ all (s ∷ rest) told → IsRunning f first μ all rest (told ++ r ∷ [])
 goes_on f first σ μ all rest s told r es t h = record {
   log = h.log ++ es;
   onward = λ rs more τ ran. subst (λ (xs : List Reply). RunsTo first (asks_of f all) xs ((h.log ++ es) ++ more) τ) (sym (append_assoc told (r ∷ []) rs))
       (subst (λ (l : List Entry). RunsTo first (asks_of f all) (told ++ r ∷ rs) l τ) (sym (append_assoc h.log es more)) (h.onward (r ∷ rs) (es ++ more) τ (μ, es, more, t, ran, refl)));
 }
 
-pub ends_with : {P : Type 0} (f : P → Outbox) (first σ : State) (all : List (ℕ × Step P)) (told : List Reply) → IsRunning f first σ all [] told → (log : List Entry) × RunsTo first (asks_of f all) told log σ
+pub ends_with : {P : Type 0} (f : P → Outbox) (first σ : State) (all : List (ℕ × AskWith P)) (told : List Reply) → IsRunning f first σ all [] told → (log : List Entry) × RunsTo first (asks_of f all) told log σ
 ends_with f first σ all told h = (
   h.log,
   subst (λ (xs : List Reply). RunsTo first (asks_of f all) xs h.log σ) (append-nil told)

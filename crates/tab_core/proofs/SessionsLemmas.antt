@@ -9,7 +9,8 @@ use Rattle.tab_model.specs.declared.data.Reply.{Reply}
 use Rattle.tab_model.specs.declared.data.Reply.TheVariants as reply
 use Rattle.tab_model.specs.State.{Outbox, Session, State, session_at, AreDistinct, transaction_at}
 use Rattle.tab_model.specs.Outcome as plain
-use Rattle.tab_model.specs.Outcome.{Ask, Join, Leave, Outcome, outcome, step_without_entry, step_of, fresh, without_session}
+use Rattle.tab_model.specs.declared.ask.Ask.TheVariants.{Join, Leave}
+use Rattle.tab_model.specs.Outcome.{Ask, Outcome, outcome, step_without_entry, step_of, fresh, without_session}
 use Rattle.tab_model.proofs.Splits.{none_handed}
 use Rattle.tab_model.proofs.StepCases.{join_if}
 use Rattle.tab_model.proofs.SessionLists.{found}

@@ -1,12 +1,11 @@
 -- One session's subscriber changes, joins or leaves, and with it the session's state.
-use Rattle.std.proofs.Common.{◌≡◌, ◌≢◌, ℕ, ◌<◌, List, [], ◌∷◌, ◌++◌, Bool, true, false, refl, sym, ap, ◌∙◌, subst, arith, Option, Some, None}
-use Rattle.std.specs.Prelude.{◌==◌, if◌then◌else◌, map, option_map}
-use Rattle.std.specs.List.{AllByRecursion}
+use Rattle.std.proofs.Common.{◌≡◌, ℕ, List, [], ◌∷◌, ◌++◌, Bool, true, false, not, refl, sym, ap, ◌∙◌, subst, arith, Option, Some, None}
+use Rattle.std.specs.Prelude.{◌==◌, if◌then◌else◌, map}
 use Rattle.tab_model.specs.State.{Session, session_at, AreDistinct}
 use Rattle.tab_model.specs.Outcome as plain
 use Rattle.tab_model.specs.Outcome.{without_session}
 use Rattle.tab_model.proofs.SessionLists.{eq_true, other_number, itself, differs'}
-use Rattle.tab_subs.specs.Subscribers.{Subscriber, at, change, without, fresh, numbers, overflow_of, AllBelow}
+use Rattle.tab_subs.specs.Subscribers.{Subscriber, at, change, without, numbers, overflow_of, AllBelow}
 use Rattle.tab_core.specs.SessionLists.{watching_of, outbox_of, session_with}
 
 abbrev pub dress : Option Subscriber → Session → Session
@@ -73,7 +72,7 @@ at_without : (bs : List Subscriber) (n m : ℕ) → (m == n) ≡ false → at (w
 at_without [] n m h = refl
 at_without (c ∷ bs) n m h = by (c.number == n) refl (at_without bs n m h)
   where
-    by : (d : Bool) → (c.number == n) ≡ d → at (without bs n) m ≡ at bs m → at (if d then without bs n else c ∷ without bs n) m ≡ (if c.number == m then Some c else at bs m)
+    by : (d : Bool) → (c.number == n) ≡ d → at (without bs n) m ≡ at bs m → at (if not d then c ∷ without bs n else without bs n) m ≡ (if c.number == m then Some c else at bs m)
     by true e ih = ih ∙ sym (ap (λ d. if d then Some c else at bs m) (differs' c.number m (λ q. other_number m n h (sym q ∙ eq_true c.number n e))))
     by false e ih = ap (λ o. if c.number == m then Some c else o) ih
 
@@ -82,7 +81,7 @@ sessions_without bs n [] = refl
 sessions_without bs n (s ∷ ss) = by (s.number == n) refl (sessions_without bs n ss)
   where
     by : (d : Bool) → (s.number == n) ≡ d → without_session (map (session_with bs) ss) n ≡ map (session_with (without bs n)) (without_session ss n)
-        → (if d then without_session (map (session_with bs) ss) n else session_with bs s ∷ without_session (map (session_with bs) ss) n) ≡ map (session_with (without bs n)) (if d then without_session ss n else s ∷ without_session ss n)
+        → (if not d then session_with bs s ∷ without_session (map (session_with bs) ss) n else without_session (map (session_with bs) ss) n) ≡ map (session_with (without bs n)) (if not d then s ∷ without_session ss n else without_session ss n)
     by true e ih = ih
     by false e ih = λ i. dress (sym (at_without bs n s.number e) i) s ∷ ih i
 
@@ -90,7 +89,7 @@ pub without_nobody : (ss : List Session) (n : ℕ) → session_at ss n ≡ None 
 without_nobody [] n h = refl
 without_nobody (s ∷ ss) n h = by (s.number == n) h (without_nobody ss n)
   where
-    by : (d : Bool) → (if d then Some s else session_at ss n) ≡ None → (session_at ss n ≡ None → without_session ss n ≡ ss) → (if d then without_session ss n else s ∷ without_session ss n) ≡ s ∷ ss
+    by : (d : Bool) → (if d then Some s else session_at ss n) ≡ None → (session_at ss n ≡ None → without_session ss n ≡ ss) → (if not d then s ∷ without_session ss n else without_session ss n) ≡ s ∷ ss
     by true g ih = cc
     by false g ih = ap (λ xs. s ∷ xs) (ih g)
 
@@ -98,7 +97,7 @@ pub without_numbers : (bs : List Subscriber) (n : ℕ) (ss : List Session) → n
 without_numbers [] n [] e = refl
 without_numbers [] n (s ∷ ss) e = cc
 without_numbers (b ∷ bs) n [] e = cc
-without_numbers (b ∷ bs) n (s ∷ ss) e = ap (λ d. numbers (if d then without bs n else b ∷ without bs n)) (ap (λ k. k == n) (head_is e)) ∙ by (s.number == n) (without_numbers bs n ss (tail_is e))
+without_numbers (b ∷ bs) n (s ∷ ss) e = ap (λ d. numbers (if not d then b ∷ without bs n else without bs n)) (ap (λ k. k == n) (head_is e)) ∙ by (s.number == n) (without_numbers bs n ss (tail_is e))
   where
     head_is : {k l : ℕ} {ks ls : List ℕ} → (k ∷ ks) ≡ (l ∷ ls) → k ≡ l
     head_is q = cc
@@ -106,7 +105,7 @@ without_numbers (b ∷ bs) n (s ∷ ss) e = ap (λ d. numbers (if d then without
     tail_is : {k l : ℕ} {ks ls : List ℕ} → (k ∷ ks) ≡ (l ∷ ls) → ks ≡ ls
     tail_is q = cc
 
-    by : (d : Bool) → numbers (without bs n) ≡ map (λ (x : Session). x.number) (without_session ss n) → numbers (if d then without bs n else b ∷ without bs n) ≡ map (λ (x : Session). x.number) (if d then without_session ss n else s ∷ without_session ss n)
+    by : (d : Bool) → numbers (without bs n) ≡ map (λ (x : Session). x.number) (without_session ss n) → numbers (if not d then b ∷ without bs n else without bs n) ≡ map (λ (x : Session). x.number) (if not d then s ∷ without_session ss n else without_session ss n)
     by true rest = rest
     by false rest = λ i. head_is e i ∷ rest i
 

@@ -1,6 +1,6 @@
 -- Steps of the manager as steps of the core.
 use Rattle.std.proofs.Common.{◌≡◌, ℕ, ◌+◌, List, [], ◌∷◌, Bool, true, false, ◌&&◌, not, refl, sym, ap, ◌∙◌, subst, Option, Some, None}
-use Rattle.std.specs.Prelude.{if◌then◌else◌, is_some, Result, Ok, Err, IfOk, IsOk, OnErr, map, option_map}
+use Rattle.std.specs.Prelude.{if◌then◌else◌, is_some, Result, Ok, Err, IfOk, OnErr, map, option_map}
 use Rattle.std.specs.List.{filter}
 use Rattle.tab_model.specs.declared.data.Change.{Change}
 use Rattle.tab_model.specs.declared.data.Entry.{Entry}
@@ -15,7 +15,8 @@ use Rattle.tab_model.specs.Schemas.{removed_table}
 use Rattle.tab_model.specs.Slices.{batch_for, end_for}
 use Rattle.tab_model.specs.State as plain
 use Rattle.tab_model.specs.State.{Transaction, Session, State, session_at, transaction_at, is_waiting, level_in}
-use Rattle.tab_model.specs.Outcome.{Ask, Retry, DoCommand, Outcome, outcome, is_empty, is_abort}
+use Rattle.tab_model.specs.declared.ask.Ask.TheVariants.{Retry, Do as DoCommand}
+use Rattle.tab_model.specs.Outcome.{Ask, Outcome, outcome, is_empty, is_abort}
 use Rattle.tab_model.specs.Run.{Allowed, IsSplitByOverflow, put_ask, put_command, put_commit}
 use Rattle.tab_model.proofs.Splits.{none_handed}
 use Rattle.tab_model.proofs.SessionLists.{found}
@@ -175,11 +176,6 @@ ok_makes P Q (Err e) f h = tt
 pub same_result : {E : Type 0} (bs : List Subscriber) (σ τ : State) (P : Stepped → Type 0) (r : Result Stepped E) → AreTheSame bs σ → ((s : Stepped) → P s → AreTheSame bs τ) → IfOk r P → OnErr r (τ ≡ σ) → AreTheSame bs τ
 same_result bs σ τ P (Ok s) k f h e = f s h
 same_result bs σ τ P (Err x) k f h e = subst (AreTheSame bs) (sym e) k
-
--- where none is taken, none is refused
-pub same_free : {E : Type 0} (cs : List Subscriber) (τ : State) (P : Stepped → Type 0) (r : Result Stepped E) → IsOk r → ((s : Stepped) → P s → AreTheSame cs τ) → IfOk r P → AreTheSame cs τ
-same_free cs τ P (Ok s) i f h = f s h
-same_free cs τ P (Err x) i f h = cc
 
 -- ---- a table's deletion, and the other schema commands
 

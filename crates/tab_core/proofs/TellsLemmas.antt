@@ -8,7 +8,8 @@ use Rattle.tab_model.specs.declared.data.Level.{Level}
 use Rattle.tab_model.specs.declared.data.Reply.{Reply}
 use Rattle.tab_model.specs.declared.data.Reply.TheVariants as reply
 use Rattle.tab_model.specs.declared.data.Schema.{Schema}
-use Rattle.tab_model.specs.Outcome.{Ask, DoCommand, Retry, Outcome, outcome, step_without_entry, step_of, commit, has_room, is_abort, is_empty, is_at, schema, subscribe_refusal, unsubscribe_refusal}
+use Rattle.tab_model.specs.declared.ask.Ask.TheVariants.{Do as DoCommand, Retry}
+use Rattle.tab_model.specs.Outcome.{Ask, Outcome, outcome, step_without_entry, step_of, commit, has_room, is_abort, is_empty, is_at, schema, subscribe_refusal, unsubscribe_refusal}
 use Rattle.tab_model.proofs.StepCases.{commit_at, command_if, subscribe_if, unsubscribe_if}
 use Rattle.tab_model.specs.Run.{IsSplitByOverflow, put_ask, put_schema}
 use Rattle.tab_model.proofs.Splits.{none_handed}

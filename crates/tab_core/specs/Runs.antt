@@ -5,23 +5,23 @@ use Rattle.tab_model.specs.declared.data.Item.{Item}
 use Rattle.tab_model.specs.declared.data.Reply.{Reply}
 use Rattle.tab_model.specs.declared.data.Reply.TheVariants as reply
 use Rattle.tab_model.specs.State.{Outbox, State}
-use Rattle.tab_model.specs.Outcome.{Ask, Join, Leave, Retry, Take, DoCommand, outcome}
+use Rattle.tab_model.specs.declared.ask.Ask.{Ask as AskWith}
+use Rattle.tab_model.specs.declared.ask.Ask.TheVariants.{Join, Leave, Retry, Take, Do as DoCommand}
+use Rattle.tab_model.specs.Outcome.{Ask, outcome}
 use Rattle.tab_model.specs.Run.{Allowed, JoinsEmpty, entries, delivered_by}
 use Rattle.tab_manager.specs.declared.step.Stepped.{Stepped}
 use Rattle.tab_manager.specs.Steps as manager
-use Rattle.tab_core.specs.declared.step.Step.{Step}
-use Rattle.tab_core.specs.declared.step.Step.TheVariants as step
 
 -- what a step asks; f says what a post shows
-abbrev pub ask_of : {P : Type 0} → (P → Outbox) → Step P → Ask
-ask_of f (step.Join p) = Join (f p)
-ask_of f step.Leave = Leave
-ask_of f (step.Do c) = DoCommand c
-ask_of f step.Retry = Retry
-ask_of f step.Take = Take
+abbrev pub ask_of : {P : Type 0} → (P → Outbox) → AskWith P → Ask
+ask_of f (Join p) = Join (f p)
+ask_of f Leave = Leave
+ask_of f Retry = Retry
+ask_of f Take = Take
+ask_of f (DoCommand c) = DoCommand c
 
 -- what steps ask, in their order, each with the number of its session
-abbrev pub asks_of : {P : Type 0} → (P → Outbox) → List (ℕ × Step P) → List (ℕ × Ask)
+abbrev pub asks_of : {P : Type 0} → (P → Outbox) → List (ℕ × AskWith P) → List (ℕ × Ask)
 asks_of f [] = []
 asks_of f (s ∷ steps) = (s.0, ask_of f s.1) ∷ asks_of f steps
 

@@ -3,7 +3,7 @@
 ghost use Rattle.std.specs.Prelude.{◌≡◌, ◌+◌, ◌∷◌, ◌++◌, [], IfOk, IsOk, OnOk, OnErr, IsTrue};
 ghost use Rattle.std.specs.List.{filter};
 ghost use Rattle.tab_model.specs.declared.data.Command.TheVariants as command;
-ghost use Rattle.tab_model.specs.Outcome.{DoCommand};
+ghost use Rattle.tab_model.specs.declared.ask.Ask.TheVariants.{Do as DoCommand};
 ghost use Rattle.tab_model.specs.Events.{event_of};
 ghost use Rattle.tab_model.specs.State.{session_at};
 ghost use Rattle.tab_core.specs.Owing.{are_watched as are_watched_by, is_watched, Commits, Owes, Updates};
@@ -14,7 +14,7 @@ ghost use Rattle.tab_core.specs.Subscribing.{inside_refusal, refused_by};
 use crate::Core;
 use crate::step::with_overflowed;
 use std::alloc::{AllocError, Global};
-use tab_manager::{Ending, Manager, Step, Stepped};
+use tab_manager::{Ending, Manager, Stepped};
 use tab_model::{Command, Event, Reply, Schema};
 use tab_outbox::Post;
 use tab_rows::Update;
@@ -56,10 +56,10 @@ impl<P: Post + Drop> Core<P> {
         ensures err { OnErr result (self.new ≡ self.old) }
     {
         let Some(ending) = self.manager.outermost(session) else {
-            return self.manager.step(session, Step::Do(Command::Commit));
+            return self.manager.command(session, Command::Commit);
         };
         let Some(updated) = expected(self.alloc, self.manager.tables(), &self.subs, &ending)? else {
-            return self.manager.step(session, Step::Do(Command::Commit));
+            return self.manager.command(session, Command::Commit);
         };
         deliver_commit(
             self.alloc,
@@ -105,15 +105,11 @@ impl<P: Post + Drop> Core<P> {
         ensures err { OnErr result (self.new ≡ self.old) }
     {
         let Schema::Remove(table) = &schema else {
-            return self
-                .manager
-                .step(session, Step::Do(Command::Schema(schema)));
+            return self.manager.command(session, Command::Schema(schema));
         };
         let number = next_commit(&self.manager)?;
         let prepared = self.subs.prepare_end(self.alloc, table, number)?;
-        let stepped = self
-            .manager
-            .step(session, Step::Do(Command::Schema(schema)))?;
+        let stepped = self.manager.command(session, Command::Schema(schema))?;
         if stepped.entry.is_none() {
             return Ok(stepped);
         }

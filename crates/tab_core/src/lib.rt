@@ -10,7 +10,7 @@ ghost use Rattle.tab_model.specs.declared.data.Entry.{Entry as EntryOf};
 ghost use Rattle.tab_model.specs.declared.data.Item.{Item as ItemOf};
 ghost use Rattle.tab_model.specs.State.{new, IsSound};
 ghost use Rattle.tab_model.specs.Reached.{IsRising};
-ghost use Rattle.tab_model.specs.Outcome.{DoCommand};
+ghost use Rattle.tab_model.specs.declared.ask.Ask.TheVariants.{Do as DoCommand};
 ghost use Rattle.tab_model.specs.Run.{IsTied};
 ghost use Rattle.tab_core.specs.Runs.{ask_of, asks_of, AllJoinEmpty, StepsTo, StepsOrNoMemory, RunsTo, taken_in, takes_no_memory};
 
@@ -23,9 +23,9 @@ mod subscribing;
 
 use std::alloc::{AllocError, Global};
 use std::marker::Model;
-pub use step::Step;
+use tab_manager::Manager;
 pub use tab_manager::{Rest, SESSIONS, Stepped};
-use tab_manager::{Manager, Step as Quiet};
+pub use tab_model::Ask as Step;
 use tab_model::{Command, Limits, Reply, SharedReply};
 use tab_outbox::Post;
 use tab_subs::Subs;
@@ -96,14 +96,28 @@ impl<P: Post + Drop> Core<P> {
     {
         match step {
             Step::Join(post) => self.join(session, post),
-            Step::Leave => self.leave(session),
-            Step::Do(command) => self.command(session, command),
-            Step::Retry => self.manager.step(session, Quiet::Retry),
+            Step::Leave => Ok(self.leave(session)),
+            Step::Retry => self.retry(session),
             Step::Take => Ok(self.take(session)),
+            Step::Do(command) => self.command(session, command),
         }
     }
 
-    fn command(&mut self, session: u32, command: Command) -> Result<Stepped, AllocError>
+    /// A command of the session, whole or, where memory that it takes is refused, not at all.
+    pub fn command(&mut self, session: u32, command: Command) -> Result<Stepped, AllocError>
+        ensures done { IfOk result (λ s. StepsTo self.old session (DoCommand command) s self.new) }
+        ensures free { IsTrue (takes_no_memory self.old session (DoCommand command)) → IsOk result }
+        ensures err { OnErr result (self.new ≡ self.old) }
+        ensures sound { IsSound self.new }
+        ensures rising { IsRising self.new }
+    {
+        let stepped = self.do_command(session, command);
+        // Known of the core from here on is that it is sound.
+        let _ = &self.manager;
+        stepped
+    }
+
+    fn do_command(&mut self, session: u32, command: Command) -> Result<Stepped, AllocError>
         ensures done { IfOk result (λ s. StepsTo self.old session (DoCommand command) s self.new) }
         ensures free { IsTrue (takes_no_memory self.old session (DoCommand command)) → IsOk result }
         ensures err { OnErr result (self.new ≡ self.old) }
@@ -113,7 +127,7 @@ impl<P: Post + Drop> Core<P> {
             Command::Schema(schema) => self.schema(session, schema),
             Command::Subscribe(table, level, dump) => self.subscribe(session, table, level, dump),
             Command::Unsubscribe(table, level) => self.unsubscribe(session, table, level),
-            command => self.manager.step(session, Quiet::Do(command)),
+            command => self.manager.command(session, command),
         }
     }
 

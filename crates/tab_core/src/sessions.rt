@@ -1,13 +1,15 @@
 //! Sessions join, take and leave.
 
 ghost use Rattle.std.specs.Prelude.{◌≡◌, IsTrue, IfOk, IsOk, OnErr};
-ghost use Rattle.tab_model.specs.Outcome.{Join, Leave, Take};
+ghost use Rattle.tab_model.specs.State.{IsSound};
+ghost use Rattle.tab_model.specs.Reached.{IsRising};
+ghost use Rattle.tab_model.specs.declared.ask.Ask.TheVariants.{Join, Leave, Retry, Take};
 ghost use Rattle.tab_core.specs.Runs.{StepsTo, takes_no_memory};
 ghost use Rattle.tab_core.specs.Subscribing.{taken_reply as taken_reply_of};
 
 use crate::Core;
 use std::alloc::AllocError;
-use tab_manager::{Step, Stepped};
+use tab_manager::Stepped;
 use tab_model::Reply;
 use tab_outbox::Post;
 use tab_subs::Taken;
@@ -22,26 +24,39 @@ impl<P: Post + Drop> Core<P> {
     {
         if !self.manager.admits(session) {
             drop(post);
-            return self.manager.step(session, Step::Join);
+            return Ok(self.manager.join(session));
         }
         self.subs.join(self.alloc, session as u64, post)?;
-        self.manager.step(session, Step::Join)
+        Ok(self.manager.join(session))
     }
 
-    /// The session's transaction, locks, request, subscriptions and post are gone.
-    pub(crate) fn leave(&mut self, session: u32) -> Result<Stepped, AllocError>
-        ensures done { IfOk result (λ s. StepsTo self.old session Leave s self.new) }
-        ensures free { IsOk result }
-        ensures err { OnErr result (self.new ≡ self.old) }
+    /// The session's transaction, locks, request, subscriptions and post are gone. Takes no memory.
+    pub fn leave(&mut self, session: u32) -> Stepped
+        ensures done { StepsTo self.old session Leave result self.new }
+        ensures sound { IsSound self.new }
+        ensures rising { IsRising self.new }
     {
-        let stepped = self.manager.step(session, Step::Leave)?;
+        let stepped = self.manager.leave(session);
         self.subs.leave(session as u64);
-        Ok(stepped)
+        stepped
     }
 
-    /// The next item of the session's post, else an overflow that it was not told yet.
-    pub(crate) fn take(&mut self, session: u32) -> Stepped
-        ensures { StepsTo self.old session Take result self.new }
+    /// The session asks again for the lock that it waits for: whole or, where memory that it takes is refused, not at all.
+    pub fn retry(&mut self, session: u32) -> Result<Stepped, AllocError>
+        ensures done { IfOk result (λ s. StepsTo self.old session Retry s self.new) }
+        ensures free { IsTrue (takes_no_memory self.old session Retry) → IsOk result }
+        ensures err { OnErr result (self.new ≡ self.old) }
+        ensures sound { IsSound self.new }
+        ensures rising { IsRising self.new }
+    {
+        self.manager.retry(session)
+    }
+
+    /// The next item of the session's post, else an overflow that it was not told yet. Takes no memory.
+    pub fn take(&mut self, session: u32) -> Stepped
+        ensures done { StepsTo self.old session Take result self.new }
+        ensures sound { IsSound self.new }
+        ensures rising { IsRising self.new }
     {
         let taken = self.subs.take(session as u64);
         taken_reply(taken)

@@ -1,25 +1,10 @@
-//! What a session asks of a core, and what it is given.
+//! A step with those whose posts refused its items.
 
 ghost use Rattle.std.specs.Prelude.{◌≡◌, option_map};
 ghost use Rattle.tab_core.specs.SessionLists.{with_overflowed as with_overflowed_of};
 
 use tab_manager::Stepped;
-use tab_model::{Command, Entry, Numbers};
-
-/// What a session asks.
-#[derive(Drop)]
-pub enum Step<P> {
-    /// Takes a session number greater than all that joined before. The session's items go into the post, which is empty.
-    Join(P),
-    /// Ends the session's transaction and the session.
-    Leave,
-    /// A command of the session.
-    Do(Command),
-    /// Asks again for the lock that the session waits for.
-    Retry,
-    /// Takes the next item of the session's post.
-    Take,
-}
+use tab_model::{Entry, Numbers};
 
 /// The step with those whose posts refused its items.
 pub(crate) fn with_overflowed(stepped: Stepped, over: Numbers) -> Stepped

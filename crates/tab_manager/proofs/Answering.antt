@@ -1,16 +1,12 @@
 -- What commands are answered, and the parts after them.
-use Rattle.std.proofs.Common.{◌≡◌, ◌≢◌, ℕ, zero, suc, ◌+◌, ◌<◌, ◌≤◌, ◌^◌, List, [], ◌∷◌, ◌++◌, Bool, true, false, ◌&&◌, not, refl, sym, ap, ◌∙◌, subst, arith, length, Option, Some, None, get_or, set}
-use Rattle.std.specs.Prelude.{◌==◌, is_some, nat_lt, if◌then◌else◌, IfSome, IfOk, OnErr, IsOk, Result, Ok, Err, map, option_map}
+use Rattle.std.proofs.Common.{◌≡◌, ℕ, zero, suc, ◌+◌, ◌<◌, ◌≤◌, List, [], ◌∷◌, ◌++◌, Bool, true, false, ◌&&◌, not, refl, sym, ap, ◌∙◌, subst, arith, length, Option, Some, None, get_or, set}
+use Rattle.std.specs.Prelude.{◌==◌, is_some, nat_lt, if◌then◌else◌, IfSome, IfOk, IsOk, Result, Ok, Err, map, option_map}
 use Rattle.std.specs.List.{list_any}
 use Rattle.std.specs.Option.{option_copied}
 use Rattle.std.specs.Borrow.{Bor}
 use Rattle.tab_term.specs.declared.term.Term.{Term}
-use Rattle.tab_manager.specs.declared.step.Step.{Step}
-use Rattle.tab_manager.specs.declared.step.Step.TheVariants as step
-use Rattle.tab_manager.specs.Steps.{ask_of}
 use Rattle.std.proofs.lemmas.Bool.Decides.{nat_tests}
 use Rattle.arrayvec.specs.ArrayVec.{ArrayVec}
-use Rattle.tab_locks.specs.Members.{SameMembers}
 use Rattle.tab_model.specs.declared.data.Command.{Command}
 use Rattle.tab_model.specs.declared.data.Command.TheVariants as command
 use Rattle.tab_model.specs.declared.data.Entry.TheVariants as entry
@@ -20,16 +16,16 @@ use Rattle.tab_model.specs.declared.data.Limits.{Limits}
 use Rattle.tab_model.specs.declared.data.Reply.{Reply}
 use Rattle.tab_model.specs.declared.data.Reply.TheVariants as reply
 use Rattle.tab_model.specs.declared.data.Schema.{Schema}
-use Rattle.tab_model.specs.Ages.{Ages, Owned, all_of, forget, without}
+use Rattle.tab_model.specs.Ages.{Ages, Owned, all_of, forget}
 use Rattle.tab_model.specs.Events.{change_all, surviving_changes}
 use Rattle.tab_model.specs.Schemas.{table_of_schema, schema_refusal, schema_effect}
 use Rattle.tab_model.specs.Catalogs.{Catalog, find}
 use Rattle.tab_model.specs.State as plain
 use Rattle.tab_model.specs.State.{Session, State, session_at, moves_at, is_waiting, is_busy, is_in, locks_held_in, locks_queued_in}
-use Rattle.tab_model.specs.Outcome.{Join, DoCommand, outcome, step_without_entry, commit, is_empty, schema, has_room, fresh, table_info, is_abort}
+use Rattle.tab_model.specs.declared.ask.Ask.TheVariants.{Join, Do as DoCommand}
+use Rattle.tab_model.specs.Outcome.{Ask, outcome, step_of_stranger, step_without_entry, commit, is_empty, schema, has_room, fresh, table_info, is_abort}
 use Rattle.tab_model.proofs.StepCases.{commit_at, schema_if, join_if, command_if}
 use Rattle.tab_model.proofs.ReachedWaits.{held_pushed}
-use Rattle.tab_txstore.specs.Stores.{Fits}
 use Rattle.tab_txstore.proofs.FitsLemmas.{updates_survive}
 use Rattle.tab_manager.specs.declared.session.Transaction as kept
 use Rattle.tab_manager.specs.declared.session.Session as code
@@ -37,6 +33,7 @@ use Rattle.tab_manager.specs.declared.queue.Request as request
 use Rattle.tab_manager.specs.declared.step.Stepped.{Stepped}
 use Rattle.tab_manager.specs.declared.machine.Machine.{Machine}
 use Rattle.tab_manager.specs.SessionLists.{no_outbox, no_session, transaction_of, session_of, queued_of, state_of, transaction_in, at, IsHeldAt}
+use Rattle.tab_manager.specs.Steps.{StepsTo}
 use Rattle.tab_manager.specs.Works.{ended, forgotten_if, committed, NestsTo}
 use Rattle.tab_manager.specs.Kept.{opens, count_open, Agree, IsKept}
 use Rattle.tab_manager.proofs.HeldLocks.{busies}
@@ -151,15 +148,31 @@ module _ (m : Machine) (n : ℕ) (stranger : at m.sessions.items n ≡ None) whe
       mapped_many [] = refl
       mapped_many (x ∷ ss) = ap suc (mapped_many ss)
 
-  pub joins_old : nat_lt m.greatest n ≡ false → outcome (state_of m) [] n (Join no_outbox) ≡ step_without_entry (state_of m) reply.BadSession
-  joins_old h = joins_if false (nat_lt (length (map session_of m.sessions.items)) m.limits.sessions) h refl
-
   pub joins_none : nat_lt m.greatest n ≡ true → nat_lt (length m.sessions.items) m.limits.sessions ≡ false → outcome (state_of m) [] n (Join no_outbox) ≡ step_without_entry (state_of m) (reply.SystemLimit limit.Sessions)
   joins_none h g = joins_if true false h (ap (λ l. nat_lt l m.limits.sessions) as_many ∙ g)
 
   -- the machine with one more session
   abbrev pub joined : ArrayVec code.Session → Machine
   joined ss = record m { sessions = ss; greatest = n }
+
+-- whose number is not above all that joined, whether it has joined or not
+pub joins_old : (m : Machine) (n : ℕ) → nat_lt m.greatest n ≡ false → outcome (state_of m) [] n (Join no_outbox) ≡ step_without_entry (state_of m) reply.BadSession
+joins_old m n h = by (at m.sessions.items n) refl
+  where
+    by : (o : Option code.Session) → at m.sessions.items n ≡ o → outcome (state_of m) [] n (Join no_outbox) ≡ step_without_entry (state_of m) reply.BadSession
+    by None e = joins_if m n e false (nat_lt (length (map session_of m.sessions.items)) m.limits.sessions) h refl
+    by (Some s) e = keep.sits (state_of m) n (session_of s) (Join no_outbox) (at_of m.sessions.items n ∙ ap (option_map session_of) e)
+
+-- whose number is above all that joined has not joined
+pub newcomer : (m : Machine) (n : ℕ) → IsKept m → nat_lt m.greatest n ≡ true → at m.sessions.items n ≡ None
+newcomer m n k h = by (at m.sessions.items n) refl
+  where
+    above : (a b : ℕ) → nat_lt a b ≡ true → b ≤ a → ⊥
+    above a b q le = let less : a < b = grind (arith, nat_tests) in omega (arith, less, le)
+
+    by : (o : Option code.Session) → at m.sessions.items n ≡ o → o ≡ None
+    by None e = refl
+    by (Some s) e = absurd (above m.greatest n h (k.sound.joined n (session_of s) (at_of m.sessions.items n ∙ ap (option_map session_of) e)))
 
 pub join_exit : (m : Machine) (n : ℕ) → IsKept m → (stranger : at m.sessions.items n ≡ None) → nat_lt m.greatest n ≡ true → nat_lt (length m.sessions.items) m.limits.sessions ≡ true → (ss : ArrayVec code.Session) → ss.items ≡ m.sessions.items ++ no_session n ∷ []
     → Leaves m (joined m n stranger ss) n (Join no_outbox) reply.Done
@@ -258,11 +271,8 @@ info_told m n i there idle name item (Err f) h = tt
 
 -- ---- who has not joined, and who waits
 
-pub unseated_default : (m : Machine) (n : ℕ) → at m.sessions.items n ≡ None → (x : Step) → (x ≡ step.Join → ⊥) → outcome (state_of m) [] n (ask_of x) ≡ step_without_entry (state_of m) reply.BadSession
-unseated_default m n stranger step.Join h = absurd (h refl)
-unseated_default m n stranger step.Leave h = keep.strange (state_of m) n _ (nowhere m n stranger)
-unseated_default m n stranger (step.Do c) h = keep.strange (state_of m) n _ (nowhere m n stranger)
-unseated_default m n stranger step.Retry h = keep.strange (state_of m) n _ (nowhere m n stranger)
+pub unseated : (m : Machine) (n : ℕ) → at m.sessions.items n ≡ None → (a : Ask) → step_of_stranger (state_of m) n a ≡ step_without_entry (state_of m) reply.BadSession → (s : Stepped) → s ≡ record { reply = reply.BadSession; entry = None } → StepsTo (state_of m) n a s (state_of m)
+unseated m n stranger a told s is = keep.strange (state_of m) n a (nowhere m n stranger) ∙ told ∙ without_entry (state_of m) reply.BadSession s is
 
 no_abort : (x : Command) → ((r : Term) → x ≡ command.Abort r → ⊥) → is_abort x ≡ false
 no_abort (command.Schema c) h = refl

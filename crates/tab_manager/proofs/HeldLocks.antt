@@ -1,13 +1,13 @@
 -- The locks that sessions hold, when one session is another.
-use Rattle.std.proofs.Common.{◌≡◌, ◌≢◌, ℕ, List, [], ◌∷◌, ◌++◌, Bool, true, false, ◌&&◌, ◌||◌, not, refl, sym, ap, ◌∙◌, subst, arith, Option, Some, None}
+use Rattle.std.proofs.Common.{◌≡◌, ℕ, List, [], ◌∷◌, ◌++◌, Bool, true, false, ◌&&◌, ◌||◌, not, refl, sym, ap, ◌∙◌, Option, Some, None}
 use Rattle.std.specs.Prelude.{◌==◌, if◌then◌else◌}
 use Rattle.std.specs.List.{list_any}
 use Rattle.std.proofs.lemmas.List.Folds.{list_any-append}
 use Rattle.std.proofs.lemmas.Bool.{or_parts}
-use Rattle.tab_locks.specs.Members.{HasMore, SameMembers, Drops}
+use Rattle.tab_locks.specs.Members.{HasMore, SameMembers}
 use Rattle.tab_model.specs.Ages.{Owned, Ages, without, opposes, covers_own, blocks, all_of, decide, can_retry, before}
-use Rattle.tab_model.specs.Locks.{Lock, needs, locks_of}
-use Rattle.tab_model.specs.State.{Transaction, Session, State, session_at, transaction_in, transaction_at, with_age, locks_held_by, locks_held_in, is_in, is_busy, AreDistinct, IsSound}
+use Rattle.tab_model.specs.Locks.{Lock, locks_of}
+use Rattle.tab_model.specs.State.{Transaction, Session, State, session_at, transaction_in, transaction_at, with_age, locks_held_by, locks_held_in, is_in, AreDistinct, IsSound}
 use Rattle.tab_model.specs.Outcome.{with_changed, without_session}
 use Rattle.tab_model.proofs.SessionLists.{eq_true, session_at-without}
 use Rattle.tab_model.proofs.StepsBySession.{held_some, IsHolder, distinct-without}
@@ -27,7 +27,7 @@ pub any_without : (p : Owned → Bool) (a : ℕ) (xs : List Owned) → list_any 
 any_without p a [] = refl
 any_without p a (x ∷ xs) = by (x.0 == a) (p x) (any_without p a xs)
   where
-    by : (b q : Bool) → list_any p (without a xs) ≡ list_any (λ y. p y && not (y.0 == a)) xs → list_any p (if b then without a xs else x ∷ without a xs) ≡ ((p x && not b) || list_any (λ y. p y && not (y.0 == a)) xs)
+    by : (b q : Bool) → list_any p (without a xs) ≡ list_any (λ y. p y && not (y.0 == a)) xs → list_any p (if not b then x ∷ without a xs else without a xs) ≡ ((p x && not b) || list_any (λ y. p y && not (y.0 == a)) xs)
     by true q ih = ih ∙ by_p (p x)
       where
         by_p : (q : Bool) → list_any (λ y. p y && not (y.0 == a)) xs ≡ ((q && false) || list_any (λ y. p y && not (y.0 == a)) xs)
@@ -70,7 +70,7 @@ absent : (p : Owned → Bool) (sessions : List Session) (n : ℕ) → session_at
 absent p [] n h = refl
 absent p (x ∷ sessions) n h = by (x.number == n) h (absent p sessions n)
   where
-    by : (b : Bool) → (if b then Some x else session_at sessions n) ≡ None → (session_at sessions n ≡ None → locks_held_in (without_session sessions n) ≡ locks_held_in sessions) → locks_held_in (if b then without_session sessions n else x ∷ without_session sessions n) ≡ locks_held_by x.transaction ++ locks_held_in sessions
+    by : (b : Bool) → (if b then Some x else session_at sessions n) ≡ None → (session_at sessions n ≡ None → locks_held_in (without_session sessions n) ≡ locks_held_in sessions) → locks_held_in (if not b then x ∷ without_session sessions n else without_session sessions n) ≡ locks_held_by x.transaction ++ locks_held_in sessions
     by true g ih = cc
     by false g ih = ap (λ hs. locks_held_by x.transaction ++ hs) (ih g)
 
@@ -81,7 +81,7 @@ split_changed p (x ∷ sessions) n s s' d h e = by (x.number == n) (ap (λ m. x.
   where
     by : (b : Bool) → (x.number == s'.number) ≡ (x.number == n) → (x.number == n) ≡ b → (if b then Some x else session_at sessions n) ≡ Some s
         → (session_at sessions n ≡ Some s → list_any p (locks_held_in (with_changed sessions s')) ≡ (list_any p (locks_held_by s'.transaction) || list_any p (locks_held_in (without_session sessions n))))
-        → list_any p (locks_held_in (if x.number == s'.number then s' ∷ sessions else x ∷ with_changed sessions s')) ≡ (list_any p (locks_held_by s'.transaction) || list_any p (locks_held_in (if b then without_session sessions n else x ∷ without_session sessions n)))
+        → list_any p (locks_held_in (if x.number == s'.number then s' ∷ sessions else x ∷ with_changed sessions s')) ≡ (list_any p (locks_held_by s'.transaction) || list_any p (locks_held_in (if not b then x ∷ without_session sessions n else without_session sessions n)))
     by true f g k ih =
         ap (λ b. list_any p (locks_held_in (if b then s' ∷ sessions else x ∷ with_changed sessions s'))) (f ∙ g)
         ∙ list_any-append p (locks_held_by s'.transaction) (locks_held_in sessions)

@@ -1,47 +1,40 @@
 -- What a session is answered, and what keeps the parts in agreement.
 use Rattle.std.proofs.Common.{◌≡◌, ◌≢◌, ℕ, zero, suc, take, ◌+◌, ◌<◌, ◌≤◌, List, [], ◌∷◌, ◌++◌, Bool, true, false, ◌&&◌, ◌||◌, not, refl, sym, ap, ◌∙◌, subst, arith, length, Option, Some, None, get_or, set}
-use Rattle.std.specs.Prelude.{OnErr, Result, Ok, Err, ◌==◌, if◌then◌else◌, nat_lt, is_some, map, option_map}
+use Rattle.std.specs.Prelude.{OnErr, Result, Ok, Err, ◌==◌, if◌then◌else◌, is_some, map, option_map}
 use Rattle.std.specs.List.{list_any, filter}
-use Rattle.std.proofs.lemmas.Bool.Decides.{nat_tests}
 use Rattle.std.proofs.lemmas.Bool.{or_parts}
 use Rattle.std.specs.Global.{Vec}
 use Rattle.arrayvec.specs.ArrayVec.{ArrayVec}
 use Rattle.tab_model.specs.Ages as Plain
-use Rattle.tab_locks.specs.Members.{HasMore, SameMembers}
+use Rattle.tab_locks.specs.Members.{SameMembers}
 use Rattle.tab_locks.specs.Placed.{placed}
 use Rattle.tab_locks.proofs.Listing.{any_placed}
 use Rattle.tab_model.specs.declared.data.Command.{Command}
 use Rattle.tab_model.specs.declared.data.Entry.{Entry}
-use Rattle.tab_model.specs.declared.data.Move.{Move}
-use Rattle.tab_model.specs.declared.data.Move.TheVariants.{Do, Open, Close, Undo}
-use Rattle.tab_model.specs.declared.data.Operation.{Operation}
 use Rattle.tab_model.specs.declared.data.Reply.{Reply}
 use Rattle.tab_model.specs.Ages.{Owned, without, request_of, forget}
-use Rattle.tab_model.specs.Alone.{start, after, reply_to, replies}
-use Rattle.tab_model.specs.Events.{is_failure}
-use Rattle.tab_model.specs.Locks.{needs, locks_of}
-use Rattle.tab_model.specs.Operations.{table_of, answer, failure}
-use Rattle.tab_model.specs.Catalogs.{Catalog, Table, find}
+use Rattle.tab_model.specs.Alone.{start, replies}
+use Rattle.tab_model.specs.Locks.{needs}
+use Rattle.tab_model.specs.Catalogs.{Catalog}
 use Rattle.tab_model.specs.State as plain
 use Rattle.tab_model.specs.State.{Session, State, Queued, session_at, transaction_at, request_in, without_request, is_waiting, locks_held_by, locks_held_in, locks_queued_in, mid_of, IsSound}
-use Rattle.tab_model.specs.Outcome.{Ask, DoCommand, outcome, step_of, step_of_stranger, step_of_joined, do_command, is_abort, step_without_entry, with_changed}
+use Rattle.tab_model.specs.declared.ask.Ask.TheVariants.{Do as DoCommand}
+use Rattle.tab_model.specs.Outcome.{Ask, outcome, step_of, step_of_stranger, step_of_joined, do_command, is_abort, step_without_entry, with_changed}
 use Rattle.tab_model.proofs.StepCases.{command_if}
 use Rattle.tab_model.proofs.SessionLists.{eq_true, other_number}
 use Rattle.tab_model.proofs.SoundSteps.{step_sound}
 use Rattle.tab_model.proofs.RefusalLaws.{none_queued}
 use Rattle.tab_model.specs.Reached.{IsRising}
 use Rattle.tab_model.proofs.ReachedWaits.{step_rising, Match, match_of, without_match}
-use Rattle.tab_txstore.specs.Stores.{Store, store_next, committed_for, Fits}
-use Rattle.tab_txstore.proofs.FitsLemmas.{depth_shown, fits_next}
+use Rattle.tab_txstore.specs.Stores.{Fits}
+use Rattle.tab_txstore.proofs.FitsLemmas.{depth_shown}
 use Rattle.tab_manager.specs.declared.session.Transaction as kept
 use Rattle.tab_manager.specs.declared.session.Session as code
 use Rattle.tab_manager.specs.declared.queue.Request as request
 use Rattle.tab_manager.specs.declared.machine.Machine.{Machine}
-use Rattle.tab_manager.specs.declared.operating.Worked.{Worked}
 use Rattle.tab_manager.specs.SessionLists.{no_session, transaction_of, session_of, queued_of, state_of, transaction_in, at, IsHeldAt}
-use Rattle.tab_manager.specs.Works.{with_store, ended, Works}
 use Rattle.tab_manager.specs.Kept.{opens, count_open, Agree, IsKept}
-use Rattle.tab_manager.proofs.HeldLocks.{any_without, same_without, held_same, held_more, held_none_left, held_gone}
+use Rattle.tab_manager.proofs.HeldLocks.{same_without, held_same, held_more, held_none_left, held_gone}
 use Rattle.tab_manager.proofs.Places.{at_of, counts}
 
 -- ---- what is answered
@@ -116,7 +109,7 @@ queued_filtered n [] = refl
 queued_filtered n (q ∷ qs) = by (q.session == n) (queued_filtered n qs)
   where
     by : (b : Bool) → map queued_of (filter (λ x. not (x.session == n)) qs) ≡ without_request (map queued_of qs) n
-        → map queued_of (if not b then q ∷ filter (λ x. not (x.session == n)) qs else filter (λ x. not (x.session == n)) qs) ≡ (if b then without_request (map queued_of qs) n else queued_of q ∷ without_request (map queued_of qs) n)
+        → map queued_of (if not b then q ∷ filter (λ x. not (x.session == n)) qs else filter (λ x. not (x.session == n)) qs) ≡ (if not b then queued_of q ∷ without_request (map queued_of qs) n else without_request (map queued_of qs) n)
     by true ih = ih
     by false ih = ap (λ xs. queued_of q ∷ xs) ih
 
@@ -125,7 +118,7 @@ pub none_waits : (f : ℕ → Option plain.Transaction) (n : ℕ) (qs : List Que
 none_waits f n [] h o = refl
 none_waits f n (q ∷ qs) h o = by (q.session == n) refl (none_waits f n qs h o.1)
   where
-    by : (b : Bool) → (q.session == n) ≡ b → without_request qs n ≡ qs → (if b then without_request qs n else q ∷ without_request qs n) ≡ q ∷ qs
+    by : (b : Bool) → (q.session == n) ≡ b → without_request qs n ≡ qs → (if not b then q ∷ without_request qs n else without_request qs n) ≡ q ∷ qs
     by true e ih = absurd (subst (λ x. plain.HasAge x q.age) (ap f (eq_true q.session n e) ∙ h) o.0)
     by false e ih = ap (λ xs. q ∷ xs) ih
 

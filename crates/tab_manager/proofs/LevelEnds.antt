@@ -17,7 +17,8 @@ use Rattle.tab_model.specs.Locks.{locks_of}
 use Rattle.tab_model.specs.Catalogs.{Catalog, Table}
 use Rattle.tab_model.specs.State as plain
 use Rattle.tab_model.specs.State.{Session, State, without_request, is_waiting, locks_held_by, locks_held_in, locks_queued_in, mid_of, count_moves}
-use Rattle.tab_model.specs.Outcome.{DoCommand, Leave, outcome, step_without_entry, abort, is_empty, make, with_queue, without_session, leave, commit, begin, with_changed}
+use Rattle.tab_model.specs.declared.ask.Ask.TheVariants.{Do as DoCommand, Leave}
+use Rattle.tab_model.specs.Outcome.{outcome, step_without_entry, abort, is_empty, make, with_queue, without_session, leave, commit, begin, with_changed}
 use Rattle.tab_model.proofs.StepCases.{command_if, commit_at, open_child, open_level_1}
 use Rattle.tab_model.proofs.StepsBySession.{lock_of_move, locks-more}
 use Rattle.tab_txstore.specs.Stores.{Store, no_store, store_next, committed_for, Fits}

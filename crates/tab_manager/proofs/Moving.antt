@@ -1,22 +1,21 @@
 -- A move that a transaction makes: what its session is answered, and the parts after it.
-use Rattle.std.proofs.Common.{◌≡◌, ◌≢◌, ℕ, suc, ◌+◌, ◌<◌, ◌≤◌, List, [], ◌∷◌, ◌++◌, Bool, true, false, ◌&&◌, ◌||◌, not, refl, sym, ap, ◌∙◌, subst, arith, length, Option, Some, None, get_or, set}
-use Rattle.std.specs.Prelude.{◌==◌, if◌then◌else◌, nat_lt, is_some, map, option_map}
-use Rattle.std.specs.List.{list_any, filter}
+use Rattle.std.proofs.Common.{◌≡◌, ℕ, ◌+◌, ◌≤◌, List, [], ◌∷◌, ◌++◌, Bool, true, false, ◌&&◌, ◌||◌, not, refl, sym, ap, ◌∙◌, subst, arith, length, Option, Some, set}
+use Rattle.std.specs.Prelude.{◌==◌, if◌then◌else◌, map, option_map}
+use Rattle.std.specs.List.{list_any}
 use Rattle.std.proofs.lemmas.Bool.Decides.{nat_tests}
 use Rattle.tab_locks.specs.Members.{SameMembers}
 use Rattle.tab_locks.specs.Placed.{placed}
 use Rattle.tab_locks.proofs.Listing.{any_placed}
 use Rattle.tab_model.specs.declared.data.Move.{Move}
-use Rattle.tab_model.specs.declared.data.Move.TheVariants.{Do, Open, Close, Undo}
+use Rattle.tab_model.specs.declared.data.Move.TheVariants.{Do}
 use Rattle.tab_model.specs.declared.data.Operation.{Operation}
 use Rattle.tab_model.specs.declared.data.Reply.{Reply}
-use Rattle.tab_model.specs.declared.data.Reply.TheVariants as reply
-use Rattle.tab_model.specs.Ages.{Owned, Ages, without, forget, decide, Granted}
-use Rattle.tab_model.specs.Alone.{Mid, start, after, reply_to, replies}
+use Rattle.tab_model.specs.Ages.{Owned, without}
+use Rattle.tab_model.specs.Alone.{reply_to}
 use Rattle.tab_model.specs.Events.{is_failure}
 use Rattle.tab_model.specs.Locks.{Lock, needs, locks_of}
-use Rattle.tab_model.specs.Operations.{table_of, answer, failure}
-use Rattle.tab_model.specs.Catalogs.{Catalog, Table, find}
+use Rattle.tab_model.specs.Operations.{table_of}
+use Rattle.tab_model.specs.Catalogs.{Table, find}
 use Rattle.tab_model.specs.State as plain
 use Rattle.tab_model.specs.State.{Session, State, with_age, locks_held_by, locks_held_in, locks_queued_in, mid_of}
 use Rattle.tab_model.specs.Outcome.{is_empty, step_without_entry, with_session, with_transaction, ends_transaction, reply_or, make}
@@ -25,16 +24,16 @@ use Rattle.tab_model.proofs.SessionLists.{itself}
 use Rattle.tab_model.proofs.StepsBySession.{lock_of_move, locks-more}
 use Rattle.tab_model.proofs.SurvivorsRight.{reply_tells}
 use Rattle.tab_model.proofs.ReachedWaits.{aged_append}
-use Rattle.tab_txstore.specs.Stores.{Store, store_next, committed_for, Fits}
+use Rattle.tab_txstore.specs.Stores.{Store, store_next, Fits}
 use Rattle.tab_txstore.proofs.FitsLemmas.{fits_next}
 use Rattle.tab_manager.specs.declared.session.Transaction as kept
 use Rattle.tab_manager.specs.declared.session.Session as code
 use Rattle.tab_manager.specs.declared.queue.Request as request
 use Rattle.tab_manager.specs.declared.machine.Machine.{Machine}
 use Rattle.tab_manager.specs.declared.operating.Worked.{Worked}
-use Rattle.tab_manager.specs.SessionLists.{transaction_of, session_of, queued_of, state_of, transaction_in, at, IsHeldAt}
-use Rattle.tab_manager.specs.Works.{with_store, ended, Works, forgotten_if}
-use Rattle.tab_manager.specs.Kept.{opens, count_open, Agree, IsKept}
+use Rattle.tab_manager.specs.SessionLists.{transaction_of, session_of, queued_of, state_of, IsHeldAt}
+use Rattle.tab_manager.specs.Works.{with_store, ended, Works}
+use Rattle.tab_manager.specs.Kept.{opens, Agree, IsKept}
 use Rattle.tab_manager.proofs.HeldLocks.{any_without}
 use Rattle.tab_manager.proofs.Keeping as keep
 use Rattle.tab_manager.proofs.Keeping.{the_session, state_with}
@@ -73,9 +72,9 @@ pub without_twice : (a : ℕ) (xs : List Owned) → without a (without a xs) ≡
 without_twice a [] = refl
 without_twice a (x ∷ xs) = by (x.0 == a) refl (without_twice a xs)
   where
-    by : (b : Bool) → (x.0 == a) ≡ b → without a (without a xs) ≡ without a xs → without a (if b then without a xs else x ∷ without a xs) ≡ (if b then without a xs else x ∷ without a xs)
+    by : (b : Bool) → (x.0 == a) ≡ b → without a (without a xs) ≡ without a xs → without a (if not b then x ∷ without a xs else without a xs) ≡ (if not b then x ∷ without a xs else without a xs)
     by true e ih = ih
-    by false e ih = ap (λ b. if b then without a (without a xs) else x ∷ without a (without a xs)) e ∙ ap (λ ys. x ∷ ys) ih
+    by false e ih = ap (λ b. if not b then x ∷ without a (without a xs) else without a (without a xs)) e ∙ ap (λ ys. x ∷ ys) ih
 
 module _ (m : Machine) (n i : ℕ) (k : IsKept m) (there : IsHeldAt m.sessions.items n i) (t : kept.Transaction) (open_t : (the_session m n i).transaction ≡ Some t) where
   abbrev s : code.Session

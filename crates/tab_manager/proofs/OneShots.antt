@@ -7,7 +7,8 @@ use Rattle.tab_model.specs.declared.data.Command.TheVariants as command
 use Rattle.tab_model.specs.declared.data.Reply.{Reply}
 use Rattle.tab_model.specs.declared.data.Reply.TheVariants as reply
 use Rattle.tab_model.specs.State.{State, is_waiting}
-use Rattle.tab_model.specs.Outcome.{DoCommand, outcome, step_without_entry, begin, one_shot, do_command}
+use Rattle.tab_model.specs.declared.ask.Ask.TheVariants.{Do as DoCommand}
+use Rattle.tab_model.specs.Outcome.{outcome, step_without_entry, begin, one_shot, do_command}
 use Rattle.tab_manager.specs.declared.session.Transaction as kept
 use Rattle.tab_manager.specs.declared.machine.Machine.{Machine}
 use Rattle.tab_manager.specs.SessionLists.{no_session, transaction_of, session_of, state_of, IsHeldAt}

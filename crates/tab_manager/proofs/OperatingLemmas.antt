@@ -15,7 +15,8 @@ use Rattle.tab_model.specs.Operations.{table_of}
 use Rattle.tab_model.specs.Catalogs.{find}
 use Rattle.tab_model.specs.State as plain
 use Rattle.tab_model.specs.State.{State, Queued, request_in, without_request, is_waiting, locks_held_in, locks_queued_in, ages_of, count_moves}
-use Rattle.tab_model.specs.Outcome.{DoCommand, Retry, Outcome, outcome, step_without_entry, operate, by_lock_answer, retry, retry_in, make, with_queue}
+use Rattle.tab_model.specs.declared.ask.Ask.TheVariants.{Do as DoCommand, Retry}
+use Rattle.tab_model.specs.Outcome.{Outcome, outcome, step_without_entry, operate, by_lock_answer, retry, retry_in, make, with_queue}
 use Rattle.tab_model.proofs.StepCases.{within_limit, try_again}
 use Rattle.tab_model.proofs.ReachedWaits.{queued_in-push, request_match, match_of, request_age}
 use Rattle.tab_txstore.specs.Stores.{store_next, no_store, Fits}

@@ -1,8 +1,8 @@
 -- Where a session stands.
-use Rattle.std.proofs.Common.{◌≡◌, ℕ, zero, suc, ◌+◌, ◌<◌, ◌≤◌, List, [], ◌∷◌, ◌++◌, Bool, true, false, not, refl, sym, ap, ◌∙◌, Some, None, take, length, get_or, set, arith, eqb-true, subst}
+use Rattle.std.proofs.Common.{◌≡◌, ℕ, zero, suc, ◌+◌, ◌<◌, ◌≤◌, List, [], ◌∷◌, Bool, true, false, not, refl, sym, ap, ◌∙◌, Some, None, take, length, get_or, set, arith, eqb-true}
 use Rattle.std.proofs.lemmas.Bool.{or_parts}
 use Rattle.std.proofs.lemmas.Bool.Decides.{nat_tests}
-use Rattle.std.specs.Prelude.{◌==◌, if◌then◌else◌, Option, map, option_map, remove}
+use Rattle.std.specs.Prelude.{◌==◌, if◌then◌else◌, map, option_map, remove}
 use Rattle.std.specs.List.{list_any, filter, refill}
 use Rattle.std.proofs.Common.{length-set}
 use Rattle.arrayvec.proofs.ArrayVecLemmas.{items-with_items}
@@ -95,7 +95,7 @@ without_filtered n [] = refl
 without_filtered n (x ∷ ss) = by (x.number == n) (without_filtered n ss)
   where
     by : (b : Bool) → map session_of (filter (λ s. not (s.number == n)) ss) ≡ without_session (map session_of ss) n
-        → map session_of (if not b then x ∷ filter (λ s. not (s.number == n)) ss else filter (λ s. not (s.number == n)) ss) ≡ (if b then without_session (map session_of ss) n else session_of x ∷ without_session (map session_of ss) n)
+        → map session_of (if not b then x ∷ filter (λ s. not (s.number == n)) ss else filter (λ s. not (s.number == n)) ss) ≡ (if not b then session_of x ∷ without_session (map session_of ss) n else without_session (map session_of ss) n)
     by true ih = ih
     by false ih = ap (λ zs. session_of x ∷ zs) ih
 

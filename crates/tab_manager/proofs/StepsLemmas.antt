@@ -15,7 +15,8 @@ use Rattle.tab_model.specs.declared.data.Schema.TheVariants.{Create, Remove, Add
 use Rattle.tab_model.specs.Ages.{Answer, Granted, Wait, Die, can_retry, decide}
 use Rattle.tab_model.specs.Definitions.{Parsed, Good, Bad, parse_options, is_indexed, position}
 use Rattle.tab_model.specs.Locks.{needs}
-use Rattle.tab_model.specs.Outcome.{Ask, Outcome, Retry, DoCommand, begin, commit, by_lock_answer, has_room, schema, table_info}
+use Rattle.tab_model.specs.declared.ask.Ask.TheVariants.{Retry, Do as DoCommand}
+use Rattle.tab_model.specs.Outcome.{Ask, Outcome, begin, commit, by_lock_answer, has_room, schema, table_info}
 use Rattle.tab_model.proofs.StepCases.{commit_at, open_child, try_again, schema_if}
 use Rattle.tab_model.specs.Refusals.{Changes, effect_of_reply}
 use Rattle.tab_model.specs.Schemas.{table_of_schema, is_some_position, bad_parse, create_refusal, remove_refusal, add_refusal, del_refusal, schema_refusal}

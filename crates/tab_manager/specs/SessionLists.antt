@@ -1,6 +1,6 @@
 -- The parts that a manager keeps, as the state that definitions speak of (this project's own).
-use Rattle.std.specs.Prelude.{◌≡◌, ◌<◌, ℕ, ◌+◌, List, [], ◌∷◌, ◌==◌, if◌then◌else◌, Option, None, Some, map, length, option_map, slice_index_or, slice_set}
-use Rattle.tab_model.specs.State.{Transaction, Outbox, Session, Queued, State, session_at}
+use Rattle.std.specs.Prelude.{◌≡◌, ◌<◌, ℕ, ◌+◌, List, [], ◌==◌, if◌then◌else◌, Option, None, Some, map, length, option_map, slice_index_or, slice_set, find}
+use Rattle.tab_model.specs.State.{Transaction, Outbox, Session, Queued, State}
 use Rattle.tab_model.specs.Outcome.{with_changed}
 use Rattle.tab_manager.specs.declared.session.Transaction as kept
 use Rattle.tab_manager.specs.declared.session.Session as code
@@ -46,8 +46,7 @@ transaction_in (Some s) = s.transaction
 
 -- the session of this number, the first if there are several
 abbrev pub at : List code.Session → ℕ → Option code.Session
-at [] n = None
-at (s ∷ ss) n = if s.number == n then Some s else at ss n
+at ss n = find (λ s. s.number == n) ss
 
 -- the session stands at this place
 pub record IsHeldAt (ss : List code.Session) (n i : ℕ) : Type 0 where

@@ -6,24 +6,9 @@ use Rattle.tab_model.specs.declared.data.Limit.TheVariants as limit
 use Rattle.tab_model.specs.declared.data.Reply.{Reply}
 use Rattle.tab_model.specs.declared.data.Reply.TheVariants as reply
 use Rattle.tab_model.specs.State.{State, is_waiting, moves_at, transaction_at}
-use Rattle.tab_model.specs.Outcome.{Ask, Join, Leave, Retry, Take, DoCommand, is_empty, outcome}
-use Rattle.tab_manager.specs.declared.step.Step.{Step}
-use Rattle.tab_manager.specs.declared.step.Step.TheVariants as step
+use Rattle.tab_model.specs.declared.ask.Ask.TheVariants.{Join, Leave, Retry, Take, Do as DoCommand}
+use Rattle.tab_model.specs.Outcome.{Ask, is_empty, outcome}
 use Rattle.tab_manager.specs.declared.step.Stepped.{Stepped}
-use Rattle.tab_manager.specs.Quiet.{is_quiet}
-use Rattle.tab_manager.specs.SessionLists.{no_outbox}
-
--- what a step asks; a session joins with the outbox into which nothing is put
-abbrev pub ask_of : Step → Ask
-ask_of step.Join = Join no_outbox
-ask_of step.Leave = Leave
-ask_of (step.Do c) = DoCommand c
-ask_of step.Retry = Retry
-
--- the caller's condition on a step
-abbrev pub is_quiet_step : Step → Bool
-is_quiet_step (step.Do c) = is_quiet c
-is_quiet_step s = true
 
 -- what is done without memory: to join, to leave, to take, to abort; to retry where nothing is queued; and to commit a
 -- transaction that did nothing

@@ -4,7 +4,7 @@ ghost use Rattle.std.specs.Prelude.{◌≡◌, Some, IsFalse, option_map};
 ghost use Rattle.tab_model.specs.declared.data.Command.TheVariants as command;
 ghost use Rattle.tab_model.specs.Events.{change_all, surviving_changes};
 ghost use Rattle.tab_model.specs.State.{Transaction as Opened, is_waiting};
-ghost use Rattle.tab_model.specs.Outcome.{DoCommand};
+ghost use Rattle.tab_model.specs.declared.ask.Ask.TheVariants.{Do as DoCommand};
 ghost use Rattle.tab_manager.specs.SessionLists.{state_of, IsHeldAt};
 ghost use Rattle.tab_manager.specs.Kept.{IsKept};
 ghost use Rattle.tab_manager.specs.Outermost.{outermost, ending_of, age_and_updates};

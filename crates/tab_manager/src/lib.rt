@@ -8,12 +8,14 @@
 ghost use Rattle.std.specs.Prelude.{◌≡◌, ◌≤◌, ◌^◌, ◌-◌, ◌&&◌, [], IfOk, IsOk, OnErr, Some, IsTrue, IsFalse, is_some, length, min, nat_lt, option_map};
 ghost use Rattle.tab_model.specs.declared.data.Command.TheVariants as command;
 ghost use Rattle.tab_model.specs.Events.{change_all, surviving_changes};
-ghost use Rattle.tab_model.specs.Outcome.{DoCommand};
+ghost use Rattle.tab_model.specs.declared.ask.Ask.TheVariants.{Join, Leave, Retry, Do as DoCommand};
 ghost use Rattle.tab_model.specs.Standing.{levels_of};
 ghost use Rattle.tab_model.specs.State.{Transaction, new, session_at, is_waiting, IsSound};
 ghost use Rattle.tab_model.specs.Reached.{IsRising};
 ghost use Rattle.tab_manager.specs.Outermost.{outermost, ending_of, age_and_updates};
-ghost use Rattle.tab_manager.specs.Steps.{ask_of, is_quiet_step, StepsTo, takes_no_memory};
+ghost use Rattle.tab_manager.specs.Quiet.{is_quiet};
+ghost use Rattle.tab_manager.specs.SessionLists.{no_outbox};
+ghost use Rattle.tab_manager.specs.Steps.{StepsTo, takes_no_memory};
 
 mod command;
 mod ending;
@@ -33,8 +35,8 @@ use arrayvec::ArrayVec;
 pub use ending::Ending;
 use std::alloc::{AllocError, Global};
 use std::marker::Model;
-pub use step::{Step, Stepped};
-use tab_model::Limits;
+pub use step::Stepped;
+use tab_model::{Command, Limits};
 use tab_tables::Catalog;
 pub use tab_waitdie::Rest;
 
@@ -75,16 +77,45 @@ impl Manager {
         }
     }
 
-    /// One step of a session, whole or, where memory that it takes is refused, not at all.
-    pub fn step(&mut self, session: u32, step: Step) -> Result<Stepped, AllocError>
-        requires { IsTrue (is_quiet_step step) }
-        ensures done { IfOk result (λ s. StepsTo self.old session (ask_of step) s self.new) }
-        ensures free { IsTrue (takes_no_memory self.old session (ask_of step)) → IsOk result }
+    /// The session takes its number, which is greater than all that joined before. Takes no memory.
+    pub fn join(&mut self, session: u32) -> Stepped
+        ensures done { StepsTo self.old session (Join no_outbox) result self.new }
+        ensures sound { IsSound self.new }
+        ensures rising { IsRising self.new }
+    {
+        self.machine.join(session)
+    }
+
+    /// Ends the session's transaction and the session. Takes no memory.
+    pub fn leave(&mut self, session: u32) -> Stepped
+        ensures done { StepsTo self.old session Leave result self.new }
+        ensures sound { IsSound self.new }
+        ensures rising { IsRising self.new }
+    {
+        self.machine.leave(session)
+    }
+
+    /// The session asks again for the lock that it waits for: whole or, where memory that it takes is refused, not at all.
+    pub fn retry(&mut self, session: u32) -> Result<Stepped, AllocError>
+        ensures done { IfOk result (λ s. StepsTo self.old session Retry s self.new) }
+        ensures free { IsTrue (takes_no_memory self.old session Retry) → IsOk result }
         ensures err { OnErr result (self.new ≡ self.old) }
         ensures sound { IsSound self.new }
         ensures rising { IsRising self.new }
     {
-        self.machine.step(session, step)
+        self.machine.retry(session)
+    }
+
+    /// A command of the session, whole or, where memory that it takes is refused, not at all.
+    pub fn command(&mut self, session: u32, command: Command) -> Result<Stepped, AllocError>
+        requires { IsTrue (is_quiet command) }
+        ensures done { IfOk result (λ s. StepsTo self.old session (DoCommand command) s self.new) }
+        ensures free { IsTrue (takes_no_memory self.old session (DoCommand command)) → IsOk result }
+        ensures err { OnErr result (self.new ≡ self.old) }
+        ensures sound { IsSound self.new }
+        ensures rising { IsRising self.new }
+    {
+        self.machine.command(session, command)
     }
 
     /// The transaction that a commit of the session would end, and what it would change: of a session that waits for

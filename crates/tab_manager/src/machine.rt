@@ -2,8 +2,9 @@
 
 ghost use Rattle.std.specs.Prelude.{◌≡◌, ◌≤◌, [], Some, None, IfOk, IsOk, OnErr, MatchOption, IsFalse, IsTrue};
 ghost use Rattle.tab_model.specs.State.{new, is_waiting};
-ghost use Rattle.tab_model.specs.Outcome.{DoCommand, step_without_entry, outcome};
-ghost use Rattle.tab_manager.specs.Steps.{StepsTo, ask_of, is_quiet_step, asks_for_none, is_told_for_none};
+ghost use Rattle.tab_model.specs.declared.ask.Ask.TheVariants.{Do as DoCommand};
+ghost use Rattle.tab_model.specs.Outcome.{step_without_entry, outcome};
+ghost use Rattle.tab_manager.specs.Steps.{StepsTo, asks_for_none, is_told_for_none};
 ghost use Rattle.tab_manager.specs.Quiet.{is_quiet};
 ghost use Rattle.tab_manager.specs.SessionLists.{state_of, at, IsHeldAt};
 ghost use Rattle.tab_manager.specs.Kept.{IsKept};
@@ -11,7 +12,7 @@ ghost use Rattle.tab_manager.specs.Kept.{IsKept};
 use crate::command::{Asked, AskedSchema};
 use crate::queue::{Request, find};
 use crate::session::Session;
-use crate::step::{Step, Stepped};
+use crate::step::Stepped;
 use arrayvec::ArrayVec;
 use std::alloc::{AllocError, Global};
 use tab_model::{Command, Limits, Reply};
@@ -90,52 +91,41 @@ impl Machine {
         None
     }
 
-    /// A step that neither subscribes nor ends a subscription. Where memory is refused nothing changes.
-    pub fn step(&mut self, session: u32, step: Step) -> Result<Stepped, AllocError>
-        requires quiet { IsTrue (is_quiet_step step) }
+    /// A command that neither begins nor ends a subscription. Where memory is refused nothing changes.
+    pub fn command(&mut self, session: u32, command: Command) -> Result<Stepped, AllocError>
+        requires quiet { IsTrue (is_quiet command) }
         requires kept { IsKept self.old }
         ensures done { IfOk result
-            (λ s. StepsTo (state_of self.old) session (ask_of step) s (state_of self.new)) }
-        ensures free { IsTrue (asks_for_none (state_of self.old) session (ask_of step))
+            (λ s. StepsTo (state_of self.old) session (DoCommand command) s (state_of self.new)) }
+        ensures free { IsTrue (asks_for_none (state_of self.old) session (DoCommand command))
             → IsOk result }
-        ensures told { IsTrue (is_told_for_none (state_of self.old) session (ask_of step))
+        ensures told { IsTrue (is_told_for_none (state_of self.old) session (DoCommand command))
             → IsOk result }
         ensures err { OnErr result (state_of self.new ≡ state_of self.old) }
         ensures kept { IsKept self.new }
     {
+        let asked = Asked { command };
         let Some(place) = self.place(session) else {
-            return Ok(Stepped::without_entry(self.stranger(session, &step)));
+            return Ok(Stepped::without_entry(Reply::BadSession));
         };
-        match step {
-            Step::Join => Ok(Stepped::without_entry(Reply::BadSession)),
-            Step::Leave => Ok(Stepped::without_entry(self.leave(session, place))),
-            Step::Retry => Ok(Stepped::told(self.retry(session, place)?)),
-            Step::Do(command) => self.command(session, place, Asked { command }),
+        if find(&self.queue, session).is_some() {
+            return Ok(Stepped::without_entry(self.waiting_command(session, place, asked)));
         }
+        self.idle_command(session, place, asked)
     }
 
-    /// A command of a joined session.
-    fn command(&mut self, session: u32, place: usize, asked: Asked) -> Result<Stepped, AllocError>
-        requires quiet { IsTrue (is_quiet asked.command) }
+    /// A command of a session that waits: it can do nothing but abort.
+    fn waiting_command(&mut self, session: u32, place: usize, asked: Asked) -> Reply
         requires kept { IsKept self.old }
         requires there { IsHeldAt self.old.sessions.items session place }
-        ensures done { IfOk result
-            (λ s. outcome (state_of self.old) [] session (DoCommand asked.command)
-            ≡ record { state = state_of self.new; reply = s.reply; entry = s.entry }) }
-        ensures free { IsTrue (asks_for_none (state_of self.old) session (DoCommand asked.command))
-            → IsOk result }
-        ensures told { IsTrue
-            (is_told_for_none (state_of self.old) session (DoCommand asked.command)) → IsOk result }
-        ensures err { OnErr result (state_of self.new ≡ state_of self.old) }
+        requires waits { IsTrue (is_waiting (state_of self.old) session) }
+        ensures done { outcome (state_of self.old) [] session (DoCommand asked.command)
+            ≡ step_without_entry (state_of self.new) result }
         ensures kept { IsKept self.new }
     {
-        let waits = find(&self.queue, session).is_some();
         match asked.into_command() {
-            Command::Abort(reason) => {
-                Ok(Stepped::without_entry(self.abort(session, place, reason)))
-            }
-            _ if waits => Ok(Stepped::without_entry(Reply::WaitingNow)),
-            command => self.idle_command(session, place, Asked { command }),
+            Command::Abort(reason) => self.abort(session, place, reason),
+            _ => Reply::WaitingNow,
         }
     }
 
@@ -179,20 +169,6 @@ impl Machine {
                 Ok(Stepped::without_entry(self.one_shot(session, place)?))
             }
             _ => unreachable!(),
-        }
-    }
-
-    /// A session that has not joined can do nothing but join.
-    fn stranger(&mut self, session: u32, step: &Step) -> Reply
-        requires kept { IsKept self.old }
-        requires stranger { at self.old.sessions.items session ≡ None }
-        ensures done { outcome (state_of self.old) [] session (ask_of step.now)
-            ≡ step_without_entry (state_of self.new) result }
-        ensures kept { IsKept self.new }
-    {
-        match step {
-            Step::Join => self.join(session),
-            _ => Reply::BadSession,
         }
     }
 }

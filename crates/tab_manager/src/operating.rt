@@ -5,17 +5,19 @@ ghost use Rattle.tab_model.specs.declared.data.Command.TheVariants as command;
 ghost use Rattle.tab_model.specs.Ages.{forget as forgotten};
 ghost use Rattle.tab_model.specs.Events.{is_failure as is_failure_of};
 ghost use Rattle.tab_model.specs.State.{is_waiting};
-ghost use Rattle.tab_model.specs.Outcome.{DoCommand, Retry, step_without_entry, outcome};
+ghost use Rattle.tab_model.specs.declared.ask.Ask.TheVariants.{Do as DoCommand, Retry};
+ghost use Rattle.tab_model.specs.Outcome.{step_without_entry, outcome};
 ghost use Rattle.tab_locks.specs.Placed.{without_last};
 ghost use Rattle.tab_waitdie.specs.Decisions.{ages as ages_with};
 ghost use Rattle.tab_manager.specs.SessionLists.{state_of, IsHeldAt};
 ghost use Rattle.tab_manager.specs.Kept.{IsKept};
-ghost use Rattle.tab_manager.specs.Steps.{is_told_for_none};
+ghost use Rattle.tab_manager.specs.Steps.{StepsTo, asks_for_none, is_told_for_none};
 ghost use Rattle.tab_manager.specs.Works.{Works, WorksTo, without_moves, ended, forgotten_if};
 
 use crate::machine::Machine;
 use crate::queue::{Request, find};
 use crate::session::{Session, Transaction};
+use crate::step::Stepped;
 use std::alloc::{AllocError, Global};
 use tab_model::{Limit, Reply, SharedReply};
 use tab_operations::{Pending, needs, perform};
@@ -95,8 +97,24 @@ impl Machine {
         }
     }
 
+    /// A session asks again for the lock that it waits for.
+    pub fn retry(&mut self, session: u32) -> Result<Stepped, AllocError>
+        requires kept { IsKept self.old }
+        ensures done { IfOk result
+            (λ s. StepsTo (state_of self.old) session Retry s (state_of self.new)) }
+        ensures free { IsTrue (asks_for_none (state_of self.old) session Retry) → IsOk result }
+        ensures told { IsTrue (is_told_for_none (state_of self.old) session Retry) → IsOk result }
+        ensures err { OnErr result (state_of self.new ≡ state_of self.old) }
+        ensures kept { IsKept self.new }
+    {
+        let Some(place) = self.place(session) else {
+            return Ok(Stepped::without_entry(Reply::BadSession));
+        };
+        Ok(Stepped::told(self.retry_at(session, place)?))
+    }
+
     /// The queued operation of a session, if there is one, asks again for its lock.
-    pub fn retry(&mut self, session: u32, place: usize) -> Result<SharedReply, AllocError>
+    fn retry_at(&mut self, session: u32, place: usize) -> Result<SharedReply, AllocError>
         requires kept { IsKept self.old }
         requires there { IsHeldAt self.old.sessions.items session place }
         ensures ok { IfOk result

@@ -2,7 +2,8 @@
 
 ghost use Rattle.std.specs.Prelude.{◌≡◌, [], None, IfOk, IsOk, OnErr, IsFalse, IsTrue, slice_index_or};
 ghost use Rattle.tab_model.specs.declared.data.Command.TheVariants as command;
-ghost use Rattle.tab_model.specs.Outcome.{DoCommand, has_room, step_without_entry, outcome};
+ghost use Rattle.tab_model.specs.declared.ask.Ask.TheVariants.{Do as DoCommand};
+ghost use Rattle.tab_model.specs.Outcome.{has_room, step_without_entry, outcome};
 ghost use Rattle.tab_model.specs.Schemas.{schema_effect, schema_refusal, table_of_schema};
 ghost use Rattle.tab_model.specs.State.{is_waiting};
 ghost use Rattle.tab_manager.specs.SessionLists.{no_session, state_of, IsHeldAt};

@@ -1,16 +1,18 @@
 //! Sessions join and leave.
 
-ghost use Rattle.std.specs.Prelude.{◌≡◌, ◌^◌, ◌-◌, ◌&&◌, [], None, is_some, length, min, nat_lt};
-ghost use Rattle.tab_model.specs.Outcome.{Join, Leave, step_without_entry, outcome};
+ghost use Rattle.std.specs.Prelude.{◌≡◌, ◌^◌, ◌-◌, ◌&&◌, is_some, length, min, nat_lt};
+ghost use Rattle.tab_model.specs.declared.ask.Ask.TheVariants.{Join, Leave};
 ghost use Rattle.tab_model.specs.Standing.{levels_of};
 ghost use Rattle.tab_model.specs.State.{is_waiting, session_at};
-ghost use Rattle.tab_manager.specs.SessionLists.{state_of, no_outbox, at, IsHeldAt};
+ghost use Rattle.tab_manager.specs.SessionLists.{state_of, no_outbox, IsHeldAt};
 ghost use Rattle.tab_manager.specs.Kept.{IsKept};
+ghost use Rattle.tab_manager.specs.Steps.{StepsTo};
 
 use crate::machine::Machine;
 use crate::operating::end_if;
 use crate::queue::find;
 use crate::session::Session;
+use crate::step::Stepped;
 use tab_model::{Limit, Reply};
 
 impl Machine {
@@ -59,39 +61,39 @@ impl Machine {
         session > self.greatest && (self.sessions.len() as u64) < self.limits.sessions
     }
 
-    /// Of a session that has not joined. Takes no memory.
-    pub fn join(&mut self, session: u32) -> Reply
+    /// A session takes its number. Takes no memory.
+    pub fn join(&mut self, session: u32) -> Stepped
         requires kept { IsKept self.old }
-        requires stranger { at self.old.sessions.items session ≡ None }
-        ensures ok { outcome (state_of self.old) [] session (Join no_outbox)
-            ≡ step_without_entry (state_of self.new) result }
+        ensures done { StepsTo (state_of self.old) session (Join no_outbox) result
+            (state_of self.new) }
         ensures kept { IsKept self.new }
     {
         if session <= self.greatest {
-            return Reply::BadSession;
+            return Stepped::without_entry(Reply::BadSession);
         }
         if self.sessions.len() as u64 >= self.limits.sessions {
-            return Reply::SystemLimit(Limit::Sessions);
+            return Stepped::without_entry(Reply::SystemLimit(Limit::Sessions));
         }
         self.sessions.push(Session {
             number: session,
             transaction: None,
         });
         self.greatest = session;
-        Reply::Done
+        Stepped::without_entry(Reply::Done)
     }
 
     /// The session's transaction, locks and queued request are gone. Takes no memory.
-    pub fn leave(&mut self, session: u32, place: usize) -> Reply
+    pub fn leave(&mut self, session: u32) -> Stepped
         requires kept { IsKept self.old }
-        requires there { IsHeldAt self.old.sessions.items session place }
-        ensures ok { outcome (state_of self.old) [] session Leave
-            ≡ step_without_entry (state_of self.new) result }
+        ensures done { StepsTo (state_of self.old) session Leave result (state_of self.new) }
         ensures kept { IsKept self.new }
     {
+        let Some(place) = self.place(session) else {
+            return Stepped::without_entry(Reply::BadSession);
+        };
         end_if(true, &mut self.sessions[place], &mut self.ages);
         self.sessions.remove(place);
         self.queue.retain(|request| request.session != session);
-        Reply::Done
+        Stepped::without_entry(Reply::Done)
     }
 }

@@ -1,21 +1,8 @@
-//! What a session asks of a manager, and what it is given.
+//! What a session is given by a manager.
 
 ghost use Rattle.std.specs.Prelude.{◌≡◌, None};
 
-use tab_model::{Command, Entry, Reply, SharedReply};
-
-/// What a session asks.
-#[derive(Drop)]
-pub enum Step {
-    /// Takes a session number greater than all that joined before.
-    Join,
-    /// Ends the session's transaction and the session.
-    Leave,
-    /// A command of the session. It begins or ends no subscription.
-    Do(Command),
-    /// Asks again for the lock that the session waits for.
-    Retry,
-}
+use tab_model::{Entry, Reply, SharedReply};
 
 /// What a step answers, and what it adds to the log.
 #[derive(Drop)]

@@ -2,7 +2,7 @@ use Rattle.std.proofs.Common.{ℕ, List, sym, ap, subst, ◌∙◌, IfOk}
 use Rattle.std.proofs.lemmas.Bool.{false≢true}
 use Rattle.tab_model.specs.declared.data.Change.{Change}
 use Rattle.tab_model.specs.declared.data.Command.TheVariants as command
-use Rattle.tab_model.specs.Outcome.{DoCommand}
+use Rattle.tab_model.specs.declared.ask.Ask.TheVariants.{Do as DoCommand}
 use Rattle.tab_model.specs.State.{State}
 use Rattle.tab_manager.specs.Outermost.{outermost}
 use Rattle.tab_core.specs.Owing.{Owes, are_watched}
@@ -18,9 +18,9 @@ invariant_of-self g c =
     let σ = c.self.inside.manager in
     let none = none_of _ c.outermost.result (outermost σ c.args.session) c.in_default.not-Some c.outermost.ensures in
     record {
-      same = same_result bs σ c.step.new.self _ c.step.result c.self.invariant.same (λ s h. (inner_commit_makes bs σ c.self.invariant c.args.session s c.step.new.self none h).1) c.step.ensures.done c.step.ensures.err;
-      sound = c.step.ensures.sound;
-      rising = c.step.ensures.rising;
+      same = same_result bs σ c.command.new.self _ c.command.result c.self.invariant.same (λ s h. (inner_commit_makes bs σ c.self.invariant c.args.session s c.command.new.self none h).1) c.command.ensures.done c.command.ensures.err;
+      sound = c.command.ensures.sound;
+      rising = c.command.ensures.rising;
     }
 
 pub returns-in_default-clause-done : goal.returns-in_default-clause-done
@@ -28,10 +28,10 @@ returns-in_default-clause-done g c =
     let bs = c.self.inside.subs in
     let σ = c.self.inside.manager in
     let none = none_of _ c.outermost.result (outermost σ c.args.session) c.in_default.not-Some c.outermost.ensures in
-    ok_sees bs bs σ c.step.new.self c.args.self.now c.args.session (DoCommand command.Commit) _ c.step.result c.self.view_is (λ s h. (inner_commit_makes bs σ c.self.invariant c.args.session s c.step.new.self none h).0) c.step.ensures.done
+    ok_sees bs bs σ c.command.new.self c.args.self.now c.args.session (DoCommand command.Commit) _ c.command.result c.self.view_is (λ s h. (inner_commit_makes bs σ c.self.invariant c.args.session s c.command.new.self none h).0) c.command.ensures.done
 
 pub returns-in_default-clause-free : goal.returns-in_default-clause-free
-returns-in_default-clause-free g c h = c.step.ensures.free (seen_commit_free c.self.inside.subs c.self.inside.manager c.args.self.now c.args.session c.self.view_is h)
+returns-in_default-clause-free g c h = c.command.ensures.free (seen_commit_free c.self.inside.subs c.self.inside.manager c.args.self.now c.args.session c.self.view_is h)
 
 pub returns-in_err-updated-clause-free : goal.returns-in_err-updated-clause-free
 returns-in_err-updated-clause-free g c h =
@@ -45,9 +45,9 @@ invariant_of-self-in_default-2 g c =
     let e : ℕ × List Change = (c.in-Some.ending.age, c.in-Some.ending.updates.now) in
     let unseen = unwatched_of _ bs e.0 e.1 c.in_ok-updated.field-0 c.in_default-2.not-Some c.in_ok-updated.ensures.owes in
     record {
-      same = same_result bs σ c.step-in_default-2.new.self _ c.step-in_default-2.result c.self.invariant.same (λ s h. (unwatched_commit_makes bs σ c.self.invariant c.args.session s c.step-in_default-2.new.self e c.in-Some.ensures unseen h).1) c.step-in_default-2.ensures.done c.step-in_default-2.ensures.err;
-      sound = c.step-in_default-2.ensures.sound;
-      rising = c.step-in_default-2.ensures.rising;
+      same = same_result bs σ c.command-in_default-2.new.self _ c.command-in_default-2.result c.self.invariant.same (λ s h. (unwatched_commit_makes bs σ c.self.invariant c.args.session s c.command-in_default-2.new.self e c.in-Some.ensures unseen h).1) c.command-in_default-2.ensures.done c.command-in_default-2.ensures.err;
+      sound = c.command-in_default-2.ensures.sound;
+      rising = c.command-in_default-2.ensures.rising;
     }
 
 pub returns-in_default-2-clause-done : goal.returns-in_default-2-clause-done
@@ -56,10 +56,10 @@ returns-in_default-2-clause-done g c =
     let σ = c.self.inside.manager in
     let e : ℕ × List Change = (c.in-Some.ending.age, c.in-Some.ending.updates.now) in
     let unseen = unwatched_of _ bs e.0 e.1 c.in_ok-updated.field-0 c.in_default-2.not-Some c.in_ok-updated.ensures.owes in
-    ok_sees bs bs σ c.step-in_default-2.new.self c.args.self.now c.args.session (DoCommand command.Commit) _ c.step-in_default-2.result c.self.view_is (λ s h. (unwatched_commit_makes bs σ c.self.invariant c.args.session s c.step-in_default-2.new.self e c.in-Some.ensures unseen h).0) c.step-in_default-2.ensures.done
+    ok_sees bs bs σ c.command-in_default-2.new.self c.args.self.now c.args.session (DoCommand command.Commit) _ c.command-in_default-2.result c.self.view_is (λ s h. (unwatched_commit_makes bs σ c.self.invariant c.args.session s c.command-in_default-2.new.self e c.in-Some.ensures unseen h).0) c.command-in_default-2.ensures.done
 
 pub returns-in_default-2-clause-free : goal.returns-in_default-2-clause-free
-returns-in_default-2-clause-free g c h = c.step-in_default-2.ensures.free (seen_commit_free c.self.inside.subs c.self.inside.manager c.args.self.now c.args.session c.self.view_is h)
+returns-in_default-2-clause-free g c h = c.command-in_default-2.ensures.free (seen_commit_free c.self.inside.subs c.self.inside.manager c.args.self.now c.args.session c.self.view_is h)
 
 pub deliver_commit-requires-clause-ends : goal.deliver_commit-requires-clause-ends
 deliver_commit-requires-clause-ends g c =

@@ -1,0 +1,9 @@
+use Rattle.std.proofs.Common.{◌∙◌}
+use Rattle.tab_manager.proofs.Answering.{waiting_default}
+use Rattle.tab_manager.proofs.machine.Machine.waiting_command.Goals as goal
+
+pub returns : goal.returns
+returns c = record {
+  done = waiting_default c.args.self.now c.args.session c.args.place c.requires.there c.requires.waits c.args.asked.command (λ r e. c.in_default.not-Abort r (c.into_command.ensures ∙ e));
+  kept = c.requires.kept;
+}
