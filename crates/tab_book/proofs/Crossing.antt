@@ -21,6 +21,7 @@ use Rattle.tab_model.specs.contracts.logged_operation.OperationForm as operation
 use Rattle.tab_model.specs.contracts.logged_reply.LoggedReply as logged
 use Rattle.tab_model.specs.contracts.only_record.OnlyRecord as only_record
 use Rattle.tab_model.specs.contracts.data.Item as item
+use Rattle.tab_model.specs.contracts.shared_item.SharedItem as shared_item
 use Rattle.tab_model.specs.contracts.data.TableInfo as info
 use Rattle.tab_model.specs.contracts.data.Change as change
 use Rattle.tab_model.specs.contracts.data.Lock as lock
@@ -106,15 +107,21 @@ item-send = search (parts, SharedTerms-send, EventTerms-send) depth 20
 item-sync : IsSync item.the_row
 item-sync = search (parts, SharedTerms-sync, EventTerms-sync) depth 20
 
+shared_item-send : IsSend shared_item.the_row
+shared_item-send = search (parts, item-send, item-sync) depth 20
+
+shared_item-sync : IsSync shared_item.the_row
+shared_item-sync = search (parts, item-send, item-sync) depth 20
+
 reply-send : IsSend reply.the_row
 reply-send =
-    let a = as_row_send atom.the_field atom_marks.the_send in let xs = as_row_send (row_field answers.the_row) Answers-send in let ss = as_row_send (row_field shared_terms.the_row) SharedTerms-send in let n = as_row_send u64-field (plain_send _ _ _ _ _) in
-    variants_send reply.enum (tt, (tt, (tt, (tt, (tt, (tt, (tt, ((limit_marks.the_send, tt), (tt, ((a, tt), ((a, (Term-send, tt)), ((a, (Term-send, tt)), ((Term-send, tt), ((a, tt), ((a, tt), ((a, (Term-send, tt)), ((a, tt), ((a, tt), ((a, tt), (tt, (tt, (tt, (tt, (tt, ((n, tt), ((n, tt), (tt, ((xs, tt), (tt, (tt, ((ss, tt), (tt, ((info-send, tt), ((item-send, tt), ((n, tt), (tt, tt))))))))))))))))))))))))))))))))))))
+    let a = as_row_send atom.the_field atom_marks.the_send in let xs = as_row_send (row_field answers.the_row) Answers-send in let ss = as_row_send (row_field shared_terms.the_row) SharedTerms-send in let it = as_row_send (row_field shared_item.the_row) shared_item-send in let n = as_row_send u64-field (plain_send _ _ _ _ _) in
+    variants_send reply.enum (tt, (tt, (tt, (tt, (tt, (tt, (tt, ((limit_marks.the_send, tt), (tt, ((a, tt), ((a, (Term-send, tt)), ((a, (Term-send, tt)), ((Term-send, tt), ((a, tt), ((a, tt), ((a, (Term-send, tt)), ((a, tt), ((a, tt), ((a, tt), (tt, (tt, (tt, (tt, (tt, ((n, tt), ((n, tt), (tt, ((xs, tt), (tt, (tt, ((ss, tt), (tt, ((info-send, tt), ((it, tt), ((n, tt), (tt, tt))))))))))))))))))))))))))))))))))))
 
 reply-sync : IsSync reply.the_row
 reply-sync =
-    let a = as_row_sync atom.the_field atom_marks.the_sync in let xs = as_row_sync (row_field answers.the_row) Answers-sync in let ss = as_row_sync (row_field shared_terms.the_row) SharedTerms-sync in let n = as_row_sync u64-field (plain_sync _ _ _ _ _) in
-    variants_sync reply.enum (tt, (tt, (tt, (tt, (tt, (tt, (tt, ((limit_marks.the_sync, tt), (tt, ((a, tt), ((a, (Term-sync, tt)), ((a, (Term-sync, tt)), ((Term-sync, tt), ((a, tt), ((a, tt), ((a, (Term-sync, tt)), ((a, tt), ((a, tt), ((a, tt), (tt, (tt, (tt, (tt, (tt, ((n, tt), ((n, tt), (tt, ((xs, tt), (tt, (tt, ((ss, tt), (tt, ((info-sync, tt), ((item-sync, tt), ((n, tt), (tt, tt))))))))))))))))))))))))))))))))))))
+    let a = as_row_sync atom.the_field atom_marks.the_sync in let xs = as_row_sync (row_field answers.the_row) Answers-sync in let ss = as_row_sync (row_field shared_terms.the_row) SharedTerms-sync in let it = as_row_sync (row_field shared_item.the_row) shared_item-sync in let n = as_row_sync u64-field (plain_sync _ _ _ _ _) in
+    variants_sync reply.enum (tt, (tt, (tt, (tt, (tt, (tt, (tt, ((limit_marks.the_sync, tt), (tt, ((a, tt), ((a, (Term-sync, tt)), ((a, (Term-sync, tt)), ((Term-sync, tt), ((a, tt), ((a, tt), ((a, (Term-sync, tt)), ((a, tt), ((a, tt), ((a, tt), (tt, (tt, (tt, (tt, (tt, ((n, tt), ((n, tt), (tt, ((xs, tt), (tt, (tt, ((ss, tt), (tt, ((info-sync, tt), ((it, tt), ((n, tt), (tt, tt))))))))))))))))))))))))))))))))))))
 
 logged-send : IsSend logged.the_row
 logged-send = search (parts, reply-send, reply-sync, SharedTerms-send) depth 20

@@ -1,11 +1,11 @@
 -- What an inbox shows of the post that it meets, and what a Take then tells.
 use Rattle.std.proofs.Common.{◌≡◌, ℕ, List, [], refl, sym, ap, ◌∙◌, subst, Option, Some, None}
-use Rattle.std.specs.Prelude.{option_map}
+use Rattle.std.specs.Prelude.{IfSome, option_map}
 use Rattle.tab_model.specs.declared.data.Item.{Item}
-use Rattle.tab_model.specs.declared.data.Reply.TheVariants as reply
 use Rattle.tab_model.specs.State.{Outbox, Session, State, session_at}
 use Rattle.tab_model.specs.Standing.{AreChannels}
-use Rattle.tab_model.specs.Outcome.{Take, Outcome, outcome, step_of, give, items_to_take}
+use Rattle.tab_model.specs.declared.ask.Ask.TheVariants.{Take}
+use Rattle.tab_model.specs.Outcome.{Outcome, outcome, step_of, give, items_to_take}
 use Rattle.tab_model.proofs.PostsStay.{IsChannel, found_has}
 use Rattle.tab_outbox.specs.declared.mailbox.Met.{Met}
 use Rattle.tab_outbox.specs.declared.mailbox.Met.TheVariants as met
@@ -64,32 +64,22 @@ takes σ over n s here channels = ap (step_of σ over n Take) here ∙ ap (λ c.
 
 -- ---- what a Take then tells
 
-module _ (σ : State) (j : JournalView) (over : List ℕ) (n : ℕ) (s : Session) (here : session_at σ.sessions n ≡ Some s) (channels : AreChannels σ) (o : Outcome) (is : outcome σ over n Take ≡ o) where
+module _ (σ : State) (j : JournalView) (n : ℕ) (s : Session) (here : session_at σ.sessions n ≡ Some s) (x : Option ℕ) (is : IfSome (session_at σ.sessions n) (λ t. x ≡ t.overflow)) where
   abbrev now : Running
   now = record { state = σ; journal = j }
 
-  given : o ≡ give σ s [] s.overflow
-  given = sym is ∙ takes σ over n s here channels
+  -- what the session's overflow was
+  overflow_is : x ≡ s.overflow
+  overflow_is = subst (λ (o : Option Session). IfSome o (λ t. x ≡ t.overflow)) here is
 
-  same_state : o.state ≡ (outcome σ [] n Take).state
-  same_state = ap (λ (x : Outcome). x.state) (given ∙ sym (takes σ [] n s here channels))
-
-  pub tells : (c : ℕ) → o.reply ≡ reply.Overflow c → (s : Session) × (session_at σ.sessions n ≡ Some s) × TellsOverflow now n s.overflow (Overflow c) (record { state = o.state; journal = j })
-  tells c r = (s, here, by s.overflow (ap (λ (x : Outcome). x.reply) (sym given) ∙ r))
+  pub tells : (over : List ℕ) (o : Outcome) → AreChannels σ → outcome σ over n Take ≡ o → (c : ℕ) → x ≡ Some c → (s : Session) × (session_at σ.sessions n ≡ Some s) × TellsOverflow now n s.overflow (Overflow c) (record { state = o.state; journal = j })
+  tells over o channels took c e = (s, here, subst (λ (l : Option ℕ). TellsOverflow now n l (Overflow c) (record { state = o.state; journal = j })) (sym e ∙ overflow_is) (refl, λ i. record { state = same_state i; journal = j }))
     where
-      by : (l : Option ℕ) → (give σ s [] l).reply ≡ reply.Overflow c → TellsOverflow now n l (Overflow c) (record { state = o.state; journal = j })
-      by None e = cc
-      by (Some m) e = (ap Overflow (one (sym e)), λ i. record { state = same_state i; journal = j })
-        where
-          one : reply.Overflow c ≡ reply.Overflow m → c ≡ m
-          one q = cc
+      same_state : o.state ≡ (outcome σ [] n Take).state
+      same_state = ap (λ (x : Outcome). x.state) (sym took ∙ takes σ over n s here channels ∙ sym (takes σ [] n s here channels))
 
-  pub tells_none : ((c : ℕ) → o.reply ≡ reply.Overflow c → ⊥) → (s : Session) × (session_at σ.sessions n ≡ Some s) × TellsOverflow now n s.overflow AllTaken (record { state = o.state; journal = j })
-  tells_none not = (s, here, by s.overflow (ap (λ (x : Outcome). x.reply) given) (ap (λ (x : Outcome). x.state) given))
-    where
-      by : (l : Option ℕ) → o.reply ≡ (give σ s [] l).reply → o.state ≡ (give σ s [] l).state → TellsOverflow now n l AllTaken (record { state = o.state; journal = j })
-      by None e f = (refl, λ i. record { state = f i; journal = j })
-      by (Some m) e f = absurd (not m e)
+  pub tells_none : x ≡ None → (s : Session) × (session_at σ.sessions n ≡ Some s) × TellsOverflow now n s.overflow AllTaken now
+  tells_none e = (s, here, subst (λ (l : Option ℕ). TellsOverflow now n l AllTaken now) (sym e ∙ overflow_is) (refl, refl))
 
 -- ---- as the call says it
 

@@ -14,7 +14,8 @@ use Rattle.tab_model.specs.History.{empty, slice_since_after}
 use Rattle.tab_model.specs.Standing.{JoinsChannel, MayFollow, FollowsLog, is_joined, still_joined, may_enter}
 use Rattle.tab_model.specs.State.{Outbox, Session, State, new, session_at, IsSound}
 use Rattle.tab_model.specs.Reached.{IsRising}
-use Rattle.tab_model.specs.Outcome.{Ask, Join, Leave, Retry, Take, DoCommand, Outcome, outcome, step_without_entry, step_of}
+use Rattle.tab_model.specs.declared.ask.Ask.TheVariants.{Join, Leave, Retry, Take, Do as DoCommand}
+use Rattle.tab_model.specs.Outcome.{Ask, Outcome, outcome, step_without_entry, step_of}
 use Rattle.tab_model.proofs.StepCases.{join_if}
 use Rattle.tab_model.specs.Run.{Allowed, entries}
 use Rattle.tab_model.proofs.Entering.{enters_none, session_never}
@@ -25,10 +26,8 @@ use Rattle.tab_model.proofs.StandingLemmas.{new_follows, step_follows, fold_foll
 use Rattle.tab_journal.specs.Journals.{JournalView, fold_oldest, forget, is_full, full_weight, weight_in}
 use Rattle.tab_core.specs.Runs.{takes_no_memory}
 use Rattle.tab_post.specs.Ends.{empty_outbox}
-use Rattle.tab_book.specs.declared.step.Step.{Step}
-use Rattle.tab_book.specs.declared.step.Step.TheVariants as step
 use Rattle.tab_book.specs.Running.{Running, IsRunning, HavePlaces, Holds}
-use Rattle.tab_book.specs.Steps.{oldest_joined, folded, with_folds, has_to_fold, AreNeeded, FoldsWhileFull, StepsTo, MayFold, with_entries, leaves, has_free_seat, with_new_session, StepsFrom, KeepsPosts, ask_of, is_never_refused}
+use Rattle.tab_book.specs.Steps.{Step, oldest_joined, folded, with_folds, has_to_fold, AreNeeded, FoldsWhileFull, StepsTo, MayFold, with_entries, leaves, has_free_seat, with_new_session, StepsFrom, KeepsPosts, ask_of, is_never_refused}
 
 pub new_holds : (outbox seen : ℕ) (limits : Limits) (n : ℕ) → 1 ≤ outbox → 1 ≤ n → Holds outbox seen (new limits) (record { base = empty; entries = []; limit = n })
 new_holds outbox seen limits n room limit = record {
@@ -271,21 +270,23 @@ nothing_entered true c h = h
 nothing_entered false c h = refl
 
 pub never_refused : (σ : State) (n : ℕ) (j : JournalView) (s : Step) → is_never_refused s ≡ true → (takes_no_memory σ n (ask_of s) ≡ true) × ((is_full j && may_enter σ n (ask_of s)) ≡ false)
-never_refused σ n j step.Leave h = (refl, nothing_entered (is_full j) (may_enter σ n Leave) refl)
-never_refused σ n j step.Retry h = cc
-never_refused σ n j (step.Do (command.Abort r)) h = (refl, nothing_entered (is_full j) (may_enter σ n (DoCommand (command.Abort r))) (session_never σ n (DoCommand (command.Abort r)) by))
+never_refused σ n j (Join none) h = elim none [ ]
+never_refused σ n j Leave h = (refl, nothing_entered (is_full j) (may_enter σ n Leave) (session_never σ n Leave (λ b. refl)))
+never_refused σ n j Take h = (refl, nothing_entered (is_full j) (may_enter σ n Take) (session_never σ n Take (λ b. refl)))
+never_refused σ n j Retry h = cc
+never_refused σ n j (DoCommand (command.Abort r)) h = (refl, nothing_entered (is_full j) (may_enter σ n (DoCommand (command.Abort r))) (session_never σ n (DoCommand (command.Abort r)) by))
   where
     by : (b : Bool) → Rattle.tab_model.specs.Standing.may_enter_session σ n (DoCommand (command.Abort r)) b ≡ false
     by true = refl
     by false = refl
-never_refused σ n j (step.Do (command.Schema c)) h = cc
-never_refused σ n j (step.Do (command.TableInfo t i)) h = cc
-never_refused σ n j (step.Do command.Begin) h = cc
-never_refused σ n j (step.Do command.Commit) h = cc
-never_refused σ n j (step.Do (command.Do o)) h = cc
-never_refused σ n j (step.Do (command.Subscribe t l dump)) h = cc
-never_refused σ n j (step.Do (command.Unsubscribe t l)) h = cc
-never_refused σ n j (step.Do (command.OneShot parts retries)) h = cc
+never_refused σ n j (DoCommand (command.Schema c)) h = cc
+never_refused σ n j (DoCommand (command.TableInfo t i)) h = cc
+never_refused σ n j (DoCommand command.Begin) h = cc
+never_refused σ n j (DoCommand command.Commit) h = cc
+never_refused σ n j (DoCommand (command.Do o)) h = cc
+never_refused σ n j (DoCommand (command.Subscribe t l dump)) h = cc
+never_refused σ n j (DoCommand (command.Unsubscribe t l)) h = cc
+never_refused σ n j (DoCommand (command.OneShot parts retries)) h = cc
 
 -- ---- as the calls of a book say it
 
@@ -340,9 +341,11 @@ module _ (outbox seen : ℕ) (σ : State) (j : JournalView) (k : Holds outbox se
 
 -- a session's own step joins no one
 pub own_ask : (seen : ℕ) (s : Step) → JoinsBook seen (ask_of s)
-own_ask seen step.Leave = tt
-own_ask seen (step.Do c) = tt
-own_ask seen step.Retry = tt
+own_ask seen (Join none) = elim none [ ]
+own_ask seen Leave = tt
+own_ask seen (DoCommand c) = tt
+own_ask seen Retry = tt
+own_ask seen Take = tt
 
 -- ---- the next number joins
 

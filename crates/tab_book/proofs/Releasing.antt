@@ -19,7 +19,8 @@ use Rattle.tab_model.specs.Ages.{Owned, Answer, Granted, Wait, Die}
 use Rattle.tab_model.specs.Locks.{needs, locks_of}
 use Rattle.tab_model.specs.Schemas.{removed_table}
 use Rattle.tab_model.specs.State.{Transaction, Outbox, Watch, Session, Queued, State, session_at, transaction_in, transaction_at, age_in, age_at, request_in, without_request, is_waiting, with_age, locks_held_by, mid_of}
-use Rattle.tab_model.specs.Outcome.{Ask, Join, Leave, Retry, Take, DoCommand, Outcome, step_without_entry, outcome, with_session, with_transaction, with_queue, with_changed, with_move, ends_transaction, reply_or, make, by_lock_answer, operate, retry_in, retry, begin, one_shot, abort, after_put, batch_to, end_to, without_deleted, commit, events_now, schema, put_marker, do_command, give, leave, step_of_joined, fresh, step_of_stranger, step_of}
+use Rattle.tab_model.specs.declared.ask.Ask.TheVariants.{Join, Leave, Retry, Take, Do as DoCommand}
+use Rattle.tab_model.specs.Outcome.{Ask, Outcome, step_without_entry, outcome, with_session, with_transaction, with_queue, with_changed, with_move, ends_transaction, reply_or, make, by_lock_answer, operate, retry_in, retry, begin, one_shot, abort, after_put, batch_to, end_to, without_deleted, commit, events_now, schema, put_marker, do_command, give, leave, step_of_joined, fresh, step_of_stranger, step_of}
 use Rattle.tab_model.proofs.StepCases.{after_move, within_limit, try_again, open_level_1, open_child, commit_at, schema_if, subscribe_if, unsubscribe_if, command_if, join_if}
 use Rattle.tab_model.specs.Standing.{levels_in, levels_of}
 use Rattle.tab_model.proofs.SessionLists.{eq_true, itself, found, session_at-push, session_at-without}

@@ -2,7 +2,8 @@
 use Rattle.std.specs.Prelude.{◌≡◌, ℕ, List, [], ◌∷◌, ◌++◌, Option, Some, None}
 use Rattle.tab_model.specs.declared.data.Item.{Item}
 use Rattle.tab_model.specs.State.{Session, session_at}
-use Rattle.tab_model.specs.Outcome.{Take, outcome}
+use Rattle.tab_model.specs.declared.ask.Ask.TheVariants.{Take}
+use Rattle.tab_model.specs.Outcome.{outcome}
 use Rattle.tab_outbox.specs.Mailboxes.{StartsWith}
 use Rattle.tab_book.specs.declared.step.Drained.{Drained}
 use Rattle.tab_book.specs.declared.step.Drained.TheVariants.{Going, AllTaken, Overflow, Left}

@@ -2,7 +2,8 @@
 use Rattle.std.specs.Prelude.{◌≡◌, ◌⊎◌, ℕ, List, [], ◌∷◌, ◌++◌, Bool, true, false, Some}
 use Rattle.tab_model.specs.Ages.{Owned}
 use Rattle.tab_model.specs.Locks.{needs}
-use Rattle.tab_model.specs.Outcome.{Ask, Join, Leave, Retry, Take, DoCommand}
+use Rattle.tab_model.specs.declared.ask.Ask.TheVariants.{Join, Leave, Retry, Take, Do as DoCommand}
+use Rattle.tab_model.specs.Outcome.{Ask}
 use Rattle.tab_model.specs.State.{Queued, State, age_at, locks_held_by, request_in, transaction_at}
 
 -- whether a session asks again for the lock that it waits for

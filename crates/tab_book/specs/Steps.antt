@@ -1,5 +1,6 @@
 -- What the calls of a book do (this project's own). A step is the core's, and its entry is put into the journal, whose oldest
 -- entries are folded into its base before where it is full.
+use Rattle.std.specs.declared.convert.Infallible.{Infallible}
 use Rattle.std.specs.Prelude.{◌≡◌, ◌≢◌, ◌<◌, ◌+◌, ◌-◌, ◌^◌, ℕ, zero, suc, List, [], ◌∷◌, ◌++◌, Bool, true, false, ◌&&◌, ◌==◌, nat_lt, if◌then◌else◌, Option, Some, length}
 use Rattle.tab_model.specs.declared.data.Entry.{Entry}
 use Rattle.tab_model.specs.declared.data.Item.{Item}
@@ -7,27 +8,32 @@ use Rattle.tab_model.specs.declared.data.Reply.{Reply}
 use Rattle.tab_model.specs.History.{slice_since_after}
 use Rattle.tab_model.specs.Standing.{is_joined, still_joined, may_enter}
 use Rattle.tab_model.specs.State.{Outbox, Session, State, session_at}
-use Rattle.tab_model.specs.Outcome.{Ask, Join, Leave, Retry, Take, DoCommand, fresh, is_abort, outcome}
+use Rattle.tab_model.specs.declared.ask.Ask.{Ask as AskWith}
+use Rattle.tab_model.specs.declared.ask.Ask.TheVariants.{Join, Leave, Retry, Take, Do as DoCommand}
+use Rattle.tab_model.specs.Outcome.{Ask, fresh, is_abort, outcome}
 use Rattle.tab_model.specs.Run.{Allowed, entries}
+use Rattle.tab_core.specs.Runs as core
 use Rattle.tab_journal.specs.Journals.{JournalView, fold_oldest, forget, is_full}
 use Rattle.tab_post.specs.Ends.{empty_outbox}
-use Rattle.tab_book.specs.declared.step.Step.{Step}
-use Rattle.tab_book.specs.declared.step.Step.TheVariants as step
 use Rattle.tab_book.specs.declared.step.JoinFault.{JoinFault}
 use Rattle.tab_book.specs.declared.step.JoinFault.TheVariants.{Limit, NoMemory}
 use Rattle.tab_book.specs.Running.{Running}
 
+-- what a session asks, where no one joins
+abbrev pub Step : Type 0
+Step = AskWith Infallible
+
 -- what the core is asked for a step
 abbrev pub ask_of : Step → Ask
-ask_of step.Leave = Leave
-ask_of (step.Do c) = DoCommand c
-ask_of step.Retry = Retry
+ask_of s = core.ask_of {P = Infallible} (λ none. elim none [ ]) s
 
--- a session can leave and abort whatever memory is left
+-- a session can leave, take and abort whatever memory is left
 abbrev pub is_never_refused : Step → Bool
-is_never_refused step.Leave = true
-is_never_refused (step.Do c) = is_abort c
-is_never_refused step.Retry = false
+is_never_refused (Join none) = false
+is_never_refused Leave = true
+is_never_refused Retry = false
+is_never_refused Take = true
+is_never_refused (DoCommand c) = is_abort c
 
 -- the oldest entry is a subscription whose session is still joined
 abbrev pub oldest_joined : State → List Entry → Bool

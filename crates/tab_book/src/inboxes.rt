@@ -8,8 +8,6 @@ ghost use Rattle.tab_book.specs.Steps.{KeepsPosts};
 
 use crate::book::Book;
 use crate::step::Drained;
-use tab_core::Step;
-use tab_model::Reply;
 use tab_outbox::Met;
 use tab_post::{Host, Inbox};
 
@@ -36,12 +34,10 @@ impl<H: Host> Book<H> {
             × TellsOverflow self.old session s.overflow result self.new }
         ensures posts { KeepsPosts self.old.state self.new.state }
     {
-        let Ok(stepped) = self.core.step(session, Step::Take) else {
-            unreachable!();
+        let Some(number) = self.core.overflow(session) else {
+            return Drained::AllTaken;
         };
-        match stepped.into_reply().reply() {
-            Reply::Overflow(number) => Drained::Overflow(*number),
-            _ => Drained::AllTaken,
-        }
+        drop(self.core.take(session));
+        Drained::Overflow(number)
     }
 }

@@ -1,18 +1,12 @@
 //! What a session asks of a book, and what it is given.
 
-use tab_model::{Command, SharedReply};
-use tab_outbox::Item;
+use std::convert::Infallible;
+use tab_model::{Ask, SharedReply};
+use tab_outbox::SharedItem;
 
-/// What a session asks.
-#[derive(Drop)]
-pub enum Step {
-    /// Ends the session's transaction and the session, whose post is dropped.
-    Leave,
-    /// A command of the session.
-    Do(Command),
-    /// Asks again for the lock that the session waits for.
-    Retry,
-}
+/// What a session asks of a book. None joins by a step: `join` gives a session the next number, with a post of the book's. A
+/// `Take` gives no item, since an inbox takes them; it tells an overflow.
+pub type Step = Ask<Infallible>;
 
 /// What a step was told, and whether it let go of locks or of a queued request while someone waits or rests, so that others
 /// may go on.
@@ -33,7 +27,7 @@ pub enum JoinFault {
 #[derive(Drop)]
 pub enum Drained {
     /// An item was left, and is now taken.
-    Going(Item),
+    Going(SharedItem),
     /// Nothing is left, or the inbox is not the session's.
     AllTaken,
     /// Nothing is left, and in the commit or deletion with this number an item was refused. It is told once.

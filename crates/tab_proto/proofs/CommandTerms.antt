@@ -6,9 +6,8 @@ use Rattle.std.specs.Str.{bytes_eq}
 use Rattle.std.specs.List.{list_all}
 use Rattle.std.proofs.lemmas.Bool.{and_from, and_parts}
 use Rattle.tab_term.specs.Data.{PlainTerm, atom, tuple, PlainTerms}
-use Rattle.tab_proto.specs.declared.request.Request.{Request}
-use Rattle.tab_proto.specs.declared.request.Request.TheVariants as request
-use Rattle.tab_proto.specs.Requests.{asked_term, IsRequest, is_asked}
+use Rattle.tab_model.specs.declared.ask.Ask.TheVariants as ask
+use Rattle.tab_proto.specs.Requests.{Request, asked_term, IsRequest, is_asked}
 use Rattle.tab_model.specs.declared.data.Operation.{Operation}
 use Rattle.tab_model.specs.declared.data.Operation.TheVariants as op
 use Rattle.tab_model.specs.declared.data.Schema.{Schema}
@@ -111,8 +110,8 @@ asked_command (tuple ts) h = h
 asked_command t h = absurd cc
 
 pub request_is_known : (r : Request) → IsRequest r → is_asked (asked_term r) ≡ true
-request_is_known request.Join h = refl
-request_is_known request.Leave h = refl
-request_is_known request.Retry h = refl
-request_is_known request.Take h = refl
-request_is_known (request.Do c) h = asked_command (term_of c) (command_is_known c h)
+request_is_known (ask.Join u) h = refl
+request_is_known ask.Leave h = refl
+request_is_known ask.Retry h = refl
+request_is_known ask.Take h = refl
+request_is_known (ask.Do c) h = asked_command (term_of c) (command_is_known c h)

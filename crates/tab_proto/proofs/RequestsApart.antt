@@ -20,15 +20,14 @@ use Rattle.tab_model.specs.declared.data.Command.{Command}
 use Rattle.tab_model.specs.declared.data.Command.TheVariants as command
 use Rattle.tab_model.specs.Shapes.{term_value}
 use Rattle.tab_model.proofs.ShapeLaws.{held_term}
-use Rattle.tab_proto.specs.declared.request.Request.{Request}
-use Rattle.tab_proto.specs.declared.request.Request.TheVariants as request
+use Rattle.tab_model.specs.declared.ask.Ask.TheVariants as ask
 use Rattle.tab_proto.specs.declared.first_words.Unary.{Unary}
 use Rattle.tab_proto.specs.declared.first_words.Unary.TheVariants as unary
 use Rattle.tab_proto.specs.declared.first_words.Binary.{Binary}
 use Rattle.tab_proto.specs.declared.first_words.Binary.TheVariants as binary
 use Rattle.tab_proto.specs.FirstWords.{unary_in, binary_in}
 use Rattle.tab_proto.specs.Commands.{term_of, abort_term, operation_term, level_word, item_word, with_first, enclosed, levels, outermost, is_command, is_nested, is_part}
-use Rattle.tab_proto.specs.Requests.{asked_term, request_term, number_in, IsRequest}
+use Rattle.tab_proto.specs.Requests.{Request, asked_term, request_term, number_in, IsRequest}
 
 -- ---- what a term asks
 
@@ -128,14 +127,14 @@ command_of t = command.Begin
 
 abbrev word_back : List ℕ → Request
 word_back w =
-    if bytes_eq w (codes "join") then request.Join
-    else (if bytes_eq w (codes "leave") then request.Leave
-    else (if bytes_eq w (codes "retry") then request.Retry
-    else (if bytes_eq w (codes "take") then request.Take else request.Do (command_of (atom w)))))
+    if bytes_eq w (codes "join") then ask.Join tt
+    else (if bytes_eq w (codes "leave") then ask.Leave
+    else (if bytes_eq w (codes "retry") then ask.Retry
+    else (if bytes_eq w (codes "take") then ask.Take else ask.Do (command_of (atom w)))))
 
 abbrev request_of : PlainTerm → Request
 request_of (atom w) = word_back w
-request_of t = request.Do (command_of t)
+request_of t = ask.Do (command_of t)
 
 -- ---- an operation, as itself, as a part, as a command and as a request
 
@@ -143,7 +142,7 @@ record IsReadBack (o : Operation) : Type 0 where
   pub same : operation_of (operation_term o) ≡ o
   pub part : parts_of (operation_term o) ≡ part.Do (operation_of (operation_term o)) ∷ []
   pub command : command_of (operation_term o) ≡ command.Do (operation_of (operation_term o))
-  pub asked : request_of (operation_term o) ≡ request.Do (command_of (operation_term o))
+  pub asked : request_of (operation_term o) ≡ ask.Do (command_of (operation_term o))
 
 operation_back : (o : Operation) → IsReadBack o
 operation_back (op.Read t k) = record { same = ap (op.Read t) (held_term k); part = refl; command = refl; asked = refl }
@@ -270,13 +269,13 @@ command_back (command.OneShot parts retries) h =
 -- ---- requests
 
 request_back : (r : Request) → IsRequest r → request_of (asked_term r) ≡ r
-request_back request.Join h = refl
-request_back request.Leave h = refl
-request_back request.Retry h = refl
-request_back request.Take h = refl
-request_back (request.Do c) h = command_asked c ∙ ap request.Do (command_back c h)
+request_back (ask.Join u) h = refl
+request_back ask.Leave h = refl
+request_back ask.Retry h = refl
+request_back ask.Take h = refl
+request_back (ask.Do c) h = command_asked c ∙ ap ask.Do (command_back c h)
   where
-    command_asked : (c : Command) → request_of (term_of c) ≡ request.Do (command_of (term_of c))
+    command_asked : (c : Command) → request_of (term_of c) ≡ ask.Do (command_of (term_of c))
     command_asked (command.Schema (schema.Create t options)) = refl
     command_asked (command.Schema (schema.Remove t)) = refl
     command_asked (command.Schema (schema.AddIndex t a)) = refl

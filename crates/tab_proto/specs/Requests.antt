@@ -2,20 +2,24 @@
 use Rattle.std.specs.Prelude.{◌≡◌, ◌≢◌, ◌≤◌, ◌<◌, ℤ, Option, Some, None, ℕ, List, Bool, true, false, ◌||◌, codes, pos, Result, Ok, Err}
 use Rattle.std.specs.Str.{bytes_eq}
 use Rattle.tab_term.specs.Data.{PlainTerm, int, atom, tuple, none, one_more, pair}
-use Rattle.tab_proto.specs.declared.request.Request.{Request}
-use Rattle.tab_proto.specs.declared.request.Request.TheVariants as request
+use Rattle.tab_model.specs.declared.ask.Ask.{Ask}
+use Rattle.tab_model.specs.declared.ask.Ask.TheVariants as ask
 use Rattle.tab_proto.specs.declared.fault.ProtoFault.{ProtoFault}
 use Rattle.tab_proto.specs.declared.fault.ProtoFault.TheVariants.{BadCommand, NoMemory}
 use Rattle.tab_proto.specs.Commands.{term_of, is_command}
 use Rattle.tab_proto.specs.Reading.{is_one_word, is_call, is_one_shot_term}
 
+-- what a session asks, who joins with nothing
+abbrev pub Request : Type 0
+Request = Ask (Unit {0})
+
 -- the term of what a session asks, without its number
 abbrev pub asked_term : Request → PlainTerm
-asked_term request.Join = atom (codes "join")
-asked_term request.Leave = atom (codes "leave")
-asked_term request.Retry = atom (codes "retry")
-asked_term request.Take = atom (codes "take")
-asked_term (request.Do c) = term_of c
+asked_term (ask.Join u) = atom (codes "join")
+asked_term ask.Leave = atom (codes "leave")
+asked_term ask.Retry = atom (codes "retry")
+asked_term ask.Take = atom (codes "take")
+asked_term (ask.Do c) = term_of c
 
 -- {Session, X}
 abbrev pub request_term : ℕ → Request → PlainTerm
@@ -40,7 +44,7 @@ HasNoNumber t = (n : ℕ) → IsSession n → number_in t ≢ Some (pos n)
 
 -- what a request has to be to have one of these forms
 abbrev pub IsRequest : Request → Type 0
-IsRequest (request.Do c) = is_command c ≡ true
+IsRequest (ask.Do c) = is_command c ≡ true
 IsRequest r = Unit {0}
 
 -- the text is a request without arguments: join, leave, retry, take, begin or commit

@@ -1,6 +1,7 @@
 //! A tuple that begins with a word, as the calls of the manuals do: the word, and the arguments behind it.
 
-ghost use Rattle.std.specs.Prelude.{◌≡◌, IfOk, OnErr, IsFalse};
+ghost use Rattle.std.specs.Prelude.{◌≡◌, ◌<◌, ◌+◌, ◌-◌, IfOk, OnErr, IsFalse, slice_index_or, take};
+ghost use Rattle.std.specs.Vec.{vec_len};
 ghost use Rattle.tab_term.specs.Data.{atom, pair, is_atom};
 ghost use Rattle.tab_term.specs.View.{term};
 ghost use Rattle.tab_proto.specs.Reading.{call_term, is_call_term, is_pair};
@@ -33,19 +34,19 @@ pub fn call_of(held: Term) -> Result<Call, NoCommand>
     let mut parts = parts.into_vec();
     match parts.len() {
         2 => {
-            let argument = parts.remove(1);
-            worded(parts.remove(0), Arguments::One(argument))
+            let argument = last(&mut parts);
+            worded(last(&mut parts), Arguments::One(argument))
         }
         3 => {
-            let second = parts.remove(2);
-            let first = parts.remove(1);
-            worded(parts.remove(0), Arguments::Two(first, second))
+            let second = last(&mut parts);
+            let first = last(&mut parts);
+            worded(last(&mut parts), Arguments::Two(first, second))
         }
         4 => {
-            let third = parts.remove(3);
-            let second = parts.remove(2);
-            let first = parts.remove(1);
-            worded(parts.remove(0), Arguments::Three(first, second, third))
+            let third = last(&mut parts);
+            let second = last(&mut parts);
+            let first = last(&mut parts);
+            worded(last(&mut parts), Arguments::Three(first, second, third))
         }
         _ => Err(NoCommand),
     }
@@ -63,8 +64,21 @@ pub fn pair_of(held: Term) -> Result<(Term, Term), NoCommand>
     if parts.len() != 2 {
         return Err(NoCommand);
     }
-    let second = parts.remove(1);
-    Ok((parts.remove(0), second))
+    let second = last(&mut parts);
+    Ok((last(&mut parts), second))
+}
+
+/// Takes the last element.
+fn last(parts: &mut Vec<Term>) -> Term
+    requires { 0 < vec_len parts.old }
+    ensures value { result ≡ slice_index_or parts.old.items (vec_len parts.old - 1) result }
+    ensures rest { parts.new.items ≡ take (vec_len parts.old - 1) parts.old.items }
+    ensures len { vec_len parts.new + 1 ≡ vec_len parts.old }
+{
+    match parts.pop() {
+        Some(part) => part,
+        None => unreachable!(),
+    }
 }
 
 fn worded(word: Term, arguments: Arguments) -> Result<Call, NoCommand>

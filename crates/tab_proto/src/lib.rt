@@ -15,7 +15,6 @@ mod levels;
 mod operations;
 mod parts;
 mod replying;
-mod request;
 mod requests;
 mod telling;
 
@@ -25,6 +24,5 @@ pub use events::{Delivery, append_item, append_overflow, write_item};
 pub use fault::ProtoFault;
 pub use laws::requests_are_apart;
 pub use replying::{append_reply, append_reply_within, write_reply};
-pub use request::Request;
 pub use requests::{read_request, session_of};
 pub use telling::answer_of;

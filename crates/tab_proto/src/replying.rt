@@ -130,7 +130,7 @@ pub(crate) fn outline_of(reply: &Reply) -> Outline<'_>
         Reply::AtomicTerms(answers) => worded("atomic", Leaf::answers(answers)),
         Reply::Found(rows) => alone(Leaf::shared(rows)),
         Reply::TableInfo(info) => info_outline(info),
-        Reply::Taken(item) => item_outline(item),
+        Reply::Taken(item) => item_outline(item.item()),
         Reply::SystemLimit(limit) => {
             told_in("error", "system_limit", short(reply, limit_word(*limit)))
         }

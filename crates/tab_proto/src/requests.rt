@@ -3,25 +3,24 @@
 ghost use Rattle.std.specs.Prelude.{◌≡◌, ◌≢◌, ℕ, pos, IfOk, IfSome, IfNone, Err};
 ghost use Rattle.tab_term.specs.Data.{atom};
 ghost use Rattle.tab_term.specs.View.{term};
-ghost use Rattle.tab_proto.specs.Requests.{asked_term, request_term, IsSession, IsNumbered, HasNoNumber, IsRequest, is_asked, is_word_alone, ReadsAs, AsksOneShot};
+ghost use Rattle.tab_proto.specs.Requests.{Request, asked_term, request_term, IsSession, IsNumbered, HasNoNumber, IsRequest, is_asked, is_word_alone, ReadsAs, AsksOneShot};
 ghost use Rattle.tab_proto.specs.Reading.{is_one_word};
-ghost use Rattle.tab_proto.specs.declared.request.Request.{Request as RequestOf};
 ghost use Rattle.tab_proto.specs.declared.fault.ProtoFault.TheVariants.{BadCommand, NoMemory};
 
 use crate::call::pair_of;
 use crate::commands::read_command;
 use crate::fault::ProtoFault;
-use crate::request::Request;
 use std::alloc::Global;
+use tab_model::Ask;
 use tab_term::{Atom, Term};
 
 /// A session's number and what it asks, from `{Session, X}`. Session numbers are 1 to 4,294,967,295. Every other term is
 /// BadCommand. Records and keys are taken out of the term, and not copied; only the parts of a one-shot take memory.
-pub fn read_request(alloc: Global, held: Term) -> Result<(u32, Request), ProtoFault>
+pub fn read_request(alloc: Global, held: Term) -> Result<(u32, Ask<()>), ProtoFault>
     ensures ok { IfOk result
         (λ r. (request_term r.0 r.1 ≡ term held) × IsSession r.0 × IsRequest r.1) }
     ensures memory { result ≡ Err NoMemory → AsksOneShot (term held) }
-    ensures only { (session : ℕ) (r : RequestOf) → IsSession session → IsRequest r
+    ensures only { (session : ℕ) (r : Request) → IsSession session → IsRequest r
         → request_term session r ≡ term held → result ≢ Err BadCommand }
 {
     let Some(session) = session_of(&held) else {
@@ -55,7 +54,7 @@ fn session_number(number: i128) -> Option<u32>
     Some(number as u32)
 }
 
-fn read_asked(alloc: Global, asked: Term) -> Result<Request, ProtoFault>
+fn read_asked(alloc: Global, asked: Term) -> Result<Ask<()>, ProtoFault>
     ensures { ReadsAs (term asked) (is_asked (term asked)) result }
 {
     if let Term::Atom(word) = &asked {
@@ -63,19 +62,19 @@ fn read_asked(alloc: Global, asked: Term) -> Result<Request, ProtoFault>
             return Ok(request);
         }
     }
-    Ok(Request::Do(read_command(alloc, asked)?))
+    Ok(Ask::Do(read_command(alloc, asked)?))
 }
 
 /// What a word asks that is no command.
-fn word_alone(word: &Atom) -> Option<Request>
+fn word_alone(word: &Atom) -> Option<Ask<()>>
     ensures some { IfSome result (λ r. (asked_term r ≡ atom word.now) × IsRequest r) }
     ensures none { IfNone result (is_word_alone word.now ≡ is_one_word word.now) }
 {
     match word.as_str() {
-        "join" => Some(Request::Join),
-        "leave" => Some(Request::Leave),
-        "retry" => Some(Request::Retry),
-        "take" => Some(Request::Take),
+        "join" => Some(Ask::Join(())),
+        "leave" => Some(Ask::Leave),
+        "retry" => Some(Ask::Retry),
+        "take" => Some(Ask::Take),
         _ => None,
     }
 }

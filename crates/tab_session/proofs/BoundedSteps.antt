@@ -7,7 +7,8 @@ use Rattle.tab_model.specs.declared.data.Command.{Command}
 use Rattle.tab_model.specs.declared.data.Command.TheVariants as command
 use Rattle.tab_model.specs.Schemas.{table_of_schema, schema_refusal, removed_table}
 use Rattle.tab_model.specs.State.{Outbox, Transaction, Session, State, session_at, is_waiting, is_busy, level_in, mid_of}
-use Rattle.tab_model.specs.Outcome.{Ask, Join, Leave, Retry, Take, DoCommand, outcome, is_empty, batch_to, events_now, end_to, subscribe_refusal, is_at}
+use Rattle.tab_model.specs.declared.ask.Ask.TheVariants.{Join, Leave, Retry, Take, Do as DoCommand}
+use Rattle.tab_model.specs.Outcome.{Ask, outcome, is_empty, batch_to, events_now, end_to, subscribe_refusal, is_at}
 use Rattle.tab_model.specs.Run.{Allowed, put_ask, put_command, put_commit, put_schema}
 use Rattle.tab_model.proofs.Splits.{IsSplit, fits_split}
 use Rattle.tab_session.specs.Bounded.{HasCapacity, IsBounded}

@@ -17,7 +17,8 @@ use Rattle.tab_model.specs.Operations.{failure}
 use Rattle.tab_model.specs.Alone.{Mid, start, next, back_to, without_innermost}
 use Rattle.tab_model.specs.State.{Transaction, Session, Queued, State, session_at, transaction_at, is_waiting, request_in, HasAge, OwnedBy, IsSound}
 use Rattle.tab_model.specs.Reached.{IsRising}
-use Rattle.tab_model.specs.Outcome.{DoCommand, Outcome, outcome, step_of}
+use Rattle.tab_model.specs.declared.ask.Ask.TheVariants.{Do as DoCommand}
+use Rattle.tab_model.specs.Outcome.{Outcome, outcome, step_of}
 use Rattle.tab_model.proofs.StepCases.{command_if}
 use Rattle.tab_model.proofs.SessionLists.{found, eq_true}
 use Rattle.tab_session.specs.StepsMade.{StepMadeOrRefused}

@@ -17,7 +17,8 @@ use Rattle.tab_model.specs.Operations.{table_of, failure, answer, effect}
 use Rattle.tab_model.specs.Ages.{Answer, Granted, Wait, Die}
 use Rattle.tab_model.specs.Alone.{Mid, next, back, back_to, reply_to, start}
 use Rattle.tab_model.specs.State.{Transaction, Session, Queued, State, session_at, transaction_at, transaction_in, mid_of, is_waiting, request_in, without_request}
-use Rattle.tab_model.specs.Outcome.{DoCommand, Outcome, outcome, with_changed, with_transaction, with_queue, ends_transaction, make, is_empty, by_lock_answer, operate, begin, one_shot, abort, commit_now, commit, do_command, step_of, after_put, batch_to, events_now, begun_anew, with_move, is_abort, after_overflow, with_items}
+use Rattle.tab_model.specs.declared.ask.Ask.TheVariants.{Do as DoCommand}
+use Rattle.tab_model.specs.Outcome.{Outcome, outcome, with_changed, with_transaction, with_queue, ends_transaction, make, is_empty, by_lock_answer, operate, begin, one_shot, abort, commit_now, commit, do_command, step_of, after_put, batch_to, events_now, begun_anew, with_move, is_abort, after_overflow, with_items}
 use Rattle.tab_model.proofs.StepCases.{after_move, within_limit, open_level_1, open_child, commit_at, command_if}
 use Rattle.tab_model.specs.Log.{has_session}
 use Rattle.tab_model.proofs.SessionLists.{found, session_at-map, mapped}
@@ -40,7 +41,7 @@ none_of : (qs : List Queued) (n : ℕ) → is_some (request_in (without_request 
 none_of [] n = refl
 none_of (q ∷ qs) n = cases (q.session == n) refl (none_of qs n)
   where
-    cases : (b : Bool) → (q.session == n) ≡ b → is_some (request_in (without_request qs n) n) ≡ false → is_some (request_in (if b then without_request qs n else q ∷ without_request qs n) n) ≡ false
+    cases : (b : Bool) → (q.session == n) ≡ b → is_some (request_in (without_request qs n) n) ≡ false → is_some (request_in (if not b then q ∷ without_request qs n else without_request qs n) n) ≡ false
     cases true e ih = ih
     cases false e ih = subst (λ (b : Bool). is_some (if b then Some q else request_in (without_request qs n) n) ≡ false) (sym e) ih
 

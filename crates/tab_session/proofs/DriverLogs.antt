@@ -10,7 +10,8 @@ use Rattle.tab_model.specs.Catalogs.{Catalog}
 use Rattle.tab_model.specs.Ages.{Answer, Granted, Wait, Die}
 use Rattle.tab_model.specs.Alone.{start, after, replies}
 use Rattle.tab_model.specs.State.{Transaction, Session, State, session_at, transaction_at, transaction_in, mid_of, age_in, moves_in, replies_in, IsSound}
-use Rattle.tab_model.specs.Outcome.{DoCommand, Outcome, outcome, by_lock_answer, operate, begin, one_shot, abort, commit, do_command, step_of}
+use Rattle.tab_model.specs.declared.ask.Ask.TheVariants.{Do as DoCommand}
+use Rattle.tab_model.specs.Outcome.{Outcome, outcome, by_lock_answer, operate, begin, one_shot, abort, commit, do_command, step_of}
 use Rattle.tab_model.proofs.StepCases.{within_limit, open_level_1, open_child, commit_at, command_if}
 use Rattle.tab_model.specs.Run.{entries}
 use Rattle.tab_model.proofs.SessionLists.{found}

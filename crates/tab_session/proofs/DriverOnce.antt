@@ -5,7 +5,8 @@ use Rattle.std.proofs.Common.{◌≡◌, ◌≢◌, ℕ, zero, suc, pos, ◌≤�
 use Rattle.tab_term.specs.Data.{PlainTerm, PlainTerms, none}
 use Rattle.tab_term.specs.declared.term.Term.TheVariants.{Int}
 use Rattle.tab_model.specs.State.{State}
-use Rattle.tab_model.specs.Outcome.{DoCommand, Outcome, outcome}
+use Rattle.tab_model.specs.declared.ask.Ask.TheVariants.{Do as DoCommand}
+use Rattle.tab_model.specs.Outcome.{Outcome, outcome}
 use Rattle.tab_model.specs.declared.data.Part.{Part}
 use Rattle.tab_model.specs.declared.data.Part.TheVariants as part
 use Rattle.tab_model.specs.declared.data.Command.{Command}

@@ -17,7 +17,8 @@ use Rattle.tab_model.specs.Operations.{table_of, failure}
 use Rattle.tab_model.specs.Ages.{Answer, Granted, Wait, Die}
 use Rattle.tab_model.specs.Alone.{Mid, next, back, back_to, without_innermost, reply_to, start}
 use Rattle.tab_model.specs.State.{Transaction, Session, State, session_at, transaction_at, transaction_in, mid_of, is_waiting, without_request}
-use Rattle.tab_model.specs.Outcome.{DoCommand, Outcome, outcome, with_changed, with_transaction, with_queue, ends_transaction, make, is_empty, by_lock_answer, operate, begin, one_shot, abort, commit, do_command, step_of}
+use Rattle.tab_model.specs.declared.ask.Ask.TheVariants.{Do as DoCommand}
+use Rattle.tab_model.specs.Outcome.{Outcome, outcome, with_changed, with_transaction, with_queue, ends_transaction, make, is_empty, by_lock_answer, operate, begin, one_shot, abort, commit, do_command, step_of}
 use Rattle.tab_model.proofs.StepCases.{after_move, within_limit, open_level_1, open_child, commit_at, command_if}
 use Rattle.tab_model.specs.Run.{item_of}
 use Rattle.tab_model.proofs.SessionLists.{found, session_at-change, itself}

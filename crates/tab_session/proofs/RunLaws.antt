@@ -10,13 +10,12 @@ use Rattle.tab_model.specs.declared.data.Command.TheVariants as command
 use Rattle.tab_model.specs.declared.data.Reply.{Reply}
 use Rattle.tab_model.specs.declared.data.Reply.TheVariants as reply
 use Rattle.tab_model.specs.State.{State}
-use Rattle.tab_model.specs.Outcome.{Ask, DoCommand, Outcome, outcome}
+use Rattle.tab_model.specs.declared.ask.Ask.TheVariants.{Join, Leave, Retry, Take, Do as DoCommand}
+use Rattle.tab_model.specs.Outcome.{Ask, Outcome, outcome}
 use Rattle.tab_model.specs.Refusals.{IsSole}
 use Rattle.tab_model.specs.Run.{item_of, delivered_by, JoinsEmpty}
 use Rattle.tab_model.proofs.SessionAlone.{stays_sole, no_wait, no_restart}
-use Rattle.tab_proto.specs.declared.request.Request.{Request}
-use Rattle.tab_proto.specs.declared.request.Request.TheVariants as request
-use Rattle.tab_proto.specs.Requests.{number_in, IsNumbered}
+use Rattle.tab_proto.specs.Requests.{Request, number_in, IsNumbered}
 use Rattle.tab_proto.proofs.RequestsApart.{requests_apart}
 use Rattle.tab_session.specs.declared.answered.Answer.{Answer}
 use Rattle.tab_session.specs.StepsMade.{IsStepMade, StepMadeOrRefused}
@@ -112,8 +111,8 @@ made_once σ μ ν n a r q bounded h k =
 
 -- what is driven is no step
 driven_alone : (σ μ : State) (n : ℕ) (a : Request) (r : Reply) → IsDrivenRequest σ n a r μ → is_step a ≡ false
-driven_alone σ μ n (request.Do (command.OneShot parts retries)) r d = refl
-driven_alone σ μ n (request.Do c) r d = absurd d.one_shot
+driven_alone σ μ n (DoCommand (command.OneShot parts retries)) r d = refl
+driven_alone σ μ n (DoCommand c) r d = absurd d.one_shot
 driven_alone σ μ n a r d = absurd d
 
 abbrev Unrefused : Answer → Type 0
@@ -160,15 +159,15 @@ GoesOn x = (x.reply ≢ reply.Waiting) × (x.reply ≢ reply.Restart)
 
 module _ (capacity : ℕ) where
   joins_empty : (a : Request) → JoinsEmpty (ask_for capacity a)
-  joins_empty request.Join = refl
-  joins_empty request.Leave = tt
-  joins_empty request.Retry = tt
-  joins_empty request.Take = tt
-  joins_empty (request.Do c) = tt
+  joins_empty (Join u) = refl
+  joins_empty Leave = tt
+  joins_empty Retry = tt
+  joins_empty Take = tt
+  joins_empty (DoCommand c) = tt
 
   request_leads : (σ μ : State) (n : ℕ) (a : Request) (r : Reply) (made : IsMadeOf capacity σ n a r μ) → Leads σ μ (of_request capacity σ n a r μ made) (λ m. delivered_by m n r)
   request_leads σ μ n a r (inl (one, made)) = steps σ μ n (ask_for capacity a) r made (joins_empty a)
-  request_leads σ μ n (request.Do c) r (inr driven) = driven_leads σ μ n c r driven
+  request_leads σ μ n (DoCommand c) r (inr driven) = driven_leads σ μ n c r driven
   request_leads σ μ n a r (inr driven) = absurd driven
 
   read_leads : (σ μ : State) (read : Result PlainTerm Stop) (x : Answer) (h : AnsweredRead capacity σ read x μ) → Leads σ μ (of_read capacity σ read x μ h) (λ m. delivered_by m x.session x.reply)
@@ -203,7 +202,7 @@ module _ (capacity : ℕ) where
   request_once σ μ ν n a r q bounded e f (inl (one, h)) (inl (other, k)) = made_once σ μ ν n (ask_for capacity a) r q bounded h k
   request_once σ μ ν n a r q bounded e f (inl (one, h)) (inr k) = absurd (false≢true (sym (driven_alone σ ν n a q k) ∙ one))
   request_once σ μ ν n a r q bounded e f (inr h) (inl (one, k)) = absurd (false≢true (sym (driven_alone σ μ n a r h) ∙ one))
-  request_once σ μ ν n (request.Do c) r q bounded e f (inr h) (inr k) = driven_once σ μ ν n c r q bounded e f h k
+  request_once σ μ ν n (DoCommand c) r q bounded e f (inr h) (inr k) = driven_once σ μ ν n c r q bounded e f h k
   request_once σ μ ν n a r q bounded e f (inr h) (inr k) = absurd h
 
   term_once : (σ μ ν : State) (t : PlainTerm) (x y : Answer) → IsBounded σ → Unrefused x → Unrefused y → AnsweredTerm capacity σ t x μ → AnsweredTerm capacity σ t y ν → (x ≡ y) × (μ ≡ ν)
@@ -227,15 +226,15 @@ module _ (capacity : ℕ) where
 
   -- a session joins with a post that has a capacity
   joins_bounded : (a : Request) → JoinsBounded (ask_for capacity a)
-  joins_bounded request.Join = refl
-  joins_bounded request.Leave = tt
-  joins_bounded request.Retry = tt
-  joins_bounded request.Take = tt
-  joins_bounded (request.Do c) = tt
+  joins_bounded (Join u) = refl
+  joins_bounded Leave = tt
+  joins_bounded Retry = tt
+  joins_bounded Take = tt
+  joins_bounded (DoCommand c) = tt
 
   request_bounded : (σ μ : State) (n : ℕ) (a : Request) (r : Reply) → IsBounded σ → IsMadeOf capacity σ n a r μ → IsBounded μ
   request_bounded σ μ n a r bounded (inl (one, made)) = made_bounded σ μ n (ask_for capacity a) r (joins_bounded a) bounded made
-  request_bounded σ μ n (request.Do c) r bounded (inr driven) = calls_bounded n σ μ driven.calls bounded driven.ran
+  request_bounded σ μ n (DoCommand c) r bounded (inr driven) = calls_bounded n σ μ driven.calls bounded driven.ran
   request_bounded σ μ n a r bounded (inr driven) = absurd driven
 
   read_bounded : (σ μ : State) (read : Result PlainTerm Stop) (x : Answer) → IsBounded σ → AnsweredRead capacity σ read x μ → IsBounded μ
@@ -263,7 +262,7 @@ module _ (capacity : ℕ) where
 
   request_calm : (n : ℕ) (σ μ : State) (a : Request) (r : Reply) → IsMadeOf capacity σ n a r μ → IsSole n σ → IsSole n μ × Calm r
   request_calm n σ μ a r (inl (one, made)) sole = made_calm n σ μ (ask_for capacity a) r made sole
-  request_calm n σ μ (request.Do c) r (inr d) sole =
+  request_calm n σ μ (DoCommand c) r (inr d) sole =
       let all = calls_calm n σ μ d.calls d.ran sole in
       (all.0, last_reply Calm (record { no_memory = ((λ e. cc), (λ e. cc)); no_wait = ((λ e. cc), (λ e. cc)); no_more = ((λ e. cc), (λ e. cc)); terms = λ ts. ((λ e. cc), (λ e. cc)) }) c d.calls r d.one_shot all.1)
   request_calm n σ μ a r (inr d) sole = absurd d

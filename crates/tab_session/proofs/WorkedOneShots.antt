@@ -14,7 +14,8 @@ use Rattle.tab_model.specs.declared.data.Command.TheVariants as command
 use Rattle.tab_model.specs.declared.data.Reply.{Reply}
 use Rattle.tab_model.specs.declared.data.Reply.TheVariants as reply
 use Rattle.tab_model.specs.State.{State, new, transaction_at, locks_held_by}
-use Rattle.tab_model.specs.Outcome.{DoCommand, outcome}
+use Rattle.tab_model.specs.declared.ask.Ask.TheVariants.{Do as DoCommand}
+use Rattle.tab_model.specs.Outcome.{outcome}
 use Rattle.tab_model.specs.Run.{Allowed, after_all}
 use Rattle.tab_model.proofs.Splits.{none_handed}
 use Rattle.tab_model.proofs.WorkedFixtures.{record_of, rec, usual, joins, creates, begins, commits, writes}

@@ -12,11 +12,11 @@ use Rattle.tab_model.specs.declared.data.Reply.{Reply}
 use Rattle.tab_model.specs.Catalogs.{Catalog}
 use Rattle.tab_model.specs.Alone.{start, after, replies}
 use Rattle.tab_model.specs.State.{State}
-use Rattle.tab_model.specs.Outcome.{Ask, DoCommand}
+use Rattle.tab_model.specs.declared.ask.Ask.TheVariants.{Do as DoCommand}
+use Rattle.tab_model.specs.Outcome.{Ask}
 use Rattle.tab_model.specs.Run as model
 use Rattle.tab_model.specs.Run.{entries}
-use Rattle.tab_proto.specs.declared.request.Request.{Request}
-use Rattle.tab_proto.specs.declared.request.Request.TheVariants as request
+use Rattle.tab_proto.specs.Requests.{Request}
 use Rattle.tab_oneshot.specs.Calls.{Call, Asked, Waited, Again}
 use Rattle.tab_session.specs.declared.answered.Answer.{Answer}
 use Rattle.tab_session.specs.StepsMade.{IsStepMade, StepMadeOrRefused}
@@ -68,7 +68,7 @@ of_calls n σ (Again ∷ calls) μ ran = of_calls n σ calls μ ran
 
 -- a one-shot: the calls of its driver; no other request is driven
 abbrev pub of_driven : (σ : State) (n : ℕ) (a : Request) (r : Reply) (μ : State) → IsDrivenRequest σ n a r μ → Account
-of_driven σ n (request.Do c) r μ driven = of_calls n σ driven.calls μ driven.ran
+of_driven σ n (DoCommand c) r μ driven = of_calls n σ driven.calls μ driven.ran
 of_driven σ n a r μ driven = nothing_done
 
 module _ (capacity : ℕ) where

@@ -7,15 +7,14 @@ use Rattle.tab_etf.specs.Frames.{frame}
 use Rattle.tab_etf.specs.Reading.{whole}
 use Rattle.tab_etf.specs.declared.fault.Stop.{Stop}
 use Rattle.tab_model.specs.State.{Outbox, State}
-use Rattle.tab_model.specs.Outcome.{Ask, Join, Leave, Retry, Take, DoCommand}
+use Rattle.tab_model.specs.declared.ask.Ask.TheVariants.{Do as DoCommand}
+use Rattle.tab_model.specs.Outcome.{Ask}
 use Rattle.tab_model.specs.declared.data.Reply.{Reply}
 use Rattle.tab_model.specs.declared.data.Reply.TheVariants.{BadTerm, BadCommand, NoMemory, Waiting, Restart}
 use Rattle.tab_model.specs.declared.data.Item.{Item}
 use Rattle.tab_model.specs.Run.{delivered_by}
-use Rattle.tab_core.specs.Runs.{takes_no_memory}
-use Rattle.tab_proto.specs.declared.request.Request.{Request}
-use Rattle.tab_proto.specs.declared.request.Request.TheVariants as request
-use Rattle.tab_proto.specs.Requests.{request_term, IsSession, IsRequest, IsNumbered, HasNoNumber, AsksOneShot}
+use Rattle.tab_core.specs.Runs.{ask_of, takes_no_memory}
+use Rattle.tab_proto.specs.Requests.{Request, request_term, IsSession, IsRequest, IsNumbered, HasNoNumber, AsksOneShot}
 use Rattle.tab_proto.specs.Replies.{response}
 use Rattle.tab_oneshot.specs.OneShots.{is_one_shot}
 use Rattle.tab_session.specs.declared.answered.Answer.{Answer}
@@ -32,12 +31,12 @@ AsksNothing t = (session : ℕ) (a : Request) → IsSession session → IsReques
 
 -- a one-shot is run by its driver, and any other request is one step
 abbrev pub is_step : Request → Bool
-is_step (request.Do c) = not (is_one_shot c)
+is_step (DoCommand c) = not (is_one_shot c)
 is_step r = true
 
 -- the request is a one-shot, which its driver ran up to this reply and this state
 abbrev pub IsDrivenRequest : State → ℕ → Request → Reply → State → Type 0
-IsDrivenRequest σ session (request.Do c) r μ = IsDriven σ session c r μ
+IsDrivenRequest σ session (DoCommand c) r μ = IsDriven σ session c r μ
 IsDrivenRequest σ session a r μ = ⊥
 
 -- the number under which a term is refused
@@ -55,11 +54,7 @@ pub record IsNoCommand (σ : State) (t : PlainTerm) (x : Answer) (μ : State) : 
 module _ (capacity : ℕ) where
   -- what the core is asked for it
   abbrev pub ask_for : Request → Ask
-  ask_for request.Join = Join (empty_post capacity)
-  ask_for request.Leave = Leave
-  ask_for request.Retry = Retry
-  ask_for request.Take = Take
-  ask_for (request.Do c) = DoCommand c
+  ask_for a = ask_of (λ u. empty_post capacity) a
 
   -- the request was made: as one step, or as a one-shot by its driver
   abbrev pub IsMadeOf : State → ℕ → Request → Reply → State → Type 0

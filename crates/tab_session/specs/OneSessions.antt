@@ -1,7 +1,7 @@
 -- What the calls of a one-shot's driver do on one session of a core, one after another.
 use Rattle.std.specs.Prelude.{◌≡◌, ℕ, List, [], ◌∷◌, None}
 use Rattle.tab_model.specs.State.{State}
-use Rattle.tab_model.specs.Outcome.{DoCommand}
+use Rattle.tab_model.specs.declared.ask.Ask.TheVariants.{Do as DoCommand}
 use Rattle.tab_model.specs.declared.data.Command.{Command}
 use Rattle.tab_model.specs.declared.data.Reply.{Reply}
 use Rattle.tab_oneshot.specs.Calls.{Call, Asked, Waited, Again}

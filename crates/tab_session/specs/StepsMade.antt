@@ -1,7 +1,8 @@
 -- A step of a core that a request asks for, made or refused for memory (this project's own rules).
 use Rattle.std.specs.Prelude.{◌≡◌, ℕ, List, [], false, Option, ◌⊎◌}
 use Rattle.tab_model.specs.State.{Outbox, State}
-use Rattle.tab_model.specs.Outcome.{Ask, Join, step_without_entry, outcome}
+use Rattle.tab_model.specs.declared.ask.Ask.TheVariants.{Join}
+use Rattle.tab_model.specs.Outcome.{Ask, step_without_entry, outcome}
 use Rattle.tab_model.specs.Run.{Allowed}
 use Rattle.tab_model.specs.declared.data.Entry.{Entry}
 use Rattle.tab_model.specs.declared.data.Reply.{Reply}

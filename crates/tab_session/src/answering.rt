@@ -1,11 +1,8 @@
 //! One payload, and how it is answered.
 
-ghost use Rattle.std.specs.Prelude.{◌≡◌, ◌++◌, ◌⊎◌, ℕ, [], MatchOption, OnOk, OnErr};
+ghost use Rattle.std.specs.Prelude.{◌≡◌, ◌++◌, ◌⊎◌, ℕ, [], MatchOption, MatchResult, OnOk, OnErr};
 ghost use Rattle.tab_term.specs.View.{term};
-ghost use Rattle.tab_model.specs.Outcome.{Join};
-ghost use Rattle.tab_core.specs.Runs.{ask_of};
-ghost use Rattle.tab_outbox.specs.Posts.{as_outbox};
-ghost use Rattle.tab_proto.specs.declared.request.Request.TheVariants as request;
+ghost use Rattle.tab_model.specs.declared.ask.Ask.TheVariants.{Join, Do as DoCommand};
 ghost use Rattle.tab_oneshot.specs.OneShots.{is_one_shot as is_one_shot_command};
 ghost use Rattle.tab_session.specs.StepsMade.{IsJoinRefused, JoinTakesMemory, StepMadeOrRefused};
 ghost use Rattle.tab_session.specs.AnsweredPayloads.{IsNumberOf, Answered, AnsweredTerm, RefusedTerm, RepliesTo, answer_frame, empty_post};
@@ -13,12 +10,12 @@ ghost use Rattle.tab_session.specs.Replays.{Handed, OneFault};
 
 use crate::one_session::drive;
 use crate::{Answer, Ended};
-use std::alloc::Global;
-use tab_core::{Core, Step};
+use std::alloc::{AllocError, Global};
+use tab_core::{Core, Stepped};
 use tab_etf::{EtfFault, FrameFault, Target, decode};
-use tab_model::{Command, Limit, Reply, SharedReply};
+use tab_model::{Ask, Command, Limit, Reply, SharedReply};
 use tab_outbox::RingPost;
-use tab_proto::{ProtoFault, Request, append_reply_within, read_request, session_of, write_reply};
+use tab_proto::{ProtoFault, append_reply_within, read_request, session_of, write_reply};
 use tab_term::Term;
 
 /// Answers a payload: what is no term is BadTerm under 0, and a term that asks nothing is BadCommand, under the number in
@@ -77,16 +74,16 @@ fn reply_to(
     alloc: Global,
     outbox: usize,
     session: u32,
-    request: Request,
+    request: Ask<()>,
 ) -> SharedReply
     ensures { RepliesTo outbox core.old session request result core.new }
 {
     match request {
-        Request::Join => join(core, alloc, outbox, session),
-        Request::Leave => reply_of(core, session, Step::Leave),
-        Request::Retry => reply_of(core, session, Step::Retry),
-        Request::Take => reply_of(core, session, Step::Take),
-        Request::Do(command) => reply_to_command(core, alloc, session, command),
+        Ask::Join(()) => join(core, alloc, outbox, session),
+        Ask::Leave => core.leave(session).into_reply(),
+        Ask::Retry => reply_of(core.retry(session)),
+        Ask::Take => core.take(session).into_reply(),
+        Ask::Do(command) => reply_to_command(core, alloc, session, command),
     }
 }
 
@@ -98,7 +95,7 @@ fn join(core: &mut Core<RingPost>, alloc: Global, outbox: usize, session: u32) -
         return SharedReply::new(refusal);
     }
     match RingPost::with_capacity(alloc, outbox) {
-        Ok(post) => reply_of(core, session, Step::Join(post)),
+        Ok(post) => reply_of(core.step(session, Ask::Join(post))),
         Err(_) => SharedReply::new(Reply::NoMemory),
     }
 }
@@ -127,12 +124,12 @@ fn reply_to_command(
     command: Command,
 ) -> SharedReply
     ensures { (outbox : ℕ)
-        → RepliesTo outbox core.old session (request.Do command) result core.new }
+        → RepliesTo outbox core.old session (DoCommand command) result core.new }
 {
     if is_one_shot(&command) {
         return drive(core, alloc, session, command);
     }
-    reply_of(core, session, Step::Do(command))
+    reply_of(core.command(session, command))
 }
 
 fn is_one_shot(command: &Command) -> bool
@@ -144,11 +141,11 @@ fn is_one_shot(command: &Command) -> bool
     }
 }
 
-/// The reply of one step.
-fn reply_of(core: &mut Core<RingPost>, session: u32, step: Step<RingPost>) -> SharedReply
-    ensures { StepMadeOrRefused core.old session (ask_of as_outbox step) result core.new }
+/// The reply of one step, which is NoMemory where memory was refused.
+fn reply_of(step: Result<Stepped, AllocError>) -> SharedReply
+    ensures { MatchResult step (λ s. result ≡ s.reply) (λ e. result ≡ Reply.NoMemory) }
 {
-    match core.step(session, step) {
+    match step {
         Ok(stepped) => stepped.into_reply(),
         Err(_) => SharedReply::new(Reply::NoMemory),
     }

@@ -1,14 +1,15 @@
 //! One session of a core, as a one-shot's driver uses it.
 
 ghost use Rattle.std.specs.Prelude.{◌≡◌, List, IsTrue, IsOk};
-ghost use Rattle.tab_model.specs.Outcome.{DoCommand, is_abort};
+ghost use Rattle.tab_model.specs.declared.ask.Ask.TheVariants.{Do as DoCommand};
+ghost use Rattle.tab_model.specs.Outcome.{is_abort};
 ghost use Rattle.tab_oneshot.specs.Calls.{Call, answer_in};
 ghost use Rattle.tab_oneshot.specs.OneShots.{is_one_shot, IsOneShot};
 ghost use Rattle.tab_session.specs.OneSessions.{Ran};
 ghost use Rattle.tab_session.specs.StepsMade.{StepMadeOrRefused};
 
 use std::alloc::{AllocError, Global};
-use tab_core::{Core, Step};
+use tab_core::Core;
 use tab_model::{Command, SharedReply};
 use tab_oneshot::{Steps, one_shot};
 use tab_outbox::RingPost;
@@ -23,7 +24,7 @@ fn hand_in(
         (answer_in result) core.new }
     ensures abort { IsTrue (is_abort command) → IsOk result }
 {
-    match core.step(session, Step::Do(command)) {
+    match core.command(session, command) {
         Ok(stepped) => Ok(stepped.into_reply()),
         Err(refused) => Err(refused),
     }
