@@ -1,6 +1,6 @@
 -- What an inbox shows of the post that it meets, and what a Take then tells.
 use Rattle.std.proofs.Common.{◌≡◌, ℕ, List, [], refl, sym, ap, ◌∙◌, subst, Option, Some, None}
-use Rattle.std.specs.Prelude.{IfSome, option_map}
+use Rattle.std.specs.Prelude.{MatchOption, option_map}
 use Rattle.tab_model.specs.declared.data.Item.{Item}
 use Rattle.tab_model.specs.State.{Outbox, Session, State, session_at}
 use Rattle.tab_model.specs.Standing.{AreChannels}
@@ -64,13 +64,13 @@ takes σ over n s here channels = ap (step_of σ over n Take) here ∙ ap (λ c.
 
 -- ---- what a Take then tells
 
-module _ (σ : State) (j : JournalView) (n : ℕ) (s : Session) (here : session_at σ.sessions n ≡ Some s) (x : Option ℕ) (is : IfSome (session_at σ.sessions n) (λ t. x ≡ t.overflow)) where
+module _ (σ : State) (j : JournalView) (n : ℕ) (s : Session) (here : session_at σ.sessions n ≡ Some s) (x : Option ℕ) (is : MatchOption (session_at σ.sessions n) (x ≡ None) (λ t. x ≡ t.overflow)) where
   abbrev now : Running
   now = record { state = σ; journal = j }
 
   -- what the session's overflow was
   overflow_is : x ≡ s.overflow
-  overflow_is = subst (λ (o : Option Session). IfSome o (λ t. x ≡ t.overflow)) here is
+  overflow_is = subst (λ (o : Option Session). MatchOption o (x ≡ None) (λ t. x ≡ t.overflow)) here is
 
   pub tells : (over : List ℕ) (o : Outcome) → AreChannels σ → outcome σ over n Take ≡ o → (c : ℕ) → x ≡ Some c → (s : Session) × (session_at σ.sessions n ≡ Some s) × TellsOverflow now n s.overflow (Overflow c) (record { state = o.state; journal = j })
   tells over o channels took c e = (s, here, subst (λ (l : Option ℕ). TellsOverflow now n l (Overflow c) (record { state = o.state; journal = j })) (sym e ∙ overflow_is) (refl, λ i. record { state = same_state i; journal = j }))

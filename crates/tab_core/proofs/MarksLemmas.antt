@@ -2,7 +2,7 @@
 use Rattle.std.proofs.Common.{◌≡◌, ℕ, List, [], ◌∷◌, Bool, true, false, ◌&&◌, not, refl, sym, ap, ◌∙◌, subst, length, Option, Some, None}
 use Rattle.std.proofs.Common.{Bor}
 use Rattle.std.specs.Option.{option_copied}
-use Rattle.std.specs.Prelude.{◌==◌, ◌||◌, if◌then◌else◌, is_some, nat_le, IfSome, map, option_map}
+use Rattle.std.specs.Prelude.{◌==◌, ◌||◌, if◌then◌else◌, is_some, nat_le, IfSome, MatchOption, map, option_map}
 use Rattle.tab_model.specs.declared.data.Entry.{Entry}
 use Rattle.tab_model.specs.declared.data.Entry.TheVariants.{Subscribed, Unsubscribed}
 use Rattle.tab_model.specs.declared.data.Item.{Item}
@@ -451,11 +451,11 @@ post_seen bs σ k n = by (session_at σ.sessions n) refl
 
 -- ---- its overflow
 
-pub overflow_seen : (bs : List Subscriber) (σ : State) → IsKept bs σ → (n : ℕ) → IfSome (session_at (state_with bs σ).sessions n) (λ (s : Session). subs.overflow_of (at bs n) ≡ s.overflow)
+pub overflow_seen : (bs : List Subscriber) (σ : State) → IsKept bs σ → (n : ℕ) → MatchOption (session_at (state_with bs σ).sessions n) (subs.overflow_of (at bs n) ≡ None) (λ (s : Session). subs.overflow_of (at bs n) ≡ s.overflow)
 overflow_seen bs σ k n = by (session_at σ.sessions n) refl
   where
-    by : (o : Option Session) → session_at σ.sessions n ≡ o → IfSome (session_at (state_with bs σ).sessions n) (λ (s : Session). subs.overflow_of (at bs n) ≡ s.overflow)
-    by None e = subst (λ p. IfSome p (λ (s : Session). subs.overflow_of (at bs n) ≡ s.overflow)) (sym (mapped_none bs σ n e)) tt
+    by : (o : Option Session) → session_at σ.sessions n ≡ o → MatchOption (session_at (state_with bs σ).sessions n) (subs.overflow_of (at bs n) ≡ None) (λ (s : Session). subs.overflow_of (at bs n) ≡ s.overflow)
+    by None e = subst (λ p. MatchOption p (subs.overflow_of (at bs n) ≡ None) (λ (s : Session). subs.overflow_of (at bs n) ≡ s.overflow)) (sym (mapped_none bs σ n e)) (ap subs.overflow_of (none_there bs σ.sessions n k.same e))
     by (Some s) e =
         let m = mine bs σ k n s e in
-        subst (λ p. IfSome p (λ (x : Session). subs.overflow_of (at bs n) ≡ x.overflow)) (sym (mapped_some bs σ n s e)) (ap subs.overflow_of m.1.there ∙ ap (λ (x : Session). x.overflow) (sym m.1.slot))
+        subst (λ p. MatchOption p (subs.overflow_of (at bs n) ≡ None) (λ (x : Session). subs.overflow_of (at bs n) ≡ x.overflow)) (sym (mapped_some bs σ n s e)) (ap subs.overflow_of m.1.there ∙ ap (λ (x : Session). x.overflow) (sym m.1.slot))

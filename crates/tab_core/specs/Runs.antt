@@ -1,5 +1,5 @@
 -- Steps of a core, lists of them, and what a run of them leaves.
-use Rattle.std.specs.Prelude.{◌≡◌, ℕ, List, [], ◌∷◌, ◌++◌, Bool, true, false, ◌⊎◌}
+use Rattle.std.specs.Prelude.{◌≡◌, ℕ, List, [], ◌∷◌, ◌++◌, Bool, true, false, map, ◌⊎◌}
 use Rattle.tab_model.specs.declared.data.Entry.{Entry}
 use Rattle.tab_model.specs.declared.data.Item.{Item}
 use Rattle.tab_model.specs.declared.data.Reply.{Reply}
@@ -22,8 +22,7 @@ ask_of f (DoCommand c) = DoCommand c
 
 -- what steps ask, in their order, each with the number of its session
 abbrev pub asks_of : {P : Type 0} → (P → Outbox) → List (ℕ × AskWith P) → List (ℕ × Ask)
-asks_of f [] = []
-asks_of f (s ∷ steps) = (s.0, ask_of f s.1) ∷ asks_of f steps
+asks_of f steps = map (λ s. (s.0, ask_of f s.1)) steps
 
 -- the caller's condition on steps: a session joins with an empty post
 abbrev pub AllJoinEmpty : List (ℕ × Ask) → Type 0

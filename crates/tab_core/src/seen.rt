@@ -1,6 +1,6 @@
 //! What a core's sessions are, as its caller sees them.
 
-ghost use Rattle.std.specs.Prelude.{◌≡◌, ◌^◌, ◌-◌, ◌&&◌, [], IfSome, IsFalse, length, min, nat_lt, option_map};
+ghost use Rattle.std.specs.Prelude.{◌≡◌, ◌^◌, ◌-◌, ◌&&◌, [], None, MatchOption, IsFalse, length, min, nat_lt, option_map};
 ghost use Rattle.tab_model.specs.Standing.{is_joined, levels_of};
 ghost use Rattle.tab_model.specs.State.{is_waiting, session_at};
 ghost use Rattle.tab_outbox.specs.Mailboxes.{Meets};
@@ -73,9 +73,10 @@ impl<P: Post + Drop> Core<P> {
         self.subs.post(session as u64)
     }
 
-    /// The number of the session's overflow, where it was not told yet.
+    /// The number of the session's overflow, where it was not told yet. None of one that isn't joined.
     pub fn overflow(&self, session: u32) -> Option<u64>
-        ensures { IfSome (session_at self.now.sessions session) (λ s. result ≡ s.overflow) }
+        ensures { MatchOption (session_at self.now.sessions session) (result ≡ None)
+            (λ s. result ≡ s.overflow) }
     {
         self.subs.overflow(session as u64)
     }
