@@ -14,7 +14,7 @@ use std::collections::VecDeque;
 use std::marker::Model;
 use std::slice;
 use tab_model::{LoggedOperation, LoggedReply, Move};
-use tab_operations::{Pending, perform};
+use tab_operations::{Whole, perform};
 use tab_tables::{Catalog, Lender};
 use tab_txstore::{TxStore, update_of};
 
@@ -242,11 +242,11 @@ fn is_told(
     requires { IsOrderedCatalog tables.now }
     ensures { IfOk result (λ is. Decides is (answer_of tables.now operation.now ≡ told.now)) }
 {
-    let pending = Pending {
-        operation: operation.to_operation(alloc)?,
+    let asked = Whole {
+        value: operation.to_operation(alloc)?,
     };
     let mut store = TxStore::new(alloc);
-    let answer = perform(alloc, tables, &mut store, pending)?;
+    let answer = perform(alloc, tables, &mut store, asked)?;
     Ok(is_answer(answer.reply(), told))
 }
 

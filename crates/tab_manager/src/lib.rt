@@ -17,7 +17,6 @@ ghost use Rattle.tab_manager.specs.Quiet.{is_quiet};
 ghost use Rattle.tab_manager.specs.SessionLists.{no_outbox};
 ghost use Rattle.tab_manager.specs.Steps.{StepsTo, takes_no_memory};
 
-mod command;
 mod ending;
 mod levels;
 mod machine;

@@ -9,14 +9,13 @@ ghost use Rattle.tab_manager.specs.Quiet.{is_quiet};
 ghost use Rattle.tab_manager.specs.SessionLists.{state_of, at, IsHeldAt};
 ghost use Rattle.tab_manager.specs.Kept.{IsKept};
 
-use crate::command::{Asked, AskedSchema};
 use crate::queue::{Request, find};
 use crate::session::Session;
 use crate::step::Stepped;
 use arrayvec::ArrayVec;
 use std::alloc::{AllocError, Global};
 use tab_model::{Command, Limits, Reply};
-use tab_operations::Pending;
+use tab_operations::Whole;
 use tab_tables::Catalog;
 use tab_waitdie::Ages;
 
@@ -104,7 +103,7 @@ impl Machine {
         ensures err { OnErr result (state_of self.new ≡ state_of self.old) }
         ensures kept { IsKept self.new }
     {
-        let asked = Asked { command };
+        let asked = Whole { value: command };
         let Some(place) = self.place(session) else {
             return Ok(Stepped::without_entry(Reply::BadSession));
         };
@@ -115,15 +114,15 @@ impl Machine {
     }
 
     /// A command of a session that waits: it can do nothing but abort.
-    fn waiting_command(&mut self, session: u32, place: usize, asked: Asked) -> Reply
+    fn waiting_command(&mut self, session: u32, place: usize, asked: Whole<Command>) -> Reply
         requires kept { IsKept self.old }
         requires there { IsHeldAt self.old.sessions.items session place }
         requires waits { IsTrue (is_waiting (state_of self.old) session) }
-        ensures done { outcome (state_of self.old) [] session (DoCommand asked.command)
+        ensures done { outcome (state_of self.old) [] session (DoCommand asked.value)
             ≡ step_without_entry (state_of self.new) result }
         ensures kept { IsKept self.new }
     {
-        match asked.into_command() {
+        match asked.into_value() {
             Command::Abort(reason) => self.abort(session, place, reason),
             _ => Reply::WaitingNow,
         }
@@ -134,33 +133,33 @@ impl Machine {
         &mut self,
         session: u32,
         place: usize,
-        asked: Asked,
+        asked: Whole<Command>,
     ) -> Result<Stepped, AllocError>
-        requires quiet { IsTrue (is_quiet asked.command) }
+        requires quiet { IsTrue (is_quiet asked.value) }
         requires kept { IsKept self.old }
         requires there { IsHeldAt self.old.sessions.items session place }
         requires idle { IsFalse (is_waiting (state_of self.old) session) }
         ensures done { IfOk result
-            (λ s. outcome (state_of self.old) [] session (DoCommand asked.command)
+            (λ s. outcome (state_of self.old) [] session (DoCommand asked.value)
             ≡ record { state = state_of self.new; reply = s.reply; entry = s.entry }) }
-        ensures free { IsTrue (asks_for_none (state_of self.old) session (DoCommand asked.command))
+        ensures free { IsTrue (asks_for_none (state_of self.old) session (DoCommand asked.value))
             → IsOk result }
         ensures told { IsTrue
-            (is_told_for_none (state_of self.old) session (DoCommand asked.command)) → IsOk result }
+            (is_told_for_none (state_of self.old) session (DoCommand asked.value)) → IsOk result }
         ensures err { OnErr result (state_of self.new ≡ state_of self.old) }
         ensures kept { IsKept self.new }
     {
-        match asked.into_command() {
+        match asked.into_value() {
             Command::Begin => Ok(Stepped::without_entry(self.begin(session, place)?)),
             Command::Commit => self.commit(session, place),
             Command::Abort(reason) => Ok(Stepped::without_entry(self.abort(
                 session, place, reason,
             ))),
             Command::Do(operation) => {
-                let pending = Pending { operation };
-                Ok(Stepped::told(self.operate(session, place, pending)?))
+                let asked = Whole { value: operation };
+                Ok(Stepped::told(self.operate(session, place, asked)?))
             }
-            Command::Schema(schema) => self.schema(session, place, AskedSchema { schema }),
+            Command::Schema(schema) => self.schema(session, place, Whole { value: schema }),
             Command::TableInfo(name, item) => {
                 Ok(Stepped::without_entry(self.table_info(session, &name, item)?))
             }

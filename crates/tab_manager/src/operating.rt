@@ -19,8 +19,8 @@ use crate::queue::{Request, find};
 use crate::session::{Session, Transaction};
 use crate::step::Stepped;
 use std::alloc::{AllocError, Global};
-use tab_model::{Limit, Reply, SharedReply};
-use tab_operations::{Pending, needs, perform};
+use tab_model::{Limit, Operation, Reply, SharedReply};
+use tab_operations::{Whole, needs, perform};
 use tab_tables::Catalog;
 use tab_waitdie::{Ages, Answer};
 
@@ -52,17 +52,17 @@ impl Machine {
         &mut self,
         session: u32,
         place: usize,
-        pending: Pending,
+        asked: Whole<Operation>,
     ) -> Result<SharedReply, AllocError>
         requires kept { IsKept self.old }
         requires there { IsHeldAt self.old.sessions.items session place }
         requires idle { IsFalse (is_waiting (state_of self.old) session) }
         ensures ok { IfOk result
-            (λ r. outcome (state_of self.old) [] session (DoCommand (command.Do pending.operation))
+            (λ r. outcome (state_of self.old) [] session (DoCommand (command.Do asked.value))
             ≡ step_without_entry (state_of self.new) r) }
         ensures told { IsTrue
             (is_told_for_none (state_of self.old) session
-            (DoCommand (command.Do pending.operation))) → IsOk result }
+            (DoCommand (command.Do asked.value))) → IsOk result }
         ensures err { OnErr result (state_of self.new ≡ state_of self.old) }
         ensures kept { IsKept self.new }
     {
@@ -74,11 +74,11 @@ impl Machine {
         }
         let age = transaction.age;
         self.queue.reserve(1)?;
-        let lock = needs(self.alloc, &pending.operation)?;
+        let lock = needs(self.alloc, &asked.value)?;
         match self.ages.request(age, lock)? {
             Answer::Granted => {
                 let slot = &mut self.sessions[place];
-                let worked = work(self.alloc, &self.catalog, slot, &mut self.ages, pending)?;
+                let worked = work(self.alloc, &self.catalog, slot, &mut self.ages, asked)?;
                 end_if(worked.over, slot, &mut self.ages);
                 Ok(worked.into_reply())
             }
@@ -86,7 +86,7 @@ impl Machine {
                 self.queue.push_reserved(Request {
                     session,
                     age,
-                    operation: pending.into_operation(),
+                    operation: asked.into_value(),
                 });
                 Ok(SharedReply::new(Reply::Waiting))
             }
@@ -132,12 +132,12 @@ impl Machine {
         if !self.ages.may_go(age) {
             return Ok(SharedReply::new(Reply::Waiting));
         }
-        let pending = Pending {
-            operation: request.operation.try_clone(self.alloc)?,
+        let asked = Whole {
+            value: request.operation.try_clone(self.alloc)?,
         };
         self.ages.grant(age)?;
         let slot = &mut self.sessions[place];
-        let worked = work(self.alloc, &self.catalog, slot, &mut self.ages, pending)?;
+        let worked = work(self.alloc, &self.catalog, slot, &mut self.ages, asked)?;
         self.ages.drop_wait(age);
         self.queue.retain(|request| request.session != session);
         end_if(worked.over, slot, &mut self.ages);
@@ -151,12 +151,12 @@ fn work(
     catalog: &Catalog,
     slot: &mut Session,
     ages: &mut Ages,
-    pending: Pending,
+    asked: Whole<Operation>,
 ) -> Result<Worked, AllocError>
     requires { IsSome slot.old.transaction }
     ensures number { slot.new.number ≡ slot.old.number }
     ensures ok { IfSome slot.old.transaction
-        (λ t. IfOk result (λ x. WorksTo catalog.now t pending.operation x slot.new.transaction)) }
+        (λ t. IfOk result (λ x. WorksTo catalog.now t asked.value x slot.new.transaction)) }
     ensures held { IfOk result (λ x. ages.new ≡ ages.old) }
     ensures undone { IfSome slot.old.transaction
         (λ t. OnErr result
@@ -166,7 +166,7 @@ fn work(
     let Some(transaction) = &mut slot.transaction else {
         unreachable!();
     };
-    work_in(alloc, catalog, transaction, ages, pending)
+    work_in(alloc, catalog, transaction, ages, asked)
 }
 
 fn work_in(
@@ -174,10 +174,10 @@ fn work_in(
     catalog: &Catalog,
     transaction: &mut Transaction,
     ages: &mut Ages,
-    pending: Pending,
+    asked: Whole<Operation>,
 ) -> Result<Worked, AllocError>
     ensures ok { IfOk result
-        (λ x. Works catalog.now transaction.old pending.operation x transaction.new) }
+        (λ x. Works catalog.now transaction.old asked.value x transaction.new) }
     ensures held { IfOk result (λ x. ages.new ≡ ages.old) }
     ensures undone { OnErr result
         ((transaction.new ≡ transaction.old)
@@ -185,7 +185,7 @@ fn work_in(
         (without_last transaction.old.age ages.old.held) ages.old.queue)) }
 {
     let outermost = transaction.store.depth() == 0;
-    match perform(alloc, catalog, &mut transaction.store, pending) {
+    match perform(alloc, catalog, &mut transaction.store, asked) {
         Ok(reply) => {
             let over = outermost && reply.reply().is_failure();
             Ok(Worked { reply, over })

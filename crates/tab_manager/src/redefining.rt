@@ -10,11 +10,11 @@ ghost use Rattle.tab_manager.specs.SessionLists.{no_session, state_of, IsHeldAt}
 ghost use Rattle.tab_manager.specs.Kept.{IsKept};
 ghost use Rattle.tab_manager.specs.Steps.{is_told_for_none};
 
-use crate::command::AskedSchema;
 use crate::machine::Machine;
 use crate::step::Stepped;
 use std::alloc::AllocError;
 use tab_model::{Entry, InfoItem, Limit, Numbers, Reply, Schema, SharedReply};
+use tab_operations::Whole;
 use tab_tables::{Catalog, Redefined, redefine, table_info};
 use tab_term::Atom;
 
@@ -24,16 +24,16 @@ impl Machine {
         &mut self,
         session: u32,
         place: usize,
-        asked: AskedSchema,
+        asked: Whole<Schema>,
     ) -> Result<Stepped, AllocError>
         requires kept { IsKept self.old }
         requires there { IsHeldAt self.old.sessions.items session place }
         requires idle { IsFalse (is_waiting (state_of self.old) session) }
         ensures ok { IfOk result
-            (λ s. outcome (state_of self.old) [] session (DoCommand (command.Schema asked.schema))
+            (λ s. outcome (state_of self.old) [] session (DoCommand (command.Schema asked.value))
             ≡ record { state = state_of self.new; reply = s.reply; entry = s.entry }) }
         ensures told { IsTrue
-            (is_told_for_none (state_of self.old) session (DoCommand (command.Schema asked.schema)))
+            (is_told_for_none (state_of self.old) session (DoCommand (command.Schema asked.value)))
             → IsOk result }
         ensures err { OnErr result (state_of self.new ≡ state_of self.old) }
         ensures kept { IsKept self.new }
@@ -41,7 +41,7 @@ impl Machine {
         if self.sessions[place].transaction.is_some() {
             return Ok(Stepped::without_entry(Reply::InTransaction));
         }
-        match redefine(self.alloc, &self.catalog, &asked.schema)? {
+        match redefine(self.alloc, &self.catalog, &asked.value)? {
             Redefined::Refused(reply) => Ok(Stepped::without_entry(reply)),
             Redefined::Done(catalog) => self.put_tables(session, place, asked, catalog),
         }
@@ -52,7 +52,7 @@ impl Machine {
         &mut self,
         session: u32,
         place: usize,
-        asked: AskedSchema,
+        asked: Whole<Schema>,
         catalog: Catalog,
     ) -> Result<Stepped, AllocError>
         requires kept { IsKept self.old }
@@ -60,29 +60,29 @@ impl Machine {
         requires idle { IsFalse (is_waiting (state_of self.old) session) }
         requires outside { (slice_index_or self.old.sessions.items place
             (no_session session)).transaction ≡ None }
-        requires done { (schema_refusal self.old.catalog asked.schema ≡ None)
-            × (catalog ≡ schema_effect self.old.catalog asked.schema) }
+        requires done { (schema_refusal self.old.catalog asked.value ≡ None)
+            × (catalog ≡ schema_effect self.old.catalog asked.value) }
         ensures ok { IfOk result
-            (λ s. outcome (state_of self.old) [] session (DoCommand (command.Schema asked.schema))
+            (λ s. outcome (state_of self.old) [] session (DoCommand (command.Schema asked.value))
             ≡ record { state = state_of self.new; reply = s.reply; entry = s.entry }) }
         ensures told { IsTrue
-            (is_told_for_none (state_of self.old) session (DoCommand (command.Schema asked.schema)))
+            (is_told_for_none (state_of self.old) session (DoCommand (command.Schema asked.value)))
             → IsOk result }
         ensures err { OnErr result (state_of self.new ≡ state_of self.old) }
         ensures kept { IsKept self.new }
     {
-        if self.ages.busy(table_of(&asked.schema)) {
-            let name = table_of(&asked.schema).try_clone(self.alloc)?;
+        if self.ages.busy(table_of(&asked.value)) {
+            let name = table_of(&asked.value).try_clone(self.alloc)?;
             return Ok(Stepped::without_entry(Reply::Locked(name)));
         }
-        if !self.has_room(&asked.schema) {
+        if !self.has_room(&asked.value) {
             return Ok(Stepped::without_entry(Reply::SystemLimit(Limit::Tables)));
         }
         self.catalog = catalog;
         Ok(Stepped {
             reply: SharedReply::new(Reply::AtomicOk),
             entry: Some(Entry::Changed(
-                asked.into_schema(),
+                asked.into_value(),
                 Numbers {
                     items: Vec::new(self.alloc),
                 },

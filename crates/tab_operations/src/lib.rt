@@ -6,6 +6,8 @@
 mod answering;
 mod asked;
 mod performing;
+mod whole;
 
 pub use asked::needs;
-pub use performing::{Pending, perform};
+pub use performing::perform;
+pub use whole::Whole;

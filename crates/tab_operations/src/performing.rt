@@ -10,35 +10,13 @@ ghost use Rattle.tab_operations.specs.Answers.{Answers};
 
 use crate::answering::answered;
 use crate::asked::table_of;
+use crate::whole::Whole;
 use std::alloc::{AllocError, Global};
 use tab_index::IndexedTable;
 use tab_model::{Operation, Reply, SharedReply};
 use tab_tables::Catalog;
 use tab_term::Atom;
 use tab_txstore::TxStore;
-
-/// An operation that waits for its place in its transaction's trace.
-pub struct Pending {
-    pub operation: Operation,
-}
-
-// A derived Drop would be taken apart, variant by variant, at each exit of each caller.
-impl Drop for Pending {
-    fn drop(self) {
-        let Pending { operation } = self;
-        drop(operation);
-    }
-}
-
-impl Pending {
-    /// The operation, for its place in the trace.
-    pub fn into_operation(self) -> Operation
-        ensures { result ≡ self.operation }
-    {
-        let Pending { operation } = self;
-        operation
-    }
-}
 
 /// Performs an operation of a transaction on tables that it is lent: what it answers on them as the transaction sees them,
 /// and its trace and what it changes in the store. The tables stay as they are. What is answered stands once, for the caller and
@@ -47,25 +25,25 @@ pub fn perform(
     alloc: Global,
     catalog: &Catalog,
     store: &mut TxStore,
-    pending: Pending,
+    asked: Whole<Operation>,
 ) -> Result<SharedReply, AllocError>
     ensures store { IfOk result
         (λ r. store.new
-        ≡ store_next (find catalog.now (table_of_operation pending.operation)) store.old
-        (Do pending.operation) (Some r)) }
+        ≡ store_next (find catalog.now (table_of_operation asked.value)) store.old
+        (Do asked.value) (Some r)) }
     ensures answer { IfOk result
         (λ r. (age : ℕ) → IsOrderedCatalog catalog.now → Fits store.old catalog.now
         → replies (start catalog.now age) store.old.moves ≡ store.old.told
-        → r ≡ answer_of (after (start catalog.now age) store.old.moves).now pending.operation) }
+        → r ≡ answer_of (after (start catalog.now age) store.old.moves).now asked.value) }
     ensures err { OnErr result (store.new ≡ store.old) }
 {
     let nameless = Atom::from_short_text(alloc, "")?;
-    let name = table_of(&pending.operation, &nameless);
+    let name = table_of(&asked.value, &nameless);
     match catalog.table(name) {
-        Some(committed) => perform_on(alloc, committed, store, pending),
+        Some(committed) => perform_on(alloc, committed, store, asked),
         None => {
             let name = name.try_clone(alloc)?;
-            fail(alloc, store, pending, name)
+            fail(alloc, store, asked, name)
         }
     }
 }
@@ -74,20 +52,20 @@ fn perform_on(
     alloc: Global,
     committed: &IndexedTable,
     store: &mut TxStore,
-    pending: Pending,
+    asked: Whole<Operation>,
 ) -> Result<SharedReply, AllocError>
     ensures store { IfOk result
         (λ r. store.new
-        ≡ store_next (Some committed.now) store.old (Do pending.operation) (Some r)) }
+        ≡ store_next (Some committed.now) store.old (Do asked.value) (Some r)) }
     ensures answer { IfOk result
         (λ r. Answers
         (touched store.old.levels.now.overlay committed.now.def.name) committed.now
-        pending.operation r) }
+        asked.value r) }
     ensures err { OnErr result (store.new ≡ store.old) }
 {
-    let answer = answered(alloc, store, committed, &pending.operation)?;
+    let answer = answered(alloc, store, committed, &asked.value)?;
     let (reply, logged) = SharedReply::pair(alloc, answer.into_reply())?;
-    store.make(alloc, committed, pending.into_operation(), logged)?;
+    store.make(alloc, committed, asked.into_value(), logged)?;
     Ok(reply)
 }
 
@@ -95,15 +73,15 @@ fn perform_on(
 fn fail(
     alloc: Global,
     store: &mut TxStore,
-    pending: Pending,
+    asked: Whole<Operation>,
     name: Atom,
 ) -> Result<SharedReply, AllocError>
     ensures store { IfOk result
-        (λ r. store.new ≡ store_next None store.old (Do pending.operation) (Some r)) }
+        (λ r. store.new ≡ store_next None store.old (Do asked.value) (Some r)) }
     ensures answer { IfOk result (λ r. r ≡ reply.NoTable name) }
     ensures err { OnErr result (store.new ≡ store.old) }
 {
     let (reply, logged) = SharedReply::pair(alloc, Reply::NoTable(name))?;
-    store.fail(alloc, pending.into_operation(), logged)?;
+    store.fail(alloc, asked.into_value(), logged)?;
     Ok(reply)
 }

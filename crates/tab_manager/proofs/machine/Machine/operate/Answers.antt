@@ -18,7 +18,7 @@ returns-in_default-clause-ok c =
     let m = c.args.self.now in
     let n = c.args.session in
     let i = c.args.place in
-    operating.no_transaction m n i c.requires.kept c.requires.there c.args.pending.operation c.requires.idle (keep.found m n i c.requires.there c.deref.result.now c.index-deref-place.result c.deref.ensures.0 c.in_default.is)
+    operating.no_transaction m n i c.requires.kept c.requires.there c.args.asked.value c.requires.idle (keep.found m n i c.requires.there c.deref.result.now c.index-deref-place.result c.deref.ensures.0 c.in_default.is)
     ∙ ap (step_without_entry (state_of m)) (sym c.new.ensures)
 
 pub returns-then-count-self-clause-ok : goal.returns-then-count-self-clause-ok
@@ -26,7 +26,7 @@ returns-then-count-self-clause-ok c =
     let m = c.args.self.now in
     let n = c.args.session in
     let i = c.args.place in
-    operating.too_many m n i c.requires.kept c.requires.there c.in-Some.transaction (keep.found m n i c.requires.there c.deref.result.now c.index-deref-place.result c.deref.ensures.0 c.in-Some.is) c.args.pending.operation c.requires.idle
+    operating.too_many m n i c.requires.kept c.requires.there c.in-Some.transaction (keep.found m n i c.requires.there c.deref.result.now c.index-deref-place.result c.deref.ensures.0 c.in-Some.is) c.args.asked.value c.requires.idle
     (not_less _ _ (omega (arith, c.if-count-self.true, c.count.ensures)))
     ∙ ap (step_without_entry (state_of m)) (sym c.new-then-count-self.ensures)
 
@@ -50,7 +50,7 @@ returns-in_err-worked-in-Granted-clause-kept c =
     let u = operating.undone t s2 c.work.new.slot c.request.new.self c.work.new.ages (ap (λ (x : code.Session). x.transaction) same ∙ open_t) c.in_err-worked-in-Granted.ensures.undone in
     (operating.refused_exit m n i c.requires.kept c.requires.there t open_t s2 c.work.new.slot (parts m (with_items m.sessions (set c.deref_mut.result.now i c.work.new.slot)) c.work.new.ages c.reserve.new.self) same c.in_err-worked-in-Granted.ensures.number u.0
     (record { catalog = refl; sessions = refilled m.sessions.items _ i c.work.new.slot c.deref_mut.ensures.value; queue = c.in_ok-reserve.ensures.items; limits = refl; begun = refl; commits = refl; greatest = refl })
-    (u.1 ∙ operating.given_back m.ages c.request.new.self t.age _ (c.in_ok-request.ensures.undo c.in-Granted.is) (operating.ages_after m.ages c.request.new.self t.age _ c.args.pending.operation c.in_ok-request.field-0 Granted c.in_ok-request.ensures.after c.in-Granted.is c.in_ok-lock.ensures))).1
+    (u.1 ∙ operating.given_back m.ages c.request.new.self t.age _ (c.in_ok-request.ensures.undo c.in-Granted.is) (operating.ages_after m.ages c.request.new.self t.age _ c.args.asked.value c.in_ok-request.field-0 Granted c.in_ok-request.ensures.after c.in-Granted.is c.in_ok-lock.ensures))).1
 
 pub returns-in_ok-worked-in-Granted : goal.returns-in_ok-worked-in-Granted
 returns-in_ok-worked-in-Granted c =
@@ -59,7 +59,7 @@ returns-in_ok-worked-in-Granted c =
     let i = c.args.place in
     let t = c.in-Some.transaction in
     let open_t = keep.found m n i c.requires.there c.deref.result.now c.index-deref-place.result c.deref.ensures.0 c.in-Some.is in
-    let o = c.args.pending.operation in
+    let o = c.args.asked.value in
     let lock = c.in_ok-lock.ensures in
     let room = less _ _ (omega (arith, c.if-count-self.false, c.count.ensures)) in
     let s2 = get_or c.deref_mut.result.now i c.index-deref_mut-place.result in
@@ -78,12 +78,12 @@ returns-in-Wait c =
     let i = c.args.place in
     let t = c.in-Some.transaction in
     let open_t = keep.found m n i c.requires.there c.deref.result.now c.index-deref-place.result c.deref.ensures.0 c.in-Some.is in
-    let o = c.args.pending.operation in
+    let o = c.args.asked.value in
     let lock = c.in_ok-lock.ensures in
     let room = less _ _ (omega (arith, c.if-count-self.false, c.count.ensures)) in
-    let q : request.Request = record { session = n; age = t.age; operation = c.into_operation.result } in
+    let q : request.Request = record { session = n; age = t.age; operation = c.into_value.result } in
     let all = operating.wait_exit m n i c.requires.kept c.requires.there t open_t o q (parts m m.sessions c.request.new.self c.push_reserved.new.self)
-    (ap (λ x. let y : request.Request = record { session = n; age = t.age; operation = x } in y) c.into_operation.ensures) c.requires.idle room
+    (ap (λ x. let y : request.Request = record { session = n; age = t.age; operation = x } in y) c.into_value.ensures) c.requires.idle room
     (operating.decides_as m.ages t.age _ o c.in_ok-request.field-0 Wait c.in_ok-request.ensures.answer c.in-Wait.is lock)
     (operating.ages_after m.ages c.request.new.self t.age _ o c.in_ok-request.field-0 Wait c.in_ok-request.ensures.after c.in-Wait.is lock)
     (record { catalog = refl; sessions = refl; queue = c.push_reserved.ensures.items ∙ ap (λ qs. qs ++ q ∷ []) c.in_ok-reserve.ensures.items; limits = refl; begun = refl; commits = refl; greatest = refl }) in
@@ -96,7 +96,7 @@ returns-in-Die c =
     let i = c.args.place in
     let t = c.in-Some.transaction in
     let open_t = keep.found m n i c.requires.there c.deref.result.now c.index-deref-place.result c.deref.ensures.0 c.in-Some.is in
-    let o = c.args.pending.operation in
+    let o = c.args.asked.value in
     let lock = c.in_ok-lock.ensures in
     let room = less _ _ (omega (arith, c.if-count-self.false, c.count.ensures)) in
     let s2 = get_or c.deref_mut-in-Die.result.now i c.index-deref_mut-place-in-Die.result in
@@ -115,7 +115,7 @@ returns-in_err-reserve-clause-told c =
     let t = c.in-Some.transaction in
     let open_t = keep.found m n i c.requires.there c.deref.result.now c.index-deref-place.result c.deref.ensures.0 c.in-Some.is in
     let room = less _ _ (omega (arith, c.if-count-self.false, c.count.ensures)) in
-    λ h. absurd (steps.differ _ h (steps.operation_told m n i c.requires.kept c.requires.there t open_t c.args.pending.operation c.requires.idle room))
+    λ h. absurd (steps.differ _ h (steps.operation_told m n i c.requires.kept c.requires.there t open_t c.args.asked.value c.requires.idle room))
 
 pub returns-in_err-lock-clause-told : goal.returns-in_err-lock-clause-told
 returns-in_err-lock-clause-told c =
@@ -125,7 +125,7 @@ returns-in_err-lock-clause-told c =
     let t = c.in-Some.transaction in
     let open_t = keep.found m n i c.requires.there c.deref.result.now c.index-deref-place.result c.deref.ensures.0 c.in-Some.is in
     let room = less _ _ (omega (arith, c.if-count-self.false, c.count.ensures)) in
-    λ h. absurd (steps.differ _ h (steps.operation_told m n i c.requires.kept c.requires.there t open_t c.args.pending.operation c.requires.idle room))
+    λ h. absurd (steps.differ _ h (steps.operation_told m n i c.requires.kept c.requires.there t open_t c.args.asked.value c.requires.idle room))
 
 pub returns-in_err-request-clause-told : goal.returns-in_err-request-clause-told
 returns-in_err-request-clause-told c =
@@ -135,7 +135,7 @@ returns-in_err-request-clause-told c =
     let t = c.in-Some.transaction in
     let open_t = keep.found m n i c.requires.there c.deref.result.now c.index-deref-place.result c.deref.ensures.0 c.in-Some.is in
     let room = less _ _ (omega (arith, c.if-count-self.false, c.count.ensures)) in
-    λ h. absurd (steps.differ _ h (steps.operation_told m n i c.requires.kept c.requires.there t open_t c.args.pending.operation c.requires.idle room))
+    λ h. absurd (steps.differ _ h (steps.operation_told m n i c.requires.kept c.requires.there t open_t c.args.asked.value c.requires.idle room))
 
 pub returns-in_err-worked-in-Granted-clause-told : goal.returns-in_err-worked-in-Granted-clause-told
 returns-in_err-worked-in-Granted-clause-told c =
@@ -145,4 +145,4 @@ returns-in_err-worked-in-Granted-clause-told c =
     let t = c.in-Some.transaction in
     let open_t = keep.found m n i c.requires.there c.deref.result.now c.index-deref-place.result c.deref.ensures.0 c.in-Some.is in
     let room = less _ _ (omega (arith, c.if-count-self.false, c.count.ensures)) in
-    λ h. absurd (steps.differ _ h (steps.operation_told m n i c.requires.kept c.requires.there t open_t c.args.pending.operation c.requires.idle room))
+    λ h. absurd (steps.differ _ h (steps.operation_told m n i c.requires.kept c.requires.there t open_t c.args.asked.value c.requires.idle room))

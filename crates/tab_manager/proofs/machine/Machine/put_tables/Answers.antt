@@ -14,7 +14,7 @@ returns-then-busy-clause-ok c =
     let m = c.args.self.now in
     let n = c.args.session in
     let i = c.args.place in
-    answering.schema_locked m n i c.requires.there c.requires.outside c.requires.idle c.requires.kept c.args.asked.schema c.requires.done.0 (ap (λ t. Rattle.std.specs.List.list_any (Rattle.tab_model.specs.State.is_in t) (Rattle.tab_model.specs.Ages.all_of m.ages)) (sym c.table_of.ensures) ∙ sym c.busy.ensures ∙ c.if-busy.true)
+    answering.schema_locked m n i c.requires.there c.requires.outside c.requires.idle c.requires.kept c.args.asked.value c.requires.done.0 (ap (λ t. Rattle.std.specs.List.list_any (Rattle.tab_model.specs.State.is_in t) (Rattle.tab_model.specs.Ages.all_of m.ages)) (sym c.table_of.ensures) ∙ sym c.busy.ensures ∙ c.if-busy.true)
     ∙ ap (λ t. step_without_entry (state_of m) (reply.Locked t)) (sym (c.in_ok-name.ensures.ok ∙ c.table_of-then-busy.ensures)) ∙ answering.without_entry (state_of m) (reply.Locked c.in_ok-name.name) c.without_entry.result c.without_entry.ensures
 
 pub returns-then-not-has_room-clause-ok : goal.returns-then-not-has_room-clause-ok
@@ -22,7 +22,7 @@ returns-then-not-has_room-clause-ok c =
     let m = c.args.self.now in
     let n = c.args.session in
     let i = c.args.place in
-    answering.schema_limit m n i c.requires.there c.requires.outside c.requires.idle c.requires.kept c.args.asked.schema c.requires.done.0 (ap (λ t. Rattle.std.specs.List.list_any (Rattle.tab_model.specs.State.is_in t) (Rattle.tab_model.specs.Ages.all_of m.ages)) (sym c.table_of.ensures) ∙ sym c.busy.ensures ∙ c.if-busy.false) (sym c.has_room.ensures ∙ c.if-not-has_room.true)
+    answering.schema_limit m n i c.requires.there c.requires.outside c.requires.idle c.requires.kept c.args.asked.value c.requires.done.0 (ap (λ t. Rattle.std.specs.List.list_any (Rattle.tab_model.specs.State.is_in t) (Rattle.tab_model.specs.Ages.all_of m.ages)) (sym c.table_of.ensures) ∙ sym c.busy.ensures ∙ c.if-busy.false) (sym c.has_room.ensures ∙ c.if-not-has_room.true)
     ∙ answering.without_entry (state_of m) _ c.without_entry-then-not-has_room.result c.without_entry-then-not-has_room.ensures
 
 pub returns : goal.returns
@@ -30,9 +30,9 @@ returns c =
     let m = c.args.self.now in
     let n = c.args.session in
     let i = c.args.place in
-    let all = answering.schema_exit m n i c.requires.there c.requires.outside c.requires.idle c.requires.kept c.args.asked.schema c.requires.done.0 (ap (λ t. Rattle.std.specs.List.list_any (Rattle.tab_model.specs.State.is_in t) (Rattle.tab_model.specs.Ages.all_of m.ages)) (sym c.table_of.ensures) ∙ sym c.busy.ensures ∙ c.if-busy.false) (sym c.has_room.ensures ∙ c.if-not-has_room.false) c.args.catalog c.requires.done.1 c.into_schema.result c.new-2.result.items c.into_schema.ensures c.new-2.ensures.items in
+    let all = answering.schema_exit m n i c.requires.there c.requires.outside c.requires.idle c.requires.kept c.args.asked.value c.requires.done.0 (ap (λ t. Rattle.std.specs.List.list_any (Rattle.tab_model.specs.State.is_in t) (Rattle.tab_model.specs.Ages.all_of m.ages)) (sym c.table_of.ensures) ∙ sym c.busy.ensures ∙ c.if-busy.false) (sym c.has_room.ensures ∙ c.if-not-has_room.false) c.args.catalog c.requires.done.1 c.into_value.result c.new-2.result.items c.into_value.ensures c.new-2.ensures.items in
     let m' : Machine = record m { catalog = c.args.catalog } in
-    record { ok = all.0 ∙ (λ j. record { state = state_of m'; reply = sym c.new.ensures j; entry = Some (entry.Changed c.into_schema.result c.new-2.result.items) }); told = λ h. refl; err = tt; kept = all.1 }
+    record { ok = all.0 ∙ (λ j. record { state = state_of m'; reply = sym c.new.ensures j; entry = Some (entry.Changed c.into_value.result c.new-2.result.items) }); told = λ h. refl; err = tt; kept = all.1 }
 
 pub returns-in_err-name-clause-told : goal.returns-in_err-name-clause-told
-returns-in_err-name-clause-told c = λ h. absurd (steps.differ _ h (steps.schema_told c.args.self.now c.args.session c.args.place c.requires.kept c.requires.there c.requires.outside c.requires.idle c.args.asked.schema))
+returns-in_err-name-clause-told c = λ h. absurd (steps.differ _ h (steps.schema_told c.args.self.now c.args.session c.args.place c.requires.kept c.requires.there c.requires.outside c.requires.idle c.args.asked.value))

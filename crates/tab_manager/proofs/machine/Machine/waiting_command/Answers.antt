@@ -4,6 +4,6 @@ use Rattle.tab_manager.proofs.machine.Machine.waiting_command.Goals as goal
 
 pub returns : goal.returns
 returns c = record {
-  done = waiting_default c.args.self.now c.args.session c.args.place c.requires.there c.requires.waits c.args.asked.command (λ r e. c.in_default.not-Abort r (c.into_command.ensures ∙ e));
+  done = waiting_default c.args.self.now c.args.session c.args.place c.requires.there c.requires.waits c.args.asked.value (λ r e. c.in_default.not-Abort r (c.into_value.ensures ∙ e));
   kept = c.requires.kept;
 }
