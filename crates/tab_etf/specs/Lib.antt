@@ -11,4 +11,5 @@ pub mod Fronts
 pub mod Arrivals
 pub mod Measures
 pub mod Outlines
+pub mod Briefs
 pub mod Listings

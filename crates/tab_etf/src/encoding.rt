@@ -75,7 +75,7 @@ fn spell<W: Target>(device: &mut W, head: &[u8], outline: &Outline) -> Result<()
 }
 
 /// The length of a payload, and its first byte.
-fn frame_head(len: u32) -> [u8; 5]
+pub(crate) fn frame_head(len: u32) -> [u8; 5]
     ensures { result ≡ to_be_bytes w32 len ++ 131 ∷ [] }
 {
     let [a, b, c, d] = len.to_be_bytes();

@@ -2,6 +2,7 @@
 #![tactic(auto)]
 
 mod answers;
+mod brief;
 mod counted;
 mod decoding;
 mod device;
@@ -21,6 +22,7 @@ mod splitting;
 mod unmeasured;
 mod writer;
 
+pub use brief::{Brief, Token, append_brief};
 pub use counted::Counted;
 pub use decoding::{decode, spellings_are_apart};
 pub use device::{Broken, Source, Target, give_all};

@@ -16,7 +16,8 @@ pub const LONGEST: u64 = 0xffff_ffff;
 /// How many bytes an integer takes, its tag too.
 #[tactic(auto, using(crate::proofs::Lengths::one_long, crate::proofs::Lengths::four_long, crate::proofs::Lengths::big_long))]
 pub fn int_len(z: i128) -> u64
-    ensures { result ≡ length (int_tag z ∷ int_contents z) }
+    ensures value { result ≡ length (int_tag z ∷ int_contents z) }
+    ensures small { result ≤ 19 }
 {
     if is_byte(z) {
         2
@@ -28,7 +29,8 @@ pub fn int_len(z: i128) -> u64
 }
 
 fn big_len(z: i128) -> u64
-    ensures { result ≡ 3 + length (magnitude (unsigned_abs z)) }
+    ensures value { result ≡ 3 + length (magnitude (unsigned_abs z)) }
+    ensures small { result ≤ 19 }
 {
     let bytes = low_first(z.unsigned_abs());
     significant_of(&bytes).len() as u64 + 3

@@ -18,6 +18,8 @@ use Rattle.tab_model.specs.declared.data.Reply.TheVariants as reply
 use Rattle.tab_model.specs.Names.{number}
 use Rattle.tab_etf.specs.declared.outline.Outline.{Outline}
 use Rattle.tab_etf.specs.Outlines.{outline_term, IsShortOutline}
+use Rattle.tab_etf.specs.declared.brief.Brief.{Brief}
+use Rattle.tab_etf.specs.Briefs.{brief_term, IsShortBrief}
 use Rattle.tab_proto.specs.Commands.{four, level_word}
 
 -- {error, Reason}
@@ -109,6 +111,25 @@ is_told (reply.NoIndex t a) = true
 is_told (reply.UserAbort r) = true
 is_told r = false
 
+-- the replies that hold a term or a name, or more than a pair
+abbrev pub is_long : Reply → Bool
+is_long (reply.SystemLimit l) = true
+is_long (reply.NoTable t) = true
+is_long (reply.BadType t r) = true
+is_long (reply.NoIndex t a) = true
+is_long (reply.UserAbort r) = true
+is_long (reply.AlreadyExists t) = true
+is_long (reply.Locked t) = true
+is_long (reply.BadDefinition t w) = true
+is_long (reply.UnknownTable t) = true
+is_long (reply.AlreadySubscribed t) = true
+is_long (reply.NotSubscribed t) = true
+is_long (reply.AtomicTerms ts) = true
+is_long (reply.Found rows) = true
+is_long (reply.TableInfo i) = true
+is_long (reply.Taken i) = true
+is_long r = false
+
 -- {Session, Reply}, or {reply, Reply} where no session is named
 abbrev pub response : Option ℕ → Reply → PlainTerm
 response (Some session) r = pair (number session) (reply_term r)
@@ -119,3 +140,8 @@ pub record IsOutlineOf (o : Outline) (t : PlainTerm) : Type 0 where
   pub alone : o.first ≡ None
   pub is : outline_term o ≡ t
   pub short : IsShortOutline o
+
+-- a term by its words and numbers
+pub record IsBriefOf (b : Brief) (t : PlainTerm) : Type 0 where
+  pub is : brief_term b ≡ t
+  pub short : IsShortBrief b

@@ -1,20 +1,21 @@
 //! Replies, written without a term being built.
 
-ghost use Rattle.std.specs.Prelude.{codes, pos, ◌≡◌, ◌≤◌, ◌<◌, ◌*◌, ◌++◌, ◌∷◌, IsFalse, min, ◌↔◌, [], length, if◌then◌else◌, OnOk, OnErr, IfOk, IfErr, Err, Option, Some, ℕ};
+ghost use Rattle.std.specs.Prelude.{codes, pos, ◌≡◌, ◌≤◌, ◌<◌, ◌*◌, ◌++◌, ◌∷◌, IsTrue, IsFalse, min, ◌↔◌, [], length, if◌then◌else◌, OnOk, OnErr, IfOk, IfErr, IfSome, IfNone, Err, Option, Some, None, ℕ};
 ghost use Rattle.std.specs.Io.KnownBytes.{Appends};
 ghost use Rattle.tab_term.specs.Canon.{canon};
 ghost use Rattle.tab_term.specs.Data.{atom, int, list, pair as pair_of, triple as triple_of};
 ghost use Rattle.tab_term.specs.View.{term};
 ghost use Rattle.tab_etf.specs.Frames.{frame};
-ghost use Rattle.tab_etf.specs.Outlines.{leaf_term, outline_term, IsShort, IsShortOutline, IsWritable};
+ghost use Rattle.tab_etf.specs.Outlines.{leaf_term, outline_term, IsShort, IsShortOutline};
+ghost use Rattle.tab_etf.specs.Briefs.{token_term, IsShortToken};
 ghost use Rattle.tab_etf.specs.Writing.{IsUnwritten};
 ghost use Rattle.tab_model.specs.declared.data.Reply.{Reply as ReplyOf};
 ghost use Rattle.tab_proto.specs.Commands.{level_word as level_word_of};
-ghost use Rattle.tab_proto.specs.Replies.{reply_term as reply_term_of, item_term as item_term_of, info_term as info_term_of, limit_word as limit_word_of, kind_word as kind_word_of, ending_word as ending_word_of, response, IsOutlineOf};
+ghost use Rattle.tab_proto.specs.Replies.{reply_term as reply_term_of, item_term as item_term_of, info_term as info_term_of, limit_word as limit_word_of, kind_word as kind_word_of, ending_word as ending_word_of, response, is_long, IsBriefOf, IsOutlineOf};
 
 use tab_etf::{
-    Body, EncodeFault, FrameFault, Leaf, Outline, Target, Unmeasured, append_outline,
-    append_pair_within, write_outline,
+    Body, Brief, EncodeFault, FrameFault, Leaf, Outline, Target, Token, Unmeasured, append_brief,
+    append_outline, append_pair_within, write_outline,
 };
 use tab_lists::SharedTerms;
 use tab_model::{Ending, Item, Kind, Level, Limit, Reply, TableInfo};
@@ -36,7 +37,7 @@ pub fn write_reply<W: Target>(
         (λ e. IsUnwritten e (131 ∷ canon (response session reply.now)) (W.contents device.old)
         (W.contents device.new) (W.faults device.old) (W.faults device.new)) }
 {
-    write_outline(device, &response_of(session, reply))
+    write_outline(device, &behind(first_of(reply, session), outline_of(reply)))
 }
 
 /// Adds the frame that `write_reply` writes. On an error the bytes are as before.
@@ -51,7 +52,22 @@ pub fn append_reply(
         ↔ (4294967295 < length (131 ∷ canon (response session reply.now))) }
     ensures err { OnErr result (out.new.items ≡ out.old.items) }
 {
-    append_outline(&response_of(session, reply), out)
+    match brief_of(reply) {
+        Some(brief) => append_brief(&first_of(reply, session), &brief, out),
+        None => append_long(session, reply, out),
+    }
+}
+
+/// Adds the frame of a reply by its outline. It stands apart, since a function pays for an outline's room where it makes none, too.
+fn append_long(session: Option<u32>, reply: &Reply, out: &mut Vec<u8>) -> Result<(), EncodeFault>
+    requires { IsTrue (is_long reply.now) }
+    ensures ok { OnOk result
+        (out.new.items ≡ out.old.items ++ frame (131 ∷ canon (response session reply.now))) }
+    ensures too_long { (result ≡ Err EncodeFault.TooLong)
+        ↔ (4294967295 < length (131 ∷ canon (response session reply.now))) }
+    ensures err { OnErr result (out.new.items ≡ out.old.items) }
+{
+    append_outline(&behind(first_of(reply, session), long_outline(reply)), out)
 }
 
 /// Adds the frame that `write_reply` writes, in one walk of each list that the reply holds.
@@ -83,37 +99,81 @@ pub fn append_reply_within(
             return Ok(true);
         }
     };
-    let within = append_pair_within(&first_of(reply, session), &value, most, out)?;
+    let within = append_pair_within(&first_of(reply, session).leaf(), &value, most, out)?;
     Ok(within)
 }
 
 /// The number of the session, or `reply` where none is named.
-fn first_of<'a>(_reply: &'a Reply, session: Option<u32>) -> Leaf<'a>
+fn first_of<'a>(_reply: &'a Reply, session: Option<u32>) -> Token<'a>
     ensures term { (r : ReplyOf)
-        → response session r ≡ pair_of (leaf_term result) (reply_term_of r) }
-    ensures short { IsShort result }
-    ensures fits { IsWritable result }
+        → response session r ≡ pair_of (token_term result) (reply_term_of r) }
+    ensures short { IsShortToken result }
 {
     match session {
-        Some(session) => Leaf::Number(u64::from(session)),
-        None => Leaf::Word("reply"),
+        Some(session) => Token::Number(u64::from(session)),
+        None => Token::Word("reply"),
     }
 }
 
-fn response_of(session: Option<u32>, reply: &Reply) -> Outline<'_>
-    ensures term { outline_term result ≡ response session reply.now }
+/// An outline in a pair behind this token.
+fn behind<'a>(first: Token<'a>, told: Outline<'a>) -> Outline<'a>
+    requires first { IsShortToken first }
+    requires alone { told.first ≡ None }
+    requires told { IsShortOutline told }
+    ensures term { outline_term result
+        ≡ pair_of (token_term first.entry) (outline_term told.entry) }
     ensures short { IsShortOutline result }
 {
-    let first = first_of(reply, session);
-    let told = outline_of(reply);
     Outline {
-        first: Some(first),
+        first: Some(first.leaf()),
         second: told.second,
         body: told.body,
     }
 }
 
 pub(crate) fn outline_of(reply: &Reply) -> Outline<'_>
+    ensures { IsOutlineOf result (reply_term_of reply.now) }
+{
+    match brief_of(reply) {
+        Some(brief) => brief.outline(),
+        None => long_outline(reply),
+    }
+}
+
+/// A reply of words and numbers, without an outline. None for a longer one.
+fn brief_of(reply: &Reply) -> Option<Brief<'_>>
+    ensures some { IfSome result (λ b. IsBriefOf b (reply_term_of reply.now)) }
+    ensures none { IfNone result (IsTrue (is_long reply.now)) }
+{
+    match reply {
+        Reply::Tid(age) => Some(counted(reply, "tid", *age)),
+        Reply::Atomic(commits) => Some(counted(reply, "atomic", *commits)),
+        Reply::Overflow(commits) => Some(counted(reply, "mnesia_overflow", *commits)),
+        Reply::BadTerm => Some(error(reply, "badterm")),
+        Reply::BadCommand => Some(error(reply, "badcommand")),
+        Reply::NoTransaction => Some(error(reply, "no_transaction")),
+        Reply::WaitingNow => Some(error(reply, "waiting")),
+        Reply::InTransaction => Some(error(reply, "in_transaction")),
+        Reply::NotWaiting => Some(error(reply, "not_waiting")),
+        Reply::NoMemory => Some(error(reply, "no_memory")),
+        Reply::BadSession => Some(error(reply, "badsession")),
+        Reply::OutboxFull => Some(error(reply, "outbox_full")),
+        Reply::OverflowUntold => Some(error(reply, "overflow")),
+        Reply::Waiting => Some(word(reply, "waiting")),
+        Reply::Restart => Some(word(reply, "restart")),
+        Reply::Done => Some(word(reply, "ok")),
+        Reply::Empty => Some(word(reply, "empty")),
+        Reply::AtomicOk => Some(words(reply, "atomic", "ok")),
+        Reply::NoMore => Some(words(reply, "aborted", "nomore")),
+        Reply::NoWait => Some(words(reply, "aborted", "nowait")),
+        Reply::SubscribedHere => Some(words(reply, "ok", "nonode@nohost")),
+        _ => None,
+    }
+}
+
+/// A reply that holds terms or names, or more than a pair.
+fn long_outline(reply: &Reply) -> Outline<'_>
+    requires { IsTrue (is_long reply.now) }
     ensures { IsOutlineOf result (reply_term_of reply.now) }
 {
     match reply {
@@ -134,60 +194,40 @@ pub(crate) fn outline_of(reply: &Reply) -> Outline<'_>
         Reply::SystemLimit(limit) => {
             told_in("error", "system_limit", short(reply, limit_word(*limit)))
         }
-        Reply::Tid(age) => counted(reply, "tid", *age),
-        Reply::Atomic(commits) => counted(reply, "atomic", *commits),
-        Reply::Overflow(commits) => counted(reply, "mnesia_overflow", *commits),
-        Reply::BadTerm => error(reply, "badterm"),
-        Reply::BadCommand => error(reply, "badcommand"),
-        Reply::NoTransaction => error(reply, "no_transaction"),
-        Reply::WaitingNow => error(reply, "waiting"),
-        Reply::InTransaction => error(reply, "in_transaction"),
-        Reply::NotWaiting => error(reply, "not_waiting"),
-        Reply::NoMemory => error(reply, "no_memory"),
-        Reply::BadSession => error(reply, "badsession"),
-        Reply::OutboxFull => error(reply, "outbox_full"),
-        Reply::OverflowUntold => error(reply, "overflow"),
-        Reply::Waiting => word(reply, "waiting"),
-        Reply::Restart => word(reply, "restart"),
-        Reply::Done => word(reply, "ok"),
-        Reply::Empty => word(reply, "empty"),
-        Reply::AtomicOk => words(reply, "atomic", "ok"),
-        Reply::NoMore => words(reply, "aborted", "nomore"),
-        Reply::NoWait => words(reply, "aborted", "nowait"),
-        Reply::SubscribedHere => words(reply, "ok", "nonode@nohost"),
+        _ => unreachable!(),
     }
 }
 
 // What is told of a reply that lends nothing is lent for as long as the reply, like what the others lend.
 
-fn word<'a>(_reply: &'a Reply, text: &'static str) -> Outline<'a>
+fn word<'a>(_reply: &'a Reply, text: &'static str) -> Brief<'a>
     requires { length text.now ≤ 255 }
-    ensures { IsOutlineOf result (atom text.now) }
+    ensures { IsBriefOf result (atom text.now) }
 {
-    alone(Leaf::Word(text))
+    Brief::One(Token::Word(text))
 }
 
-fn words<'a>(_reply: &'a Reply, text: &'static str, value: &'static str) -> Outline<'a>
+fn words<'a>(_reply: &'a Reply, text: &'static str, value: &'static str) -> Brief<'a>
     requires text { length text.now ≤ 255 }
     requires value { length value.now ≤ 255 }
-    ensures { IsOutlineOf result (pair_of (atom text.now) (atom value.now)) }
+    ensures { IsBriefOf result (pair_of (atom text.now) (atom value.now)) }
 {
-    worded(text, Leaf::Word(value))
+    Brief::Two(Token::Word(text), Token::Word(value))
 }
 
 /// `{error, Fault}`.
-fn error<'a>(reply: &'a Reply, fault: &'static str) -> Outline<'a>
+fn error<'a>(reply: &'a Reply, fault: &'static str) -> Brief<'a>
     requires { length fault.now ≤ 255 }
-    ensures { IsOutlineOf result (pair_of (atom (codes "error")) (atom fault.now)) }
+    ensures { IsBriefOf result (pair_of (atom (codes "error")) (atom fault.now)) }
 {
     words(reply, "error", fault)
 }
 
-fn counted<'a>(_reply: &'a Reply, text: &'static str, number: u64) -> Outline<'a>
+fn counted<'a>(_reply: &'a Reply, text: &'static str, number: u64) -> Brief<'a>
     requires { length text.now ≤ 255 }
-    ensures { IsOutlineOf result (pair_of (atom text.now) (int (pos number))) }
+    ensures { IsBriefOf result (pair_of (atom text.now) (int (pos number))) }
 {
-    worded(text, Leaf::Number(number))
+    Brief::Two(Token::Word(text), Token::Number(number))
 }
 
 fn short<'a>(_reply: &'a Reply, text: &'static str) -> Leaf<'a>
