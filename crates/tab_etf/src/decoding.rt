@@ -1,6 +1,6 @@
 //! Terms from bytes: one pass from left to right, with the first fault at its place.
 
-ghost use Rattle.std.specs.Prelude.{◌≡◌, ◌≤◌, ◌++◌, ◌∷◌, ◌<◌, ◌==◌, List, [], ℕ, length, Result, IfOk, Ok, nat_lt, ◌&&◌};
+ghost use Rattle.std.specs.Prelude.{◌≡◌, ◌≤◌, ◌++◌, ◌∷◌, ◌<◌, ◌==◌, List, [], ℕ, length, Result, IfOk, OnOk, Ok, nat_lt, ◌&&◌};
 ghost use Rattle.tab_term.specs.Data.{PlainTerm, PlainPairs, no_pair, depth};
 ghost use Rattle.tab_term.specs.View.{term};
 ghost use Rattle.tab_etf.specs.declared.fault.Stop.{Stop};
@@ -11,7 +11,7 @@ ghost use Rattle.tab_etf.specs.Reading.{Gives, Decodes, whole, end_of_list, time
 use crate::fault::{EtfFault, Fault, ReadError};
 use crate::leaf::{leaf_of, stop, u8_at, u32_at};
 use crate::run::{Run, settled};
-use std::alloc::Global;
+use std::alloc::{AllocError, Global};
 use tab_term::spelling::{LARGE_TUPLE_EXT, LIST_EXT, MAP_EXT, NIL_EXT, SMALL_TUPLE_EXT};
 use tab_term::{Term, Terms};
 
@@ -63,6 +63,18 @@ fn long_list_of(alloc: Global, levels: usize, bytes: &[u8]) -> Result<(Term, &[u
     Ok((Term::List(terms), rest))
 }
 
+/// Adds a term, with no call where it has a place.
+fn push(items: &mut Vec<Term>, item: Term) -> Result<(), AllocError>
+    ensures { OnOk result (items.new.items ≡ items.old.items ++ item ∷ []) }
+{
+    if items.len() < items.capacity() {
+        items.push_reserved(item);
+        return Ok(());
+    }
+    items.push(item)?;
+    Ok(())
+}
+
 /// So many terms. The count alone makes no room: places come as elements are read.
 #[cycle(read)]
 fn terms_of(
@@ -78,7 +90,7 @@ fn terms_of(
     let mut rest = bytes;
     for _ in 0..count {
         let (item, after) = term_of(alloc, levels, rest)?;
-        items.push(item)?;
+        push(&mut items, item)?;
         rest = after;
     }
     Ok((Terms::from_vec(items), rest))

@@ -118,6 +118,45 @@ fn cut(alloc: Global, bytes: &mut Vec<u8>) -> Result<Found, AllocError>
     Ok(Found { frames, over })
 }
 
+/// Takes the whole frames from the front of a rest and the piece behind it. An `Err` leaves the rest as it was.
+///
+/// Where nothing is left of the pieces before, as between two requests, this one is not copied.
+fn cut_with(alloc: Global, rest: &mut Vec<u8>, piece: &[u8]) -> Result<Found, AllocError>
+    ensures stream { IfOk result
+        (λ x. GoesOn (rest.old.items ++ piece.now) (contents x.frames.items) rest.new.items) }
+    ensures told { IfOk result (λ x. AreTold x.frames.items) }
+    ensures over { IfOk result
+        (λ x. MatchOption x.over (front rest.new.items ≡ None)
+        (λ n. IsOver (length_next rest.new.items) n)) }
+    ensures err { OnErr result (rest.new.items ≡ rest.old.items) }
+{
+    let held = rest.len();
+    if held == 0 {
+        return cut_alone(alloc, rest, piece);
+    }
+    rest.extend_from_slice(piece)?;
+    let found = cut(alloc, rest);
+    if found.is_err() {
+        rest.truncate(held);
+    }
+    found
+}
+
+/// Takes the whole frames from the front of a piece with nothing before it, and keeps its rest.
+fn cut_alone(alloc: Global, rest: &mut Vec<u8>, piece: &[u8]) -> Result<Found, AllocError>
+    ensures stream { IfOk result
+        (λ x. GoesOn piece.now (contents x.frames.items) rest.new.items) }
+    ensures told { IfOk result (λ x. AreTold x.frames.items) }
+    ensures over { IfOk result
+        (λ x. MatchOption x.over (front rest.new.items ≡ None)
+        (λ n. IsOver (length_next rest.new.items) n)) }
+    ensures err { OnErr result (rest.new.items ≡ rest.old.items) }
+{
+    let Parts { frames, used, over } = split(alloc, piece)?;
+    *rest = Vec::from_slice(alloc, &piece[used..])?;
+    Ok(Found { frames, over })
+}
+
 /// Finds the frames of a stream that comes in pieces, cut anywhere.
 #[derive(Drop)]
 pub struct Splitter {
@@ -171,12 +210,7 @@ impl Splitter {
         if let Some(count) = self.over {
             return Err(FrameFault::FrameTooLong(count));
         }
-        let held = self.rest.len();
-        self.rest.extend_from_slice(piece)?;
-        let Ok(found) = cut(self.alloc, &mut self.rest) else {
-            self.rest.truncate(held);
-            return Err(FrameFault::NoMemory);
-        };
+        let found = cut_with(self.alloc, &mut self.rest, piece)?;
         match found.over {
             None => Ok(found.frames),
             Some(count) => {

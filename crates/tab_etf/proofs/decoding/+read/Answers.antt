@@ -15,7 +15,7 @@ terms_of-returns-in_err-item t c =
 
 pub terms_of-loop-preserved : goal.terms_of-loop-preserved
 terms_of-loop-preserved t c =
-    rw c.in_ok-push.ensures.items (goes_on (term_at c.args.levels) c.args.count c.loop.counter c.loop.rest.now (times (term_at c.args.levels) c.args.count c.args.bytes.now) c.loop.items.items c.in_ok-item.item c.in_ok-item.after.now c.loop-test.true c.in_ok-item.ensures c.loop.invariant)
+    rw c.in_ok-push.ensures (goes_on (term_at c.args.levels) c.args.count c.loop.counter c.loop.rest.now (times (term_at c.args.levels) c.args.count c.args.bytes.now) c.loop.items.items c.in_ok-item.item c.in_ok-item.after.now c.loop-test.true c.in_ok-item.ensures c.loop.invariant)
 
 pub terms_of-returns : goal.terms_of-returns
 terms_of-returns t c =
