@@ -1,17 +1,16 @@
 //! Requests from terms.
 
-ghost use Rattle.std.specs.Prelude.{◌≡◌, ◌≢◌, ℕ, pos, IfOk, IfSome, IfNone, Err};
+ghost use Rattle.std.specs.Prelude.{◌≡◌, ◌≢◌, ℕ, pos, IfOk, IfSome, IfNone, IsFalse, OnErr, Err};
 ghost use Rattle.tab_term.specs.Data.{atom};
 ghost use Rattle.tab_term.specs.View.{term};
 ghost use Rattle.tab_proto.specs.Requests.{Request, asked_term, request_term, IsSession, IsNumbered, HasNoNumber, IsRequest, is_asked, is_word_alone, ReadsAs, AsksOneShot};
-ghost use Rattle.tab_proto.specs.Reading.{is_one_word};
 ghost use Rattle.tab_proto.specs.declared.fault.ProtoFault.TheVariants.{BadCommand, NoMemory};
 
 use crate::call::pair_of;
 use crate::commands::read_command;
-use crate::fault::ProtoFault;
+use crate::fault::{NoCommand, ProtoFault};
 use std::alloc::Global;
-use tab_model::Ask;
+use tab_model::{Ask, Command};
 use tab_term::{Atom, Term};
 
 /// A session's number and what it asks, from `{Session, X}`. Session numbers are 1 to 4,294,967,295. Every other term is
@@ -58,23 +57,24 @@ fn read_asked(alloc: Global, asked: Term) -> Result<Ask<()>, ProtoFault>
     ensures { ReadsAs (term asked) (is_asked (term asked)) result }
 {
     if let Term::Atom(word) = &asked {
-        if let Some(request) = word_alone(word) {
-            return Ok(request);
-        }
+        return Ok(word_alone(word)?);
     }
     Ok(Ask::Do(read_command(alloc, asked)?))
 }
 
-/// What a word asks that is no command.
-fn word_alone(word: &Atom) -> Option<Ask<()>>
-    ensures some { IfSome result (λ r. (asked_term r ≡ atom word.now) × IsRequest r) }
-    ensures none { IfNone result (is_word_alone word.now ≡ is_one_word word.now) }
+/// What a word asks.
+fn word_alone(word: &Atom) -> Result<Ask<()>, NoCommand>
+    ensures ok { IfOk result (λ r. (asked_term r ≡ atom word.now) × IsRequest r) }
+    ensures bad { OnErr result (IsFalse (is_word_alone word.now)) }
 {
+    // What each transaction asks comes first: a word is compared with each before its own.
     match word.as_str() {
-        "join" => Some(Ask::Join(())),
-        "leave" => Some(Ask::Leave),
-        "retry" => Some(Ask::Retry),
-        "take" => Some(Ask::Take),
-        _ => None,
+        "begin" => Ok(Ask::Do(Command::Begin)),
+        "commit" => Ok(Ask::Do(Command::Commit)),
+        "join" => Ok(Ask::Join(())),
+        "leave" => Ok(Ask::Leave),
+        "retry" => Ok(Ask::Retry),
+        "take" => Ok(Ask::Take),
+        _ => Err(NoCommand),
     }
 }
