@@ -1,10 +1,12 @@
 -- Which terms a list has that is shared, and which are left of a walk over it.
-use Rattle.std.specs.Prelude.{◌≡◌, ℕ, List, [], ◌∷◌, ◌++◌, length, Option, Some, None}
+use Rattle.std.specs.Prelude.{◌≡◌, List, [], ◌∷◌, ◌++◌, Option, Some, None}
 use Rattle.std.specs.List.{filter}
 use Rattle.std.specs.Option.{option_copied}
 use denote.Ref.{Bor}
 use Rattle.tab_term.specs.declared.term.Term.{Term}
 use Rattle.tab_term.specs.Data.{PlainTerm, PlainTerms, plain_terms}
+use Rattle.tab_term.specs.View.{term}
+use Rattle.tab_lists.specs.declared.condition.Condition.{Condition}
 use Rattle.tab_lists.specs.declared.iter.RecordWalk.{RecordWalk}
 use Rattle.tab_lists.specs.declared.iter.Walk.{Walk}
 use Rattle.tab_lists.specs.declared.iter.Walk.TheVariants as walk
@@ -49,10 +51,10 @@ abbrev pub rest_of : Option (List Entry) → List PlainTerm
 rest_of None = []
 rest_of (Some es) = joined es
 
--- how many keys are left there
-abbrev pub steps_left : Option (List Entry) → ℕ
-steps_left None = 0
-steps_left (Some es) = length es
+-- of these entries' records a walk gives the first that is chosen, and has left what is near and behind it; at the end it gives none
+abbrev pub GivesChosen : Option Condition → List Entry → Option (Bor Term) → Option (List PlainTerm) → List Entry → Type 0
+GivesChosen c es None near fs = (chosen c (joined es) ≡ []) × ((near_of near ≡ []) × (joined fs ≡ []))
+GivesChosen c es (Some first) near fs = chosen c (joined es) ≡ term first.now ∷ chosen c (near_of near ++ joined fs)
 
 -- the records that a walk gives yet
 abbrev pub records_left : RecordWalk → List PlainTerm

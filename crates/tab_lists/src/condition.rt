@@ -29,6 +29,7 @@ impl Drop for Condition {
 
 impl Condition {
     /// Whether the record meets it.
+    #[inline(always)]
     pub(crate) fn is_met_by(&self, row: &Term) -> bool
         ensures { result ≡ meets self.now (term row.now) }
     {

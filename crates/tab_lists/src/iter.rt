@@ -1,21 +1,21 @@
 //! A walk over a list of terms, which takes no memory.
 
-ghost use Rattle.std.specs.Prelude.{◌≡◌, [], ◌∷◌, ◌++◌, ◌<◌, MatchOption, IfSome};
+ghost use Rattle.std.specs.Prelude.{◌≡◌, [], ◌∷◌, ◌++◌, MatchOption};
 ghost use Rattle.std.specs.Iterator.{YieldsFirstBy, item_count};
 ghost use Rattle.std.specs.Option.{option_copied};
 ghost use Rattle.tab_term.specs.Data.{terms_list};
 ghost use Rattle.tab_term.specs.View.{term, terms};
 ghost use Rattle.tab_lists.specs.ByKey.{filled_keys, joined};
-ghost use Rattle.tab_lists.specs.Conditions.{chosen, is_chosen};
-ghost use Rattle.tab_lists.specs.Lists.{found_by, near_of, rest_of, records_left, steps_left};
+ghost use Rattle.tab_lists.specs.Conditions.{chosen};
+ghost use Rattle.tab_lists.specs.Lists.{found_by, near_of, rest_of, records_left};
 ghost use Rattle.tab_lists.specs.Snapshots.{records_in};
 
 use crate::condition::Condition;
 use crate::merged::Merged;
+use crate::near::next_near;
 use crate::query::{Query, Scope};
 use std::iter::FusedIterator;
 use std::marker::Model;
-use tab_records::Records;
 use tab_term::Term;
 
 /// The terms of a list in their order, seen as the list of those that are left.
@@ -134,84 +134,21 @@ fn next_filled<'a>(entries: &mut Merged<'a>) -> Option<&'a Term>
     None
 }
 
-// The first of these terms that meets the condition, where there is one. Inlined, it would make a call of `next_near`, which
-// mostly finds nothing near.
-#[inline(never)]
-fn next_chosen<'a>(
-    near: &mut tab_records::Iter<'a>,
-    condition: Option<&Condition>,
-) -> Option<&'a Term>
-    ensures { MatchOption result
-        ((chosen (option_copied condition.entry) near.old ≡ []) × (near.new ≡ []))
-        (λ first. chosen (option_copied condition.entry) near.old
-        ≡ term first.now ∷ chosen (option_copied condition.entry) near.new) }
-{
-    let Some(condition) = condition else {
-        return near.next();
-    };
-    while let Some(first) = near.next() {
-        if condition.is_met_by(first) {
-            return Some(first);
-        }
-    }
-    None
-}
-
-// The first of what is left near, if anything is.
-fn next_near<'a>(
+// The first record that a walk gives of those behind what is near.
+fn next_given<'a>(
     near: &mut Option<tab_records::Iter<'a>>,
-    condition: Option<&Condition>,
-) -> Option<&'a Term>
-    ensures { MatchOption result
-        ((chosen (option_copied condition.entry) (near_of near.old) ≡ []) × (near_of near.new ≡ []))
-        (λ first. chosen (option_copied condition.entry) (near_of near.old)
-        ≡ term first.now ∷ chosen (option_copied condition.entry) (near_of near.new)) }
-{
-    next_chosen(near.as_mut()?, condition)
-}
-
-// Whether a walk gives the record.
-fn is_given(row: &Term, condition: Option<&Condition>) -> bool
-    ensures { result ≡ is_chosen (option_copied condition.entry) (term row.now) }
-{
-    match condition {
-        Some(condition) => condition.is_met_by(row),
-        None => true,
-    }
-}
-
-// The first of one key's records that a walk gives. One alone, as a set has, is looked at where it stands, with no iterator;
-// of several the others stay near.
-fn first_given<'a>(
-    near: &mut Option<tab_records::Iter<'a>>,
-    records: &'a Records,
+    rest: &mut Option<Merged<'a>>,
     condition: Option<&Condition>,
 ) -> Option<&'a Term>
     requires { near_of near.old ≡ [] }
     ensures { MatchOption result
-        ((chosen (option_copied condition.entry) (terms_list records.now) ≡ [])
-        × (near_of near.new ≡ []))
-        (λ first. chosen (option_copied condition.entry) (terms_list records.now)
-        ≡ term first.now ∷ chosen (option_copied condition.entry) (near_of near.new)) }
+        ((chosen (option_copied condition.entry) (rest_of rest.old) ≡ [])
+        × ((near_of near.new ≡ []) × (rest_of rest.new ≡ [])))
+        (λ first. chosen (option_copied condition.entry) (rest_of rest.old)
+        ≡ term first.now
+        ∷ chosen (option_copied condition.entry) (near_of near.new ++ rest_of rest.new)) }
 {
-    match records.single() {
-        Some(row) if is_given(row, condition) => Some(row),
-        Some(_) => None,
-        None => {
-            *near = Some(records.iter());
-            next_near(near, condition)
-        }
-    }
-}
-
-// The records that come next, those of one key.
-fn next_records<'a>(rest: &mut Option<Merged<'a>>) -> Option<&'a Records>
-    ensures terms { MatchOption result ((rest_of rest.old ≡ []) × (rest_of rest.new ≡ []))
-        (λ records. rest_of rest.old ≡ terms_list records.now ++ rest_of rest.new) }
-    ensures fewer { IfSome result (λ _. steps_left rest.new < steps_left rest.old) }
-{
-    let (_, records) = rest.as_mut()?.take()?;
-    Some(records)
+    rest.as_mut()?.take_given(near, condition)
 }
 
 impl<'a> RecordWalk<'a> {
@@ -222,12 +159,7 @@ impl<'a> RecordWalk<'a> {
         if let Some(first) = next_near(&mut self.near, self.condition) {
             return Some(first);
         }
-        while let Some(records) = next_records(&mut self.rest) {
-            if let Some(first) = first_given(&mut self.near, records, self.condition) {
-                return Some(first);
-            }
-        }
-        None
+        next_given(&mut self.near, &mut self.rest, self.condition)
     }
 }
 

@@ -10,6 +10,7 @@ mod condition;
 mod events;
 mod iter;
 mod merged;
+mod near;
 mod query;
 mod shared_terms;
 mod snapshot;

@@ -1,13 +1,16 @@
 //! The keys of a table and those that a transaction touched, in one walk in the order of the keys, without memory.
 
-ghost use Rattle.std.specs.Prelude.{◌≡◌};
+ghost use Rattle.std.specs.Prelude.{◌≡◌, []};
+ghost use Rattle.std.specs.Option.{option_copied};
 ghost use Rattle.tab_term.specs.Order.{term_cmp};
 ghost use Rattle.tab_map.specs.Entries.{Ascends};
 ghost use Rattle.tab_map.specs.KeyList.{KeysAscend};
 ghost use Rattle.tab_lists.specs.ByKey.{merged, at_keys};
 ghost use Rattle.tab_lists.specs.Left.{left_of};
-ghost use Rattle.tab_lists.specs.Lists.{Gives};
+ghost use Rattle.tab_lists.specs.Lists.{Gives, GivesChosen, near_of};
 
+use crate::condition::Condition;
+use crate::near::first_given;
 use std::cmp::Ordering;
 use std::marker::Model;
 use tab_map::{Iter, Keys, Map};
@@ -65,6 +68,24 @@ fn next_of<'a>(entries: &mut Iter<'a, Term, Records>) -> Option<(&'a Term, &'a R
 {
     let (key, records) = entries.next()?.pair();
     Some((key, records))
+}
+
+// The first record that a walk gives of these entries. A whole table is walked over by this loop alone, which makes no call for a
+// record that it passes over, so that the processor fetches those that come behind it meanwhile.
+fn next_of_table<'a>(
+    entries: &mut Iter<'a, Term, Records>,
+    near: &mut Option<tab_records::Iter<'a>>,
+    condition: Option<&Condition>,
+) -> Option<&'a Term>
+    requires { near_of near.old ≡ [] }
+    ensures { GivesChosen (option_copied condition.entry) entries.old result near.new entries.new }
+{
+    while let Some(entry) = entries.next() {
+        if let Some(first) = first_given(near, &entry.pair().1, condition) {
+            return Some(first);
+        }
+    }
+    None
 }
 
 impl<'a> Picked<'a> {
@@ -218,6 +239,37 @@ impl<'a> Merged<'a> {
         Merged {
             sources: Sources::Both(Union { own, committed }),
         }
+    }
+
+    /// The first record that a walk gives of those that are left. What else its key has stays near.
+    pub fn take_given(
+        &mut self,
+        near: &mut Option<tab_records::Iter<'a>>,
+        condition: Option<&Condition>,
+    ) -> Option<&'a Term>
+        requires { near_of near.old ≡ [] }
+        ensures { GivesChosen (option_copied condition.entry) self.old result near.new self.new }
+    {
+        match &mut self.sources {
+            Sources::Table(Left::All(entries)) => next_of_table(entries, near, condition),
+            _ => self.take_given_of_others(near, condition),
+        }
+    }
+
+    fn take_given_of_others(
+        &mut self,
+        near: &mut Option<tab_records::Iter<'a>>,
+        condition: Option<&Condition>,
+    ) -> Option<&'a Term>
+        requires { near_of near.old ≡ [] }
+        ensures { GivesChosen (option_copied condition.entry) self.old result near.new self.new }
+    {
+        while let Some((_, records)) = self.take() {
+            if let Some(first) = first_given(near, records, condition) {
+                return Some(first);
+            }
+        }
+        None
     }
 
     /// The key that comes next, with its records.

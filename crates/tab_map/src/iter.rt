@@ -89,6 +89,7 @@ impl<'a, K: Abbreviate + Drop, V: Drop> Iterator for Iter<'a, K, V> {
 
     ghost remaining = { item_count (λ left. left) };
 
+    #[inline(always)]
     fn next(&mut self) -> Option<&'a Entry<K, V>> {
         let entry = self.ahead.step()?;
         if !self.ahead.is_known() {

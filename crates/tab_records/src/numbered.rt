@@ -90,6 +90,7 @@ impl Numbered {
     }
 
     /// The record, where there is one alone. The count tells, so of several none is looked up.
+    #[inline(never)]
     pub fn single(&self) -> Option<&Term>
         ensures { MatchOption result (length self.now ≢ 1) (λ row. self.now ≡ term row.now ∷ []) }
     {

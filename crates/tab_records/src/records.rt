@@ -106,6 +106,7 @@ impl Records {
     }
 
     /// The record, where there is one alone.
+    #[inline]
     pub fn single(&self) -> Option<&Term>
         ensures { MatchOption result (count self.now ≢ 1)
             (λ row. self.now ≡ one_more (term row.now) none) }

@@ -36,6 +36,15 @@ match_lengths_differ [] (y ∷ ys) h = refl
 match_lengths_differ (x ∷ xs) [] h = refl
 match_lengths_differ (x ∷ xs) (y ∷ ys) h = ap (λ b. matches (term x) (term y) && b) (match_lengths_differ xs ys (λ e. h (omega arith))) ∙ and-false (matches (term x) (term y))
 
+-- one element that does not fit its pattern is enough
+pub unlike_at : (ps ts : List Term) (n : ℕ) (p t : Term) → n < length ps → n < length ts → p ≡ get_or ps n p → t ≡ get_or ts n t → matches (term p) (term t) ≡ false → all_match (terms ps) (terms ts) ≡ false
+unlike_at [] ts n p t hp ht ep et h = absurd (omega (arith, hp))
+unlike_at (x ∷ ps) [] n p t hp ht ep et h = refl
+unlike_at (x ∷ ps) (y ∷ ts) zero p t hp ht ep et h = ap (λ b. b && all_match (terms ps) (terms ts)) (ap₂ (λ u v. matches (term u) (term v)) (sym ep) (sym et) ∙ h)
+unlike_at (x ∷ ps) (y ∷ ts) (suc n) p t hp ht ep et h =
+    ap (λ b. matches (term x) (term y) && b) (unlike_at ps ts n p t (omega (arith, hp)) (omega (arith, ht)) ep et h)
+    ∙ and-false (matches (term x) (term y))
+
 pub next_same : (xs ys : List Term) (i : ℕ) (x y : Term) → i < length xs → i < length ys → x ≡ get_or xs i x → y ≡ get_or ys i y → all_same (terms (drop i xs)) (terms (drop i ys)) ≡ (same (term x) (term y) && all_same (terms (drop (i + 1) xs)) (terms (drop (i + 1) ys)))
 next_same xs ys i x y hx hy ex ey =
     at_drop_more (λ us. all_same (terms us) (terms (drop i ys))) xs i x hx

@@ -1,6 +1,6 @@
 //! Patterns of `match_object`, as the Mnesia Reference Manual has them: the atom `'_'` fits every term.
 
-ghost use Rattle.std.specs.Prelude.{◌≡◌};
+ghost use Rattle.std.specs.Prelude.{◌≡◌, IsTrue, IsFalse};
 ghost use Rattle.tab_term.specs.View.{term, terms};
 ghost use Rattle.tab_term.specs.Pattern.{matches as matches_of, all_match as all_match_of, has_wildcard as has_wildcard_of, any_wildcard as any_wildcard_of, is_wildcard as is_wildcard_of};
 
@@ -15,8 +15,54 @@ fn is_wildcard(name: &Atom) -> bool
 
 /// Whether the term fits the pattern: the pattern is `'_'`; or both are tuples, or both are lists, of one length that
 /// fit element by element; or both are equal. A `'_'` inside a map is an atom like any other.
-#[cycle(matching)]
+#[inline(always)]
 pub fn matches(pattern: &Term, subject: &Term) -> bool
+    ensures { result ≡ matches_of (term pattern.now) (term subject.now) }
+{
+    if differ_at_end(pattern, subject) {
+        return false;
+    }
+    fits(pattern, subject)
+}
+
+/// Whether the last elements of two tuples are numbers, and not one number: so most records are passed over, with no call.
+#[inline(always)]
+fn differ_at_end(pattern: &Term, subject: &Term) -> bool
+    ensures { IsTrue result → IsFalse (matches_of (term pattern.now) (term subject.now)) }
+{
+    let (Term::Tuple(patterns), Term::Tuple(subjects)) = (pattern, subject) else {
+        return false;
+    };
+    differ_at(patterns, subjects, patterns.items.len().saturating_sub(1))
+}
+
+#[inline(always)]
+fn differ_at(patterns: &Terms, subjects: &Terms, n: usize) -> bool
+    ensures { IsTrue result → IsFalse (all_match_of patterns.now subjects.now) }
+{
+    match (
+        patterns.items.as_slice().get(n),
+        subjects.items.as_slice().get(n),
+    ) {
+        (Some(pattern), Some(subject)) => is_other_than_number(pattern, subject),
+        _ => false,
+    }
+}
+
+/// Whether the pattern is a number, and the term another.
+#[inline(always)]
+fn is_other_than_number(pattern: &Term, subject: &Term) -> bool
+    ensures { IsTrue result → IsFalse (matches_of (term pattern.now) (term subject.now)) }
+{
+    match (pattern, subject) {
+        (Term::Int(x), Term::Int(y)) => *x != *y,
+        (Term::Int(_), _) => true,
+        _ => false,
+    }
+}
+
+#[cycle(matching)]
+fn fits(pattern: &Term, subject: &Term) -> bool
     ensures { result ≡ matches_of (term pattern.now) (term subject.now) }
 {
     match (pattern, subject) {
@@ -35,7 +81,7 @@ fn element_matches(pattern: &Term, subject: &Term) -> bool
 {
     match (pattern, subject) {
         (Term::Int(x), Term::Int(y)) => *x == *y,
-        _ => matches(pattern, subject),
+        _ => fits(pattern, subject),
     }
 }
 

@@ -1,7 +1,7 @@
 use Rattle.std.proofs.Common.{◌≡◌, length}
 use Rattle.std.specs.List.{filter}
 use Rattle.tab_lists.specs.Conditions.{meets}
-use Rattle.tab_lists.proofs.iter.next_chosen.Given as goal
+use Rattle.tab_lists.proofs.near.next_chosen.Given as goal
 
 -- what is left to be given is as it was
 abbrev pub invariant-loop-first : goal.invariant-loop-first
