@@ -28,7 +28,7 @@ impl Drop for Condition {
 }
 
 impl Condition {
-    /// Whether the record meets it.
+    /// Whether the record meets it. A walk asks it of each record, so it stands in the walk's loop.
     #[inline(always)]
     pub(crate) fn is_met_by(&self, row: &Term) -> bool
         ensures { result ≡ meets self.now (term row.now) }

@@ -70,8 +70,8 @@ fn next_of<'a>(entries: &mut Iter<'a, Term, Records>) -> Option<(&'a Term, &'a R
     Some((key, records))
 }
 
-// The first record that a walk gives of these entries. A whole table is walked over by this loop alone, which makes no call for a
-// record that it passes over, so that the processor fetches those that come behind it meanwhile.
+// The first record that a walk gives of these entries. A whole table is walked over by this loop alone, mostly with no call for a
+// record that it passes over: the fewer instructions stand between the records, the more of them the processor fetches at once.
 fn next_of_table<'a>(
     entries: &mut Iter<'a, Term, Records>,
     near: &mut Option<tab_records::Iter<'a>>,
@@ -256,6 +256,7 @@ impl<'a> Merged<'a> {
         }
     }
 
+    // The same of entries that are found by their keys, or merged.
     fn take_given_of_others(
         &mut self,
         near: &mut Option<tab_records::Iter<'a>>,

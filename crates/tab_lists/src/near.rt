@@ -59,7 +59,7 @@ fn is_given(row: &Term, condition: Option<&Condition>) -> bool
 }
 
 /// The first of one key's records that a walk gives. One alone, as a set has, is looked at where it stands, with no iterator;
-/// of several the others stay near.
+/// of several the others stay near. It stands in the walk's loop, as `is_given` does.
 #[inline(always)]
 pub fn first_given<'a>(
     near: &mut Option<tab_records::Iter<'a>>,

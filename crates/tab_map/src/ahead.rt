@@ -92,7 +92,7 @@ impl<'a, K: Abbreviate + Drop, V: Drop> Ahead<'a, K, V> {
     }
 
     // At the end of a row the entry of its branch comes next, and behind that what is below the next branch, or the last
-    // child.
+    // child. Inlined, it would make a step inside a row a call.
     #[inline(never)]
     fn step_to_child(&mut self) -> Option<&'a Entry<K, V>>
         requires { length self.old.row.now ≡ 0 }

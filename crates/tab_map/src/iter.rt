@@ -89,6 +89,7 @@ impl<'a, K: Abbreviate + Drop, V: Drop> Iterator for Iter<'a, K, V> {
 
     ghost remaining = { item_count (λ left. left) };
 
+    // A step inside a row stands in the caller's loop, where a call would take longer than it.
     #[inline(always)]
     fn next(&mut self) -> Option<&'a Entry<K, V>> {
         let entry = self.ahead.step()?;

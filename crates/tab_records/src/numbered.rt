@@ -89,7 +89,8 @@ impl Numbered {
         }
     }
 
-    /// The record, where there is one alone. The count tells, so of several none is looked up.
+    /// The record, where there is one alone. The count tells, so of several none is looked up. It is a call,
+    /// so that `Records::single` is none where a record stands by itself.
     #[inline(never)]
     pub fn single(&self) -> Option<&Term>
         ensures { MatchOption result (length self.now ≢ 1) (λ row. self.now ≡ term row.now ∷ []) }

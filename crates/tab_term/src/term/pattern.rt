@@ -1,6 +1,7 @@
 //! Patterns of `match_object`, as the Mnesia Reference Manual has them: the atom `'_'` fits every term.
 
 ghost use Rattle.std.specs.Prelude.{◌≡◌, IsTrue, IsFalse};
+ghost use Rattle.tab_term.specs.Data.{atom};
 ghost use Rattle.tab_term.specs.View.{term, terms};
 ghost use Rattle.tab_term.specs.Pattern.{matches as matches_of, all_match as all_match_of, has_wildcard as has_wildcard_of, any_wildcard as any_wildcard_of, is_wildcard as is_wildcard_of};
 
@@ -25,7 +26,7 @@ pub fn matches(pattern: &Term, subject: &Term) -> bool
     fits(pattern, subject)
 }
 
-/// Whether the last elements of two tuples are numbers, and not one number: so most records are passed over, with no call.
+/// Whether the last elements tell that a tuple does not fit. Most records are passed over by that, so it stands in the caller's loop.
 #[inline(always)]
 fn differ_at_end(pattern: &Term, subject: &Term) -> bool
     ensures { IsTrue result → IsFalse (matches_of (term pattern.now) (term subject.now)) }
@@ -36,28 +37,47 @@ fn differ_at_end(pattern: &Term, subject: &Term) -> bool
     differ_at(patterns, subjects, patterns.items.len().saturating_sub(1))
 }
 
+/// Whether the elements at this place tell it.
 #[inline(always)]
 fn differ_at(patterns: &Terms, subjects: &Terms, n: usize) -> bool
     ensures { IsTrue result → IsFalse (all_match_of patterns.now subjects.now) }
 {
-    match (
-        patterns.items.as_slice().get(n),
-        subjects.items.as_slice().get(n),
-    ) {
-        (Some(pattern), Some(subject)) => is_other_than_number(pattern, subject),
+    let Some(pattern) = patterns.items.as_slice().get(n) else {
+        return false;
+    };
+    let Some(subject) = subjects.items.as_slice().get(n) else {
+        return false;
+    };
+    is_another(pattern, subject)
+}
+
+/// Whether the pattern is a number or a name, and the term another.
+#[inline(always)]
+fn is_another(pattern: &Term, subject: &Term) -> bool
+    ensures { IsTrue result → IsFalse (matches_of (term pattern.now) (term subject.now)) }
+{
+    if let Term::Int(number) = pattern {
+        return match subject {
+            Term::Int(other) => *number != *other,
+            _ => true,
+        };
+    }
+    match pattern {
+        Term::Atom(name) => is_another_than_name(name, subject),
         _ => false,
     }
 }
 
-/// Whether the pattern is a number, and the term another.
-#[inline(always)]
-fn is_other_than_number(pattern: &Term, subject: &Term) -> bool
-    ensures { IsTrue result → IsFalse (matches_of (term pattern.now) (term subject.now)) }
+/// Whether the name is no `'_'`, and the term another.
+fn is_another_than_name(name: &Atom, subject: &Term) -> bool
+    ensures { IsTrue result → IsFalse (matches_of (atom name.now) (term subject.now)) }
 {
-    match (pattern, subject) {
-        (Term::Int(x), Term::Int(y)) => *x != *y,
-        (Term::Int(_), _) => true,
-        _ => false,
+    if is_wildcard(name) {
+        return false;
+    }
+    match subject {
+        Term::Atom(other) => name != other,
+        _ => true,
     }
 }
 
