@@ -118,7 +118,8 @@ def left_by_a_kill(place):
 
 def in_use(place):
     """A file at which a server listens stays, and so does that server."""
-    with place.server("--forever"):
+    # A start that is refused has connected, to see whether a server listens, and that server may not have seen it go yet.
+    with place.server("--forever", connections=3):
         before = place.file()
         place.refused(DEVICE)
         place.refused(IN_USE, "--log")
