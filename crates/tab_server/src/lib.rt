@@ -17,8 +17,8 @@ mod next;
 mod pieces;
 mod place;
 mod requests;
-mod seated;
 mod settings;
+mod steps;
 mod troubles;
 mod watch;
 

@@ -4,17 +4,15 @@ ghost use Rattle.std.specs.Prelude.{◌≤◌, length};
 
 use crate::answers::{Answers, Unwritten};
 use crate::gate::{Count, Gate};
-use crate::levels::{Kind, Levels};
-use crate::next::is_abort_in;
+use crate::levels::Levels;
 use crate::place::Place;
-use crate::seated::{Behind, Seated};
+use crate::steps::Behind;
 use crate::watch::Watch;
 use std::alloc::Global;
 use std::io::{ErrorKind, Read, Write};
 use tab_book::{Held, Seat, Shared};
 use tab_etf::{EtfFault, Frame, FrameFault, Splitter, decode};
 use tab_model::{Command, Reply, SharedReply};
-use tab_oneshot::{Steps, one_shot};
 use tab_post::Host;
 use tab_proto::{ProtoFault, read_command};
 use tab_sink::FrameSink;
@@ -23,21 +21,27 @@ use tab_term::{Term, Terms};
 /// The largest piece that is read at once.
 const PIECE: usize = 65_536;
 
-/// What a session is served with.
+/// The requests of one connection, and the seat that their commands are handed to. The book is held from a command's first
+/// step on until it waits, rests or is answered. Before it waits or rests, what was answered is written, and where that takes
+/// longer than a nap the stream is watched.
 #[derive(Drop)]
-pub struct Served<'a, H: Host, W: Write, G: Gate> {
+pub struct Requests<'a, H: Host, W: Write, G: Gate> {
     pub alloc: Global,
     pub host: &'a H,
     pub shared: &'a Shared<H>,
     pub seat: Seat,
     pub watch: &'a Watch,
-    /// Whether an abort ends the wait of the operation before it.
-    pub aborts: bool,
     pub answers: Answers<'a, W, G>,
+    pub held: Held<'a, H>,
     pub levels: Levels,
     /// Where the stream stands, and whether the frame there is read over.
     pub place: Place,
     pub skips: bool,
+    /// Whether an abort ends the wait of the operation before it.
+    pub aborts: bool,
+    /// What ends the wait of the command at hand, and whether an abort has ended it.
+    pub behind: Behind,
+    pub aborted: bool,
 }
 
 /// Why no more requests of a session are answered.
@@ -62,25 +66,28 @@ pub fn serve_session<H: Host, R: Read, W: Write, G: Gate>(
     sink: &FrameSink<W>,
     gate: &G,
 ) -> Ending {
-    let mut served = Served {
+    let mut requests = Requests {
         alloc,
         host,
         shared,
         seat: *seat,
         watch,
-        aborts,
         answers: Answers::new(alloc, sink, gate, seat.session()),
+        held: Held::new(host, shared),
         levels: Levels::new(seat.session()),
         place: Place::new(),
         skips: false,
+        aborts,
+        behind: Behind::Nothing,
+        aborted: false,
     };
-    let ending = served.all(reader);
+    let ending = requests.all(reader);
     shared.leave(host, seat);
     watch.stop(host);
     ending
 }
 
-impl<'a, H: Host, W: Write, G: Gate> Served<'a, H, W, G> {
+impl<'a, H: Host, W: Write, G: Gate> Requests<'a, H, W, G> {
     /// All requests, behind which no transaction is open.
     fn all<R: Read>(&mut self, reader: &mut R) -> Ending {
         let ending = match self.stream(reader) {
@@ -219,70 +226,4 @@ impl<'a, H: Host, W: Write, G: Gate> Served<'a, H, W, G> {
             Err(ProtoFault::NoMemory) => Some(SharedReply::new(Reply::NoMemory)),
         }
     }
-
-    fn command(&mut self, command: Command, next: Option<&Frame>) -> Option<SharedReply> {
-        let behind = self.behind(next);
-        let kind = Kind::of(&command);
-        self.levels.ask(kind, self.answers.counts());
-        let (told, aborted) = self.answered(command, behind);
-        self.levels.tell(kind, told.reply(), self.answers.counts());
-        if aborted && matches!(told.reply(), Reply::Waiting) {
-            return None;
-        }
-        Some(told)
-    }
-
-    /// A command's reply, and whether an abort has ended its wait.
-    fn answered(&mut self, command: Command, behind: Behind) -> (SharedReply, bool) {
-        let alloc = self.alloc;
-        let mut seated = self.seated(behind);
-        let told = answer(&mut seated, alloc, command);
-        seated.give_back();
-        (told, seated.aborted)
-    }
-
-    /// What ends the wait of a request behind which this frame has come.
-    fn behind(&self, next: Option<&Frame>) -> Behind {
-        match next {
-            Some(frame) if self.aborts && is_abort_in(self.alloc, frame) => Behind::Abort,
-            None if self.aborts && self.place.is_between() => Behind::Stream,
-            _ => Behind::Nothing,
-        }
-    }
-
-    fn seated(&mut self, behind: Behind) -> Seated<'a, '_, H, W, G> {
-        Seated {
-            alloc: self.alloc,
-            host: self.host,
-            shared: self.shared,
-            seat: self.seat,
-            watch: self.watch,
-            answers: &mut self.answers,
-            held: Held::new(self.host, self.shared),
-            behind,
-            aborted: false,
-        }
-    }
-}
-
-/// A one-shot is run by its driver; any other command is one step, whose answer it waits for. Who is told to restart
-/// rests first.
-fn answer<S: Steps>(steps: &mut S, alloc: Global, command: Command) -> SharedReply {
-    if matches!(command, Command::OneShot(..)) {
-        return one_shot(steps, alloc, command);
-    }
-    let Ok(told) = steps.step(command) else {
-        return SharedReply::new(Reply::NoMemory);
-    };
-    let told = match told.reply() {
-        Reply::Waiting => steps.wait().unwrap_or(Ok(told)),
-        _ => Ok(told),
-    };
-    let Ok(told) = told else {
-        return SharedReply::new(Reply::NoMemory);
-    };
-    if matches!(told.reply(), Reply::Restart) {
-        steps.again();
-    }
-    told
 }

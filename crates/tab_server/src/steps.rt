@@ -1,18 +1,20 @@
-//! A session of a shared book, as the seat of a one-shot's driver.
+//! The commands of a connection's requests, as steps of its session.
 
 ghost use Rattle.std.specs.Prelude.{◌≡◌, ◌≢◌, IfSome};
 ghost use Rattle.tab_model.specs.declared.data.Reply.TheVariants as reply;
 ghost use Rattle.tab_model.specs.Outcome.{is_abort};
 
-use crate::answers::Answers;
 use crate::gate::{Count, Gate};
+use crate::levels::Kind;
+use crate::next::is_abort_in;
+use crate::requests::Requests;
 use crate::troubles::pause;
-use crate::watch::Watch;
 use std::alloc::{AllocError, Global};
 use std::io::Write;
-use tab_book::{Held, Rest, Seat, Shared, Step};
-use tab_model::{Command, Parts, SharedReply};
-use tab_oneshot::Steps;
+use tab_book::{Rest, Step};
+use tab_etf::Frame;
+use tab_model::{Command, Parts, Reply, SharedReply};
+use tab_oneshot::{Steps, one_shot};
 use tab_post::Host;
 
 /// So many naps of 20 milliseconds a restarted transaction rests at most. A client that drives two connections from one thread
@@ -29,26 +31,52 @@ pub enum Behind {
     Abort,
 }
 
-/// The seat of one connection. It holds the book from a step on until it waits, rests or gives the book back. Before it waits
-/// or rests, what was answered is written, and where that takes longer than a nap the stream is watched.
-#[derive(Drop)]
-pub struct Seated<'a, 'b, H: Host, W: Write, G: Gate> {
-    pub alloc: Global,
-    pub host: &'a H,
-    pub shared: &'a Shared<H>,
-    pub seat: Seat,
-    pub watch: &'a Watch,
-    pub answers: &'b mut Answers<'a, W, G>,
-    pub held: Held<'a, H>,
-    pub behind: Behind,
-    /// Whether an abort has ended its wait.
-    pub aborted: bool,
-}
-
-impl<'a, 'b, H: Host, W: Write, G: Gate> Seated<'a, 'b, H, W, G> {
-    /// The book is held no more.
-    pub fn give_back(&mut self) {
+impl<'a, H: Host, W: Write, G: Gate> Requests<'a, H, W, G> {
+    /// The reply to a command, behind which this frame has come. None where an abort has ended its wait.
+    pub fn command(&mut self, command: Command, next: Option<&Frame>) -> Option<SharedReply> {
+        self.behind = self.end_of_wait(next);
+        self.aborted = false;
+        let kind = Kind::of(&command);
+        self.levels.ask(kind, self.answers.counts());
+        let told = self.answer(command);
         self.held.give_back();
+        self.levels.tell(kind, told.reply(), self.answers.counts());
+        if self.aborted && matches!(told.reply(), Reply::Waiting) {
+            return None;
+        }
+        Some(told)
+    }
+
+    /// A one-shot is run by its driver; any other command is one step, whose answer it waits for. Who is told to restart
+    /// rests first.
+    fn answer(&mut self, command: Command) -> SharedReply {
+        if matches!(command, Command::OneShot(..)) {
+            let alloc = self.alloc;
+            return one_shot(self, alloc, command);
+        }
+        let Ok(told) = self.step(command) else {
+            return SharedReply::new(Reply::NoMemory);
+        };
+        let told = match told.reply() {
+            Reply::Waiting => self.wait().unwrap_or(Ok(told)),
+            _ => Ok(told),
+        };
+        let Ok(told) = told else {
+            return SharedReply::new(Reply::NoMemory);
+        };
+        if matches!(told.reply(), Reply::Restart) {
+            self.again();
+        }
+        told
+    }
+
+    /// What ends the wait of a command behind which this frame has come.
+    fn end_of_wait(&self, next: Option<&Frame>) -> Behind {
+        match next {
+            Some(frame) if self.aborts && is_abort_in(self.alloc, frame) => Behind::Abort,
+            None if self.aborts && self.place.is_between() => Behind::Stream,
+            _ => Behind::Nothing,
+        }
     }
 
     /// Who was restarted rests until its lock is free. The stream is watched after the first nap.
@@ -81,7 +109,7 @@ impl<'a, 'b, H: Host, W: Write, G: Gate> Seated<'a, 'b, H, W, G> {
     }
 }
 
-impl<'a, 'b, H: Host, W: Write, G: Gate> Steps for Seated<'a, 'b, H, W, G> {
+impl<'a, H: Host, W: Write, G: Gate> Steps for Requests<'a, H, W, G> {
     ghost shows = { λ x calls y. Unit {0} };
 
     ghost shows_none = { λ x. tt };
