@@ -1,6 +1,6 @@
 -- Frames that are written one after another.
-use Rattle.std.proofs.Common.{◌≡◌, ℕ, suc, ◌+◌, ◌^◌, ◌-◌, ◌<◌, min, List, [], ◌∷◌, ◌++◌, length, take, drop, get_or, add-one, Option, refl, sym, ap, ◌∙◌, append_assoc, arith, subst}
-use Rattle.std.specs.Prelude.{Result, Ok, Err, IfErr}
+use Rattle.std.proofs.Common.{◌≡◌, ℕ, suc, ◌+◌, ◌^◌, ◌-◌, ◌<◌, min, List, [], ◌∷◌, ◌++◌, length, take, drop, get_or, add-one, Option, Some, refl, sym, ap, ◌∙◌, append_assoc, arith, subst}
+use Rattle.std.specs.Prelude.{◌↔◌, Result, Ok, Err, IfErr, OnErr}
 use Rattle.std.specs.Io.KnownBytes.{Appends}
 use Rattle.std.proofs.lemmas.List.{append-nil, take_min, take-append-le}
 use Rattle.std.proofs.Math.Seq.{drop-cons, take-append-add}
@@ -10,10 +10,12 @@ use Rattle.tab_lists.specs.declared.events.EventTerm.{EventTerm}
 use Rattle.tab_lists.specs.EventTerms.{event_term, event_terms}
 use Rattle.tab_etf.specs.Frames.{frame}
 use Rattle.tab_etf.specs.Writing.{IsUnwritten}
+use Rattle.tab_etf.specs.declared.encoding.EncodeFault.{EncodeFault}
+use Rattle.tab_etf.specs.declared.encoding.EncodeFault.TheVariants as encode
 use Rattle.tab_etf.specs.declared.framing.FrameFault.{FrameFault}
 use Rattle.tab_etf.specs.declared.framing.FrameFault.TheVariants.{FrameTooLong, CutOff, Device, NoMemory}
 use Rattle.tab_etf.proofs.KnownBytesLemmas.{Appends-none, Appends-then}
-use Rattle.tab_proto.specs.Events.{event_frames, IsUnsent}
+use Rattle.tab_proto.specs.Events.{event_frames, IsUnadded, IsUnsent}
 
 -- the first of the events that are left
 pub events_first : (es : List EventTerm) (i : ℕ) (e : EventTerm) → i < length es → e ≡ get_or es i e → event_terms (drop i es) ≡ one_more (event_term e) (event_terms (drop (i + 1) es))
@@ -78,3 +80,30 @@ pub unsent_event : {A : Type 0} (r : Result A FrameFault) (fault : FrameFault) (
 unsent_event {A = A} r fault all e ts es old mid new f g h k t s p =
     let next = subst (λ (x : PlainTerms). Sending all (event_frames x) old mid f g) t s in
     subst (λ (x : Result A FrameFault). IfErr x (λ y. IsUnsent y all old new f h)) (sym k) (unsent_after fault all (131 ∷ canon e) (event_frames es) old mid new f g h next p)
+
+-- ---- frames that are added to bytes
+
+pub unadded_after : (fault : EncodeFault) (all payload rest old mid new : List ℕ)
+    → Sending all (frame payload ++ rest) (Some old) (Some mid) 0 0 → (fault ≡ encode.TooLong → 4294967295 < length payload) → new ≡ mid → IsUnadded fault all old new
+unadded_after encode.TooLong all payload rest old mid new s long same = (s.before, payload, rest, s.whole, long refl, same ∙ s.text)
+unadded_after encode.NoMemory all payload rest old mid new s long same = (s.before, payload, rest, s.whole, same ∙ s.text)
+
+-- the frame of a term is not added
+pub unadded_term : {A : Type 0} (r : Result A EncodeFault) (t u : PlainTerm) (old new : List ℕ)
+    → t ≡ u → ((r ≡ Err encode.TooLong) ↔ (4294967295 < length (131 ∷ canon t))) → OnErr r (new ≡ old) → IfErr r (λ e. IsUnadded e (frame (131 ∷ canon u)) old new)
+unadded_term (Ok a) t u old new k long same = tt
+unadded_term (Err e) t u old new k long same =
+    let payload : List ℕ = 131 ∷ canon t in
+    let s : Sending (frame payload) (frame payload ++ []) (Some old) (Some old) 0 0 =
+    record { before = []; whole = sym (append-nil (frame payload)); text = Appends-none (Some old); same = refl } in
+    let too_long : e ≡ encode.TooLong → 4294967295 < length payload = λ is. long.0 (ap (λ (x : EncodeFault). Err x) is) in
+    subst (λ (x : PlainTerm). IsUnadded e (frame (131 ∷ canon x)) old new) k (unadded_after e (frame payload) payload [] old old new s too_long same)
+
+-- an event's frame is not added
+pub unadded_event : {A B : Type 0} (r : Result A EncodeFault) (q : Result B EncodeFault) (fault : EncodeFault) (all : List ℕ) (e : PlainTerm) (ts es : PlainTerms) (old mid new : List ℕ)
+    → r ≡ Err fault → q ≡ Err fault → ts ≡ one_more e es → Sending all (event_frames ts) (Some old) (Some mid) 0 0
+    → ((q ≡ Err encode.TooLong) ↔ (4294967295 < length (131 ∷ canon e))) → new ≡ mid → IfErr r (λ x. IsUnadded x all old new)
+unadded_event {A = A} r q fault all e ts es old mid new k told t s long same =
+    let next = subst (λ (x : PlainTerms). Sending all (event_frames x) (Some old) (Some mid) 0 0) t s in
+    let too_long : fault ≡ encode.TooLong → 4294967295 < length (131 ∷ canon e) = λ is. long.0 (told ∙ ap (λ (x : EncodeFault). Err x) is) in
+    subst (λ (x : Result A EncodeFault). IfErr x (λ y. IsUnadded y all old new)) (sym k) (unadded_after fault all (131 ∷ canon e) (event_frames es) old mid new next too_long same)

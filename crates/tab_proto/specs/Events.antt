@@ -1,9 +1,11 @@
 -- The frames of items: each event of a batch has one, or the batch has one as it is taken (this project's own).
-use Rattle.std.specs.Prelude.{◌≡◌, ℕ, ◌+◌, ◌-◌, ◌^◌, ◌<◌, min, List, [], ◌∷◌, ◌++◌, length, take, Option}
+use Rattle.std.specs.Prelude.{◌≡◌, ℕ, ◌+◌, ◌-◌, ◌^◌, ◌<◌, min, List, [], ◌∷◌, ◌++◌, length, take, Option, Some}
 use Rattle.std.specs.Io.KnownBytes.{Appends}
 use Rattle.tab_term.specs.Canon.{canon}
 use Rattle.tab_term.specs.Data.{PlainTerms, none, one_more}
 use Rattle.tab_etf.specs.Frames.{frame}
+use Rattle.tab_etf.specs.declared.encoding.EncodeFault.{EncodeFault}
+use Rattle.tab_etf.specs.declared.encoding.EncodeFault.TheVariants.{TooLong, NoMemory}
 use Rattle.tab_etf.specs.declared.framing.FrameFault.{FrameFault}
 use Rattle.tab_etf.specs.declared.framing.FrameFault.TheVariants.{FrameTooLong, Device}
 use Rattle.tab_model.specs.declared.data.Item.{Item}
@@ -38,3 +40,8 @@ abbrev pub IsUnsent : FrameFault → List ℕ → Option (List ℕ) → Option (
 IsUnsent (FrameTooLong n) frames old new faults faults' = StopsBefore frames old new × (n ≡ 4294967295) × (faults' ≡ faults)
 IsUnsent Device frames old new faults faults' = ((n : ℕ) × Appends old new (take n frames)) × (faults' ≡ min (faults + 1) (2 ^ 64 - 1))
 IsUnsent _ frames old new faults faults' = ⊥
+
+-- why these frames were not all added, and what was: all before one of them, which is too long to be told or found no memory
+abbrev pub IsUnadded : EncodeFault → List ℕ → List ℕ → List ℕ → Type 0
+IsUnadded TooLong frames old new = StopsBefore frames (Some old) (Some new)
+IsUnadded NoMemory frames old new = (before payload rest : List ℕ) × (frames ≡ before ++ (frame payload ++ rest)) × (new ≡ old ++ before)

@@ -130,6 +130,12 @@ is_long (reply.TableInfo i) = true
 is_long (reply.Taken i) = true
 is_long r = false
 
+-- the replies that are a list of records or of answers, and may be told to pass a bound
+abbrev pub is_listing : Reply → Bool
+is_listing (reply.AtomicTerms ts) = true
+is_listing (reply.Found rows) = true
+is_listing r = false
+
 -- {Session, Reply}, or {reply, Reply} where no session is named
 abbrev pub response : Option ℕ → Reply → PlainTerm
 response (Some session) r = pair (number session) (reply_term r)

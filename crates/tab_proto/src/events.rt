@@ -1,12 +1,12 @@
 //! Items as a connection reads them.
 
-ghost use Rattle.std.specs.Prelude.{◌≡◌, ◌++◌, ◌∷◌, OnOk, IfErr};
+ghost use Rattle.std.specs.Prelude.{◌≡◌, ◌<◌, ◌++◌, ◌∷◌, ◌↔◌, length, OnOk, OnErr, IfErr, Err};
 ghost use Rattle.std.specs.Io.KnownBytes.{Appends};
 ghost use Rattle.tab_model.specs.declared.data.Reply.TheVariants as told;
 ghost use Rattle.tab_term.specs.Canon.{canon};
 ghost use Rattle.tab_lists.specs.EventTerms.{event_term};
 ghost use Rattle.tab_etf.specs.Frames.{frame};
-ghost use Rattle.tab_proto.specs.Events.{event_frames, item_frames, sent_frames, IsUnsent};
+ghost use Rattle.tab_proto.specs.Events.{event_frames, item_frames, sent_frames, IsUnadded, IsUnsent};
 ghost use Rattle.tab_proto.specs.Replies.{item_term, reply_term, IsOutlineOf};
 
 use crate::replying::{item_outline, outline_of};
@@ -25,33 +25,49 @@ pub enum Delivery {
     Batches,
 }
 
-/// Adds the frames of an item that is sent so. On an error some of them stand.
+/// Adds the frames of an item that is sent so. On an error those before one of them stand.
 pub fn append_item(item: &Item, delivery: Delivery, out: &mut Vec<u8>) -> Result<(), EncodeFault>
-    ensures { OnOk result (out.new.items ≡ out.old.items ++ sent_frames delivery item.now) }
+    ensures ok { OnOk result (out.new.items ≡ out.old.items ++ sent_frames delivery item.now) }
+    ensures err { IfErr result
+        (λ e. IsUnadded e (sent_frames delivery item.now) out.old.items out.new.items) }
 {
     match delivery {
         Delivery::Events => append_apart(item, out),
-        Delivery::Batches => append_outline(&item_outline(item), out),
+        Delivery::Batches => append_whole(item, out),
     }
 }
 
-/// Adds of a batch a frame for each of its events, in order, else that of its marker. On an error some of them stand.
+/// Adds of a batch a frame for each of its events, in order, else that of its marker.
 fn append_apart(item: &Item, out: &mut Vec<u8>) -> Result<(), EncodeFault>
-    ensures { OnOk result (out.new.items ≡ out.old.items ++ item_frames item.now) }
+    ensures ok { OnOk result (out.new.items ≡ out.old.items ++ item_frames item.now) }
+    ensures err { IfErr result
+        (λ e. IsUnadded e (item_frames item.now) out.old.items out.new.items) }
 {
     match item {
         Item::Batch(_, events) => append_events(events, out),
-        marker => append_outline(&item_outline(marker), out),
+        marker => append_whole(marker, out),
     }
 }
 
 fn append_events(events: &EventTerms, out: &mut Vec<u8>) -> Result<(), EncodeFault>
-    ensures { OnOk result (out.new.items ≡ out.old.items ++ event_frames events.now) }
+    ensures ok { OnOk result (out.new.items ≡ out.old.items ++ event_frames events.now) }
+    ensures err { IfErr result
+        (λ e. IsUnadded e (event_frames events.now) out.old.items out.new.items) }
 {
     for event in events.as_slice() {
         append_outline(&event_outline(event.event()), out)?;
     }
     Ok(())
+}
+
+/// Adds the one frame of an item that is told whole.
+fn append_whole(item: &Item, out: &mut Vec<u8>) -> Result<(), EncodeFault>
+    ensures ok { OnOk result
+        (out.new.items ≡ out.old.items ++ frame (131 ∷ canon (item_term item.now))) }
+    ensures err { IfErr result
+        (λ e. IsUnadded e (frame (131 ∷ canon (item_term item.now))) out.old.items out.new.items) }
+{
+    append_outline(&item_outline(item), out)
 }
 
 /// An event alone.
@@ -129,10 +145,13 @@ fn write_whole<W: Target>(device: &mut W, item: &Item) -> Result<(), FrameFault>
     write_outline(device, &item_outline(item))
 }
 
-/// Adds the frame of `{mnesia_overflow, N}`.
+/// Adds the frame of `{mnesia_overflow, N}`. On an error the bytes are as before.
 pub fn append_overflow(number: u64, out: &mut Vec<u8>) -> Result<(), EncodeFault>
-    ensures { OnOk result
+    ensures ok { OnOk result
         (out.new.items ≡ out.old.items ++ frame (131 ∷ canon (reply_term (told.Overflow number)))) }
+    ensures too_long { (result ≡ Err EncodeFault.TooLong)
+        ↔ (4294967295 < length (131 ∷ canon (reply_term (told.Overflow number)))) }
+    ensures err { OnErr result (out.new.items ≡ out.old.items) }
 {
     append_outline(&outline_of(&Reply::Overflow(number)), out)
 }

@@ -11,7 +11,7 @@ ghost use Rattle.tab_etf.specs.Briefs.{token_term, IsShortToken};
 ghost use Rattle.tab_etf.specs.Writing.{IsUnwritten};
 ghost use Rattle.tab_model.specs.declared.data.Reply.{Reply as ReplyOf};
 ghost use Rattle.tab_proto.specs.Commands.{level_word as level_word_of};
-ghost use Rattle.tab_proto.specs.Replies.{reply_term as reply_term_of, item_term as item_term_of, info_term as info_term_of, limit_word as limit_word_of, kind_word as kind_word_of, ending_word as ending_word_of, response, is_long, IsBriefOf, IsOutlineOf};
+ghost use Rattle.tab_proto.specs.Replies.{reply_term as reply_term_of, item_term as item_term_of, info_term as info_term_of, limit_word as limit_word_of, kind_word as kind_word_of, ending_word as ending_word_of, response, is_listing, is_long, IsBriefOf, IsOutlineOf};
 
 use tab_etf::{
     Body, Brief, EncodeFault, FrameFault, Leaf, Outline, Target, Token, Unmeasured, append_brief,
@@ -73,7 +73,8 @@ fn append_long(session: Option<u32>, reply: &Reply, out: &mut Vec<u8>) -> Result
 /// Adds the frame that `write_reply` writes, in one walk of each list that the reply holds.
 ///
 /// On false the frame takes more than so many bytes, where a list counts with each of its elements, also one that is written as a
-/// string. Of a reply that holds no list it is never told. On false and on an error the bytes are as before.
+/// string. It is told of what was found and of a one-shot's answers alone, of which no frame of more bytes is added. On false and on
+/// an error the bytes are as before.
 pub fn append_reply_within(
     session: Option<u32>,
     reply: &Reply,
@@ -84,6 +85,10 @@ pub fn append_reply_within(
         (λ within. out.new.items
         ≡ out.old.items
         ++ (if within then frame (131 ∷ canon (response session reply.now)) else [])) }
+    ensures within { IfOk result
+        (λ within. IsTrue within → IsTrue (is_listing reply.now)
+        → length (frame (131 ∷ canon (response session reply.now))) ≤ most) }
+    ensures listing { IfOk result (λ within. IsFalse within → IsTrue (is_listing reply.now)) }
     ensures over { IfOk result
         (λ within. IsFalse within
         → min most 4294967295 < 2 * length (frame (131 ∷ canon (response session reply.now)))) }
