@@ -51,14 +51,16 @@ use Rattle.tab_locks.specs.contracts.key_lock.KeyLock as key_lock
 use Rattle.tab_locks.specs.contracts.tied_keys.TiedKeys as tied_keys
 use Rattle.tab_locks.proofs.holders.Holders.TheSendSync as holders_marks
 use Rattle.tab_waitdie.specs.contracts.ages.Ages as ages
-use Rattle.tab_manager.specs.contracts.Manager as manager
 use Rattle.tab_manager.specs.contracts.machine.Machine as machine
-use Rattle.tab_manager.specs.contracts.session.Session as seat
-use Rattle.tab_manager.specs.contracts.session.Transaction as transaction
+use Rattle.tab_subs.specs.contracts.transaction.Transaction as transaction
+use Rattle.tab_subs.specs.contracts.session.Session as session
+use Rattle.tab_subs.specs.contracts.session.Session.TheInside as session_inside
+use Rattle.tab_subs.specs.contracts.subs.Subs as subs
+use Rattle.tab_subs.specs.contracts.subs.Subs.TheInside as subs_inside
+use Rattle.tab_subs.proofs.watched.Watched.TheSendSync as watched_marks
 use Rattle.tab_manager.specs.contracts.queue.Request as request
 use Rattle.tab_journal.specs.contracts.base.Base as base
 use Rattle.tab_outbox.specs.declared.post.Post.{Ghosts}
-use Rattle.tab_subs.proofs.subs.Subs.TheSendSync as subs_marks
 use Rattle.tab_core.specs.contracts.Core as core
 use Rattle.tab_post.specs.declared.naming.Naming as naming
 use Rattle.tab_post.specs.declared.naming.Host as host
@@ -72,7 +74,6 @@ use Rattle.tab_post.specs.contracts.post.ChannelPostPost.TheImpl as session_post
 use Rattle.tab_book.specs.contracts.book.Book as book
 use Rattle.tab_book.specs.contracts.book.Book.TheInside as inside
 use Rattle.tab_book.specs.contracts.shared.Shared as shared
-use Rattle.arrayvec.proofs.array_vec.ArrayVec.TheSendSync as array_marks
 use Rattle.circular_buffer.proofs.heap.HeapCircularBuffer.TheSendSync as buffer_marks
 use Rattle.tab_model.proofs.data.Limits.TheSendSync as limits_marks
 use Rattle.tab_journal.specs.contracts.journal.Journal as journal
@@ -210,9 +211,6 @@ ages-send = search (parts, locks-send, lock-send) depth 30
 transaction-send : IsSend transaction.the_row
 transaction-send = search (parts, store-send) depth 20
 
-seat-send : IsSend seat.the_row
-seat-send = search (parts, transaction-send) depth 20
-
 request-send : IsSend request.the_row
 request-send = search (parts, operation-send) depth 20
 
@@ -223,14 +221,11 @@ machine-send =
       (
         search (parts, catalog-send),
         (
-          search (parts, array_marks.the_send, seat-send) depth 20,
-          (search (parts, ages-send), (search (parts, request-send) depth 20, (search parts, (search parts, (search parts, (search (parts, limits_marks.the_send), tt)))))),
+          search (parts, ages-send),
+          (search (parts, request-send) depth 20, (search parts, (search parts, (search parts, (search (parts, limits_marks.the_send), tt))))),
         ),
       ),
     )
-
-manager-send : IsSend manager.the_row
-manager-send = search (parts, machine-send) depth 20
 
 base-send : IsSend base.the_row
 base-send = search (parts, catalog-send, subscription_marks.the_send) depth 30
@@ -239,8 +234,20 @@ journal-send : IsSend journal.the_row
 journal-send = search (parts, base-send, entry-send, buffer_marks.the_send, frees, heap_send) depth 40
 
 module _ (P : RattleType) (g : Ghosts P.Denot) where
+  session-send : IsSend P → IsSend (session.the_row P g)
+  session-send p =
+      view_send _ _ _ _ _ (
+      declared_send (session_inside.the_type P g) (
+        search parts,
+        (search (parts, transaction-send) depth 20, (search (parts, watched_marks.the_send) depth 20, (search parts depth 20, (search (parts, p), tt)))),
+      )
+      )
+
+  subs-send : IsSend P → IsSend (subs.the_row P g)
+  subs-send p = view_send _ _ _ _ _ (declared_send (subs_inside.the_type P g) (search (parts, session-send p) depth 20, tt))
+
   core-send : IsSend P → IsSend (core.the_row P g)
-  core-send p = search (parts, manager-send, subs_marks.the_send) depth 30
+  core-send p = search (parts, machine-send, subs-send) depth 30
 
 module _ (H : RattleType) (names : naming.Ghosts H.Denot) (rooms : host.Ghosts H.Denot) (waits : waiting.Ghosts H.Denot) (clones : cloning.Ghosts H.Denot) where
   pub Book-send : IsSend H → IsSend (book.the_row H names rooms waits clones)

@@ -1,180 +1,166 @@
 -- Items that are due, delivered: what every session then watches, and what its post then shows.
-use Rattle.std.proofs.Common.{◌≡◌, ◌≢◌, ℕ, ◌+◌, ◌<◌, List, [], ◌∷◌, ◌++◌, Bool, true, false, not, refl, sym, ap, ◌∙◌, subst, append-nil, length, Option, Some, None}
-use Rattle.std.specs.Prelude.{◌==◌, if◌then◌else◌, nat_le, is_some, IfSome, map, option_map}
-use Rattle.std.specs.List.{AllByRecursion, filter}
+use Rattle.std.proofs.Common.{◌≡◌, ℕ, List, [], ◌∷◌, Bool, true, false, not, refl, sym, ap, ◌∙◌, subst, append-nil, Option, Some, None}
+use Rattle.std.specs.Prelude.{◌==◌, if◌then◌else◌, map}
+use Rattle.std.specs.List.{filter}
 use Rattle.tab_model.specs.declared.data.Item.{Item}
 use Rattle.tab_model.specs.Log.{has_session}
-use Rattle.tab_model.specs.State.{Watch, Session, session_at, AreDistinct, without_watch}
-use Rattle.tab_model.specs.Outcome as plain
-use Rattle.tab_model.specs.Outcome.{is_empty, with_items}
+use Rattle.tab_model.specs.State.{Watch, Session, session_at, without_watch}
+use Rattle.tab_model.specs.Outcome.{is_empty, with_items, with_changed, with_transaction, after_overflow, after_put, without_deleted}
 use Rattle.tab_model.specs.Run.{IsSplitByOverflow}
 use Rattle.tab_model.proofs.Splits.{IsSplit, split_fits}
-use Rattle.tab_model.proofs.SessionLists.{eq_true, itself, differs'}
-use Rattle.tab_subs.specs.Subscribers.{Subscriber, at, numbers, given, overflowed, overflow_of}
+use Rattle.tab_subs.specs.Subscribers.{Subscriber, given, overflowed}
 use Rattle.tab_subs.specs.Deliveries.{first_of, rest_of, unwatched, given_all, IsDecided, AreDecided, joined_if, those_in}
-use Rattle.tab_core.specs.SessionLists.{watching_of, outbox_of, session_with}
+use Rattle.tab_manager.specs.Parts.{session_of}
+use Rattle.tab_manager.proofs.Keeping.{SameKeys}
 
-numbers_of : List Session → List ℕ
-numbers_of ss = map (λ (s : Session). s.number) ss
+-- ---- who is given what keeps its number and its transaction
 
--- ---- who is there
-
-abbrev pub IsThere : List Subscriber → ℕ → Type 0
-IsThere bs m = (b : Subscriber) × (at bs m ≡ Some b) × (b.number ≡ m)
-
-there_on : (c : Subscriber) (bs : List Subscriber) (m : ℕ) → IsThere bs m → IsThere (c ∷ bs) m
-there_on c bs m (b, h, is) = by (c.number == m) refl
+given_keys : (n : ℕ) (over : List ℕ) (items : List Item) (t : Option (List ℕ)) (s : Subscriber)
+    → (s.number ≡ (given n over items (unwatched t s)).number) × (s.transaction ≡ (given n over items (unwatched t s)).transaction)
+given_keys n over items t s = at_table t
   where
-    by : (d : Bool) → (c.number == m) ≡ d → (x : Subscriber) × ((if d then Some c else at bs m) ≡ Some x) × (x.number ≡ m)
-    by true e = (c, refl, eq_true c.number m e)
-    by false e = (b, h, is)
+    at_table : (u : Option (List ℕ)) → (s.number ≡ (given n over items (unwatched u s)).number) × (s.transaction ≡ (given n over items (unwatched u s)).transaction)
+    at_table None = by (has_session over s.number)
+      where
+        by : (d : Bool) → (s.number ≡ Subscriber.number (if d then overflowed n s else record s { outbox = with_items s.outbox items }))
+            × (s.transaction ≡ Subscriber.transaction (if d then overflowed n s else record s { outbox = with_items s.outbox items }))
+        by true = (refl, refl)
+        by false = (refl, refl)
+    at_table (Some v) = by (has_session over s.number)
+      where
+        by : (d : Bool) → (s.number ≡ Subscriber.number (if d then overflowed n (unwatched (Some v) s) else record s { watching = without_watch s.watching v; outbox = with_items s.outbox items }))
+            × (s.transaction ≡ Subscriber.transaction (if d then overflowed n (unwatched (Some v) s) else record s { watching = without_watch s.watching v; outbox = with_items s.outbox items }))
+        by true = (refl, refl)
+        by false = (refl, refl)
 
-there_first : (c : Subscriber) (bs : List Subscriber) → IsThere (c ∷ bs) c.number
-there_first c bs = (c, ap (λ d. if d then Some c else at bs c.number) (itself c.number), refl)
+pub keys_given : (n : ℕ) (over : List ℕ) (t : Option (List ℕ)) (items : List (List Item)) (ss : List Subscriber) → SameKeys ss (given_all n over t items ss)
+keys_given n over t items [] = tt
+keys_given n over t items (s ∷ ss) =
+    let k = given_keys n over (first_of items) t s in
+    (k.0, k.1, keys_given n over t (rest_of items) ss)
 
-all_on : (c : Subscriber) (bs : List Subscriber) (ms : List ℕ) → AllByRecursion (IsThere bs) ms → AllByRecursion (IsThere (c ∷ bs)) ms
-all_on c bs [] h = tt
-all_on c bs (m ∷ ms) h = (there_on c bs m h.0, all_on c bs ms h.1)
+-- ---- nothing is due
 
-all_there : (bs : List Subscriber) → AllByRecursion (IsThere bs) (numbers bs)
-all_there [] = tt
-all_there (c ∷ bs) = (there_first c bs, all_on c bs (numbers bs) (all_there bs))
+abbrev pub no_items : List Subscriber → List (List Item)
+no_items ss = map (λ (s : Subscriber). []) ss
 
--- every session has its subscriber
-pub seated_there : (bs : List Subscriber) (ss : List Session) → numbers bs ≡ map (λ (s : Session). s.number) ss → AllByRecursion (IsThere bs) (map (λ (s : Session). s.number) ss)
-seated_there bs ss h = subst (AllByRecursion (IsThere bs)) h (all_there bs)
+given_nothing : (s : Subscriber) → given 0 [] [] s ≡ s
+given_nothing s = λ i. record s { outbox = record s.outbox { items = append-nil s.outbox.items i } }
 
-pub found_there : (bs : List Subscriber) (ss : List Session) → AllByRecursion (IsThere bs) (map (λ (s : Session). s.number) ss) → (n : ℕ) (s : Session) → session_at ss n ≡ Some s → IsThere bs n
-found_there bs [] h n s e = cc
-found_there bs (x ∷ ss) h n s e = by (x.number == n) refl e (found_there bs ss h.1 n s)
-  where
-    by : (d : Bool) → (x.number == n) ≡ d → (if d then Some x else session_at ss n) ≡ Some s → (session_at ss n ≡ Some s → IsThere bs n) → IsThere bs n
-    by true g f ih = subst (IsThere bs) (eq_true x.number n g) h.0
-    by false g f ih = ih f
+pub none_given : (n : ℕ) (ss : List Subscriber) → given_all n [] None (no_items ss) ss ≡ ss
+none_given n [] = refl
+none_given n (s ∷ ss) = λ i. given_nothing s i ∷ none_given n ss i
 
--- ---- one after another
+pub none_decided : (ss : List Subscriber) → AreDecided [] (no_items ss) ss
+none_decided [] = tt
+none_decided (s ∷ ss) = (refl, none_decided ss)
 
-given_number : (n : ℕ) (over : List ℕ) (items : List Item) (b : Subscriber) → (given n over items b).number ≡ b.number
-given_number n over items b = by (has_session over b.number)
-  where
-    by : (d : Bool) → Subscriber.number (if d then overflowed n b else record b { outbox = with_items b.outbox items }) ≡ b.number
-    by true = refl
-    by false = refl
+pub none_over : (ss : List Subscriber) → [] ≡ those_in [] ss
+none_over [] = refl
+none_over (s ∷ ss) = none_over ss
 
-unwatched_number : (t : Option (List ℕ)) (b : Subscriber) → (unwatched t b).number ≡ b.number
-unwatched_number None b = refl
-unwatched_number (Some t) b = refl
+-- ---- what all sessions are given, by what each watches
 
 module _ (n : ℕ) (over : List ℕ) (t : Option (List ℕ)) (h : List Watch → List Item) where
-  -- what one subscriber is given
-  abbrev pub one : Subscriber → Subscriber
-  one b = given n over (h b.watching) (unwatched t b)
-
-  one_number : (b : Subscriber) → (one b).number ≡ b.number
-  one_number b = given_number n over (h b.watching) (unwatched t b) ∙ unwatched_number t b
-
   abbrev pub after : List Subscriber → List Subscriber
-  after bs = given_all n over t (map (λ (b : Subscriber). h b.watching) bs) bs
+  after ss = given_all n over t (map (λ (s : Subscriber). h s.watching) ss) ss
 
-  pub after_numbers : (bs : List Subscriber) → numbers (after bs) ≡ numbers bs
-  after_numbers [] = refl
-  after_numbers (b ∷ bs) = λ i. one_number b i ∷ after_numbers bs i
-
-  at_after : (bs : List Subscriber) (m : ℕ) → at (after bs) m ≡ option_map one (at bs m)
-  at_after [] m = refl
-  at_after (b ∷ bs) m = ap (λ k. if k == m then Some (one b) else at (after bs) m) (one_number b) ∙ by (b.number == m) (at_after bs m)
+  session_after : (s : Subscriber) → after_put n over (h s.watching) (without_deleted t (session_of s)) ≡ session_of (given n over (h s.watching) (unwatched t s))
+  session_after s = at_table t
     where
-      by : (d : Bool) → at (after bs) m ≡ option_map one (at bs m) → (if d then Some (one b) else at (after bs) m) ≡ option_map one (if d then Some b else at bs m)
-      by true ih = refl
-      by false ih = ih
-
-  -- the same of a session, by the definitions
-  abbrev dress : Option Subscriber → Session → Session
-  dress o s = record s { watching = watching_of o; outbox = outbox_of o; overflow = overflow_of o }
-
-  abbrev pub session_given : Session → Session
-  session_given x = plain.after_put n over (h x.watching) (plain.without_deleted t x)
-
-  sole_session : (b : Subscriber) (s : Session) → b.number ≡ s.number → session_given (dress (Some b) s) ≡ dress (Some (one b)) s
-  sole_session b s e = at_table t
-    where
-      at_table : (u : Option (List ℕ)) → plain.after_put n over (h b.watching) (plain.without_deleted u (dress (Some b) s)) ≡ dress (Some (given n over (h b.watching) (unwatched u b))) s
-      at_table None = by (has_session over s.number) ∙ ap (λ k. dress (Some (if has_session over k then overflowed n b else record b { outbox = with_items b.outbox (h b.watching) })) s) (sym e)
+      at_table : (u : Option (List ℕ)) → after_put n over (h s.watching) (without_deleted u (session_of s)) ≡ session_of (given n over (h s.watching) (unwatched u s))
+      at_table None = by (has_session over s.number)
         where
-          by : (d : Bool) → (if d then plain.after_overflow n (dress (Some b) s) else record s { watching = b.watching; outbox = with_items b.outbox (h b.watching); overflow = b.overflow })
-              ≡ dress (Some (if d then overflowed n b else record b { outbox = with_items b.outbox (h b.watching) })) s
+          by : (d : Bool) → (if d then after_overflow n (session_of s) else record (session_of s) { outbox = with_items s.outbox (h s.watching) })
+              ≡ session_of (if d then overflowed n s else record s { outbox = with_items s.outbox (h s.watching) })
           by true = refl
           by false = refl
-      at_table (Some v) = by (has_session over s.number) ∙ ap (λ k. dress (Some (if has_session over k then overflowed n (unwatched (Some v) b) else record b { watching = without_watch b.watching v; outbox = with_items b.outbox (h b.watching) })) s) (sym e)
+      at_table (Some v) = by (has_session over s.number)
         where
-          by : (d : Bool) → (if d then plain.after_overflow n (plain.without_deleted (Some v) (dress (Some b) s)) else record s { watching = without_watch b.watching v; outbox = with_items b.outbox (h b.watching); overflow = b.overflow })
-              ≡ dress (Some (if d then overflowed n (unwatched (Some v) b) else record b { watching = without_watch b.watching v; outbox = with_items b.outbox (h b.watching) })) s
+          by : (d : Bool) → (if d then after_overflow n (without_deleted (Some v) (session_of s)) else record (session_of s) { watching = without_watch s.watching v; outbox = with_items s.outbox (h s.watching) })
+              ≡ session_of (if d then overflowed n (unwatched (Some v) s) else record s { watching = without_watch s.watching v; outbox = with_items s.outbox (h s.watching) })
           by true = refl
           by false = refl
 
-  session_after : (bs : List Subscriber) (s : Session) → IsThere bs s.number → session_given (session_with bs s) ≡ session_with (after bs) s
-  session_after bs s (b, is, e) =
-      ap (λ o. session_given (dress o s)) is ∙ sole_session b s e ∙ ap (λ o. dress o s) (sym (at_after bs s.number ∙ ap (option_map one) is))
+  pub sessions_after : (ss : List Subscriber) → map (λ (x : Session). after_put n over (h x.watching) (without_deleted t x)) (map session_of ss) ≡ map session_of (after ss)
+  sessions_after [] = refl
+  sessions_after (s ∷ ss) = λ i. session_after s i ∷ sessions_after ss i
 
-  -- all sessions are given theirs
-  pub sessions_after : (bs : List Subscriber) (ss : List Session) → AllByRecursion (IsThere bs) (map (λ (s : Session). s.number) ss) → map session_given (map (session_with bs) ss) ≡ map (session_with (after bs)) ss
-  sessions_after bs [] a = refl
-  sessions_after bs (s ∷ ss) a = λ i. session_after bs s a.0 i ∷ sessions_after bs ss a.1 i
+-- ---- who overflows
 
-  -- ---- who overflows
-
-  -- each session with its subscriber
-  abbrev pub Matches : List Subscriber → List Subscriber → List Session → Type 0
-  Matches bs [] [] = Unit {0}
-  Matches bs [] (s ∷ ss) = ⊥
-  Matches bs (c ∷ cs) [] = ⊥
-  Matches bs (c ∷ cs) (s ∷ ss) = (at bs s.number ≡ Some c) × (c.number ≡ s.number) × Matches bs cs ss
-
-  matches_on : (b : Subscriber) (bs cs : List Subscriber) (ss : List Session) → session_at ss b.number ≡ None → Matches bs cs ss → Matches (b ∷ bs) cs ss
-  matches_on b bs [] [] none m = tt
-  matches_on b bs [] (s ∷ ss) none m = absurd m
-  matches_on b bs (c ∷ cs) [] none m = absurd m
-  matches_on b bs (c ∷ cs) (s ∷ ss) none m = by (s.number == b.number) refl none (λ g. matches_on b bs cs ss g m.2)
-    where
-      by : (d : Bool) → (s.number == b.number) ≡ d → (if d then Some s else session_at ss b.number) ≡ None → (session_at ss b.number ≡ None → Matches (b ∷ bs) cs ss) → Matches (b ∷ bs) (c ∷ cs) (s ∷ ss)
-      by true e g ih = cc
-      by false e g ih = (ap (λ d. if d then Some b else at bs s.number) (differs' b.number s.number (λ q. Rattle.tab_model.proofs.SessionLists.other_number s.number b.number e (sym q))) ∙ m.0, m.1, ih g)
-
-  all_match : (bs : List Subscriber) (ss : List Session) → numbers bs ≡ map (λ (s : Session). s.number) ss → AreDistinct ss → Matches bs bs ss
-  all_match [] [] e d = tt
-  all_match [] (s ∷ ss) e d = cc
-  all_match (b ∷ bs) [] e d = cc
-  all_match (b ∷ bs) (s ∷ ss) e d =
-      let first : b.number ≡ s.number = head_is e in
-      (ap (λ k. if k == s.number then Some b else at bs s.number) first ∙ ap (λ q. if q then Some b else at bs s.number) (itself s.number), first, matches_on b bs bs ss (ap (session_at ss) first ∙ d.0) (all_match bs ss (tail_is e) d.1))
-    where
-      head_is : {k l : ℕ} {ks ls : List ℕ} → (k ∷ ks) ≡ (l ∷ ls) → k ≡ l
-      head_is q = cc
-
-      tail_is : {k l : ℕ} {ks ls : List ℕ} → (k ∷ ks) ≡ (l ∷ ls) → ks ≡ ls
-      tail_is q = cc
-
+module _ (h : List Watch → List Item) where
   abbrev pub owing : Session → Bool
   owing x = not (is_empty (h x.watching))
 
-  pins : (all : List ℕ) (bs cs : List Subscriber) (ss : List Session) → Matches bs cs ss → AreDecided all (map (λ (b : Subscriber). h b.watching) cs) cs → IsSplit (filter owing (map (session_with bs) ss)) (those_in all cs)
-  pins all bs [] [] m d = refl
-  pins all bs [] (s ∷ ss) m d = absurd m
-  pins all bs (c ∷ cs) [] m d = absurd m
-  pins all bs (c ∷ cs) (s ∷ ss) m d =
-      subst (λ o. IsSplit (if not (is_empty (h (watching_of o))) then dress o s ∷ filter owing (map (session_with bs) ss) else filter owing (map (session_with bs) ss)) (those_in all (c ∷ cs))) (sym m.0)
-      (by (h c.watching) d.0 (pins all bs cs ss m.2 d.1))
+  pins : (all : List ℕ) (ss : List Subscriber) → AreDecided all (map (λ (s : Subscriber). h s.watching) ss) ss → IsSplit (filter owing (map session_of ss)) (those_in all ss)
+  pins all [] d = refl
+  pins all (s ∷ ss) d = by (h s.watching) d.0 (pins all ss d.1)
     where
-      by : (items : List Item) → IsDecided (has_session all c.number) items c.outbox → IsSplit (filter owing (map (session_with bs) ss)) (those_in all cs)
-          → IsSplit (if not (is_empty items) then dress (Some c) s ∷ filter owing (map (session_with bs) ss) else filter owing (map (session_with bs) ss)) (joined_if (has_session all c.number) c.number (those_in all cs))
-      by [] e rest = subst (λ b. IsSplit (filter owing (map (session_with bs) ss)) (joined_if b c.number (those_in all cs))) (sym e) rest
-      by (i ∷ is) e rest = (has_session all c.number, those_in all cs, list_is (has_session all c.number) ∙ ap (λ k. if has_session all c.number then k ∷ those_in all cs else those_in all cs) m.1, e, rest)
+      by : (items : List Item) → IsDecided (has_session all s.number) items s.outbox → IsSplit (filter owing (map session_of ss)) (those_in all ss)
+          → IsSplit (if not (is_empty items) then session_of s ∷ filter owing (map session_of ss) else filter owing (map session_of ss)) (joined_if (has_session all s.number) s.number (those_in all ss))
+      by [] e rest = subst (λ b. IsSplit (filter owing (map session_of ss)) (joined_if b s.number (those_in all ss))) (sym e) rest
+      by (i ∷ is) e rest = (has_session all s.number, those_in all ss, list_is (has_session all s.number), e, rest)
         where
-          list_is : (b : Bool) → joined_if b c.number (those_in all cs) ≡ (if b then c.number ∷ those_in all cs else those_in all cs)
+          list_is : (b : Bool) → joined_if b s.number (those_in all ss) ≡ (if b then s.number ∷ those_in all ss else those_in all ss)
           list_is true = refl
           list_is false = refl
 
   -- those who overflowed are those whose posts refused, and no other could
-  pub are_pinned : (bs : List Subscriber) (ss : List Session) → numbers bs ≡ map (λ (s : Session). s.number) ss → AreDistinct ss → over ≡ those_in over bs → AreDecided over (map (λ (b : Subscriber). h b.watching) bs) bs → IsSplitByOverflow (filter owing (map (session_with bs) ss)) over
-  are_pinned bs ss same distinct is decided =
-      split_fits (filter owing (map (session_with bs) ss)) over (subst (IsSplit (filter owing (map (session_with bs) ss))) (sym is) (pins over bs bs ss (all_match bs ss same distinct) decided))
+  pub are_pinned : (over : List ℕ) (ss : List Subscriber) → over ≡ those_in over ss → AreDecided over (map (λ (s : Subscriber). h s.watching) ss) ss → IsSplitByOverflow (filter owing (map session_of ss)) over
+  are_pinned over ss is decided = split_fits (filter owing (map session_of ss)) over (subst (IsSplit (filter owing (map session_of ss))) (sym is) (pins over ss decided))
+
+-- ---- a session's transaction has no part in it
+
+abbrev bare : Subscriber → Subscriber
+bare s = record s { transaction = None }
+
+abbrev back : Session → Subscriber
+back x = record { number = x.number; transaction = None; watching = x.watching; outbox = x.outbox; overflow = x.overflow }
+
+back_bare : (ss : List Subscriber) → map back (map session_of ss) ≡ map bare ss
+back_bare [] = refl
+back_bare (s ∷ ss) = ap (λ ys. bare s ∷ ys) (back_bare ss)
+
+some_is : {x y : Session} → Some x ≡ Some y → x ≡ y
+some_is e = cc
+
+back_ended : (xs : List Session) (s : Session) → session_at xs s.number ≡ Some s → map back (with_changed xs (with_transaction s None)) ≡ map back xs
+back_ended [] s e = refl
+back_ended (x ∷ xs) s e = by (x.number == s.number) e (back_ended xs s)
+  where
+    by : (d : Bool) → (if d then Some x else session_at xs s.number) ≡ Some s → (session_at xs s.number ≡ Some s → map back (with_changed xs (with_transaction s None)) ≡ map back xs)
+        → map back (if d then with_transaction s None ∷ xs else x ∷ with_changed xs (with_transaction s None)) ≡ back x ∷ map back xs
+    by true g ih = ap (λ (y : Session). back y ∷ map back xs) (sym (some_is g))
+    by false g ih = ap (λ ys. back x ∷ ys) (ih g)
+
+-- the same sessions, but for their transactions
+abbrev pub SamePosts : List Subscriber → List Subscriber → Type 0
+SamePosts xs ys = map bare xs ≡ map bare ys
+
+pub same_ended : (ss ss' : List Subscriber) (s : Session) → session_at (map session_of ss) s.number ≡ Some s → map session_of ss' ≡ with_changed (map session_of ss) (with_transaction s None) → SamePosts ss' ss
+same_ended ss ss' s here is = sym (back_bare ss') ∙ ap (map back) is ∙ back_ended (map session_of ss) s here ∙ back_bare ss
+
+items_bare : (h : List Watch → List Item) (ss : List Subscriber) → map (λ (s : Subscriber). h s.watching) ss ≡ map (λ (s : Subscriber). h s.watching) (map bare ss)
+items_bare h [] = refl
+items_bare h (s ∷ ss) = ap (λ ys. h s.watching ∷ ys) (items_bare h ss)
+
+those_bare : (over : List ℕ) (ss : List Subscriber) → those_in over ss ≡ those_in over (map bare ss)
+those_bare over [] = refl
+those_bare over (s ∷ ss) = ap (joined_if (has_session over s.number) s.number) (those_bare over ss)
+
+decided_bare : (over : List ℕ) (items : List (List Item)) (ss : List Subscriber) → AreDecided over items ss → AreDecided over items (map bare ss)
+decided_bare over items [] d = tt
+decided_bare over items (s ∷ ss) d = (d.0, decided_bare over (rest_of items) ss d.1)
+
+bare_decided : (over : List ℕ) (items : List (List Item)) (ss : List Subscriber) → AreDecided over items (map bare ss) → AreDecided over items ss
+bare_decided over items [] d = tt
+bare_decided over items (s ∷ ss) d = (d.0, bare_decided over (rest_of items) ss d.1)
+
+pub same_items : (h : List Watch → List Item) (xs ys : List Subscriber) → SamePosts xs ys → map (λ (s : Subscriber). h s.watching) xs ≡ map (λ (s : Subscriber). h s.watching) ys
+same_items h xs ys e = items_bare h xs ∙ ap (map (λ (s : Subscriber). h s.watching)) e ∙ sym (items_bare h ys)
+
+pub same_those : (over : List ℕ) (xs ys : List Subscriber) → SamePosts xs ys → those_in over xs ≡ those_in over ys
+same_those over xs ys e = those_bare over xs ∙ ap (those_in over) e ∙ sym (those_bare over ys)
+
+pub same_decided : (over : List ℕ) (items : List (List Item)) (xs ys : List Subscriber) → SamePosts xs ys → AreDecided over items xs → AreDecided over items ys
+same_decided over items xs ys e d = bare_decided over items ys (subst (AreDecided over items) e (decided_bare over items xs d))

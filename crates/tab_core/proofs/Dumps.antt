@@ -1,5 +1,5 @@
 -- A dump has all records of its table.
-use Rattle.std.proofs.Common.{◌≡◌, ℕ, List, refl, sym, ap, ◌∙◌, Some}
+use Rattle.std.proofs.Common.{◌≡◌, ℕ, List, sym, ap, ◌∙◌, Some}
 use Rattle.std.specs.Prelude.{Bool, true}
 use Rattle.tab_term.specs.Data.{PlainTerms}
 use Rattle.tab_model.specs.Names.{plain_terms}

@@ -1,7 +1,4 @@
-pub mod Frames
 pub mod Delivering
-pub mod SoleSession
-pub mod NumbersStay
 pub mod Batches
 pub mod OwingLemmas
 pub mod RunsLemmas
@@ -10,5 +7,3 @@ pub mod TellsLemmas
 pub mod SessionsLemmas
 pub mod MarksLemmas
 pub mod Dumps
-pub mod SeenLemmas
-pub mod SoundLemmas

@@ -1,6 +1,6 @@
 -- What takes no memory, as the calls of a core see it.
-use Rattle.std.proofs.Common.{◌≡◌, ℕ, suc, ◌<◌, ◌≤◌, List, [], Bool, true, false, ◌||◌, ◌&&◌, not, refl, sym, ap, ◌∙◌, subst, arith, Option, Some, None}
-use Rattle.std.specs.Prelude.{◌^◌, ◌-◌, if◌then◌else◌, is_some, length, min, option_map}
+use Rattle.std.proofs.Common.{◌≡◌, ℕ, suc, ◌<◌, ◌≤◌, List, [], Bool, true, false, ◌&&◌, not, refl, sym, ap, ◌∙◌, subst, arith, Option, Some, None}
+use Rattle.std.specs.Prelude.{◌^◌, ◌-◌, if◌then◌else◌, is_some, length, min}
 use Rattle.std.proofs.lemmas.Bool.Decides.{nat_tests}
 use Rattle.tab_model.specs.declared.data.Command.{Command}
 use Rattle.tab_model.specs.declared.data.Command.TheVariants as command
@@ -8,31 +8,21 @@ use Rattle.tab_model.specs.declared.data.Level.{Level}
 use Rattle.tab_model.specs.declared.data.Reply.{Reply}
 use Rattle.tab_model.specs.declared.data.Reply.TheVariants as reply
 use Rattle.tab_model.specs.declared.data.Schema.{Schema}
-use Rattle.tab_model.specs.declared.ask.Ask.TheVariants.{Do as DoCommand, Retry}
-use Rattle.tab_model.specs.Outcome.{Ask, Outcome, outcome, step_without_entry, step_of, commit, has_room, is_abort, is_empty, is_at, schema, subscribe_refusal, unsubscribe_refusal}
-use Rattle.tab_model.proofs.StepCases.{commit_at, command_if, subscribe_if, unsubscribe_if}
+use Rattle.tab_model.specs.declared.ask.Ask.TheVariants.{Do as DoCommand}
+use Rattle.tab_model.specs.Outcome.{Ask, Outcome, outcome, step_without_entry, has_room, is_abort, is_at, schema, subscribe_refusal, unsubscribe_refusal}
+use Rattle.tab_model.proofs.StepCases.{command_if, subscribe_if, unsubscribe_if}
 use Rattle.tab_model.specs.Run.{IsSplitByOverflow, put_ask, put_schema}
 use Rattle.tab_model.proofs.Splits.{none_handed}
 use Rattle.tab_model.specs.Schemas.{table_of_schema}
 use Rattle.tab_model.specs.Standing.{levels_in, levels_of}
-use Rattle.tab_model.specs.State as plain
 use Rattle.tab_model.specs.State.{Transaction, Session, State, session_at, is_busy, is_waiting, level_in, mid_of, transaction_at, transaction_in}
 use Rattle.tab_model.proofs.SessionLists.{found}
 use Rattle.tab_manager.specs.declared.step.Stepped.{Stepped}
-use Rattle.tab_manager.specs.Outermost.{outermost, outermost_of}
-use Rattle.tab_manager.specs.Steps as manager
-use Rattle.tab_manager.specs.Steps.{asks_for_none, is_told_for_none, tells_for_none}
-use Rattle.tab_manager.proofs.StepsLemmas.{both_ways, schema_takes}
-use Rattle.tab_subs.specs.Subscribers.{Subscriber}
-use Rattle.tab_core.specs.Runs.{StepsTo, takes_no_memory}
-use Rattle.tab_core.specs.SessionLists.{session_with, state_with}
+use Rattle.tab_manager.specs.Steps.{is_told_for_none, tells_for_none}
+use Rattle.tab_manager.proofs.StepsLemmas.{schema_takes}
+use Rattle.tab_core.specs.Runs.{StepsTo}
 use Rattle.tab_core.specs.Subscribing.{inside_refusal, refused_by}
-use Rattle.tab_core.proofs.Frames.{at_dressed, transactions_dressed, IsQuiet, quiet_command, quiet_retry}
-use Rattle.tab_core.proofs.OwingLemmas.{idles, is_ending}
-
-at_session : (ρ : State) (n : ℕ) (a : Ask) (o : Option Session) → session_at ρ.sessions n ≡ o → outcome ρ [] n a ≡ step_of ρ [] n a o
-unfolding outcome
-at_session ρ n a o e = ap (step_of ρ [] n a) e
+use Rattle.tab_core.proofs.SessionsLemmas.{at_session}
 
 abbrev tells : State → ℕ → Command → Reply → Bool
 tells ρ n c = tells_for_none (is_some (transaction_at ρ n)) (DoCommand c)
@@ -58,7 +48,7 @@ module _ (ρ : State) (n : ℕ) where
       by : (x : Option Session) → session_at ρ.sessions n ≡ x → o ≡ refused_by ρ n f x → is_told_for_none ρ n (DoCommand c) ≡ false
       by None e g = absurd (not_named reply.BadSession refl g)
       by (Some s) e g =
-          ap (λ (x : Outcome). tells ρ n c x.reply) (at_session ρ n (DoCommand c) (Some s) e)
+          ap (λ (x : Outcome). tells ρ n c x.reply) (at_session ρ [] n (DoCommand c) (Some s) e)
           ∙ by_wait s (is_waiting ρ s.number) refl (g ∙ ap (λ k. if is_waiting ρ k then Some reply.WaitingNow else f s) (sym (found ρ.sessions s n e)))
 
   pub subscribe_told : (t : List ℕ) (l : Level) (dump : Bool) (o : Option Reply) → o ≡ refused_by ρ n (λ s. subscribe_refusal ρ s t) (session_at ρ.sessions n) → Named (command.Subscribe t l dump) o → is_told_for_none ρ n (DoCommand (command.Subscribe t l dump)) ≡ false
@@ -100,10 +90,10 @@ module _ (ρ : State) (n : ℕ) where
       by_wait s false (Some t) e g = (ap (put_schema ρ c) e, ap (schema ρ [] c) e ∙ ap (step_without_entry ρ) (one g))
 
       by : (o : Option Session) → session_at ρ.sessions n ≡ o → Some r ≡ refused_by ρ n inside_refusal o → IsSplitByOverflow (put_ask ρ a (session_at ρ.sessions n)) [] × (outcome ρ [] n a ≡ step_without_entry ρ r)
-      by None m g = (subst (λ ss. IsSplitByOverflow ss []) (sym (ap (put_ask ρ a) m)) none_handed, at_session ρ n a None m ∙ ap (step_without_entry ρ) (one g))
+      by None m g = (subst (λ ss. IsSplitByOverflow ss []) (sym (ap (put_ask ρ a) m)) none_handed, at_session ρ [] n a None m ∙ ap (step_without_entry ρ) (one g))
       by (Some s) m g =
           let q = by_wait s (is_waiting ρ s.number) s.transaction refl (g ∙ ap (λ k. if is_waiting ρ k then Some reply.WaitingNow else inside_refusal s) (sym (found ρ.sessions s n m))) in
-          (subst (λ ss. IsSplitByOverflow ss []) (sym (ap (put_ask ρ a) m ∙ q.0)) none_handed, at_session ρ n a (Some s) m ∙ q.1)
+          (subst (λ ss. IsSplitByOverflow ss []) (sym (ap (put_ask ρ a) m ∙ q.0)) none_handed, at_session ρ [] n a (Some s) m ∙ q.1)
 
   -- whether it stands in a transaction, by its levels
   shown : (k : ℕ) → k ≡ 0 → 0 < min k (2 ^ 64 - 1) → ⊥
@@ -147,83 +137,3 @@ module _ (ρ : State) (n : ℕ) where
       by : (o : Option Session) → Some r ≡ refused_by ρ n (λ s. None) o → Some r ≡ refused_by ρ n f o
       by None g = g
       by (Some s) g = by_wait s (is_waiting ρ n) g
-
--- ---- steps of the manager
-
-module _ (bs : List Subscriber) (σ : State) (n : ℕ) where
-  asks_dressed : (c : Command) → asks_for_none σ n (DoCommand c) ≡ asks_for_none (state_with bs σ) n (DoCommand c)
-  asks_dressed (command.Schema x) = refl
-  asks_dressed (command.TableInfo t i) = refl
-  asks_dressed command.Begin = refl
-  asks_dressed command.Commit = ap (λ o. is_empty (plain.moves_in o)) (sym (transactions_dressed bs σ n))
-  asks_dressed (command.Abort r) = refl
-  asks_dressed (command.Do o) = refl
-  asks_dressed (command.Subscribe t l d) = refl
-  asks_dressed (command.Unsubscribe t l) = refl
-  asks_dressed (command.OneShot parts retries) = refl
-
-  -- what takes no memory of the core takes none of the manager
-  quiet_free : (c : Command) → ((s : Session) → session_at σ.sessions n ≡ Some s → (is_waiting σ s.number && not (is_abort c)) ≡ false → IsQuiet bs σ s.transaction c) → takes_no_memory (state_with bs σ) n (DoCommand c) ≡ true → manager.takes_no_memory σ n (DoCommand c) ≡ true
-  quiet_free c quiet h = (λ i. asks_dressed c i || tells_for_none (is_some (sym (transactions_dressed bs σ n) i)) (DoCommand c) (Outcome.reply (sym (quiet_command bs σ [] n c quiet) i))) ∙ h
-
-  retry_free : takes_no_memory (state_with bs σ) n Retry ≡ true → manager.takes_no_memory σ n Retry ≡ true
-  retry_free h = (λ i. not (is_waiting σ n) || tells_for_none (is_some (sym (transactions_dressed bs σ n) i)) Retry (Outcome.reply (sym (quiet_retry bs σ [] n) i))) ∙ h
-
-  command_free : (c : Command) → (c ≡ command.Commit → ⊥) → ((x : Schema) → c ≡ command.Schema x → ⊥) → ((t : List ℕ) (l : Level) (d : Bool) → c ≡ command.Subscribe t l d → ⊥) → ((t : List ℕ) (l : Level) → c ≡ command.Unsubscribe t l → ⊥)
-      → takes_no_memory (state_with bs σ) n (DoCommand c) ≡ true → manager.takes_no_memory σ n (DoCommand c) ≡ true
-  command_free (command.Schema x) a b d e h = absurd (b x refl)
-  command_free (command.TableInfo t i) a b d e h = quiet_free (command.TableInfo t i) (λ r g w. tt) h
-  command_free command.Begin a b d e h = quiet_free command.Begin (λ r g w. tt) h
-  command_free command.Commit a b d e h = absurd (a refl)
-  command_free (command.Abort r) a b d e h = refl
-  command_free (command.Do o) a b d e h = quiet_free (command.Do o) (λ r g w. tt) h
-  command_free (command.Subscribe t l dump) a b d e h = absurd (d t l dump refl)
-  command_free (command.Unsubscribe t l) a b d e h = absurd (e t l refl)
-  command_free (command.OneShot parts retries) a b d e h = quiet_free (command.OneShot parts retries) (λ r g w. tt) h
-
-  -- a commit that ends no outermost transaction
-  inner_free : outermost σ n ≡ None → takes_no_memory (state_with bs σ) n (DoCommand command.Commit) ≡ true → manager.takes_no_memory σ n (DoCommand command.Commit) ≡ true
-  inner_free none h = quiet_free command.Commit (λ r g w. quiet r g (waits r (is_waiting σ r.number) refl w)) h
-    where
-      waits : (r : Session) (b : Bool) → is_waiting σ r.number ≡ b → (b && true) ≡ false → is_waiting σ r.number ≡ false
-      waits r true e w = cc
-      waits r false e w = e
-
-      quiet : (r : Session) → session_at σ.sessions n ≡ Some r → is_waiting σ r.number ≡ false → outermost_of σ r.transaction ≡ None
-      quiet r g w =
-          ap (outermost_of σ) (sym (ap transaction_in g))
-          ∙ sym (ap (λ b. if b then None else outermost_of σ (transaction_at σ n)) (ap (is_waiting σ) (sym (found σ.sessions r n g)) ∙ w))
-          ∙ none
-
-  module _ (t : Transaction) (ends : outermost σ n ≡ Some t) where
-    -- one that does is told its number
-    commit_told : is_told_for_none (state_with bs σ) n (DoCommand command.Commit) ≡ false
-    commit_told =
-        let e = is_ending σ n t ends in
-        let here : session_at (state_with bs σ).sessions n ≡ Some (session_with bs e.slot) = at_dressed bs σ.sessions n ∙ ap (option_map (session_with bs)) e.here in
-        ap (λ (x : Outcome). tells (state_with bs σ) n command.Commit x.reply)
-        (idles (state_with bs σ) [] n (session_with bs e.slot) command.Commit here e.idle ∙ ap (commit (state_with bs σ) [] (session_with bs e.slot)) e.opened ∙ ap (commit_at (state_with bs σ) [] (session_with bs e.slot) t) e.deep)
-
-    pub did_nothing : takes_no_memory (state_with bs σ) n (DoCommand command.Commit) ≡ true → asks_for_none (state_with bs σ) n (DoCommand command.Commit) ≡ true
-    did_nothing h = both_ways (asks_for_none (state_with bs σ) n (DoCommand command.Commit)) (is_told_for_none (state_with bs σ) n (DoCommand command.Commit)) h (λ e. e) (λ e. let no : true ≡ false = sym e ∙ commit_told in cc)
-
-    ended_free : takes_no_memory (state_with bs σ) n (DoCommand command.Commit) ≡ true → manager.takes_no_memory σ n (DoCommand command.Commit) ≡ true
-    ended_free h = ap (λ b. b || is_told_for_none σ n (DoCommand command.Commit)) (asks_dressed command.Commit ∙ did_nothing h)
-
-  pub commit_free : takes_no_memory (state_with bs σ) n (DoCommand command.Commit) ≡ true → manager.takes_no_memory σ n (DoCommand command.Commit) ≡ true
-  commit_free h = by (outermost σ n) refl
-    where
-      by : (o : Option Transaction) → outermost σ n ≡ o → manager.takes_no_memory σ n (DoCommand command.Commit) ≡ true
-      by None e = inner_free e h
-      by (Some t) e = ended_free t e h
-
--- the same, of the core's state
-pub seen_free : (bs : List Subscriber) (σ ρ : State) (n : ℕ) (c : Command) → state_with bs σ ≡ ρ → (c ≡ command.Commit → ⊥) → ((x : Schema) → c ≡ command.Schema x → ⊥) → ((t : List ℕ) (l : Level) (d : Bool) → c ≡ command.Subscribe t l d → ⊥) → ((t : List ℕ) (l : Level) → c ≡ command.Unsubscribe t l → ⊥)
-    → takes_no_memory ρ n (DoCommand c) ≡ true → manager.takes_no_memory σ n (DoCommand c) ≡ true
-seen_free bs σ ρ n c view a b d e h = command_free bs σ n c a b d e (subst (λ (μ : State). takes_no_memory μ n (DoCommand c) ≡ true) (sym view) h)
-
-pub seen_commit_free : (bs : List Subscriber) (σ ρ : State) (n : ℕ) → state_with bs σ ≡ ρ → takes_no_memory ρ n (DoCommand command.Commit) ≡ true → manager.takes_no_memory σ n (DoCommand command.Commit) ≡ true
-seen_commit_free bs σ ρ n view h = commit_free bs σ n (subst (λ (μ : State). takes_no_memory μ n (DoCommand command.Commit) ≡ true) (sym view) h)
-
-pub seen_retry_free : (bs : List Subscriber) (σ ρ : State) (n : ℕ) → state_with bs σ ≡ ρ → takes_no_memory ρ n Retry ≡ true → manager.takes_no_memory σ n Retry ≡ true
-seen_retry_free bs σ ρ n view h = retry_free bs σ n (subst (λ (μ : State). takes_no_memory μ n Retry ≡ true) (sym view) h)

@@ -1,5 +1,7 @@
 -- What a commit owes to those who watch the tables that it changes (Mnesia User's Guide, "Mnesia Event Handling").
 use Rattle.std.specs.Prelude.{◌≡◌, ℕ, List, Bool, true, false, Option, Some, None}
+use Rattle.tab_model.specs.declared.data.Entry.{Entry}
+use Rattle.tab_model.specs.declared.data.Entry.TheVariants.{Committed, Changed, Subscribed, Unsubscribed}
 use Rattle.std.specs.List.{filter, list_any}
 use Rattle.tab_model.specs.declared.data.Change.{Change}
 use Rattle.tab_model.specs.declared.data.Event.{Event}
@@ -34,3 +36,10 @@ pub record Commits (σ : State) (bs : List Subscriber) (n : ℕ) (u : Updated) :
   pub transaction : Transaction
   pub ends : outermost σ n ≡ Some transaction
   pub updates : Updates σ.tables bs transaction.age (surviving_changes transaction.moves transaction.told) u
+
+-- an entry with those who overflowed in it
+abbrev pub with_overflowed : List ℕ → Entry → Entry
+with_overflowed over (Committed n s age moves told none) = Committed n s age moves told over
+with_overflowed over (Changed c none) = Changed c over
+with_overflowed over (Subscribed s t l dump) = Subscribed s t l dump
+with_overflowed over (Unsubscribed s t) = Unsubscribed s t

@@ -1,6 +1,6 @@
 //! Outermost commits and schema commands, with what they owe to who watches.
 
-ghost use Rattle.std.specs.Prelude.{◌≡◌, ◌+◌, ◌∷◌, ◌++◌, [], IfOk, IsOk, OnOk, OnErr, IsTrue};
+ghost use Rattle.std.specs.Prelude.{◌≡◌, ◌+◌, ◌∷◌, ◌++◌, [], None, IfOk, IsOk, OnOk, OnErr, IsTrue};
 ghost use Rattle.std.specs.List.{filter};
 ghost use Rattle.tab_model.specs.declared.data.Command.TheVariants as command;
 ghost use Rattle.tab_model.specs.declared.ask.Ask.TheVariants.{Do as DoCommand};
@@ -8,14 +8,15 @@ ghost use Rattle.tab_model.specs.Events.{event_of};
 ghost use Rattle.tab_model.specs.State.{session_at};
 ghost use Rattle.tab_core.specs.Owing.{are_watched as are_watched_by, is_watched, Commits, Owes, Updates};
 ghost use Rattle.tab_core.specs.Runs.{StepsTo, takes_no_memory};
-ghost use Rattle.tab_core.specs.SessionLists.{state_with, IsKept};
+ghost use Rattle.tab_manager.specs.Parts.{parts_of, state_with};
+ghost use Rattle.tab_manager.specs.Kept.{IsKept};
 ghost use Rattle.tab_core.specs.Subscribing.{inside_refusal, refused_by};
 
 use crate::Core;
 use crate::step::with_overflowed;
 use std::alloc::{AllocError, Global};
-use tab_manager::{Ending, Manager, Stepped};
-use tab_model::{Command, Event, Reply, Schema};
+use tab_manager::{Ending, Machine, Stepped};
+use tab_model::{Event, Reply, Schema};
 use tab_outbox::Post;
 use tab_rows::Update;
 use tab_subs::Subs;
@@ -55,15 +56,15 @@ impl<P: Post + Drop> Core<P> {
             → IsOk result }
         ensures err { OnErr result (self.new ≡ self.old) }
     {
-        let Some(ending) = self.manager.outermost(session) else {
-            return self.manager.command(session, Command::Commit);
+        let Some(ending) = self.machine.outermost(&self.subs, session) else {
+            return self.machine.commit(&mut self.subs, session);
         };
-        let Some(updated) = expected(self.alloc, self.manager.tables(), &self.subs, &ending)? else {
-            return self.manager.command(session, Command::Commit);
+        let Some(updated) = expected(self.alloc, &self.machine.catalog, &self.subs, &ending)? else {
+            return self.machine.commit(&mut self.subs, session);
         };
         deliver_commit(
             self.alloc,
-            &mut self.manager,
+            &mut self.machine,
             &mut self.subs,
             session,
             updated,
@@ -100,16 +101,18 @@ impl<P: Post + Drop> Core<P> {
 
     /// A table's deletion owes end markers; no other schema command owes anything.
     fn redefine(&mut self, session: u32, schema: Schema) -> Result<Stepped, AllocError>
+        requires free { None
+            ≡ refused_by self.old session inside_refusal (session_at self.old.sessions session) }
         ensures done { IfOk result
             (λ s. StepsTo self.old session (DoCommand (command.Schema schema)) s self.new) }
         ensures err { OnErr result (self.new ≡ self.old) }
     {
         let Schema::Remove(table) = &schema else {
-            return self.manager.command(session, Command::Schema(schema));
+            return self.machine.schema(schema);
         };
-        let number = next_commit(&self.manager)?;
+        let number = next_commit(&self.machine)?;
         let prepared = self.subs.prepare_end(self.alloc, table, number)?;
-        let stepped = self.manager.command(session, Command::Schema(schema))?;
+        let stepped = self.machine.schema(schema)?;
         if stepped.entry.is_none() {
             return Ok(stepped);
         }
@@ -121,31 +124,31 @@ impl<P: Post + Drop> Core<P> {
 /// A commit whose tables and events are made. A refusal leaves all as it was.
 fn deliver_commit<P: Post + Drop>(
     alloc: Global,
-    manager: &mut Manager,
+    machine: &mut Machine,
     subs: &mut Subs<P>,
     session: u32,
     updated: Updated,
 ) -> Result<Stepped, AllocError>
-    requires kept { IsKept subs.old manager.old }
-    requires ends { Commits manager.old subs.old session updated }
+    requires kept { IsKept (parts_of machine.old subs.old) }
+    requires ends { Commits (state_with machine.old subs.old) subs.old session updated }
     ensures done { IfOk result
-        (λ s. StepsTo (state_with subs.old manager.old) session (DoCommand command.Commit) s
-        (state_with subs.new manager.new)) }
-    ensures kept { IsKept subs.new manager.new }
-    ensures err { OnErr result (state_with subs.new manager.new ≡ state_with subs.old manager.old) }
+        (λ s. StepsTo (state_with machine.old subs.old) session (DoCommand command.Commit) s
+        (state_with machine.new subs.new)) }
+    ensures kept { IsKept (parts_of machine.new subs.new) }
+    ensures err { OnErr result (state_with machine.new subs.new ≡ state_with machine.old subs.old) }
 {
-    let number = next_commit(manager)?;
+    let number = next_commit(machine)?;
     let prepared = subs.prepare(alloc, number, &updated.events)?;
-    let stepped = manager.commit(session, updated.into_tables());
+    let stepped = machine.commit_as(subs, session, updated.into_tables());
     let over = subs.deliver(prepared);
     Ok(with_overflowed(stepped, over))
 }
 
 // A number past a machine word is memory that is not there.
-fn next_commit(manager: &Manager) -> Result<u64, AllocError>
-    ensures { IfOk result (λ number. number ≡ manager.now.commits + 1) }
+fn next_commit(machine: &Machine) -> Result<u64, AllocError>
+    ensures { IfOk result (λ number. number ≡ machine.now.commits + 1) }
 {
-    match manager.commits().checked_add(1) {
+    match machine.commits.checked_add(1) {
         Some(number) => Ok(number),
         None => Err(AllocError),
     }

@@ -1,4 +1,4 @@
-//! The core: a machine of steps over tables, sessions with their transactions, and what each of them watches.
+//! The core: a machine of steps over tables and one list of sessions, each with its transaction, what it watches and its post.
 //!
 //! Contracts see a core as one plain state (`State` of tab_model), and a step is a function of it (`outcome`) and of
 //! which posts refuse. Of a one-shot a step opens level 1 alone: its driver does the rest.
@@ -23,7 +23,7 @@ mod subscribing;
 
 use std::alloc::{AllocError, Global};
 use std::marker::Model;
-use tab_manager::Manager;
+use tab_manager::Machine;
 pub use tab_manager::{Rest, SESSIONS, Stepped};
 pub use tab_model::Ask as Step;
 use tab_model::{Command, Limits, Reply, SharedReply};
@@ -39,7 +39,7 @@ use tab_tables::Catalog;
 #[derive(Drop)]
 pub struct Core<P: Post> {
     alloc: Global,
-    manager: Manager,
+    machine: Machine,
     subs: Subs<P>,
 }
 
@@ -47,15 +47,16 @@ impl<P: Post> Model for Core<P> {
     ghost use Rattle.std.specs.Coded.{codes};
     ghost use Rattle.tab_term.specs.Code.{term_code, terms_code, pairs_code};
     ghost use Rattle.tab_model.specs.State.{State};
-    ghost use Rattle.tab_core.specs.SessionLists.{state_with, IsKept};
+    ghost use Rattle.tab_manager.specs.Parts.{parts_of, state_with};
+    ghost use Rattle.tab_manager.specs.Kept.{IsKept};
 
     ghost Value = { State };
 
     ghost coded = { Prim.hlevel (codes, term_code, terms_code, pairs_code) };
 
-    ghost view = { λ a. state_with a.subs a.manager };
+    ghost view = { λ a. state_with a.machine a.subs };
 
-    ghost invariant = { λ a. IsKept a.subs a.manager };
+    ghost invariant = { λ a. IsKept (parts_of a.machine a.subs) };
 }
 
 impl<P: Post + Drop> Core<P> {
@@ -66,7 +67,7 @@ impl<P: Post + Drop> Core<P> {
     {
         Core {
             alloc,
-            manager: Manager::new(alloc, limits),
+            machine: Machine::new(alloc, limits),
             subs: Subs::new(alloc),
         }
     }
@@ -83,7 +84,7 @@ impl<P: Post + Drop> Core<P> {
     {
         let stepped = self.make(session, step);
         // Known of the core from here on is that it is sound.
-        let _ = &self.manager;
+        let _ = &self.machine;
         stepped
     }
 
@@ -113,7 +114,7 @@ impl<P: Post + Drop> Core<P> {
     {
         let stepped = self.do_command(session, command);
         // Known of the core from here on is that it is sound.
-        let _ = &self.manager;
+        let _ = &self.machine;
         stepped
     }
 
@@ -127,7 +128,7 @@ impl<P: Post + Drop> Core<P> {
             Command::Schema(schema) => self.schema(session, schema),
             Command::Subscribe(table, level, dump) => self.subscribe(session, table, level, dump),
             Command::Unsubscribe(table, level) => self.unsubscribe(session, table, level),
-            command => self.manager.command(session, command),
+            command => self.machine.command(&mut self.subs, session, command),
         }
     }
 
@@ -150,7 +151,7 @@ impl<P: Post + Drop> Core<P> {
         ensures rising { IsRising self.new }
     {
         // Known of the core from here on is that it is sound.
-        let _ = &self.manager;
+        let _ = &self.machine;
         let mut replies = Vec::with_capacity(alloc, steps.len())?;
         for (session, step) in steps {
             let reply = self.step_reply(session, step);
@@ -174,6 +175,6 @@ impl<P: Post + Drop> Core<P> {
     pub fn tables(&self) -> &Catalog
         ensures { result.now ≡ self.now.tables }
     {
-        self.manager.tables()
+        &self.machine.catalog
     }
 }

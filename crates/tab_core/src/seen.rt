@@ -15,31 +15,31 @@ impl<P: Post + Drop> Core<P> {
     pub fn joined(&self, session: u64) -> bool
         ensures { result ≡ is_joined self.now session }
     {
-        self.subs.post(session).is_some()
+        self.subs.place(session).is_some()
     }
 
     /// Whether the session waits for a lock.
     pub fn waits(&self, session: u32) -> bool
         ensures { result ≡ is_waiting self.now session }
     {
-        self.manager.waits(session)
+        self.machine.waits(session)
     }
 
     /// How the session's rest stands: whether it was restarted for a lock that is not free yet.
     pub fn rest(&self, session: u32) -> Rest {
-        self.manager.rest(session)
+        self.machine.rest(&self.subs, session)
     }
 
     /// The sessions that wait and would be granted their lock now, or rest and may go on.
     pub fn ready(&self) -> ArrayVec<u32, SESSIONS> {
-        self.manager.ready()
+        self.machine.ready(&self.subs)
     }
 
     /// Whether some session waits or rests.
     pub fn has_waiters(&self) -> bool
         ensures { IsFalse result → self.now.queue ≡ [] }
     {
-        self.manager.has_waiters()
+        self.machine.has_waiters()
     }
 
     /// Whether the session's number and the limit of sessions let it join.
@@ -48,21 +48,21 @@ impl<P: Post + Drop> Core<P> {
             ≡ (nat_lt self.now.greatest session && nat_lt
             (length self.now.sessions) self.now.limits.sessions) }
     {
-        self.manager.admits(session)
+        self.machine.admits(&self.subs, session)
     }
 
     /// The greatest number that has joined.
     pub fn greatest(&self) -> u32
         ensures { result ≡ self.now.greatest }
     {
-        self.manager.greatest()
+        self.machine.greatest
     }
 
     /// How many levels the session has open, up to the greatest 64 bit number.
     pub fn levels(&self, session: u32) -> u64
         ensures { result ≡ min (levels_of self.now session) (2 ^ 64 - 1) }
     {
-        self.manager.levels(session)
+        self.machine.levels(&self.subs, session)
     }
 
     /// The post of a session that is joined.

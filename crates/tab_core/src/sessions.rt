@@ -22,12 +22,7 @@ impl<P: Post + Drop> Core<P> {
             → IsOk result }
         ensures err { OnErr result (self.new ≡ self.old) }
     {
-        if !self.manager.admits(session) {
-            drop(post);
-            return Ok(self.manager.join(session));
-        }
-        self.subs.join(self.alloc, session as u64, post)?;
-        Ok(self.manager.join(session))
+        self.machine.join(&mut self.subs, session, post)
     }
 
     /// The session's transaction, locks, request, subscriptions and post are gone. Takes no memory.
@@ -36,9 +31,7 @@ impl<P: Post + Drop> Core<P> {
         ensures sound { IsSound self.new }
         ensures rising { IsRising self.new }
     {
-        let stepped = self.manager.leave(session);
-        self.subs.leave(session as u64);
-        stepped
+        self.machine.leave(&mut self.subs, session)
     }
 
     /// The session asks again for the lock that it waits for: whole or, where memory that it takes is refused, not at all.
@@ -49,7 +42,7 @@ impl<P: Post + Drop> Core<P> {
         ensures sound { IsSound self.new }
         ensures rising { IsRising self.new }
     {
-        self.manager.retry(session)
+        self.machine.retry(&mut self.subs, session)
     }
 
     /// The next item of the session's post, else an overflow that it was not told yet. Takes no memory.

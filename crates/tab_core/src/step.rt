@@ -1,7 +1,7 @@
 //! A step with those whose posts refused its items.
 
 ghost use Rattle.std.specs.Prelude.{◌≡◌, option_map};
-ghost use Rattle.tab_core.specs.SessionLists.{with_overflowed as with_overflowed_of};
+ghost use Rattle.tab_core.specs.Owing.{with_overflowed as with_overflowed_of};
 
 use tab_manager::Stepped;
 use tab_model::{Entry, Numbers};

@@ -41,7 +41,7 @@ impl<P: Post + Drop> Core<P> {
         if let Some(refusal) = self.subscribe_refusal(session, &table)? {
             return Ok(Stepped::without_entry(refusal));
         }
-        let records = dump_of(self.alloc, self.manager.tables(), &table, dump)?;
+        let records = dump_of(self.alloc, &self.machine.catalog, &table, dump)?;
         let named = table.try_clone(self.alloc)?;
         let marked = self
             .subs
@@ -73,7 +73,7 @@ impl<P: Post + Drop> Core<P> {
         if self.subs.overflow(session as u64).is_some() {
             return Ok(Some(Reply::OverflowUntold));
         }
-        if self.manager.tables().table(table).is_none() {
+        if self.machine.catalog.table(table).is_none() {
             return Ok(Some(Reply::UnknownTable(table.try_clone(self.alloc)?)));
         }
         if self.subs.level(session as u64, table).is_some() {
@@ -87,10 +87,10 @@ impl<P: Post + Drop> Core<P> {
         ensures { result
             ≡ refused_by self.now session (λ s. None) (session_at self.now.sessions session) }
     {
-        if !self.manager.joined(session) {
+        if self.subs.place(session as u64).is_none() {
             return Some(Reply::BadSession);
         }
-        if self.manager.waits(session) {
+        if self.machine.waits(session) {
             return Some(Reply::WaitingNow);
         }
         None

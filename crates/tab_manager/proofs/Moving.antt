@@ -18,7 +18,7 @@ use Rattle.tab_model.specs.Operations.{table_of}
 use Rattle.tab_model.specs.Catalogs.{Table, find}
 use Rattle.tab_model.specs.State as plain
 use Rattle.tab_model.specs.State.{Session, State, with_age, locks_held_by, locks_held_in, locks_queued_in, mid_of}
-use Rattle.tab_model.specs.Outcome.{is_empty, step_without_entry, with_session, with_transaction, ends_transaction, reply_or, make}
+use Rattle.tab_model.specs.Outcome.{is_empty, step_without_entry, with_session, ends_transaction, reply_or, make}
 use Rattle.tab_model.proofs.StepCases.{after_move}
 use Rattle.tab_model.proofs.SessionLists.{itself}
 use Rattle.tab_model.proofs.StepsBySession.{lock_of_move, locks-more}
@@ -26,17 +26,16 @@ use Rattle.tab_model.proofs.SurvivorsRight.{reply_tells}
 use Rattle.tab_model.proofs.ReachedWaits.{aged_append}
 use Rattle.tab_txstore.specs.Stores.{Store, store_next, Fits}
 use Rattle.tab_txstore.proofs.FitsLemmas.{fits_next}
-use Rattle.tab_manager.specs.declared.session.Transaction as kept
-use Rattle.tab_manager.specs.declared.session.Session as code
+use Rattle.tab_subs.specs.declared.transaction.Transaction as kept
 use Rattle.tab_manager.specs.declared.queue.Request as request
-use Rattle.tab_manager.specs.declared.machine.Machine.{Machine}
 use Rattle.tab_manager.specs.declared.operating.Worked.{Worked}
-use Rattle.tab_manager.specs.SessionLists.{transaction_of, session_of, queued_of, state_of, IsHeldAt}
-use Rattle.tab_manager.specs.Works.{with_store, ended, Works}
+use Rattle.tab_manager.specs.Works.{with_store, Works}
 use Rattle.tab_manager.specs.Kept.{opens, Agree, IsKept}
 use Rattle.tab_manager.proofs.HeldLocks.{any_without}
 use Rattle.tab_manager.proofs.Keeping as keep
-use Rattle.tab_manager.proofs.Keeping.{the_session, state_with}
+use Rattle.tab_manager.proofs.Keeping.{ended, the_session, state_after, with_transaction}
+use Rattle.tab_subs.specs.Subscribers.{Subscriber, IsHeldAt}
+use Rattle.tab_manager.specs.Parts.{Parts, queued_of, session_of, state_of, transaction_of}
 
 pub empty_counts : {A : Type 0} (xs : List A) → is_empty xs ≡ (length xs == 0)
 empty_counts [] = refl
@@ -49,10 +48,10 @@ and_swap false true = refl
 and_swap false false = refl
 
 -- a session whose transaction has another store
-abbrev pub moved : code.Session → kept.Transaction → Store → code.Session
-moved s t st = record { number = s.number; transaction = Some (with_store t st) }
+abbrev pub moved : Subscriber → kept.Transaction → Store → Subscriber
+moved s t st = with_transaction s (Some (with_store t st))
 
-abbrev pub moved_if : Bool → code.Session → kept.Transaction → Store → code.Session
+abbrev pub moved_if : Bool → Subscriber → kept.Transaction → Store → Subscriber
 moved_if over s t st = if over then ended s else moved s t st
 
 locks_next : (t : kept.Transaction) (committed : Option Table) (x : Move) (r : Option Reply) → locks_held_by (Some (transaction_of (with_store t (store_next committed t.store x r)))) ≡ locks_held_by (Some (transaction_of t)) ++ with_age t.age (lock_of_move x)
@@ -76,8 +75,8 @@ without_twice a (x ∷ xs) = by (x.0 == a) refl (without_twice a xs)
     by true e ih = ih
     by false e ih = ap (λ b. if not b then x ∷ without a (without a xs) else without a (without a xs)) e ∙ ap (λ ys. x ∷ ys) ih
 
-module _ (m : Machine) (n i : ℕ) (k : IsKept m) (there : IsHeldAt m.sessions.items n i) (t : kept.Transaction) (open_t : (the_session m n i).transaction ≡ Some t) where
-  abbrev s : code.Session
+module _ (m : Parts) (n i : ℕ) (k : IsKept m) (there : IsHeldAt m.sessions n i) (t : kept.Transaction) (open_t : (the_session m n i).transaction ≡ Some t) where
+  abbrev s : Subscriber
   s = the_session m n i
 
   abbrev σ : State
@@ -88,12 +87,12 @@ module _ (m : Machine) (n i : ℕ) (k : IsKept m) (there : IsHeldAt m.sessions.i
 
   -- THE MOVE
   pub moves : (qs : List request.Request) (committed : Option Table) (x : Move) (r : Option Reply) (d : Reply) (over : Bool) → reply_to (mid_of σ tr) x ≡ r → ends_transaction (mid_of σ tr) x ≡ over
-      → make (state_with m m.sessions.items qs) (session_of s) tr x d ≡ step_without_entry (state_with m (set m.sessions.items i (moved_if over s t (store_next committed t.store x r))) qs) (reply_or r d)
+      → make (state_after m m.sessions qs) (session_of s) tr x d ≡ step_without_entry (state_after m (set m.sessions i (moved_if over s t (store_next committed t.store x r))) qs) (reply_or r d)
   moves qs committed x r d over h e =
-      (λ j. step_without_entry (with_session (state_with m m.sessions.items qs) (with_transaction (session_of s) (after_move tr x (h j) (e j)))) (reply_or (h j) d)) ∙ by over
+      (λ j. step_without_entry (with_session (state_after m m.sessions qs) (Rattle.tab_model.specs.Outcome.with_transaction (session_of s) (after_move tr x (h j) (e j)))) (reply_or (h j) d)) ∙ by over
     where
-      by : (b : Bool) → step_without_entry (with_session (state_with m m.sessions.items qs) (with_transaction (session_of s) (after_move tr x r b))) (reply_or r d)
-          ≡ step_without_entry (state_with m (set m.sessions.items i (moved_if b s t (store_next committed t.store x r))) qs) (reply_or r d)
+      by : (b : Bool) → step_without_entry (with_session (state_after m m.sessions qs) (Rattle.tab_model.specs.Outcome.with_transaction (session_of s) (after_move tr x r b))) (reply_or r d)
+          ≡ step_without_entry (state_after m (set m.sessions i (moved_if b s t (store_next committed t.store x r))) qs) (reply_or r d)
       by true = ap (λ ss. let τ : State = record { tables = m.catalog; sessions = ss; queue = map queued_of qs; next_age = m.begun + 1; commits = m.commits; greatest = m.greatest; limits = m.limits } in step_without_entry τ (reply_or r d)) (sym (keep.seats' m n i k there (ended s) refl))
       by false = ap (λ ss. let τ : State = record { tables = m.catalog; sessions = ss; queue = map queued_of qs; next_age = m.begun + 1; commits = m.commits; greatest = m.greatest; limits = m.limits } in step_without_entry τ (reply_or r d)) (sym (keep.seats' m n i k there (moved s t (store_next committed t.store x r)) refl))
 
@@ -109,11 +108,11 @@ module _ (m : Machine) (n i : ℕ) (k : IsKept m) (there : IsHeldAt m.sessions.i
         ∙ and_swap (is_failure (Some x.reply)) (length t.store.levels.saved == 0) ∙ sym w.over
 
     -- the session after it
-    abbrev pub after_work : code.Session
+    abbrev pub after_work : Subscriber
     after_work = moved_if x.over s t (store_next (find m.catalog (table_of o)) t.store (Do o) (Some x.reply))
 
     -- the locks, and who fits
-    locks_after : (b : Bool) → SameMembers (locks_held_in (map session_of (set m.sessions.items i (moved_if b s t (store_next (find m.catalog (table_of o)) t.store (Do o) (Some x.reply)))))) (if b then without t.age (placed (t.age, needs o) m.ages.held) else placed (t.age, needs o) m.ages.held)
+    locks_after : (b : Bool) → SameMembers (locks_held_in (map session_of (set m.sessions i (moved_if b s t (store_next (find m.catalog (table_of o)) t.store (Do o) (Some x.reply)))))) (if b then without t.age (placed (t.age, needs o) m.ages.held) else placed (t.age, needs o) m.ages.held)
     locks_after true p = placed_gone t.age (needs o) m.ages.held p ∙ keep.no_locks m n i k there (ended s) refl t open_t refl p
     locks_after false p = keep.one_more_lock m n i k there (moved s t (store_next (find m.catalog (table_of o)) t.store (Do o) (Some x.reply))) refl (t.age, needs o)
         (locks_next t (find m.catalog (table_of o)) (Do o) (Some x.reply) ∙ ap (λ u. locks_held_by u ++ (t.age, needs o) ∷ []) (ap (option_map transaction_of) (sym open_t))) p
@@ -135,11 +134,11 @@ module _ (m : Machine) (n i : ℕ) (k : IsKept m) (there : IsHeldAt m.sessions.i
         ap_le h = omega (arith, h)
 
     -- all parts agree after it
-    pub work_agrees : (m' : Machine) → m'.catalog ≡ m.catalog → m'.sessions.items ≡ set m.sessions.items i after_work → m'.limits ≡ m.limits → m'.begun ≡ m.begun → m'.commits ≡ m.commits
+    pub work_agrees : (m' : Parts) → m'.catalog ≡ m.catalog → m'.sessions ≡ set m.sessions i after_work → m'.limits ≡ m.limits → m'.begun ≡ m.begun → m'.commits ≡ m.commits
         → m'.ages.held ≡ (if x.over then without t.age (placed (t.age, needs o) m.ages.held) else placed (t.age, needs o) m.ages.held)
         → m'.ages.queue ≡ locks_queued_in (map queued_of m'.queue.items) → Agree m'
     work_agrees m' catalog sessions limits begun commits held queue =
         keep.session_agrees m n i k there after_work (number_after x.over) m' catalog sessions limits
-        (subst (SameMembers (locks_held_in (map session_of (set m.sessions.items i after_work)))) (sym held) (locks_after x.over)) queue (fits_after x.over)
+        (subst (SameMembers (locks_held_in (map session_of (set m.sessions i after_work)))) (sym held) (locks_after x.over)) queue (fits_after x.over)
         (let a = k.agree.ages in omega (arith, a, begun))
         (let c = keep.counts' m n i k there after_work (number_after x.over) in let d = k.agree.counted in let e = opens_after x.over in omega (arith, c, d, e, begun, commits))

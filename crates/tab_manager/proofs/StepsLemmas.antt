@@ -1,5 +1,5 @@
 -- What takes memory is answered otherwise than what takes none.
-use Rattle.std.proofs.Common.{◌≡◌, ℕ, List, [], Bool, true, false, ◌&&◌, ◌||◌, not, refl, sym, ap, ◌∙◌, subst, map, Option, Some, None, suc, length}
+use Rattle.std.proofs.Common.{◌≡◌, ℕ, List, [], Bool, true, false, ◌&&◌, ◌||◌, not, refl, sym, ap, ◌∙◌, map, Option, Some, None, suc, length}
 use Rattle.std.specs.Prelude.{◌==◌, is_some, nat_lt, if◌then◌else◌, option_map, IfSome, IsOk, Result, Err}
 use Rattle.tab_term.specs.View.{term}
 use Rattle.tab_model.specs.declared.data.Command.TheVariants as command
@@ -15,21 +15,18 @@ use Rattle.tab_model.specs.declared.data.Schema.TheVariants.{Create, Remove, Add
 use Rattle.tab_model.specs.Ages.{Answer, Granted, Wait, Die, can_retry, decide}
 use Rattle.tab_model.specs.Definitions.{Parsed, Good, Bad, parse_options, is_indexed, position}
 use Rattle.tab_model.specs.Locks.{needs}
-use Rattle.tab_model.specs.declared.ask.Ask.TheVariants.{Retry, Do as DoCommand}
+use Rattle.tab_model.specs.declared.ask.Ask.TheVariants.{Join, Retry, Do as DoCommand}
 use Rattle.tab_model.specs.Outcome.{Ask, Outcome, begin, commit, by_lock_answer, has_room, schema, table_info}
 use Rattle.tab_model.proofs.StepCases.{commit_at, open_child, try_again, schema_if}
 use Rattle.tab_model.specs.Refusals.{Changes, effect_of_reply}
 use Rattle.tab_model.specs.Schemas.{table_of_schema, is_some_position, bad_parse, create_refusal, remove_refusal, add_refusal, del_refusal, schema_refusal}
 use Rattle.tab_model.specs.State as plain
-use Rattle.tab_model.specs.State.{Transaction, Session, State, ages_of, count_moves, is_busy, is_waiting, mid_of, request_in, transaction_at}
+use Rattle.tab_model.specs.State.{Outbox, Transaction, Session, State, ages_of, count_moves, is_busy, is_waiting, mid_of, request_in, transaction_at}
 use Rattle.tab_model.specs.Catalogs.{Table, find}
 use Rattle.tab_model.proofs.RefusalLaws.{move_answers}
-use Rattle.tab_manager.specs.declared.machine.Machine.{Machine}
 use Rattle.tab_manager.specs.declared.queue.Request as request
-use Rattle.tab_manager.specs.declared.session.Session as code
-use Rattle.tab_manager.specs.declared.session.Transaction as kept
+use Rattle.tab_subs.specs.declared.transaction.Transaction as kept
 use Rattle.tab_manager.specs.Kept.{IsKept}
-use Rattle.tab_manager.specs.SessionLists.{no_session, queued_of, session_of, state_of, transaction_of, IsHeldAt}
 use Rattle.tab_manager.specs.Steps.{is_commit, is_told_for_none, tells_for_none}
 use Rattle.tab_manager.specs.Works.{has_level}
 use Rattle.tab_manager.proofs.Answering as answering
@@ -37,6 +34,8 @@ use Rattle.tab_manager.proofs.Keeping as keep
 use Rattle.tab_manager.proofs.Keeping.{the_session}
 use Rattle.tab_manager.proofs.LevelEnds as ending
 use Rattle.tab_manager.proofs.OperatingLemmas as operating
+use Rattle.tab_subs.specs.Subscribers.{Subscriber, IsHeldAt, at, nobody}
+use Rattle.tab_manager.specs.Parts.{Parts, queued_of, session_of, state_of, transaction_of}
 
 pub both_ways : {P : Type 0} (a b : Bool) → (a || b) ≡ true → (a ≡ true → P) → (b ≡ true → P) → P
 both_ways true b h f g = f refl
@@ -161,15 +160,15 @@ module _ (σ : State) (n : ℕ) where
 -- ---- at a session's place
 
 -- a begin that was refused memory, in a transaction that has room for a child
-pub has_room_for : (ls : Limits) (t : kept.Transaction) (s2 s : code.Session) {E : Type 0} (r : Result Reply E) (e : E) → s2 ≡ s → s.transaction ≡ Some t → IfSome s2.transaction (λ u. has_level ls u ≡ false → IsOk r) → r ≡ Err e → has_level ls t ≡ true
-has_room_for ls t s2 s r e same open_t free was = by (has_level ls t) refl (subst (λ o. IfSome o (λ u. has_level ls u ≡ false → IsOk r)) (ap (λ (x : code.Session). x.transaction) same ∙ open_t) free)
+pub has_room_for : (ls : Limits) (t : kept.Transaction) (o : Option kept.Transaction) {E : Type 0} (r : Result Reply E) (e : E) → o ≡ Some t → IfSome o (λ u. has_level ls u ≡ false → IsOk r) → r ≡ Err e → has_level ls t ≡ true
+has_room_for ls t o r e open_t free was = by (has_level ls t) refl (keep.if_some (λ u. has_level ls u ≡ false → IsOk r) o t open_t free)
   where
     by : (b : Bool) → has_level ls t ≡ b → (has_level ls t ≡ false → IsOk r) → b ≡ true
     by true h f = refl
     by false h f = absurd (answering.not_refused r e was (f h))
 
-module _ (m : Machine) (n i : ℕ) (k : IsKept m) (there : IsHeldAt m.sessions.items n i) where
-  abbrev s : code.Session
+module _ (m : Parts) (n i : ℕ) (k : IsKept m) (there : IsHeldAt m.sessions n i) where
+  abbrev s : Subscriber
   s = the_session m n i
 
   abbrev σ : State
@@ -210,8 +209,14 @@ module _ (m : Machine) (n i : ℕ) (k : IsKept m) (there : IsHeldAt m.sessions.i
       ap (λ (x : Outcome). tells_for_none (is_some (transaction_at σ n)) (DoCommand (command.Schema c)) x.reply) (keep.asks m n i k there (command.Schema c) idle ∙ ap (schema σ [] c) (ap (option_map transaction_of) closed))
       ∙ schema_takes σ n [] c (is_busy σ (table_of_schema c)) (has_room σ c)
 
-pub info_told : (m : Machine) (n i : ℕ) → IsHeldAt m.sessions.items n i → is_waiting (state_of m) n ≡ false → (t : List ℕ) (x : InfoItem) → is_told_for_none (state_of m) n (DoCommand (command.TableInfo t x)) ≡ false
+pub info_told : (m : Parts) (n i : ℕ) → IsHeldAt m.sessions n i → is_waiting (state_of m) n ≡ false → (t : List ℕ) (x : InfoItem) → is_told_for_none (state_of m) n (DoCommand (command.TableInfo t x)) ≡ false
 info_told m n i there idle t x =
     ap (λ (o : Outcome). tells_for_none (is_some (transaction_at (state_of m) n)) (DoCommand (command.TableInfo t x)) o.reply)
-    (keep.idles (state_of m) n (session_of (the_session m n i)) (command.TableInfo t x) (answering.here m n i there) (there.number (no_session n)) idle)
+    (keep.idles (state_of m) n (session_of (the_session m n i)) (command.TableInfo t x) (answering.here m n i there) (there.number nobody) idle)
     ∙ info_takes (state_of m) n t x (find m.catalog t)
+
+-- who joins
+pub joins_told : (m : Parts) (n : ℕ) (b : Outbox) → at m.sessions n ≡ None → nat_lt m.greatest n ≡ true → nat_lt (length m.sessions) m.limits.sessions ≡ true → is_told_for_none (state_of m) n (Join b) ≡ false
+joins_told m n b stranger new room =
+    ap (λ (o : Outcome). tells_for_none (is_some (transaction_at (state_of m) n)) (Join b) o.reply)
+    (answering.joins_if m n b stranger true true new (ap (λ l. nat_lt l m.limits.sessions) (answering.as_many m n b stranger) ∙ room))

@@ -1,6 +1,7 @@
-pub mod SessionLists
+pub mod Parts
 pub mod Works
 pub mod Kept
 pub mod Quiet
 pub mod Steps
 pub mod Outermost
+pub mod Redefining

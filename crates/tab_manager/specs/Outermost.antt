@@ -1,11 +1,17 @@
--- The transaction that a commit ends, and what it changes (Mnesia User's Guide, "Nested Transactions": a child's commit
+-- The transaction that a commit ends, what it changes, and its commit before anything is put (Mnesia User's Guide, "Nested Transactions": a child's commit
 -- gives its updates to its parent).
-use Rattle.std.specs.Prelude.{ℕ, List, if◌then◌else◌, Option, Some, None}
+use Rattle.std.specs.Prelude.{◌≡◌, ℕ, ◌+◌, List, [], if◌then◌else◌, Option, Some, None}
+use Rattle.tab_model.specs.declared.ask.Ask.TheVariants.{Do as DoCommand}
+use Rattle.tab_model.specs.declared.data.Command.TheVariants as command
+use Rattle.tab_model.specs.declared.data.Entry.TheVariants.{Committed}
+use Rattle.tab_model.specs.declared.data.Reply.TheVariants as reply
 use Rattle.tab_model.specs.declared.data.Change.{Change}
 use Rattle.tab_model.specs.Events.{surviving_changes}
-use Rattle.tab_model.specs.Outcome.{is_empty}
-use Rattle.tab_model.specs.State.{State, Transaction, is_waiting, mid_of, transaction_at}
+use Rattle.tab_model.specs.Outcome.{is_empty, with_changed, with_transaction}
+use Rattle.tab_model.specs.State.{State, Session, Transaction, is_waiting, mid_of, session_at, transaction_at}
 use Rattle.tab_manager.specs.declared.ending.Ending.{Ending}
+use Rattle.tab_manager.specs.declared.step.Stepped.{Stepped}
+use Rattle.tab_manager.specs.Steps.{StepsTo}
 
 -- a child's commit ends none
 abbrev pub outermost_of : State → Option Transaction → Option Transaction
@@ -23,3 +29,17 @@ ending_of t = (t.age, surviving_changes t.moves t.told)
 -- the age of a transaction that its commit ends, and its updates in order
 abbrev pub age_and_updates : Ending → ℕ × List Change
 age_and_updates e = (e.age, e.updates.now)
+
+-- the state after a session's outermost commit, before its events are put
+abbrev pub after_commit : State → Session → Transaction → State
+after_commit σ s t = record σ { tables = (mid_of σ t).now; sessions = with_changed σ.sessions (with_transaction s None); commits = σ.commits + 1 }
+
+-- an outermost commit, before its events are put
+abbrev pub Commits : State → ℕ → Transaction → Stepped → State → Type 0
+Commits σ n t x τ = (s : Session) → session_at σ.sessions n ≡ Some s
+    → (τ ≡ after_commit σ s t) × (x ≡ record { reply = reply.Atomic (σ.commits + 1); entry = Some (Committed (σ.commits + 1) s.number t.age t.moves t.told []) })
+
+-- a commit, by the transaction that it ends: the outermost, before its events are put; or a child's, or one that is refused
+abbrev pub CommitsBy : State → ℕ → Stepped → State → Option Transaction → Type 0
+CommitsBy σ n x τ None = StepsTo σ n (DoCommand command.Commit) x τ
+CommitsBy σ n x τ (Some t) = Commits σ n t x τ

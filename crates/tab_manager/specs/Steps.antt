@@ -59,6 +59,6 @@ is_told_for_none σ n a = tells_for_none (is_some (transaction_at σ n)) a (outc
 abbrev pub takes_no_memory : State → ℕ → Ask → Bool
 takes_no_memory σ n a = asks_for_none σ n a || is_told_for_none σ n a
 
--- a step that was made, where no one watches
+-- a step that was made, and put nothing into posts
 abbrev pub StepsTo : State → ℕ → Ask → Stepped → State → Type 0
 StepsTo σ n a s τ = outcome σ [] n a ≡ record { state = τ; reply = s.reply; entry = s.entry }

@@ -1,4 +1,4 @@
--- What becomes of a session and of its transaction's locks.
+-- What becomes of a session's transaction and of its locks.
 use Rattle.std.specs.Prelude.{◌≡◌, ℕ, suc, [], Bool, true, false, ◌&&◌, ◌==◌, nat_lt, Option, None, Some, length, option_map}
 use Rattle.tab_model.specs.declared.data.Operation.{Operation}
 use Rattle.tab_model.specs.declared.data.Move.TheVariants.{Do, Open, Close, Undo}
@@ -14,8 +14,7 @@ use Rattle.tab_model.specs.Events.{is_failure}
 use Rattle.tab_model.specs.Operations.{table_of, answer}
 use Rattle.tab_model.specs.Catalogs.{Catalog, find, IsOrderedCatalog}
 use Rattle.tab_txstore.specs.Stores.{Store, no_store, store_next, Fits}
-use Rattle.tab_manager.specs.declared.session.Transaction as kept
-use Rattle.tab_manager.specs.declared.session.Session as code
+use Rattle.tab_subs.specs.declared.transaction.Transaction as kept
 use Rattle.tab_manager.specs.declared.operating.Worked.{Worked}
 use Rattle.tab_manager.specs.declared.step.Stepped.{Stepped}
 
@@ -23,13 +22,9 @@ use Rattle.tab_manager.specs.declared.step.Stepped.{Stepped}
 abbrev pub with_store : kept.Transaction → Store → kept.Transaction
 with_store t s = record { age = t.age; store = s }
 
--- the session without a transaction
-abbrev pub ended : code.Session → code.Session
-ended s = record { number = s.number; transaction = None }
-
--- the session, whose transaction, if it has one, starts anew with the age that it has
-abbrev pub without_moves : code.Session → code.Session
-without_moves s = record { number = s.number; transaction = option_map (λ t. with_store t no_store) s.transaction }
+-- the transaction, if there is one, starts anew with the age that it has
+abbrev pub restarted : Option kept.Transaction → Option kept.Transaction
+restarted t = option_map (λ t. with_store t no_store) t
 
 -- the locks and requests without those of this transaction, if there is one
 abbrev pub forgotten_if : Ages → Option kept.Transaction → Ages
@@ -67,21 +62,21 @@ NestsTo ls t None r = ⊥
 NestsTo ls t (Some new) r = Nests ls t new r
 
 -- a child's commit
-abbrev pub joined : code.Session → code.Session
-joined s = record { number = s.number; transaction = option_map (λ t. with_store t (store_next None t.store Close (Some reply.AtomicOk))) s.transaction }
+abbrev pub joined : Option kept.Transaction → Option kept.Transaction
+joined t = option_map (λ t. with_store t (store_next None t.store Close (Some reply.AtomicOk))) t
 
 -- a child's abort
 abbrev pub undone : kept.Transaction → kept.Transaction
 undone t = with_store t (store_next None t.store Undo None)
 
 -- an abort: of the whole, or of a child
-abbrev pub UndoesIf : Bool → kept.Transaction → code.Session → Ages → code.Session → Ages → Type 0
-UndoesIf true t s g s' g' = (s' ≡ ended s) × (g'.held ≡ without t.age g.held) × (g'.queue ≡ without t.age (without t.age g.queue))
-UndoesIf false t s g s' g' = (s' ≡ record { number = s.number; transaction = Some (undone t) }) × (g' ≡ record { held = g.held; queue = without t.age g.queue })
+abbrev pub UndoesIf : Bool → kept.Transaction → Ages → Option kept.Transaction → Ages → Type 0
+UndoesIf true t g new g' = (new ≡ None) × (g'.held ≡ without t.age g.held) × (g'.queue ≡ without t.age (without t.age g.queue))
+UndoesIf false t g new g' = (new ≡ Some (undone t)) × (g' ≡ record { held = g.held; queue = without t.age g.queue })
 
 -- an abort of the innermost level: of the whole where no child is open
-abbrev pub Undoes : kept.Transaction → code.Session → Ages → code.Session → Ages → Type 0
-Undoes t s g s' g' = UndoesIf (length t.store.levels.saved == 0) t s g s' g'
+abbrev pub Undoes : kept.Transaction → Ages → Option kept.Transaction → Ages → Type 0
+Undoes t g new g' = UndoesIf (length t.store.levels.saved == 0) t g new g'
 
 -- the reply and the entry of an outermost commit in which no post refused
 abbrev pub committed : ℕ → ℕ → kept.Transaction → Stepped

@@ -1,19 +1,19 @@
 //! Outermost commits.
 
 ghost use Rattle.std.specs.Prelude.{◌≡◌, Some, IsFalse, option_map};
-ghost use Rattle.tab_model.specs.declared.data.Command.TheVariants as command;
 ghost use Rattle.tab_model.specs.Events.{change_all, surviving_changes};
 ghost use Rattle.tab_model.specs.State.{Transaction as Opened, is_waiting};
-ghost use Rattle.tab_model.specs.declared.ask.Ask.TheVariants.{Do as DoCommand};
-ghost use Rattle.tab_manager.specs.SessionLists.{state_of, IsHeldAt};
-ghost use Rattle.tab_manager.specs.Kept.{IsKept};
-ghost use Rattle.tab_manager.specs.Outermost.{outermost, ending_of, age_and_updates};
-ghost use Rattle.tab_manager.specs.Steps.{StepsTo};
+ghost use Rattle.tab_subs.specs.Subscribers.{IsHeldAt};
+ghost use Rattle.tab_manager.specs.Parts.{parts_of, state_with};
+ghost use Rattle.tab_manager.specs.Kept.{Agree, IsKept};
+ghost use Rattle.tab_manager.specs.Outermost.{outermost, ending_of, age_and_updates, Commits};
 
 use crate::levels::finish;
 use crate::machine::Machine;
 use crate::step::Stepped;
+use tab_outbox::Post;
 use tab_rows::Update;
+use tab_subs::Subs;
 use tab_tables::{Catalog, Lender};
 
 /// A transaction that its commit would end: its age, its updates in order, and the records that it lends to bags.
@@ -25,30 +25,40 @@ pub struct Ending<'a> {
 }
 
 impl Machine {
-    /// The end of the session's transaction, where level 1 alone is open and nothing waits.
-    pub fn outermost(&self, session: u32) -> Option<Ending<'_>>
-        requires kept { IsKept self.now }
+    /// The transaction that a commit of the session would end, and what it would change: of a session that waits for nothing, and
+    /// stands in no child.
+    pub fn outermost<'a, P: Post + Drop>(
+        &self,
+        sessions: &'a Subs<P>,
+        session: u32,
+    ) -> Option<Ending<'a>>
+        requires kept { IsKept (parts_of self.now sessions.now) }
         ensures { option_map age_and_updates result
-            ≡ option_map ending_of (outermost (state_of self.now) session) }
+            ≡ option_map ending_of (outermost (state_with self.now sessions.now) session) }
     {
         if self.waits(session) {
             return None;
         }
-        match self.place(session) {
-            Some(place) => self.ending(session, place),
+        match sessions.place(session as u64) {
+            Some(place) => self.ending(sessions, session, place),
             None => None,
         }
     }
 
     /// Of a session that waits for nothing.
-    fn ending(&self, session: u32, place: usize) -> Option<Ending<'_>>
-        requires kept { IsKept self.now }
-        requires there { IsHeldAt self.now.sessions.items session place }
-        requires idle { IsFalse (is_waiting (state_of self.now) session) }
+    fn ending<'a, P: Post + Drop>(
+        &self,
+        sessions: &'a Subs<P>,
+        session: u32,
+        place: usize,
+    ) -> Option<Ending<'a>>
+        requires kept { IsKept (parts_of self.now sessions.now) }
+        requires there { IsHeldAt sessions.now session place }
+        requires idle { IsFalse (is_waiting (state_with self.now sessions.now) session) }
         ensures { option_map age_and_updates result
-            ≡ option_map ending_of (outermost (state_of self.now) session) }
+            ≡ option_map ending_of (outermost (state_with self.now sessions.now) session) }
     {
-        let Some(transaction) = &self.sessions[place].transaction else {
+        let Some(transaction) = sessions.transaction(place) else {
             return None;
         };
         if transaction.store.depth() > 0 {
@@ -61,16 +71,23 @@ impl Machine {
         })
     }
 
-    /// The tables have the transaction's updates. From here nothing fails.
-    pub fn commit_as(&mut self, session: u32, catalog: Catalog) -> Stepped
-        requires kept { IsKept self.old }
-        requires there { (t : Opened) × (outermost (state_of self.old) session ≡ Some t)
+    /// The outermost commit of the session, whose changes the caller has made to the tables. From here nothing fails.
+    pub fn commit_as<P: Post + Drop>(
+        &mut self,
+        sessions: &mut Subs<P>,
+        session: u32,
+        catalog: Catalog,
+    ) -> Stepped
+        requires kept { IsKept (parts_of self.old sessions.old) }
+        requires there { (t : Opened)
+            × (outermost (state_with self.old sessions.old) session ≡ Some t)
             × (catalog ≡ change_all self.old.catalog (surviving_changes t.moves t.told)) }
-        ensures done { StepsTo (state_of self.old) session (DoCommand command.Commit) result
-            (state_of self.new) }
-        ensures kept { IsKept self.new }
+        ensures done { (t : Opened) → outermost (state_with self.old sessions.old) session ≡ Some t
+            → Commits (state_with self.old sessions.old) session t result
+            (state_with self.new sessions.new) }
+        ensures agree { Agree (parts_of self.new sessions.new) }
     {
-        let Some(place) = self.place(session) else {
+        let Some(place) = sessions.place(session as u64) else {
             unreachable!();
         };
         self.catalog = catalog;
@@ -78,7 +95,8 @@ impl Machine {
         finish(
             self.alloc,
             self.commits,
-            &mut self.sessions[place],
+            session,
+            sessions.transaction_mut(place),
             &mut self.ages,
         )
     }

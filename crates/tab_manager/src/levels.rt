@@ -7,17 +7,20 @@ ghost use Rattle.tab_model.specs.Events.{change_all};
 ghost use Rattle.tab_model.specs.State.{is_waiting, moves_at, transaction_at};
 ghost use Rattle.tab_model.specs.declared.ask.Ask.TheVariants.{Do as DoCommand};
 ghost use Rattle.tab_model.specs.Outcome.{is_empty, step_without_entry, outcome};
-ghost use Rattle.tab_manager.specs.SessionLists.{state_of, IsHeldAt};
-ghost use Rattle.tab_manager.specs.Kept.{IsKept};
-ghost use Rattle.tab_manager.specs.Steps.{is_told_for_none};
-ghost use Rattle.tab_manager.specs.Works.{Nests, NestsTo, has_level, Undoes, undone, joined, ended, forgotten_if, committed};
+ghost use Rattle.tab_subs.specs.Subscribers.{IsHeldAt};
+ghost use Rattle.tab_manager.specs.Parts.{parts_of, state_with};
+ghost use Rattle.tab_manager.specs.Kept.{Agree, IsKept};
+ghost use Rattle.tab_manager.specs.Outermost.{outermost, CommitsBy};
+ghost use Rattle.tab_manager.specs.Steps.{asks_for_none, is_told_for_none};
+ghost use Rattle.tab_manager.specs.Works.{Nests, NestsTo, has_level, Undoes, undone, joined, forgotten_if, committed};
 
 use crate::machine::Machine;
 use crate::operating::end_if;
-use crate::session::{Session, Transaction};
 use crate::step::Stepped;
 use std::alloc::{AllocError, Global};
 use tab_model::{Entry, Limit, Limits, Numbers, Reply, SharedReply};
+use tab_outbox::Post;
+use tab_subs::{Subs, Transaction};
 use tab_tables::{Catalog, Lender};
 use tab_term::Term;
 use tab_txstore::{Finished, TxStore};
@@ -25,27 +28,35 @@ use tab_waitdie::Ages;
 
 impl Machine {
     /// Level 1 with the next age, or a child level.
-    pub fn begin(&mut self, session: u32, place: usize) -> Result<Reply, AllocError>
-        requires kept { IsKept self.old }
-        requires there { IsHeldAt self.old.sessions.items session place }
-        requires idle { IsFalse (is_waiting (state_of self.old) session) }
+    pub(crate) fn begin<P: Post + Drop>(
+        &mut self,
+        sessions: &mut Subs<P>,
+        session: u32,
+        place: usize,
+    ) -> Result<Reply, AllocError>
+        requires kept { IsKept (parts_of self.old sessions.old) }
+        requires there { IsHeldAt sessions.old session place }
+        requires idle { IsFalse (is_waiting (state_with self.old sessions.old) session) }
         ensures ok { IfOk result
-            (λ r. outcome (state_of self.old) [] session (DoCommand command.Begin)
-            ≡ step_without_entry (state_of self.new) r) }
-        ensures free { transaction_at (state_of self.old) session ≡ None → IsOk result }
+            (λ r. outcome (state_with self.old sessions.old) [] session (DoCommand command.Begin)
+            ≡ step_without_entry (state_with self.new sessions.new) r) }
+        ensures free { transaction_at (state_with self.old sessions.old) session ≡ None
+            → IsOk result }
         ensures told { IsTrue
-            (is_told_for_none (state_of self.old) session (DoCommand command.Begin)) → IsOk result }
-        ensures err { OnErr result (state_of self.new ≡ state_of self.old) }
-        ensures kept { IsKept self.new }
+            (is_told_for_none (state_with self.old sessions.old) session (DoCommand command.Begin))
+            → IsOk result }
+        ensures err { OnErr result
+            (state_with self.new sessions.new ≡ state_with self.old sessions.old) }
+        ensures kept { IsKept (parts_of self.new sessions.new) }
     {
-        if self.sessions[place].transaction.is_some() {
-            return Ok(nest(&self.limits, &mut self.sessions[place])?);
+        if sessions.transaction(place).is_some() {
+            return Ok(nest(&self.limits, sessions.transaction_mut(place))?);
         }
         if self.begun >= self.limits.ages {
             return Ok(Reply::SystemLimit(Limit::Ages));
         }
         self.begun += 1;
-        self.sessions[place].transaction = Some(Transaction {
+        *sessions.transaction_mut(place) = Some(Transaction {
             age: self.begun,
             store: TxStore::new(self.alloc),
         });
@@ -53,44 +64,90 @@ impl Machine {
     }
 
     /// Level 1 of a one-shot, with the next age: it stands in no other transaction.
-    pub fn one_shot(&mut self, session: u32, place: usize) -> Result<Reply, AllocError>
-        requires kept { IsKept self.old }
-        requires there { IsHeldAt self.old.sessions.items session place }
-        requires idle { IsFalse (is_waiting (state_of self.old) session) }
+    pub(crate) fn one_shot<P: Post + Drop>(
+        &mut self,
+        sessions: &mut Subs<P>,
+        session: u32,
+        place: usize,
+    ) -> Result<Reply, AllocError>
+        requires kept { IsKept (parts_of self.old sessions.old) }
+        requires there { IsHeldAt sessions.old session place }
+        requires idle { IsFalse (is_waiting (state_with self.old sessions.old) session) }
         ensures ok { IfOk result
             (λ r. (parts : List Part) (retries : ℕ)
-            → outcome (state_of self.old) [] session (DoCommand (command.OneShot parts retries))
-            ≡ step_without_entry (state_of self.new) r) }
+            → outcome (state_with self.old sessions.old) [] session
+            (DoCommand (command.OneShot parts retries))
+            ≡ step_without_entry (state_with self.new sessions.new) r) }
         ensures free { IsOk result }
-        ensures err { OnErr result (state_of self.new ≡ state_of self.old) }
-        ensures kept { IsKept self.new }
+        ensures err { OnErr result
+            (state_with self.new sessions.new ≡ state_with self.old sessions.old) }
+        ensures kept { IsKept (parts_of self.new sessions.new) }
     {
-        if self.sessions[place].transaction.is_some() {
+        if sessions.transaction(place).is_some() {
             return Ok(Reply::InTransaction);
         }
-        Ok(self.begin(session, place)?)
+        Ok(self.begin(sessions, session, place)?)
     }
 
-    /// A child's commit, or the outermost, which makes all growths first: from there nothing fails.
-    pub fn commit(&mut self, session: u32, place: usize) -> Result<Stepped, AllocError>
-        requires kept { IsKept self.old }
-        requires there { IsHeldAt self.old.sessions.items session place }
-        requires idle { IsFalse (is_waiting (state_of self.old) session) }
-        ensures ok { IfOk result
-            (λ s. outcome (state_of self.old) [] session (DoCommand command.Commit)
-            ≡ record { state = state_of self.new; reply = s.reply; entry = s.entry }) }
-        ensures free { IsTrue (is_empty (moves_at (state_of self.old) session)) → IsOk result }
-        ensures told { IsTrue
-            (is_told_for_none (state_of self.old) session (DoCommand command.Commit))
+    /// A commit that puts nothing into posts: of a child, or the outermost where no one watches what it changes, or one that is
+    /// refused. Where memory is refused nothing changes.
+    pub fn commit<P: Post + Drop>(
+        &mut self,
+        sessions: &mut Subs<P>,
+        session: u32,
+    ) -> Result<Stepped, AllocError>
+        requires kept { IsKept (parts_of self.old sessions.old) }
+        ensures done { IfOk result
+            (λ s. CommitsBy (state_with self.old sessions.old) session s
+            (state_with self.new sessions.new)
+            (outermost (state_with self.old sessions.old) session)) }
+        ensures free { IsTrue
+            (asks_for_none (state_with self.old sessions.old) session (DoCommand command.Commit))
             → IsOk result }
-        ensures err { OnErr result (state_of self.new ≡ state_of self.old) }
-        ensures kept { IsKept self.new }
+        ensures told { IsTrue
+            (is_told_for_none (state_with self.old sessions.old) session (DoCommand command.Commit))
+            → IsOk result }
+        ensures err { OnErr result
+            (state_with self.new sessions.new ≡ state_with self.old sessions.old) }
+        ensures agree { Agree (parts_of self.new sessions.new) }
     {
-        let Some(transaction) = &self.sessions[place].transaction else {
+        let Some(place) = sessions.place(session as u64) else {
+            return Ok(Stepped::without_entry(Reply::BadSession));
+        };
+        if self.waits(session) {
+            return Ok(Stepped::without_entry(Reply::WaitingNow));
+        }
+        self.commit_at(sessions, session, place)
+    }
+
+    /// All growths come first: from there nothing fails.
+    fn commit_at<P: Post + Drop>(
+        &mut self,
+        sessions: &mut Subs<P>,
+        session: u32,
+        place: usize,
+    ) -> Result<Stepped, AllocError>
+        requires kept { IsKept (parts_of self.old sessions.old) }
+        requires there { IsHeldAt sessions.old session place }
+        requires idle { IsFalse (is_waiting (state_with self.old sessions.old) session) }
+        ensures done { IfOk result
+            (λ s. CommitsBy (state_with self.old sessions.old) session s
+            (state_with self.new sessions.new)
+            (outermost (state_with self.old sessions.old) session)) }
+        ensures free { IsTrue (is_empty (moves_at (state_with self.old sessions.old) session))
+            → IsOk result }
+        ensures told { IsTrue
+            (is_told_for_none (state_with self.old sessions.old) session (DoCommand command.Commit))
+            → IsOk result }
+        ensures err { OnErr result
+            (state_with self.new sessions.new ≡ state_with self.old sessions.old) }
+        ensures agree { Agree (parts_of self.new sessions.new) }
+    {
+        let Some(transaction) = sessions.transaction(place) else {
             return Ok(Stepped::without_entry(Reply::NoTransaction));
         };
         if transaction.store.depth() > 0 {
-            join_level(&mut self.sessions[place]);
+            join_level(sessions.transaction_mut(place));
             return Ok(Stepped::without_entry(Reply::AtomicOk));
         }
         commit_to(self.alloc, &mut self.catalog, &transaction.store)?;
@@ -98,40 +155,45 @@ impl Machine {
         let finished = finish(
             self.alloc,
             self.commits,
-            &mut self.sessions[place],
+            session,
+            sessions.transaction_mut(place),
             &mut self.ages,
         );
         Ok(finished)
     }
 
     /// The innermost level ends, with the request that waits.
-    pub fn abort(&mut self, session: u32, place: usize, reason: Term) -> Reply
-        requires kept { IsKept self.old }
-        requires there { IsHeldAt self.old.sessions.items session place }
-        ensures ok { outcome (state_of self.old) [] session (DoCommand (command.Abort reason))
-            ≡ step_without_entry (state_of self.new) result }
-        ensures kept { IsKept self.new }
+    pub(crate) fn abort<P: Post + Drop>(
+        &mut self,
+        sessions: &mut Subs<P>,
+        session: u32,
+        place: usize,
+        reason: Term,
+    ) -> Reply
+        requires kept { IsKept (parts_of self.old sessions.old) }
+        requires there { IsHeldAt sessions.old session place }
+        ensures ok { outcome (state_with self.old sessions.old) [] session
+            (DoCommand (command.Abort reason))
+            ≡ step_without_entry (state_with self.new sessions.new) result }
+        ensures kept { IsKept (parts_of self.new sessions.new) }
     {
-        if self.sessions[place].transaction.is_none() {
+        if sessions.transaction(place).is_none() {
             return Reply::NoTransaction;
         }
         self.queue.retain(|request| request.session != session);
-        undo(&mut self.sessions[place], &mut self.ages);
+        undo(sessions.transaction_mut(place), &mut self.ages);
         Reply::UserAbort(reason)
     }
 }
 
 /// A child begins, where there is room for one more level and one more move.
-fn nest(limits: &Limits, slot: &mut Session) -> Result<Reply, AllocError>
-    requires { IsSome slot.old.transaction }
-    ensures number { slot.new.number ≡ slot.old.number }
-    ensures ok { IfSome slot.old.transaction
-        (λ t. IfOk result (NestsTo limits.now t slot.new.transaction)) }
-    ensures free { IfSome slot.old.transaction
-        (λ t. IsFalse (has_level limits.now t) → IsOk result) }
-    ensures err { OnErr result (slot.new.transaction ≡ slot.old.transaction) }
+fn nest(limits: &Limits, slot: &mut Option<Transaction>) -> Result<Reply, AllocError>
+    requires { IsSome slot.old }
+    ensures ok { IfSome slot.old (λ t. IfOk result (NestsTo limits.now t slot.new)) }
+    ensures free { IfSome slot.old (λ t. IsFalse (has_level limits.now t) → IsOk result) }
+    ensures err { OnErr result (slot.new ≡ slot.old) }
 {
-    let Some(transaction) = &mut slot.transaction else {
+    let Some(transaction) = slot else {
         unreachable!();
     };
     nest_in(limits, transaction)
@@ -153,11 +215,11 @@ fn nest_in(limits: &Limits, transaction: &mut Transaction) -> Result<Reply, Allo
 }
 
 /// A child commits.
-fn join_level(slot: &mut Session)
-    requires { IfSome slot.old.transaction (λ t. 0 < length t.store.levels.saved) }
+fn join_level(slot: &mut Option<Transaction>)
+    requires { IfSome slot.old (λ t. 0 < length t.store.levels.saved) }
     ensures { slot.new ≡ joined slot.old }
 {
-    if let Some(transaction) = &mut slot.transaction {
+    if let Some(transaction) = slot {
         transaction.store.nest_commit();
     }
 }
@@ -177,13 +239,19 @@ fn commit_to(alloc: Global, catalog: &mut Catalog, store: &TxStore) -> Result<()
 }
 
 /// An open transaction is over, and leaves the log its entry.
-pub(crate) fn finish(alloc: Global, number: u64, slot: &mut Session, ages: &mut Ages) -> Stepped
-    requires { IsSome slot.old.transaction }
-    ensures slot { slot.new ≡ ended slot.old }
-    ensures ages { ages.new ≡ forgotten_if ages.old slot.old.transaction }
-    ensures told { IfSome slot.old.transaction (λ t. result ≡ committed number slot.old.number t) }
+pub(crate) fn finish(
+    alloc: Global,
+    number: u64,
+    session: u32,
+    slot: &mut Option<Transaction>,
+    ages: &mut Ages,
+) -> Stepped
+    requires { IsSome slot.old }
+    ensures over { slot.new ≡ None }
+    ensures ages { ages.new ≡ forgotten_if ages.old slot.old }
+    ensures told { IfSome slot.old (λ t. result ≡ committed number session t) }
 {
-    let Some(transaction) = slot.transaction.take() else {
+    let Some(transaction) = slot.take() else {
         unreachable!();
     };
     let (age, store) = transaction.into_parts();
@@ -198,7 +266,7 @@ pub(crate) fn finish(alloc: Global, number: u64, slot: &mut Session, ages: &mut 
         reply: SharedReply::new(Reply::Atomic(number)),
         entry: Some(Entry::Committed {
             number,
-            session: slot.number as u64,
+            session: session as u64,
             age,
             moves,
             told,
@@ -210,11 +278,11 @@ pub(crate) fn finish(alloc: Global, number: u64, slot: &mut Session, ages: &mut 
 }
 
 /// The innermost level of an open transaction is undone, and its queued request gone.
-fn undo(slot: &mut Session, ages: &mut Ages)
-    requires { IsSome slot.old.transaction }
-    ensures { IfSome slot.old.transaction (λ t. Undoes t slot.old ages.old slot.new ages.new) }
+fn undo(slot: &mut Option<Transaction>, ages: &mut Ages)
+    requires { IsSome slot.old }
+    ensures { IfSome slot.old (λ t. Undoes t ages.old slot.new ages.new) }
 {
-    let Some(transaction) = &mut slot.transaction else {
+    let Some(transaction) = slot else {
         unreachable!();
     };
     ages.drop_wait(transaction.age);

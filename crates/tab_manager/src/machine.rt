@@ -1,39 +1,42 @@
-//! The parts of a manager, and its steps.
+//! The parts of a machine, and its commands.
 
-ghost use Rattle.std.specs.Prelude.{◌≡◌, ◌≤◌, [], Some, None, IfOk, IsOk, OnErr, MatchOption, IsFalse, IsTrue};
+ghost use Rattle.std.specs.Prelude.{◌≡◌, ◌≤◌, [], None, IfOk, IsOk, OnErr, IsFalse, IsTrue};
 ghost use Rattle.tab_model.specs.State.{new, is_waiting};
 ghost use Rattle.tab_model.specs.declared.ask.Ask.TheVariants.{Do as DoCommand};
 ghost use Rattle.tab_model.specs.Outcome.{step_without_entry, outcome};
+ghost use Rattle.tab_subs.specs.Subscribers.{IsHeldAt};
 ghost use Rattle.tab_manager.specs.Steps.{StepsTo, asks_for_none, is_told_for_none};
 ghost use Rattle.tab_manager.specs.Quiet.{is_quiet};
-ghost use Rattle.tab_manager.specs.SessionLists.{state_of, at, IsHeldAt};
+ghost use Rattle.tab_manager.specs.Parts.{parts_of, state_with};
 ghost use Rattle.tab_manager.specs.Kept.{IsKept};
 
 use crate::queue::{Request, find};
-use crate::session::Session;
 use crate::step::Stepped;
-use arrayvec::ArrayVec;
 use std::alloc::{AllocError, Global};
 use tab_model::{Command, Limits, Reply};
 use tab_operations::Whole;
-use tab_tables::Catalog;
+use tab_outbox::Post;
+use tab_subs::Subs;
+use tab_tables::{Catalog, table_info};
 use tab_waitdie::Ages;
 
 /// How many sessions are joined at most. Their sessions are searched one after another.
 pub const SESSIONS: usize = 64;
 
-/// The tables, the sessions with their transactions in the order of joining, who holds locks and who waits.
-pub(crate) struct Machine {
-    pub alloc: Global,
+/// The tables, who holds locks and who waits.
+pub struct Machine {
+    pub(crate) alloc: Global,
+    /// The tables as they are committed.
     pub catalog: Catalog,
-    pub sessions: ArrayVec<Session, SESSIONS>,
-    pub ages: Ages,
-    pub queue: Vec<Request>,
-    /// How many outermost transactions have begun.
-    pub begun: u64,
+    pub(crate) ages: Ages,
+    pub(crate) queue: Vec<Request>,
+    // How many outermost transactions have begun.
+    pub(crate) begun: u64,
+    /// How many commits there were.
     pub commits: u64,
+    /// The greatest number that has joined.
     pub greatest: u32,
-    pub limits: Limits,
+    pub(crate) limits: Limits,
 }
 
 // A derived Drop would be taken apart, field by field, at each exit of each caller.
@@ -42,7 +45,6 @@ impl Drop for Machine {
         let Machine {
             alloc: _,
             catalog,
-            sessions,
             ages,
             queue,
             begun: _,
@@ -51,7 +53,6 @@ impl Drop for Machine {
             limits: _,
         } = self;
         drop(catalog);
-        drop(sessions);
         drop(ages);
         drop(queue);
     }
@@ -61,13 +62,12 @@ impl Machine {
     /// No table, no session, and these limits. It takes no memory.
     pub fn new(alloc: Global, limits: Limits) -> Machine
         requires { limits.sessions ≤ 64 }
-        ensures state { state_of result ≡ new limits }
-        ensures kept { IsKept result }
+        ensures state { state_with result [] ≡ new limits }
+        ensures kept { IsKept (parts_of result []) }
     {
         Machine {
             alloc,
             catalog: Catalog::empty(),
-            sessions: ArrayVec::new(),
             ages: Ages::new(alloc),
             queue: Vec::new(alloc),
             begun: 0,
@@ -77,95 +77,108 @@ impl Machine {
         }
     }
 
-    /// A session's place in the list, if it has joined.
-    pub fn place(&self, session: u32) -> Option<usize>
-        ensures { MatchOption result (at self.now.sessions.items session ≡ None)
-            (IsHeldAt self.now.sessions.items session) }
-    {
-        for (place, slot) in self.sessions.iter().enumerate() {
-            if slot.number == session {
-                return Some(place);
-            }
-        }
-        None
-    }
-
-    /// A command that neither begins nor ends a subscription. Where memory is refused nothing changes.
-    pub fn command(&mut self, session: u32, command: Command) -> Result<Stepped, AllocError>
+    /// A command that puts nothing into a post: no commit, no schema command, no subscription. Where memory is refused nothing
+    /// changes.
+    pub fn command<P: Post + Drop>(
+        &mut self,
+        sessions: &mut Subs<P>,
+        session: u32,
+        command: Command,
+    ) -> Result<Stepped, AllocError>
         requires quiet { IsTrue (is_quiet command) }
-        requires kept { IsKept self.old }
+        requires kept { IsKept (parts_of self.old sessions.old) }
         ensures done { IfOk result
-            (λ s. StepsTo (state_of self.old) session (DoCommand command) s (state_of self.new)) }
-        ensures free { IsTrue (asks_for_none (state_of self.old) session (DoCommand command))
+            (λ s. StepsTo (state_with self.old sessions.old) session (DoCommand command) s
+            (state_with self.new sessions.new)) }
+        ensures free { IsTrue
+            (asks_for_none (state_with self.old sessions.old) session (DoCommand command))
             → IsOk result }
-        ensures told { IsTrue (is_told_for_none (state_of self.old) session (DoCommand command))
+        ensures told { IsTrue
+            (is_told_for_none (state_with self.old sessions.old) session (DoCommand command))
             → IsOk result }
-        ensures err { OnErr result (state_of self.new ≡ state_of self.old) }
-        ensures kept { IsKept self.new }
+        ensures err { OnErr result
+            (state_with self.new sessions.new ≡ state_with self.old sessions.old) }
+        ensures kept { IsKept (parts_of self.new sessions.new) }
     {
         let asked = Whole { value: command };
-        let Some(place) = self.place(session) else {
+        let Some(place) = sessions.place(session as u64) else {
             return Ok(Stepped::without_entry(Reply::BadSession));
         };
         if find(&self.queue, session).is_some() {
-            return Ok(Stepped::without_entry(self.waiting_command(session, place, asked)));
+            let reply = self.waiting_command(sessions, session, place, asked);
+            return Ok(Stepped::without_entry(reply));
         }
-        self.idle_command(session, place, asked)
+        self.idle_command(sessions, session, place, asked)
     }
 
     /// A command of a session that waits: it can do nothing but abort.
-    fn waiting_command(&mut self, session: u32, place: usize, asked: Whole<Command>) -> Reply
-        requires kept { IsKept self.old }
-        requires there { IsHeldAt self.old.sessions.items session place }
-        requires waits { IsTrue (is_waiting (state_of self.old) session) }
-        ensures done { outcome (state_of self.old) [] session (DoCommand asked.value)
-            ≡ step_without_entry (state_of self.new) result }
-        ensures kept { IsKept self.new }
+    fn waiting_command<P: Post + Drop>(
+        &mut self,
+        sessions: &mut Subs<P>,
+        session: u32,
+        place: usize,
+        asked: Whole<Command>,
+    ) -> Reply
+        requires kept { IsKept (parts_of self.old sessions.old) }
+        requires there { IsHeldAt sessions.old session place }
+        requires waits { IsTrue (is_waiting (state_with self.old sessions.old) session) }
+        ensures done { outcome (state_with self.old sessions.old) [] session (DoCommand asked.value)
+            ≡ step_without_entry (state_with self.new sessions.new) result }
+        ensures kept { IsKept (parts_of self.new sessions.new) }
     {
         match asked.into_value() {
-            Command::Abort(reason) => self.abort(session, place, reason),
+            Command::Abort(reason) => self.abort(sessions, session, place, reason),
             _ => Reply::WaitingNow,
         }
     }
 
     /// A command of a session that waits for nothing.
-    fn idle_command(
+    fn idle_command<P: Post + Drop>(
         &mut self,
+        sessions: &mut Subs<P>,
         session: u32,
         place: usize,
         asked: Whole<Command>,
     ) -> Result<Stepped, AllocError>
         requires quiet { IsTrue (is_quiet asked.value) }
-        requires kept { IsKept self.old }
-        requires there { IsHeldAt self.old.sessions.items session place }
-        requires idle { IsFalse (is_waiting (state_of self.old) session) }
+        requires kept { IsKept (parts_of self.old sessions.old) }
+        requires there { IsHeldAt sessions.old session place }
+        requires idle { IsFalse (is_waiting (state_with self.old sessions.old) session) }
         ensures done { IfOk result
-            (λ s. outcome (state_of self.old) [] session (DoCommand asked.value)
-            ≡ record { state = state_of self.new; reply = s.reply; entry = s.entry }) }
-        ensures free { IsTrue (asks_for_none (state_of self.old) session (DoCommand asked.value))
+            (λ s. outcome (state_with self.old sessions.old) [] session (DoCommand asked.value)
+            ≡ record { state = state_with self.new sessions.new; reply = s.reply; entry = s.entry }) }
+        ensures free { IsTrue
+            (asks_for_none (state_with self.old sessions.old) session (DoCommand asked.value))
             → IsOk result }
         ensures told { IsTrue
-            (is_told_for_none (state_of self.old) session (DoCommand asked.value)) → IsOk result }
-        ensures err { OnErr result (state_of self.new ≡ state_of self.old) }
-        ensures kept { IsKept self.new }
+            (is_told_for_none (state_with self.old sessions.old) session (DoCommand asked.value))
+            → IsOk result }
+        ensures err { OnErr result
+            (state_with self.new sessions.new ≡ state_with self.old sessions.old) }
+        ensures kept { IsKept (parts_of self.new sessions.new) }
     {
         match asked.into_value() {
-            Command::Begin => Ok(Stepped::without_entry(self.begin(session, place)?)),
-            Command::Commit => self.commit(session, place),
-            Command::Abort(reason) => Ok(Stepped::without_entry(self.abort(
-                session, place, reason,
-            ))),
+            Command::Begin => {
+                let reply = self.begin(sessions, session, place)?;
+                Ok(Stepped::without_entry(reply))
+            }
+            Command::Abort(reason) => {
+                let reply = self.abort(sessions, session, place, reason);
+                Ok(Stepped::without_entry(reply))
+            }
             Command::Do(operation) => {
                 let asked = Whole { value: operation };
-                Ok(Stepped::told(self.operate(session, place, asked)?))
+                let reply = self.operate(sessions, session, place, asked)?;
+                Ok(Stepped::told(reply))
             }
-            Command::Schema(schema) => self.schema(session, place, Whole { value: schema }),
             Command::TableInfo(name, item) => {
-                Ok(Stepped::without_entry(self.table_info(session, &name, item)?))
+                let reply = table_info(self.alloc, &self.catalog, &name, item)?;
+                Ok(Stepped::without_entry(reply))
             }
             Command::OneShot(parts, _) => {
                 drop(parts);
-                Ok(Stepped::without_entry(self.one_shot(session, place)?))
+                let reply = self.one_shot(sessions, session, place)?;
+                Ok(Stepped::without_entry(reply))
             }
             _ => unreachable!(),
         }

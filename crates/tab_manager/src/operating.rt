@@ -1,6 +1,6 @@
 //! Operations of a transaction, and their locks.
 
-ghost use Rattle.std.specs.Prelude.{◌≡◌, ◌&&◌, ◌==◌, [], Some, IfOk, IfSome, IsOk, IsSome, OnErr, IsFalse, IsTrue, if◌then◌else◌, option_map, length};
+ghost use Rattle.std.specs.Prelude.{◌≡◌, ◌&&◌, ◌==◌, [], None, Some, IfOk, IfSome, IsOk, IsSome, OnErr, IsFalse, IsTrue, if◌then◌else◌, option_map, length};
 ghost use Rattle.tab_model.specs.declared.data.Command.TheVariants as command;
 ghost use Rattle.tab_model.specs.Ages.{forget as forgotten};
 ghost use Rattle.tab_model.specs.Events.{is_failure as is_failure_of};
@@ -9,18 +9,20 @@ ghost use Rattle.tab_model.specs.declared.ask.Ask.TheVariants.{Do as DoCommand, 
 ghost use Rattle.tab_model.specs.Outcome.{step_without_entry, outcome};
 ghost use Rattle.tab_locks.specs.Placed.{without_last};
 ghost use Rattle.tab_waitdie.specs.Decisions.{ages as ages_with};
-ghost use Rattle.tab_manager.specs.SessionLists.{state_of, IsHeldAt};
+ghost use Rattle.tab_subs.specs.Subscribers.{IsHeldAt};
+ghost use Rattle.tab_manager.specs.Parts.{parts_of, state_with};
 ghost use Rattle.tab_manager.specs.Kept.{IsKept};
 ghost use Rattle.tab_manager.specs.Steps.{StepsTo, asks_for_none, is_told_for_none};
-ghost use Rattle.tab_manager.specs.Works.{Works, WorksTo, without_moves, ended, forgotten_if};
+ghost use Rattle.tab_manager.specs.Works.{Works, WorksTo, restarted, forgotten_if};
 
 use crate::machine::Machine;
 use crate::queue::{Request, find};
-use crate::session::{Session, Transaction};
 use crate::step::Stepped;
 use std::alloc::{AllocError, Global};
 use tab_model::{Limit, Operation, Reply, SharedReply};
 use tab_operations::{Whole, needs, perform};
+use tab_outbox::Post;
+use tab_subs::{Subs, Transaction};
 use tab_tables::Catalog;
 use tab_waitdie::{Ages, Answer};
 
@@ -48,25 +50,27 @@ impl Worked {
 
 impl Machine {
     /// An operation of a session that waits for nothing.
-    pub fn operate(
+    pub(crate) fn operate<P: Post + Drop>(
         &mut self,
+        sessions: &mut Subs<P>,
         session: u32,
         place: usize,
         asked: Whole<Operation>,
     ) -> Result<SharedReply, AllocError>
-        requires kept { IsKept self.old }
-        requires there { IsHeldAt self.old.sessions.items session place }
-        requires idle { IsFalse (is_waiting (state_of self.old) session) }
+        requires kept { IsKept (parts_of self.old sessions.old) }
+        requires there { IsHeldAt sessions.old session place }
+        requires idle { IsFalse (is_waiting (state_with self.old sessions.old) session) }
         ensures ok { IfOk result
-            (λ r. outcome (state_of self.old) [] session (DoCommand (command.Do asked.value))
-            ≡ step_without_entry (state_of self.new) r) }
+            (λ r. outcome (state_with self.old sessions.old) [] session (DoCommand (command.Do asked.value))
+            ≡ step_without_entry (state_with self.new sessions.new) r) }
         ensures told { IsTrue
-            (is_told_for_none (state_of self.old) session
+            (is_told_for_none (state_with self.old sessions.old) session
             (DoCommand (command.Do asked.value))) → IsOk result }
-        ensures err { OnErr result (state_of self.new ≡ state_of self.old) }
-        ensures kept { IsKept self.new }
+        ensures err { OnErr result
+            (state_with self.new sessions.new ≡ state_with self.old sessions.old) }
+        ensures kept { IsKept (parts_of self.new sessions.new) }
     {
-        let Some(transaction) = &self.sessions[place].transaction else {
+        let Some(transaction) = sessions.transaction(place) else {
             return Ok(SharedReply::new(Reply::NoTransaction));
         };
         if transaction.store.count() as u64 >= self.limits.operations {
@@ -77,7 +81,7 @@ impl Machine {
         let lock = needs(self.alloc, &asked.value)?;
         match self.ages.request(age, lock)? {
             Answer::Granted => {
-                let slot = &mut self.sessions[place];
+                let slot = sessions.transaction_mut(place);
                 let worked = work(self.alloc, &self.catalog, slot, &mut self.ages, asked)?;
                 end_if(worked.over, slot, &mut self.ages);
                 Ok(worked.into_reply())
@@ -91,39 +95,50 @@ impl Machine {
                 Ok(SharedReply::new(Reply::Waiting))
             }
             Answer::Die => {
-                restart(&mut self.sessions[place], &mut self.ages);
+                restart(sessions.transaction_mut(place), &mut self.ages);
                 Ok(SharedReply::new(Reply::Restart))
             }
         }
     }
 
     /// A session asks again for the lock that it waits for.
-    pub fn retry(&mut self, session: u32) -> Result<Stepped, AllocError>
-        requires kept { IsKept self.old }
+    pub fn retry<P: Post + Drop>(
+        &mut self,
+        sessions: &mut Subs<P>,
+        session: u32,
+    ) -> Result<Stepped, AllocError>
+        requires kept { IsKept (parts_of self.old sessions.old) }
         ensures done { IfOk result
-            (λ s. StepsTo (state_of self.old) session Retry s (state_of self.new)) }
-        ensures free { IsTrue (asks_for_none (state_of self.old) session Retry) → IsOk result }
-        ensures told { IsTrue (is_told_for_none (state_of self.old) session Retry) → IsOk result }
-        ensures err { OnErr result (state_of self.new ≡ state_of self.old) }
-        ensures kept { IsKept self.new }
+            (λ s. StepsTo (state_with self.old sessions.old) session Retry s (state_with self.new sessions.new)) }
+        ensures free { IsTrue (asks_for_none (state_with self.old sessions.old) session Retry) → IsOk result }
+        ensures told { IsTrue (is_told_for_none (state_with self.old sessions.old) session Retry) → IsOk result }
+        ensures err { OnErr result
+            (state_with self.new sessions.new ≡ state_with self.old sessions.old) }
+        ensures kept { IsKept (parts_of self.new sessions.new) }
     {
-        let Some(place) = self.place(session) else {
+        let Some(place) = sessions.place(session as u64) else {
             return Ok(Stepped::without_entry(Reply::BadSession));
         };
-        Ok(Stepped::told(self.retry_at(session, place)?))
+        Ok(Stepped::told(self.retry_at(sessions, session, place)?))
     }
 
     /// The queued operation of a session, if there is one, asks again for its lock.
-    fn retry_at(&mut self, session: u32, place: usize) -> Result<SharedReply, AllocError>
-        requires kept { IsKept self.old }
-        requires there { IsHeldAt self.old.sessions.items session place }
+    fn retry_at<P: Post + Drop>(
+        &mut self,
+        sessions: &mut Subs<P>,
+        session: u32,
+        place: usize,
+    ) -> Result<SharedReply, AllocError>
+        requires kept { IsKept (parts_of self.old sessions.old) }
+        requires there { IsHeldAt sessions.old session place }
         ensures ok { IfOk result
-            (λ r. outcome (state_of self.old) [] session Retry
-            ≡ step_without_entry (state_of self.new) r) }
-        ensures free { IsFalse (is_waiting (state_of self.old) session) → IsOk result }
-        ensures told { IsTrue (is_told_for_none (state_of self.old) session Retry) → IsOk result }
-        ensures err { OnErr result (state_of self.new ≡ state_of self.old) }
-        ensures kept { IsKept self.new }
+            (λ r. outcome (state_with self.old sessions.old) [] session Retry
+            ≡ step_without_entry (state_with self.new sessions.new) r) }
+        ensures free { IsFalse (is_waiting (state_with self.old sessions.old) session) → IsOk result }
+        ensures told { IsTrue (is_told_for_none (state_with self.old sessions.old) session Retry) → IsOk result }
+        ensures err { OnErr result
+            (state_with self.new sessions.new ≡ state_with self.old sessions.old) }
+        ensures kept { IsKept (parts_of self.new sessions.new) }
     {
         let Some(request) = find(&self.queue, session) else {
             return Ok(SharedReply::new(Reply::NotWaiting));
@@ -136,7 +151,7 @@ impl Machine {
             value: request.operation.try_clone(self.alloc)?,
         };
         self.ages.grant(age)?;
-        let slot = &mut self.sessions[place];
+        let slot = sessions.transaction_mut(place);
         let worked = work(self.alloc, &self.catalog, slot, &mut self.ages, asked)?;
         self.ages.drop_wait(age);
         self.queue.retain(|request| request.session != session);
@@ -149,21 +164,20 @@ impl Machine {
 fn work(
     alloc: Global,
     catalog: &Catalog,
-    slot: &mut Session,
+    slot: &mut Option<Transaction>,
     ages: &mut Ages,
     asked: Whole<Operation>,
 ) -> Result<Worked, AllocError>
-    requires { IsSome slot.old.transaction }
-    ensures number { slot.new.number ≡ slot.old.number }
-    ensures ok { IfSome slot.old.transaction
-        (λ t. IfOk result (λ x. WorksTo catalog.now t asked.value x slot.new.transaction)) }
+    requires { IsSome slot.old }
+    ensures ok { IfSome slot.old
+        (λ t. IfOk result (λ x. WorksTo catalog.now t asked.value x slot.new)) }
     ensures held { IfOk result (λ x. ages.new ≡ ages.old) }
-    ensures undone { IfSome slot.old.transaction
+    ensures undone { IfSome slot.old
         (λ t. OnErr result
-        ((slot.new.transaction ≡ slot.old.transaction)
+        ((slot.new ≡ slot.old)
         × (ages.new ≡ ages_with (without_last t.age ages.old.held) ages.old.queue))) }
 {
-    let Some(transaction) = &mut slot.transaction else {
+    let Some(transaction) = slot else {
         unreachable!();
     };
     work_in(alloc, catalog, transaction, ages, asked)
@@ -198,25 +212,24 @@ fn work_in(
 }
 
 /// The transaction is over, with its locks and its queued request.
-pub(crate) fn end_if(over: bool, slot: &mut Session, ages: &mut Ages)
-    ensures slot { slot.new ≡ (if over then ended slot.old else slot.old) }
-    ensures ages { ages.new
-        ≡ (if over then forgotten_if ages.old slot.old.transaction else ages.old) }
+pub(crate) fn end_if(over: bool, slot: &mut Option<Transaction>, ages: &mut Ages)
+    ensures slot { slot.new ≡ (if over then None else slot.old) }
+    ensures ages { ages.new ≡ (if over then forgotten_if ages.old slot.old else ages.old) }
 {
     if over {
-        if let Some(transaction) = &slot.transaction {
+        if let Some(transaction) = slot {
             ages.forget(transaction.age);
         }
-        slot.transaction = None;
+        *slot = None;
     }
 }
 
 /// A younger transaction gives way: its operations and locks are gone; its age stays, and it rests for the lock.
-fn restart(slot: &mut Session, ages: &mut Ages)
-    ensures slot { slot.new ≡ without_moves slot.old }
-    ensures ages { ages.new ≡ forgotten_if ages.old slot.old.transaction }
+fn restart(slot: &mut Option<Transaction>, ages: &mut Ages)
+    ensures slot { slot.new ≡ restarted slot.old }
+    ensures ages { ages.new ≡ forgotten_if ages.old slot.old }
 {
-    if let Some(transaction) = &mut slot.transaction {
+    if let Some(transaction) = slot {
         transaction.store.clear();
         ages.give_up(transaction.age);
     }

@@ -3,7 +3,7 @@
 ghost use Rattle.std.specs.Prelude.{◌≡◌, map, option_map};
 ghost use Rattle.std.specs.Option.{option_copied};
 ghost use Rattle.tab_model.specs.State.{request_in};
-ghost use Rattle.tab_manager.specs.SessionLists.{queued_of};
+ghost use Rattle.tab_manager.specs.Parts.{queued_of};
 
 use tab_model::Operation;
 

@@ -1,6 +1,8 @@
 -- Where a session stands.
 use Rattle.std.proofs.Common.{◌≡◌, ℕ, zero, suc, ◌<◌, ◌≤◌, List, [], ◌∷◌, ◌++◌, Bool, true, false, not, refl, sym, ap, ◌∙◌, Some, None, take, length, get_or, set, arith, eqb-true, subst}
 use Rattle.std.proofs.lemmas.Bool.{or_parts}
+use Rattle.std.proofs.lemmas.Bool.Decides.{nat_tests}
+use Rattle.tab_model.proofs.SessionLists.{eq_true, other_number}
 use Rattle.std.proofs.Math.Seq.{map-set_same}
 use Rattle.std.specs.Prelude.{◌==◌, if◌then◌else◌, Option, IfSome, nat_le}
 use Rattle.tab_model.specs.declared.data.Item.{Item}
@@ -32,12 +34,38 @@ changed_there n (x ∷ ss) (suc i) s y lt none is here e =
     let p = or_parts (x.number == n) (list_any (λ v. v.number == n) (take i ss)) none in
     (λ j. if (ap (λ m. x.number == m) e ∙ p.0) j then y ∷ ss else x ∷ change ss y) ∙ ap (λ zs. x ∷ zs) (changed_there n ss i s y (omega arith) p.1 is here e)
 
+replaced_there : (n : ℕ) (ss : List Subscriber) (i : ℕ) (s y : Subscriber) → i < length ss → list_any (λ x. x.number == n) (take i ss) ≡ false → s ≡ get_or ss i s → (s.number == n) ≡ true → y.number ≡ n
+    → (m : ℕ) → at (set ss i y) m ≡ (if m == n then Some y else at ss m)
+replaced_there n [] i s y lt none is here e m = absurd (omega arith)
+replaced_there n (x ∷ ss) zero s y lt none is here e m = by (m == n) refl
+  where
+    x_is : x.number ≡ n
+    x_is = eqb-true x.number n (ap (λ (v : Subscriber). v.number == n) (sym is) ∙ here)
+
+    flip : (a b : ℕ) (c : Bool) → (b == a) ≡ c → (a == b) ≡ c
+    flip a b c h = grind (arith, nat_tests)
+
+    by : (c : Bool) → (m == n) ≡ c → (if y.number == m then Some y else at ss m) ≡ (if c then Some y else (if x.number == m then Some x else at ss m))
+    by true h = ap (λ b. if b then Some y else at ss m) (ap (λ k. k == m) e ∙ flip n m true h)
+    by false h = ap (λ b. if b then Some y else at ss m) (ap (λ k. k == m) e ∙ flip n m false h) ∙ sym (ap (λ b. if b then Some x else at ss m) (ap (λ k. k == m) x_is ∙ flip n m false h))
+replaced_there n (x ∷ ss) (suc i) s y lt none is here e m =
+    let p = or_parts (x.number == n) (list_any (λ v. v.number == n) (take i ss)) none in
+    by (x.number == m) (m == n) refl refl p.0 (replaced_there n ss i s y (omega arith) p.1 is here e m)
+  where
+    by : (b c : Bool) → (x.number == m) ≡ b → (m == n) ≡ c → (x.number == n) ≡ false → at (set ss i y) m ≡ (if c then Some y else at ss m)
+        → (if b then Some x else at (set ss i y) m) ≡ (if c then Some y else (if b then Some x else at ss m))
+    by true true f g none ih = absurd (other_number x.number n none (eq_true x.number m f ∙ eq_true m n g))
+    by true false f g none ih = refl
+    by false true f g none ih = ih
+    by false false f g none ih = ih
+
 pub stands : (n : ℕ) (ss : List Subscriber) (i : ℕ) (s : Subscriber) → i < length ss → list_any (λ x. x.number == n) (take i ss) ≡ false → s ≡ get_or ss i s → (s.number == n) ≡ true → IsHeldAt ss n i
 stands n ss i s lt none is here = record {
   within = lt;
   slot = λ d. session_there n ss i s d lt none is here;
   number = λ d. number_there n ss i s d lt is here;
   changed = λ y e. changed_there n ss i s y lt none is here e;
+  replaced = λ y e m. replaced_there n ss i s y lt none is here e m;
 }
 
 pub nowhere : (n : ℕ) (ss : List Subscriber) (i : ℕ) → length ss ≤ i → list_any (λ x. x.number == n) (take i ss) ≡ false → at ss n ≡ None
@@ -98,3 +126,9 @@ number-give s = by (items_to_take s.outbox s.outbox.capacity) s.overflow
     by [] None = refl
     by [] (Some n) = refl
     by (x ∷ xs) l = refl
+
+-- a session's transaction has no part in its number
+pub same_numbers : (ss : List Subscriber) (i : ℕ) (s d : Subscriber) → s.number ≡ (get_or ss i d).number → numbers (set ss i s) ≡ numbers ss
+same_numbers [] i s d h = refl
+same_numbers (x ∷ ss) zero s d h = ap (λ n. n ∷ numbers ss) h
+same_numbers (x ∷ ss) (suc i) s d h = ap (λ ns. x.number ∷ ns) (same_numbers ss i s d h)

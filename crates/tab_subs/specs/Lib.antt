@@ -1,2 +1,3 @@
 pub mod Subscribers
 pub mod Deliveries
+pub mod Lending

@@ -1,5 +1,5 @@
--- The joined sessions: what each watches, and what its post shows (this project's own). The words are those of a core's
--- sessions.
+-- The joined sessions: the transaction of each, what it watches, and what its post shows (this project's own). The words are
+-- those of a core's sessions.
 use Rattle.std.specs.Prelude.{ℕ, ◌≡◌, ◌<◌, map, length, nat_le, IfSome, slice_index_or, slice_set, List, [], ◌∷◌, Bool, true, false, not, ◌==◌, if◌then◌else◌, Option, Some, None, is_some, find, filter}
 use Rattle.std.specs.List.{list_any}
 use Rattle.tab_model.specs.declared.data.Item.{Item}
@@ -7,21 +7,31 @@ use Rattle.tab_model.specs.declared.data.Level.{Level}
 use Rattle.tab_model.specs.Log.{has_session}
 use Rattle.tab_model.specs.State.{Outbox, Watch, level_in}
 use Rattle.tab_model.specs.Outcome.{with_items, with_refusal, items_to_take}
+use Rattle.tab_subs.specs.declared.transaction.Transaction.{Transaction}
 use Rattle.tab_subs.specs.declared.answers.Taken.{Taken}
 use Rattle.tab_subs.specs.declared.answers.Taken.TheVariants as taken
 use Rattle.tab_subs.specs.declared.answers.Marked.{Marked}
 use Rattle.tab_subs.specs.declared.answers.Marked.TheVariants as mark
 
--- a joined session: what it watches, what its post shows, and an overflow that it was not sent yet
+-- a joined session: its open transaction, what it watches, what its post shows, and an overflow that it was not sent yet
 pub record Subscriber : Type 0 where
   pub number : ℕ
+  pub transaction : Option Transaction
   pub watching : List Watch
   pub outbox : Outbox
   pub overflow : Option ℕ
 
 -- a session that has just joined with this post
 abbrev pub fresh : ℕ → Outbox → Subscriber
-fresh n b = record { number = n; watching = []; outbox = b; overflow = None }
+fresh n b = record { number = n; transaction = None; watching = []; outbox = b; overflow = None }
+
+-- no item is ever put into it
+abbrev pub no_outbox : Outbox
+no_outbox = record { items = []; refusals = 0; capacity = Some 0; mailbox = None }
+
+-- what a place holds where there is no session
+abbrev pub nobody : Subscriber
+nobody = fresh 0 no_outbox
 
 -- the subscriber of this number, the first if there are several
 abbrev pub at : List Subscriber → ℕ → Option Subscriber
@@ -32,13 +42,17 @@ abbrev pub change : List Subscriber → Subscriber → List Subscriber
 change [] s = []
 change (x ∷ xs) s = if x.number == s.number then s ∷ xs else x ∷ change xs s
 
+-- the list with this transaction, or none, in the subscriber at the place
+abbrev pub with_transaction : List Subscriber → ℕ → Option Transaction → List Subscriber
+with_transaction ss i t = slice_set ss i (record (slice_index_or ss i nobody) { transaction = t })
+
 -- the list without the subscribers of this number
 abbrev pub without : List Subscriber → ℕ → List Subscriber
 without ss n = filter (λ s. not (s.number == n)) ss
 
 -- an item that the post refuses ends its subscriptions
 abbrev pub overflowed : ℕ → Subscriber → Subscriber
-overflowed n s = record { number = s.number; watching = []; outbox = with_refusal s.outbox; overflow = Some n }
+overflowed n s = record s { watching = []; outbox = with_refusal s.outbox; overflow = Some n }
 
 -- a subscriber after its items: overflowed where its number is in the list, else with them behind its outbox
 abbrev pub given : ℕ → List ℕ → List Item → Subscriber → Subscriber
@@ -120,3 +134,4 @@ pub record IsHeldAt (ss : List Subscriber) (n i : ℕ) : Type 0 where
   pub slot : (d : Subscriber) → at ss n ≡ Some (slice_index_or ss i d)
   pub number : (d : Subscriber) → (slice_index_or ss i d).number ≡ n
   pub changed : (s : Subscriber) → s.number ≡ n → change ss s ≡ slice_set ss i s
+  pub replaced : (s : Subscriber) → s.number ≡ n → (m : ℕ) → at (slice_set ss i s) m ≡ (if m == n then Some s else at ss m)

@@ -1,4 +1,4 @@
-//! The sessions' subscriptions, each with the post that its items are put into.
+//! The joined sessions: each with its open transaction, its subscriptions, and the post that its items are put into.
 //!
 //! What is due for a commit is prepared first, with all memory that it takes, and then delivered, which can't fail.
 
@@ -10,8 +10,10 @@ mod prepared;
 mod session;
 mod shaped;
 mod subs;
+mod transaction;
 mod watched;
 
 pub use answers::{Marked, Taken};
 pub use prepared::Prepared;
 pub use subs::Subs;
+pub use transaction::Transaction;

@@ -1,6 +1,7 @@
-//! A session with what it watches and the post that it takes from.
+//! A session with its transaction, what it watches, and the post that it takes from.
 
 ghost use Rattle.std.specs.Prelude.{◌≡◌, ◌∷◌, Some, None, IfOk, IfSome, OnOk, OnErr, length, nat_le};
+ghost use Rattle.std.specs.Borrow.{sem};
 ghost use Rattle.tab_model.specs.Slices.{batch_for, end_for};
 ghost use Rattle.tab_model.specs.State.{level_in, without_watch};
 ghost use Rattle.tab_model.specs.declared.data.Item.TheVariants as Item;
@@ -13,6 +14,7 @@ ghost use Rattle.tab_subs.specs.Subscribers.{fresh, take as take_of, marked, is_
 
 use crate::answers::{Marked, Taken};
 use crate::shaped::Shaped;
+use crate::transaction::Transaction;
 use crate::watched::{Watched, forget, level_of};
 use std::alloc::{AllocError, Global};
 use std::marker::Model;
@@ -22,10 +24,11 @@ use tab_model::{Ending, SharedItem};
 use tab_outbox::{Mailbox, Met, Post};
 use tab_term::Atom;
 
-/// A session's subscriptions and its post.
+/// A session: its open transaction, its subscriptions and its post.
 #[derive(Drop)]
 pub struct Session<P: Post> {
     number: u64,
+    transaction: Option<Transaction>,
     watching: Vec<Watched>,
     // The number of an overflow that the session was not told yet.
     overflow: Option<u64>,
@@ -34,16 +37,17 @@ pub struct Session<P: Post> {
 
 impl<P: Post> Model for Session<P> {
     ghost use Rattle.std.specs.Coded.{codes};
-    ghost use Rattle.tab_term.specs.Code.{terms_code, pairs_code};
+    ghost use Rattle.tab_term.specs.Code.{term_code, terms_code, pairs_code};
     ghost use Rattle.tab_subs.specs.Subscribers.{Subscriber};
 
     ghost Value = { Subscriber };
 
-    ghost coded = { Prim.hlevel (codes, terms_code, pairs_code) };
+    ghost coded = { Prim.hlevel (codes, term_code, terms_code, pairs_code) };
 
     ghost view = { λ a.
         record {
           number = a.number;
+          transaction = a.transaction;
           watching = a.watching.items;
           outbox = P.outbox a.post;
           overflow = a.overflow;
@@ -51,12 +55,15 @@ impl<P: Post> Model for Session<P> {
 }
 
 impl<P: Post + Drop> Session<P> {
+    ghost use Rattle.tab_subs.specs.Lending.{lends_own};
+
     /// Of a session that has just joined.
     pub fn new(alloc: Global, number: u64, post: P) -> Session<P>
         ensures { result ≡ fresh number (P.outbox post) }
     {
         Session {
             number,
+            transaction: None,
             watching: Vec::new(alloc),
             overflow: None,
             post,
@@ -68,6 +75,21 @@ impl<P: Post + Drop> Session<P> {
         ensures { result ≡ self.now.number }
     {
         self.number
+    }
+
+    /// Its open transaction, if there is one.
+    pub fn transaction(&self) -> &Option<Transaction>
+        ensures { result.now ≡ self.now.transaction }
+    {
+        &self.transaction
+    }
+
+    /// Its open transaction, or the place for one.
+    pub fn transaction_mut(&mut self) -> &mut Option<Transaction>
+        ensures* lends { sem 𝓛 (lends_own P.row P.Post self.entry result) }
+        ensures value { result.now ≡ self.old.transaction }
+    {
+        &mut self.transaction
     }
 
     /// Where its items are put.

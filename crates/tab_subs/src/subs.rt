@@ -1,19 +1,21 @@
-//! All sessions' subscriptions.
+//! All sessions, each with its transaction, its subscriptions and its post.
 
-ghost use Rattle.std.specs.Prelude.{◌≡◌, ◌<◌, ◌∷◌, ◌++◌, [], Some, None, IfOk, OnOk, OnErr, MatchOption, map, option_map, option_to_list};
+ghost use Rattle.std.specs.Prelude.{◌≡◌, ◌<◌, ◌∷◌, ◌++◌, [], Some, None, IfOk, OnOk, OnErr, MatchOption, length, map, option_map, option_to_list, slice_index_or};
+ghost use Rattle.std.specs.Borrow.{sem};
 ghost use Rattle.tab_model.specs.Slices.{batch_for, end_for};
 ghost use Rattle.tab_model.specs.State.{level_in, without_watch};
 ghost use Rattle.tab_model.specs.declared.data.Item.TheVariants as Item;
 ghost use Rattle.tab_model.specs.declared.data.Ending.TheVariants as Ending;
 ghost use Rattle.tab_outbox.specs.Mailboxes.{Meets};
 ghost use Rattle.tab_subs.specs.Deliveries.{Delivers};
-ghost use Rattle.tab_subs.specs.Subscribers.{Subscriber, fresh, at, without, taken_from, level_of, overflow_of, has_watcher as has_watcher_of, IsHeldAt, Marks, AllBelow, numbers};
+ghost use Rattle.tab_subs.specs.Subscribers.{Subscriber, fresh, at, nobody, without, taken_from, level_of, overflow_of, has_watcher as has_watcher_of, IsHeldAt, Marks, AllBelow, numbers};
 
 use crate::answers::{Marked, Taken};
 use crate::only_event::OnlyEvent;
 use crate::prepared::{Prepared, next_due, with_room};
 use crate::session::Session;
 use crate::shaped::Shaped;
+use crate::transaction::Transaction;
 use std::alloc::{AllocError, Global};
 use std::collections::VecDeque;
 use std::marker::Model;
@@ -32,12 +34,12 @@ pub struct Subs<P: Post> {
 impl<P: Post> Model for Subs<P> {
     ghost use Rattle.std.specs.Prelude.{List};
     ghost use Rattle.std.specs.Coded.{codes};
-    ghost use Rattle.tab_term.specs.Code.{terms_code, pairs_code};
+    ghost use Rattle.tab_term.specs.Code.{term_code, terms_code, pairs_code};
     ghost use Rattle.tab_subs.specs.Subscribers.{Subscriber, Ascends, numbers};
 
     ghost Value = { List Subscriber };
 
-    ghost coded = { Prim.hlevel (codes, terms_code, pairs_code) };
+    ghost coded = { Prim.hlevel (codes, term_code, terms_code, pairs_code) };
 
     ghost view = { λ a. a.sessions.items };
 
@@ -45,6 +47,8 @@ impl<P: Post> Model for Subs<P> {
 }
 
 impl<P: Post + Drop> Subs<P> {
+    ghost use Rattle.tab_subs.specs.Lending.{lends_one};
+
     /// Nobody.
     pub fn new(alloc: Global) -> Subs<P>
         ensures { result ≡ [] }
@@ -73,7 +77,8 @@ impl<P: Post + Drop> Subs<P> {
         self.sessions.retain(|slot| slot.number() != session);
     }
 
-    fn place(&self, session: u64) -> Option<usize>
+    /// The place of a session, where the calls below find it. None of one that isn't joined.
+    pub fn place(&self, session: u64) -> Option<usize>
         ensures { MatchOption result (at self.now session ≡ None) (IsHeldAt self.now session) }
     {
         for (place, slot) in self.sessions.iter().enumerate() {
@@ -82,6 +87,38 @@ impl<P: Post + Drop> Subs<P> {
             }
         }
         None
+    }
+
+    /// How many sessions are joined.
+    pub fn len(&self) -> usize
+        ensures { result ≡ length self.now }
+    {
+        self.sessions.len()
+    }
+
+    /// The number of the session at the place.
+    pub fn number(&self, place: usize) -> u64
+        requires { place < length self.now }
+        ensures { result ≡ (slice_index_or self.now place nobody).number }
+    {
+        self.sessions[place].number()
+    }
+
+    /// The open transaction of the session at the place, if there is one.
+    pub fn transaction(&self, place: usize) -> &Option<Transaction>
+        requires { place < length self.now }
+        ensures { result.now ≡ (slice_index_or self.now place nobody).transaction }
+    {
+        self.sessions[place].transaction()
+    }
+
+    /// The open transaction of the session at the place, or the place for one.
+    pub fn transaction_mut(&mut self, place: usize) -> &mut Option<Transaction>
+        requires { place < length self.old }
+        ensures* lends { sem 𝓛 (lends_one P.row P.Post self.entry place result) }
+        ensures value { result.now ≡ (slice_index_or self.old place nobody).transaction }
+    {
+        self.sessions[place].transaction_mut()
     }
 
     /// What the session takes next. None of one that isn't joined.

@@ -1,7 +1,8 @@
 use Rattle.std.proofs.Common.{subst}
 use Rattle.tab_model.specs.State.{IsSound}
 use Rattle.tab_model.specs.Reached.{IsRising}
-use Rattle.tab_core.proofs.SoundLemmas.{sound_with, rising_with}
+use Rattle.tab_manager.specs.Parts.{parts_of}
+use Rattle.tab_core.proofs.StepsLemmas.{rising_of}
 use Rattle.tab_core.proofs.Core.command.Goals as goal
 
 pub returns : goal.returns
@@ -9,6 +10,6 @@ returns g c = record {
   done = c.do_command-stepped.ensures.done;
   free = c.do_command-stepped.ensures.free;
   err = c.do_command-stepped.ensures.err;
-  sound = subst IsSound c.self.view_is (sound_with c.self.inside.subs c.self.inside.manager c.self.invariant.sound);
-  rising = subst IsRising c.self.view_is (rising_with c.self.inside.subs c.self.inside.manager c.self.invariant.rising);
+  sound = subst IsSound c.self.view_is c.self.invariant.sound;
+  rising = subst IsRising c.self.view_is (rising_of (parts_of c.self.inside.machine c.self.inside.subs) c.self.invariant);
 }

@@ -1,52 +1,64 @@
-use Rattle.std.proofs.Common.{subst}
-use Rattle.tab_model.specs.State.{State}
+use Rattle.std.proofs.Common.{◌≡◌, None, sym, subst}
+use Rattle.tab_model.specs.State.{State, session_at}
 use Rattle.tab_model.specs.declared.ask.Ask.TheVariants.{Do as DoCommand}
 use Rattle.tab_model.specs.declared.data.Command.TheVariants as command
+use Rattle.tab_manager.specs.Parts.{parts_of, state_with}
 use Rattle.tab_core.specs.Runs.{StepsTo}
-use Rattle.tab_core.proofs.StepsLemmas.{quiet_schema_makes, refused_schema_makes, same_result, err_stays, ok_sees, not_removed, none_is, removes}
+use Rattle.tab_core.specs.Subscribing.{inside_refusal, refused_by}
+use Rattle.tab_core.proofs.OwingLemmas.{quiet_schema_makes, refused_schema_makes, removes, put_keeps, step_keeps, delivered_keys, same_err, not_removed, none_is}
+use Rattle.tab_core.proofs.SessionsLemmas.{same_keys}
+use Rattle.tab_core.proofs.StepsLemmas.{ok_sees, err_stays}
 use Rattle.tab_core.proofs.Core.redefine.Goals as goal
 
 pub invariant_of-self : goal.invariant_of-self
 invariant_of-self g c =
-    let bs = c.self.inside.subs in
-    let σ = c.self.inside.manager in
-    let τ = c.command.new.self in
-    record {
-      same = same_result bs σ τ _ c.command.result c.self.invariant.same (λ s h. (quiet_schema_makes bs σ c.self.invariant c.args.session s τ c.args.schema (not_removed c.args.schema c.in_default.not-Remove) h).1) c.command.ensures.done c.command.ensures.err;
-      sound = c.command.ensures.sound;
-      rising = c.command.ensures.rising;
-    }
+    let ss = c.self.inside.subs in
+    let σ = state_with c.self.inside.machine ss in
+    let τ = state_with c.schema.new.self ss in
+    let free = subst (λ (ρ : State). None ≡ refused_by ρ c.args.session inside_refusal (session_at ρ.sessions c.args.session)) (sym c.self.view_is) c.requires.free in
+    step_keeps (parts_of c.self.inside.machine ss) (parts_of c.schema.new.self ss) c.args.session (DoCommand (command.Schema c.args.schema)) _ c.schema.result c.self.invariant (c.schema.ensures.agree ss c.self.invariant)
+    (λ s h. quiet_schema_makes σ ss c.args.session c.args.schema free (not_removed c.args.schema c.in_default.not-Remove) s τ h) (c.schema.ensures.done ss c.self.invariant) (same_err (λ x. state_with x ss) c.schema.new.self c.self.inside.machine c.schema.result c.schema.ensures.err)
 
 pub returns-in_default : goal.returns-in_default
 returns-in_default g c =
-    let bs = c.self.inside.subs in
-    let σ = c.self.inside.manager in
-    let τ = c.command.new.self in
+    let ss = c.self.inside.subs in
+    let σ = state_with c.self.inside.machine ss in
+    let τ = state_with c.schema.new.self ss in
+    let free = subst (λ (ρ : State). None ≡ refused_by ρ c.args.session inside_refusal (session_at ρ.sessions c.args.session)) (sym c.self.view_is) c.requires.free in
     record {
-      done = ok_sees bs bs σ τ c.args.self.now c.args.session (DoCommand (command.Schema c.args.schema)) _ c.command.result c.self.view_is (λ s h. (quiet_schema_makes bs σ c.self.invariant c.args.session s τ c.args.schema (not_removed c.args.schema c.in_default.not-Remove) h).0) c.command.ensures.done;
-      err = err_stays bs σ τ c.args.self.now c.command.result c.self.view_is c.command.ensures.err;
+      done = ok_sees σ τ c.args.self.now c.args.session (DoCommand (command.Schema c.args.schema)) _ c.schema.result c.self.view_is (λ s h. quiet_schema_makes σ ss c.args.session c.args.schema free (not_removed c.args.schema c.in_default.not-Remove) s τ h) (c.schema.ensures.done ss c.self.invariant);
+      err = err_stays σ τ c.args.self.now c.schema.result c.self.view_is (same_err (λ x. state_with x ss) c.schema.new.self c.self.inside.machine c.schema.result c.schema.ensures.err);
     }
 
 pub invariant_of-self-then-is_none : goal.invariant_of-self-then-is_none
-invariant_of-self-then-is_none g c = record {
-  same = (refused_schema_makes c.self.inside.subs c.self.inside.manager c.self.invariant c.args.session c.in_ok-stepped.stepped c.command-2.new.self c.args.schema c.in_ok-stepped.ensures.done (none_is _ c.if-is_none.ensures)).1;
-  sound = c.command-2.ensures.sound;
-  rising = c.command-2.ensures.rising;
-}
+invariant_of-self-then-is_none g c =
+    let ss = c.self.inside.subs in
+    let σ = state_with c.self.inside.machine ss in
+    let free = subst (λ (ρ : State). None ≡ refused_by ρ c.args.session inside_refusal (session_at ρ.sessions c.args.session)) (sym c.self.view_is) c.requires.free in
+    put_keeps (parts_of c.self.inside.machine ss) (parts_of c.schema-2.new.self ss) ss c.args.session (DoCommand (command.Schema c.args.schema)) c.in_ok-stepped.stepped c.self.invariant (c.schema-2.ensures.agree ss c.self.invariant) (same_keys ss)
+    (refused_schema_makes σ ss c.args.session c.args.schema free c.in_ok-stepped.stepped (state_with c.schema-2.new.self ss) (c.in_ok-stepped.ensures.done ss c.self.invariant) (none_is _ c.if-is_none.ensures))
 
 pub returns-then-is_none-clause-done : goal.returns-then-is_none-clause-done
 returns-then-is_none-clause-done g c =
-    subst (λ (μ : State). StepsTo μ c.args.session (DoCommand (command.Schema c.args.schema)) c.in_ok-stepped.stepped (Rattle.tab_core.specs.SessionLists.state_with c.self.inside.subs c.command-2.new.self)) c.self.view_is
-    (refused_schema_makes c.self.inside.subs c.self.inside.manager c.self.invariant c.args.session c.in_ok-stepped.stepped c.command-2.new.self c.args.schema c.in_ok-stepped.ensures.done (none_is _ c.if-is_none.ensures)).0
+    let ss = c.self.inside.subs in
+    let σ = state_with c.self.inside.machine ss in
+    let free = subst (λ (ρ : State). None ≡ refused_by ρ c.args.session inside_refusal (session_at ρ.sessions c.args.session)) (sym c.self.view_is) c.requires.free in
+    subst (λ (μ : State). StepsTo μ c.args.session (DoCommand (command.Schema c.args.schema)) c.in_ok-stepped.stepped (state_with c.schema-2.new.self ss)) c.self.view_is
+    (refused_schema_makes σ ss c.args.session c.args.schema free c.in_ok-stepped.stepped (state_with c.schema-2.new.self ss) (c.in_ok-stepped.ensures.done ss c.self.invariant) (none_is _ c.if-is_none.ensures))
 
 pub invariant_of-self-2 : goal.invariant_of-self-2
-invariant_of-self-2 g c = record {
-  same = (removes c.self.inside.subs c.self.inside.manager c.self.invariant c.args.session c.in_ok-stepped.stepped c.command-2.new.self c.args.schema c.in-Remove.table c.in-Remove.is c.in_ok-stepped.ensures.done c.if-is_none.ensures c.deliver-over.new.self c.deliver-over.result c.in_ok-prepared.prepared c.in_ok-number.number c.in_ok-prepared.ensures c.in_ok-number.ensures c.deliver-over.ensures c.with_overflowed.result c.with_overflowed.ensures).1;
-  sound = c.command-2.ensures.sound;
-  rising = c.command-2.ensures.rising;
-}
+invariant_of-self-2 g c =
+    let ss = c.self.inside.subs in
+    let σ = state_with c.self.inside.machine ss in
+    let free = subst (λ (ρ : State). None ≡ refused_by ρ c.args.session inside_refusal (session_at ρ.sessions c.args.session)) (sym c.self.view_is) c.requires.free in
+    put_keeps (parts_of c.self.inside.machine ss) (parts_of c.schema-2.new.self ss) c.deliver-over.new.self c.args.session (DoCommand (command.Schema c.args.schema)) c.with_overflowed.result c.self.invariant (c.schema-2.ensures.agree ss c.self.invariant)
+    (delivered_keys c.in_ok-prepared.prepared ss c.deliver-over.new.self c.deliver-over.result c.deliver-over.ensures)
+    (removes σ ss c.args.session c.args.schema free c.in-Remove.table c.in-Remove.is c.in_ok-stepped.stepped (state_with c.schema-2.new.self ss) (c.in_ok-stepped.ensures.done ss c.self.invariant) c.if-is_none.ensures c.deliver-over.new.self c.deliver-over.result c.in_ok-prepared.prepared c.in_ok-number.number c.in_ok-prepared.ensures c.in_ok-number.ensures c.deliver-over.ensures c.with_overflowed.result c.with_overflowed.ensures)
 
 pub returns-clause-done : goal.returns-clause-done
 returns-clause-done g c =
-    subst (λ (μ : State). StepsTo μ c.args.session (DoCommand (command.Schema c.args.schema)) c.with_overflowed.result (Rattle.tab_core.specs.SessionLists.state_with c.deliver-over.new.self c.command-2.new.self)) c.self.view_is
-    (removes c.self.inside.subs c.self.inside.manager c.self.invariant c.args.session c.in_ok-stepped.stepped c.command-2.new.self c.args.schema c.in-Remove.table c.in-Remove.is c.in_ok-stepped.ensures.done c.if-is_none.ensures c.deliver-over.new.self c.deliver-over.result c.in_ok-prepared.prepared c.in_ok-number.number c.in_ok-prepared.ensures c.in_ok-number.ensures c.deliver-over.ensures c.with_overflowed.result c.with_overflowed.ensures).0
+    let ss = c.self.inside.subs in
+    let σ = state_with c.self.inside.machine ss in
+    let free = subst (λ (ρ : State). None ≡ refused_by ρ c.args.session inside_refusal (session_at ρ.sessions c.args.session)) (sym c.self.view_is) c.requires.free in
+    subst (λ (μ : State). StepsTo μ c.args.session (DoCommand (command.Schema c.args.schema)) c.with_overflowed.result (state_with c.schema-2.new.self c.deliver-over.new.self)) c.self.view_is
+    (removes σ ss c.args.session c.args.schema free c.in-Remove.table c.in-Remove.is c.in_ok-stepped.stepped (state_with c.schema-2.new.self ss) (c.in_ok-stepped.ensures.done ss c.self.invariant) c.if-is_none.ensures c.deliver-over.new.self c.deliver-over.result c.in_ok-prepared.prepared c.in_ok-number.number c.in_ok-prepared.ensures c.in_ok-number.ensures c.deliver-over.ensures c.with_overflowed.result c.with_overflowed.ensures)

@@ -2,9 +2,10 @@ use Rattle.std.proofs.Common.{◌≡◌, List, [], ◌∷◌, length, refl, ap, 
 use Rattle.std.specs.Vec.Iter.{into_iter_items}
 use Rattle.tab_model.specs.State.{IsSound}
 use Rattle.tab_model.specs.Reached.{IsRising}
+use Rattle.tab_manager.specs.Parts.{parts_of}
 use Rattle.tab_core.specs.Runs.{asks_of}
 use Rattle.tab_core.proofs.RunsLemmas.{IsRunning, goes_on, ends_with, run_keeps, history_goes_on}
-use Rattle.tab_core.proofs.SoundLemmas.{sound_with, rising_with}
+use Rattle.tab_core.proofs.StepsLemmas.{rising_of}
 use Rattle.tab_core.proofs.Core.run_steps.Goals as goal
 
 no_items : {A : Type 0} (xs : List A) → length xs ≡ 0 → xs ≡ []
@@ -24,10 +25,10 @@ loop-session-preserved g c =
     )
 
 pub returns-in_err-replies-clause-sound : goal.returns-in_err-replies-clause-sound
-returns-in_err-replies-clause-sound g c = subst IsSound c.self.view_is (sound_with c.self.inside.subs c.self.inside.manager c.self.invariant.sound)
+returns-in_err-replies-clause-sound g c = subst IsSound c.self.view_is c.self.invariant.sound
 
 pub returns-in_err-replies-clause-rising : goal.returns-in_err-replies-clause-rising
-returns-in_err-replies-clause-rising g c = subst IsRising c.self.view_is (rising_with c.self.inside.subs c.self.inside.manager c.self.invariant.rising)
+returns-in_err-replies-clause-rising g c = subst IsRising c.self.view_is (rising_of (parts_of c.self.inside.machine c.self.inside.subs) c.self.invariant)
 
 pub returns : goal.returns
 returns g c =
@@ -36,8 +37,8 @@ returns g c =
     let none : into_iter_items c.loop-session.session-iterator ≡ [] = no_items (into_iter_items c.loop-session.session-iterator) (sym inv.2 ∙ c.in-None.ensures.steps.0) in
     let run = ends_with f c.args.self.now c.loop-session.self c.args.steps.items c.loop-session.replies.items (subst (λ xs. IsRunning f c.args.self.now c.loop-session.self c.args.steps.items xs c.loop-session.replies.items) none inv.0) in
     let asks = asks_of f c.args.steps.items in
-    let sound = subst IsSound c.self.view_is (sound_with c.self.inside.subs c.self.inside.manager c.self.invariant.sound) in
-    let rising = subst IsRising c.self.view_is (rising_with c.self.inside.subs c.self.inside.manager c.self.invariant.rising) in
+    let sound = subst IsSound c.self.view_is c.self.invariant.sound in
+    let rising = subst IsRising c.self.view_is (rising_of (parts_of c.self.inside.machine c.self.inside.subs) c.self.invariant) in
     let last = run_keeps c.args.self.now c.loop-session.self asks c.loop-session.replies.items run.0 run.1 sound rising in
     record {
       run = (run.0, run.1, history_goes_on c.args.self.now c.loop-session.self asks c.loop-session.replies.items run.0 run.1 c.requires sound);

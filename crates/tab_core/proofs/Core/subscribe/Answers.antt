@@ -1,34 +1,38 @@
-use Rattle.std.proofs.Common.{sym, ap, ◌∙◌, None}
+use Rattle.std.proofs.Common.{sym, ◌∙◌, None}
+use Rattle.tab_model.specs.declared.data.Command.TheVariants as command
+use Rattle.tab_model.specs.declared.ask.Ask.TheVariants.{Do as DoCommand}
 use Rattle.tab_model.specs.Slices.{dump_of}
-use Rattle.tab_core.proofs.MarksLemmas.{free, subscription_refused, subscription_made, began_with}
+use Rattle.tab_manager.specs.Parts.{parts_of, state_with}
 use Rattle.tab_manager.proofs.Answering.{not_refused}
 use Rattle.tab_manager.proofs.StepsLemmas.{differ}
+use Rattle.tab_core.proofs.MarksLemmas.{free, subscription_refused, subscription_made, began_with}
+use Rattle.tab_core.proofs.StepsLemmas.{sees, put_kept}
 use Rattle.tab_core.proofs.TellsLemmas.{subscribe_told}
 use Rattle.tab_core.proofs.Core.subscribe.Goals as goal
 
 pub returns-in-Some-clause-done : goal.returns-in-Some-clause-done
 returns-in-Some-clause-done g c =
-    subscription_refused c.self.inside.subs c.self.inside.manager c.args.self.now c.self.invariant c.self.view_is c.args.session c.args.table c.args.level c.args.dump
+    subscription_refused (parts_of c.self.inside.machine c.self.inside.subs) c.args.self.now c.self.view_is c.args.session c.args.table c.args.level c.args.dump
     c.in-Some.refusal (sym c.in-Some.is ∙ c.in_ok-refusal.ensures.ok) c.without_entry.result c.without_entry.ensures
 
 pub invariant_of-self-2 : goal.invariant_of-self-2
-invariant_of-self-2 g c = record {
-  same = (subscription_made c.self.inside.subs c.self.inside.manager c.args.self.now c.self.invariant c.self.view_is c.args.session c.args.table c.args.level c.args.dump
-      (free _ _ c.in_default.not-Some c.in_ok-refusal.ensures.ok) c.in_ok-marked.marked c.subscribe.new.self
-      (began_with c.self.inside.subs c.subscribe.new.self c.args.session c.args.table c.args.level c.in_ok-named.named c.in_ok-records.records (dump_of c.self.inside.manager.tables c.args.table c.args.dump) c.in_ok-marked.marked c.in_ok-named.ensures.ok
-      (c.in_ok-records.ensures ∙ ap (λ w. dump_of w c.args.table c.args.dump) c.tables.ensures) c.in_ok-marked.ensures.ok)
-      c.marked_reply.result c.marked_reply.ensures).1;
-  sound = c.self.invariant.sound;
-  rising = c.self.invariant.rising;
-}
+invariant_of-self-2 g c =
+    let m = parts_of c.self.inside.machine c.self.inside.subs in
+    let cs = c.subscribe.new.self in
+    let marked = began_with m.sessions cs c.args.session c.args.table c.args.level c.in_ok-named.named c.in_ok-records.records (dump_of m.catalog c.args.table c.args.dump) c.in_ok-marked.marked c.in_ok-named.ensures.ok c.in_ok-records.ensures c.in_ok-marked.ensures.ok in
+    let made = subscription_made m c.args.self.now c.self.view_is c.args.session c.args.table c.args.level c.args.dump
+    (free _ _ c.in_default.not-Some c.in_ok-refusal.ensures.ok) c.in_ok-marked.marked cs marked c.marked_reply.result c.marked_reply.ensures in
+    put_kept m cs c.args.session (DoCommand (command.Subscribe c.args.table c.args.level c.args.dump)) c.marked_reply.result c.self.invariant made.0 made.1
 
 pub returns-clause-done : goal.returns-clause-done
 returns-clause-done g c =
-    (subscription_made c.self.inside.subs c.self.inside.manager c.args.self.now c.self.invariant c.self.view_is c.args.session c.args.table c.args.level c.args.dump
-    (free _ _ c.in_default.not-Some c.in_ok-refusal.ensures.ok) c.in_ok-marked.marked c.subscribe.new.self
-    (began_with c.self.inside.subs c.subscribe.new.self c.args.session c.args.table c.args.level c.in_ok-named.named c.in_ok-records.records (dump_of c.self.inside.manager.tables c.args.table c.args.dump) c.in_ok-marked.marked c.in_ok-named.ensures.ok
-    (c.in_ok-records.ensures ∙ ap (λ w. dump_of w c.args.table c.args.dump) c.tables.ensures) c.in_ok-marked.ensures.ok)
-    c.marked_reply.result c.marked_reply.ensures).0
+    let m = parts_of c.self.inside.machine c.self.inside.subs in
+    let cs = c.subscribe.new.self in
+    let marked = began_with m.sessions cs c.args.session c.args.table c.args.level c.in_ok-named.named c.in_ok-records.records (dump_of m.catalog c.args.table c.args.dump) c.in_ok-marked.marked c.in_ok-named.ensures.ok c.in_ok-records.ensures c.in_ok-marked.ensures.ok in
+    let made = subscription_made m c.args.self.now c.self.view_is c.args.session c.args.table c.args.level c.args.dump
+    (free _ _ c.in_default.not-Some c.in_ok-refusal.ensures.ok) c.in_ok-marked.marked cs marked c.marked_reply.result c.marked_reply.ensures in
+    sees (state_with c.self.inside.machine c.self.inside.subs) (state_with c.self.inside.machine cs) c.args.self.now c.args.session
+    (DoCommand (command.Subscribe c.args.table c.args.level c.args.dump)) c.marked_reply.result c.self.view_is made.0
 
 pub returns-in_err-refusal-clause-free : goal.returns-in_err-refusal-clause-free
 returns-in_err-refusal-clause-free g c h = absurd (not_refused _ _ c.in_err-refusal.was (c.subscribe_refusal.ensures.free c.args.level c.args.dump h))

@@ -1,6 +1,6 @@
-use Rattle.std.proofs.Common.{◌∙◌}
-use Rattle.tab_core.proofs.SeenLemmas.{waits_seen}
+use Rattle.std.proofs.Common.{ap, ◌∙◌}
+use Rattle.tab_model.specs.State.{State, is_waiting}
 use Rattle.tab_core.proofs.Core.waits.Goals as goal
 
 pub returns : goal.returns
-returns g c = c.waits.ensures ∙ waits_seen c.self.inside.subs c.self.inside.manager _ c.self.view_is c.args.session
+returns g c = c.waits.ensures c.self.inside.subs ∙ ap (λ (μ : State). is_waiting μ c.args.session) c.self.view_is

@@ -1,31 +1,28 @@
-use Rattle.std.proofs.Common.{sym, ap, ◌∙◌, arith}
-use Rattle.tab_manager.specs.declared.session.Session as code
-use Rattle.tab_manager.specs.SessionLists.{state_of}
-use Rattle.tab_manager.proofs.Keeping as keep
-use Rattle.tab_manager.proofs.Keeping.{the_session}
+use Rattle.std.proofs.Common.{sym, ◌∙◌, arith}
+use Rattle.tab_manager.specs.Parts.{parts_of, state_of}
 use Rattle.tab_manager.proofs.Answering as answering
 use Rattle.tab_manager.proofs.OutermostLemmas as lemmas
 use Rattle.tab_manager.proofs.machine.Machine.ending.Goals as goal
 
 pub returns-in_default : goal.returns-in_default
-returns-in_default c =
-    let m = c.args.self.now in
+returns-in_default g c =
+    let m = parts_of c.args.self.now c.args.sessions.now in
     let n = c.args.session in
     let i = c.args.place in
-    sym (lemmas.none_ends (state_of m) n (lemmas.no_transaction_none m n i c.requires.kept c.requires.there (keep.found m n i c.requires.there c.deref.result.now c.index-deref-place.result c.deref.ensures.0 c.in_default.is)))
+    sym (lemmas.none_ends (state_of m) n (lemmas.no_transaction_none m n i c.requires.kept c.requires.there (sym c.transaction.ensures ∙ c.in_default.is)))
 
 pub returns-then-depth-gt0 : goal.returns-then-depth-gt0
-returns-then-depth-gt0 c =
-    let m = c.args.self.now in
+returns-then-depth-gt0 g c =
+    let m = parts_of c.args.self.now c.args.sessions.now in
     let n = c.args.session in
     let i = c.args.place in
-    let open_t = keep.found m n i c.requires.there c.deref.result.now c.index-deref-place.result c.deref.ensures.0 c.in-Some.is in
+    let open_t = sym c.transaction.ensures ∙ c.in-Some.is in
     sym (lemmas.none_ends (state_of m) n (lemmas.child_none m n i c.requires.kept c.requires.there c.in-Some.transaction open_t (answering.above_zero _ (omega (arith, c.if-depth-gt0.true, c.depth.ensures)))))
 
 pub returns : goal.returns
-returns c =
-    let m = c.args.self.now in
+returns g c =
+    let m = parts_of c.args.self.now c.args.sessions.now in
     let n = c.args.session in
     let i = c.args.place in
-    let open_t = keep.found m n i c.requires.there c.deref.result.now c.index-deref-place.result c.deref.ensures.0 c.in-Some.is in
+    let open_t = sym c.transaction.ensures ∙ c.in-Some.is in
     lemmas.ends m n i c.requires.kept c.requires.there c.in-Some.transaction open_t _ c.updates.ensures c.requires.idle (answering.zero_is _ (omega (arith, c.if-depth-gt0.false, c.depth.ensures)))

@@ -1,31 +1,28 @@
-use Rattle.std.proofs.Common.{◌≡◌, true, false, refl, sym, ap, ◌∙◌, subst, get_or, set, not, rules}
+use Rattle.std.proofs.Common.{◌≡◌, true, false, refl, sym, ap, ◌∙◌, subst, set, not, rules}
 use Rattle.std.specs.Prelude.{◌==◌, IfSome, IsSome}
 use Rattle.std.proofs.lemmas.Fn.{filter_same}
-use Rattle.arrayvec.specs.ArrayVec.{with_items}
 use Rattle.tab_model.specs.Ages as plain
 use Rattle.tab_model.specs.Outcome.{step_without_entry}
-use Rattle.tab_manager.specs.declared.session.Session as code
 use Rattle.tab_manager.specs.declared.queue.Request as request
-use Rattle.tab_manager.specs.SessionLists.{state_of}
 use Rattle.tab_manager.specs.Works as works
-use Rattle.tab_manager.proofs.Places.{refilled}
 use Rattle.tab_manager.proofs.Keeping as keep
-use Rattle.tab_manager.proofs.Keeping.{the_session, parts}
+use Rattle.tab_manager.proofs.Keeping.{the_session, parts, with_transaction}
 use Rattle.tab_manager.proofs.OperatingLemmas as operating
 use Rattle.tab_manager.proofs.StepsLemmas as steps
 use Rattle.tab_manager.proofs.machine.Machine.retry_at.Goals as goal
+use Rattle.tab_manager.specs.Parts.{parts_of, state_of}
 
 pub returns-in_default-clause-ok : goal.returns-in_default-clause-ok
-returns-in_default-clause-ok c =
-    let m = c.args.self.now in
+returns-in_default-clause-ok g c =
+    let m = parts_of c.args.self.now c.args.sessions.now in
     let n = c.args.session in
     let i = c.args.place in
     operating.nothing_queued m n i c.requires.kept c.requires.there (operating.queued_here m n i c.requires.kept c.requires.there _ c.deref.ensures.value c.in_default.ensures)
     ∙ ap (step_without_entry (state_of m)) (sym c.new.ensures)
 
 pub may_go-requires : goal.may_go-requires
-may_go-requires c =
-    let m = c.args.self.now in
+may_go-requires g c =
+    let m = parts_of c.args.self.now c.args.sessions.now in
     let n = c.args.session in
     let i = c.args.place in
     let rq = operating.queued_here m n i c.requires.kept c.requires.there _ c.deref.ensures.value c.in-Some.ensures in
@@ -33,8 +30,8 @@ may_go-requires c =
     subst IsSome (sym r.request) refl
 
 pub returns-then-not-may_go-clause-ok : goal.returns-then-not-may_go-clause-ok
-returns-then-not-may_go-clause-ok c =
-    let m = c.args.self.now in
+returns-then-not-may_go-clause-ok g c =
+    let m = parts_of c.args.self.now c.args.sessions.now in
     let n = c.args.session in
     let i = c.args.place in
     let rq = operating.queued_here m n i c.requires.kept c.requires.there _ c.deref.ensures.value c.in-Some.ensures in
@@ -43,8 +40,8 @@ returns-then-not-may_go-clause-ok c =
     ∙ ap (step_without_entry (state_of m)) (sym c.new-then-not-may_go.ensures)
 
 pub grant-requires-clause-queued : goal.grant-requires-clause-queued
-grant-requires-clause-queued c =
-    let m = c.args.self.now in
+grant-requires-clause-queued g c =
+    let m = parts_of c.args.self.now c.args.sessions.now in
     let n = c.args.session in
     let i = c.args.place in
     let rq = operating.queued_here m n i c.requires.kept c.requires.there _ c.deref.ensures.value c.in-Some.ensures in
@@ -52,58 +49,53 @@ grant-requires-clause-queued c =
     subst IsSome (sym r.request) refl
 
 pub work-requires : goal.work-requires
-work-requires c =
-    let m = c.args.self.now in
+work-requires g c =
+    let m = parts_of c.args.self.now c.args.sessions.now in
     let n = c.args.session in
     let i = c.args.place in
     let rq = operating.queued_here m n i c.requires.kept c.requires.there _ c.deref.ensures.value c.in-Some.ensures in
     let r = operating.requested m n i c.requires.kept c.requires.there c.in-Some.request.now rq in
-    let same = keep.read m n i c.requires.there c.deref_mut.result.now c.index-deref_mut-place.result c.deref_mut.ensures.value in
-    subst IsSome (sym (ap (λ (x : code.Session). x.transaction) same ∙ r.open_t)) refl
+    subst IsSome (sym (c.transaction_mut-slot.ensures.value ∙ r.open_t)) refl
 
 pub returns-in_err-worked-clause-err : goal.returns-in_err-worked-clause-err
-returns-in_err-worked-clause-err c =
-    let m = c.args.self.now in
+returns-in_err-worked-clause-err g c =
+    let m = parts_of c.args.self.now c.args.sessions.now in
     let n = c.args.session in
     let i = c.args.place in
     let rq = operating.queued_here m n i c.requires.kept c.requires.there _ c.deref.ensures.value c.in-Some.ensures in
-    let same = keep.read m n i c.requires.there c.deref_mut.result.now c.index-deref_mut-place.result c.deref_mut.ensures.value in
-    keep.always c.from_residual-in_err-worked.result (operating.retry_refused m n i c.requires.kept c.requires.there c.in-Some.request.now rq (get_or c.deref_mut.result.now i c.index-deref_mut-place.result) c.work.new.slot c.grant.new.self c.work.new.ages
-    (parts m (with_items m.sessions (set c.deref_mut.result.now i c.work.new.slot)) c.work.new.ages m.queue) same c.in_err-worked.ensures.number c.in_err-worked.ensures.undone c.in_ok-grant.ensures.undo c.in_ok-grant.ensures.ok
-    (record { catalog = refl; sessions = refilled m.sessions.items _ i c.work.new.slot c.deref_mut.ensures.value; queue = refl; limits = refl; begun = refl; commits = refl; greatest = refl }) refl).0
+    keep.always c.from_residual-in_err-worked.result (operating.retry_refused m n i c.requires.kept c.requires.there c.in-Some.request.now rq c.transaction_mut-slot.result.now c.work.new.slot c.grant.new.self c.work.new.ages
+    (parts m (set m.sessions i (with_transaction (the_session m n i) c.work.new.slot)) c.work.new.ages m.queue) c.transaction_mut-slot.ensures.value c.in_err-worked.ensures.undone c.in_ok-grant.ensures.undo c.in_ok-grant.ensures.ok
+    (record { catalog = refl; sessions = refl; queue = refl; limits = refl; begun = refl; commits = refl; greatest = refl }) refl).0
 
 pub returns-in_err-worked-clause-kept : goal.returns-in_err-worked-clause-kept
-returns-in_err-worked-clause-kept c =
-    let m = c.args.self.now in
+returns-in_err-worked-clause-kept g c =
+    let m = parts_of c.args.self.now c.args.sessions.now in
     let n = c.args.session in
     let i = c.args.place in
     let rq = operating.queued_here m n i c.requires.kept c.requires.there _ c.deref.ensures.value c.in-Some.ensures in
-    let same = keep.read m n i c.requires.there c.deref_mut.result.now c.index-deref_mut-place.result c.deref_mut.ensures.value in
-    (operating.retry_refused m n i c.requires.kept c.requires.there c.in-Some.request.now rq (get_or c.deref_mut.result.now i c.index-deref_mut-place.result) c.work.new.slot c.grant.new.self c.work.new.ages
-    (parts m (with_items m.sessions (set c.deref_mut.result.now i c.work.new.slot)) c.work.new.ages m.queue) same c.in_err-worked.ensures.number c.in_err-worked.ensures.undone c.in_ok-grant.ensures.undo c.in_ok-grant.ensures.ok
-    (record { catalog = refl; sessions = refilled m.sessions.items _ i c.work.new.slot c.deref_mut.ensures.value; queue = refl; limits = refl; begun = refl; commits = refl; greatest = refl }) refl).1
+    (operating.retry_refused m n i c.requires.kept c.requires.there c.in-Some.request.now rq c.transaction_mut-slot.result.now c.work.new.slot c.grant.new.self c.work.new.ages
+    (parts m (set m.sessions i (with_transaction (the_session m n i) c.work.new.slot)) c.work.new.ages m.queue) c.transaction_mut-slot.ensures.value c.in_err-worked.ensures.undone c.in_ok-grant.ensures.undo c.in_ok-grant.ensures.ok
+    (record { catalog = refl; sessions = refl; queue = refl; limits = refl; begun = refl; commits = refl; greatest = refl }) refl).1
 
 pub returns : goal.returns
-returns c =
-    let m = c.args.self.now in
+returns g c =
+    let m = parts_of c.args.self.now c.args.sessions.now in
     let n = c.args.session in
     let i = c.args.place in
     let rq = operating.queued_here m n i c.requires.kept c.requires.there _ c.deref.ensures.value c.in-Some.ensures in
     let r = operating.requested m n i c.requires.kept c.requires.there c.in-Some.request.now rq in
-    let s2 = get_or c.deref_mut.result.now i c.index-deref_mut-place.result in
-    let same = keep.read m n i c.requires.there c.deref_mut.result.now c.index-deref_mut-place.result c.deref_mut.ensures.value in
     let before = c.in_ok-worked.ensures.held ∙ operating.granted_as m n i c.requires.kept c.requires.there c.in-Some.request.now rq c.grant.new.self c.in_ok-grant.ensures.ok in
-    let all = operating.retry_exit m n i c.requires.kept c.requires.there c.in-Some.request.now rq c.in_ok-worked.worked s2 c.work.new.slot c.end_if.new.slot c.drop_wait.new.self c.end_if.new.ages
-    (parts m (with_items m.sessions (set c.deref_mut.result.now i c.end_if.new.slot)) c.end_if.new.ages c.retain.new.self)
-    (record { same = same; number = c.in_ok-worked.ensures.number; works = subst (λ o. IfSome s2.transaction (λ u. works.WorksTo m.catalog u o c.in_ok-worked.worked c.work.new.slot.transaction)) c.in_ok-try_clone.ensures c.in_ok-worked.ensures.ok; end = c.end_if.ensures.slot })
+    let all = operating.retry_exit m n i c.requires.kept c.requires.there c.in-Some.request.now rq c.in_ok-worked.worked c.transaction_mut-slot.result.now c.work.new.slot c.end_if.new.slot c.drop_wait.new.self c.end_if.new.ages
+    (parts m (set m.sessions i (with_transaction (the_session m n i) c.end_if.new.slot)) c.end_if.new.ages c.retain.new.self)
+    (record { same = c.transaction_mut-slot.ensures.value; works = subst (λ o. IfSome c.transaction_mut-slot.result.now (λ u. works.WorksTo m.catalog u o c.in_ok-worked.worked c.work.new.slot)) c.in_ok-try_clone.ensures c.in_ok-worked.ensures.ok; end = c.end_if.ensures.slot })
     (sym (subst (λ x. IfSome x (λ z. true ≡ plain.can_retry m.ages z)) r.request c.if-not-may_go.ensures))
     (c.drop_wait.ensures ∙ (λ j. let g : plain.Ages = record { held = plain.Ages.held (before j); queue = plain.without c.in-Some.request.now.age (plain.Ages.queue (before j)) } in g)) c.end_if.ensures.ages
-    (record { catalog = refl; sessions = refilled m.sessions.items _ i c.end_if.new.slot c.deref_mut.ensures.value; queue = filter_same _ (λ (x : request.Request). not (x.session == n)) _ (λ x b f t. search rules) _ _ c.retain.ensures.filtered; limits = refl; begun = refl; commits = refl; greatest = refl }) refl in
-    record { ok = all.0 ∙ ap (step_without_entry (state_of (parts m (with_items m.sessions (set c.deref_mut.result.now i c.end_if.new.slot)) c.end_if.new.ages c.retain.new.self))) (sym c.into_reply.ensures); free = λ h. refl; told = λ h. refl; err = tt; kept = all.1 }
+    (record { catalog = refl; sessions = refl; queue = filter_same _ (λ (x : request.Request). not (x.session == n)) _ (λ x b f t. search rules) _ _ c.retain.ensures.filtered; limits = refl; begun = refl; commits = refl; greatest = refl }) refl in
+    record { ok = all.0 ∙ ap (step_without_entry (state_of (parts m (set m.sessions i (with_transaction (the_session m n i) c.end_if.new.slot)) c.end_if.new.ages c.retain.new.self))) (sym c.into_reply.ensures); free = λ h. refl; told = λ h. refl; err = tt; kept = all.1 }
 
 pub returns-in_err-try_clone-clause-told : goal.returns-in_err-try_clone-clause-told
-returns-in_err-try_clone-clause-told c =
-    let m = c.args.self.now in
+returns-in_err-try_clone-clause-told g c =
+    let m = parts_of c.args.self.now c.args.sessions.now in
     let n = c.args.session in
     let i = c.args.place in
     let rq = operating.queued_here m n i c.requires.kept c.requires.there _ c.deref.ensures.value c.in-Some.ensures in
@@ -112,8 +104,8 @@ returns-in_err-try_clone-clause-told c =
     λ h. absurd (steps.differ _ h (steps.retry_told m n i c.requires.kept c.requires.there c.in-Some.request.now rq may))
 
 pub returns-in_err-grant-clause-told : goal.returns-in_err-grant-clause-told
-returns-in_err-grant-clause-told c =
-    let m = c.args.self.now in
+returns-in_err-grant-clause-told g c =
+    let m = parts_of c.args.self.now c.args.sessions.now in
     let n = c.args.session in
     let i = c.args.place in
     let rq = operating.queued_here m n i c.requires.kept c.requires.there _ c.deref.ensures.value c.in-Some.ensures in
@@ -122,8 +114,8 @@ returns-in_err-grant-clause-told c =
     λ h. absurd (steps.differ _ h (steps.retry_told m n i c.requires.kept c.requires.there c.in-Some.request.now rq may))
 
 pub returns-in_err-worked-clause-told : goal.returns-in_err-worked-clause-told
-returns-in_err-worked-clause-told c =
-    let m = c.args.self.now in
+returns-in_err-worked-clause-told g c =
+    let m = parts_of c.args.self.now c.args.sessions.now in
     let n = c.args.session in
     let i = c.args.place in
     let rq = operating.queued_here m n i c.requires.kept c.requires.there _ c.deref.ensures.value c.in-Some.ensures in

@@ -1,9 +1,10 @@
 use Rattle.std.proofs.Common.{◌∙◌}
 use Rattle.tab_manager.proofs.Answering.{waiting_default}
 use Rattle.tab_manager.proofs.machine.Machine.waiting_command.Goals as goal
+use Rattle.tab_manager.specs.Parts.{parts_of}
 
 pub returns : goal.returns
-returns c = record {
-  done = waiting_default c.args.self.now c.args.session c.args.place c.requires.there c.requires.waits c.args.asked.value (λ r e. c.in_default.not-Abort r (c.into_value.ensures ∙ e));
+returns g c = record {
+  done = waiting_default (parts_of c.args.self.now c.args.sessions.now) c.args.session c.args.place c.requires.there c.requires.waits c.args.asked.value (λ r e. c.in_default.not-Abort r (c.into_value.ensures ∙ e));
   kept = c.requires.kept;
 }

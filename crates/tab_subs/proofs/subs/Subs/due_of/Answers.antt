@@ -1,10 +1,8 @@
-use Rattle.std.proofs.Common.{◌≡◌, List, None, map, refl, ap, ◌∙◌, subst}
-use Rattle.std.specs.Prelude.{IfOk, option_to_list}
-use Rattle.tab_model.specs.declared.data.Item.{Item}
+use Rattle.std.proofs.Common.{List, map, refl, ap, ◌∙◌}
+use Rattle.std.specs.Prelude.{option_to_list}
 use Rattle.tab_model.specs.Slices.{batch_for}
 use Rattle.tab_model.specs.State.{level_in}
 use Rattle.tab_subs.specs.Subscribers.{Subscriber}
-use Rattle.tab_subs.specs.Deliveries.{Owed}
 use Rattle.tab_subs.proofs.Batches.{all_made}
 use Rattle.tab_subs.proofs.subs.Subs.due_of.Goals as goal
 

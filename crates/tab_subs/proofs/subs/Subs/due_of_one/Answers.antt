@@ -1,6 +1,5 @@
-use Rattle.std.proofs.Common.{◌≡◌, ◌∷◌, [], List, map, refl, ap, ◌∙◌}
+use Rattle.std.proofs.Common.{◌∷◌, [], List, map, refl, ap, ◌∙◌}
 use Rattle.std.specs.Prelude.{option_to_list}
-use Rattle.tab_model.specs.declared.data.Item.{Item}
 use Rattle.tab_model.specs.Slices.{batch_for}
 use Rattle.tab_model.specs.State.{level_in}
 use Rattle.tab_subs.specs.Subscribers.{Subscriber}

@@ -1,11 +1,11 @@
-//! A joined session, with its open transaction.
+//! An open transaction.
 
 ghost use Rattle.std.specs.Prelude.{◌≡◌};
 
 use tab_txstore::TxStore;
 
 /// An open transaction: its age, and what it did since its begin or its last restart.
-pub(crate) struct Transaction {
+pub struct Transaction {
     pub age: u64,
     pub store: TxStore,
 }
@@ -25,31 +25,5 @@ impl Transaction {
     {
         let Transaction { age, store } = self;
         (age, store)
-    }
-}
-
-/// A joined session.
-pub(crate) struct Session {
-    pub number: u32,
-    pub transaction: Option<Transaction>,
-}
-
-impl Drop for Session {
-    fn drop(self) {
-        let Session {
-            number: _,
-            transaction,
-        } = self;
-        drop(transaction);
-    }
-}
-
-// The places of sessions that no one has taken.
-impl Default for Session {
-    fn default() -> Session {
-        Session {
-            number: 0,
-            transaction: None,
-        }
     }
 }
