@@ -34,14 +34,14 @@ use Rattle.tab_manager.specs.Kept.{Agree, IsKept}
 use Rattle.tab_manager.specs.Parts.{Parts, session_of, state_of}
 use Rattle.tab_manager.specs.Redefining.{Redefines, RedefinesBy}
 use Rattle.tab_manager.specs.Steps as manager
-use Rattle.tab_manager.specs.Steps.{asks_for_none, is_told_for_none, tells_for_none}
+use Rattle.tab_manager.specs.Steps.{asks_for_none, is_told_for_none, tells_for_none, takes_no_memory}
 use Rattle.tab_manager.proofs.Keeping.{SameKeys, kept_put, kept_same}
 use Rattle.tab_manager.proofs.StepsLemmas.{both_ways}
 use Rattle.tab_core.proofs.SessionsLemmas.{same_keys}
 use Rattle.tab_core.specs.declared.committing.Updated.{Updated}
 use Rattle.tab_core.specs.Owing as owing
 use Rattle.tab_core.specs.Owing.{are_watched, Updates, Owes, with_overflowed}
-use Rattle.tab_core.specs.Runs.{StepsTo, takes_no_memory}
+use Rattle.tab_core.specs.Runs.{StepsTo}
 use Rattle.tab_core.specs.Subscribing.{inside_refusal, refused_by}
 use Rattle.tab_core.proofs.Delivering as giving
 use Rattle.tab_core.proofs.Delivering.{keys_given, no_items, none_given, none_decided, none_over, sessions_after, are_pinned, SamePosts, same_ended, same_items, same_those, same_decided}
@@ -404,10 +404,6 @@ not_removed (Create t os) h = refl
 not_removed (Remove t) h = absurd (h t refl)
 not_removed (AddIndex t x) h = refl
 not_removed (DelIndex t x) h = refl
-
-pub none_is : {A : Type 0} (o : Option A) → is_some o ≡ false → o ≡ None
-none_is None h = refl
-none_is (Some x) h = cc
 
 abbrev owed_at : List Subscriber → ℕ → Option (List ℕ) → Owed
 owed_at ss k u = record { number = k; items = map (λ (b : Subscriber). end_for (level_in b.watching) u) ss; ended = u }

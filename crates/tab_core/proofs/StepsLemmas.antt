@@ -19,6 +19,7 @@ use Rattle.tab_manager.specs.Quiet.{is_quiet}
 use Rattle.tab_manager.specs.Steps as manager
 use Rattle.tab_manager.specs.Steps.{asks_for_none, is_told_for_none}
 use Rattle.tab_manager.proofs.Keeping.{SameKeys, kept_put}
+use Rattle.tab_manager.proofs.StepsLemmas.{both_ways}
 use Rattle.tab_core.specs.Runs.{StepsTo}
 
 -- ---- a step of the machine that puts nothing
@@ -88,11 +89,7 @@ err_stays σ τ ρ (Err e) view h = h ∙ view
 
 -- what takes no memory
 pub free_sees : {P : Type 0} (σ ρ : State) (n : ℕ) (a : Ask) → σ ≡ ρ → manager.takes_no_memory ρ n a ≡ true → (asks_for_none σ n a ≡ true → P) → (is_told_for_none σ n a ≡ true → P) → P
-free_sees {P} σ ρ n a view h f g = by (asks_for_none σ n a) (is_told_for_none σ n a) (ap (λ (μ : State). manager.takes_no_memory μ n a) view ∙ h) f g
-  where
-    by : (x y : Bool) → (x || y) ≡ true → (x ≡ true → P) → (y ≡ true → P) → P
-    by true y h f g = f refl
-    by false y h f g = g h
+free_sees σ ρ n a view h f g = both_ways (asks_for_none σ n a) (is_told_for_none σ n a) (ap (λ (μ : State). manager.takes_no_memory μ n a) view ∙ h) f g
 
 pub told_sees : {P : Type 0} (σ ρ : State) (n : ℕ) (a : Ask) → σ ≡ ρ → is_told_for_none ρ n a ≡ true → (is_told_for_none σ n a ≡ true → P) → P
 told_sees σ ρ n a view h f = f (ap (λ (μ : State). is_told_for_none μ n a) view ∙ h)

@@ -10,7 +10,7 @@ use Rattle.tab_model.specs.declared.ask.Ask.TheVariants.{Join, Leave, Retry, Tak
 use Rattle.tab_model.specs.Outcome.{Ask, outcome}
 use Rattle.tab_model.specs.Run.{Allowed, JoinsEmpty, entries, delivered_by}
 use Rattle.tab_manager.specs.declared.step.Stepped.{Stepped}
-use Rattle.tab_manager.specs.Steps as manager
+use Rattle.tab_manager.specs.Steps.{takes_no_memory}
 
 -- what a step asks; f says what a post shows
 abbrev pub ask_of : {P : Type 0} → (P → Outbox) → AskWith P → Ask
@@ -28,14 +28,6 @@ asks_of f steps = map (λ s. (s.0, ask_of f s.1)) steps
 abbrev pub AllJoinEmpty : List (ℕ × Ask) → Type 0
 AllJoinEmpty [] = Unit {0}
 AllJoinEmpty (a ∷ asks) = JoinsEmpty a.1 × AllJoinEmpty asks
-
--- what takes no memory: what takes none of the manager, but of joins only those that are refused
-abbrev pub takes_no_memory : State → ℕ → Ask → Bool
-takes_no_memory σ n (Join b) = manager.is_told_for_none σ n (Join b)
-takes_no_memory σ n Leave = true
-takes_no_memory σ n Take = true
-takes_no_memory σ n Retry = manager.takes_no_memory σ n Retry
-takes_no_memory σ n (DoCommand c) = manager.takes_no_memory σ n (DoCommand c)
 
 -- a step that was made: who overflowed in it, which the posts' capacities decide where they have one
 abbrev pub StepsTo : State → ℕ → Ask → Stepped → State → Type 0

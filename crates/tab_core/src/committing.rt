@@ -7,7 +7,8 @@ ghost use Rattle.tab_model.specs.declared.ask.Ask.TheVariants.{Do as DoCommand};
 ghost use Rattle.tab_model.specs.Events.{event_of};
 ghost use Rattle.tab_model.specs.State.{session_at};
 ghost use Rattle.tab_core.specs.Owing.{are_watched as are_watched_by, is_watched, Commits, Owes, Updates};
-ghost use Rattle.tab_core.specs.Runs.{StepsTo, takes_no_memory};
+ghost use Rattle.tab_core.specs.Runs.{StepsTo};
+ghost use Rattle.tab_manager.specs.Steps.{takes_no_memory};
 ghost use Rattle.tab_manager.specs.Parts.{parts_of, state_with};
 ghost use Rattle.tab_manager.specs.Kept.{IsKept};
 ghost use Rattle.tab_core.specs.Subscribing.{inside_refusal, refused_by};
@@ -21,7 +22,6 @@ use tab_outbox::Post;
 use tab_rows::Update;
 use tab_subs::Subs;
 use tab_tables::{Catalog, Changing, table_of_update};
-use tab_term::Atom;
 
 /// The tables that a commit leaves, and those of its events that someone watches.
 pub(crate) struct Updated {
@@ -167,25 +167,28 @@ fn expected<P: Post + Drop>(
     if ending.updates.is_empty() {
         return Ok(None);
     }
-    let nameless = Atom::from_short_text(alloc, "")?;
-    if !are_watched(subs, ending.updates, &nameless) {
+    let watched = are_watched(alloc, subs, ending.updates)?;
+    if !watched {
         return Ok(None);
     }
-    let updated = changed_tables(alloc, tables, subs, ending, &nameless)?;
+    let updated = changed_tables(alloc, tables, subs, ending)?;
     Ok(Some(updated))
 }
 
 /// Whether someone watches a table of the changes.
-fn are_watched<P: Post + Drop>(subs: &Subs<P>, updates: &[Update], nameless: &Atom) -> bool
-    requires { nameless.now ≡ [] }
-    ensures { result ≡ are_watched_by subs.now updates.now }
+fn are_watched<P: Post + Drop>(
+    alloc: Global,
+    subs: &Subs<P>,
+    updates: &[Update],
+) -> Result<bool, AllocError>
+    ensures { IfOk result (λ are. are ≡ are_watched_by subs.now updates.now) }
 {
     for update in updates {
-        if subs.has_watcher(table_of_update(update, nameless)) {
-            return true;
+        if subs.has_watcher(&table_of_update(alloc, update)?) {
+            return Ok(true);
         }
     }
-    false
+    Ok(false)
 }
 
 /// One pass over the changes: the tables after them, and the events that someone watches.
@@ -194,24 +197,14 @@ fn changed_tables<P: Post + Drop>(
     tables: &Catalog,
     subs: &Subs<P>,
     ending: &Ending<'_>,
-    nameless: &Atom,
 ) -> Result<Updated, AllocError>
-    requires { nameless.now ≡ [] }
     ensures { IfOk result (Updates tables.now subs.now ending.now.age ending.now.updates.now) }
 {
     let mut changing = Changing::new(tables.share()?);
     let mut events = Vec::new(alloc);
     for update in ending.updates {
-        push_watched(
-            alloc,
-            &mut events,
-            &changing,
-            subs,
-            ending.age,
-            update,
-            nameless,
-        )?;
-        changing = changing.changed(alloc, update, nameless, &ending.lender)?;
+        push_watched(alloc, &mut events, &changing, subs, ending.age, update)?;
+        changing = changing.changed(alloc, update, &ending.lender)?;
     }
     let tables = changing.into_catalog(alloc)?;
     Ok(Updated { tables, events })
@@ -225,18 +218,16 @@ fn push_watched<P: Post + Drop>(
     subs: &Subs<P>,
     age: u64,
     update: &Update,
-    nameless: &Atom,
 ) -> Result<(), AllocError>
-    requires { nameless.now ≡ [] }
     ensures { OnOk result
         (events.new.items
         ≡ events.old.items
         ++ filter (is_watched subs.now) (event_of changing.now age update.now ∷ [])) }
 {
-    if !subs.has_watcher(table_of_update(update, nameless)) {
+    if !subs.has_watcher(&table_of_update(alloc, update)?) {
         return Ok(());
     }
-    let event = changing.event(alloc, age, update, nameless)?;
+    let event = changing.event(alloc, age, update)?;
     events.push(event)?;
     Ok(())
 }

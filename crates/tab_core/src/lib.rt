@@ -12,7 +12,8 @@ ghost use Rattle.tab_model.specs.State.{new, IsSound};
 ghost use Rattle.tab_model.specs.Reached.{IsRising};
 ghost use Rattle.tab_model.specs.declared.ask.Ask.TheVariants.{Do as DoCommand};
 ghost use Rattle.tab_model.specs.Run.{IsTied};
-ghost use Rattle.tab_core.specs.Runs.{ask_of, asks_of, AllJoinEmpty, StepsTo, StepsOrNoMemory, RunsTo, taken_in, takes_no_memory};
+ghost use Rattle.tab_core.specs.Runs.{ask_of, asks_of, AllJoinEmpty, StepsTo, StepsOrNoMemory, RunsTo, taken_in};
+ghost use Rattle.tab_manager.specs.Steps.{takes_no_memory};
 
 mod committing;
 mod dump;

@@ -4,7 +4,8 @@ ghost use Rattle.std.specs.Prelude.{◌≡◌, IsTrue, IfOk, IsOk, OnErr};
 ghost use Rattle.tab_model.specs.State.{IsSound};
 ghost use Rattle.tab_model.specs.Reached.{IsRising};
 ghost use Rattle.tab_model.specs.declared.ask.Ask.TheVariants.{Join, Leave, Retry, Take};
-ghost use Rattle.tab_core.specs.Runs.{StepsTo, takes_no_memory};
+ghost use Rattle.tab_core.specs.Runs.{StepsTo};
+ghost use Rattle.tab_manager.specs.Steps.{takes_no_memory};
 ghost use Rattle.tab_core.specs.Subscribing.{taken_reply as taken_reply_of};
 
 use crate::Core;

@@ -6,9 +6,9 @@ ghost use Rattle.tab_model.specs.declared.data.Level.{Level as LevelOf};
 ghost use Rattle.tab_model.specs.declared.ask.Ask.TheVariants.{Do as DoCommand};
 ghost use Rattle.tab_model.specs.Outcome.{is_at as is_at_of, subscribe_refusal as subscribe_refusal_of, unsubscribe_refusal as unsubscribe_refusal_of};
 ghost use Rattle.tab_model.specs.State.{session_at};
-ghost use Rattle.tab_manager.specs.Steps.{is_told_for_none};
+ghost use Rattle.tab_manager.specs.Steps.{is_told_for_none, takes_no_memory};
 ghost use Rattle.tab_core.specs.Subscribing.{marked_reply as marked_reply_of, refused_by};
-ghost use Rattle.tab_core.specs.Runs.{StepsTo, takes_no_memory};
+ghost use Rattle.tab_core.specs.Runs.{StepsTo};
 
 use crate::Core;
 use crate::dump::dump_of;

@@ -6,7 +6,7 @@
 #![tactic(auto)]
 
 mod building;
-pub mod element;
+mod element;
 mod index;
 mod indexes;
 mod matching;

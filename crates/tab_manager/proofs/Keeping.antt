@@ -28,6 +28,7 @@ use Rattle.tab_model.proofs.ReachedWaits.{step_rising, Match, match_of, without_
 use Rattle.tab_txstore.specs.Stores.{Fits}
 use Rattle.tab_txstore.proofs.FitsLemmas.{depth_shown}
 use Rattle.tab_subs.specs.declared.transaction.Transaction as kept
+use Rattle.tab_waitdie.proofs.Places.{map_filtered}
 use Rattle.tab_manager.specs.declared.queue.Request as request
 use Rattle.tab_manager.specs.Kept.{opens, count_open, Agree, IsKept}
 use Rattle.tab_manager.proofs.HeldLocks.{same_without, held_same, held_more, held_none_left, held_gone}
@@ -103,13 +104,7 @@ leaves m m' ss qs n a r k x h agree = let e = h ∙ ap (λ τ. step_without_entr
 -- ---- one session's requests
 
 pub queued_filtered : (n : ℕ) (qs : List request.Request) → map queued_of (filter (λ q. not (q.session == n)) qs) ≡ without_request (map queued_of qs) n
-queued_filtered n [] = refl
-queued_filtered n (q ∷ qs) = by (q.session == n) (queued_filtered n qs)
-  where
-    by : (b : Bool) → map queued_of (filter (λ x. not (x.session == n)) qs) ≡ without_request (map queued_of qs) n
-        → map queued_of (if not b then q ∷ filter (λ x. not (x.session == n)) qs else filter (λ x. not (x.session == n)) qs) ≡ (if not b then queued_of q ∷ without_request (map queued_of qs) n else without_request (map queued_of qs) n)
-    by true ih = ih
-    by false ih = ap (λ xs. queued_of q ∷ xs) ih
+queued_filtered n qs = map_filtered queued_of (λ q. not (q.session == n)) qs
 
 -- who has no transaction waits for nothing
 pub none_waits : (f : ℕ → Option plain.Transaction) (n : ℕ) (qs : List Queued) → f n ≡ None → plain.OwnedBy f qs → without_request qs n ≡ qs

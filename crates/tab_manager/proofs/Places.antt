@@ -5,6 +5,7 @@ use Rattle.std.specs.List.{filter}
 use Rattle.tab_model.specs.State as plain
 use Rattle.tab_model.specs.Outcome.{with_changed, without_session}
 use Rattle.tab_model.proofs.SessionLists.{eq_true, itself, other_number}
+use Rattle.tab_waitdie.proofs.Places.{map_filtered}
 use Rattle.tab_manager.specs.Kept.{opens, count_open}
 use Rattle.tab_subs.specs.Subscribers.{Subscriber, at, change, without}
 use Rattle.tab_manager.specs.Parts.{session_of}
@@ -28,13 +29,7 @@ change_of (x ∷ ss) b = by (x.number == b.number) (change_of ss b)
     by false ih = ap (λ zs. session_of x ∷ zs) ih
 
 pub without_filtered : (n : ℕ) (ss : List Subscriber) → map session_of (filter (λ s. not (s.number == n)) ss) ≡ without_session (map session_of ss) n
-without_filtered n [] = refl
-without_filtered n (x ∷ ss) = by (x.number == n) (without_filtered n ss)
-  where
-    by : (b : Bool) → map session_of (filter (λ s. not (s.number == n)) ss) ≡ without_session (map session_of ss) n
-        → map session_of (if not b then x ∷ filter (λ s. not (s.number == n)) ss else filter (λ s. not (s.number == n)) ss) ≡ (if not b then session_of x ∷ without_session (map session_of ss) n else without_session (map session_of ss) n)
-    by true ih = ih
-    by false ih = ap (λ zs. session_of x ∷ zs) ih
+without_filtered n ss = map_filtered session_of (λ s. not (s.number == n)) ss
 
 pub at_filtered : (n m : ℕ) (ss : List Subscriber) → at (filter (λ s. not (s.number == n)) ss) m ≡ (if m == n then None else at ss m)
 at_filtered n m [] = by (m == n)

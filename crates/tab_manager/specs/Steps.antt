@@ -10,10 +10,10 @@ use Rattle.tab_model.specs.declared.ask.Ask.TheVariants.{Join, Leave, Retry, Tak
 use Rattle.tab_model.specs.Outcome.{Ask, is_empty, outcome}
 use Rattle.tab_manager.specs.declared.step.Stepped.{Stepped}
 
--- what is done without memory: to join, to leave, to take, to abort; to retry where nothing is queued; and to commit a
--- transaction that did nothing
+-- what is done without memory: to leave, to take, to abort; to retry where nothing is queued; and to commit a transaction that
+-- did nothing
 abbrev pub asks_for_none : State → ℕ → Ask → Bool
-asks_for_none σ n (Join b) = true
+asks_for_none σ n (Join b) = false
 asks_for_none σ n Leave = true
 asks_for_none σ n Retry = not (is_waiting σ n)
 asks_for_none σ n Take = true

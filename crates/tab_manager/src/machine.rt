@@ -36,7 +36,7 @@ pub struct Machine {
     pub commits: u64,
     /// The greatest number that has joined.
     pub greatest: u32,
-    pub(crate) limits: Limits,
+    pub limits: Limits,
 }
 
 // A derived Drop would be taken apart, field by field, at each exit of each caller.

@@ -1,6 +1,6 @@
 //! What an operation speaks of, before any table is looked at: its table, and the lock that it asks for.
 
-ghost use Rattle.std.specs.Prelude.{◌≡◌, [], IfOk, true, false};
+ghost use Rattle.std.specs.Prelude.{◌≡◌, IfOk, true, false};
 ghost use Rattle.tab_term.specs.View.{term};
 ghost use Rattle.tab_locks.specs.Plain.{is_write, lock_of};
 ghost use Rattle.tab_model.specs.Operations.{tag as tag_of, table_of as table_of_operation};
@@ -9,27 +9,25 @@ ghost use Rattle.tab_model.specs.Locks.{All as AllOf, Key as KeyOf, lock, needs 
 ghost use Rattle.tab_model.specs.declared.data.Operation.TheVariants as op;
 
 use std::alloc::{AllocError, Global};
-use tab_index::element::{Nothing, key};
-use tab_model::{Lock, Mode, Operation, What};
-use tab_tables::tag;
+use tab_model::{Lock, Mode, Operation, What, copy_of_key};
+use tab_tables::copy_of_tag;
 use tab_term::{Atom, Term, has_wildcard};
 
-/// The table that an operation speaks of: where its record or pattern begins with no name, the nameless one.
-pub fn table_of<'a>(operation: &'a Operation, nameless: &'a Atom) -> &'a Atom
-    requires { nameless.now ≡ [] }
-    ensures { result.now ≡ table_of_operation operation.now }
+/// The name of the table that an operation speaks of: where its record or pattern begins with no name, the empty one.
+pub fn table_of(alloc: Global, operation: &Operation) -> Result<Atom, AllocError>
+    ensures { IfOk result (λ name. name ≡ table_of_operation operation.now) }
 {
     match operation {
-        Operation::Write(row) => tag(row, nameless),
-        Operation::DeleteObject(row) => tag(row, nameless),
-        Operation::MatchObject(pattern) => tag(pattern, nameless),
-        Operation::Read(name, _) => name,
-        Operation::ReadForWrite(name, _) => name,
-        Operation::Delete(name, _) => name,
-        Operation::IndexRead(name, _, _) => name,
-        Operation::AllKeys(name) => name,
-        Operation::ReadLockTable(name) => name,
-        Operation::WriteLockTable(name) => name,
+        Operation::Write(row) => copy_of_tag(alloc, row),
+        Operation::DeleteObject(row) => copy_of_tag(alloc, row),
+        Operation::MatchObject(pattern) => copy_of_tag(alloc, pattern),
+        Operation::Read(name, _) => name.try_clone(alloc),
+        Operation::ReadForWrite(name, _) => name.try_clone(alloc),
+        Operation::Delete(name, _) => name.try_clone(alloc),
+        Operation::IndexRead(name, _, _) => name.try_clone(alloc),
+        Operation::AllKeys(name) => name.try_clone(alloc),
+        Operation::ReadLockTable(name) => name.try_clone(alloc),
+        Operation::WriteLockTable(name) => name.try_clone(alloc),
     }
 }
 
@@ -76,20 +74,28 @@ fn on_record(alloc: Global, row: &Term) -> Result<Lock, AllocError>
     ensures { IfOk result
         (λ l. lock_of l ≡ lock (tag_of (term row.now)) (KeyOf (key_of (term row.now))) true) }
 {
-    let nameless = Atom::from_short_text(alloc, "")?;
-    let nothing = Nothing::new(alloc);
-    on_key(alloc, tag(row, &nameless), key(row, &nothing), Mode::Write)
+    let table = copy_of_tag(alloc, row)?;
+    Ok(Lock {
+        table,
+        what: What::Key(copy_of_key(alloc, row)?),
+        mode: Mode::Write,
+    })
 }
 
 // A pattern whose key has a wildcard may fit records of any key.
 fn on_pattern(alloc: Global, pattern: &Term) -> Result<Lock, AllocError>
     ensures { IfOk result (λ l. lock_of l ≡ needs_of (op.MatchObject pattern.now)) }
 {
-    let nameless = Atom::from_short_text(alloc, "")?;
-    let nothing = Nothing::new(alloc);
-    let key = key(pattern, &nothing);
-    if has_wildcard(key) {
-        return on_table(alloc, tag(pattern, &nameless), Mode::Read);
-    }
-    on_key(alloc, tag(pattern, &nameless), key, Mode::Read)
+    let table = copy_of_tag(alloc, pattern)?;
+    let key = copy_of_key(alloc, pattern)?;
+    let what = if has_wildcard(&key) {
+        What::All
+    } else {
+        What::Key(key)
+    };
+    Ok(Lock {
+        table,
+        what,
+        mode: Mode::Read,
+    })
 }

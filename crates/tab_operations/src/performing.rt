@@ -37,14 +37,10 @@ pub fn perform(
         → r ≡ answer_of (after (start catalog.now age) store.old.moves).now asked.value) }
     ensures err { OnErr result (store.new ≡ store.old) }
 {
-    let nameless = Atom::from_short_text(alloc, "")?;
-    let name = table_of(&asked.value, &nameless);
-    match catalog.table(name) {
+    let name = table_of(alloc, &asked.value)?;
+    match catalog.table(&name) {
         Some(committed) => perform_on(alloc, committed, store, asked),
-        None => {
-            let name = name.try_clone(alloc)?;
-            fail(alloc, store, asked, name)
-        }
+        None => fail(alloc, store, asked, name),
     }
 }
 

@@ -10,7 +10,8 @@ use Rattle.tab_model.specs.Outcome.{Ask, Outcome}
 use Rattle.tab_model.specs.declared.data.Entry.{Entry}
 use Rattle.tab_model.specs.declared.data.Reply.{Reply}
 use Rattle.tab_model.specs.declared.data.Reply.TheVariants.{NoMemory}
-use Rattle.tab_core.specs.Runs.{StepsTo, takes_no_memory}
+use Rattle.tab_core.specs.Runs.{StepsTo}
+use Rattle.tab_manager.specs.Steps.{takes_no_memory}
 use Rattle.tab_manager.specs.declared.step.Stepped.{Stepped}
 
 abbrev made_of : State → Reply → Option Entry → Outcome

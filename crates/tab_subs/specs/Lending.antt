@@ -7,11 +7,11 @@ use Rattle.tab_subs.specs.contracts.transaction.Transaction as transaction
 use Rattle.tab_subs.specs.contracts.session.Session as session
 use Rattle.tab_subs.specs.contracts.subs.Subs as subs
 use Rattle.tab_subs.specs.declared.transaction.Transaction.{Transaction}
-use Rattle.tab_subs.specs.Subscribers.{Subscriber, with_transaction}
+use Rattle.tab_subs.specs.Subscribers.{Subscriber, with_transaction_at}
 
 module _ (P : RattleType) (g : Ghosts P.Denot) where
   abbrev pub lends_own : MutBor Subscriber → MutBor (Option Transaction) → Fml
   lends_own s r = Lends (session.the_row P g) (OptionOf transaction.the_row) s r (λ w. record s.now { transaction = w })
 
   abbrev pub lends_one : MutBor (List Subscriber) → ℕ → MutBor (Option Transaction) → Fml
-  lends_one s i r = Lends (subs.the_row P g) (OptionOf transaction.the_row) s r (with_transaction s.now i)
+  lends_one s i r = Lends (subs.the_row P g) (OptionOf transaction.the_row) s r (with_transaction_at s.now i)

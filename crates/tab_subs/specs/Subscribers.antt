@@ -43,8 +43,8 @@ change [] s = []
 change (x ∷ xs) s = if x.number == s.number then s ∷ xs else x ∷ change xs s
 
 -- the list with this transaction, or none, in the subscriber at the place
-abbrev pub with_transaction : List Subscriber → ℕ → Option Transaction → List Subscriber
-with_transaction ss i t = slice_set ss i (record (slice_index_or ss i nobody) { transaction = t })
+abbrev pub with_transaction_at : List Subscriber → ℕ → Option Transaction → List Subscriber
+with_transaction_at ss i t = slice_set ss i (record (slice_index_or ss i nobody) { transaction = t })
 
 -- the list without the subscribers of this number
 abbrev pub without : List Subscriber → ℕ → List Subscriber

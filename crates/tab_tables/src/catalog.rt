@@ -98,10 +98,9 @@ impl Catalog {
     ) -> Result<Catalog, AllocError>
         ensures { IfOk result (λ catalog. catalog ≡ change_all self.now updates.now) }
     {
-        let nameless = Atom::from_short_text(alloc, "")?;
         let mut changing = Changing::new(self.share()?);
         for update in updates {
-            changing = changing.changed(alloc, update, &nameless, lender)?;
+            changing = changing.changed(alloc, update, lender)?;
         }
         changing.into_catalog(alloc)
     }
@@ -133,8 +132,7 @@ impl Catalog {
         ensures ok { OnOk result (self.new ≡ change_catalog self.old update.now) }
         ensures err { OnErr result (self.new ≡ self.old) }
     {
-        let nameless = Atom::from_short_text(alloc, "")?;
-        let name = table_of_update(update, &nameless).try_clone(alloc)?;
+        let name = table_of_update(alloc, update)?;
         let records = lender.records(update, &name);
         self.by_name
             .revise(alloc, name, Altered { update, records })?;

@@ -1,6 +1,6 @@
 //! Tables on their way through changes.
 
-ghost use Rattle.std.specs.Prelude.{◌≡◌, [], IfOk};
+ghost use Rattle.std.specs.Prelude.{◌≡◌, IfOk};
 ghost use Rattle.tab_model.specs.Operations.{table_of_change as table_of, change_catalog};
 
 use crate::catalog::Catalog;
@@ -50,26 +50,24 @@ impl Changing {
         self,
         alloc: Global,
         update: &Update,
-        nameless: &Atom,
         lender: &Lender<'_>,
     ) -> Result<Changing, AllocError>
-        requires { nameless.now ≡ [] }
         ensures { IfOk result (λ next. next ≡ change_catalog self update.now) }
     {
         let Changing { catalog, newer } = self;
-        let name = table_of_update(update, nameless);
+        let name = table_of_update(alloc, update)?;
         let Some(table) = newer else {
-            return Changing::started(alloc, catalog, name, update, lender);
+            return Changing::started(alloc, catalog, &name, update, lender);
         };
-        if table.def().name == *name {
-            let records = lender.records(update, name);
+        if table.def().name == name {
+            let records = lender.records(update, &name);
             let table = table.applied(alloc, slice::from_ref(update), records)?;
             return Ok(Changing {
                 catalog,
                 newer: Some(table),
             });
         }
-        Changing::started(alloc, catalog.with(alloc, table)?, name, update, lender)
+        Changing::started(alloc, catalog.with(alloc, table)?, &name, update, lender)
     }
 
     // The tables after a change of this one, whose new version shares what does not change.

@@ -1,6 +1,6 @@
 //! The events of changes that are about to be made.
 
-ghost use Rattle.std.specs.Prelude.{◌≡◌, [], IfOk};
+ghost use Rattle.std.specs.Prelude.{◌≡◌, IfOk};
 ghost use Rattle.std.specs.Option.{option_copied};
 ghost use Rattle.tab_term.specs.View.{term};
 ghost use Rattle.tab_model.specs.Events.{event_of};
@@ -19,20 +19,12 @@ use tab_term::{Atom, Term, Terms};
 
 impl Changing {
     /// The event of a change that is about to be made, with the records that its key has now.
-    pub fn event(
-        &self,
-        alloc: Global,
-        age: u64,
-        update: &Update,
-        nameless: &Atom,
-    ) -> Result<Event, AllocError>
-        requires { nameless.now ≡ [] }
+    pub fn event(&self, alloc: Global, age: u64, update: &Update) -> Result<Event, AllocError>
         ensures { IfOk result (λ event. event ≡ event_of self.now age update.now) }
     {
-        let name = table_of_update(update, nameless);
+        let tab = table_of_update(alloc, update)?;
         let key = update.copy_of_key(alloc)?;
-        let old = self.records(alloc, name, &key)?;
-        let tab = name.try_clone(alloc)?;
+        let old = self.records(alloc, &tab, &key)?;
         let change = update.to_change(alloc)?;
         Ok(Event {
             tab,

@@ -17,4 +17,4 @@ pub use catalog::Catalog;
 pub use changing::Changing;
 pub use lender::Lender;
 pub use schemas::{Redefined, redefine, table_info};
-pub use tags::{table_of_update, tag};
+pub use tags::{copy_of_tag, table_of_update};

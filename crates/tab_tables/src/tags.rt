@@ -1,45 +1,43 @@
 //! The names of tables that records and changes carry.
 
-ghost use Rattle.std.specs.Prelude.{◌≡◌, []};
+ghost use Rattle.std.specs.Prelude.{◌≡◌, IfOk};
 ghost use Rattle.tab_term.specs.View.{term};
 ghost use Rattle.tab_model.specs.Operations.{tag as tag_of, table_of_change as table_of};
 
+use std::alloc::{AllocError, Global};
 use tab_model::Change;
 use tab_rows::{Form, Update};
 use tab_term::{Atom, Term};
 
-/// The table that an update is made in: where its record begins with no name, the nameless one.
-pub fn table_of_update<'a>(update: &'a Update, nameless: &'a Atom) -> &'a Atom
-    requires { nameless.now ≡ [] }
-    ensures { result.now ≡ table_of update.now }
+/// The table that an update is made in, as `copy_of_tag` tells it of a record.
+pub fn table_of_update(alloc: Global, update: &Update) -> Result<Atom, AllocError>
+    ensures { IfOk result (λ name. name ≡ table_of update.now) }
 {
     match update.form() {
-        Form::Only(only) => tag(only.row(), nameless),
-        Form::Change(change) => table_of_change(change, nameless),
+        Form::Only(only) => copy_of_tag(alloc, only.row()),
+        Form::Change(change) => table_of_change(alloc, change),
     }
 }
 
-fn table_of_change<'a>(change: &'a Change, nameless: &'a Atom) -> &'a Atom
-    requires { nameless.now ≡ [] }
-    ensures { result.now ≡ table_of change.now }
+fn table_of_change(alloc: Global, change: &Change) -> Result<Atom, AllocError>
+    ensures { IfOk result (λ name. name ≡ table_of change.now) }
 {
     match change {
-        Change::Write(row) => tag(row, nameless),
-        Change::Delete(name, _) => name,
-        Change::DeleteObject(row) => tag(row, nameless),
+        Change::Write(row) => copy_of_tag(alloc, row),
+        Change::Delete(name, _) => name.try_clone(alloc),
+        Change::DeleteObject(row) => copy_of_tag(alloc, row),
     }
 }
 
-/// The first element of a record, which names its table: where that is no name, the nameless one.
-pub fn tag<'a>(row: &'a Term, nameless: &'a Atom) -> &'a Atom
-    requires { nameless.now ≡ [] }
-    ensures { result.now ≡ tag_of (term row.now) }
+/// A copy of the name that a record begins with, its table's. Where it begins with none, the empty name.
+pub fn copy_of_tag(alloc: Global, row: &Term) -> Result<Atom, AllocError>
+    ensures { IfOk result (λ name. name ≡ tag_of (term row.now)) }
 {
     let Term::Tuple(elements) = row else {
-        return nameless;
+        return Atom::from_short_text(alloc, "");
     };
     match elements.as_slice() {
-        [Term::Atom(name), ..] => name,
-        _ => nameless,
+        [Term::Atom(name), ..] => name.try_clone(alloc),
+        _ => Atom::from_short_text(alloc, ""),
     }
 }

@@ -1,9 +1,9 @@
 -- Where a request stands in the queue, and the queue without it.
-use Rattle.std.proofs.Common.{◌≡◌, ℕ, zero, suc, ◌<◌, ◌≤◌, List, [], ◌∷◌, ◌++◌, Bool, true, false, ◌||◌, not, refl, sym, ap, ◌∙◌, subst, Some, take, length, get_or, arith}
+use Rattle.std.proofs.Common.{◌≡◌, ℕ, zero, suc, ◌<◌, ◌≤◌, List, [], ◌∷◌, ◌++◌, Bool, true, false, ◌||◌, refl, sym, ap, ◌∙◌, subst, Some, take, length, get_or, arith}
 use Rattle.std.proofs.lemmas.Bool.{or_parts}
-use Rattle.std.specs.Prelude.{◌==◌, if◌then◌else◌, IsSome, is_some}
+use Rattle.std.specs.Prelude.{◌==◌, if◌then◌else◌, IsSome, is_some, map}
 use Rattle.std.specs.List.{list_any, filter}
-use Rattle.tab_model.specs.Ages.{before, request_of, without}
+use Rattle.tab_model.specs.Ages.{before, request_of}
 use Rattle.tab_waitdie.specs.declared.waiting.Waiting.{Waiting}
 use Rattle.tab_waitdie.specs.Queue.{owned, queued}
 
@@ -21,14 +21,14 @@ request_place age (x ∷ ws) (suc i) w d lt none is here =
     let p = or_parts (x.age == age) (list_any (λ v. v.age == age) (take i ws)) none in
     (λ j. if p.0 j then Some (owned x) else request_of age (queued ws)) ∙ request_place age ws i w d (omega arith) p.1 is here
 
-pub without_filtered : (age : ℕ) (ws : List Waiting) → queued (filter (λ w. not (w.age == age)) ws) ≡ without age (queued ws)
-without_filtered age [] = refl
-without_filtered age (x ∷ ws) = by (x.age == age) (without_filtered age ws)
+-- what a test of what a list is made to keeps, keeps it of the list
+pub map_filtered : {X Y : Type 0} (f : X → Y) (p : Y → Bool) (xs : List X) → map f (filter (λ x. p (f x)) xs) ≡ filter p (map f xs)
+map_filtered f p [] = refl
+map_filtered {X} {Y} f p (x ∷ xs) = by (p (f x)) (map_filtered f p xs)
   where
-    by : (b : Bool) → queued (filter (λ w. not (w.age == age)) ws) ≡ without age (queued ws)
-        → queued (if not b then x ∷ filter (λ w. not (w.age == age)) ws else filter (λ w. not (w.age == age)) ws) ≡ (if not b then owned x ∷ without age (queued ws) else without age (queued ws))
-    by true ih = ih
-    by false ih = ap (λ zs. owned x ∷ zs) ih
+    by : (b : Bool) → map f (filter (λ x. p (f x)) xs) ≡ filter p (map f xs) → map f (if b then x ∷ filter (λ x. p (f x)) xs else filter (λ x. p (f x)) xs) ≡ (if b then f x ∷ filter p (map f xs) else filter p (map f xs))
+    by true ih = ap (λ zs. f x ∷ zs) ih
+    by false ih = ih
 
 pub queued_more : (ws : List Waiting) (w : Waiting) → queued (ws ++ w ∷ []) ≡ queued ws ++ owned w ∷ []
 queued_more [] w = refl

@@ -7,7 +7,8 @@ use Rattle.tab_model.specs.State.{State}
 use Rattle.tab_manager.specs.Outermost.{outermost, CommitsBy}
 use Rattle.tab_manager.specs.Parts.{parts_of, state_with}
 use Rattle.tab_core.specs.Owing.{Owes, are_watched}
-use Rattle.tab_core.specs.Runs.{StepsTo, takes_no_memory}
+use Rattle.tab_core.specs.Runs.{StepsTo}
+use Rattle.tab_manager.specs.Steps.{takes_no_memory}
 use Rattle.tab_core.proofs.OwingLemmas.{inner_commit_makes, unwatched_commit_makes, step_keeps, none_of, nothing_due, unwatched_of, commits_of}
 use Rattle.tab_core.proofs.StepsLemmas.{ok_sees}
 use Rattle.tab_core.proofs.Core.commit.Goals as goal

@@ -5,7 +5,8 @@ use Rattle.tab_model.specs.declared.data.Command.TheVariants as command
 use Rattle.tab_manager.specs.Parts.{parts_of, state_with}
 use Rattle.tab_core.specs.Runs.{StepsTo}
 use Rattle.tab_core.specs.Subscribing.{inside_refusal, refused_by}
-use Rattle.tab_core.proofs.OwingLemmas.{quiet_schema_makes, refused_schema_makes, removes, put_keeps, step_keeps, delivered_keys, same_err, not_removed, none_is}
+use Rattle.tab_core.proofs.OwingLemmas.{quiet_schema_makes, refused_schema_makes, removes, put_keeps, step_keeps, delivered_keys, same_err, not_removed}
+use Rattle.tab_manager.proofs.Keeping.{none_of}
 use Rattle.tab_core.proofs.SessionsLemmas.{same_keys}
 use Rattle.tab_core.proofs.StepsLemmas.{ok_sees, err_stays}
 use Rattle.tab_core.proofs.Core.redefine.Goals as goal
@@ -36,7 +37,7 @@ invariant_of-self-then-is_none g c =
     let σ = state_with c.self.inside.machine ss in
     let free = subst (λ (ρ : State). None ≡ refused_by ρ c.args.session inside_refusal (session_at ρ.sessions c.args.session)) (sym c.self.view_is) c.requires.free in
     put_keeps (parts_of c.self.inside.machine ss) (parts_of c.schema-2.new.self ss) ss c.args.session (DoCommand (command.Schema c.args.schema)) c.in_ok-stepped.stepped c.self.invariant (c.schema-2.ensures.agree ss c.self.invariant) (same_keys ss)
-    (refused_schema_makes σ ss c.args.session c.args.schema free c.in_ok-stepped.stepped (state_with c.schema-2.new.self ss) (c.in_ok-stepped.ensures.done ss c.self.invariant) (none_is _ c.if-is_none.ensures))
+    (refused_schema_makes σ ss c.args.session c.args.schema free c.in_ok-stepped.stepped (state_with c.schema-2.new.self ss) (c.in_ok-stepped.ensures.done ss c.self.invariant) (none_of _ c.if-is_none.ensures))
 
 pub returns-then-is_none-clause-done : goal.returns-then-is_none-clause-done
 returns-then-is_none-clause-done g c =
@@ -44,7 +45,7 @@ returns-then-is_none-clause-done g c =
     let σ = state_with c.self.inside.machine ss in
     let free = subst (λ (ρ : State). None ≡ refused_by ρ c.args.session inside_refusal (session_at ρ.sessions c.args.session)) (sym c.self.view_is) c.requires.free in
     subst (λ (μ : State). StepsTo μ c.args.session (DoCommand (command.Schema c.args.schema)) c.in_ok-stepped.stepped (state_with c.schema-2.new.self ss)) c.self.view_is
-    (refused_schema_makes σ ss c.args.session c.args.schema free c.in_ok-stepped.stepped (state_with c.schema-2.new.self ss) (c.in_ok-stepped.ensures.done ss c.self.invariant) (none_is _ c.if-is_none.ensures))
+    (refused_schema_makes σ ss c.args.session c.args.schema free c.in_ok-stepped.stepped (state_with c.schema-2.new.self ss) (c.in_ok-stepped.ensures.done ss c.self.invariant) (none_of _ c.if-is_none.ensures))
 
 pub invariant_of-self-2 : goal.invariant_of-self-2
 invariant_of-self-2 g c =

@@ -10,13 +10,13 @@ pub invariant_of-self-2 : goal.invariant_of-self-2
 invariant_of-self-2 c =
     let es = c.self.inside.by_name in
     let change = c.args.update.now in
-    let name = c.in_ok-name.ensures.ok ∙ c.table_of_update.ensures in
+    let name = c.in_ok-name.ensures in
     subst AreNamed (sym (c.in_ok-revise.ensures.ok ∙ ap (λ n. revised_at bytes_cmp (changed change) n es) name)) (named_altered es change c.self.invariant)
 
 pub returns-clause-ok : goal.returns-clause-ok
 returns-clause-ok c =
     let es = c.self.inside.by_name in
     let change = c.args.update.now in
-    let name = c.in_ok-name.ensures.ok ∙ c.table_of_update.ensures in
+    let name = c.in_ok-name.ensures in
     ap catalog_of (c.in_ok-revise.ensures.ok ∙ ap (λ n. revised_at bytes_cmp (changed change) n es) name)
     ∙ altered es change c.self.invariant ∙ ap (λ w. change_catalog w change) c.self.view_is
