@@ -3,13 +3,14 @@
 ghost use Rattle.std.specs.Prelude.{◌≡◌, ◌++◌, map, IfOk, OnOk};
 ghost use Rattle.std.specs.Ordering.{is_lt};
 ghost use Rattle.std.specs.List.Sorted.{IsPermutation, IsSortedBy};
+ghost use Rattle.tab_term.specs.Data.{list as list_of, none as no_terms};
 ghost use Rattle.tab_term.specs.Order.{term_cmp};
 ghost use Rattle.tab_term.specs.View.{term};
 ghost use Rattle.tab_map.specs.Entries.{Ascends};
 ghost use Rattle.tab_index.specs.IndexOf.{IsIndexOf};
 ghost use Rattle.tab_index.specs.Pairs.{pair_of, value_cmp, HasPairs, EndsUpTo, IsNext};
 
-use crate::element::{Nothing, element, key};
+use crate::element::{element, key, nil};
 use std::alloc::{AllocError, Global};
 use std::cmp::Ordering;
 use std::marker::Model;
@@ -78,8 +79,8 @@ pub fn entries_of(
 ) -> Result<Map<Term, Set<Term>>, AllocError>
     ensures { IfOk result (IsIndexOf rows.now.1 position) }
 {
-    let nothing = Nothing::new(alloc);
-    let mut pairs = pairs_of(alloc, position, rows, &nothing)?;
+    let nil = nil(alloc);
+    let mut pairs = pairs_of(alloc, position, rows, &nil)?;
     sort_pairs(&mut pairs)?;
     let entries = grouped(alloc, pairs.as_slice())?;
     Map::from_sorted(alloc, entries)
@@ -90,13 +91,14 @@ fn pairs_of<'a>(
     alloc: Global,
     position: u64,
     rows: &'a Rows,
-    nothing: &'a Nothing,
+    nil: &'a Term,
 ) -> Result<Vec<Pair<'a>>, AllocError>
+    requires { term nil.now ≡ list_of no_terms }
     ensures { IfOk result (λ pairs. pairs.items ≡ map (pair_of position) rows.now.1) }
 {
     let mut pairs = Vec::with_capacity(alloc, rows.size())?;
     for entry in rows.walk() {
-        add_pairs(&mut pairs, position, entry.pair().1.iter(), nothing)?;
+        add_pairs(&mut pairs, position, entry.pair().1.iter(), nil)?;
     }
     Ok(pairs)
 }
@@ -105,13 +107,14 @@ fn add_pairs<'a>(
     pairs: &mut Vec<Pair<'a>>,
     position: u64,
     records: Iter<'a>,
-    nothing: &'a Nothing,
+    nil: &'a Term,
 ) -> Result<(), AllocError>
+    requires { term nil.now ≡ list_of no_terms }
     ensures { OnOk result
         (pairs.new.items ≡ pairs.old.items ++ map (pair_of position) records.entry) }
 {
     for row in records {
-        pairs.push(Pair::new(element(row, position, nothing), key(row, nothing)))?;
+        pairs.push(Pair::new(element(row, position, nil), key(row, nil)))?;
     }
     Ok(())
 }

@@ -2,6 +2,7 @@
 
 ghost use Rattle.std.specs.Prelude.{◌≡◌, ℕ, [], ◌∷◌, not, ◌&&◌, IfOk, OnOk, IsTrue, map, true};
 ghost use Rattle.std.specs.List.{filter, list_any};
+ghost use Rattle.tab_term.specs.Data.{list as list_of, none as no_terms};
 ghost use Rattle.tab_term.specs.Order.{term_cmp};
 ghost use Rattle.tab_term.specs.Same.{same};
 ghost use Rattle.tab_term.specs.View.{term, terms};
@@ -13,7 +14,7 @@ ghost use Rattle.tab_map.specs.KeyList.{KeysAscend};
 ghost use Rattle.tab_index.specs.IndexOf.{keys_in, IsIndexOf, IsWith, IsWithout, has_value};
 
 use crate::building::entries_of;
-use crate::element::{Nothing, element, key};
+use crate::element::{element, key, nil};
 use std::alloc::{AllocError, Global};
 use tab_map::{Map, Set};
 use tab_model::{Change, Kind};
@@ -111,12 +112,8 @@ impl Index {
             (IsWith self.old.keys self.new.keys (element_of self.old.position (term row.now))
             (key_of_row (term row.now))) }
     {
-        let nothing = Nothing::new(alloc);
-        self.put(
-            alloc,
-            element(row, self.position, &nothing),
-            key(row, &nothing),
-        )
+        let nil = nil(alloc);
+        self.put(alloc, element(row, self.position, &nil), key(row, &nil))
     }
 
     /// The index of these records at the position, in one sort.
@@ -137,9 +134,9 @@ impl Index {
         ensures ok { OnOk result
             (IsIndexOf (delete_in rows.now.1 (term key.now)) self.new.position self.new.keys) }
     {
-        let nothing = Nothing::new(alloc);
+        let nil = nil(alloc);
         for row in rows.at(key) {
-            self.take(alloc, element(row, self.position, &nothing), key)?;
+            self.take(alloc, element(row, self.position, &nil), key)?;
         }
         Ok(())
     }
@@ -153,13 +150,9 @@ impl Index {
             (IsIndexOf (put kind.Set rows.now.1 (term row.now)) self.new.position
             self.new.keys) }
     {
-        let nothing = Nothing::new(alloc);
-        let key = key(row, &nothing);
-        if self.has_only(
-            rows.at(key),
-            element(row, self.position, &nothing),
-            &nothing,
-        ) {
+        let nil = nil(alloc);
+        let key = key(row, &nil);
+        if self.has_only(rows.at(key), element(row, self.position, &nil), &nil) {
             return Ok(());
         }
         self.forget(alloc, rows, key)?;
@@ -167,7 +160,8 @@ impl Index {
     }
 
     // Whether there is one record, and it has the value.
-    fn has_only(&self, mut records: Iter<'_>, value: &Term, nothing: &Nothing) -> bool
+    fn has_only(&self, mut records: Iter<'_>, value: &Term, nil: &Term) -> bool
+        requires { term nil.now ≡ list_of no_terms }
         ensures { IsTrue result
             → map (element_of self.now.position) records.entry ≡ term value.now ∷ [] }
     {
@@ -176,7 +170,7 @@ impl Index {
         };
         match records.next() {
             Some(_) => false,
-            None => element(first, self.position, nothing) == value,
+            None => element(first, self.position, nil) == value,
         }
     }
 
@@ -189,17 +183,18 @@ impl Index {
             (IsIndexOf (delete_object_in rows.now.1 (term row.now)) self.new.position
             self.new.keys) }
     {
-        let nothing = Nothing::new(alloc);
-        let key = key(row, &nothing);
-        let value = element(row, self.position, &nothing);
-        if self.has_another(rows.at(key), row, value, &nothing) {
+        let nil = nil(alloc);
+        let key = key(row, &nil);
+        let value = element(row, self.position, &nil);
+        if self.has_another(rows.at(key), row, value, &nil) {
             return Ok(());
         }
         self.take(alloc, value, key)
     }
 
     // Whether a record that isn't this one has the value.
-    fn has_another(&self, records: Iter<'_>, row: &Term, value: &Term, nothing: &Nothing) -> bool
+    fn has_another(&self, records: Iter<'_>, row: &Term, value: &Term, nil: &Term) -> bool
+        requires { term nil.now ≡ list_of no_terms }
         ensures { result
             ≡ list_any (has_value self.now.position (term value.now))
             (delete_object_in records.entry (term row.now)) }
@@ -208,7 +203,7 @@ impl Index {
             if row == other {
                 continue;
             }
-            if element(other, self.position, nothing) == value {
+            if element(other, self.position, nil) == value {
                 return true;
             }
         }

@@ -23,5 +23,5 @@ returns-in-Some c =
 
 pub returns-in-None : goal.returns-in-None
 returns-in-None c =
-    c.nothing.invariant ∙ sym (nth_past c.as_slice.result.now c.saturating_sub.result c.in-None.ensures.lookup.3)
+    c.requires ∙ sym (nth_past c.as_slice.result.now c.saturating_sub.result c.in-None.ensures.lookup.3)
     ∙ ap₂ nth c.saturating_sub.ensures c.as_slice.ensures.items ∙ ap (λ t. element c.args.position (term t)) (sym c.in-Tuple.is)

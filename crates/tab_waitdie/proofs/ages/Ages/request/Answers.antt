@@ -2,7 +2,6 @@ use Rattle.std.proofs.Common.{◌≡◌, false, sym, ap, ◌∙◌, subst, List,
 use Rattle.std.proofs.lemmas.Result.{IfOk-weaker}
 use Rattle.std.specs.List.{list_any}
 use Rattle.tab_model.specs.Ages.{Ages, Owned, Rises, decide, opposes}
-use Rattle.tab_locks.specs.declared.lock_table.Conflict.TheVariants.{Free}
 use Rattle.tab_locks.specs.Placed.{in_the_way, conflict_in, after_asked, GivesBack}
 use Rattle.tab_locks.specs.Plain.{lock_of}
 use Rattle.tab_waitdie.specs.declared.ages.Answer.TheVariants.{Granted}
