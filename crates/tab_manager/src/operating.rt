@@ -180,24 +180,6 @@ fn work(
     let Some(transaction) = slot else {
         unreachable!();
     };
-    work_in(alloc, catalog, transaction, ages, asked)
-}
-
-fn work_in(
-    alloc: Global,
-    catalog: &Catalog,
-    transaction: &mut Transaction,
-    ages: &mut Ages,
-    asked: Whole<Operation>,
-) -> Result<Worked, AllocError>
-    ensures ok { IfOk result
-        (λ x. Works catalog.now transaction.old asked.value x transaction.new) }
-    ensures held { IfOk result (λ x. ages.new ≡ ages.old) }
-    ensures undone { OnErr result
-        ((transaction.new ≡ transaction.old)
-        × (ages.new ≡ ages_with
-        (without_last transaction.old.age ages.old.held) ages.old.queue)) }
-{
     let outermost = transaction.store.depth() == 0;
     match perform(alloc, catalog, &mut transaction.store, asked) {
         Ok(reply) => {

@@ -4,15 +4,12 @@ ghost use Rattle.tab_model.specs.Operations.{table_of as table_of_operation, ans
 ghost use Rattle.tab_model.specs.Catalogs.{find, IsOrderedCatalog};
 ghost use Rattle.tab_model.specs.declared.data.Move.TheVariants.{Do};
 ghost use Rattle.tab_model.specs.declared.data.Reply.TheVariants as reply;
-ghost use Rattle.tab_txstore.specs.Overlays.{touched};
 ghost use Rattle.tab_txstore.specs.Stores.{store_next, Fits};
-ghost use Rattle.tab_operations.specs.Answers.{Answers};
 
 use crate::answering::answered;
 use crate::asked::table_of;
 use crate::whole::Whole;
 use std::alloc::{AllocError, Global};
-use tab_index::IndexedTable;
 use tab_model::{Operation, Reply, SharedReply};
 use tab_tables::Catalog;
 use tab_term::Atom;
@@ -38,27 +35,9 @@ pub fn perform(
     ensures err { OnErr result (store.new ≡ store.old) }
 {
     let name = table_of(alloc, &asked.value)?;
-    match catalog.table(&name) {
-        Some(committed) => perform_on(alloc, committed, store, asked),
-        None => fail(alloc, store, asked, name),
-    }
-}
-
-fn perform_on(
-    alloc: Global,
-    committed: &IndexedTable,
-    store: &mut TxStore,
-    asked: Whole<Operation>,
-) -> Result<SharedReply, AllocError>
-    ensures store { IfOk result
-        (λ r. store.new
-        ≡ store_next (Some committed.now) store.old (Do asked.value) (Some r)) }
-    ensures answer { IfOk result
-        (λ r. Answers
-        (touched store.old.levels.now.overlay committed.now.def.name) committed.now
-        asked.value r) }
-    ensures err { OnErr result (store.new ≡ store.old) }
-{
+    let Some(committed) = catalog.table(&name) else {
+        return fail(alloc, store, asked, name);
+    };
     let answer = answered(alloc, store, committed, &asked.value)?;
     let (reply, logged) = SharedReply::pair(alloc, answer.into_reply())?;
     store.make(alloc, committed, asked.into_value(), logged)?;

@@ -1,21 +1,13 @@
 -- The records that match, along the merged walk.
-use Rattle.std.proofs.Common.{◌≡◌, [], ◌∷◌, ◌++◌, Bool, true, false, append-nil, append_assoc, subst, refl, sym, ap, ◌∙◌}
+use Rattle.std.proofs.Common.{◌≡◌, [], ◌∷◌, ◌++◌, Bool, true, false, subst, refl, sym, ap, ◌∙◌}
 use Rattle.std.specs.Prelude.{if◌then◌else◌}
-use Rattle.std.specs.List.{list_all}
-use Rattle.std.proofs.lemmas.Bool.{and_left}
-use Rattle.std.proofs.lemmas.List.Elements.{filter-append}
-use Rattle.std.proofs.lemmas.List.Folds.{list_all-append}
-use Rattle.tab_term.specs.declared.term.Term.{Term}
-use Rattle.tab_term.specs.Data.{PlainTerm, PlainTerms}
+use Rattle.tab_term.specs.Data.{PlainTerm}
 use Rattle.tab_term.specs.Order.{term_cmp}
-use Rattle.tab_term.specs.Pattern.{matches}
 use Rattle.tab_map.specs.Entries.{Ascends}
 use Rattle.tab_model.specs.Names.{terms_list}
 use Rattle.tab_model.specs.Tables.{Rows}
-use Rattle.tab_term.specs.Same.{same}
-use Rattle.std.specs.Prelude.{ℕ}
 use Rattle.std.proofs.Common.{Some}
-use Rattle.tab_model.specs.WholeTables.{match_object, index_read, element}
+use Rattle.tab_model.specs.WholeTables.{match_object}
 use Rattle.tab_index.specs.BoundKey.{bound_key}
 use Rattle.tab_index.proofs.BoundKeyLemmas.{at_bound_key}
 use Rattle.tab_rows.specs.Joined.{joined, IsInOrder}

@@ -12,11 +12,10 @@ use Rattle.tab_term.specs.Order.{term_cmp}
 use Rattle.tab_term.specs.Same.{same}
 use Rattle.tab_term.specs.View.{term}
 use Rattle.tab_term.proofs.Total.{term_total}
-use Rattle.tab_map.specs.Entries.{lookup, insert_entry, AllAbove, Ascends}
-use Rattle.tab_map.proofs.AscendsLemmas.{ascends_insert}
+use Rattle.tab_map.specs.Entries.{lookup, AllAbove, Ascends}
 use Rattle.tab_lists.proofs.MergedLemmas.{ascends_merged}
 use Rattle.tab_rows.specs.Joined.{joined, IsKeyed, AllKeyed, IsInOrder}
-use Rattle.tab_records.proofs.LookUps.{lookup_insert, lookup_above, below_all, at_all, above_below}
+use Rattle.tab_records.proofs.LookUps.{lookup_insert, lookup_above, below_all, at_all}
 use Rattle.tab_rows.proofs.Cells.{at-joined, ordered-joined, found_in}
 use Rattle.tab_model.specs.Names.{terms_list}
 use Rattle.tab_model.specs.Tables.{Rows, key, has_key, at, keys}

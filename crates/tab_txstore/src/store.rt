@@ -122,20 +122,7 @@ impl TxStore {
         ensures err { OnErr result (self.new ≡ self.old) }
     {
         let operation = LoggedOperation::new(alloc, committed.def().kind, operation)?;
-        self.put_made(alloc, committed, Made { operation, reply })
-    }
-
-    fn put_made(
-        &mut self,
-        alloc: Global,
-        committed: &IndexedTable,
-        made: Made,
-    ) -> Result<(), AllocError>
-        ensures ok { OnOk result
-            (self.new ≡ store_next (Some committed.now) self.old (Do made.operation)
-            (Some made.reply)) }
-        ensures err { OnErr result (self.new ≡ self.old) }
-    {
+        let made = Made { operation, reply };
         reserve(&mut self.moves, self.levels.depth(), 1)?;
         reserve_told(&mut self.told, self.levels.depth(), 1)?;
         self.levels
@@ -160,15 +147,7 @@ impl TxStore {
     {
         // There is no table, so no set takes the record: it stays a term, as a bag's does.
         let operation = LoggedOperation::new(alloc, Kind::Bag, operation)?;
-        self.put_failed(Made { operation, reply })
-    }
-
-    fn put_failed(&mut self, made: Made) -> Result<(), AllocError>
-        requires { IsTrue (is_failure_of (Some made.reply)) }
-        ensures ok { OnOk result
-            (self.new ≡ store_next None self.old (Do made.operation) (Some made.reply)) }
-        ensures err { OnErr result (self.new ≡ self.old) }
-    {
+        let made = Made { operation, reply };
         reserve(&mut self.moves, self.levels.depth(), 1)?;
         reserve_told(&mut self.told, self.levels.depth(), 1)?;
         let (operation, reply) = made.into_parts();

@@ -1,10 +1,10 @@
 use Rattle.std.proofs.Common.{refl}
 use Rattle.tab_txstore.proofs.KeptLemmas.{next_no_more, room, counted_one}
-use Rattle.tab_txstore.proofs.store.TxStore.put_made.Goals as goal
+use Rattle.tab_txstore.proofs.store.TxStore.make.Goals as goal
 
 pub invariant_of-self-2 : goal.invariant_of-self-2
 invariant_of-self-2 c =
-    let less = next_no_more c.args.committed.now c.self.inside.levels c.operate.new.self c.args.made.operation c.args.made.reply c.in_ok-operate.ensures.ok in (
+    let less = next_no_more c.args.committed.now c.self.inside.levels c.operate.new.self c.in_ok-operation.operation c.args.reply c.in_ok-operate.ensures.ok in (
       room _ _ _ _ _ _ _ _ c.depth.ensures c.in_ok-reserve.ensures.room less c.put_move.ensures.len c.put_move.ensures.room,
       room _ _ _ _ _ _ _ _ c.depth-2.ensures c.in_ok-reserve_told.ensures.room less c.put_told.ensures.len c.put_told.ensures.room,
       counted_one c.self.inside.moves.items _ _ _ _ c.in_ok-reserve.ensures.items c.put_move.ensures.items refl c.self.invariant.2,

@@ -1,6 +1,6 @@
 use Rattle.std.proofs.Common.{refl}
 use Rattle.tab_txstore.proofs.KeptLemmas.{ended_no_more, room, counted_one}
-use Rattle.tab_txstore.proofs.store.TxStore.put_failed.Goals as goal
+use Rattle.tab_txstore.proofs.store.TxStore.fail.Goals as goal
 
 pub invariant_of-self-2 : goal.invariant_of-self-2
 invariant_of-self-2 c =
