@@ -43,23 +43,12 @@ impl<H: Host> Book<H> {
     {
         let before = self.holdup(session);
         let retries = retries(&step);
-        let told = self.told(session, step)?;
-        let releases = self.lets_go(session, before, retries, told.reply());
-        Ok(Answered { told, releases })
-    }
-
-    fn told(&mut self, session: u32, step: Step) -> Result<SharedReply, AllocError>
-        ensures done { IfOk result (λ r. StepsTo self.old session (ask_of step) r self.new) }
-        ensures free { IsTrue (takes_no_memory self.old.state session (ask_of step))
-            → IsFalse (is_full self.old.journal && may_enter_of self.old.state session
-            (ask_of step)) → IsOk result }
-        ensures err { OnErr result (MayFold self.old session (ask_of step) self.new) }
-        ensures posts { KeepsPosts self.old.state self.new.state }
-    {
         if self.journal.full() && self.may_enter(session, &step) {
             self.make_room()?;
         }
-        self.make(session, step)
+        let told = self.make(session, step)?;
+        let releases = self.lets_go(session, before, retries, told.reply());
+        Ok(Answered { told, releases })
     }
 
     /// The oldest entries are folded into the base, until there is room for one more.

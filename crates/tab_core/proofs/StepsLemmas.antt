@@ -1,6 +1,6 @@
 -- Steps that put nothing into posts, and what steps keep.
 use Rattle.std.proofs.Common.{◌≡◌, ℕ, List, [], Bool, true, false, refl, sym, ap, ◌∙◌, subst, Option, Some, None}
-use Rattle.std.specs.Prelude.{if◌then◌else◌, Result, Ok, Err, IfOk, OnErr}
+use Rattle.std.specs.Prelude.{if◌then◌else◌, Result, Ok, Err, IfOk, IsOk, OnErr}
 use Rattle.tab_model.specs.declared.data.Command.{Command}
 use Rattle.tab_model.specs.declared.data.Command.TheVariants as command
 use Rattle.tab_model.specs.declared.data.Level.{Level}
@@ -93,6 +93,13 @@ free_sees σ ρ n a view h f g = both_ways (asks_for_none σ n a) (is_told_for_n
 
 pub told_sees : {P : Type 0} (σ ρ : State) (n : ℕ) (a : Ask) → σ ≡ ρ → is_told_for_none ρ n a ≡ true → (is_told_for_none σ n a ≡ true → P) → P
 told_sees σ ρ n a view h f = f (ap (λ (μ : State). is_told_for_none μ n a) view ∙ h)
+
+-- what a call made, said of how its caller names the answer, the state after it and what was asked
+abbrev pub Made : {E : Type 0} → State → ℕ → Ask → Result Stepped E → State → Type 0
+Made σ n a r τ = IfOk r (λ s. StepsTo σ n a s τ) × (manager.takes_no_memory σ n a ≡ true → IsOk r) × OnErr r (τ ≡ σ)
+
+pub as_made : {E : Type 0} (σ τ τ' : State) (n : ℕ) (a a' : Ask) (r r' : Result Stepped E) → a ≡ a' → r ≡ r' → τ ≡ τ' → Made σ n a' r' τ' → Made σ n a r τ
+as_made {E} σ τ τ' n a a' r r' p q h made = subst (λ (b : Ask). Made σ n b r τ) (sym p) (subst (λ (x : Result Stepped E). Made σ n a' x τ) (sym q) (subst (λ (μ : State). Made σ n a' r' μ) (sym h) made))
 
 -- ---- what a step keeps
 

@@ -113,24 +113,16 @@ impl<P: Post + Drop> Core<P> {
         ensures sound { IsSound self.new }
         ensures rising { IsRising self.new }
     {
-        let stepped = self.do_command(session, command);
-        // Known of the core from here on is that it is sound.
-        let _ = &self.machine;
-        stepped
-    }
-
-    fn do_command(&mut self, session: u32, command: Command) -> Result<Stepped, AllocError>
-        ensures done { IfOk result (λ s. StepsTo self.old session (DoCommand command) s self.new) }
-        ensures free { IsTrue (takes_no_memory self.old session (DoCommand command)) → IsOk result }
-        ensures err { OnErr result (self.new ≡ self.old) }
-    {
-        match command {
+        let stepped = match command {
             Command::Commit => self.commit(session),
             Command::Schema(schema) => self.schema(session, schema),
             Command::Subscribe(table, level, dump) => self.subscribe(session, table, level, dump),
             Command::Unsubscribe(table, level) => self.unsubscribe(session, table, level),
             command => self.machine.command(&mut self.subs, session, command),
-        }
+        };
+        // Known of the core from here on is that it is sound.
+        let _ = &self.machine;
+        stepped
     }
 
     /// Steps in order, with their replies; a step refused for memory has the reply NoMemory. The answer is

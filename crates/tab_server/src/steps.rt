@@ -54,7 +54,7 @@ impl<'a, H: Host, W: Write, G: Gate> Requests<'a, H, W, G> {
             let alloc = self.alloc;
             return one_shot(self, alloc, command);
         }
-        let Ok(told) = self.step(command) else {
+        let Ok(told) = self.held.step(&self.seat, Step::Do(command)) else {
             return SharedReply::new(Reply::NoMemory);
         };
         let told = match told.reply() {
