@@ -85,7 +85,7 @@ module _ (m : Parts) (n i : ℕ) (k : IsKept m) (there : IsHeldAt m.sessions n i
       sessions_are : m'.sessions ≡ set m.sessions i (ended s)
       sessions_are = sessions ∙ ap (λ z. set m.sessions i (with_transaction s z)) over
 
-      state : state_of m' ≡ (let τ : State = record { tables = m'.catalog; sessions = map session_of (set m.sessions i (ended s)); queue = map queued_of m.queue.items; next_age = m.begun + 1; commits = m.commits + 1; greatest = m.greatest; limits = m.limits } in τ)
+      state : state_of m' ≡ (let τ : State = record (state_of m) { tables = m'.catalog; sessions = map session_of (set m.sessions i (ended s)); commits = m.commits + 1 } in τ)
       state = λ j. record {
         tables = m'.catalog;
         sessions = map session_of (sessions_are j);
@@ -207,7 +207,7 @@ join_exit m n b k stranger new room ss is = (e, kept_step m joined n (Join b) re
 
     e : outcome (state_of m) [] n (Join b) ≡ step_without_entry (state_of joined) reply.Done
     e = joins_if m n b stranger true true new (ap (λ l. nat_lt l m.limits.sessions) (as_many m n b stranger) ∙ room)
-        ∙ ap (λ xs. let τ : State = record { tables = m.catalog; sessions = xs; queue = map queued_of m.queue.items; next_age = m.begun + 1; commits = m.commits; greatest = n; limits = m.limits } in step_without_entry τ reply.Done) (sym (pushed m.sessions) ∙ ap (map session_of) (sym is))
+        ∙ ap (λ xs. let τ : State = record (state_of m) { sessions = xs; greatest = n } in step_without_entry τ reply.Done) (sym (pushed m.sessions) ∙ ap (map session_of) (sym is))
 
     last : (xs : List Subscriber) (q : ℕ) (t : kept.Transaction) → transaction_in (at (xs ++ subs.fresh n b ∷ []) q) ≡ Some t → transaction_in (at xs q) ≡ Some t
     last [] q t h = by (n == q) h

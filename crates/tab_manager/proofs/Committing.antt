@@ -43,15 +43,11 @@ module _ (m : Parts) (n i : ℕ) (k : IsKept m) (there : IsHeldAt m.sessions n i
       ∙ survivors_are m.catalog t.age t.store.moves
 
   pub commits : (w : Catalog) → w ≡ change_all m.catalog t.store.levels.now.updates
-      → record { tables = w; sessions = map session_of (set m.sessions i (ended s)); queue = map queued_of m.queue.items; next_age = m.begun + 1; commits = m.commits + 1; greatest = m.greatest; limits = m.limits } ≡ after_commit σ (session_of s) (transaction_of t)
-  commits w is = λ j. record {
+      → record (state_of m) { tables = w; sessions = map session_of (set m.sessions i (ended s)); commits = m.commits + 1 } ≡ after_commit σ (session_of s) (transaction_of t)
+  commits w is = λ j. record (state_of m) {
     tables = (is ∙ tables_after) j;
     sessions = keep.seats' m n i k there (ended s) refl j;
-    queue = map queued_of m.queue.items;
-    next_age = m.begun + 1;
     commits = m.commits + 1;
-    greatest = m.greatest;
-    limits = m.limits;
   }
 
   -- who else is open still fits

@@ -77,7 +77,7 @@ pub record IsNext (m m' : Parts) (ss : List Subscriber) (qs : List request.Reque
   pub greatest : m'.greatest ≡ m.greatest
 
 abbrev pub state_after : Parts → List Subscriber → List request.Request → State
-state_after m ss qs = record { tables = m.catalog; sessions = map session_of ss; queue = map queued_of qs; next_age = m.begun + 1; commits = m.commits; greatest = m.greatest; limits = m.limits }
+state_after m ss qs = record (state_of m) { sessions = map session_of ss; queue = map queued_of qs }
 
 pub state_next : (m m' : Parts) (ss : List Subscriber) (qs : List request.Request) → IsNext m m' ss qs → state_after m ss qs ≡ state_of m'
 state_next m m' ss qs x = λ i. record {

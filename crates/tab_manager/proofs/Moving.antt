@@ -1,5 +1,5 @@
 -- A move that a transaction makes: what its session is answered, and the parts after it.
-use Rattle.std.proofs.Common.{◌≡◌, ℕ, ◌+◌, ◌≤◌, List, [], ◌∷◌, ◌++◌, Bool, true, false, ◌&&◌, ◌||◌, not, refl, sym, ap, ◌∙◌, subst, arith, length, Option, Some, set}
+use Rattle.std.proofs.Common.{◌≡◌, ℕ, ◌≤◌, List, [], ◌∷◌, ◌++◌, Bool, true, false, ◌&&◌, ◌||◌, not, refl, sym, ap, ◌∙◌, subst, arith, length, Option, Some, set}
 use Rattle.std.specs.Prelude.{◌==◌, if◌then◌else◌, map, option_map}
 use Rattle.std.specs.List.{list_any}
 use Rattle.std.proofs.lemmas.Bool.Decides.{nat_tests}
@@ -93,8 +93,8 @@ module _ (m : Parts) (n i : ℕ) (k : IsKept m) (there : IsHeldAt m.sessions n i
     where
       by : (b : Bool) → step_without_entry (with_session (state_after m m.sessions qs) (Rattle.tab_model.specs.Outcome.with_transaction (session_of s) (after_move tr x r b))) (reply_or r d)
           ≡ step_without_entry (state_after m (set m.sessions i (moved_if b s t (store_next committed t.store x r))) qs) (reply_or r d)
-      by true = ap (λ ss. let τ : State = record { tables = m.catalog; sessions = ss; queue = map queued_of qs; next_age = m.begun + 1; commits = m.commits; greatest = m.greatest; limits = m.limits } in step_without_entry τ (reply_or r d)) (sym (keep.seats' m n i k there (ended s) refl))
-      by false = ap (λ ss. let τ : State = record { tables = m.catalog; sessions = ss; queue = map queued_of qs; next_age = m.begun + 1; commits = m.commits; greatest = m.greatest; limits = m.limits } in step_without_entry τ (reply_or r d)) (sym (keep.seats' m n i k there (moved s t (store_next committed t.store x r)) refl))
+      by true = ap (λ ss. let τ : State = record (state_of m) { sessions = ss; queue = map queued_of qs } in step_without_entry τ (reply_or r d)) (sym (keep.seats' m n i k there (ended s) refl))
+      by false = ap (λ ss. let τ : State = record (state_of m) { sessions = ss; queue = map queued_of qs } in step_without_entry τ (reply_or r d)) (sym (keep.seats' m n i k there (moved s t (store_next committed t.store x r)) refl))
 
   -- an operation that was made over the tables as they are
   module _ (o : Operation) (x : Worked) (new : kept.Transaction) (w : Works m.catalog t o x new) where

@@ -1,5 +1,5 @@
 -- Operations and retries: the lock is decided, and then the work is done, queued, or given up.
-use Rattle.std.proofs.Common.{◌≡◌, ℕ, ◌+◌, ◌≤◌, List, [], ◌∷◌, ◌++◌, Bool, true, false, not, refl, sym, ap, ◌∙◌, subst, arith, Option, Some, None, set}
+use Rattle.std.proofs.Common.{◌≡◌, ℕ, ◌≤◌, List, [], ◌∷◌, ◌++◌, Bool, true, false, not, refl, sym, ap, ◌∙◌, subst, arith, Option, Some, None, set}
 use Rattle.std.specs.Prelude.{◌==◌, nat_lt, if◌then◌else◌, map, option_map, IfSome}
 use Rattle.std.specs.List.{filter}
 use Rattle.tab_locks.specs.Members.{SameMembers}
@@ -120,7 +120,7 @@ module _ (m : Parts) (n i : ℕ) (k : IsKept m) (there : IsHeldAt m.sessions n i
     dies o idle room h =
         asks_lock o Die idle room h
         ∙ ap (λ x. step_without_entry (Rattle.tab_model.specs.Outcome.with_session σ (Rattle.tab_model.specs.Outcome.with_transaction (session_of s) x)) reply.Restart) (ap (option_map (λ v. transaction_of (works.with_store v no_store))) (sym open_t) ∙ mapped s.transaction)
-        ∙ ap (λ ss. let τ : State = record { tables = m.catalog; sessions = ss; queue = map queued_of m.queue.items; next_age = m.begun + 1; commits = m.commits; greatest = m.greatest; limits = m.limits } in step_without_entry τ reply.Restart) (sym (keep.seats' m n i k there (with_transaction s (works.restarted s.transaction)) refl))
+        ∙ ap (λ ss. let τ : State = record (state_of m) { sessions = ss } in step_without_entry τ reply.Restart) (sym (keep.seats' m n i k there (with_transaction s (works.restarted s.transaction)) refl))
       where
         mapped : (x : Option kept.Transaction) → option_map (λ v. transaction_of (works.with_store v no_store)) x ≡ option_map transaction_of (option_map (λ v. works.with_store v no_store) x)
         mapped None = refl

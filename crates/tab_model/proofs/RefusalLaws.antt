@@ -1,7 +1,6 @@
 -- What each reply says of the state after it.
 use Rattle.std.proofs.Common.{◌≡◌, ◌≢◌, ℕ, List, [], ◌∷◌, ◌++◌, Bool, true, false, ◌||◌, ◌&&◌, not, refl, sym, ap, ◌∙◌, subst, append-nil, Option, Some, None}
 use Rattle.std.proofs.Math.Bool.{and-false, and-true}
-use Rattle.std.specs.List.{filter}
 use Rattle.std.specs.Prelude.{if◌then◌else◌, is_some, ◌==◌}
 use Rattle.tab_term.specs.View.{term}
 use Rattle.tab_term.specs.declared.term.Term.{Term}

@@ -239,14 +239,10 @@ batch_to n es s = batch_for (level_in s.watching) n es
 abbrev pub commit_now : State → List ℕ → Session → Transaction → List Event → Outcome
 commit_now σ over s transaction es =
     record {
-      state = record {
+      state = record σ {
         tables = (mid_of σ transaction).now;
         sessions = map (λ x. after_put (σ.commits + 1) over (batch_to (σ.commits + 1) es x) x) (with_changed σ.sessions (with_transaction s None));
-        queue = σ.queue;
-        next_age = σ.next_age;
         commits = σ.commits + 1;
-        greatest = σ.greatest;
-        limits = σ.limits;
       };
       reply = reply.Atomic (σ.commits + 1);
       entry = Some (Committed (σ.commits + 1) s.number transaction.age transaction.moves transaction.told over);
@@ -279,14 +275,9 @@ end_to t s = end_for (level_in s.watching) t
 abbrev pub schema_now : State → List ℕ → Schema → Outcome
 schema_now σ over c =
     record {
-      state = record {
+      state = record σ {
         tables = schema_effect σ.tables c;
         sessions = map (λ x. after_put (σ.commits + 1) over (end_to (removed_table c) x) (without_deleted (removed_table c) x)) σ.sessions;
-        queue = σ.queue;
-        next_age = σ.next_age;
-        commits = σ.commits;
-        greatest = σ.greatest;
-        limits = σ.limits;
       };
       reply = reply.AtomicOk;
       entry = Some (Changed c over);
