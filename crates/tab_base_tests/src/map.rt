@@ -47,7 +47,7 @@ fn is_same(map: &Map<u32, u32>, std_map: &BTreeMap<u32, u32>) -> bool {
     for (key, value) in std_map {
         let entry = (*key, *value);
         if entries.next().map(|entry| entry.pair()) != Some(&entry)
-            || map.iter_from(key).next().map(|entry| entry.pair()) != Some(&entry)
+            || map.first_from(key).map(|entry| entry.pair()) != Some(&entry)
             || map.get(key) != Some(value)
         {
             return false;

@@ -3,4 +3,5 @@ pub mod AnswersLemmas
 pub mod EventsLemmas
 pub mod MergedLemmas
 pub mod WalkLemmas
+pub mod PassedLemmas
 pub mod Crossing

@@ -11,6 +11,7 @@ mod events;
 mod iter;
 mod merged;
 mod near;
+mod passed;
 mod query;
 mod shared_terms;
 mod snapshot;

@@ -11,6 +11,7 @@ ghost use Rattle.tab_lists.specs.Lists.{Gives, GivesChosen, near_of};
 
 use crate::condition::Condition;
 use crate::near::first_given;
+use crate::passed::next_candidate;
 use std::cmp::Ordering;
 use std::marker::Model;
 use tab_map::{Iter, Keys, Map};
@@ -70,8 +71,7 @@ fn next_of<'a>(entries: &mut Iter<'a, Term, Records>) -> Option<(&'a Term, &'a R
     Some((key, records))
 }
 
-// The first record that a walk gives of these entries. A whole table is walked over by this loop alone, mostly with no call for a
-// record that it passes over: the fewer instructions stand between the records, the more of them the processor fetches at once.
+// The first record that a walk gives of these entries.
 fn next_of_table<'a>(
     entries: &mut Iter<'a, Term, Records>,
     near: &mut Option<tab_records::Iter<'a>>,
@@ -80,7 +80,7 @@ fn next_of_table<'a>(
     requires { near_of near.old ≡ [] }
     ensures { GivesChosen (option_copied condition.entry) entries.old result near.new entries.new }
 {
-    while let Some(entry) = entries.next() {
+    while let Some(entry) = next_candidate(entries, condition) {
         if let Some(first) = first_given(near, &entry.pair().1, condition) {
             return Some(first);
         }

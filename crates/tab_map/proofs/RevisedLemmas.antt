@@ -1,9 +1,9 @@
 -- A revised value among entries that are cut at a node, or at a place of a row.
-use Rattle.std.proofs.Common.{◌≡◌, ℕ, zero, suc, List, [], ◌∷◌, refl, sym, ap, ◌∙◌, subst, Some, None, Option, slice_get, slice_set, get_or}
+use Rattle.std.proofs.Common.{◌≡◌, ℕ, zero, suc, List, [], ◌∷◌, refl, sym, ap, ◌∙◌, Some, None, Option, slice_get, slice_set, get_or}
 use Rattle.std.specs.declared.cmp.Ordering.{Ordering}
 use Rattle.std.specs.Cmp.{IsTotalOrder}
 use Rattle.tab_map.specs.declared.Branch.{Branch}
-use Rattle.tab_map.specs.Entries.{lookup, insert_entry, Ascends}
+use Rattle.tab_map.specs.Entries.{lookup, Ascends}
 use Rattle.tab_map.specs.InOrder.{spread, separators}
 use Rattle.tab_map.specs.Places.{HasAt, IsGap}
 use Rattle.tab_map.specs.Revised.{revised_as, revised_at}

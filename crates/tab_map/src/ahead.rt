@@ -1,5 +1,5 @@
 //! Where a walk over a map stands.
-ghost use Rattle.std.specs.Prelude.{◌≡◌, ◌≤◌, List, [], ◌++◌, IsTrue, length, drop};
+ghost use Rattle.std.specs.Prelude.{◌≡◌, ◌≤◌, ◌-◌, List, [], ◌++◌, IsTrue, length, drop};
 ghost use Rattle.std.specs.Option.{option_copied};
 ghost use Rattle.tab_map.specs.Ahead.{AreAhead, MayBeAhead, Steps, behind, first_known};
 
@@ -89,6 +89,14 @@ impl<'a, K: Abbreviate + Drop, V: Drop> Ahead<'a, K, V> {
             }
             [] => self.step_to_child(),
         }
+    }
+
+    /// Passes over so many entries of the row, but not over its last.
+    pub fn pass(&mut self, n: usize)
+        requires { n ≤ length self.old.row.now - 1 }
+        ensures { (es : List (K × V)) → AreAhead self.old es → AreAhead self.new (drop n es) }
+    {
+        self.row = &self.row[n..];
     }
 
     // At the end of a row the entry of its branch comes next, and behind that what is below the next branch, or the last

@@ -4,14 +4,14 @@
 //! is below the next branch of the same node, or to the node's last child. Behind the last child it searches the map for
 //! the first entry above the last one, in O(log n): no comparison of keys comes but there, once in some hundreds of
 //! entries.
-ghost use Rattle.std.specs.Prelude.{◌≡◌, [], slice_get};
+ghost use Rattle.std.specs.Prelude.{◌≡◌, List, [], ◌∷◌, ◌++◌, MatchOption, drop, slice_get};
 ghost use Rattle.std.specs.Iterator.{YieldsFirstRef, item_count};
 ghost use Rattle.std.specs.Option.{option_copied};
-ghost use Rattle.tab_map.specs.Entries.{Ascends, entries_from};
+ghost use Rattle.tab_map.specs.Entries.{Ascends};
 
 use crate::Map;
 use crate::ahead::Ahead;
-use crate::entry::{Entry, Sought};
+use crate::entry::Entry;
 use std::iter::FusedIterator;
 use std::marker::Model;
 use tab_key::Abbreviate;
@@ -50,17 +50,6 @@ impl<K: Abbreviate + Drop, V: Drop> Map<K, V> {
             ahead: self.start(),
         }
     }
-
-    /// The entries whose keys are the given key or above it, in the order of their keys.
-    pub fn iter_from<'a>(&'a self, key: &K) -> Iter<'a, K, V>
-        ensures entries { result ≡ entries_from K.cmp key.now self.now }
-        ensures ascends { Ascends K.cmp self.now }
-    {
-        Iter {
-            map: self,
-            ahead: self.next_from(&Sought::new(key)),
-        }
-    }
 }
 
 impl<'a, K: Abbreviate + Drop, V: Drop> Iter<'a, K, V> {
@@ -71,14 +60,25 @@ impl<'a, K: Abbreviate + Drop, V: Drop> Iter<'a, K, V> {
         self.ahead.first()
     }
 
-    /// An iterator over the same map that is at its end.
-    pub fn end(&self) -> Iter<'a, K, V>
-        ensures { result ≡ [] }
+    /// The entries that come next and stand in one slice. None may stand there where entries are left.
+    pub fn row(&self) -> &'a [Entry<K, V>]
+        ensures { (rest : List (K × V)) × (self.now ≡ result.now ++ rest) }
     {
-        Iter {
-            map: self.map,
-            ahead: Ahead::in_row(&[]),
+        self.ahead.row
+    }
+
+    /// Passes over `n` entries, and gives the next: in O(1) where it stands in `row`, else row by row.
+    pub fn nth(&mut self, n: usize) -> Option<&'a Entry<K, V>>
+        ensures { MatchOption result ((drop n self.old ≡ []) × (self.new ≡ []))
+            (λ entry. drop n self.old ≡ entry.now ∷ self.new) }
+    {
+        let passed = n.min(self.ahead.row.len().saturating_sub(1));
+        self.ahead.pass(passed);
+        let entry = self.next()?;
+        if passed == n {
+            return Some(entry);
         }
+        self.nth(n - passed - 1)
     }
 }
 

@@ -9,6 +9,7 @@ use std::marker::Model;
 
 pub mod abbreviation;
 pub mod equality;
+pub mod last_number;
 pub mod order;
 pub mod pattern;
 

@@ -1,7 +1,7 @@
-use Rattle.std.proofs.Common.{◌++◌, ◌<◌, refl, sym, ap, ◌∙◌, subst, arith, slice_set, Some}
+use Rattle.std.proofs.Common.{◌<◌, refl, sym, ap, ◌∙◌, subst, arith, slice_set, Some}
 use Rattle.std.proofs.lemmas.Option.{slice_get_read, slice_get_past}
 use Rattle.tab_map.specs.Entries.{Ascends}
-use Rattle.tab_map.specs.InOrder.{spread, node_entries, entries}
+use Rattle.tab_map.specs.InOrder.{spread, entries}
 use Rattle.tab_map.proofs.AscendsLemmas.{ascends_insert}
 use Rattle.tab_map.proofs.SpreadLemmas.{is_root, separators_ascend, same_root, child_insert, child_lookup, last_insert, last_lookup, found_insert, found_value}
 use Rattle.tab_map.proofs.Map.+put.Goals as goal

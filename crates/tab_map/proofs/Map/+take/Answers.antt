@@ -1,8 +1,8 @@
-use Rattle.std.proofs.Common.{◌≡◌, ◌<◌, ◌++◌, refl, sym, ap, ◌∙◌, subst, arith, length, slice_set}
+use Rattle.std.proofs.Common.{◌≡◌, ◌<◌, refl, sym, ap, ◌∙◌, subst, arith, length, slice_set}
 use Rattle.std.proofs.lemmas.Result.{on_ok_weaker}
 use Rattle.std.proofs.lemmas.Option.{slice_get_read, slice_get_past}
 use Rattle.tab_map.specs.Entries.{Ascends}
-use Rattle.tab_map.specs.InOrder.{spread, node_entries, entries}
+use Rattle.tab_map.specs.InOrder.{spread, entries}
 use Rattle.tab_map.proofs.AscendsLemmas.{ascends_remove}
 use Rattle.tab_map.proofs.SpreadLemmas.{is_root, separators_ascend, same_root, child_remove, last_remove}
 use Rattle.tab_map.proofs.Map.+take.Goals as goal

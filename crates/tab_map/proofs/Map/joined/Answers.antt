@@ -1,6 +1,6 @@
-use Rattle.std.proofs.Common.{◌++◌, length, ◌≤◌, sym, ap, ◌∙◌, subst}
+use Rattle.std.proofs.Common.{length, ◌≤◌, sym, ap, ◌∙◌, subst}
 use Rattle.tab_map.specs.Entries.{Ascends}
-use Rattle.tab_map.specs.InOrder.{spread, node_entries, entries}
+use Rattle.tab_map.specs.InOrder.{node_entries, entries}
 use Rattle.tab_map.proofs.SpreadLemmas.{is_root}
 use Rattle.tab_map.proofs.MergeLemmas.{joined_rows, joined_is, joined_some}
 use Rattle.tab_map.proofs.Map.joined.Goals as goal

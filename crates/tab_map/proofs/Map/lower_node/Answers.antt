@@ -1,6 +1,6 @@
-use Rattle.std.proofs.Common.{◌++◌, sym, ap, ◌∙◌, subst, arith, length}
+use Rattle.std.proofs.Common.{sym, ap, ◌∙◌, subst, arith, length}
 use Rattle.tab_map.specs.Entries.{Ascends}
-use Rattle.tab_map.specs.InOrder.{spread, node_entries}
+use Rattle.tab_map.specs.InOrder.{node_entries}
 use Rattle.tab_map.proofs.AscendsLemmas.{ascends_front, last_two}
 use Rattle.tab_map.proofs.SplitLemmas.{halves_of, spread_halves}
 use Rattle.tab_map.proofs.Map.lower_node.Goals as goal

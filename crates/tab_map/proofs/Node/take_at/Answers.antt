@@ -1,6 +1,6 @@
-use Rattle.std.proofs.Common.{◌++◌, sym, ap, ◌∙◌, subst}
+use Rattle.std.proofs.Common.{sym, ap, ◌∙◌, subst}
 use Rattle.tab_map.specs.Entries.{Ascends}
-use Rattle.tab_map.specs.InOrder.{spread, node_entries}
+use Rattle.tab_map.specs.InOrder.{spread}
 use Rattle.tab_map.proofs.SpreadLemmas.{found_remove}
 use Rattle.tab_map.proofs.RemovalLemmas.{taken_in_turn, taken_whole, remove_set, ascends_without}
 use Rattle.tab_map.proofs.Node.take_at.Goals as goal

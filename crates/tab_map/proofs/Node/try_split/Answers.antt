@@ -1,5 +1,5 @@
-use Rattle.std.proofs.Common.{refl, ap, ◌∙◌, ◌++◌, arith}
-use Rattle.tab_map.specs.InOrder.{spread, node_entries}
+use Rattle.std.proofs.Common.{refl, ap, ◌∙◌, arith}
+use Rattle.tab_map.specs.InOrder.{spread}
 use Rattle.tab_map.proofs.SplitLemmas.{split_child, split_last}
 use Rattle.tab_map.proofs.Node.try_split.Goals.{in-Some+in_ok-half-in-Some, in-None+in_ok-half-in-None}
 use Rattle.tab_map.proofs.Node.try_split.Goals as goal

@@ -1,5 +1,4 @@
-use Rattle.std.proofs.Common.{◌∙◌, ap, subst, slice_set}
-use Rattle.tab_map.specs.Places.{HasAt, IsGap}
+use Rattle.std.proofs.Common.{◌∙◌, ap, slice_set}
 use Rattle.tab_map.proofs.RevisedLemmas.{has_revised, gap_revised}
 use Rattle.tab_map.proofs.row.revise.Goals as goal
 
