@@ -5,10 +5,10 @@ use crate::gate::{Gate, Note, Notes};
 use crate::listener::Listener;
 use crate::requests::{Ending, serve_session};
 use crate::settings::Settings;
+use crate::stream::{LastSender, RequestStream};
 use crate::troubles::Troubles;
 use std::alloc::Global;
 use std::io::Write;
-use std::net::TcpStream;
 use std::sync::Wait;
 use std::thread::Threads;
 use std::{io, thread};
@@ -28,6 +28,7 @@ pub fn serve<H: Host + Threads + Send + Sync, G: Gate + Notes + Sync>(
     settings: Settings,
     gate: &G,
 ) -> io::Result<()> {
+    let last = &LastSender::new();
     thread::scope(thread::scope_env(), host, |scope| {
         for _ in 0..connections {
             let accepted = listener.accept()?;
@@ -38,7 +39,7 @@ pub fn serve<H: Host + Threads + Send + Sync, G: Gate + Notes + Sync>(
                 continue;
             };
             let started = scope.spawn(move || {
-                serve_connection(host, alloc, shared, &seat, inbox, streams, gate);
+                serve_connection(host, alloc, shared, &seat, inbox, streams, last, gate);
             });
             if started.is_err() {
                 shared.leave(host, &seat);
@@ -59,6 +60,7 @@ pub fn serve_forever<H: Host + Threads + Send + Sync, G: Gate + Notes + Sync>(
     gate: &G,
 ) {
     let mut troubles = Troubles::new(gate);
+    let last = &LastSender::new();
     thread::scope(thread::scope_env(), host, |scope| {
         for _ in host.forever() {
             let Ok(streams) = accepted(listener, settings) else {
@@ -78,7 +80,7 @@ pub fn serve_forever<H: Host + Threads + Send + Sync, G: Gate + Notes + Sync>(
                 }
             };
             let started = scope.spawn(move || {
-                serve_connection(host, alloc, shared, &seat, inbox, streams, gate);
+                serve_connection(host, alloc, shared, &seat, inbox, streams, last, gate);
             });
             if started.is_err() {
                 shared.leave(host, &seat);
@@ -111,11 +113,22 @@ fn serve_connection<H: Host + Threads + Send + Sync, G: Gate + Notes + Sync>(
     seat: &Seat,
     inbox: Inbox<H>,
     streams: Streams,
+    last: &LastSender,
     gate: &G,
 ) {
     gate.note(Note::Started(seat.session()));
     let (connection, reader) = Connection::new(streams);
-    let ending = serve_streams(host, alloc, shared, seat, inbox, &connection, reader, gate);
+    let requests = RequestStream::new(reader, &connection.sink, last, seat.session());
+    let ending = serve_streams(
+        host,
+        alloc,
+        shared,
+        seat,
+        inbox,
+        &connection,
+        requests,
+        gate,
+    );
     shared.leave(host, seat);
     if matches!(ending, Ending::Idle) || connection.has_stalled(host) {
         gate.note(Note::Idle(seat.session()));
@@ -132,7 +145,7 @@ fn serve_streams<H: Host + Threads + Send + Sync, G: Gate + Notes + Sync>(
     seat: &Seat,
     mut inbox: Inbox<H>,
     connection: &Connection,
-    mut reader: TcpStream,
+    mut requests: RequestStream<'_>,
     gate: &G,
 ) -> Ending {
     thread::scope(thread::scope_env(), host, |scope| {
@@ -154,7 +167,7 @@ fn serve_streams<H: Host + Threads + Send + Sync, G: Gate + Notes + Sync>(
             seat,
             &connection.watch,
             connection.aborts,
-            &mut reader,
+            &mut requests,
             &connection.sink,
             gate,
         )

@@ -19,6 +19,7 @@ mod place;
 mod requests;
 mod settings;
 mod steps;
+mod stream;
 mod troubles;
 mod watch;
 

@@ -72,6 +72,11 @@ impl<W: Write> FrameSink<W> {
         self.sink.lock(rt)
     }
 
+    /// The sink, alone, where no one holds it.
+    pub fn try_hold(&self) -> Option<MutexGuard<'_, Sink<W>>> {
+        self.sink.try_lock()
+    }
+
     /// Writes whole frames, which no other's come between.
     pub fn send<R: Wait>(&self, rt: &R, frames: &[u8]) -> Result<(), Broken> {
         self.sink.lock(rt).put(frames)
