@@ -76,6 +76,12 @@ class Server:
             status = dict(line.split(":", 1) for line in file)
         return int(status["Threads"]), len(os.listdir(f"/proc/{self.process.pid}/fd")), int(status["VmRSS"].split()[0])
 
+    def used(self):
+        """The seconds of a processor that it has used."""
+        with open(f"/proc/{self.process.pid}/stat", encoding="ascii") as file:
+            fields = file.read().rsplit(")", 1)[1].split()
+        return (int(fields[11]) + int(fields[12])) / os.sysconf("SC_CLK_TCK")
+
     def settled(self, wanted):
         """What it holds, once its threads and descriptors are as many as wanted."""
         end = time.monotonic() + PATIENCE
@@ -102,6 +108,20 @@ def the_ninth_is_told(server):
     tenth, found = server.seated()
     same("the tenth", found, ("tid", 9))
     same("the others", connections[0].ask("begin"), ("tid", 10))
+    same("what it said", server.ended(), "")
+
+
+def a_pause(server):
+    """Who alone asks, and has asked often, is waited for with no use of a processor, and keeps its transaction meanwhile."""
+    connection = server.connect()
+    script((connection, CREATE, ATOMIC), (connection, "begin", ("tid", 1)))
+    for number in range(100):
+        same("write", connection.ask(write(1, number)), OK)
+    before = server.used()
+    time.sleep(1)
+    if (used := server.used() - before) > 0.1:
+        raise Differs(f"{used:.2f} seconds of a processor in one in which no one asked")
+    script((connection, ("read", "t", 1), [("t", 1, 99)]), (connection, "commit", ("atomic", 1)))
     same("what it said", server.ended(), "")
 
 
@@ -348,6 +368,7 @@ def abort_beside_a_commit(server):
 CASES = [
     ("the ninth is told", 8, None, the_ninth_is_told),
     ("tables outlive connections", 2, None, tables_outlive_connections),
+    ("a pause", 2, None, a_pause),
     ("a thousand through a seat", 8, None, a_thousand_through_a_seat),
     ("no descriptor is left", 64, 20, no_descriptor_is_left),
     ("idle", 3, None, idle, "--idle", "1"),
@@ -368,6 +389,7 @@ CASES = [
 AT_A_FILE = [
     the_ninth_is_told,
     tables_outlive_connections,
+    a_pause,
     a_thousand_through_a_seat,
     no_descriptor_is_left,
     idle,

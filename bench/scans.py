@@ -19,6 +19,7 @@ RECORDS = 10_000
 SCANS = [
     ("match_object of all", ("match_object", ("t", "_", "_"))),
     ("match_object of none", ("match_object", ("t", "_", "none"))),
+    ("match_object of a number", ("match_object", ("t", "_", -1))),
     ("all_keys", ("all_keys", "t")),
 ]
 

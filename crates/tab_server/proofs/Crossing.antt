@@ -6,7 +6,6 @@ use Rattle.tab_book.specs.contracts.shared.Seat as seat
 use Rattle.tab_proto.proofs.events.Delivery.TheSendSync as delivery_marks
 use Rattle.tab_server.specs.contracts.connection.Connection as connection
 use Rattle.tab_server.specs.contracts.connection.Streams as streams
-use Rattle.tab_server.specs.contracts.stream.LastSender as last
 
 pub seat-send : IsSend seat.the_row
 seat-send = search (sendable, declared_send, as_row_send) depth 20
@@ -19,6 +18,3 @@ streams-send = search (sendable, crosses, declared_send, as_row_send, delivery_m
 
 pub connection-sync : IsSync connection.the_row
 connection-sync = search (sendable, crosses, declared_sync, as_row_sync, delivery_marks.the_sync) depth 20
-
-pub last-sync : IsSync last.the_row
-last-sync = search (sendable, crosses, declared_sync, as_row_sync) depth 20

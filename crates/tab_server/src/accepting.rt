@@ -5,7 +5,6 @@ use crate::gate::{Gate, Note, Notes};
 use crate::listener::Listener;
 use crate::requests::{Ending, serve_session};
 use crate::settings::Settings;
-use crate::stream::{LastSender, RequestStream};
 use crate::troubles::Troubles;
 use std::alloc::Global;
 use std::io::Write;
@@ -16,6 +15,7 @@ use tab_book::{JoinFault, Seat, Shared};
 use tab_model::{Limit, Reply};
 use tab_post::{Host, Inbox};
 use tab_proto::append_reply;
+use tab_sink::{LastSender, RequestStream};
 
 /// Accepts so many connections, and serves each until its session has ended. Ends when all have; with an error where an
 /// accept failed, which ends the accepting.

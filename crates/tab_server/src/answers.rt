@@ -3,8 +3,6 @@
 ghost use Rattle.std.specs.Prelude.{◌≡◌, OnOk};
 
 use crate::gate::{Count, Gate};
-use crate::kept::{KEPT, LONG, empty};
-use crate::pieces::send_pieces;
 use std::alloc::Global;
 use std::io::Write;
 use std::sync::Wait;
@@ -12,6 +10,8 @@ use tab_etf::{Broken, EncodeFault, FrameFault};
 use tab_model::Reply;
 use tab_proto::{append_reply_within, write_reply};
 use tab_sink::FrameSink;
+use tab_sink::kept::{KEPT, LONG, empty};
+use tab_sink::pieces::send_pieces;
 
 /// Replies of a session, in order: requests that came in one piece are answered in one write.
 #[derive(Drop)]

@@ -2,8 +2,6 @@
 
 use crate::answers::Unwritten;
 use crate::gate::{Count, Note, Notes};
-use crate::kept::{KEPT, empty};
-use crate::pieces::{passes, reaches, send_pieces};
 use std::alloc::Global;
 use std::io::Write;
 use tab_book::{Drained, Seat, Shared};
@@ -12,6 +10,8 @@ use tab_model::Item;
 use tab_post::{Host, Inbox};
 use tab_proto::{Delivery, append_item, append_overflow, write_item};
 use tab_sink::FrameSink;
+use tab_sink::kept::{KEPT, empty};
+use tab_sink::pieces::{passes, reaches, send_pieces};
 
 /// Sends what comes into the inbox, in order, until the session has left and nothing is left, or a write fails, or no
 /// memory is found for an event. Items that are there at once are written at once.

@@ -10,16 +10,13 @@ mod answers;
 mod connection;
 mod events;
 mod gate;
-mod kept;
 mod levels;
 mod listener;
 mod next;
-mod pieces;
 mod place;
 mod requests;
 mod settings;
 mod steps;
-mod stream;
 mod troubles;
 mod watch;
 

@@ -1,12 +1,17 @@
-//! Where a connection's frames are written.
+//! The two ends of a connection: where its frames are written, and where its requests are read from.
 
 #![tactic(auto)]
+
+pub mod kept;
+pub mod pieces;
+mod stream;
 
 ghost use Rattle.std.specs.Prelude.{◌≡◌, ◌+◌, ℕ, Bool, IsTrue, IsFalse, min, take, OnOk, OnErr, IsErr};
 ghost use Rattle.std.specs.Io.KnownBytes.{Appends};
 
 use std::io::Write;
 use std::sync::{Mutex, MutexGuard, Wait};
+pub use stream::{LastSender, RequestStream};
 use tab_etf::{Broken, Counted, give_all};
 
 /// A device that frames are written to, until it fails.

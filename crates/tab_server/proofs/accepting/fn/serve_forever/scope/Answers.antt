@@ -11,9 +11,10 @@ use Rattle.tab_book.specs.contracts.shared.Shared as shared
 use Rattle.tab_book.specs.contracts.shared.Seat as seat
 use Rattle.tab_post.proofs.Crossing.{Inbox-send}
 use Rattle.tab_post.specs.contracts.inbox.Inbox as inbox
+use Rattle.tab_sink.proofs.Crossing.{last-sync}
+use Rattle.tab_sink.specs.contracts.stream.LastSender as last
 use Rattle.tab_server.specs.contracts.connection.Streams as streams
-use Rattle.tab_server.specs.contracts.stream.LastSender as last
-use Rattle.tab_server.proofs.Crossing.{seat-send, streams-send, last-sync}
+use Rattle.tab_server.proofs.Crossing.{seat-send, streams-send}
 use Rattle.tab_server.proofs.accepting.fn.serve_forever.scope.Goals as goal
 
 pub spawn-started-requires-send-F : goal.spawn-started-requires-send-F

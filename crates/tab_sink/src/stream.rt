@@ -3,11 +3,11 @@
 ghost use Rattle.std.specs.Prelude.{IfSome};
 ghost use Rattle.std.specs.Io.{ReadsAtMost};
 
+use crate::FrameSink;
 use std::hint;
 use std::io::{self, ErrorKind, Read};
 use std::net::TcpStream;
 use std::sync::atomic::{AtomicU32, Ordering};
-use tab_sink::FrameSink;
 
 /// So often a read asks the system for bytes before it waits for them: for some 20 microseconds.
 const TURNS: u32 = 60;

@@ -1,10 +1,10 @@
 //! What is too long to be kept whole, and goes to a sink piece by piece.
 
 use crate::kept::{KEPT, empty};
+use crate::{FrameSink, Sink};
 use std::io::{self, ErrorKind, Write};
 use std::sync::Wait;
 use tab_etf::{Counted, FrameFault, Target, encoded_len};
-use tab_sink::{FrameSink, Sink};
 use tab_term::Term;
 
 /// Whether a length is more than what is kept once this term is added to it.
