@@ -1,5 +1,5 @@
 -- Which records are found (Mnesia Reference Manual, match_object/1 and index_read/3).
-use Rattle.std.specs.Prelude.{Bool, true, List, Option, Some, None}
+use Rattle.std.specs.Prelude.{◌≡◌, Bool, true, List, Option, Some, None}
 use Rattle.std.specs.List.{filter}
 use Rattle.tab_term.specs.Data.{PlainTerm}
 use Rattle.tab_term.specs.Pattern.{matches}
@@ -23,3 +23,7 @@ chosen (Some c) rs = filter (meets c) rs
 abbrev pub is_chosen : Option Condition → PlainTerm → Bool
 is_chosen None r = true
 is_chosen (Some c) r = meets c r
+
+-- of all records, those that meet the condition are those that fit the pattern
+abbrev pub AsksFor : Option Condition → PlainTerm → Type 0
+AsksFor c p = (rs : List PlainTerm) → chosen c rs ≡ filter (matches p) rs

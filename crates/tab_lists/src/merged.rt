@@ -6,17 +6,18 @@ ghost use Rattle.tab_term.specs.Order.{term_cmp};
 ghost use Rattle.tab_map.specs.Entries.{Ascends};
 ghost use Rattle.tab_map.specs.KeyList.{KeysAscend};
 ghost use Rattle.tab_lists.specs.ByKey.{merged, at_keys};
+ghost use Rattle.tab_lists.specs.Conditions.{AsksFor};
 ghost use Rattle.tab_lists.specs.Left.{left_of};
 ghost use Rattle.tab_lists.specs.Lists.{Gives, GivesChosen, near_of};
 
 use crate::condition::Condition;
 use crate::near::first_given;
-use crate::passed::next_candidate;
+use crate::passed::{last_number, next_candidate};
 use std::cmp::Ordering;
 use std::marker::Model;
 use tab_map::{Iter, Keys, Map};
 use tab_records::Records;
-use tab_term::Term;
+use tab_term::{LastNumber, Term};
 
 /// The committed entries that a walk has not come to, seen as their list. The first of them can be looked at.
 #[derive(Drop)]
@@ -80,7 +81,29 @@ fn next_of_table<'a>(
     requires { near_of near.old ≡ [] }
     ensures { GivesChosen (option_copied condition.entry) entries.old result near.new entries.new }
 {
-    while let Some(entry) = next_candidate(entries, condition) {
+    if let Some(last) = last_number(condition) {
+        return next_by_number(entries, near, condition, &last);
+    }
+    while let Some(entry) = entries.next() {
+        if let Some(first) = first_given(near, &entry.pair().1, condition) {
+            return Some(first);
+        }
+    }
+    None
+}
+
+// The same where the condition is a pattern that ends in this number.
+fn next_by_number<'a>(
+    entries: &mut Iter<'a, Term, Records>,
+    near: &mut Option<tab_records::Iter<'a>>,
+    condition: Option<&Condition>,
+    last: &LastNumber<'_>,
+) -> Option<&'a Term>
+    requires near { near_of near.old ≡ [] }
+    requires asks { AsksFor (option_copied condition) last.now }
+    ensures { GivesChosen (option_copied condition.entry) entries.old result near.new entries.new }
+{
+    while let Some(entry) = next_candidate(entries, last) {
         if let Some(first) = first_given(near, &entry.pair().1, condition) {
             return Some(first);
         }

@@ -1,57 +1,47 @@
 //! The entries of a table that a walk passes over.
 //!
-//! Most records of a table fail a query's condition. Those of a row are passed over in one loop: the fewer instructions stand between
-//! two records, the more of them the processor fetches at once.
+//! Most records of a table do not fit a query's pattern. Where it ends in a number, those of a row are passed over in one loop that asks for
+//! the number alone: the fewer instructions stand between two records, the more of them the processor fetches at once.
 
-ghost use Rattle.std.specs.Prelude.{◌≡◌, ◌≤◌, ◌<◌, [], ◌∷◌, MatchOption, length, take};
+ghost use Rattle.std.specs.Prelude.{◌≡◌, ◌≤◌, ◌<◌, [], ◌∷◌, IfSome, MatchOption, length, take};
 ghost use Rattle.std.specs.List.{filter};
 ghost use Rattle.std.specs.Option.{option_copied};
 ghost use Rattle.tab_term.specs.Pattern.{matches};
 ghost use Rattle.tab_lists.specs.ByKey.{joined};
-ghost use Rattle.tab_lists.specs.Conditions.{meets, chosen};
+ghost use Rattle.tab_lists.specs.Conditions.{AsksFor};
 
 use crate::condition::Condition;
 use tab_map::{Entry, Iter};
 use tab_records::Records;
 use tab_term::{LastNumber, Term};
 
-/// An entry of these before which no record meets the condition.
-pub fn next_candidate<'a>(
-    entries: &mut Iter<'a, Term, Records>,
-    condition: Option<&Condition>,
-) -> Option<&'a Entry<Term, Records>>
-    ensures { MatchOption result
-        ((chosen (option_copied condition.entry) (joined entries.old) ≡ []) × (entries.new ≡ []))
-        (λ entry. (length entries.new < length entries.old)
-        × (chosen (option_copied condition.entry) (joined entries.old)
-        ≡ chosen (option_copied condition.entry) (joined (entry.now ∷ entries.new)))) }
+/// What is asked of each record first, where the condition is a pattern that ends in a number.
+pub fn last_number<'a>(condition: Option<&'a Condition>) -> Option<LastNumber<'a>>
+    ensures { IfSome result (λ last. AsksFor (option_copied condition.entry) last) }
 {
     match condition {
-        None => entries.next(),
-        Some(condition) => entries.nth(passed_over(entries.row(), condition)),
+        Some(Condition::Matches(pattern)) => LastNumber::of(pattern),
+        _ => None,
     }
 }
 
-// How many entries of a row come before the first whose record may meet the condition, or before the first with several records.
-fn passed_over(row: &[Entry<Term, Records>], condition: &Condition) -> usize
-    ensures within { result ≤ length row.now }
-    ensures none { filter (meets condition.now) (joined (take result row.now)) ≡ [] }
+/// An entry of these before which no record fits the pattern.
+pub fn next_candidate<'a>(
+    entries: &mut Iter<'a, Term, Records>,
+    last: &LastNumber<'_>,
+) -> Option<&'a Entry<Term, Records>>
+    ensures { MatchOption result
+        ((filter (matches last.now) (joined entries.old) ≡ []) × (entries.new ≡ []))
+        (λ entry. (length entries.new < length entries.old)
+        × (filter (matches last.now) (joined entries.old)
+        ≡ filter (matches last.now) (joined (entry.now ∷ entries.new)))) }
 {
-    if let Condition::Matches(pattern) = condition {
-        if let Some(last) = LastNumber::of(pattern) {
-            return passed_over_by_number(row, &last);
-        }
-    }
-    for (n, entry) in row.iter().enumerate() {
-        match entry.pair().1.single() {
-            Some(record) if !condition.is_met_by(record) => {}
-            _ => return n,
-        }
-    }
-    row.len()
+    entries.nth(passed_over(entries.row(), last))
 }
 
-fn passed_over_by_number(row: &[Entry<Term, Records>], last: &LastNumber<'_>) -> usize
+// How many entries of a row come before the first whose record may fit the pattern, or before the first with several records.
+#[inline(never)]
+fn passed_over(row: &[Entry<Term, Records>], last: &LastNumber<'_>) -> usize
     ensures within { result ≤ length row.now }
     ensures none { filter (matches last.now) (joined (take result row.now)) ≡ [] }
 {
