@@ -15,7 +15,7 @@ use tab_book::{JoinFault, Seat, Shared};
 use tab_model::{Limit, Reply};
 use tab_post::{Host, Inbox};
 use tab_proto::append_reply;
-use tab_sink::{LastSender, RequestStream};
+use tab_sink::{RequestStream, Senders};
 
 /// Accepts so many connections, and serves each until its session has ended. Ends when all have; with an error where an
 /// accept failed, which ends the accepting.
@@ -28,7 +28,7 @@ pub fn serve<H: Host + Threads + Send + Sync, G: Gate + Notes + Sync>(
     settings: Settings,
     gate: &G,
 ) -> io::Result<()> {
-    let last = &LastSender::new();
+    let senders = &Senders::new();
     thread::scope(thread::scope_env(), host, |scope| {
         for _ in 0..connections {
             let accepted = listener.accept()?;
@@ -39,7 +39,7 @@ pub fn serve<H: Host + Threads + Send + Sync, G: Gate + Notes + Sync>(
                 continue;
             };
             let started = scope.spawn(move || {
-                serve_connection(host, alloc, shared, &seat, inbox, streams, last, gate);
+                serve_connection(host, alloc, shared, &seat, inbox, streams, senders, gate);
             });
             if started.is_err() {
                 shared.leave(host, &seat);
@@ -60,7 +60,7 @@ pub fn serve_forever<H: Host + Threads + Send + Sync, G: Gate + Notes + Sync>(
     gate: &G,
 ) {
     let mut troubles = Troubles::new(gate);
-    let last = &LastSender::new();
+    let senders = &Senders::new();
     thread::scope(thread::scope_env(), host, |scope| {
         for _ in host.forever() {
             let Ok(streams) = accepted(listener, settings) else {
@@ -80,7 +80,7 @@ pub fn serve_forever<H: Host + Threads + Send + Sync, G: Gate + Notes + Sync>(
                 }
             };
             let started = scope.spawn(move || {
-                serve_connection(host, alloc, shared, &seat, inbox, streams, last, gate);
+                serve_connection(host, alloc, shared, &seat, inbox, streams, senders, gate);
             });
             if started.is_err() {
                 shared.leave(host, &seat);
@@ -113,12 +113,12 @@ fn serve_connection<H: Host + Threads + Send + Sync, G: Gate + Notes + Sync>(
     seat: &Seat,
     inbox: Inbox<H>,
     streams: Streams,
-    last: &LastSender,
+    senders: &Senders,
     gate: &G,
 ) {
     gate.note(Note::Started(seat.session()));
     let (connection, reader) = Connection::new(streams);
-    let requests = RequestStream::new(reader, &connection.sink, last, seat.session());
+    let requests = RequestStream::new(reader, &connection.sink, senders, seat.session());
     let ending = serve_streams(
         host,
         alloc,

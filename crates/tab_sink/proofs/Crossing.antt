@@ -2,7 +2,7 @@
 use denote.Param.Send.{IsSync, sendable}
 use denote.Param.SendFields.{declared_sync, as_row_sync}
 use Rattle.std.proofs.Crossing.{crosses}
-use Rattle.tab_sink.specs.contracts.stream.LastSender as last
+use Rattle.tab_sink.specs.contracts.stream.Senders as senders
 
-pub last-sync : IsSync last.the_row
-last-sync = search (sendable, crosses, declared_sync, as_row_sync) depth 20
+pub senders-sync : IsSync senders.the_row
+senders-sync = search (sendable, crosses, declared_sync, as_row_sync) depth 20

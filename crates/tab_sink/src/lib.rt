@@ -11,7 +11,7 @@ ghost use Rattle.std.specs.Io.KnownBytes.{Appends};
 
 use std::io::Write;
 use std::sync::{Mutex, MutexGuard, Wait};
-pub use stream::{LastSender, RequestStream};
+pub use stream::{RequestStream, Senders};
 use tab_etf::{Broken, Counted, give_all};
 
 /// A device that frames are written to, until it fails.

@@ -12,39 +12,69 @@ use std::sync::atomic::{AtomicU32, Ordering};
 /// So often a read asks the system for bytes before it waits for them: for some 20 microseconds.
 const TURNS: u32 = 60;
 
-/// Which of a server's sessions has sent the last bytes.
+/// Which of a server's sessions have sent requests.
 #[derive(Drop)]
-pub struct LastSender {
-    session: AtomicU32,
+pub struct Senders {
+    /// The one that sent the last.
+    last: AtomicU32,
+    /// How many are not answered yet.
+    busy: AtomicU32,
 }
 
-impl LastSender {
+impl Senders {
     /// None has sent any.
-    pub fn new() -> LastSender {
-        LastSender {
-            session: AtomicU32::new(u32::MAX),
+    pub fn new() -> Senders {
+        Senders {
+            last: AtomicU32::new(u32::MAX),
+            busy: AtomicU32::new(0),
         }
     }
 
-    /// This session sends some. Tells whether it sent the last before.
-    fn sends(&self, session: u32) -> bool {
-        self.session.swap(session, Ordering::Relaxed) == session
+    /// This session has sent some. Tells whether it sent the last before.
+    fn begin(&self, session: u32) -> bool {
+        self.busy.fetch_add(1, Ordering::Relaxed);
+        self.last.swap(session, Ordering::Relaxed) == session
     }
 
-    fn is(&self, session: u32) -> bool {
-        self.session.load(Ordering::Relaxed) == session
+    /// A session is answered.
+    fn end(&self) {
+        self.busy.fetch_sub(1, Ordering::Relaxed);
+    }
+
+    fn are_answered(&self) -> bool {
+        self.busy.load(Ordering::Relaxed) == 0
     }
 }
 
-/// A stream that requests are read from. A thread that waits for bytes wakes some microseconds after they come, so while its session
-/// is the only one that sends any, a read asks for them again and again before it waits. Of a server's threads one does so at most.
-#[derive(Drop)]
+/// A stream that requests are read from. A thread that waits for bytes wakes some microseconds after they come, so where its session
+/// alone sends any, a read asks for them again and again before it waits. It does so only while all sessions are answered: who
+/// waits for a lock would find it taken again by the time that its thread is awake.
 pub struct RequestStream<'a> {
     stream: TcpStream,
     sink: &'a FrameSink<TcpStream>,
-    last: &'a LastSender,
+    senders: &'a Senders,
     session: u32,
+    /// Whether the last two pieces that the server read were its own.
     is_alone: bool,
+    /// Whether the last piece is not answered yet.
+    is_busy: bool,
+}
+
+impl<'a> Drop for RequestStream<'a> {
+    fn drop(self) {
+        let RequestStream {
+            stream,
+            sink: _,
+            senders,
+            session: _,
+            is_alone: _,
+            is_busy,
+        } = self;
+        if is_busy {
+            senders.end();
+        }
+        drop(stream);
+    }
 }
 
 impl<'a> RequestStream<'a> {
@@ -52,15 +82,16 @@ impl<'a> RequestStream<'a> {
     pub fn new(
         stream: TcpStream,
         sink: &'a FrameSink<TcpStream>,
-        last: &'a LastSender,
+        senders: &'a Senders,
         session: u32,
     ) -> RequestStream<'a> {
         RequestStream {
             stream,
             sink,
-            last,
+            senders,
             session,
             is_alone: false,
+            is_busy: false,
         }
     }
 
@@ -68,7 +99,7 @@ impl<'a> RequestStream<'a> {
     fn poll(&self, buf: &mut [u8]) -> Option<io::Result<usize>>
         ensures { IfSome result (λ read. ReadsAtMost read buf.new) }
     {
-        if !self.is_alone {
+        if !self.is_alone || !self.senders.are_answered() {
             return None;
         }
         let _sink = self.sink.try_hold()?;
@@ -91,7 +122,7 @@ impl<'a> RequestStream<'a> {
                 Err(error) if matches!(error.kind(), ErrorKind::WouldBlock) => {}
                 read => return Some(read),
             }
-            if !self.last.is(self.session) {
+            if !self.senders.are_answered() {
                 return None;
             }
             hint::spin_loop();
@@ -102,11 +133,18 @@ impl<'a> RequestStream<'a> {
 
 impl<'a> Read for RequestStream<'a> {
     fn read(&mut self, buf: &mut [u8]) -> io::Result<usize> {
+        if self.is_busy {
+            self.senders.end();
+            self.is_busy = false;
+        }
         let read = match self.poll(buf) {
             Some(read) => read,
             None => self.stream.read(buf),
         };
-        self.is_alone = self.last.sends(self.session);
+        if read.is_ok() {
+            self.is_alone = self.senders.begin(self.session);
+            self.is_busy = true;
+        }
         read
     }
 }
