@@ -6,11 +6,13 @@
  * for the replies before it sends the next. A line of the plan is a step: how many replies it has, the beginning of the last one as
  * hexadecimal digits, the bytes of the request in the same way, and the places in it where a key stands, which is drawn anew for
  * each round: four bytes of frames, the highest first, and eight digits for Redis. A step that is answered `{reply, restart}`
- * is sent again. On standard output: rounds a second, restarts a round, and the replies that were not as wanted.
+ * is sent again. On standard output: rounds a second, restarts a round, the replies that were not as wanted, and the share of the
+ * rounds that ended behind one of the same connection.
  */
 #include <arpa/inet.h>
 #include <netinet/tcp.h>
 #include <pthread.h>
+#include <stdatomic.h>
 #include <stdint.h>
 #include <stdio.h>
 #include <stdlib.h>
@@ -33,13 +35,14 @@ struct connection {
     struct step steps[STEPS];
     unsigned char *room;
     size_t start, end;
-    uint64_t rounds, restarts, wrong;
+    uint64_t rounds, restarts, wrong, again;
 };
 
 static const unsigned char RESTART[] = "\x83h\x02w\x05replyw\x07restart";
 static struct step plan[STEPS];
 static int step_count, is_redis;
 static volatile int begun, over;
+static struct connection *_Atomic last;
 
 static void fail(const char *what) {
     perror(what);
@@ -173,6 +176,7 @@ static void *run(void *given) {
         for (int at = 0; at < step_count; ++at)
             make_step(it, &it->steps[at]);
         ++it->rounds;
+        it->again += atomic_exchange(&last, it) == it;
     }
     return 0;
 }
@@ -219,13 +223,15 @@ int main(int count, char **words) {
     begun = 1;
     usleep(atoi(words[4]) * 1000);
     over = 1;
-    uint64_t rounds = 0, restarts = 0, wrong = 0;
+    uint64_t rounds = 0, restarts = 0, wrong = 0, again = 0;
     for (int at = 0; at < connections; ++at) {
         pthread_join(threads[at], 0);
         rounds += all[at].rounds;
         restarts += all[at].restarts;
         wrong += all[at].wrong;
+        again += all[at].again;
     }
-    printf("%.1f %.4f %llu\n", rounds / (seconds() - start), rounds ? (double)restarts / rounds : 0, (unsigned long long)wrong);
+    double all_rounds = rounds ? (double)rounds : 1;
+    printf("%.1f %.4f %llu %.4f\n", rounds / (seconds() - start), restarts / all_rounds, (unsigned long long)wrong, again / all_rounds);
     return 0;
 }

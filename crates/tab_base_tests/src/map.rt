@@ -46,10 +46,7 @@ fn is_same(map: &Map<u32, u32>, std_map: &BTreeMap<u32, u32>) -> bool {
     let mut entries = map.iter();
     for (key, value) in std_map {
         let entry = (*key, *value);
-        if entries.next().map(|entry| entry.pair()) != Some(&entry)
-            || map.first_from(key).map(|entry| entry.pair()) != Some(&entry)
-            || map.get(key) != Some(value)
-        {
+        if entries.next().map(|entry| entry.pair()) != Some(&entry) || map.get(key) != Some(value) {
             return false;
         }
     }
@@ -68,35 +65,24 @@ fn does_as_std(rt: HostRuntime) -> Result<(), Fail> {
     Ok(())
 }
 
-/// A key, and what stands from and above it in a map of 10 to 1,000 in tens, each with its number.
-static AROUND: [(u32, Option<u32>, Option<u32>); 6] = [
-    (5, Some(1), Some(1)),
-    (10, Some(1), Some(2)),
-    (255, Some(26), Some(26)),
-    (500, Some(50), Some(51)),
-    (1000, Some(100), None),
-    (1005, None, None),
+/// A key, and what stands at it in a map of 10, 20, 30 and 40 in tens, each with its number, and of 25.
+static HELD: [(u32, Option<u32>); 6] = [
+    (5, None),
+    (10, Some(1)),
+    (25, Some(5)),
+    (30, Some(3)),
+    (40, Some(4)),
+    (41, None),
 ];
 
 #[test]
-fn finds_around(rt: HostRuntime) -> Result<(), Fail> {
+fn is_made_of_sorted_entries(rt: HostRuntime) -> Result<(), Fail> {
     let alloc = rt.alloc();
     let entries = [(10u32, 1u32), (20, 2), (30, 3), (40, 4)].to_vec(alloc)?;
     let mut map = Map::from_sorted(alloc, entries)?;
-    for n in 5..101u32 {
-        map.insert(alloc, n * 10, n)?;
-    }
-    for (key, from, above) in &AROUND {
-        assert_eq!(rt;
-            map.first_from(key).map(|entry| entry.pair().1),
-            *from,
-            "from {key}"
-        );
-        assert_eq!(rt;
-            map.first_above(key).map(|entry| entry.pair().1),
-            *above,
-            "above {key}"
-        );
+    map.insert(alloc, 25, 5)?;
+    for (key, value) in &HELD {
+        assert_eq!(rt; map.get(key), value.as_ref(), "at {key}");
     }
     Ok(())
 }

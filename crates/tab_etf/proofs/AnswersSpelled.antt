@@ -1,17 +1,14 @@
 -- How the answers of a transaction are spelled, and how long that is.
-use Rattle.std.proofs.Common.{◌≡◌, ℕ, zero, suc, ◌+◌, ◌-◌, ◌^◌, ◌<◌, ◌≤◌, List, [], ◌∷◌, ◌++◌, length, take, get_or, refl, sym, ap, ◌∙◌, arith, Bool, true, false, true≢false, nat_lt, ◌==◌, Option, Some, None, inl, inr, append_assoc, append-nil, length-append}
+use Rattle.std.proofs.Common.{◌≡◌, ℕ, zero, suc, ◌+◌, ◌^◌, ◌<◌, ◌≤◌, List, [], ◌∷◌, ◌++◌, length, take, get_or, refl, sym, ap, ◌∙◌, arith, Bool, true, false, true≢false, nat_lt, ◌==◌, append_assoc, append-nil, length-append}
 use Rattle.std.proofs.Math.Bool.{and-false}
-use Rattle.std.specs.Prelude.{IfSome, SomeIff}
-use Rattle.std.proofs.lemmas.Bool.{cases_lt, eqb-true, eqb-false, ne_eqb}
+use Rattle.std.proofs.lemmas.Bool.{ne_eqb}
 use Rattle.std.proofs.lemmas.List.{take_more}
 use Rattle.tab_term.specs.Canon.{list_tag, length_field, canon, canons}
-use Rattle.tab_term.specs.Data.{PlainTerms, none, list, count}
+use Rattle.tab_term.specs.Data.{none, list, count}
 use Rattle.tab_lists.specs.declared.answers.Answer.{Answer}
 use Rattle.tab_lists.specs.Answers.{answer_term, answers}
 use Rattle.tab_lists.proofs.AnswersLemmas.{no_bytes}
 use Rattle.tab_etf.proofs.CanonLemmas.{list_none, list_others}
-use Rattle.tab_etf.proofs.Lengths as Lengths
-use Rattle.tab_etf.proofs.SharedElements.{count_canons}
 
 -- ---- a list
 

@@ -24,13 +24,22 @@ pub fn tagged(tag: u8, n: u32) -> [u8; 5]
     [tag, a, b, c, d]
 }
 
-/// A tag and a byte.
+/// A tag and a byte, one after the other: as an array they would be stored in two parts and loaded as one, which a processor waits for.
 #[tactic(auto, using(crate::proofs::WritingLemmas::writes_then))]
 fn put_two<W: Target>(writer: &mut Writer<W>, tag: u8, byte: u8)
     ensures { Writes W.contents W.faults writer.old writer.new (tag ∷ byte ∷ []) }
 {
     writer.put_byte(tag);
     writer.put_byte(byte);
+}
+
+/// A tag and a number of four bytes, one after the other for the same reason.
+#[tactic(auto, using(crate::proofs::WritingLemmas::writes_then))]
+fn put_four<W: Target>(writer: &mut Writer<W>, tag: u8, n: u32)
+    ensures { Writes W.contents W.faults writer.old writer.new (tag ∷ to_be_bytes w32 n) }
+{
+    writer.put_byte(tag);
+    writer.put(&n.to_be_bytes());
 }
 
 // ---- integers
@@ -52,6 +61,8 @@ fn put_digits<W: Target>(writer: &mut Writer<W>, sign: u8, digits: &[u8])
     writer.put(digits);
 }
 
+// Inlined, it would make the spelling of a short number save registers for it.
+#[inline(never)]
 #[tactic(auto, using(crate::proofs::WritingLemmas::writes_then))]
 fn put_big<W: Target>(writer: &mut Writer<W>, z: i128)
     ensures { Writes W.contents W.faults writer.old writer.new
@@ -69,7 +80,7 @@ pub fn put_int<W: Target>(writer: &mut Writer<W>, z: i128)
     if is_byte(z) {
         put_two(writer, SMALL_INTEGER_EXT, one_byte(z));
     } else if fits_four(z) {
-        writer.put(&tagged(INTEGER_EXT, four_bytes_of(z)));
+        put_four(writer, INTEGER_EXT, four_bytes_of(z));
     } else {
         put_big(writer, z);
     }
@@ -121,7 +132,7 @@ pub fn put_tagged<W: Target>(writer: &mut Writer<W>, tag: u8, n: usize)
     ensures { Writes W.contents W.faults writer.old writer.new (tag ∷ length_field n) }
 {
     if n < 0xffff_ffff {
-        writer.put(&tagged(tag, n as u32));
+        put_four(writer, tag, n as u32);
     } else {
         writer.put(&[tag]);
         put_length(writer, n);

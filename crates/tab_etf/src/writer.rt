@@ -71,13 +71,22 @@ impl<'a, W: Target> Writer<'a, W> {
         self.bytes.clear();
     }
 
-    /// Adds bytes to those that wait, or hands over.
+    /// Adds bytes to those that wait, or hands over. It stands where it is called, so that a few bytes whose number is known there
+    /// are stored and not copied in a loop.
+    #[inline(always)]
     pub fn put(&mut self, bytes: &[u8])
         ensures { Writes W.contents W.faults self.old self.new bytes.now }
     {
-        if self.bytes.try_extend_from_slice(bytes).is_ok() {
-            return;
+        if self.bytes.try_extend_from_slice(bytes).is_err() {
+            self.put_beyond(bytes);
         }
+    }
+
+    // The same where the bytes that wait leave no room.
+    #[inline(never)]
+    fn put_beyond(&mut self, bytes: &[u8])
+        ensures { Writes W.contents W.faults self.old self.new bytes.now }
+    {
         self.write_out();
         if self.bytes.try_extend_from_slice(bytes).is_ok() {
             return;
@@ -86,12 +95,19 @@ impl<'a, W: Target> Writer<'a, W> {
     }
 
     /// Adds one byte to those that wait.
+    #[inline(always)]
     pub fn put_byte(&mut self, byte: u8)
         ensures { Writes W.contents W.faults self.old self.new (byte ∷ []) }
     {
-        if self.bytes.try_push(byte).is_ok() {
-            return;
+        if self.bytes.try_push(byte).is_err() {
+            self.put_byte_beyond(byte);
         }
-        self.put(&[byte]);
+    }
+
+    #[inline(never)]
+    fn put_byte_beyond(&mut self, byte: u8)
+        ensures { Writes W.contents W.faults self.old self.new (byte ∷ []) }
+    {
+        self.put_beyond(&[byte]);
     }
 }

@@ -41,6 +41,11 @@ abbrev pub Gives : List Entry → Option (Bor Term × Bor PlainTerms) → List E
 Gives es None fs = (es ≡ []) × (fs ≡ [])
 Gives es (Some e) fs = es ≡ (e.0.now, e.1.now) ∷ fs
 
+-- of these entries a walk gives the first key at which records stand; at the end it gives none
+abbrev pub GivesFilled : List Entry → Option (Bor Term) → List Entry → Type 0
+GivesFilled es None fs = (filled_keys es ≡ []) × (filled_keys fs ≡ [])
+GivesFilled es (Some k) fs = filled_keys es ≡ term k.now ∷ filled_keys fs
+
 -- what is left of several records of one key
 abbrev pub near_of : Option (List PlainTerm) → List PlainTerm
 near_of None = []

@@ -121,19 +121,6 @@ fn looked_at(scope: &Scope) -> (Option<tab_records::Iter<'_>>, Option<Merged<'_>
     }
 }
 
-// The next key at which records stand.
-fn next_filled<'a>(entries: &mut Merged<'a>) -> Option<&'a Term>
-    ensures { MatchOption result ((filled_keys entries.old ≡ []) × (filled_keys entries.new ≡ []))
-        (λ key. filled_keys entries.old ≡ term key.now ∷ filled_keys entries.new) }
-{
-    while let Some((key, records)) = entries.take() {
-        if !records.is_empty() {
-            return Some(key);
-        }
-    }
-    None
-}
-
 // The first record that a walk gives of those behind what is near.
 fn next_given<'a>(
     near: &mut Option<tab_records::Iter<'a>>,
@@ -172,7 +159,7 @@ impl<'a> Iterator for Iter<'a> {
 
     fn next(&mut self) -> Option<&'a Term> {
         match &mut self.walk {
-            Walk::Keys(entries) => next_filled(entries),
+            Walk::Keys(entries) => entries.take_filled(),
             Walk::Records(records) => records.take(),
         }
     }

@@ -8,7 +8,7 @@ ghost use Rattle.tab_map.specs.KeyList.{KeysAscend};
 ghost use Rattle.tab_lists.specs.ByKey.{merged, at_keys};
 ghost use Rattle.tab_lists.specs.Conditions.{AsksFor};
 ghost use Rattle.tab_lists.specs.Left.{left_of};
-ghost use Rattle.tab_lists.specs.Lists.{Gives, GivesChosen, near_of};
+ghost use Rattle.tab_lists.specs.Lists.{Gives, GivesChosen, GivesFilled, near_of};
 
 use crate::condition::Condition;
 use crate::near::first_given;
@@ -70,6 +70,20 @@ fn next_of<'a>(entries: &mut Iter<'a, Term, Records>) -> Option<(&'a Term, &'a R
 {
     let (key, records) = entries.next()?.pair();
     Some((key, records))
+}
+
+// The next key of these at which records stand.
+#[inline(never)]
+fn next_filled<'a>(entries: &mut Iter<'a, Term, Records>) -> Option<&'a Term>
+    ensures { GivesFilled entries.old result entries.new }
+{
+    while let Some(entry) = entries.next() {
+        let (key, records) = entry.pair();
+        if !records.is_empty() {
+            return Some(key);
+        }
+    }
+    None
 }
 
 // The first record that a walk gives of these entries.
@@ -265,6 +279,7 @@ impl<'a> Merged<'a> {
     }
 
     /// The first record that a walk gives of those that are left. What else its key has stays near.
+    #[inline(never)]
     pub fn take_given(
         &mut self,
         near: &mut Option<tab_records::Iter<'a>>,
@@ -291,6 +306,29 @@ impl<'a> Merged<'a> {
         while let Some((_, records)) = self.take() {
             if let Some(first) = first_given(near, records, condition) {
                 return Some(first);
+            }
+        }
+        None
+    }
+
+    /// The next key at which records stand.
+    pub fn take_filled(&mut self) -> Option<&'a Term>
+        ensures { GivesFilled self.old result self.new }
+    {
+        match &mut self.sources {
+            Sources::Table(Left::All(entries)) => next_filled(entries),
+            _ => self.take_filled_of_others(),
+        }
+    }
+
+    // The same of entries that are found by their keys, or merged.
+    #[inline(never)]
+    fn take_filled_of_others(&mut self) -> Option<&'a Term>
+        ensures { GivesFilled self.old result self.new }
+    {
+        while let Some((key, records)) = self.take() {
+            if !records.is_empty() {
+                return Some(key);
             }
         }
         None

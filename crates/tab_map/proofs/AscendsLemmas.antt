@@ -4,7 +4,7 @@ use Rattle.std.specs.declared.cmp.Ordering.{Ordering}
 use Rattle.std.specs.declared.cmp.Ordering.TheVariants.{Less, Equal, Greater}
 use Rattle.std.specs.Ordering.{match_ordering, ordering_reverse}
 use Rattle.std.specs.Cmp.{IsTotalOrder}
-use Rattle.tab_map.specs.Entries.{lookup, insert_entry, remove_entry, entries_from, entries_above, AllAbove, Ascends}
+use Rattle.tab_map.specs.Entries.{lookup, insert_entry, remove_entry, entries_above, AllAbove, Ascends}
 
 module _ {K V : Type 0} (cmp : K → K → Ordering) where
   above_front : (k : K) (l m : List (K × V)) → AllAbove cmp k (l ++ m) → AllAbove cmp k l
@@ -69,15 +69,6 @@ module _ {K V : Type 0} (cmp : K → K → Ordering) where
         | Greater ↦ lookup_left k e l r p
       ]
 
-  pub from_left : (k : K) (e : K × V) (l r : List (K × V)) → cmp k e.0 ≡ Less → entries_from cmp k (l ++ e ∷ r) ≡ entries_from cmp k l ++ e ∷ r
-  from_left k e [] r p = rw p
-  from_left k e (y ∷ l) r p =
-      elim (cmp k y.0) as (λ d. match_ordering d (y ∷ (l ++ e ∷ r)) (y ∷ (l ++ e ∷ r)) (entries_from cmp k (l ++ e ∷ r)) ≡ match_ordering d (y ∷ l) (y ∷ l) (entries_from cmp k l) ++ e ∷ r) [
-        | Less ↦ refl
-        | Equal ↦ refl
-        | Greater ↦ from_left k e l r p
-      ]
-
   pub above_left : (k : K) (e : K × V) (l r : List (K × V)) → cmp k e.0 ≡ Less → entries_above cmp k (l ++ e ∷ r) ≡ entries_above cmp k l ++ e ∷ r
   above_left k e [] r p = rw p
   above_left k e (y ∷ l) r p =
@@ -113,11 +104,6 @@ module _ {K V : Type 0} {cmp : K → K → Ordering} (o : IsTotalOrder cmp) wher
   lookup_later k e [] r s p = refl
   lookup_later k e (y ∷ l) r s p =
       rw (above o y.0 e.0 k (above_back cmp y.0 l (e ∷ r) s.0).0 p) (lookup_later k e l r s.1 p)
-
-  pub from_later : (k : K) (e : K × V) (l r : List (K × V)) → Ascends cmp (l ++ e ∷ r) → (cmp k e.0 ≡ Less → ⊥) → entries_from cmp k (l ++ e ∷ r) ≡ entries_from cmp k (e ∷ r)
-  from_later k e [] r s p = refl
-  from_later k e (y ∷ l) r s p =
-      rw (above o y.0 e.0 k (above_back cmp y.0 l (e ∷ r) s.0).0 p) (from_later k e l r s.1 p)
 
   pub above_later : (k : K) (e : K × V) (l r : List (K × V)) → Ascends cmp (l ++ e ∷ r) → (cmp k e.0 ≡ Less → ⊥) → entries_above cmp k (l ++ e ∷ r) ≡ entries_above cmp k (e ∷ r)
   above_later k e [] r s p = refl

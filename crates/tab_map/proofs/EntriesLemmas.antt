@@ -4,8 +4,8 @@ use Rattle.std.proofs.lemmas.Result.{on_ok_weaker}
 use Rattle.std.specs.declared.cmp.Ordering.{Ordering}
 use Rattle.std.specs.declared.cmp.Ordering.TheVariants.{Less, Equal, Greater}
 use Rattle.std.specs.Cmp.{IsTotalOrder}
-use Rattle.tab_map.specs.Entries.{lookup, insert_entry, remove_entry, entries_from, entries_above, Ascends}
-use Rattle.tab_map.proofs.AscendsLemmas.{lookup_left, lookup_later, from_left, from_later, above_left, above_later, insert_left, insert_later, ascends_insert, remove_left, remove_later, ascends_remove}
+use Rattle.tab_map.specs.Entries.{lookup, insert_entry, remove_entry, entries_above, Ascends}
+use Rattle.tab_map.proofs.AscendsLemmas.{lookup_left, lookup_later, above_left, above_later, insert_left, insert_later, ascends_insert, remove_left, remove_later, ascends_remove}
 
 pub record IsNode {K V : Type 0} (cmp : K → K → Ordering) (d l : List (K × V)) (e : K × V) (r : List (K × V)) : Type 0 where
   pub is : d ≡ l ++ e ∷ r
@@ -18,9 +18,6 @@ module _ {K V : Type 0} {cmp : K → K → Ordering} where
   pub lookup_less : {d l r : List (K × V)} {e : K × V} (k : K) → IsNode cmp d l e r → cmp k e.0 ≡ Less → lookup cmp k d ≡ lookup cmp k l
   lookup_less {d} {l} {r} {e} k f p = rw f.is (lookup_left cmp k e l r p)
 
-  pub from_less : {d l r : List (K × V)} {e : K × V} (k : K) → IsNode cmp d l e r → cmp k e.0 ≡ Less → entries_from cmp k d ≡ entries_from cmp k l ++ e ∷ r
-  from_less {d} {l} {r} {e} k f p = rw f.is (from_left cmp k e l r p)
-
   pub above_less : {d l r : List (K × V)} {e : K × V} (k : K) → IsNode cmp d l e r → cmp k e.0 ≡ Less → entries_above cmp k d ≡ entries_above cmp k l ++ e ∷ r
   above_less {d} {l} {r} {e} k f p = rw f.is (above_left cmp k e l r p)
 
@@ -30,12 +27,6 @@ module _ {K V : Type 0} {cmp : K → K → Ordering} (o : IsTotalOrder cmp) wher
 
   pub lookup_greater : {d l r : List (K × V)} {e : K × V} (k : K) → IsNode cmp d l e r → cmp k e.0 ≡ Greater → lookup cmp k d ≡ lookup cmp k r
   lookup_greater {d} {l} {r} {e} k f p = rw f.is (rw (lookup_later o k e l r f.sorted (λ h. cc)) (rw p))
-
-  pub from_equal : {d l r : List (K × V)} {e : K × V} (k : K) → IsNode cmp d l e r → cmp k e.0 ≡ Equal → entries_from cmp k d ≡ e ∷ r
-  from_equal {d} {l} {r} {e} k f p = rw f.is (rw (from_later o k e l r f.sorted (λ h. cc)) (rw p))
-
-  pub from_greater : {d l r : List (K × V)} {e : K × V} (k : K) → IsNode cmp d l e r → cmp k e.0 ≡ Greater → entries_from cmp k d ≡ entries_from cmp k r
-  from_greater {d} {l} {r} {e} k f p = rw f.is (rw (from_later o k e l r f.sorted (λ h. cc)) (rw p))
 
   pub above_equal : {d l r : List (K × V)} {e : K × V} (k : K) → IsNode cmp d l e r → cmp k e.0 ≡ Equal → entries_above cmp k d ≡ r
   above_equal {d} {l} {r} {e} k f p = rw f.is (rw (above_later o k e l r f.sorted (λ h. cc)) (rw p))

@@ -6,12 +6,12 @@ use Rattle.std.specs.declared.cmp.Ordering.TheVariants.{Equal}
 use Rattle.std.specs.Cmp.{IsTotalOrder}
 use Rattle.tab_map.specs.declared.Branch.{Branch}
 use Rattle.tab_map.specs.Ahead.{behind}
-use Rattle.tab_map.specs.Entries.{lookup, entries_from, entries_above}
+use Rattle.tab_map.specs.Entries.{lookup, entries_above}
 use Rattle.tab_map.specs.InOrder.{spread, separators}
 use Rattle.tab_map.specs.Places.{HasAt, IsGap}
-use Rattle.tab_map.proofs.EntriesLemmas.{lookup_equal, from_less, from_equal, above_less, above_equal}
+use Rattle.tab_map.proofs.EntriesLemmas.{lookup_equal, above_less, above_equal}
 use Rattle.tab_map.proofs.PlacesLemmas.{get_next, drop_next}
-use Rattle.tab_map.proofs.SpreadLemmas.{IsRoot, AtBranch, Found, past_lookup, past_from, past_above, found_branch, child_branch, last_child, none_left}
+use Rattle.tab_map.proofs.SpreadLemmas.{IsRoot, AtBranch, Found, past_lookup, past_above, found_branch, child_branch, last_child, none_left}
 
 module _ {K V : Type 0} where
   -- what is below the first branch, and behind that
@@ -52,12 +52,6 @@ module _ {K V : Type 0} {cmp : K → K → Ordering} (o : IsTotalOrder cmp) (k :
   at_rest : (n : ℕ) (b : Branch K V) (h : AtBranch cmp k bs n m b) → drop n bs ≡ b ∷ h.after
   at_rest n b h = ap (drop n) h.is ∙ ap (λ i. drop i (h.before ++ b ∷ h.after)) (sym h.count) ∙ drop-append_seam h.before (b ∷ h.after)
 
-  pub found_from : (n : ℕ) → HasAt cmp k (separators bs) n → entries_from cmp k d ≡ behind (drop n bs) m
-  found_from n f =
-      let h = found_branch o k bs n m f root.sorted in
-      ap (entries_from cmp k) (root.is ∙ h.place.whole) ∙ past_from o k h.place.before (spread (h.branch ∷ h.place.after) m) h.place.passes h.place.sorted ∙ from_equal o k h.place.node h.equal
-      ∙ sym (ap (λ z. behind z m) (at_rest n h.branch h.place))
-
   found_above : (n : ℕ) (b : Branch K V) (h : AtBranch cmp k bs n m b) → cmp k b.entry.0 ≡ Equal → entries_above cmp k d ≡ spread h.after m
   found_above n b h q = ap (entries_above cmp k) (root.is ∙ h.whole) ∙ past_above o k h.before (spread (b ∷ h.after) m) h.passes h.sorted ∙ above_equal o k h.node q
 
@@ -80,20 +74,11 @@ module _ {K V : Type 0} {cmp : K → K → Ordering} (o : IsTotalOrder cmp) (k :
       let h = found_branch o k bs n m f root.sorted in
       found_above n h.branch h.place h.equal ∙ ap (λ z. spread z m) (none_left h.place.after (sym (after_get n h.branch h.place) ∙ p))
 
-  pub child_from : (n : ℕ) (b : Branch K V) → IsGap cmp k (separators bs) n → slice_get bs n ≡ Some b → entries_from cmp k d ≡ entries_from cmp k b.below ++ behind (drop n bs) m
-  child_from n b f p =
-      let h = child_branch k bs n m b f p root.sorted in
-      ap (entries_from cmp k) (root.is ∙ h.0.whole) ∙ past_from o k h.0.before (spread (b ∷ h.0.after) m) h.0.passes h.0.sorted ∙ from_less k h.0.node h.1
-      ∙ ap (λ z. entries_from cmp k b.below ++ behind z m) (sym (at_rest n b h.0))
-
   pub child_above : (n : ℕ) (b : Branch K V) → IsGap cmp k (separators bs) n → slice_get bs n ≡ Some b → entries_above cmp k d ≡ entries_above cmp k b.below ++ behind (drop n bs) m
   child_above n b f p =
       let h = child_branch k bs n m b f p root.sorted in
       ap (entries_above cmp k) (root.is ∙ h.0.whole) ∙ past_above o k h.0.before (spread (b ∷ h.0.after) m) h.0.passes h.0.sorted ∙ above_less k h.0.node h.1
       ∙ ap (λ z. entries_above cmp k b.below ++ behind z m) (sym (at_rest n b h.0))
-
-  pub last_from : (n : ℕ) → IsGap cmp k (separators bs) n → slice_get bs n ≡ None → entries_from cmp k d ≡ entries_from cmp k m
-  last_from n f p = ap (entries_from cmp k) root.is ∙ past_from o k bs m (last_child k bs n f p) root.sorted
 
   pub last_above : (n : ℕ) → IsGap cmp k (separators bs) n → slice_get bs n ≡ None → entries_above cmp k d ≡ entries_above cmp k m
   last_above n f p = ap (entries_above cmp k) root.is ∙ past_above o k bs m (last_child k bs n f p) root.sorted

@@ -5,10 +5,10 @@ use Rattle.std.specs.List.{insert, remove}
 use Rattle.std.specs.declared.cmp.Ordering.{Ordering}
 use Rattle.std.specs.declared.cmp.Ordering.TheVariants.{Less}
 use Rattle.std.specs.Cmp.{IsTotalOrder}
-use Rattle.tab_map.specs.Entries.{Ascends, lookup, insert_entry, remove_entry, entries_from, entries_above}
+use Rattle.tab_map.specs.Entries.{Ascends, lookup, insert_entry, remove_entry, entries_above}
 use Rattle.tab_map.specs.Places.{IsPast, IsBelow, HasAt, IsGap}
 use Rattle.tab_map.proofs.AscendsLemmas.{above, above_back}
-use Rattle.tab_map.proofs.EntriesLemmas.{IsNode, lookup_equal, from_equal, above_equal, inserted_equal, removed_equal}
+use Rattle.tab_map.proofs.EntriesLemmas.{IsNode, lookup_equal, above_equal, inserted_equal, removed_equal}
 
 module _ {K V : Type 0} {cmp : K → K → Ordering} (o : IsTotalOrder cmp) where
   pub past_before : (k : K) (l : List (K × V)) (e : K × V) (r : List (K × V)) → Ascends cmp (l ++ e ∷ r) → (cmp k e.0 ≡ Less → ⊥) → IsPast cmp k l
@@ -39,10 +39,6 @@ module _ {K V : Type 0} (cmp : K → K → Ordering) where
   past_lookup k [] m p = refl
   past_lookup k (e ∷ l) m p = rw p.0 (past_lookup k l m p.1)
 
-  past_from : (k : K) (l m : List (K × V)) → IsPast cmp k l → entries_from cmp k (l ++ m) ≡ entries_from cmp k m
-  past_from k [] m p = refl
-  past_from k (e ∷ l) m p = rw p.0 (past_from k l m p.1)
-
   past_above : (k : K) (l m : List (K × V)) → IsPast cmp k l → entries_above cmp k (l ++ m) ≡ entries_above cmp k m
   past_above k [] m p = refl
   past_above k (e ∷ l) m p = rw p.0 (past_above k l m p.1)
@@ -58,10 +54,6 @@ module _ {K V : Type 0} (cmp : K → K → Ordering) where
   below_lookup : (k : K) (m : List (K × V)) → IsBelow cmp k m → lookup cmp k m ≡ None
   below_lookup k [] p = refl
   below_lookup k (e ∷ m) p = rw p refl
-
-  below_from : (k : K) (m : List (K × V)) → IsBelow cmp k m → entries_from cmp k m ≡ m
-  below_from k [] p = refl
-  below_from k (e ∷ m) p = rw p refl
 
   below_above : (k : K) (m : List (K × V)) → IsBelow cmp k m → entries_above cmp k m ≡ m
   below_above k [] p = refl
@@ -82,9 +74,6 @@ module _ {K V : Type 0} (cmp : K → K → Ordering) where
   gap_drop : (k : K) (es : List (K × V)) (n : ℕ) (f : IsGap cmp k es n) → drop n es ≡ f.after
   gap_drop k es n f = ap (drop n) f.is ∙ ap (λ i. drop i (f.before ++ f.after)) (sym f.count) ∙ drop-append_seam f.before f.after
 
-  pub gap_from : (k : K) (es : List (K × V)) (n : ℕ) → IsGap cmp k es n → entries_from cmp k es ≡ drop n es
-  gap_from k es n f = ap (entries_from cmp k) f.is ∙ past_from cmp k f.before f.after f.past ∙ below_from cmp k f.after f.below ∙ sym (gap_drop k es n f)
-
   pub gap_above : (k : K) (es : List (K × V)) (n : ℕ) → IsGap cmp k es n → entries_above cmp k es ≡ drop n es
   gap_above k es n f = ap (entries_above cmp k) f.is ∙ past_above cmp k f.before f.after f.past ∙ below_above cmp k f.after f.below ∙ sym (gap_drop k es n f)
 
@@ -104,11 +93,6 @@ module _ {K V : Type 0} {cmp : K → K → Ordering} (o : IsTotalOrder cmp) wher
   has_lookup k es n e f s p =
       let q : e ≡ f.entry = p ∙ ap (λ z. get_or z n e) f.is ∙ ap (λ i. get_or (f.before ++ f.entry ∷ f.after) i e) (sym f.count) ∙ get_or-append_seam f.before f.entry f.after e in
       ap (λ z. Some z.1) q ∙ sym (lookup_equal o k (has_node k es n f s) f.equal)
-
-  pub has_from : (k : K) (es : List (K × V)) (n : ℕ) → HasAt cmp k es n → Ascends cmp es → entries_from cmp k es ≡ drop n es
-  has_from k es n f s =
-      from_equal o k (has_node k es n f s) f.equal
-      ∙ sym (ap (drop n) f.is ∙ ap (λ i. drop i (f.before ++ f.entry ∷ f.after)) (sym f.count) ∙ drop-append_seam f.before (f.entry ∷ f.after))
 
   pub has_above : (k : K) (es : List (K × V)) (n : ℕ) → HasAt cmp k es n → Ascends cmp es → entries_above cmp k es ≡ drop (n + 1) es
   has_above k es n f s =

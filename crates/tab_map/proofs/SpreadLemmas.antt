@@ -8,10 +8,10 @@ use Rattle.std.specs.Cmp.{IsTotalOrder}
 use Rattle.tab_map.specs.declared.Branch.{Branch}
 use Rattle.tab_map.specs.declared.Tree.{Tree}
 use Rattle.tab_map.specs.declared.Tree.TheVariants.{Node}
-use Rattle.tab_map.specs.Entries.{lookup, insert_entry, remove_entry, entries_from, entries_above, AllAbove, Ascends}
+use Rattle.tab_map.specs.Entries.{lookup, insert_entry, remove_entry, entries_above, AllAbove, Ascends}
 use Rattle.tab_map.specs.InOrder.{spread, separators, entries, HasBranch}
 use Rattle.tab_map.specs.Places.{IsPast, IsBelow, HasAt, IsGap}
-use Rattle.tab_map.proofs.EntriesLemmas.{IsNode, lookup_less, lookup_equal, lookup_greater, from_greater, above_greater, inserted_less, inserted_equal, inserted_greater, removed_less, removed_equal, removed_greater}
+use Rattle.tab_map.proofs.EntriesLemmas.{IsNode, lookup_less, lookup_equal, lookup_greater, above_greater, inserted_less, inserted_equal, inserted_greater, removed_less, removed_equal, removed_greater}
 use Rattle.tab_map.proofs.AscendsLemmas.{last_two, above_back, ascends_back, not_empty}
 use Rattle.tab_map.proofs.PlacesLemmas.{get_seam, head_is, past_before}
 
@@ -80,10 +80,6 @@ module _ {K V : Type 0} {cmp : K → K → Ordering} (o : IsTotalOrder cmp) wher
   pub past_lookup : (k : K) (bs : List (Branch K V)) (m : List (K × V)) → IsPast cmp k (separators bs) → Ascends cmp (spread bs m) → lookup cmp k (spread bs m) ≡ lookup cmp k m
   past_lookup k [] m p s = refl
   past_lookup k (b ∷ bs) m p s = lookup_greater o k (first_node cmp b bs m s) p.0 ∙ past_lookup k bs m p.1 (later cmp b bs m s)
-
-  pub past_from : (k : K) (bs : List (Branch K V)) (m : List (K × V)) → IsPast cmp k (separators bs) → Ascends cmp (spread bs m) → entries_from cmp k (spread bs m) ≡ entries_from cmp k m
-  past_from k [] m p s = refl
-  past_from k (b ∷ bs) m p s = from_greater o k (first_node cmp b bs m s) p.0 ∙ past_from k bs m p.1 (later cmp b bs m s)
 
   pub past_above : (k : K) (bs : List (Branch K V)) (m : List (K × V)) → IsPast cmp k (separators bs) → Ascends cmp (spread bs m) → entries_above cmp k (spread bs m) ≡ entries_above cmp k m
   past_above k [] m p s = refl

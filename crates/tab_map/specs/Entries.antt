@@ -19,11 +19,6 @@ abbrev pub remove_entry : {K V : Type 0} → (K → K → Ordering) → K → Li
 remove_entry cmp k [] = []
 remove_entry cmp k (e ∷ es) = match_ordering (cmp k e.0) (e ∷ es) es (e ∷ remove_entry cmp k es)
 
--- the entries whose keys are k or above it
-abbrev pub entries_from : {K V : Type 0} → (K → K → Ordering) → K → List (K × V) → List (K × V)
-entries_from cmp k [] = []
-entries_from cmp k (e ∷ es) = match_ordering (cmp k e.0) (e ∷ es) (e ∷ es) (entries_from cmp k es)
-
 -- the entries whose keys are above k
 abbrev pub entries_above : {K V : Type 0} → (K → K → Ordering) → K → List (K × V) → List (K × V)
 entries_above cmp k [] = []

@@ -2,6 +2,7 @@
 ghost use Rattle.std.specs.Prelude.{◌≡◌, ◌≤◌, ◌-◌, List, [], ◌++◌, IsTrue, length, drop};
 ghost use Rattle.std.specs.Option.{option_copied};
 ghost use Rattle.tab_map.specs.Ahead.{AreAhead, MayBeAhead, Steps, behind, first_known};
+ghost use Rattle.tab_map.specs.Entries.{entries_above};
 
 use crate::entry::Entry;
 use crate::{Branch, Map, Node};
@@ -120,6 +121,14 @@ impl<'a, K: Abbreviate + Drop, V: Drop> Ahead<'a, K, V> {
         };
         *self = child.start().then(Siblings { branches, last });
         Some(&branch.entry)
+    }
+
+    /// Goes on above this entry, of which nothing was known. Inlined, each step would set the place of its result to zero.
+    #[inline(never)]
+    pub fn seek(&mut self, map: &'a Map<K, V>, entry: &Entry<K, V>)
+        ensures { AreAhead self.new (entries_above K.cmp entry.now.0 map.now) }
+    {
+        *self = map.next_above(&entry.sought());
     }
 
     /// Whether the entry that comes next is known, or none comes.

@@ -94,7 +94,7 @@ impl<'a, K: Abbreviate + Drop, V: Drop> Iterator for Iter<'a, K, V> {
     fn next(&mut self) -> Option<&'a Entry<K, V>> {
         let entry = self.ahead.step()?;
         if !self.ahead.is_known() {
-            self.ahead = self.map.next_above(&entry.sought());
+            self.ahead.seek(self.map, entry);
         }
         Some(entry)
     }

@@ -11,7 +11,7 @@
 
 ghost use Rattle.std.specs.Prelude.{◌≡◌, ◌↔◌, ◌≤◌, [], ◌∷◌, ◌++◌, IfOk, MatchOption, IsTrue, length, slice_get, is_some};
 ghost use Rattle.std.specs.Option.{option_copied, option_map};
-ghost use Rattle.tab_map.specs.Entries.{Ascends, lookup, insert_entry, remove_entry, entries_from, entries_above};
+ghost use Rattle.tab_map.specs.Entries.{Ascends, lookup, insert_entry, remove_entry, entries_above};
 ghost use Rattle.tab_map.specs.Ahead.{AreAhead};
 
 mod ahead;
@@ -262,40 +262,8 @@ impl<K: Abbreviate + Drop, V: Drop> Map<K, V> {
         }
     }
 
-    /// The entry with the least key that is the given key or above it.
-    pub fn first_from(&self, key: &K) -> Option<&Entry<K, V>>
-        ensures entry { option_copied result ≡ slice_get (entries_from K.cmp key.now self.now) 0 }
-        ensures ascends { Ascends K.cmp self.now }
-    {
-        self.next_from(&Sought::new(key)).first()
-    }
-
-    fn next_from(&self, sought: &Sought<K>) -> Ahead<'_, K, V>
-        ensures ahead { AreAhead result (entries_from K.cmp sought.now self.now) }
-        ensures ascends { Ascends K.cmp self.now }
-    {
-        match &self.root {
-            Tree::Empty => Ahead::in_row(&[]),
-            Tree::Leaf(items) => row::next_from(items.as_slice(), sought),
-            Tree::Node(node) => match branches::place(&node.branches, sought) {
-                Ok(n) => Ahead::in_row(&[]).then(Siblings::new(node, n)),
-                Err(n) => match node.branches.get(n) {
-                    Some(branch) => branch.below.next_from(sought).then(Siblings::new(node, n)),
-                    None => node.last.next_from(sought),
-                },
-            },
-        }
-    }
-
-    /// The entry with the least key above the given key.
-    pub fn first_above(&self, key: &K) -> Option<&Entry<K, V>>
-        ensures entry { option_copied result ≡ slice_get (entries_above K.cmp key.now self.now) 0 }
-        ensures ascends { Ascends K.cmp self.now }
-    {
-        self.next_above(&Sought::new(key)).first()
-    }
-
-    fn next_above(&self, sought: &Sought<K>) -> Ahead<'_, K, V>
+    /// What is ahead above the key.
+    pub(crate) fn next_above(&self, sought: &Sought<K>) -> Ahead<'_, K, V>
         ensures ahead { AreAhead result (entries_above K.cmp sought.now self.now) }
         ensures ascends { Ascends K.cmp self.now }
     {

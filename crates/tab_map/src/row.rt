@@ -2,7 +2,7 @@
 ghost use Rattle.std.specs.Prelude.{◌≡◌, ◌≤◌, ◌<◌, IfOk, IfErr, OnOk, OnErr, length};
 ghost use Rattle.std.specs.Option.{option_copied, option_map};
 ghost use Rattle.std.specs.Ordering.{ordering_reverse};
-ghost use Rattle.tab_map.specs.Entries.{Ascends, lookup, insert_entry, remove_entry, entries_from, entries_above};
+ghost use Rattle.tab_map.specs.Entries.{Ascends, lookup, insert_entry, remove_entry, entries_above};
 ghost use Rattle.tab_map.specs.Ahead.{AreAhead};
 ghost use Rattle.tab_map.specs.Places.{HasAt, IsGap};
 ghost use Rattle.tab_map.specs.Revised.{revised_at};
@@ -47,20 +47,6 @@ pub fn get<'a, K: Abbreviate + Drop, V: Drop>(
     match place(items, sought) {
         Ok(n) => Some(&items[n]),
         Err(_) => None,
-    }
-}
-
-/// The entries from the key on.
-pub fn next_from<'a, K: Abbreviate + Drop, V: Drop>(
-    items: &'a [Entry<K, V>],
-    sought: &Sought<K>,
-) -> Ahead<'a, K, V>
-    requires { Ascends K.cmp items.now }
-    ensures { AreAhead result (entries_from K.cmp sought.now items.now) }
-{
-    match place(items, sought) {
-        Ok(n) => Ahead::in_row(&items[n..]),
-        Err(n) => Ahead::in_row(&items[n..]),
     }
 }
 

@@ -17,8 +17,8 @@ returns-then-fits_four g c =
     let e = to_z-of_z w128 c.args.z c.ranges.z in
     let no : is_byte c.args.z ≡ false = ap is_byte (sym e) ∙ sym c.is_byte.ensures ∙ c.if-is_byte.false in
     let yes : fits_four c.args.z ≡ true = ap fits_four (sym e) ∙ sym c.fits_four.ensures ∙ c.if-fits_four.true in
-    writes_as c.put.ensures
-    (c.tagged.ensures ∙ ap (λ n. 98 ∷ to_be_bytes w32 n) (c.four_bytes_of.ensures ∙ ap (cast_unsigned w32) e) ∙ sym (int_four c.args.z no yes))
+    writes_as c.put_four.ensures
+    (ap (λ n. 98 ∷ to_be_bytes w32 n) (c.four_bytes_of.ensures ∙ ap (cast_unsigned w32) e) ∙ sym (int_four c.args.z no yes))
 
 pub returns-else-fits_four : goal.returns-else-fits_four
 returns-else-fits_four g c =

@@ -19,8 +19,8 @@ pub invariant_of-self-then-not-is_known : goal.invariant_of-self-then-not-is_kno
 invariant_of-self-then-not-is_known g c =
     let step = c.in_ok-entry.ensures _ c.self.invariant.1 in
     let is = left_behind g.met.K.Ord.total _ step.0 c.self.inside.ahead c.in_ok-entry.entry.now c.self.invariant.1 step.1.0 in
-    let ahead : AreAhead c.next_above-self-inside.result (entries_above g.K.Ord.cmp c.in_ok-entry.entry.now.0 c.self.inside.map.now) = rw (← c.sought.ensures) (search rules) in
-    (c.self.invariant.0, left_ahead g.met.K.Ord.total _ _ c.next_above-self-inside.result (left_rest g.met.K.Ord.total _ _ c.in_ok-entry.entry.now c.self.invariant.0 is) (subst (AreAhead c.next_above-self-inside.result) (sym is) ahead))
+    let ahead : AreAhead c.seek.new.self (entries_above g.K.Ord.cmp c.in_ok-entry.entry.now.0 c.self.inside.map.now) = c.seek.ensures in
+    (c.self.invariant.0, left_ahead g.met.K.Ord.total _ _ c.seek.new.self (left_rest g.met.K.Ord.total _ _ c.in_ok-entry.entry.now c.self.invariant.0 is) (subst (AreAhead c.seek.new.self) (sym is) ahead))
 
 pub invariant_of-self-else-not-is_known : goal.invariant_of-self-else-not-is_known
 invariant_of-self-else-not-is_known g c =
@@ -36,7 +36,7 @@ returns-clause-steps g c =
     let rest = left_rest g.met.K.Ord.total _ _ c.in_ok-entry.entry.now c.self.invariant.0 is in
     let left : c.if-not-is_known.self ≡ step.0 =
     elim c.if-not-is_known.branch [
-      | then-not-is_known w ↦ let ahead : AreAhead w.next_above-self-inside.result (entries_above g.K.Ord.cmp c.in_ok-entry.entry.now.0 c.self.inside.map.now) = rw (← w.sought.ensures) (search rules) in w.self-is ∙ left_is g.met.K.Ord.total _ _ w.next_above-self-inside.result rest (subst (AreAhead w.next_above-self-inside.result) (sym is) ahead)
+      | then-not-is_known w ↦ let ahead : AreAhead w.seek.new.self (entries_above g.K.Ord.cmp c.in_ok-entry.entry.now.0 c.self.inside.map.now) = w.seek.ensures in w.self-is ∙ left_is g.met.K.Ord.total _ _ w.seek.new.self rest (subst (AreAhead w.seek.new.self) (sym is) ahead)
       | else-not-is_known w ↦ w.self-is ∙ left_is g.met.K.Ord.total _ _ c.step.new.self rest (w.if-not-is_known.ensures step.0 (search rules) step.1.1)
     ] in
     sym c.self.view_is ∙ step.1.0 ∙ ap (λ z. c.in_ok-entry.entry.now ∷ z) (sym left)
