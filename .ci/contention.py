@@ -5,18 +5,21 @@
 
 Who is told to restart rests first, until the lock that it died for is free, for a tenth of a second at most; the oldest goes
 first. A one-shot's steps stand together. No contract speaks of how long anyone waits, so it is shown here, by counts and by
-bounds of time. Other work on the machine moves them, so a case that differs is run again, twice at most. One line tells each case that differs; the last line is `N passed, M failed`, and the status 1 where one
-failed.
+bounds of time. Other work on the machine moves them, so a case that differs is run again, twice at most. Needs a C compiler as
+`cc`. One line tells each case that differs; the last line is `N passed, M failed`, and the status 1 where one failed.
 """
 
+import os
 import random
 import select
 import statistics
+import subprocess
+import tempfile
 import threading
 import time
 
-from server import ATOMIC, CREATE, OK, Differs, main, same, script, side_by_side, waits, write
-from frames import take
+from server import ATOMIC, CREATE, HERE, OK, Connection, Differs, main, same, script, serve, side_by_side, waits, write
+from frames import frame, take
 
 READ = ("read", "t", 1)
 WREAD = ("wread", ("t", 1))
@@ -27,6 +30,8 @@ LATE = 2.0
 AT_ONCE, ROUNDS = 0.005, 15
 # So long the mixed load is run.
 SECONDS = 2.0
+# So many raise one record for so many milliseconds, and most of their commits come behind another's.
+TAKERS, TURNS, MOST_AGAIN = 8, 500, 0.5
 # A table of so many keys, all of which a one-shot asks for so many times.
 KEYS, ASKED = 30_000, 50
 
@@ -307,6 +312,41 @@ def mixed(*connections):
     between("the longest", 0, longest[0], LATE)
 
 
+def again_of(program, load):
+    """Which share of the commits at one record came behind one of the same connection, by a client that loses no time."""
+    server, port = serve(program, TAKERS + 1, [])
+    try:
+        first = Connection(port)
+        script((first, CREATE, ATOMIC))
+        first.close()
+        reply = b"\x83h\x02w\x05reply".hex()
+        plan = [f"1 {reply} {frame(step).hex()}\n" for step in ("begin", ("wread", ("t", 1)), write(1, 7), "commit")]
+        words = [load, "frames", str(port), str(TAKERS), str(TURNS)]
+        told = subprocess.run(words, input="".join(plan), capture_output=True, text=True, check=True, timeout=60).stdout
+        rounds, _, wrong, again = map(float, told.split())
+        same("replies that differ", (rounds > 0, wrong), (True, 0))
+        return again
+    finally:
+        server.kill()
+        server.wait()
+
+
+def turns_fault(program):
+    """Sessions that meet at one record take turns: a session whose next transaction comes at once does not have the record again and
+    again, before those who wait for it are awake."""
+    try:
+        with tempfile.TemporaryDirectory() as folder:
+            load = os.path.join(folder, "load")
+            source = os.path.join(HERE, "..", "bench", "beside.c")
+            subprocess.run(["cc", "-O2", "-pthread", "-o", load, source], check=True)
+            found = [again_of(program, load) for _ in range(3)]
+        if min(found) > MOST_AGAIN:
+            raise Differs(f"shares {found}, wanted {MOST_AGAIN} at most")
+        return None
+    except (Differs, OSError, ValueError, subprocess.SubprocessError) as error:
+        return f"turns at one record: {type(error).__name__} {error}"
+
+
 # A name, how many connections, further words of the server, and what is done on them.
 CASES = [
     ("a restart comes", 2, [], a_restart_comes),
@@ -328,4 +368,4 @@ CASES = [
 
 
 if __name__ == "__main__":
-    main(CASES, __doc__, attempts=3)
+    main(CASES, __doc__, [turns_fault], attempts=3)

@@ -141,7 +141,7 @@ def rate(load_program, server, load, connections):
     """Rounds a second. A reply that no load wants is an error."""
     words = [load_program, server.kind, str(server.port), str(connections), str(MILLISECONDS)]
     told = subprocess.run(words, input=server.plan(load), capture_output=True, text=True, check=True).stdout
-    rounds, restarts, wrong = map(float, told.split())
+    rounds, restarts, wrong, _ = map(float, told.split())
     if wrong or not rounds:
         raise ValueError(f"{load}: {wrong:.0f} replies differ, {rounds} rounds")
     return rounds, restarts
