@@ -473,7 +473,7 @@ fn parts_of(alloc: Global, list: &[u8]) -> Result<Parts, AllocError> {
     for letter in list {
         items.push(part_of(alloc, *letter)?)?;
     }
-    Ok(Parts { items })
+    Parts::new(alloc, items)
 }
 
 /// Whether the session was asked and the reply made as the case says.

@@ -52,7 +52,7 @@ impl Played {
 fn call_of(command: &Command, whole: usize) -> u8 {
     match command {
         Command::OneShot(parts, _) => {
-            if parts.items.len() == whole {
+            if parts.as_slice().len() == whole {
                 b'o'
             } else {
                 b'?'

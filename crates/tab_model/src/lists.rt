@@ -1,7 +1,11 @@
 //! Lists that stand inside the data, each seen as a plain list.
+ghost use Rattle.std.specs.Prelude.{◌≡◌, IfOk};
+
 use crate::data::{Move, Part};
 use crate::logged_reply::LoggedReply;
+use std::alloc::{AllocError, Global};
 use std::marker::Model;
+use std::sync::Arc;
 use tab_term::Atom;
 
 /// Names in order.
@@ -70,10 +74,10 @@ impl Model for Replies {
     ghost view = { λ a. a.items.items };
 }
 
-/// The parts of a one-shot.
+/// The parts of a one-shot, behind a count of those who hold them: the command that is handed in, and who makes its attempts.
 #[derive(Drop)]
 pub struct Parts {
-    pub items: Vec<Part>,
+    items: Arc<Vec<Part>, Global>,
 }
 
 impl Model for Parts {
@@ -86,5 +90,32 @@ impl Model for Parts {
 
     ghost coded = { Prim.hlevel (codes, terms_code, pairs_code) };
 
-    ghost view = { λ a. a.items.items };
+    ghost view = { λ a. a.items.value.items };
+}
+
+impl Parts {
+    /// These parts, which no one else holds.
+    pub fn new(alloc: Global, items: Vec<Part>) -> Result<Parts, AllocError>
+        ensures { IfOk result (λ parts. parts ≡ items.items) }
+    {
+        Ok(Parts {
+            items: Arc::new(alloc, items)?,
+        })
+    }
+
+    /// The same parts. It takes no memory: the error is a count of owners that is full, at 2^63.
+    pub fn share(&self) -> Result<Parts, AllocError>
+        ensures { IfOk result (λ parts. parts ≡ self.now) }
+    {
+        Ok(Parts {
+            items: Arc::try_clone(&self.items)?,
+        })
+    }
+
+    /// The parts in order.
+    pub fn as_slice(&self) -> &[Part]
+        ensures { result.now ≡ self.now }
+    {
+        self.items.as_slice()
+    }
 }

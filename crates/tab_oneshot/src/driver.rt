@@ -8,7 +8,6 @@ ghost use Rattle.tab_oneshot.specs.OneShots.{is_one_shot, IsOneShot, IsRun, Runs
 use crate::answer::{Answer, Sort};
 use crate::asking::{ask, end};
 use crate::attempt::attempt;
-use crate::copies::parts_of;
 use crate::levels::Levels;
 use crate::steps::Steps;
 use std::alloc::Global;
@@ -16,7 +15,7 @@ use tab_model::{Command, Part, Parts, Reply, SharedReply};
 
 /// Runs a one-shot, whose command is `{transaction, Ops, Retries}`, on a seat.
 ///
-/// A copy of the whole command is handed in first, and opens level 1; then the members of its list, in order, and the
+/// The whole command is handed in first, and opens level 1; then the members of its list, in order, and the
 /// commit. Where the seat restarts it, it begins again with the first member, at most `Retries` times.
 pub fn one_shot<S: Steps>(steps: &mut S, alloc: Global, command: Command) -> SharedReply
     requires { IsTrue (is_one_shot command) }
@@ -33,12 +32,12 @@ fn run<S: Steps>(steps: &mut S, alloc: Global, parts: &Parts, retries: u64) -> S
     ensures { (more : List Call) × S.shows steps.old more steps.new
         × IsRun parts.now retries more result }
 {
-    let Ok(copy) = parts_of(alloc, parts) else {
+    let Ok(shared) = parts.share() else {
         return SharedReply::new(Reply::NoMemory);
     };
-    let answer = ask(steps, Command::OneShot(copy, retries));
+    let answer = ask(steps, Command::OneShot(shared, retries));
     match answer.sort() {
-        Sort::Opened => attempts(steps, alloc, &parts.items, retries),
+        Sort::Opened => attempts(steps, alloc, parts.as_slice(), retries),
         _ => answer.into_reply(),
     }
 }

@@ -5,7 +5,6 @@
 mod answer;
 mod asking;
 mod attempt;
-mod copies;
 mod driver;
 mod laws;
 mod levels;

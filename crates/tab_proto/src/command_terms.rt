@@ -32,7 +32,7 @@ pub fn term_of(alloc: Global, command: &Command) -> Result<Term, AllocError>
         }
         Command::OneShot(parts, retries) => {
             let first = word(alloc, "transaction")?;
-            let operations = operations_of(alloc, &parts.items)?;
+            let operations = operations_of(alloc, parts.as_slice())?;
             triple(alloc, first, Term::List(operations), number(*retries))
         }
     }

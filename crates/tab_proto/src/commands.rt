@@ -183,7 +183,8 @@ fn one_shot(alloc: Global, members: Term, retries: &Term) -> Result<Command, Pro
     let retries = retries_of(retries)?;
     let mut parts = Vec::new(alloc);
     push_parts(members, &mut parts)?;
-    Ok(Command::OneShot(Parts { items: parts }, retries))
+    let parts = Parts::new(alloc, parts)?;
+    Ok(Command::OneShot(parts, retries))
 }
 
 /// How often a one-shot may restart: 0 to 1,000.

@@ -1,6 +1,6 @@
 //! Why a term was not read.
 
-use std::alloc::AllocFailed;
+use std::alloc::{AllocError, AllocFailed};
 use thiserror::Error;
 
 /// Why a term is no command.
@@ -35,6 +35,17 @@ impl<T: Drop> From<AllocFailed<T>> for ProtoFault {
     ghost from_gives = { λ _ fault. fault ≡ NoMemory };
 
     fn from(_: AllocFailed<T>) -> ProtoFault {
+        ProtoFault::NoMemory
+    }
+}
+
+impl From<AllocError> for ProtoFault {
+    ghost use Rattle.std.specs.Prelude.{◌≡◌};
+    ghost use Rattle.tab_proto.specs.declared.fault.ProtoFault.TheVariants.{NoMemory};
+
+    ghost from_gives = { λ _ fault. fault ≡ NoMemory };
+
+    fn from(_: AllocError) -> ProtoFault {
         ProtoFault::NoMemory
     }
 }

@@ -1,8 +1,7 @@
 //! The commands of a connection's requests, as steps of its session.
 
-ghost use Rattle.std.specs.Prelude.{◌≡◌, ◌≢◌, IfSome};
+ghost use Rattle.std.specs.Prelude.{◌≢◌, IfSome};
 ghost use Rattle.tab_model.specs.declared.data.Reply.TheVariants as reply;
-ghost use Rattle.tab_model.specs.Outcome.{is_abort};
 
 use crate::gate::{Count, Gate};
 use crate::levels::Kind;
@@ -13,7 +12,7 @@ use std::alloc::{AllocError, Global};
 use std::io::Write;
 use tab_book::{Rest, Step};
 use tab_etf::Frame;
-use tab_model::{Command, Parts, Reply, SharedReply};
+use tab_model::{Command, Reply, SharedReply};
 use tab_oneshot::{Steps, one_shot};
 use tab_post::Host;
 
@@ -117,8 +116,7 @@ impl<'a, H: Host, W: Write, G: Gate> Steps for Requests<'a, H, W, G> {
     ghost shows_on = { λ x y z first more a b. tt };
 
     fn step(&mut self, command: Command) -> Result<SharedReply, AllocError> {
-        self.held
-            .step(&self.seat, Step::Do(level_of(self.alloc, command)))
+        self.held.step(&self.seat, Step::Do(command))
     }
 
     /// None where an abort has ended the wait, or no one is left to be answered.
@@ -145,19 +143,5 @@ impl<'a, H: Host, W: Write, G: Gate> Steps for Requests<'a, H, W, G> {
     fn again(&mut self) {
         self.answers.counts().count(Count::Restarts, 1);
         self.rest();
-    }
-}
-
-/// Of a one-shot a book opens level 1 alone, so its copy of the parts is dropped before the book is held.
-fn level_of(alloc: Global, command: Command) -> Command
-    ensures { is_abort result ≡ is_abort command }
-{
-    match command {
-        Command::OneShot(parts, retries) => {
-            drop(parts);
-            let items = Vec::new(alloc);
-            Command::OneShot(Parts { items }, retries)
-        }
-        command => command,
     }
 }

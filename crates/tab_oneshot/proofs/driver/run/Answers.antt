@@ -14,5 +14,5 @@ returns-in-Opened g c =
     let retries = c.args.retries in
     let whole = asked g.S.Steps.shows g.met.S.Steps.shows_on _ _ _ (command.OneShot parts retries) _ _ _ (λ s x rest. Opens s x parts retries rest c.attempts.result)
     (ap (λ ps. command.OneShot ps retries) c.in-Ok.ensures) (sym c.in-Opened.is ∙ c.sort.ensures) c.ask-answer.ensures
-    (subst (λ ps. (more : List Call) × g.S.Steps.shows c.ask-answer.new.steps more c.attempts.new.steps × Runs ps retries more c.attempts.result) (c.deref.ensures.value ∙ c.parts.view_is) c.attempts.ensures) in
+    (subst (λ ps. (more : List Call) × g.S.Steps.shows c.ask-answer.new.steps more c.attempts.new.steps × Runs ps retries more c.attempts.result) c.as_slice.ensures c.attempts.ensures) in
     (whole.0, whole.1, inl whole.2)

@@ -4,4 +4,4 @@ use Rattle.tab_proto.proofs.commands.one_shot.Goals as goal
 
 pub returns-clause-ok : goal.returns-clause-ok
 returns-clause-ok c =
-    one_shot_is _ _ _ _ _ _ _ c.new-parts.ensures.items c.in_ok-push_parts.ensures.ok refl c.in_ok-members.ensures.ok c.in_ok-retries.ensures.ok.0 c.in_ok-retries.ensures.ok.1
+    rw c.in_ok-parts.ensures (one_shot_is _ _ _ _ _ _ _ c.new-parts.ensures.items c.in_ok-push_parts.ensures.ok refl c.in_ok-members.ensures.ok c.in_ok-retries.ensures.ok.0 c.in_ok-retries.ensures.ok.1)
