@@ -33,6 +33,7 @@ use Rattle.tab_model.specs.contracts.lists.Replies as replies
 use Rattle.tab_model.proofs.lists.Numbers.TheSendSync as numbers_marks
 use Rattle.tab_model.proofs.data.Level.TheSendSync as level_marks
 use Rattle.tab_model.proofs.data.TableDef.TheSendSync as definition_marks
+use Rattle.tab_index.specs.contracts.further.Further as further
 use Rattle.tab_index.specs.contracts.index.Index as index
 use Rattle.tab_rows.specs.contracts.rows.Rows as rows
 use Rattle.tab_rows.specs.contracts.update.Update as update
@@ -51,14 +52,14 @@ use Rattle.tab_locks.specs.contracts.key_lock.KeyLock as key_lock
 use Rattle.tab_locks.specs.contracts.tied_keys.TiedKeys as tied_keys
 use Rattle.tab_locks.proofs.holders.Holders.TheSendSync as holders_marks
 use Rattle.tab_waitdie.specs.contracts.ages.Ages as ages
-use Rattle.tab_manager.specs.contracts.machine.Machine as machine
+use Rattle.tab_core.specs.contracts.machine.Machine as machine
 use Rattle.tab_subs.specs.contracts.transaction.Transaction as transaction
 use Rattle.tab_subs.specs.contracts.session.Session as session
 use Rattle.tab_subs.specs.contracts.session.Session.TheInside as session_inside
 use Rattle.tab_subs.specs.contracts.subs.Subs as subs
 use Rattle.tab_subs.specs.contracts.subs.Subs.TheInside as subs_inside
 use Rattle.tab_subs.proofs.watched.Watched.TheSendSync as watched_marks
-use Rattle.tab_manager.specs.contracts.queue.Request as request
+use Rattle.tab_core.specs.contracts.queue.Request as request
 use Rattle.tab_journal.specs.contracts.base.Base as base
 use Rattle.tab_outbox.specs.declared.post.Post.{Ghosts}
 use Rattle.tab_core.specs.contracts.Core as core
@@ -148,11 +149,17 @@ rows-send = search (parts, Term-send, Term-sync, Records-send, Records-sync) dep
 rows-sync : IsSync rows.the_row
 rows-sync = search (parts, Term-send, Term-sync, Records-send, Records-sync) depth 30
 
+further-send : IsSend further.the_row
+further-send = search (parts, Term-send, Term-sync) depth 30
+
+further-sync : IsSync further.the_row
+further-sync = search (parts, Term-send, Term-sync) depth 30
+
 index-send : IsSend index.the_row
-index-send = search (parts, Term-send, Term-sync) depth 30
+index-send = declared_send index.the_type (search parts, (search (parts, Term-send, Term-sync) depth 30, (search (parts, further-send), tt)))
 
 index-sync : IsSync index.the_row
-index-sync = search (parts, Term-send, Term-sync) depth 30
+index-sync = declared_sync index.the_type (search parts, (search (parts, Term-send, Term-sync) depth 30, (search (parts, further-sync), tt)))
 
 table-send : IsSend table.the_row
 table-send = search (parts, rows-send, index-send, definition_marks.the_send, definition_marks.the_sync) depth 30
@@ -214,19 +221,6 @@ transaction-send = search (parts, store-send) depth 20
 request-send : IsSend request.the_row
 request-send = search (parts, operation-send) depth 20
 
-machine-send : IsSend machine.the_row
-machine-send =
-    declared_send machine.the_type (
-      search parts,
-      (
-        search (parts, catalog-send),
-        (
-          search (parts, ages-send),
-          (search (parts, request-send) depth 20, (search parts, (search parts, (search parts, (search (parts, limits_marks.the_send), tt))))),
-        ),
-      ),
-    )
-
 base-send : IsSend base.the_row
 base-send = search (parts, catalog-send, subscription_marks.the_send) depth 30
 
@@ -246,8 +240,24 @@ module _ (P : RattleType) (g : Ghosts P.Denot) where
   subs-send : IsSend P → IsSend (subs.the_row P g)
   subs-send p = view_send _ _ _ _ _ (declared_send (subs_inside.the_type P g) (search (parts, session-send p) depth 20, tt))
 
+  machine-send : IsSend P → IsSend (machine.the_row P g)
+  machine-send p =
+      declared_send (machine.the_type P g) (
+        search parts,
+        (
+          search (parts, catalog-send),
+          (
+            as_row_send (subs.the_field P g) (subs-send p),
+            (
+              search (parts, ages-send),
+              (search (parts, request-send) depth 20, (search parts, (search parts, (search parts, (search (parts, limits_marks.the_send), tt))))),
+            ),
+          ),
+        ),
+      )
+
   core-send : IsSend P → IsSend (core.the_row P g)
-  core-send p = search (parts, machine-send, subs-send) depth 30
+  core-send p = search (parts, machine-send) depth 30
 
 module _ (H : RattleType) (names : naming.Ghosts H.Denot) (rooms : host.Ghosts H.Denot) (waits : waiting.Ghosts H.Denot) (clones : cloning.Ghosts H.Denot) where
   pub Book-send : IsSend H → IsSend (book.the_row H names rooms waits clones)

@@ -24,7 +24,7 @@ use Rattle.tab_model.proofs.Schedules.{new_sound}
 use Rattle.tab_model.proofs.ReachedWaits.{new_rising, step_rising}
 use Rattle.tab_model.proofs.StandingLemmas.{new_follows, step_follows, fold_follows, forget_follows, history_of, commits_are, sent_is, watched_is, sent_grows, left_away}
 use Rattle.tab_journal.specs.Journals.{JournalView, fold_oldest, forget, is_full, full_weight, weight_in}
-use Rattle.tab_manager.specs.Steps.{takes_no_memory}
+use Rattle.tab_core.specs.Steps.{takes_no_memory}
 use Rattle.tab_post.specs.Ends.{empty_outbox}
 use Rattle.tab_book.specs.Running.{Running, IsRunning, HavePlaces, Holds}
 use Rattle.tab_book.specs.Steps.{Step, oldest_joined, folded, with_folds, has_to_fold, AreNeeded, FoldsWhileFull, StepsTo, MayFold, with_entries, leaves, has_free_seat, with_new_session, StepsFrom, KeepsPosts, ask_of, is_never_refused}
@@ -43,6 +43,8 @@ new_holds outbox seen limits n room limit = record {
 
 pub running : (outbox seen : ℕ) (σ : State) (j : JournalView) → Holds outbox seen σ j → IsRunning (record { state = σ; journal = j })
 running outbox seen σ j k = record {
+  past = k.past;
+  whole = k.stands.tied;
   history = history_of k.past j.base j.entries σ k.stands;
   commits = commits_are k.past j.base j.entries σ k.stands;
   sound = k.sound;

@@ -1,11 +1,12 @@
 -- What holds of a book whenever it is seen: its journal replays to its tables, its transactions were told right, and each
 -- session was sent what it is due (this project's own).
-use Rattle.std.specs.Prelude.{◌≡◌, ◌≤◌, ◌<◌, ℕ, List, ◌++◌, Some, IfSome, length}
+use Rattle.std.specs.Prelude.{◌≡◌, ◌≤◌, ◌<◌, ℕ, List, [], ◌++◌, Some, IfSome, length}
 use Rattle.std.specs.List.{AllByRecursion}
 use Rattle.tab_model.specs.declared.data.Entry.{Entry}
 use Rattle.tab_model.specs.declared.data.Item.{Item}
 use Rattle.tab_model.specs.Log.{commits_from}
 use Rattle.tab_model.specs.History.{in_force_since, slice_since, IsHistory}
+use Rattle.tab_model.specs.Run.{IsTied}
 use Rattle.tab_model.specs.Standing.{FollowsLog}
 use Rattle.tab_model.specs.State.{Session, State, session_at, level_in, IsSound}
 use Rattle.tab_model.specs.Reached.{IsRising}
@@ -23,6 +24,10 @@ pub record EndsWith (all xs : List Item) : Type 0 where
 
 -- what holds of a book whenever it is seen
 pub record IsRunning (b : Running) : Type 0 where
+  -- with what was folded into its base the journal is the log of the whole run: legal, its tables those of its commits run one after another,
+  -- each joined session sent exactly its slice
+  pub past : List Entry
+  pub whole : IsTied b.state (past ++ b.journal.entries) (λ m. [])
   -- the journal is legal from its base and ends in the tables
   pub history : IsHistory b.journal.base b.journal.entries b.state.tables
   -- so many commits were made

@@ -108,6 +108,19 @@ impl<H: Host> Book<H> {
             (λ r. Joins self.old r.0 (mailbox_of r.1) (received r.1) self.new) }
         ensures err { IfErr result (λ e. Refuses self.old e self.new) }
         ensures posts { KeepsPosts self.old.state self.new.state }
+        ensures running { IsRunning self.new }
+    {
+        let joined = self.seated(mailbox);
+        // Known of the book from here on is what its parts have to do with each other.
+        let _ = &self.core;
+        joined
+    }
+
+    fn seated(&mut self, mailbox: NewMailbox) -> Result<(u32, Inbox<H>), JoinFault>
+        ensures ok { IfOk result
+            (λ r. Joins self.old r.0 (mailbox_of r.1) (received r.1) self.new) }
+        ensures err { IfErr result (λ e. Refuses self.old e self.new) }
+        ensures posts { KeepsPosts self.old.state self.new.state }
     {
         if !self.has_free_seat() {
             return Err(JoinFault::Limit);

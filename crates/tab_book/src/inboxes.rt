@@ -3,6 +3,7 @@
 ghost use Rattle.std.specs.Prelude.{◌≡◌, Some};
 ghost use Rattle.tab_model.specs.State.{Session, session_at};
 ghost use Rattle.tab_post.specs.Ends.{mailbox_of, received};
+ghost use Rattle.tab_book.specs.Running.{IsRunning};
 ghost use Rattle.tab_book.specs.Inboxes.{Drains, TellsOverflow};
 ghost use Rattle.tab_book.specs.Steps.{KeepsPosts};
 
@@ -14,6 +15,19 @@ use tab_post::{Host, Inbox};
 impl<H: Host> Book<H> {
     /// Takes one item more at the session's inbox, or shows that all is taken, with an overflow that was not told yet.
     pub fn drained(&mut self, session: u32, inbox: &mut Inbox<H>) -> Drained
+        ensures drained { Drains self.old session (mailbox_of inbox.old) (received inbox.old) result
+            (received inbox.new) self.new }
+        ensures mailbox { mailbox_of inbox.new ≡ mailbox_of inbox.old }
+        ensures posts { KeepsPosts self.old.state self.new.state }
+        ensures running { IsRunning self.new }
+    {
+        let drained = self.next_at(session, inbox);
+        // Known of the book from here on is what its parts have to do with each other.
+        let _ = &self.core;
+        drained
+    }
+
+    fn next_at(&mut self, session: u32, inbox: &mut Inbox<H>) -> Drained
         ensures drained { Drains self.old session (mailbox_of inbox.old) (received inbox.old) result
             (received inbox.new) self.new }
         ensures mailbox { mailbox_of inbox.new ≡ mailbox_of inbox.old }

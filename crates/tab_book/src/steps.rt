@@ -6,8 +6,9 @@ ghost use Rattle.tab_model.specs.State.{IsSound, is_waiting, transaction_at};
 ghost use Rattle.tab_model.specs.Run.{entries};
 ghost use Rattle.tab_model.specs.Standing.{may_enter as may_enter_of};
 ghost use Rattle.tab_core.specs.Runs.{StepsTo as StepsCore};
-ghost use Rattle.tab_manager.specs.Steps.{takes_no_memory};
+ghost use Rattle.tab_core.specs.Steps.{takes_no_memory};
 ghost use Rattle.tab_book.specs.Releases.{is_retry, SaysReleases};
+ghost use Rattle.tab_book.specs.Running.{IsRunning};
 ghost use Rattle.tab_journal.specs.Journals.{is_full};
 ghost use Rattle.tab_book.specs.Steps.{ask_of, leaves as leaves_of, folded, oldest_joined as oldest_joined_of, with_entries, FoldsWhileFull, StepsFrom, StepsTo, MayFold, KeepsPosts};
 
@@ -32,6 +33,23 @@ impl<H: Host> Book<H> {
     /// the oldest are folded into the base first, until there is room for it, which takes memory; where that is refused, or
     /// the step's, nothing else changed.
     pub fn step(&mut self, session: u32, step: Step) -> Result<Answered, AllocError>
+        ensures done { IfOk result (λ r. StepsTo self.old session (ask_of step) r.told self.new) }
+        ensures free { IsTrue (takes_no_memory self.old.state session (ask_of step))
+            → IsFalse (is_full self.old.journal && may_enter_of self.old.state session
+            (ask_of step)) → IsOk result }
+        ensures err { OnErr result (MayFold self.old session (ask_of step) self.new) }
+        ensures posts { KeepsPosts self.old.state self.new.state }
+        ensures releases { IfOk result
+            (λ r. SaysReleases r.releases self.old.state self.new.state) }
+        ensures running { IsRunning self.new }
+    {
+        let answered = self.answered(session, step);
+        // Known of the book from here on is what its parts have to do with each other.
+        let _ = &self.core;
+        answered
+    }
+
+    fn answered(&mut self, session: u32, step: Step) -> Result<Answered, AllocError>
         ensures done { IfOk result (λ r. StepsTo self.old session (ask_of step) r.told self.new) }
         ensures free { IsTrue (takes_no_memory self.old.state session (ask_of step))
             → IsFalse (is_full self.old.journal && may_enter_of self.old.state session

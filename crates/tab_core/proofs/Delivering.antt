@@ -10,8 +10,8 @@ use Rattle.tab_model.specs.Run.{IsSplitByOverflow}
 use Rattle.tab_model.proofs.Splits.{IsSplit, split_fits}
 use Rattle.tab_subs.specs.Subscribers.{Subscriber, given, overflowed}
 use Rattle.tab_subs.specs.Deliveries.{first_of, rest_of, unwatched, given_all, IsDecided, AreDecided, joined_if, those_in}
-use Rattle.tab_manager.specs.Parts.{session_of}
-use Rattle.tab_manager.proofs.Keeping.{SameKeys}
+use Rattle.tab_core.specs.Parts.{session_of}
+use Rattle.tab_core.proofs.Keeping.{SameKeys}
 
 -- ---- who is given what keeps its number and its transaction
 

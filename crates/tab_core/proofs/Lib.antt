@@ -1,3 +1,15 @@
+pub mod Answering
+pub mod HeldLocks
+pub mod Keeping
+pub mod Moving
+pub mod CommitLemmas
+pub mod LevelEnds
+pub mod Numbers
+pub mod OperatingLemmas
+pub mod Places
+pub mod OneShots
+pub mod OutermostLemmas
+pub mod MachineSteps
 pub mod Delivering
 pub mod Batches
 pub mod OwingLemmas

@@ -30,10 +30,10 @@ use Rattle.tab_subs.specs.declared.answers.Taken.{Taken}
 use Rattle.tab_subs.specs.declared.answers.Taken.TheVariants as taken
 use Rattle.tab_subs.specs.declared.answers.Marked.{Marked}
 use Rattle.tab_subs.specs.declared.answers.Marked.TheVariants as mark
-use Rattle.tab_manager.specs.declared.step.Stepped.{Stepped}
-use Rattle.tab_manager.specs.Parts.{Parts, session_of, state_of}
-use Rattle.tab_manager.proofs.Keeping.{SameKeys}
-use Rattle.tab_manager.proofs.Places.{at_of}
+use Rattle.tab_core.specs.declared.step.Stepped.{Stepped}
+use Rattle.tab_core.specs.Parts.{Parts, session_of, state_of}
+use Rattle.tab_core.proofs.Keeping.{SameKeys}
+use Rattle.tab_core.proofs.Places.{at_of}
 use Rattle.tab_core.specs.Subscribing.{refused_by, marked_reply, taken_reply}
 use Rattle.tab_core.specs.Runs.{StepsTo}
 use Rattle.tab_core.proofs.SessionsLemmas.{at_session, none_at, some_at, number_at, changed, same_keys, changed_keys, change_itself}

@@ -28,15 +28,15 @@ use Rattle.tab_model.proofs.Splits.{none_handed}
 use Rattle.tab_model.proofs.SessionLists.{found}
 use Rattle.tab_subs.specs.Subscribers.{Subscriber}
 use Rattle.tab_subs.specs.Deliveries.{Owed, Delivers, AreDecided, given_all}
-use Rattle.tab_manager.specs.declared.step.Stepped.{Stepped}
-use Rattle.tab_manager.specs.Outermost.{outermost, outermost_of, ending_of, after_commit, Commits, CommitsBy}
-use Rattle.tab_manager.specs.Kept.{Agree, IsKept}
-use Rattle.tab_manager.specs.Parts.{Parts, session_of, state_of}
-use Rattle.tab_manager.specs.Redefining.{Redefines, RedefinesBy}
-use Rattle.tab_manager.specs.Steps as manager
-use Rattle.tab_manager.specs.Steps.{asks_for_none, is_told_for_none, tells_for_none, takes_no_memory}
-use Rattle.tab_manager.proofs.Keeping.{SameKeys, kept_put, kept_same}
-use Rattle.tab_manager.proofs.StepsLemmas.{both_ways}
+use Rattle.tab_core.specs.declared.step.Stepped.{Stepped}
+use Rattle.tab_core.specs.Outermost.{outermost, outermost_of, ending_of, after_commit, Commits, CommitsBy}
+use Rattle.tab_core.specs.Kept.{Agree, IsKept}
+use Rattle.tab_core.specs.Parts.{Parts, session_of, state_of}
+use Rattle.tab_core.specs.Redefining.{Redefines, RedefinesBy}
+use Rattle.tab_core.specs.Steps as manager
+use Rattle.tab_core.specs.Steps.{asks_for_none, is_told_for_none, tells_for_none, takes_no_memory}
+use Rattle.tab_core.proofs.Keeping.{SameKeys, kept_put, kept_same}
+use Rattle.tab_core.proofs.MachineSteps.{both_ways}
 use Rattle.tab_core.proofs.SessionsLemmas.{same_keys}
 use Rattle.tab_core.specs.declared.committing.Updated.{Updated}
 use Rattle.tab_core.specs.Owing as owing
@@ -399,6 +399,10 @@ module _ (μ : State) (ss : List Subscriber) (n : ℕ) (c : Schema) (free : None
       by (Some r) e p = refused_schema_makes s (with_sessions ν ss) h (ap (λ (y : Stepped). y.entry) p.0)
       by None e p = schema_makes s ν h (ap (λ (y : Stepped). is_some y.entry) p.0) ss [] nothing s (p.0 ∙ ap (with_over []) (sym p.0))
 
+  -- whose machine has the same sessions still
+  pub quiet_schema_steps : removed_table c ≡ None → (s : Stepped) (ν : State) (ss' : List Subscriber) → ss' ≡ ss → Redefines before c s (with_sessions ν ss') → StepsTo before n a s (with_sessions ν ss')
+  quiet_schema_steps none s ν ss' e = subst (λ xs. Redefines before c s (with_sessions ν xs) → StepsTo before n a s (with_sessions ν xs)) (sym e) (quiet_schema_makes none s ν)
+
 pub not_removed : (c : Schema) → ((t : List ℕ) → c ≡ Remove t → ⊥) → removed_table c ≡ None
 not_removed (Create t os) h = refl
 not_removed (Remove t) h = absurd (h t refl)
@@ -418,6 +422,14 @@ removes μ ss n c free t is x ν h made ss'' over expected m expected_is m_is d 
   where
     removed : Some t ≡ removed_table c
     removed = sym (ap removed_table is)
+
+-- whose machine has the same sessions before its end markers are put
+pub removal_steps : (μ : State) (ss : List Subscriber) (n : ℕ) (c : Schema) → None ≡ refused_by (with_sessions μ ss) n inside_refusal (session_at (map session_of ss) n) → (t : List ℕ) → c ≡ Remove t
+    → (x : Stepped) (ν : State) (ss' : List Subscriber) → ss' ≡ ss → Redefines (with_sessions μ ss) c x (with_sessions ν ss') → is_some x.entry ≡ true → (ss'' : List Subscriber) (over : List ℕ) (expected : Owed) (m : ℕ)
+    → expected ≡ record { number = m; items = map (λ (b : Subscriber). end_for (level_in b.watching) (Some t)) ss; ended = Some t } → m ≡ μ.commits + 1 → Delivers expected ss' ss'' over
+    → (s : Stepped) → s ≡ with_over over x → StepsTo (with_sessions μ ss) n (DoCommand (command.Schema c)) s (with_sessions ν ss'')
+removal_steps μ ss n c free t is x ν ss' e h made ss'' over expected m expected_is m_is d s told =
+    removes μ ss n c free t is x ν (subst (λ xs. Redefines (with_sessions μ ss) c x (with_sessions ν xs)) e h) made ss'' over expected m expected_is m_is (subst (λ xs. Delivers expected xs ss'' over) e d) s told
 
 -- ---- what is kept
 

@@ -12,7 +12,7 @@ use Rattle.tab_model.proofs.SoundSteps.{step_sound}
 use Rattle.tab_model.proofs.ReachedWaits.{step_rising}
 use Rattle.tab_model.proofs.TiedSteps.{step_tied}
 use Rattle.tab_model.specs.declared.ask.Ask.{Ask as AskWith}
-use Rattle.tab_manager.specs.declared.step.Stepped.{Stepped}
+use Rattle.tab_core.specs.declared.step.Stepped.{Stepped}
 use Rattle.tab_model.specs.State.{Outbox}
 use Rattle.tab_core.specs.Runs.{ask_of, asks_of, AllJoinEmpty, StepsTo, StepsOrNoMemory, RunsTo, taken_in}
 

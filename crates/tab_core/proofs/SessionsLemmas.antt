@@ -5,9 +5,9 @@ use Rattle.tab_model.specs.State.{Session, State, session_at}
 use Rattle.tab_model.specs.Outcome.{Ask, outcome, step_of, with_session}
 use Rattle.tab_model.proofs.SessionLists.{eq_true, found}
 use Rattle.tab_subs.specs.Subscribers.{Subscriber, IsHeldAt, at, change, nobody}
-use Rattle.tab_manager.specs.Parts.{Parts, session_of, state_of}
-use Rattle.tab_manager.proofs.Keeping.{SameKeys}
-use Rattle.tab_manager.proofs.Places.{at_of, change_of}
+use Rattle.tab_core.specs.Parts.{Parts, session_of, state_of}
+use Rattle.tab_core.proofs.Keeping.{SameKeys}
+use Rattle.tab_core.proofs.Places.{at_of, change_of}
 
 pub at_session : (σ : State) (over : List ℕ) (n : ℕ) (a : Ask) (o : Option Session) → session_at σ.sessions n ≡ o → outcome σ over n a ≡ step_of σ over n a o
 unfolding outcome

@@ -12,14 +12,14 @@ use Rattle.tab_model.specs.Outcome.{Ask}
 use Rattle.tab_model.specs.Run.{IsSplitByOverflow, put_ask, put_command}
 use Rattle.tab_model.proofs.Splits.{none_handed}
 use Rattle.tab_subs.specs.Subscribers.{Subscriber}
-use Rattle.tab_manager.specs.declared.step.Stepped.{Stepped}
-use Rattle.tab_manager.specs.Parts.{Parts, state_of}
-use Rattle.tab_manager.specs.Kept.{IsKept}
-use Rattle.tab_manager.specs.Quiet.{is_quiet}
-use Rattle.tab_manager.specs.Steps as manager
-use Rattle.tab_manager.specs.Steps.{asks_for_none, is_told_for_none}
-use Rattle.tab_manager.proofs.Keeping.{SameKeys, kept_put}
-use Rattle.tab_manager.proofs.StepsLemmas.{both_ways}
+use Rattle.tab_core.specs.declared.step.Stepped.{Stepped}
+use Rattle.tab_core.specs.Parts.{Parts, state_of}
+use Rattle.tab_core.specs.Kept.{IsKept}
+use Rattle.tab_core.specs.Quiet.{is_quiet}
+use Rattle.tab_core.specs.Steps as manager
+use Rattle.tab_core.specs.Steps.{asks_for_none, is_told_for_none}
+use Rattle.tab_core.proofs.Keeping.{SameKeys, kept_put}
+use Rattle.tab_core.proofs.MachineSteps.{both_ways}
 use Rattle.tab_core.specs.Runs.{StepsTo}
 
 -- ---- a step of the machine that puts nothing

@@ -17,9 +17,9 @@ use Rattle.tab_model.specs.Schemas.{table_of_schema}
 use Rattle.tab_model.specs.Standing.{levels_in, levels_of}
 use Rattle.tab_model.specs.State.{Transaction, Session, State, session_at, is_busy, is_waiting, level_in, mid_of, transaction_at, transaction_in}
 use Rattle.tab_model.proofs.SessionLists.{found}
-use Rattle.tab_manager.specs.declared.step.Stepped.{Stepped}
-use Rattle.tab_manager.specs.Steps.{is_told_for_none, tells_for_none}
-use Rattle.tab_manager.proofs.StepsLemmas.{schema_takes}
+use Rattle.tab_core.specs.declared.step.Stepped.{Stepped}
+use Rattle.tab_core.specs.Steps.{is_told_for_none, tells_for_none}
+use Rattle.tab_core.proofs.MachineSteps.{schema_takes}
 use Rattle.tab_core.specs.Runs.{StepsTo}
 use Rattle.tab_core.specs.Subscribing.{inside_refusal, refused_by}
 use Rattle.tab_core.proofs.SessionsLemmas.{at_session}

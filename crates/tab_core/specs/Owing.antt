@@ -1,5 +1,5 @@
 -- What a commit owes to those who watch the tables that it changes (Mnesia User's Guide, "Mnesia Event Handling").
-use Rattle.std.specs.Prelude.{◌≡◌, ℕ, List, Bool, true, false, Option, Some, None}
+use Rattle.std.specs.Prelude.{◌≡◌, ℕ, List, Bool, true, false, Option, Some, None, IfSome}
 use Rattle.tab_model.specs.declared.data.Entry.{Entry}
 use Rattle.tab_model.specs.declared.data.Entry.TheVariants.{Committed, Changed, Subscribed, Unsubscribed}
 use Rattle.std.specs.List.{filter, list_any}
@@ -9,7 +9,7 @@ use Rattle.tab_model.specs.Events.{change_all, events, surviving_changes}
 use Rattle.tab_model.specs.Operations.{table_of_change}
 use Rattle.tab_model.specs.State.{State, Transaction}
 use Rattle.tab_model.specs.Catalogs.{Catalog}
-use Rattle.tab_manager.specs.Outermost.{outermost}
+use Rattle.tab_core.specs.Outermost.{outermost}
 use Rattle.tab_subs.specs.Subscribers.{Subscriber, has_watcher}
 use Rattle.tab_core.specs.declared.committing.Updated.{Updated}
 
@@ -21,9 +21,9 @@ is_watched bs e = has_watcher bs e.tab
 abbrev pub are_watched : List Subscriber → List Change → Bool
 are_watched bs cs = list_any (λ c. has_watcher bs (table_of_change c)) cs
 
--- the tables after the changes, and the events that someone watches
+-- the tables after the changes, if they are there, and the events that someone watches
 pub record Updates (w : Catalog) (bs : List Subscriber) (age : ℕ) (cs : List Change) (u : Updated) : Type 0 where
-  pub tables : u.tables ≡ change_all w cs
+  pub tables : IfSome u.tables (λ t. t ≡ change_all w cs)
   pub events : u.events.items ≡ filter (is_watched bs) (events w age cs)
 
 -- nothing where no one watches

@@ -1,5 +1,5 @@
 -- Steps of a core, lists of them, and what a run of them leaves.
-use Rattle.std.specs.Prelude.{◌≡◌, ℕ, List, [], ◌∷◌, ◌++◌, Bool, true, false, map, ◌⊎◌}
+use Rattle.std.specs.Prelude.{◌≡◌, ℕ, List, [], ◌∷◌, ◌++◌, false, map, ◌⊎◌}
 use Rattle.tab_model.specs.declared.data.Entry.{Entry}
 use Rattle.tab_model.specs.declared.data.Item.{Item}
 use Rattle.tab_model.specs.declared.data.Reply.{Reply}
@@ -9,8 +9,8 @@ use Rattle.tab_model.specs.declared.ask.Ask.{Ask as AskWith}
 use Rattle.tab_model.specs.declared.ask.Ask.TheVariants.{Join, Leave, Retry, Take, Do as DoCommand}
 use Rattle.tab_model.specs.Outcome.{Ask, outcome}
 use Rattle.tab_model.specs.Run.{Allowed, JoinsEmpty, entries, delivered_by}
-use Rattle.tab_manager.specs.declared.step.Stepped.{Stepped}
-use Rattle.tab_manager.specs.Steps.{takes_no_memory}
+use Rattle.tab_core.specs.declared.step.Stepped.{Stepped}
+use Rattle.tab_core.specs.Steps.{takes_no_memory}
 
 -- what a step asks; f says what a post shows
 abbrev pub ask_of : {P : Type 0} → (P → Outbox) → AskWith P → Ask

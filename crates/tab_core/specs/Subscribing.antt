@@ -5,7 +5,7 @@ use Rattle.tab_model.specs.declared.data.Reply.{Reply}
 use Rattle.tab_model.specs.declared.data.Reply.TheVariants as reply
 use Rattle.tab_model.specs.State.{Session, State, is_waiting}
 use Rattle.tab_model.specs.Outcome.{refusal_if}
-use Rattle.tab_manager.specs.declared.step.Stepped.{Stepped}
+use Rattle.tab_core.specs.declared.step.Stepped.{Stepped}
 use Rattle.tab_subs.specs.declared.answers.Taken.{Taken}
 use Rattle.tab_subs.specs.declared.answers.Taken.TheVariants as taken
 use Rattle.tab_subs.specs.declared.answers.Marked.{Marked}

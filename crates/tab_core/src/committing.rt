@@ -8,24 +8,27 @@ ghost use Rattle.tab_model.specs.Events.{event_of};
 ghost use Rattle.tab_model.specs.State.{session_at};
 ghost use Rattle.tab_core.specs.Owing.{are_watched as are_watched_by, is_watched, Commits, Owes, Updates};
 ghost use Rattle.tab_core.specs.Runs.{StepsTo};
-ghost use Rattle.tab_manager.specs.Steps.{takes_no_memory};
-ghost use Rattle.tab_manager.specs.Parts.{parts_of, state_with};
-ghost use Rattle.tab_manager.specs.Kept.{IsKept};
+ghost use Rattle.tab_core.specs.Steps.{takes_no_memory};
+ghost use Rattle.tab_core.specs.Parts.{parts_of, state_with};
+ghost use Rattle.tab_core.specs.Kept.{Agree, IsKept};
+ghost use Rattle.tab_core.specs.Outermost.{outermost, Commits as CommitsOutermost, Ends};
+ghost use Rattle.tab_model.specs.State.{Transaction as Opened};
 ghost use Rattle.tab_core.specs.Subscribing.{inside_refusal, refused_by};
 
 use crate::Core;
-use crate::step::with_overflowed;
+use crate::ending::Ending;
+use crate::machine::Machine;
+use crate::step::{Stepped, with_overflowed};
 use std::alloc::{AllocError, Global};
-use tab_manager::{Ending, Machine, Stepped};
 use tab_model::{Event, Reply, Schema};
 use tab_outbox::Post;
 use tab_rows::Update;
 use tab_subs::Subs;
 use tab_tables::{Catalog, Changing, table_of_update};
 
-/// The tables that a commit leaves, and those of its events that someone watches.
+/// The tables after a commit, unless the commit makes its only change itself; and those of its events that someone watches.
 pub(crate) struct Updated {
-    pub tables: Catalog,
+    pub tables: Option<Catalog>,
     pub events: Vec<Event>,
 }
 
@@ -38,7 +41,7 @@ impl Drop for Updated {
 }
 
 impl Updated {
-    fn into_tables(self) -> Catalog
+    fn into_tables(self) -> Option<Catalog>
         ensures { result ≡ self.tables }
     {
         let Updated { tables, events } = self;
@@ -56,19 +59,13 @@ impl<P: Post + Drop> Core<P> {
             → IsOk result }
         ensures err { OnErr result (self.new ≡ self.old) }
     {
-        let Some(ending) = self.machine.outermost(&self.subs, session) else {
-            return self.machine.commit(&mut self.subs, session);
+        let Some(ending) = self.machine.outermost(session) else {
+            return self.machine.commit(session);
         };
-        let Some(updated) = expected(self.alloc, &self.machine.catalog, &self.subs, &ending)? else {
-            return self.machine.commit(&mut self.subs, session);
+        let Some(updated) = expected(self.machine.alloc, &self.machine, &ending)? else {
+            return self.machine.commit(session);
         };
-        deliver_commit(
-            self.alloc,
-            &mut self.machine,
-            &mut self.subs,
-            session,
-            updated,
-        )
+        deliver_commit(&mut self.machine, session, updated)
     }
 
     /// What the session itself refuses is looked for before any memory is taken.
@@ -111,41 +108,65 @@ impl<P: Post + Drop> Core<P> {
             return self.machine.schema(schema);
         };
         let number = next_commit(&self.machine)?;
-        let prepared = self.subs.prepare_end(self.alloc, table, number)?;
+        let prepared = self
+            .machine
+            .sessions
+            .prepare_end(self.machine.alloc, table, number)?;
         let stepped = self.machine.schema(schema)?;
         if stepped.entry.is_none() {
             return Ok(stepped);
         }
-        let over = self.subs.deliver(prepared);
+        let over = self.machine.sessions.deliver(prepared);
         Ok(with_overflowed(stepped, over))
     }
 }
 
 /// A commit whose tables and events are made. A refusal leaves all as it was.
 fn deliver_commit<P: Post + Drop>(
-    alloc: Global,
-    machine: &mut Machine,
-    subs: &mut Subs<P>,
+    machine: &mut Machine<P>,
     session: u32,
     updated: Updated,
 ) -> Result<Stepped, AllocError>
-    requires kept { IsKept (parts_of machine.old subs.old) }
-    requires ends { Commits (state_with machine.old subs.old) subs.old session updated }
+    requires kept { IsKept (parts_of machine.old) }
+    requires ends { Commits (state_with machine.old) machine.old.sessions session updated }
     ensures done { IfOk result
-        (λ s. StepsTo (state_with machine.old subs.old) session (DoCommand command.Commit) s
-        (state_with machine.new subs.new)) }
-    ensures kept { IsKept (parts_of machine.new subs.new) }
-    ensures err { OnErr result (state_with machine.new subs.new ≡ state_with machine.old subs.old) }
+        (λ s. StepsTo (state_with machine.old) session (DoCommand command.Commit) s
+        (state_with machine.new)) }
+    ensures kept { IsKept (parts_of machine.new) }
+    ensures err { OnErr result (state_with machine.new ≡ state_with machine.old) }
 {
     let number = next_commit(machine)?;
-    let prepared = subs.prepare(alloc, number, &updated.events)?;
-    let stepped = machine.commit_as(subs, session, updated.into_tables());
-    let over = subs.deliver(prepared);
+    let prepared = machine
+        .sessions
+        .prepare(machine.alloc, number, &updated.events)?;
+    let stepped = commit_to(machine, session, updated.into_tables())?;
+    let over = machine.sessions.deliver(prepared);
     Ok(with_overflowed(stepped, over))
 }
 
+/// The outermost commit of the session: with these tables, or else it makes its only change itself, in place where nothing is
+/// shared. Where memory is refused nothing changes.
+fn commit_to<P: Post + Drop>(
+    machine: &mut Machine<P>,
+    session: u32,
+    tables: Option<Catalog>,
+) -> Result<Stepped, AllocError>
+    requires kept { IsKept (parts_of machine.old) }
+    requires ends { (t : Opened) × Ends (state_with machine.old) session t tables }
+    ensures done { (t : Opened) → outermost (state_with machine.old) session ≡ Some t
+        → IfOk result
+        (λ s. CommitsOutermost (state_with machine.old) session t s (state_with machine.new)) }
+    ensures agree { Agree (parts_of machine.new) }
+    ensures err { OnErr result (state_with machine.new ≡ state_with machine.old) }
+{
+    match tables {
+        Some(tables) => Ok(machine.commit_as(session, tables)),
+        None => machine.commit(session),
+    }
+}
+
 // A number past a machine word is memory that is not there.
-fn next_commit(machine: &Machine) -> Result<u64, AllocError>
+fn next_commit<P: Post + Drop>(machine: &Machine<P>) -> Result<u64, AllocError>
     ensures { IfOk result (λ number. number ≡ machine.now.commits + 1) }
 {
     match machine.commits.checked_add(1) {
@@ -157,22 +178,39 @@ fn next_commit(machine: &Machine) -> Result<u64, AllocError>
 /// What a commit owes to who watches, if it owes anything.
 fn expected<P: Post + Drop>(
     alloc: Global,
-    tables: &Catalog,
-    subs: &Subs<P>,
+    machine: &Machine<P>,
     ending: &Ending<'_>,
 ) -> Result<Option<Updated>, AllocError>
-    ensures owes { IfOk result (Owes tables.now subs.now ending.now.age ending.now.updates.now) }
+    ensures owes { IfOk result
+        (Owes machine.now.catalog machine.now.sessions ending.now.age ending.now.updates.now) }
     ensures free { ending.now.updates.now ≡ [] → IsOk result }
 {
     if ending.updates.is_empty() {
         return Ok(None);
     }
-    let watched = are_watched(alloc, subs, ending.updates)?;
+    let watched = are_watched(alloc, &machine.sessions, ending.updates)?;
     if !watched {
         return Ok(None);
     }
-    let updated = changed_tables(alloc, tables, subs, ending)?;
+    let updated = updated_by(alloc, machine, ending)?;
     Ok(Some(updated))
+}
+
+/// The events of a commit that someone watches, with the tables after it if it has several changes.
+fn updated_by<P: Post + Drop>(
+    alloc: Global,
+    machine: &Machine<P>,
+    ending: &Ending<'_>,
+) -> Result<Updated, AllocError>
+    ensures { IfOk result
+        (Updates machine.now.catalog machine.now.sessions ending.now.age ending.now.updates.now) }
+{
+    let tables = &machine.catalog;
+    let subs = &machine.sessions;
+    match ending.updates {
+        [update] => only_event(alloc, tables, subs, ending.age, update),
+        _ => changed_tables(alloc, tables, subs, ending),
+    }
 }
 
 /// Whether someone watches a table of the changes.
@@ -207,7 +245,30 @@ fn changed_tables<P: Post + Drop>(
         changing = changing.changed(alloc, update, &ending.lender)?;
     }
     let tables = changing.into_catalog(alloc)?;
-    Ok(Updated { tables, events })
+    Ok(Updated {
+        tables: Some(tables),
+        events,
+    })
+}
+
+/// The event of a commit's only change, if someone watches its table. The tables stay unshared, so that the commit can make
+/// the change in place.
+fn only_event<P: Post + Drop>(
+    alloc: Global,
+    tables: &Catalog,
+    subs: &Subs<P>,
+    age: u64,
+    update: &Update,
+) -> Result<Updated, AllocError>
+    ensures { IfOk result (Updates tables.now subs.now age (update.now ∷ [])) }
+{
+    let changing = Changing::new(tables.share()?);
+    let mut events = Vec::new(alloc);
+    push_watched(alloc, &mut events, &changing, subs, age, update)?;
+    Ok(Updated {
+        tables: None,
+        events,
+    })
 }
 
 /// The event of a change that is about to be made, where someone watches its table.

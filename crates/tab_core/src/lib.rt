@@ -13,24 +13,33 @@ ghost use Rattle.tab_model.specs.Reached.{IsRising};
 ghost use Rattle.tab_model.specs.declared.ask.Ask.TheVariants.{Do as DoCommand};
 ghost use Rattle.tab_model.specs.Run.{IsTied};
 ghost use Rattle.tab_core.specs.Runs.{ask_of, asks_of, AllJoinEmpty, StepsTo, StepsOrNoMemory, RunsTo, taken_in};
-ghost use Rattle.tab_manager.specs.Steps.{takes_no_memory};
+ghost use Rattle.tab_core.specs.Steps.{takes_no_memory};
 
 mod committing;
 mod dump;
+mod ending;
+mod joining;
+mod levels;
+mod machine;
+mod operating;
+mod queue;
+mod redefining;
 mod seen;
 mod sessions;
 mod step;
 mod subscribing;
 
+use crate::machine::Machine;
+pub use machine::SESSIONS;
 use std::alloc::{AllocError, Global};
 use std::marker::Model;
-use tab_manager::Machine;
-pub use tab_manager::{Rest, SESSIONS, Stepped};
+pub use step::Stepped;
 pub use tab_model::Ask as Step;
 use tab_model::{Command, Limits, Reply, SharedReply};
 use tab_outbox::Post;
 use tab_subs::Subs;
 use tab_tables::Catalog;
+pub use tab_waitdie::Rest;
 
 /// A core: tables, sessions, and what each of them is told.
 ///
@@ -39,25 +48,23 @@ use tab_tables::Catalog;
 /// and each queued request is of its session's open transaction (`IsRising`).
 #[derive(Drop)]
 pub struct Core<P: Post> {
-    alloc: Global,
-    machine: Machine,
-    subs: Subs<P>,
+    machine: Machine<P>,
 }
 
 impl<P: Post> Model for Core<P> {
     ghost use Rattle.std.specs.Coded.{codes};
     ghost use Rattle.tab_term.specs.Code.{term_code, terms_code, pairs_code};
     ghost use Rattle.tab_model.specs.State.{State};
-    ghost use Rattle.tab_manager.specs.Parts.{parts_of, state_with};
-    ghost use Rattle.tab_manager.specs.Kept.{IsKept};
+    ghost use Rattle.tab_core.specs.Parts.{parts_of, state_with};
+    ghost use Rattle.tab_core.specs.Kept.{IsKept};
 
     ghost Value = { State };
 
     ghost coded = { Prim.hlevel (codes, term_code, terms_code, pairs_code) };
 
-    ghost view = { λ a. state_with a.machine a.subs };
+    ghost view = { λ a. state_with a.machine };
 
-    ghost invariant = { λ a. IsKept (parts_of a.machine a.subs) };
+    ghost invariant = { λ a. IsKept (parts_of a.machine) };
 }
 
 impl<P: Post + Drop> Core<P> {
@@ -67,9 +74,7 @@ impl<P: Post + Drop> Core<P> {
         ensures { result ≡ new limits }
     {
         Core {
-            alloc,
             machine: Machine::new(alloc, limits),
-            subs: Subs::new(alloc),
         }
     }
 
@@ -118,7 +123,7 @@ impl<P: Post + Drop> Core<P> {
             Command::Schema(schema) => self.schema(session, schema),
             Command::Subscribe(table, level, dump) => self.subscribe(session, table, level, dump),
             Command::Unsubscribe(table, level) => self.unsubscribe(session, table, level),
-            command => self.machine.command(&mut self.subs, session, command),
+            command => self.machine.command(session, command),
         };
         // Known of the core from here on is that it is sound.
         let _ = &self.machine;

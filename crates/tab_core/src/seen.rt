@@ -5,9 +5,9 @@ ghost use Rattle.tab_model.specs.Standing.{is_joined, levels_of};
 ghost use Rattle.tab_model.specs.State.{is_waiting, session_at};
 ghost use Rattle.tab_outbox.specs.Mailboxes.{Meets};
 
-use crate::Core;
+use crate::machine::SESSIONS;
+use crate::{Core, Rest};
 use arrayvec::ArrayVec;
-use tab_manager::{Rest, SESSIONS};
 use tab_outbox::{Mailbox, Met, Post};
 
 impl<P: Post + Drop> Core<P> {
@@ -15,7 +15,7 @@ impl<P: Post + Drop> Core<P> {
     pub fn joined(&self, session: u64) -> bool
         ensures { result ≡ is_joined self.now session }
     {
-        self.subs.place(session).is_some()
+        self.machine.sessions.place(session).is_some()
     }
 
     /// Whether the session waits for a lock.
@@ -27,12 +27,31 @@ impl<P: Post + Drop> Core<P> {
 
     /// How the session's rest stands: whether it was restarted for a lock that is not free yet.
     pub fn rest(&self, session: u32) -> Rest {
-        self.machine.rest(&self.subs, session)
+        let sessions = &self.machine.sessions;
+        let Some(place) = sessions.place(session as u64) else {
+            return Rest::Over;
+        };
+        match sessions.transaction(place) {
+            Some(transaction) => self.machine.ages.rest(transaction.age),
+            None => Rest::Over,
+        }
     }
 
     /// The sessions that wait and would be granted their lock now, or rest and may go on.
     pub fn ready(&self) -> ArrayVec<u32, SESSIONS> {
-        self.machine.ready(&self.subs)
+        let sessions = &self.machine.sessions;
+        let mut ready = ArrayVec::new();
+        for place in 0..sessions.len() {
+            if let Some(transaction) = sessions.transaction(place) {
+                if self.machine.ages.is_ready(transaction.age) {
+                    // There is a place for each session, and each number is of 32 bits.
+                    if let Ok(number) = u32::try_from(sessions.number(place)) {
+                        let _full = ready.try_push(number);
+                    }
+                }
+            }
+        }
+        ready
     }
 
     /// Whether some session waits or rests.
@@ -48,7 +67,7 @@ impl<P: Post + Drop> Core<P> {
             ≡ (nat_lt self.now.greatest session && nat_lt
             (length self.now.sessions) self.now.limits.sessions) }
     {
-        self.machine.admits(&self.subs, session)
+        self.machine.admits(session)
     }
 
     /// The greatest number that has joined.
@@ -62,7 +81,7 @@ impl<P: Post + Drop> Core<P> {
     pub fn levels(&self, session: u32) -> u64
         ensures { result ≡ min (levels_of self.now session) (2 ^ 64 - 1) }
     {
-        self.machine.levels(&self.subs, session)
+        self.machine.levels(session)
     }
 
     /// The post of a session that is joined.
@@ -70,7 +89,7 @@ impl<P: Post + Drop> Core<P> {
         ensures { option_map (λ p. P.outbox p.now) result
             ≡ option_map (λ s. s.outbox) (session_at self.now.sessions session) }
     {
-        self.subs.post(session as u64)
+        self.machine.sessions.post(session as u64)
     }
 
     /// The number of the session's overflow, where it was not told yet. None of one that isn't joined.
@@ -78,7 +97,7 @@ impl<P: Post + Drop> Core<P> {
         ensures { MatchOption (session_at self.now.sessions session) (result ≡ None)
             (λ s. result ≡ s.overflow) }
     {
-        self.subs.overflow(session as u64)
+        self.machine.sessions.overflow(session as u64)
     }
 }
 
@@ -91,6 +110,6 @@ impl<P: Mailbox + Drop> Core<P> {
         ensures met { Meets (option_map (λ s. s.outbox) (session_at self.old.sessions session))
             (P.mailbox end.old) (P.taken end.old) result (P.taken end.new) }
     {
-        self.subs.meet(session as u64, end)
+        self.machine.sessions.meet(session as u64, end)
     }
 }

@@ -5,12 +5,12 @@ ghost use Rattle.tab_model.specs.State.{IsSound};
 ghost use Rattle.tab_model.specs.Reached.{IsRising};
 ghost use Rattle.tab_model.specs.declared.ask.Ask.TheVariants.{Join, Leave, Retry, Take};
 ghost use Rattle.tab_core.specs.Runs.{StepsTo};
-ghost use Rattle.tab_manager.specs.Steps.{takes_no_memory};
+ghost use Rattle.tab_core.specs.Steps.{takes_no_memory};
 ghost use Rattle.tab_core.specs.Subscribing.{taken_reply as taken_reply_of};
 
 use crate::Core;
+use crate::step::Stepped;
 use std::alloc::AllocError;
-use tab_manager::Stepped;
 use tab_model::Reply;
 use tab_outbox::Post;
 use tab_subs::Taken;
@@ -23,7 +23,7 @@ impl<P: Post + Drop> Core<P> {
             → IsOk result }
         ensures err { OnErr result (self.new ≡ self.old) }
     {
-        self.machine.join(&mut self.subs, session, post)
+        self.machine.join(session, post)
     }
 
     /// The session's transaction, locks, request, subscriptions and post are gone. Takes no memory.
@@ -32,7 +32,7 @@ impl<P: Post + Drop> Core<P> {
         ensures sound { IsSound self.new }
         ensures rising { IsRising self.new }
     {
-        self.machine.leave(&mut self.subs, session)
+        self.machine.leave(session)
     }
 
     /// The session asks again for the lock that it waits for: whole or, where memory that it takes is refused, not at all.
@@ -43,7 +43,7 @@ impl<P: Post + Drop> Core<P> {
         ensures sound { IsSound self.new }
         ensures rising { IsRising self.new }
     {
-        self.machine.retry(&mut self.subs, session)
+        self.machine.retry(session)
     }
 
     /// The next item of the session's post, else an overflow that it was not told yet. Takes no memory.
@@ -52,7 +52,7 @@ impl<P: Post + Drop> Core<P> {
         ensures sound { IsSound self.new }
         ensures rising { IsRising self.new }
     {
-        let taken = self.subs.take(session as u64);
+        let taken = self.machine.sessions.take(session as u64);
         taken_reply(taken)
     }
 }

@@ -1,10 +1,41 @@
-//! A step with those whose posts refused its items.
+//! What a step replies, and what it adds to the log.
 
-ghost use Rattle.std.specs.Prelude.{◌≡◌, option_map};
+ghost use Rattle.std.specs.Prelude.{◌≡◌, None, option_map};
 ghost use Rattle.tab_core.specs.Owing.{with_overflowed as with_overflowed_of};
 
-use tab_manager::Stepped;
-use tab_model::{Entry, Numbers};
+use tab_model::{Entry, Numbers, Reply, SharedReply};
+
+/// What a step answers, and what it adds to the log.
+#[derive(Drop)]
+pub struct Stepped {
+    pub reply: SharedReply,
+    pub entry: Option<Entry>,
+}
+
+impl Stepped {
+    /// A step that adds nothing to the log.
+    pub fn without_entry(reply: Reply) -> Stepped
+        ensures { result ≡ record { reply = reply; entry = None } }
+    {
+        Stepped::told(SharedReply::new(reply))
+    }
+
+    /// What an operation was told, which its trace may share.
+    pub fn told(reply: SharedReply) -> Stepped
+        ensures { result ≡ record { reply = reply; entry = None } }
+    {
+        Stepped { reply, entry: None }
+    }
+
+    /// The reply alone.
+    pub fn into_reply(self) -> SharedReply
+        ensures { result ≡ self.reply }
+    {
+        let Stepped { reply, entry } = self;
+        drop(entry);
+        reply
+    }
+}
 
 /// The step with those whose posts refused its items.
 pub(crate) fn with_overflowed(stepped: Stepped, over: Numbers) -> Stepped

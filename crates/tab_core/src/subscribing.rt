@@ -6,15 +6,15 @@ ghost use Rattle.tab_model.specs.declared.data.Level.{Level as LevelOf};
 ghost use Rattle.tab_model.specs.declared.ask.Ask.TheVariants.{Do as DoCommand};
 ghost use Rattle.tab_model.specs.Outcome.{is_at as is_at_of, subscribe_refusal as subscribe_refusal_of, unsubscribe_refusal as unsubscribe_refusal_of};
 ghost use Rattle.tab_model.specs.State.{session_at};
-ghost use Rattle.tab_manager.specs.Steps.{is_told_for_none, takes_no_memory};
+ghost use Rattle.tab_core.specs.Steps.{is_told_for_none, takes_no_memory};
 ghost use Rattle.tab_core.specs.Subscribing.{marked_reply as marked_reply_of, refused_by};
 ghost use Rattle.tab_core.specs.Runs.{StepsTo};
 
 use crate::Core;
 use crate::dump::dump_of;
+use crate::step::Stepped;
 use std::alloc::AllocError;
 use tab_events::Level;
-use tab_manager::Stepped;
 use tab_model::{Entry, Reply, SharedReply};
 use tab_outbox::Post;
 use tab_subs::Marked;
@@ -41,11 +41,12 @@ impl<P: Post + Drop> Core<P> {
         if let Some(refusal) = self.subscribe_refusal(session, &table)? {
             return Ok(Stepped::without_entry(refusal));
         }
-        let records = dump_of(self.alloc, &self.machine.catalog, &table, dump)?;
-        let named = table.try_clone(self.alloc)?;
+        let records = dump_of(self.machine.alloc, &self.machine.catalog, &table, dump)?;
+        let named = table.try_clone(self.machine.alloc)?;
         let marked = self
-            .subs
-            .subscribe(self.alloc, session as u64, named, level, records)?;
+            .machine
+            .sessions
+            .subscribe(self.machine.alloc, session as u64, named, level, records)?;
         Ok(marked_reply(
             marked,
             Entry::Subscribed {
@@ -70,14 +71,14 @@ impl<P: Post + Drop> Core<P> {
         if let Some(refusal) = self.session_refusal(session) {
             return Ok(Some(refusal));
         }
-        if self.subs.overflow(session as u64).is_some() {
+        if self.machine.sessions.overflow(session as u64).is_some() {
             return Ok(Some(Reply::OverflowUntold));
         }
         if self.machine.catalog.table(table).is_none() {
-            return Ok(Some(Reply::UnknownTable(table.try_clone(self.alloc)?)));
+            return Ok(Some(Reply::UnknownTable(table.try_clone(self.machine.alloc)?)));
         }
-        if self.subs.level(session as u64, table).is_some() {
-            return Ok(Some(Reply::AlreadySubscribed(table.try_clone(self.alloc)?)));
+        if self.machine.sessions.level(session as u64, table).is_some() {
+            return Ok(Some(Reply::AlreadySubscribed(table.try_clone(self.machine.alloc)?)));
         }
         Ok(None)
     }
@@ -87,7 +88,7 @@ impl<P: Post + Drop> Core<P> {
         ensures { result
             ≡ refused_by self.now session (λ s. None) (session_at self.now.sessions session) }
     {
-        if self.subs.place(session as u64).is_none() {
+        if self.machine.sessions.place(session as u64).is_none() {
             return Some(Reply::BadSession);
         }
         if self.machine.waits(session) {
@@ -114,7 +115,10 @@ impl<P: Post + Drop> Core<P> {
         if let Some(refusal) = self.unsubscribe_refusal(session, &table, level)? {
             return Ok(Stepped::without_entry(refusal));
         }
-        let marked = self.subs.unsubscribe(self.alloc, session as u64, &table)?;
+        let marked = self
+            .machine
+            .sessions
+            .unsubscribe(self.machine.alloc, session as u64, &table)?;
         Ok(marked_reply(marked, Entry::Unsubscribed(session as u64, table)))
     }
 
@@ -136,10 +140,10 @@ impl<P: Post + Drop> Core<P> {
         if let Some(refusal) = self.session_refusal(session) {
             return Ok(Some(refusal));
         }
-        if is_at(self.subs.level(session as u64, table), level) {
+        if is_at(self.machine.sessions.level(session as u64, table), level) {
             return Ok(None);
         }
-        Ok(Some(Reply::NotSubscribed(table.try_clone(self.alloc)?)))
+        Ok(Some(Reply::NotSubscribed(table.try_clone(self.machine.alloc)?)))
     }
 }
 

@@ -8,9 +8,8 @@ use Rattle.std.proofs.lemmas.List.{at_drop_more, map-append, length-set, take-ap
 use Rattle.std.proofs.lemmas.List.Elements.{All-append, All-take, All-cons, All-drop}
 use Rattle.tab_model.specs.Definitions.{add_number, less_number}
 use Rattle.tab_model.specs.Tables.{Rows}
-use Rattle.tab_index.specs.IndexOf.{IsIndexOf}
 use Rattle.tab_index.specs.declared.index.Index.{Index}
-use Rattle.tab_index.specs.Indexed.{positions, AreIndexesOf}
+use Rattle.tab_index.specs.Indexed.{positions, IsOf, AreIndexesOf}
 
 -- one more index, for the next position
 pub next_position : (indexes new : List Index) (x : Index) (ps : List ℕ) (i d : ℕ) (all : List ℕ) → i < length ps → x.position ≡ get_or ps i d → new ≡ indexes ++ x ∷ []
@@ -21,9 +20,6 @@ next_position indexes new x ps i d all h is more before =
     ∙ ap (λ z. positions indexes ++ (z ∷ drop (i + 1) ps)) is ∙ ap (λ z. positions indexes ++ z) (sym (at_drop_more (λ z. z) ps i d h)) ∙ before
 
 -- ---- indexes that a loop changes, one after another
-
-abbrev IsOf : Rows → Index → Type 0
-IsOf rows i = IsIndexOf rows i.position i.keys
 
 -- the first n are of these records
 abbrev pub FirstAreOf : Rows → List Index → ℕ → Type 0

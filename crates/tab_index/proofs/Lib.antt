@@ -1,5 +1,9 @@
+pub mod CountLemmas
 pub mod IndexOfLemmas
+pub mod FurtherLemmas
 pub mod RowsLemmas
+pub mod FurtherRows
 pub mod BoundKeyLemmas
 pub mod IndexedLemmas
 pub mod PairsLemmas
+pub mod FurtherPairs

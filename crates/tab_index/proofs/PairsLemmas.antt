@@ -19,13 +19,13 @@ use Rattle.tab_term.specs.Same.{same, same_equiv}
 use Rattle.tab_term.specs.View.{term}
 use Rattle.tab_term.proofs.Total.{term_total}
 use Rattle.tab_map.specs.Entries.{lookup, insert_entry, Ascends}
-use Rattle.tab_map.specs.KeyList.{insert_key, KeysAscend}
+use Rattle.tab_map.specs.KeyList.{contains_key, insert_key, KeysAscend}
 use Rattle.tab_map.proofs.AscendsLemmas.{ascends_insert, insert_later, lookup_later, not_empty}
 use Rattle.tab_model.specs.Tables.{Rows, key, at}
 use Rattle.tab_model.specs.WholeTables.{element}
-use Rattle.tab_index.specs.IndexOf.{Entry, keys_in, has_value, is_pair, IsIndexOf, IsWith}
+use Rattle.tab_index.specs.IndexOf.{Entry, keys_in, has_pair, has_value, is_pair, IsIndexOf, IsWith}
 use Rattle.tab_index.specs.Pairs.{Pair, pair_of, value_cmp, are_paired, HasPairs, EndsWith, EndsUpTo, IsNext}
-use Rattle.tab_index.proofs.IndexOfLemmas.{one_term, keys_ascend_insert, with_new}
+use Rattle.tab_index.proofs.IndexOfLemmas.{one_term, keys_ascend_insert, with_new, with_old}
 
 pub value_total : IsTotalOrder value_cmp
 value_total = on_total (λ (q : Pair). canon q.0) nat_list_cmp_total
@@ -142,19 +142,25 @@ first_key es v k s is none = record {
 pub first_entry : (v k : Term) → IsNext [] ((v, k ∷ []) ∷ []) (term v, term k)
 first_entry v k = first_key [] v k tt refl refl
 
+above_last : (before : List Entry) (e : Entry) (v : Term) → EndsUpTo (before ++ e ∷ []) (term v) → same (term e.0) (term v) ≡ false → term_cmp v e.0 ≡ Greater
+above_last before e v up other = after_last (term_cmp v e.0) (up.last before e refl).0 (sym (matches_same (term v) (term e.0)) ∙ same_sym (term v) (term e.0) ∙ other)
+
+-- no entry has it
+not_there : (before : List Entry) (e : Entry) (v : Term) → EndsUpTo (before ++ e ∷ []) (term v) → same (term e.0) (term v) ≡ false → lookup term_cmp v (before ++ e ∷ []) ≡ None
+not_there before e v up other =
+    let above = above_last before e v up other in
+    lookup_later term_total v e before [] up.ascends (never (term_cmp v e.0) above) ∙ ap (λ o. match_ordering o None (Some e.1) None) above
+
 pub entry_after : (before : List Entry) (e : Entry) (v k : Term) → EndsUpTo (before ++ e ∷ []) (term v) → same (term e.0) (term v) ≡ false
     → IsNext (before ++ e ∷ []) ((before ++ e ∷ []) ++ (v, k ∷ []) ∷ []) (term v, term k)
 entry_after before e v k up other = first_key (before ++ e ∷ []) v k up.ascends
-    (insert_later term_total (v, k ∷ []) e before [] up.ascends not_less
+    (insert_later term_total (v, k ∷ []) e before [] up.ascends (never (term_cmp v e.0) above)
     ∙ ap (λ o. before ++ match_ordering o ((v, k ∷ []) ∷ e ∷ []) ((v, k ∷ []) ∷ []) (e ∷ (v, k ∷ []) ∷ [])) above
     ∙ sym (append_assoc before (e ∷ []) ((v, k ∷ []) ∷ [])))
-    (lookup_later term_total v e before [] up.ascends not_less ∙ ap (λ o. match_ordering o None (Some e.1) None) above)
+    (not_there before e v up other)
   where
     above : term_cmp v e.0 ≡ Greater
-    above = after_last (term_cmp v e.0) (up.last before e refl).0 (sym (matches_same (term v) (term e.0)) ∙ same_sym (term v) (term e.0) ∙ other)
-
-    not_less : term_cmp v e.0 ≡ Less → ⊥
-    not_less l = never (term_cmp v e.0) above l
+    above = above_last before e v up other
 
 -- ---- the last of a list
 
@@ -191,6 +197,37 @@ first_added es q value k fs none are made =
     subst (IsNext es fs) are
     (subst (λ z. IsNext es z (term value, term k)) (ap (λ z. z ++ (value, k ∷ []) ∷ []) (sym none) ∙ sym made)
     (subst (λ old. IsNext old ((value, k ∷ []) ∷ []) (term value, term k)) (sym none) (first_entry value k)))
+
+-- ---- a pair that is there, or isn't
+
+-- what the last entry has
+pub last_has : (es : List Entry) (n : ℕ) (e : Entry) (x : PlainTerm) (value k : Term) → n ≡ length es → 0 < length es → e ≡ get_or es (n - 1) e → EndsUpTo es x
+    → same (term e.0) (term value) ≡ true → has_pair es value k ≡ contains_key term_cmp k e.1
+last_has es n e x value k long some is up one =
+    let split = last_split es n e long some is in
+    ap₂ (λ z v. has_pair z v k) split.1 (sym (one_term e.0 value one))
+    ∙ ap (λ o. contains_key term_cmp k (keys_in o))
+    (lookup_later term_total e.0 e split.0 [] (subst (Ascends term_cmp) split.1 up.ascends) (not_below (term_cmp e.0 e.0) (tied_itself term_total e.0)) ∙ ap (λ o. match_ordering o None (Some e.1) None) (tied_itself term_total e.0))
+
+pub others_have : (es : List Entry) (n : ℕ) (e : Entry) (x : PlainTerm) (value k : Term) → n ≡ length es → 0 < length es → e ≡ get_or es (n - 1) e → EndsUpTo es x → x ≡ term value
+    → same (term e.0) (term value) ≡ false → has_pair es value k ≡ false
+others_have es n e x value k long some is up are other =
+    let split = last_split es n e long some is in
+    ap (λ z. has_pair z value k) split.1
+    ∙ ap (λ o. contains_key term_cmp k (keys_in o))
+    (not_there split.0 e value (subst (λ z. EndsUpTo z (term value)) split.1 (subst (EndsUpTo es) are up)) other)
+
+-- the last entry has the key
+pub key_there : (es : List Entry) (n : ℕ) (e : Entry) (q : Pair) (value k : Term) → n ≡ length es → 0 < length es → e ≡ get_or es (n - 1) e → EndsUpTo es q.0
+    → same (term e.0) (term value) ≡ true → (term value, term k) ≡ q → has_pair es value k ≡ true → IsNext es (set es (n - 1) e) q
+key_there es n e q value k long some is up one are there =
+    let split = last_split es n e long some is in
+    subst (λ fs. IsNext es fs q) (sym (ap (set es (n - 1)) is ∙ set-get_or es (n - 1) e)) (record {
+      with_pair = subst (λ (z : Pair). IsWith es es z.0 z.1) are (with_old es value k (keys_in (lookup term_cmp value es)) refl there);
+      ascends = up.ascends;
+      last = subst (λ z. EndsWith z (λ y. y ≡ q.0)) (sym split.1)
+          (subst (λ x. EndsWith (split.0 ++ e ∷ []) (λ y. y ≡ x)) (ap term (one_term e.0 value one) ∙ ap (λ z. z.0) are) (ends_at split.0 e.0 e.1 (up.last split.0 e split.1).1));
+    })
 
 -- ---- along the pairs
 

@@ -3,6 +3,7 @@ use Rattle.std.specs.Prelude.{◌≡◌, ◌≤◌, ℕ, List, ◌∷◌, ◌++�
 use Rattle.tab_model.specs.Definitions.{add_number}
 use Rattle.std.specs.List.{All}
 use Rattle.tab_index.specs.declared.index.Index.{Index}
+use Rattle.tab_index.specs.FurtherOf.{IsFurtherOf, AreApart}
 use Rattle.tab_index.specs.IndexOf.{IsIndexOf}
 use Rattle.tab_model.specs.declared.data.Kind.{Kind}
 use Rattle.tab_model.specs.declared.data.TableDef.{TableDef}
@@ -12,9 +13,14 @@ use Rattle.tab_model.specs.Tables.{Rows, is_ordered}
 abbrev pub positions : List Index → List ℕ
 positions indexes = map (λ i. i.position) indexes
 
+-- an index of these records, which counts the further records of a key that have a value
+pub record IsOf (rows : Rows) (i : Index) : Type 0 where
+  pub index : IsIndexOf rows i.position i.keys
+  pub further : IsFurtherOf rows i.position i.further.by_key
+
 -- each is an index of these records
 abbrev pub AreIndexesOf : Rows → List Index → Type 0
-AreIndexesOf rows indexes = All (λ i. IsIndexOf rows i.position i.keys) indexes
+AreIndexesOf rows indexes = All (IsOf rows) indexes
 
 -- where a new position belongs among those of indexes
 pub record IsPlace (indexes : List Index) (p n : ℕ) : Type 0 where
@@ -25,5 +31,6 @@ pub record IsPlace (indexes : List Index) (p n : ℕ) : Type 0 where
 pub record IsIndexed (def : TableDef) (rows : Kind × Rows) (indexes : List Index) : Type 0 where
   pub kind : rows.0 ≡ def.kind
   pub ordered : is_ordered rows.1 ≡ true
+  pub apart : AreApart rows.1
   pub positions_are : positions indexes ≡ def.indexes
   pub indexes_are : AreIndexesOf rows.1 indexes

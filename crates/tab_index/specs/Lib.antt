@@ -1,4 +1,5 @@
 pub mod IndexOf
+pub mod FurtherOf
 pub mod BoundKey
 pub mod Indexed
 pub mod Pairs

@@ -1,6 +1,6 @@
 -- Pairs of a value and a key, of which the entries of an index are made.
-use Rattle.std.specs.Prelude.{◌≡◌, ℕ, Bool, false, ◌&&◌, List, [], ◌∷◌, ◌++◌}
-use Rattle.std.specs.List.{list_any}
+use Rattle.std.specs.Prelude.{◌≡◌, ◌-◌, ℕ, Bool, false, ◌&&◌, List, [], ◌∷◌, ◌++◌}
+use Rattle.std.specs.List.{count_by, list_any}
 use Rattle.std.specs.Ordering.{on, is_lt}
 use Rattle.std.specs.declared.cmp.Ordering.{Ordering}
 use Rattle.tab_term.specs.declared.term.Term.{Term}
@@ -13,6 +13,7 @@ use Rattle.tab_map.specs.Entries.{Ascends}
 use Rattle.tab_map.specs.KeyList.{KeysAscend}
 use Rattle.tab_model.specs.Tables.{key}
 use Rattle.tab_model.specs.WholeTables.{element}
+use Rattle.tab_index.specs.FurtherOf.{KeyCounts, further_of}
 use Rattle.tab_index.specs.IndexOf.{Entry, has_pair, IsFilled, IsWith}
 
 -- a value and a key
@@ -35,6 +36,10 @@ are_paired qs x k = list_any (λ q. same x q.0 && same k q.1) qs
 pub record HasPairs (qs : List Pair) (es : List Entry) : Type 0 where
   pub pairs : (v k : Term) → has_pair es v k ≡ are_paired qs (term v) (term k)
   pub filled : IsFilled es
+
+-- a value and a key have a count of these pairs, less the first
+pub record CountsPairs (qs : List Pair) (ms : List KeyCounts) : Type 0 where
+  pub counts : (v k : Term) → further_of ms v k ≡ count_by (λ q. same (term v) q.0 && same (term k) q.1) qs - 1
 
 -- the last entry, if there is one, has such a value, and its keys ascend
 abbrev pub EndsWith : List Entry → (PlainTerm → Type 0) → Type 0

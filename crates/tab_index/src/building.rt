@@ -1,6 +1,6 @@
-//! The entries of an index, all at once: one sort of the records' values, and one walk over them in their order.
+//! What an index keeps, all at once: one sort of the records' values, and one walk over them in their order.
 
-ghost use Rattle.std.specs.Prelude.{◌≡◌, ◌++◌, map, IfOk, OnOk};
+ghost use Rattle.std.specs.Prelude.{◌≡◌, [], ◌++◌, map, IfOk, OnOk};
 ghost use Rattle.std.specs.Ordering.{is_lt};
 ghost use Rattle.std.specs.List.Sorted.{IsPermutation, IsSortedBy};
 ghost use Rattle.tab_term.specs.Data.{list as list_of, none as no_terms};
@@ -8,9 +8,11 @@ ghost use Rattle.tab_term.specs.Order.{term_cmp};
 ghost use Rattle.tab_term.specs.View.{term};
 ghost use Rattle.tab_map.specs.Entries.{Ascends};
 ghost use Rattle.tab_index.specs.IndexOf.{IsIndexOf};
-ghost use Rattle.tab_index.specs.Pairs.{pair_of, value_cmp, HasPairs, EndsUpTo, IsNext};
+ghost use Rattle.tab_index.specs.FurtherOf.{IsAdded, IsFurtherOf};
+ghost use Rattle.tab_index.specs.Pairs.{pair_of, value_cmp, HasPairs, CountsPairs, EndsUpTo, IsNext};
 
 use crate::element::{element, key, nil};
+use crate::further::Further;
 use std::alloc::{AllocError, Global};
 use std::cmp::Ordering;
 use std::marker::Model;
@@ -71,19 +73,21 @@ impl<'a> Pair<'a> {
     }
 }
 
-/// The entries of an index of these records at the position.
+/// The entries of an index of these records at the position, and the counts of the further records.
 pub fn entries_of(
     alloc: Global,
     position: u64,
     rows: &Rows,
-) -> Result<Map<Term, Set<Term>>, AllocError>
-    ensures { IfOk result (IsIndexOf rows.now.1 position) }
+) -> Result<(Map<Term, Set<Term>>, Further), AllocError>
+    ensures index { IfOk result (λ kept. IsIndexOf rows.now.1 position kept.0) }
+    ensures further { IfOk result (λ kept. IsFurtherOf rows.now.1 position kept.1.by_key) }
 {
     let nil = nil(alloc);
     let mut pairs = pairs_of(alloc, position, rows, &nil)?;
     sort_pairs(&mut pairs)?;
-    let entries = grouped(alloc, pairs.as_slice())?;
-    Map::from_sorted(alloc, entries)
+    let mut further = Further::new();
+    let entries = grouped(alloc, pairs.as_slice(), &mut further)?;
+    Ok((Map::from_sorted(alloc, entries)?, further))
 }
 
 // The pair of each record, in the order of the records.
@@ -128,30 +132,43 @@ fn sort_pairs(pairs: &mut Vec<Pair<'_>>) -> Result<(), AllocError>
     pairs.sort_by(|first, second| first.order(second))
 }
 
-// An entry for each value, in the order of the values.
-fn grouped(alloc: Global, pairs: &[Pair<'_>]) -> Result<Vec<(Term, Set<Term>)>, AllocError>
-    requires { IsSortedBy (λ a b. is_lt (value_cmp a b)) pairs.now }
+// An entry for each value, in the order of the values. Counts the pairs that come again.
+fn grouped(
+    alloc: Global,
+    pairs: &[Pair<'_>],
+    further: &mut Further,
+) -> Result<Vec<(Term, Set<Term>)>, AllocError>
+    requires sorted { IsSortedBy (λ a b. is_lt (value_cmp a b)) pairs.now }
+    requires none { further.old.by_key ≡ [] }
     ensures ascends { IfOk result (λ entries. Ascends term_cmp entries.items) }
     ensures pairs { IfOk result (λ entries. HasPairs pairs.now entries.items) }
+    ensures further { OnOk result (CountsPairs pairs.now further.new.by_key) }
 {
     let mut entries = Vec::new(alloc);
     for pair in pairs {
-        add_pair(&mut entries, alloc, pair)?;
+        add_pair(&mut entries, alloc, pair, further)?;
     }
     Ok(entries)
 }
 
-// Adds a pair whose value is not below the last entry's: its key to that entry, or an entry after that.
+// Adds a pair whose value is not below the last entry's: its key to that entry, or an entry after that. Where the key is there,
+// it is counted.
 fn add_pair(
     entries: &mut Vec<(Term, Set<Term>)>,
     alloc: Global,
     pair: &Pair<'_>,
+    further: &mut Further,
 ) -> Result<(), AllocError>
     requires { EndsUpTo entries.old.items pair.now.0 }
-    ensures { OnOk result (IsNext entries.old.items entries.new.items pair.now) }
+    ensures next { OnOk result (IsNext entries.old.items entries.new.items pair.now) }
+    ensures further { OnOk result
+        (IsAdded entries.old.items further.old.by_key further.new.by_key pair.now.0 pair.now.1) }
 {
     if let Some(last) = entries.last_mut() {
         if last.0 == *pair.value {
+            if last.1.contains(pair.key) {
+                return further.raise(alloc, pair.value, pair.key);
+            }
             return last.1.insert(alloc, pair.key.try_clone(alloc)?);
         }
     }

@@ -1,20 +1,22 @@
 //! One index of a table's records: for each value that records have at a position, the keys of those records.
 
-ghost use Rattle.std.specs.Prelude.{◌≡◌, ℕ, [], ◌∷◌, not, ◌&&◌, IfOk, OnOk, IsTrue, map, true};
-ghost use Rattle.std.specs.List.{filter, list_any};
+ghost use Rattle.std.specs.Prelude.{◌≡◌, [], ◌∷◌, IfOk, OnOk, IsTrue, map};
+ghost use Rattle.std.specs.List.{list_any};
 ghost use Rattle.tab_term.specs.Data.{list as list_of, none as no_terms};
 ghost use Rattle.tab_term.specs.Order.{term_cmp};
 ghost use Rattle.tab_term.specs.Same.{same};
 ghost use Rattle.tab_term.specs.View.{term, terms};
-ghost use Rattle.tab_model.specs.Tables.{key as key_of_row, apply, put, delete as delete_in, delete_object as delete_object_in, is_ordered};
+ghost use Rattle.tab_model.specs.Tables.{apply, at, put, delete as delete_in, delete_object as delete_object_in, is_ordered};
 ghost use Rattle.tab_model.specs.WholeTables.{element as element_of};
 ghost use Rattle.tab_model.specs.declared.data.Kind.TheVariants as kind;
 ghost use Rattle.tab_map.specs.Entries.{lookup, Ascends};
 ghost use Rattle.tab_map.specs.KeyList.{KeysAscend};
-ghost use Rattle.tab_index.specs.IndexOf.{keys_in, IsIndexOf, IsWith, IsWithout, has_value};
+ghost use Rattle.tab_index.specs.IndexOf.{keys_in, IsIndexOf, IsWith, IsWithout};
+ghost use Rattle.tab_index.specs.FurtherOf.{IsFurtherOf, AreApart};
 
 use crate::building::entries_of;
 use crate::element::{element, key, nil};
+use crate::further::Further;
 use std::alloc::{AllocError, Global};
 use tab_map::{Map, Set};
 use tab_model::{Change, Kind};
@@ -22,17 +24,24 @@ use tab_records::Iter;
 use tab_rows::{Form, Rows, Update};
 use tab_term::Term;
 
-/// An index at a position: each value with the keys of the records that have it there.
+/// An index at a position: each value with the keys of the records that have it there. Of several records of a key that have
+/// one value it counts those beside the first, so that a deletion of one looks at no other.
 pub struct Index {
     pub position: u64,
     keys: Map<Term, Set<Term>>,
+    further: Further,
 }
 
 // A derived Drop would be taken apart, field by field, at each exit of each caller.
 impl Drop for Index {
     fn drop(self) {
-        let Index { position: _, keys } = self;
+        let Index {
+            position: _,
+            keys,
+            further,
+        } = self;
         drop(keys);
+        drop(further);
     }
 }
 
@@ -41,10 +50,12 @@ impl Index {
     pub fn new(position: u64) -> Index
         ensures position { result.position ≡ position }
         ensures index { IsIndexOf [] result.position result.keys }
+        ensures further { IsFurtherOf [] result.position result.further.by_key }
     {
         Index {
             position,
             keys: Map::new(),
+            further: Further::new(),
         }
     }
 
@@ -55,6 +66,7 @@ impl Index {
         Ok(Index {
             position: self.position,
             keys: self.keys.share()?,
+            further: self.further.share()?,
         })
     }
 
@@ -71,16 +83,22 @@ impl Index {
         }
     }
 
-    /// Puts the key to the value.
-    fn put(&mut self, alloc: Global, value: &Term, key: &Term) -> Result<(), AllocError>
+    // Puts the key to the value, which has these other keys.
+    fn put(
+        &mut self,
+        alloc: Global,
+        mut keys: Set<Term>,
+        value: &Term,
+        key: &Term,
+    ) -> Result<(), AllocError>
+        requires keys { keys ≡ keys_in (lookup term_cmp value.now self.old.keys) }
+        requires in_order { KeysAscend term_cmp keys }
+        requires ascends { Ascends term_cmp self.old.keys }
         ensures position { self.new.position ≡ self.old.position }
+        ensures further { self.new.further ≡ self.old.further }
         ensures ok { OnOk result
             (IsWith self.old.keys self.new.keys (term value.now) (term key.now)) }
     {
-        let mut keys = self.keys_of(value)?;
-        if keys.contains(key) {
-            return Ok(());
-        }
         keys.insert(alloc, key.try_clone(alloc)?)?;
         self.keys.insert(alloc, value.try_clone(alloc)?, keys)
     }
@@ -88,6 +106,7 @@ impl Index {
     /// Takes the key from the value, and a value that has no other key with it.
     fn take(&mut self, alloc: Global, value: &Term, key: &Term) -> Result<(), AllocError>
         ensures position { self.new.position ≡ self.old.position }
+        ensures further { self.new.further ≡ self.old.further }
         ensures ok { OnOk result
             (IsWithout self.old.keys self.new.keys (term value.now) (term key.now)) }
     {
@@ -105,58 +124,61 @@ impl Index {
         self.keys.insert(alloc, value, left)
     }
 
-    /// Adds what a record has at the position.
-    pub fn add(&mut self, alloc: Global, row: &Term) -> Result<(), AllocError>
-        ensures position { self.new.position ≡ self.old.position }
-        ensures ok { OnOk result
-            (IsWith self.old.keys self.new.keys (element_of self.old.position (term row.now))
-            (key_of_row (term row.now))) }
-    {
-        let nil = nil(alloc);
-        self.put(alloc, element(row, self.position, &nil), key(row, &nil))
-    }
-
     /// The index of these records at the position, in one sort.
     pub fn of(alloc: Global, position: u64, rows: &Rows) -> Result<Index, AllocError>
         ensures position { IfOk result (λ index. index.position ≡ position) }
         ensures index { IfOk result (λ index. IsIndexOf rows.now.1 index.position index.keys) }
+        ensures further { IfOk result
+            (λ index. IsFurtherOf rows.now.1 index.position index.further.by_key) }
     {
+        let (keys, further) = entries_of(alloc, position, rows)?;
         Ok(Index {
             position,
-            keys: entries_of(alloc, position, rows)?,
+            keys,
+            further,
         })
     }
 
     // Takes out what the key's records have at the position.
     fn forget(&mut self, alloc: Global, rows: &Rows, key: &Term) -> Result<(), AllocError>
-        requires { IsIndexOf rows.now.1 self.old.position self.old.keys }
+        requires index { IsIndexOf rows.now.1 self.old.position self.old.keys }
+        requires further { IsFurtherOf rows.now.1 self.old.position self.old.further.by_key }
         ensures position { self.new.position ≡ self.old.position }
         ensures ok { OnOk result
             (IsIndexOf (delete_in rows.now.1 (term key.now)) self.new.position self.new.keys) }
+        ensures further { OnOk result
+            (IsFurtherOf (delete_in rows.now.1 (term key.now)) self.new.position
+            self.new.further.by_key) }
     {
         let nil = nil(alloc);
         for row in rows.at(key) {
             self.take(alloc, element(row, self.position, &nil), key)?;
         }
-        Ok(())
+        self.further.forget(alloc, key)
     }
 
     // A set's write, whose record takes the place of its key's records.
     fn replace(&mut self, alloc: Global, rows: &Rows, row: &Term) -> Result<(), AllocError>
         requires index { IsIndexOf rows.now.1 self.old.position self.old.keys }
+        requires further { IsFurtherOf rows.now.1 self.old.position self.old.further.by_key }
         requires ordered { IsTrue (is_ordered rows.now.1) }
         ensures position { self.new.position ≡ self.old.position }
         ensures ok { OnOk result
             (IsIndexOf (put kind.Set rows.now.1 (term row.now)) self.new.position
             self.new.keys) }
+        ensures further { OnOk result
+            (IsFurtherOf (put kind.Set rows.now.1 (term row.now)) self.new.position
+            self.new.further.by_key) }
     {
         let nil = nil(alloc);
         let key = key(row, &nil);
-        if self.has_only(rows.at(key), element(row, self.position, &nil), &nil) {
+        let value = element(row, self.position, &nil);
+        if self.has_only(rows.at(key), value, &nil) {
             return Ok(());
         }
         self.forget(alloc, rows, key)?;
-        self.add(alloc, row)
+        let keys = self.keys_of(value)?;
+        self.put(alloc, keys, value, key)
     }
 
     // Whether there is one record, and it has the value.
@@ -174,49 +196,71 @@ impl Index {
         }
     }
 
-    // A deletion of a record. The key stays where another of its records has the value.
-    fn forget_object(&mut self, alloc: Global, rows: &Rows, row: &Term) -> Result<(), AllocError>
+    // A bag's write. Where an equal record is there, it changes nothing.
+    fn append(&mut self, alloc: Global, rows: &Rows, row: &Term) -> Result<(), AllocError>
         requires index { IsIndexOf rows.now.1 self.old.position self.old.keys }
+        requires further { IsFurtherOf rows.now.1 self.old.position self.old.further.by_key }
         requires ordered { IsTrue (is_ordered rows.now.1) }
         ensures position { self.new.position ≡ self.old.position }
         ensures ok { OnOk result
-            (IsIndexOf (delete_object_in rows.now.1 (term row.now)) self.new.position
+            (IsIndexOf (put kind.Bag rows.now.1 (term row.now)) self.new.position
             self.new.keys) }
+        ensures further { OnOk result
+            (IsFurtherOf (put kind.Bag rows.now.1 (term row.now)) self.new.position
+            self.new.further.by_key) }
     {
         let nil = nil(alloc);
         let key = key(row, &nil);
         let value = element(row, self.position, &nil);
-        if self.has_another(rows.at(key), row, value, &nil) {
+        let keys = self.keys_of(value)?;
+        if !keys.contains(key) {
+            return self.put(alloc, keys, value, key);
+        }
+        if has_record(rows, key, row) {
+            return Ok(());
+        }
+        self.further.raise(alloc, value, key)
+    }
+
+    // A deletion of a record. The key stays where another of its records has the value.
+    fn forget_object(&mut self, alloc: Global, rows: &Rows, row: &Term) -> Result<(), AllocError>
+        requires index { IsIndexOf rows.now.1 self.old.position self.old.keys }
+        requires further { IsFurtherOf rows.now.1 self.old.position self.old.further.by_key }
+        requires ordered { IsTrue (is_ordered rows.now.1) }
+        requires apart { AreApart rows.now.1 }
+        ensures position { self.new.position ≡ self.old.position }
+        ensures ok { OnOk result
+            (IsIndexOf (delete_object_in rows.now.1 (term row.now)) self.new.position
+            self.new.keys) }
+        ensures further { OnOk result
+            (IsFurtherOf (delete_object_in rows.now.1 (term row.now)) self.new.position
+            self.new.further.by_key) }
+    {
+        let nil = nil(alloc);
+        let key = key(row, &nil);
+        if !has_record(rows, key, row) {
+            return Ok(());
+        }
+        let value = element(row, self.position, &nil);
+        let another = self.further.lower(alloc, value, key)?;
+        if another {
             return Ok(());
         }
         self.take(alloc, value, key)
     }
 
-    // Whether a record that isn't this one has the value.
-    fn has_another(&self, records: Iter<'_>, row: &Term, value: &Term, nil: &Term) -> bool
-        requires { term nil.now ≡ list_of no_terms }
-        ensures { result
-            ≡ list_any (has_value self.now.position (term value.now))
-            (delete_object_in records.entry (term row.now)) }
-    {
-        for other in records {
-            if row == other {
-                continue;
-            }
-            if element(other, self.position, nil) == value {
-                return true;
-            }
-        }
-        false
-    }
-
     /// Makes the index of `rows` that of the rows after the change.
     pub fn update(&mut self, alloc: Global, rows: &Rows, update: &Update) -> Result<(), AllocError>
         requires index { IsIndexOf rows.now.1 self.old.position self.old.keys }
+        requires further { IsFurtherOf rows.now.1 self.old.position self.old.further.by_key }
         requires ordered { IsTrue (is_ordered rows.now.1) }
+        requires apart { AreApart rows.now.1 }
         ensures position { self.new.position ≡ self.old.position }
         ensures ok { OnOk result
             (IsIndexOf (apply rows.now.0 rows.now.1 update.now) self.new.position self.new.keys) }
+        ensures further { OnOk result
+            (IsFurtherOf (apply rows.now.0 rows.now.1 update.now) self.new.position
+            self.new.further.by_key) }
     {
         match update.form() {
             Form::Only(only) => self.write(alloc, rows, only.row()),
@@ -226,10 +270,15 @@ impl Index {
 
     fn change(&mut self, alloc: Global, rows: &Rows, change: &Change) -> Result<(), AllocError>
         requires index { IsIndexOf rows.now.1 self.old.position self.old.keys }
+        requires further { IsFurtherOf rows.now.1 self.old.position self.old.further.by_key }
         requires ordered { IsTrue (is_ordered rows.now.1) }
+        requires apart { AreApart rows.now.1 }
         ensures position { self.new.position ≡ self.old.position }
         ensures ok { OnOk result
             (IsIndexOf (apply rows.now.0 rows.now.1 change.now) self.new.position self.new.keys) }
+        ensures further { OnOk result
+            (IsFurtherOf (apply rows.now.0 rows.now.1 change.now) self.new.position
+            self.new.further.by_key) }
     {
         match change {
             Change::Write(row) => self.write(alloc, rows, row),
@@ -240,14 +289,28 @@ impl Index {
 
     fn write(&mut self, alloc: Global, rows: &Rows, row: &Term) -> Result<(), AllocError>
         requires index { IsIndexOf rows.now.1 self.old.position self.old.keys }
+        requires further { IsFurtherOf rows.now.1 self.old.position self.old.further.by_key }
         requires ordered { IsTrue (is_ordered rows.now.1) }
         ensures position { self.new.position ≡ self.old.position }
         ensures ok { OnOk result
             (IsIndexOf (put rows.now.0 rows.now.1 (term row.now)) self.new.position self.new.keys) }
+        ensures further { OnOk result
+            (IsFurtherOf (put rows.now.0 rows.now.1 (term row.now)) self.new.position
+            self.new.further.by_key) }
     {
         match rows.kind() {
             Kind::Set => self.replace(alloc, rows, row),
-            Kind::Bag => self.add(alloc, row),
+            Kind::Bag => self.append(alloc, rows, row),
         }
+    }
+}
+
+// Whether an equal record is among those of the key.
+fn has_record(rows: &Rows, key: &Term, row: &Term) -> bool
+    ensures { result ≡ list_any (same (term row.now)) (at rows.now.1 (term key.now)) }
+{
+    match rows.entry(key) {
+        Some(entry) => entry.pair().1.contains(row),
+        None => false,
     }
 }

@@ -7,6 +7,7 @@
 
 mod building;
 mod element;
+mod further;
 mod index;
 mod indexes;
 mod matching;

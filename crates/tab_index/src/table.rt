@@ -9,6 +9,7 @@ ghost use Rattle.tab_model.specs.Definitions.{has_number, with_indexes, add_numb
 ghost use Rattle.tab_model.specs.Catalogs.{with_rows, with_def};
 ghost use Rattle.tab_rows.specs.Joined.{joined, IsInOrder};
 ghost use Rattle.tab_map.specs.KeyList.{KeysAscend};
+ghost use Rattle.tab_index.specs.FurtherOf.{AreApart};
 ghost use Rattle.tab_index.specs.IndexOf.{AreKeysWith, IsIndexOf};
 ghost use Rattle.tab_index.specs.Indexed.{positions, AreIndexesOf};
 
@@ -275,6 +276,7 @@ fn change_indexes(
 ) -> Result<(), AllocError>
     requires indexes { AreIndexesOf rows.now.1 indexes.old.items }
     requires ordered { IsTrue (is_ordered rows.now.1) }
+    requires apart { AreApart rows.now.1 }
     ensures positions { OnOk result (positions indexes.new.items ≡ positions indexes.old.items) }
     ensures indexes { OnOk result
         (AreIndexesOf (apply_in rows.now.0 rows.now.1 update.now) indexes.new.items) }

@@ -20,7 +20,7 @@ pub enum Next {
     Other,
     /// A beginning of a frame.
     Part,
-    /// Nothing has come in time.
+    /// Nothing has come in time, or the process was stopped meanwhile.
     Nothing,
 }
 
@@ -32,9 +32,14 @@ pub fn next_on(alloc: Global, stream: &TcpStream, hears: bool) -> Next {
         Ok(0) => Next::End,
         Ok(count) if hears && count <= LONGEST => next_in(alloc, &bytes[..count]),
         Ok(_) => Next::Other,
-        Err(error) if matches!(error.kind(), ErrorKind::WouldBlock) => Next::Nothing,
+        Err(error) if goes_on(error.kind()) => Next::Nothing,
         Err(_) => Next::End,
     }
+}
+
+/// Whether the stream is as it was: nothing came in time, or the process was stopped meanwhile.
+fn goes_on(kind: ErrorKind) -> bool {
+    matches!(kind, ErrorKind::WouldBlock | ErrorKind::Interrupted)
 }
 
 fn next_in(alloc: Global, bytes: &[u8]) -> Next {

@@ -115,6 +115,8 @@ impl<'a, H: Host, W: Write, G: Gate> Requests<'a, H, W, G> {
                         return Ok(Ending::Idle);
                     }
                 }
+                // A process that was stopped goes on: a read with a time limit is not begun again by the system.
+                Err(error) if matches!(error.kind(), ErrorKind::Interrupted) => {}
                 Err(_) => return Err(Unwritten),
             }
         }

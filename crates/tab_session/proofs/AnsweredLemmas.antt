@@ -11,8 +11,8 @@ use Rattle.tab_model.specs.declared.data.Entry.{Entry}
 use Rattle.tab_model.specs.declared.data.Reply.{Reply}
 use Rattle.tab_model.specs.declared.data.Reply.TheVariants.{NoMemory}
 use Rattle.tab_core.specs.Runs.{StepsTo}
-use Rattle.tab_manager.specs.Steps.{takes_no_memory}
-use Rattle.tab_manager.specs.declared.step.Stepped.{Stepped}
+use Rattle.tab_core.specs.Steps.{takes_no_memory}
+use Rattle.tab_core.specs.declared.step.Stepped.{Stepped}
 
 abbrev made_of : State → Reply → Option Entry → Outcome
 made_of μ r e = record { state = μ; reply = r; entry = e }

@@ -8,7 +8,7 @@ use Rattle.tab_model.specs.State.{State, Session, Outbox, session_at, transactio
 use Rattle.tab_model.specs.Standing.{is_joined}
 use Rattle.tab_model.specs.declared.ask.Ask.TheVariants.{Join}
 use Rattle.tab_model.specs.Outcome.{Outcome, step_of, step_without_entry, outcome}
-use Rattle.tab_manager.specs.Steps.{tells_for_none}
+use Rattle.tab_core.specs.Steps.{tells_for_none}
 use Rattle.tab_session.specs.StepsMade.{IsJoinRefused, JoinTakesMemory}
 
 of_joined : (σ : State) (n : ℕ) (b : Outbox) (o : Option Session) → is_some o ≡ true → step_of σ [] n (Join b) o ≡ step_without_entry σ reply.BadSession

@@ -14,7 +14,7 @@ use Rattle.tab_model.specs.declared.data.Reply.TheVariants.{BadTerm, BadCommand,
 use Rattle.tab_model.specs.declared.data.Item.{Item}
 use Rattle.tab_model.specs.Run.{delivered_by}
 use Rattle.tab_core.specs.Runs.{ask_of}
-use Rattle.tab_manager.specs.Steps.{takes_no_memory}
+use Rattle.tab_core.specs.Steps.{takes_no_memory}
 use Rattle.tab_proto.specs.Requests.{Request, request_term, IsSession, IsRequest, IsNumbered, HasNoNumber, AsksOneShot}
 use Rattle.tab_proto.specs.Replies.{response}
 use Rattle.tab_oneshot.specs.OneShots.{is_one_shot}

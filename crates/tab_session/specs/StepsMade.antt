@@ -7,7 +7,7 @@ use Rattle.tab_model.specs.Run.{Allowed}
 use Rattle.tab_model.specs.declared.data.Entry.{Entry}
 use Rattle.tab_model.specs.declared.data.Reply.{Reply}
 use Rattle.tab_model.specs.declared.data.Reply.TheVariants.{NoMemory}
-use Rattle.tab_manager.specs.Steps.{takes_no_memory}
+use Rattle.tab_core.specs.Steps.{takes_no_memory}
 
 -- the step was made, with those whose posts refused in it
 pub record IsStepMade (σ : State) (session : ℕ) (a : Ask) (r : Reply) (μ : State) : Type 0 where

@@ -1,11 +1,11 @@
 use Rattle.std.proofs.Common.{refl, ap, subst}
-use Rattle.tab_model.specs.State.{State, IsSound}
+use Rattle.tab_model.specs.State.{IsSound}
 use Rattle.tab_model.specs.Reached.{IsRising}
 use Rattle.tab_model.specs.Outcome.{Ask}
 use Rattle.tab_model.specs.declared.ask.Ask.TheVariants.{Do as DoCommand}
 use Rattle.tab_model.specs.declared.data.Command.{Command}
 use Rattle.tab_model.specs.declared.data.Command.TheVariants as command
-use Rattle.tab_manager.specs.Parts.{parts_of, state_with}
+use Rattle.tab_core.specs.Parts.{parts_of, state_with}
 use Rattle.tab_core.proofs.StepsLemmas.{Made, as_made, rising_of, command_makes, quiet, ok_sees, err_stays, free_sees}
 use Rattle.tab_core.proofs.Core.command.Goals as goal
 use Rattle.tab_core.proofs.Core.command.Goals.{in-Commit, in-Schema, in-Subscribe, in-Unsubscribe, in_default}
@@ -31,8 +31,8 @@ returns g c =
           let all = w.unsubscribe-stepped.ensures in
           as_made ρ _ _ n _ (DoCommand (command.Unsubscribe w.in-Unsubscribe.table w.in-Unsubscribe.level)) _ _ (ap (λ (k : Command). let a : Ask = DoCommand k in a) w.in-Unsubscribe.is) w.stepped-is w.self-is (all.done, all.free, all.err)
       | in_default w ↦
-          let σ = state_with w.self.inside.machine w.self.inside.subs in
-          let τ = state_with w.command-stepped.new.self w.command-stepped.new.sessions in
+          let σ = state_with w.self.inside.machine in
+          let τ = state_with w.command-stepped.new.self in
           let a : Ask = DoCommand c.args.command in
           let all = w.command-stepped.ensures in
           let calm = quiet c.args.command w.in_default.not-Commit w.in_default.not-Schema w.in_default.not-Subscribe w.in_default.not-Unsubscribe in
@@ -46,5 +46,5 @@ returns g c =
       free = made.1;
       err = made.2;
       sound = subst IsSound c.self-2.view_is c.self-2.invariant.sound;
-      rising = subst IsRising c.self-2.view_is (rising_of (parts_of c.self-2.inside.machine c.self-2.inside.subs) c.self-2.invariant);
+      rising = subst IsRising c.self-2.view_is (rising_of (parts_of c.self-2.inside.machine) c.self-2.invariant);
     }

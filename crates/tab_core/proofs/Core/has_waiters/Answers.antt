@@ -1,7 +1,7 @@
 use Rattle.std.proofs.Common.{ap, sym, ◌∙◌}
 use Rattle.std.specs.Prelude.{map}
 use Rattle.tab_model.specs.State.{State}
-use Rattle.tab_manager.specs.Parts.{queued_of}
+use Rattle.tab_core.specs.Parts.{queued_of}
 use Rattle.tab_core.proofs.Core.has_waiters.Goals as goal
 
 pub returns : goal.returns

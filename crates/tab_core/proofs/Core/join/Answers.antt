@@ -1,12 +1,12 @@
 use Rattle.tab_model.specs.declared.ask.Ask.TheVariants.{Join}
-use Rattle.tab_manager.specs.Parts.{state_with}
+use Rattle.tab_core.specs.Parts.{state_with}
 use Rattle.tab_core.proofs.StepsLemmas.{join_makes, ok_sees, err_stays, told_sees}
 use Rattle.tab_core.proofs.Core.join.Goals as goal
 
 pub returns : goal.returns
 returns g c =
-    let σ = state_with c.self.inside.machine c.self.inside.subs in
-    let τ = state_with c.join.new.self c.join.new.sessions in
+    let σ = state_with c.self.inside.machine in
+    let τ = state_with c.join.new.self in
     let ρ = c.args.self.now in
     let n = c.args.session in
     let o = g.P.Post.outbox c.args.post in

@@ -1,14 +1,14 @@
 use Rattle.tab_model.specs.declared.ask.Ask.TheVariants.{Leave}
-use Rattle.tab_manager.specs.Parts.{parts_of, state_with}
+use Rattle.tab_core.specs.Parts.{parts_of, state_with}
 use Rattle.tab_core.proofs.StepsLemmas.{leave_makes, sees, rising_of}
 use Rattle.tab_core.proofs.Core.leave.Goals as goal
 
 pub returns : goal.returns
 returns g c =
-    let σ = state_with c.self.inside.machine c.self.inside.subs in
-    let τ = state_with c.leave.new.self c.leave.new.sessions in
+    let σ = state_with c.self.inside.machine in
+    let τ = state_with c.leave.new.self in
     record {
       done = sees σ τ c.args.self.now c.args.session Leave c.leave.result c.self.view_is (leave_makes σ τ c.args.session c.leave.result c.leave.ensures.done);
       sound = c.leave.ensures.kept.sound;
-      rising = rising_of (parts_of c.leave.new.self c.leave.new.sessions) c.leave.ensures.kept;
+      rising = rising_of (parts_of c.leave.new.self) c.leave.ensures.kept;
     }

@@ -6,5 +6,5 @@ use Rattle.tab_core.proofs.Core.post.Goals as goal
 
 pub returns : goal.returns
 returns g c =
-    c.post.ensures ∙ post_seen c.self.inside.subs c.args.session
+    c.post.ensures ∙ post_seen c.self.inside.machine.sessions c.args.session
     ∙ ap (λ (μ : State). option_map (λ (s : Session). s.outbox) (session_at μ.sessions c.args.session)) c.self.view_is

@@ -1,12 +1,12 @@
 use Rattle.tab_model.specs.declared.ask.Ask.TheVariants.{Retry}
-use Rattle.tab_manager.specs.Parts.{parts_of, state_with}
+use Rattle.tab_core.specs.Parts.{parts_of, state_with}
 use Rattle.tab_core.proofs.StepsLemmas.{retry_makes, ok_sees, err_stays, free_sees, rising_of}
 use Rattle.tab_core.proofs.Core.retry.Goals as goal
 
 pub returns : goal.returns
 returns g c =
-    let σ = state_with c.self.inside.machine c.self.inside.subs in
-    let τ = state_with c.retry.new.self c.retry.new.sessions in
+    let σ = state_with c.self.inside.machine in
+    let τ = state_with c.retry.new.self in
     let ρ = c.args.self.now in
     let n = c.args.session in
     record {
@@ -14,5 +14,5 @@ returns g c =
       free = λ h. free_sees σ ρ n Retry c.self.view_is h c.retry.ensures.free c.retry.ensures.told;
       err = err_stays σ τ ρ c.retry.result c.self.view_is c.retry.ensures.err;
       sound = c.retry.ensures.kept.sound;
-      rising = rising_of (parts_of c.retry.new.self c.retry.new.sessions) c.retry.ensures.kept;
+      rising = rising_of (parts_of c.retry.new.self) c.retry.ensures.kept;
     }

@@ -2,7 +2,7 @@ use Rattle.std.proofs.Common.{◌≡◌, List, [], ◌∷◌, length, refl, ap, 
 use Rattle.std.specs.Vec.Iter.{into_iter_items}
 use Rattle.tab_model.specs.State.{IsSound}
 use Rattle.tab_model.specs.Reached.{IsRising}
-use Rattle.tab_manager.specs.Parts.{parts_of}
+use Rattle.tab_core.specs.Parts.{parts_of}
 use Rattle.tab_core.specs.Runs.{asks_of}
 use Rattle.tab_core.proofs.RunsLemmas.{IsRunning, goes_on, ends_with, run_keeps, history_goes_on}
 use Rattle.tab_core.proofs.StepsLemmas.{rising_of}
@@ -28,7 +28,7 @@ pub returns-in_err-replies-clause-sound : goal.returns-in_err-replies-clause-sou
 returns-in_err-replies-clause-sound g c = subst IsSound c.self.view_is c.self.invariant.sound
 
 pub returns-in_err-replies-clause-rising : goal.returns-in_err-replies-clause-rising
-returns-in_err-replies-clause-rising g c = subst IsRising c.self.view_is (rising_of (parts_of c.self.inside.machine c.self.inside.subs) c.self.invariant)
+returns-in_err-replies-clause-rising g c = subst IsRising c.self.view_is (rising_of (parts_of c.self.inside.machine) c.self.invariant)
 
 pub returns : goal.returns
 returns g c =
@@ -38,7 +38,7 @@ returns g c =
     let run = ends_with f c.args.self.now c.loop-session.self c.args.steps.items c.loop-session.replies.items (subst (λ xs. IsRunning f c.args.self.now c.loop-session.self c.args.steps.items xs c.loop-session.replies.items) none inv.0) in
     let asks = asks_of f c.args.steps.items in
     let sound = subst IsSound c.self.view_is c.self.invariant.sound in
-    let rising = subst IsRising c.self.view_is (rising_of (parts_of c.self.inside.machine c.self.inside.subs) c.self.invariant) in
+    let rising = subst IsRising c.self.view_is (rising_of (parts_of c.self.inside.machine) c.self.invariant) in
     let last = run_keeps c.args.self.now c.loop-session.self asks c.loop-session.replies.items run.0 run.1 sound rising in
     record {
       run = (run.0, run.1, history_goes_on c.args.self.now c.loop-session.self asks c.loop-session.replies.items run.0 run.1 c.requires sound);

@@ -1,5 +1,5 @@
 use Rattle.std.proofs.Common.{sym, ◌∙◌}
-use Rattle.tab_manager.proofs.StepsLemmas.{differ}
+use Rattle.tab_core.proofs.MachineSteps.{differ}
 use Rattle.tab_core.proofs.MarksLemmas.{free}
 use Rattle.tab_core.proofs.TellsLemmas.{schema_refused_first, schema_told}
 use Rattle.tab_core.proofs.Core.schema.Goals as goal

@@ -1,8 +1,6 @@
 use Rattle.std.proofs.Common.{sym, subst}
 use Rattle.std.proofs.lemmas.List.Elements.{All-push}
-use Rattle.tab_index.specs.declared.index.Index.{Index}
-use Rattle.tab_index.specs.IndexOf.{IsIndexOf}
-use Rattle.tab_index.specs.Indexed.{AreIndexesOf}
+use Rattle.tab_index.specs.Indexed.{IsOf, AreIndexesOf}
 use Rattle.tab_index.proofs.IndexedLemmas.{other_kept}
 use Rattle.tab_index.proofs.indexes.other_indexes.Goals as goal
 
@@ -16,6 +14,6 @@ loop-index-preserved c =
     record {
       positions_are = other_kept c.args.position c.args.indexes.now was c.push.new.self.items i x y _ c.loop-index-test.true c.index-item.is c.if-index-position.false c.in_ok-share.ensures more c.loop-index.invariant.positions_are;
       indexes_are = λ rows all.
-          let here = subst (λ (j : Index). IsIndexOf rows j.position j.keys) (sym c.index-item.is) (all i x c.loop-index-test.true) in
-          subst (AreIndexesOf rows) (sym more) (All-push (λ j. IsIndexOf rows j.position j.keys) was y (c.loop-index.invariant.indexes_are rows all) (subst (λ (j : Index). IsIndexOf rows j.position j.keys) (sym c.in_ok-share.ensures) here));
+          let here = subst (IsOf rows) (sym c.index-item.is) (all i x c.loop-index-test.true) in
+          subst (AreIndexesOf rows) (sym more) (All-push (IsOf rows) was y (c.loop-index.invariant.indexes_are rows all) (subst (IsOf rows) (sym c.in_ok-share.ensures) here));
     }

@@ -20,7 +20,11 @@ loop-index-init c =
 
 pub update-requires-clause-index : goal.update-requires-clause-index
 update-requires-clause-index c =
-    c.loop-index.invariant.left c.loop-index.index-index c.index-item.result (omega arith) (within _ _ _ c.loop-index.auto.index-items c.loop-index-test.true)
+    (c.loop-index.invariant.left c.loop-index.index-index c.index-item.result (omega arith) (within _ _ _ c.loop-index.auto.index-items c.loop-index-test.true)).index
+
+pub update-requires-clause-further : goal.update-requires-clause-further
+update-requires-clause-further c =
+    (c.loop-index.invariant.left c.loop-index.index-index c.index-item.result (omega arith) (within _ _ _ c.loop-index.auto.index-items c.loop-index-test.true)).further
 
 pub loop-index-preserved : goal.loop-index-preserved
 loop-index-preserved c =
@@ -29,7 +33,7 @@ loop-index-preserved c =
     let y = c.update.new.self in
     record {
       positions_are = map-set_same (λ (j : Index). j.position) xs i y c.index-item.result c.update.ensures.position ∙ c.loop-index.invariant.positions_are;
-      done = one_done (apply c.args.rows.now.0 c.args.rows.now.1 c.args.update.now) xs i y (within _ _ _ c.loop-index.auto.index-items c.loop-index-test.true) c.loop-index.invariant.done c.in_ok-update.ensures.ok;
+      done = one_done (apply c.args.rows.now.0 c.args.rows.now.1 c.args.update.now) xs i y (within _ _ _ c.loop-index.auto.index-items c.loop-index-test.true) c.loop-index.invariant.done (record { index = c.in_ok-update.ensures.ok; further = c.in_ok-update.ensures.further });
       left = others_left c.args.rows.now.1 xs i y c.loop-index.invariant.left;
     }
 

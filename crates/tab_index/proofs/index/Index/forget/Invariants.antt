@@ -10,4 +10,5 @@ invariant-loop-row l = record {
   position : l.self.position ≡ l.fn.self.position;
   pairs : (v j : Term) → unless l.fn.self.position l.row-iterator l.key v j (has_pair l.self.keys v j) ≡ unless l.fn.self.position l.initial.row-iterator l.key v j (has_pair l.fn.self.keys v j);
   filled : IsFilled l.self.keys;
+  further : l.self.further ≡ l.fn.self.further;
 }

@@ -2,7 +2,9 @@ use Rattle.std.proofs.Common.{◌+◌, drop, sym, ap, ap₂, ◌∙◌, subst}
 use Rattle.std.proofs.lemmas.List.{at_drop_more}
 use Rattle.tab_model.specs.Tables.{apply, rows_after, is_ordered}
 use Rattle.tab_model.proofs.ChangeLaws.{ordered-apply}
+use Rattle.tab_index.specs.FurtherOf.{AreApart}
 use Rattle.tab_index.specs.Indexed.{AreIndexesOf}
+use Rattle.tab_index.proofs.FurtherRows.{apart_apply}
 use Rattle.tab_index.proofs.table.IndexedTable.applied.Goals as goal
 
 pub loop-update-preserved : goal.loop-update-preserved
@@ -19,6 +21,7 @@ loop-update-preserved c =
       kept = record {
         kind = ap (λ v. v.0) c.in_ok-update.ensures.ok ∙ kept.kind;
         ordered = ap is_ordered rows ∙ ordered-apply was.0 was.1 change kept.ordered;
+        apart = subst AreApart (sym rows) (apart_apply was.0 was.1 change kept.ordered kept.apart);
         positions_are = c.in_ok-change_indexes.ensures.positions ∙ kept.positions_are;
         indexes_are = subst (λ r. AreIndexesOf r c.change_indexes.new.indexes.items) (sym rows) c.in_ok-change_indexes.ensures.indexes;
       };

@@ -1,0 +1,108 @@
+//! Sessions join and leave.
+
+ghost use Rattle.std.specs.Prelude.{◌≡◌, ◌^◌, ◌-◌, ◌&&◌, [], IsFalse, IfOk, IsOk, IsTrue, OnErr, length, min, nat_lt};
+ghost use Rattle.tab_model.specs.declared.ask.Ask.TheVariants.{Join, Leave};
+ghost use Rattle.tab_model.specs.Standing.{levels_of};
+ghost use Rattle.tab_model.specs.State.{is_waiting};
+ghost use Rattle.tab_subs.specs.Subscribers.{IsHeldAt};
+ghost use Rattle.tab_core.specs.Parts.{parts_of, state_with};
+ghost use Rattle.tab_core.specs.Kept.{IsKept};
+ghost use Rattle.tab_core.specs.Steps.{StepsTo, is_told_for_none};
+
+use crate::machine::Machine;
+use crate::operating::end_if;
+use crate::queue::find;
+use crate::step::Stepped;
+use std::alloc::AllocError;
+use tab_model::{Limit, Reply};
+use tab_outbox::Post;
+
+impl<P: Post + Drop> Machine<P> {
+    /// Whether the session waits for a lock.
+    pub(crate) fn waits(&self, session: u32) -> bool
+        ensures { result ≡ is_waiting (state_with self.now) session }
+    {
+        find(&self.queue, session).is_some()
+    }
+
+    /// Whether some session waits or rests.
+    pub(crate) fn has_waiters(&self) -> bool
+        ensures { IsFalse result → self.now.queue.items ≡ [] }
+    {
+        !self.queue.is_empty() || self.ages.anyone_rests()
+    }
+
+    /// How many levels the session has open, up to the greatest 64 bit number.
+    pub(crate) fn levels(&self, session: u32) -> u64
+        requires kept { IsKept (parts_of self.now) }
+        ensures { result ≡ min (levels_of (state_with self.now) session) (2 ^ 64 - 1) }
+    {
+        match self.sessions.place(session as u64) {
+            Some(place) => self.levels_at(session, place),
+            None => 0,
+        }
+    }
+
+    fn levels_at(&self, session: u32, place: usize) -> u64
+        requires kept { IsKept (parts_of self.now) }
+        requires there { IsHeldAt self.now.sessions session place }
+        ensures { result ≡ min (levels_of (state_with self.now) session) (2 ^ 64 - 1) }
+    {
+        let Some(transaction) = self.sessions.transaction(place) else {
+            return 0;
+        };
+        (transaction.store.depth() as u64).saturating_add(1)
+    }
+
+    /// Whether the session's number and the limit of sessions let it join.
+    pub(crate) fn admits(&self, session: u32) -> bool
+        ensures { result
+            ≡ (nat_lt self.now.greatest session && nat_lt
+            (length self.now.sessions) self.now.limits.sessions) }
+    {
+        session > self.greatest && (self.sessions.len() as u64) < self.limits.sessions
+    }
+
+    /// A session takes its number, which is greater than all that joined before, and its post. Memory is taken for its place
+    /// alone.
+    pub(crate) fn join(&mut self, session: u32, post: P) -> Result<Stepped, AllocError>
+        requires kept { IsKept (parts_of self.old) }
+        ensures done { IfOk result
+            (λ s. StepsTo (state_with self.old) session (Join (P.outbox post)) s
+            (state_with self.new)) }
+        ensures told { IsTrue
+            (is_told_for_none (state_with self.old) session (Join (P.outbox post)))
+            → IsOk result }
+        ensures err { OnErr result
+            (state_with self.new ≡ state_with self.old) }
+        ensures kept { IsKept (parts_of self.new) }
+    {
+        if session <= self.greatest {
+            drop(post);
+            return Ok(Stepped::without_entry(Reply::BadSession));
+        }
+        if self.sessions.len() as u64 >= self.limits.sessions {
+            drop(post);
+            return Ok(Stepped::without_entry(Reply::SystemLimit(Limit::Sessions)));
+        }
+        self.sessions.join(self.alloc, session as u64, post)?;
+        self.greatest = session;
+        Ok(Stepped::without_entry(Reply::Done))
+    }
+
+    /// The session's transaction, locks and queued request are gone, and its post. Takes no memory.
+    pub(crate) fn leave(&mut self, session: u32) -> Stepped
+        requires kept { IsKept (parts_of self.old) }
+        ensures done { StepsTo (state_with self.old) session Leave result
+            (state_with self.new) }
+        ensures kept { IsKept (parts_of self.new) }
+    {
+        let Some(place) = self.sessions.place(session as u64) else {
+            return Stepped::without_entry(Reply::BadSession);
+        };
+        end_if(true, self.sessions.transaction_mut(place), &mut self.ages);
+        self.sessions.leave(session as u64);
+        self.queue.retain(|request| request.session != session);
+        Stepped::without_entry(Reply::Done)
+    }
+}
