@@ -1,12 +1,14 @@
-"""A client of `tabd serve`, with Python's standard library alone.
+# SPDX-License-Identifier: Apache-2.0
+"""A client of `tabd serve`, with Python's standard library alone; `tabd.aio` has it for asyncio.
 
     import tabd
 
     client = tabd.Client(4000)
     person = client.create_table("person", ["name", "age"], index=["age"])
 
-    with client.transaction() as t:
-        t.write(("person", "alice", 30))
+    for attempt in client.attempts():
+        with attempt as t:
+            t.write(("person", "alice", 30))
 
     @client.transactional
     def birthday(t: tabd.Transaction, name: str) -> None:
@@ -29,7 +31,7 @@ server serves as many connections in all as its `--connections` says, also those
 
 from __future__ import annotations
 
-from .client import Client, Events, Table
+from .client import Client
 from .errors import (
     Aborted,
     AlreadyExists,
@@ -39,6 +41,7 @@ from .errors import (
     BadTerm,
     BadType,
     Closed,
+    ConnectTimeout,
     Ended,
     Error,
     InTransaction,
@@ -55,13 +58,18 @@ from .errors import (
     OutboxFull,
     OutcomeUnknown,
     OverflowPending,
+    PoolTimeout,
     Refused,
     Restart,
     SystemLimit,
     TimedOut,
+    WrongProcess,
+    WrongThread,
 )
 from .events import Begin, Delete, DeleteObject, End, Event, Overflow, Write
 from .mirror import Mirror
+from .subscriptions import Events
+from .tables import Table
 from .terms import Pairs, Record, Term, decode, encode
 from .transactions import OneShot, Transaction
 
@@ -78,6 +86,7 @@ __all__ = [
     "Begin",
     "Client",
     "Closed",
+    "ConnectTimeout",
     "Delete",
     "DeleteObject",
     "End",
@@ -103,6 +112,7 @@ __all__ = [
     "Overflow",
     "OverflowPending",
     "Pairs",
+    "PoolTimeout",
     "Record",
     "Refused",
     "Restart",
@@ -112,6 +122,8 @@ __all__ = [
     "TimedOut",
     "Transaction",
     "Write",
+    "WrongProcess",
+    "WrongThread",
     "decode",
     "encode",
 ]

@@ -1,43 +1,70 @@
-"""A client, its tables and their events."""
+# SPDX-License-Identifier: Apache-2.0
+"""A client and its tables."""
 
 from __future__ import annotations
 
-import collections
 import contextlib
 import functools
+import inspect
 import threading
-from typing import Any, Callable, Deque, Iterator, Optional, Sequence, Set, TypeVar, Union
+from typing import TYPE_CHECKING, Any, Callable, Iterator, Optional, Sequence, TypeVar, Union, overload
 
-from .connection import Connection, Pool, result
-from .errors import Closed, NoExists, NoMore, NotConnected, OutcomeUnknown
-from .events import Batch, Change, End, Event, Overflow
+from .address import HOST, PORT, Where, address
+from .blocks import Attempts, Block
+from .connection import Connection
+from .decorated import check_plain, transaction_place, without_parameter
+from .errors import Closed, OutcomeUnknown
+from .pool import Pool, PooledConnection
+from .subscriptions import Events
+from .tables import Table
 from .terms import Term
-from .transactions import OneShot, Session, Transaction, level
+from .transactions import OneShot, Session, Transaction
+from .wire import result
+
+if TYPE_CHECKING:
+    # mypy has its own copy: nothing is installed for it.
+    from typing_extensions import Concatenate, ParamSpec
+
+    Given = ParamSpec("Given")
 
 Value = TypeVar("Value")
+Owner = TypeVar("Owner")
 
 
 class Client:
-    """A client of the server at a port, or at the path of a socket file, for any number of threads.
+    """A client of the server at an address, for any number of threads and forked processes.
+
+    The address is a port of 127.0.0.1, a port and a host, or a text: "HOST", "HOST:PORT", "tabd://HOST:PORT", "unix:///PATH", or the path of
+    a socket file, with a slash in it or of a file that is there. The port is 4000 where none is given. Nothing is opened before it is used.
 
     It has at most `connections` connections, without those of `events` and mirrors: one for each thread that is in a transaction, others
-    wait. `timeout` is how many seconds a reply may take, a wait for a lock too; without it a client waits as long as it takes.
+    wait, for at most `pool_timeout` seconds (then `PoolTimeout` is raised). `connect_timeout` is how many seconds the opening of a connection
+    may take, ten without it (`ConnectTimeout`). `timeout` is how many seconds a reply may take, a wait for a lock too (`TimedOut`, or
+    `OutcomeUnknown` of a commit); without it a client waits as long as it takes.
 
     `lock_timeout` is how many seconds an operation of a transaction may wait for a lock: then its level is aborted, `LockTimeout` is raised,
     and the connection goes on. The server has to run with `--abort-waits`; another ends the wait once the lock is there."""
 
     def __init__(
         self,
-        port: Union[int, str],
-        host: str = "127.0.0.1",
+        port: Where = PORT,
+        host: Union[str, int] = HOST,
         connections: int = 8,
         timeout: Optional[float] = None,
         lock_timeout: Optional[float] = None,
+        *,
+        connect_timeout: Optional[float] = None,
+        pool_timeout: Optional[float] = None,
     ) -> None:
         self._lock_timeout = lock_timeout
-        self._connect: Callable[[], Connection] = lambda: Connection(host, port, timeout)
-        self._pool = Pool(self._connect, connections)
+        self._address = where = address(port, host)
+        self._connect: Callable[[], Connection] = lambda: Connection(where, timeout, connect_timeout)
+        self._pool = Pool(lambda: PooledConnection(where, timeout, connect_timeout), connections, pool_timeout)
         self._here = threading.local()
+
+    def __repr__(self) -> str:
+        state = "closed" if self._pool.closed else f"{self._pool.count} of {self._pool.most} connections"
+        return f"<tabd.Client of {self._address}, {state}>"
 
     def close(self) -> None:
         """Closes the connections: those that a transaction holds, once it has ended."""
@@ -50,7 +77,7 @@ class Client:
         self.close()
 
     @contextlib.contextmanager
-    def _lease(self) -> Iterator[Connection]:
+    def _lease(self) -> Iterator[PooledConnection]:
         connection = self._pool.take()
         try:
             yield connection
@@ -58,52 +85,64 @@ class Client:
             self._pool.give(connection)
 
     def _session(self) -> Optional[Session]:
-        """That of this thread's transaction."""
+        """That of this thread's transaction. A forked child has none."""
         session: Optional[Session] = getattr(self._here, "session", None)
+        if session is not None and (session.over or not session.connection.is_ours()):
+            return None
         return session
 
-    @contextlib.contextmanager
-    def _new_session(self) -> Iterator[Session]:
-        with self._lease() as connection:
-            self._here.session = session = Session(connection, self._lock_timeout)
-            try:
-                yield session
-            finally:
-                self._here.session = None
-                with contextlib.suppress(Closed):
-                    session.finish()
+    def _end(self, session: Session) -> None:
+        """Ends it, and gives its connection back."""
+        self._leave(session)
+        try:
+            session.finish()
+        finally:
+            self._pool.give(session.connection)
+
+    def _leave(self, session: Session) -> None:
+        """This thread is in no transaction."""
+        if getattr(self._here, "session", None) is session:
+            self._here.session = None
 
     def _ask(self, request: Term) -> Any:
         """Asks on this thread's transaction's connection, where the server refuses what can't be in one, or on a free one."""
         session = self._session()
         if session is not None:
-            return session.connection.ask(request)
+            return session.ask(request)
         with self._lease() as connection:
             return connection.ask(request)
 
     def _ask_once(self, request: Term) -> Any:
         """Asks for a change. Where no reply comes it may have been made."""
+        session = self._session()
+        if session is not None:
+            # Where a transaction is open the server refuses it.
+            session.begin()
+            return session.ask(request)
+        connection = self._pool.take()
         try:
-            return self._ask(request)
-        except NotConnected:
-            raise
-        except Closed as error:
-            raise OutcomeUnknown("the connection has ended while a change was under way") from error
+            return _once(connection, request)
+        finally:
+            self._pool.give(connection)
 
-    @contextlib.contextmanager
-    def transaction(self) -> Iterator[Transaction]:
+    def transaction(self) -> Block:
         """A transaction for as long as the block runs. At its end it commits, or where an error leaves the block, nothing of it stays.
         In an open one of the same thread it is a level in it.
 
-        `Restart` may leave the block, at any operation: the block is to be done again then, which `run` does by itself."""
-        session = self._session()
-        if session is not None:
-            with level(session) as transaction:
-                yield transaction
-            return
-        with self._new_session() as session:
-            with level(session) as transaction:
-                yield transaction
+        `Restart` may leave the block, at any operation: the block is to be done again then, which `attempts` and `run` do by themselves."""
+        return Block(self)
+
+    def attempts(self, retries: Optional[int] = None) -> Attempts:
+        """A block that is done again if it lost a lock, with the same age, so often as `retries` says (then `NoMore` is raised), or without
+        it as often as it takes:
+
+            for attempt in client.attempts():
+                with attempt as t:
+                    t.write(("person", "alice", 30))
+
+        So the block should do nothing else that may not be done twice, and what comes of it is done behind the loop. Each other error leaves the
+        loop. In an open transaction of the same thread it is a level, and what is done again is the outermost block."""
+        return Attempts(self, retries)
 
     def run(self, function: Callable[[Transaction], Value], retries: Optional[int] = None) -> Value:
         """Calls the function with a transaction, and commits; gives what it gave.
@@ -111,33 +150,32 @@ class Client:
         Where a lock was lost it is called again, with the same age, so often as `retries` says (then `NoMore` is raised), or without it as
         often as it takes; so it should do nothing else that may not be done twice. Whatever it gives or raises then is left out. In an
         open transaction of the same thread it is a level, and what is called again is the outermost function."""
-        session = self._session()
-        if session is not None:
-            with level(session) as transaction:
-                return function(transaction)
-        with self._new_session() as session:
-            age: Optional[int] = None
-            left = retries
-            while True:
-                try:
-                    with level(session, age) as transaction:
-                        age = transaction.age
-                        return function(transaction)
-                except Exception:
-                    if not session.restarted:
-                        raise
-                if left is not None:
-                    if left == 0:
-                        raise NoMore("nomore")
-                    left -= 1
+        if inspect.iscoroutinefunction(function):
+            raise TypeError(f"{function!r} is a coroutine function: tabd.aio has the client for asyncio")
+        for attempt in Attempts(self, retries, whole=True):
+            with attempt as transaction:
+                value = function(transaction)
+        return value
+
+    @overload
+    def transactional(self, function: Callable[Concatenate[Transaction, Given], Value]) -> Callable[Given, Value]: ...
+
+    @overload
+    def transactional(
+        self, function: Callable[Concatenate[Owner, Transaction, Given], Value]
+    ) -> Callable[Concatenate[Owner, Given], Value]: ...
 
     def transactional(self, function: Callable[..., Value]) -> Callable[..., Value]:
-        """A decorator: the function's first parameter is the transaction that `run` gives it, and its caller gives the others."""
+        """A decorator: the function's first parameter is the transaction that `run` gives it, and its caller gives the others. Of a method,
+        whose first parameter is `self` or `cls`, it is the second one."""
+        check_plain(function)
+        place = transaction_place(function)
 
         @functools.wraps(function)
         def run(*args: Any, **named: Any) -> Value:
-            return self.run(lambda transaction: function(transaction, *args, **named))
+            return self.run(lambda transaction: function(*args[:place], transaction, *args[place:], **named))
 
+        without_parameter(run, place)
         return run
 
     def one_shot(self) -> OneShot:
@@ -158,12 +196,15 @@ class Client:
         return Table(self, name)
 
     def delete_table(self, name: str) -> None:
+        """Deletes the table, with its records."""
         result(self._ask_once(("delete_table", name)))
 
     def add_table_index(self, name: str, attribute: Union[str, int]) -> None:
+        """Gives an attribute an index, by its name or position."""
         result(self._ask_once(("add_table_index", name, attribute)))
 
     def del_table_index(self, name: str, attribute: Union[str, int]) -> None:
+        """Ends the index of an attribute."""
         result(self._ask_once(("del_table_index", name, attribute)))
 
     def table_info(self, name: str, item: str) -> Any:
@@ -175,106 +216,8 @@ class Client:
         return Events(self._connect(), names, dump, detailed)
 
 
-class Table:
-    """A table by its name."""
-
-    def __init__(self, client: Client, name: str) -> None:
-        self.client, self.name = client, name
-
-    def info(self, item: str) -> Any:
-        """As `Client.table_info`."""
-        return self.client.table_info(self.name, item)
-
-    def delete(self) -> None:
-        self.client.delete_table(self.name)
-
-    def add_index(self, attribute: Union[str, int]) -> None:
-        self.client.add_table_index(self.name, attribute)
-
-    def del_index(self, attribute: Union[str, int]) -> None:
-        self.client.del_table_index(self.name, attribute)
-
-    def events(self, dump: bool = False, detailed: bool = False) -> Events:
-        """The table's events; with `dump` its records come first, in `Begin`; with `detailed` each has the records before it."""
-        return self.client.events(self.name, dump=dump, detailed=detailed)
-
-
-def subscribe(connection: Connection, name: str, dump: bool, detailed: bool) -> None:
-    what = ("subscribe", ("table", name, "detailed" if detailed else "simple"))
-    result(connection.ask((*what, "dump") if dump else what))
-
-
-class Events(Iterator[Event]):
-    """The events of tables, in the order of the commits, and within one in the order of the operations: `for event in events`.
-
-    None is merged with another, and what an abort undid has none. They begin with `Begin` of each table. After `Overflow` the tables are
-    subscribed to anew, and `Begin` comes again: what was between is not told, but with `dump` all records are. They end when each table was
-    deleted, by `close`, or by `Closed` where the connection has ended."""
-
-    def __init__(self, connection: Connection, names: Sequence[str], dump: bool, detailed: bool) -> None:
-        self._connection, self._dump, self._detailed = connection, dump, detailed
-        self._watched: Set[str] = set()
-        # The changes of a batch that are still to be told.
-        self._changes: Deque[Change] = collections.deque()
-        # Where it was told of an overflow it is to subscribe anew.
-        self._names, self._lost = names, False
-        try:
-            self._subscribe()
-        except BaseException:
-            self.close()
-            raise
-
-    def _subscribe(self) -> None:
-        for name in self._names:
-            subscribe(self._connection, name, self._dump, self._detailed)
-            self._watched.add(name)
-
-    def _subscribe_anew(self) -> None:
-        """A table that is gone has ended."""
-        self._lost = False
-        for name in self._names:
-            try:
-                subscribe(self._connection, name, self._dump, self._detailed)
-                self._watched.add(name)
-            except NoExists:
-                self._connection.told.append(End(name, "deleted"))
-
-    def next(self, seconds: Optional[float] = None) -> Optional[Event]:
-        """The next event, or None where none came within so many seconds."""
-        if self._changes:
-            return self._changes.popleft()
-        if self._lost:
-            self._subscribe_anew()
-        event = self._connection.item(seconds)
-        if isinstance(event, Batch):
-            self._changes.extend(event.changes)
-            return self._changes.popleft()
-        if isinstance(event, End):
-            self._watched.discard(event.table)
-        if isinstance(event, Overflow):
-            self._watched.clear()
-            self._lost = True
-        return event
-
-    def __next__(self) -> Event:
-        if self._connection.closed or not (self._changes or self._watched or self._lost or self._connection.told):
-            self.close()
-            raise StopIteration
-        try:
-            event = self.next()
-        except Closed:
-            if self._connection.closed:
-                raise StopIteration from None
-            self.close()
-            raise
-        assert event is not None
-        return event
-
-    def __enter__(self) -> Events:
-        return self
-
-    def __exit__(self, *_: object) -> None:
-        self.close()
-
-    def close(self) -> None:
-        self._connection.close()
+def _once(connection: Connection, request: Term) -> Any:
+    try:
+        return connection.ask(request)
+    except Closed as error:
+        raise OutcomeUnknown("the connection has ended while a change was under way") from error

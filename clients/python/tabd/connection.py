@@ -1,53 +1,44 @@
-"""Connections to the server, and the pool of those that a client has."""
+# SPDX-License-Identifier: Apache-2.0
+"""A connection to the server: a session of it."""
 
 from __future__ import annotations
 
 import collections
 import contextlib
+import os
 import select
 import socket
-import struct
-import threading
 import time
-from typing import Any, Callable, Deque, Iterator, List, Optional, Tuple, Union
+import weakref
+from typing import Any, Deque, Iterator, Optional, Tuple
 
-from .errors import Closed, NotConnected, NotServed, TimedOut, refusal
+from .address import Address
+from .errors import Closed, ConnectTimeout, NotConnected, TimedOut, WrongProcess
 from .events import Item, item_of
-from .terms import Term, decode, encode, no_term
+from .terms import Term
+from .wire import BEGIN, GREETING, Frames, check_served, frame
 
-# Bytes of a request's payload, at most. The server ends a session that sends more.
-MOST_BYTES = 1_048_576
-# A server that accepts no more connections still lets the system open them, and says nothing on them.
+# So long a client waits for a new connection to be answered, if it was given no time.
 OPENING_SECONDS = 10.0
+ENDED = "the connection has ended"
+
+# The open ones of this process.
+_OPEN: weakref.WeakSet[Connection] = weakref.WeakSet()
 
 
-def result(reply: Any) -> Any:
-    """A reply that is no refusal."""
-    if isinstance(reply, tuple) and reply[0] in ("aborted", "error"):
-        raise refusal(reply[1])
-    return reply
-
-
-def _frame(request: Term) -> bytes:
-    payload = encode(request)
-    if len(payload) > MOST_BYTES:
-        raise no_term(request, f"a request has at most {MOST_BYTES} bytes")
-    return struct.pack(">I", len(payload)) + payload
-
-
-def _opened(host: str, port: Union[int, str]) -> socket.socket:
-    """To a port of the host, or to the path of a socket file."""
-    if isinstance(port, str):
-        opened = socket.socket(socket.AF_UNIX)
-        opened.settimeout(OPENING_SECONDS)
-        try:
-            opened.connect(port)
-        except OSError:
-            opened.close()
-            raise
+def _opened(address: Address, seconds: float) -> socket.socket:
+    path = address.file()
+    if path is None:
+        opened = socket.create_connection(address.pair(), seconds)
+        opened.setsockopt(socket.IPPROTO_TCP, socket.TCP_NODELAY, 1)
         return opened
-    opened = socket.create_connection((host, port), OPENING_SECONDS)
-    opened.setsockopt(socket.IPPROTO_TCP, socket.TCP_NODELAY, 1)
+    opened = socket.socket(socket.AF_UNIX)
+    try:
+        opened.settimeout(seconds)
+        opened.connect(path)
+    except BaseException:
+        opened.close()
+        raise
     return opened
 
 
@@ -55,47 +46,91 @@ class Connection:
     """A session of the server. One request is under way at a time: the next is sent behind the last one's reply, since what is
     sent ahead of a restart would be done in the restarted transaction, without what came before it."""
 
-    def __init__(self, host: str, port: Union[int, str], timeout: Optional[float]) -> None:
-        self.timeout, self.buffer, self.closed = timeout, bytearray(), False
+    def __init__(self, address: Address, timeout: Optional[float] = None, connect_timeout: Optional[float] = None) -> None:
+        self.timeout, self.closed = timeout, False
+        self.process = os.getpid()
         # How many requests were given up.
         self.given_up = 0
         self.told: Deque[Item] = collections.deque()
+        self.frames = Frames()
+        seconds = OPENING_SECONDS if connect_timeout is None else connect_timeout
+        deadline = time.monotonic() + seconds
         try:
-            self.socket = _opened(host, port)
-        except OSError as error:
-            where = port if isinstance(port, str) else f"{host}:{port}"
-            raise NotConnected(f"no connection to {where}: {error}") from error
-        self._greet()
+            self.socket = _opened(address, seconds)
+        except socket.timeout as error:
+            raise ConnectTimeout(f"no connection to {address} within {seconds} s") from error
+        except (OSError, ValueError) as error:
+            raise NotConnected(f"no connection to {address}: {error}") from error
+        _OPEN.add(self)
+        self._poll = _poll(self.socket)
+        with self._or_closed():
+            self._greet(address, deadline, seconds)
 
-    def _greet(self) -> None:
-        """Any request shows that the connection is served, and this one changes nothing."""
-        self.timeout, wanted = OPENING_SECONDS, self.timeout
+    def _greet(self, address: Address, deadline: float, seconds: float) -> None:
+        """A request shows that the connection is served. A full server has refused it before it came."""
         try:
-            self.ask("commit")
-        except Closed as error:
-            self.close()
-            raise NotServed("the server serves no more connections") from error
-        self.timeout = wanted
+            # What was refused may be closed already, and the refusal is still to be read.
+            with contextlib.suppress(Closed):
+                self._send(frame(GREETING))
+            term = self._next_reply(deadline)
+        except (Closed, ValueError) as error:
+            raise NotConnected(f"{address} has closed the connection, or is no tabd server") from error
+        if term is None:
+            raise ConnectTimeout(f"{address} did not answer within {seconds} s")
+        check_served(term[1])
+        self.socket.settimeout(self.timeout)
+
+    def is_ours(self) -> bool:
+        """Whether it is of this process."""
+        return self.process == os.getpid()
+
+    def check_process(self) -> None:
+        if not self.is_ours():
+            raise WrongProcess("the connection is the parent process's: a forked child uses the client, which opens connections of its own")
+
+    def check(self) -> None:
+        """It may be used: in this process, and while it is open."""
+        self.check_process()
+        if self.closed:
+            raise Closed(ENDED)
 
     def ask(self, request: Term) -> Any:
         """The reply. Events that come before it are kept."""
-        frame = _frame(request)
-        with self._or_closed():
-            self._send(frame)
+        data = frame(request)
+        self.check()
+        try:
+            self._send(data)
             return self._reply()
+        except BaseException:
+            self.close()
+            raise
+
+    def begin(self, request: Term) -> Tuple[Any, Any]:
+        """The replies to `begin` and to the request, sent together: for an idle session, and a request that is refused where no transaction
+        is open. So it is done in the transaction that was begun, or not at all."""
+        data = BEGIN + frame(request)
+        self.check()
+        try:
+            self._send(data)
+            begun = self._reply()
+            return begun, self._reply()
+        except BaseException:
+            self.close()
+            raise
 
     def ask_for(self, request: Term, seconds: float) -> Tuple[bool, Any]:
         """Whether a reply came within so many seconds, and the reply. Where none came the request is given up: an abort of its level
         is asked, which ends its wait. Its own reply may have come before the abort's; else it is None."""
-        frame = _frame(request)
+        data = frame(request)
+        self.check()
         with self._or_closed():
-            self._send(frame)
+            self._send(data)
             term = self._next_reply(time.monotonic() + seconds)
             if term is not None:
                 return True, term[1]
             self.given_up += 1
             reason = ("lock_timeout", self.given_up)
-            self._send(_frame(("abort", reason)))
+            self._send(frame(("abort", reason)))
             reply = self._reply()
             if reply == ("aborted", reason):
                 return False, None
@@ -130,99 +165,63 @@ class Connection:
         """The next event or batch, or None where none came within so many seconds."""
         if self.told:
             return self.told.popleft()
+        self.check()
         term = self._receive(None if seconds is None else time.monotonic() + seconds)
         return None if term is None else item_of(term)
 
     def _send(self, data: bytes) -> None:
         try:
-            self.socket.settimeout(self.timeout)
             self.socket.sendall(data)
+        except socket.timeout as error:
+            raise TimedOut(f"a request could not be sent within {self.timeout} s") from error
         except OSError as error:
-            raise Closed("the connection has ended") from error
+            raise Closed(ENDED) from error
 
     def _receive(self, deadline: Optional[float]) -> Any:
         """The next frame's term, or None where it is not there by the deadline."""
         while True:
-            length = int.from_bytes(self.buffer[:4], "big") + 4
-            if len(self.buffer) >= max(length, 5):
-                payload = bytes(self.buffer[4:length])
-                del self.buffer[:length]
-                return decode(payload)
-            if not self._read(max(length - len(self.buffer), 65536), deadline):
-                return None
+            term = self.frames.next()
+            if term is not None or not self._read(deadline):
+                return term
 
-    def _read(self, count: int, deadline: Optional[float]) -> bool:
+    def _read(self, deadline: Optional[float]) -> bool:
         """Takes what has come, or waits for it until the deadline."""
         try:
-            self.socket.settimeout(None if deadline is None else max(deadline - time.monotonic(), 0.0001))
-            data = self.socket.recv(min(count, 1 << 20))
-        except socket.timeout:
-            return False
-        except OSError as error:
-            raise Closed("the connection has ended") from error
+            if deadline is not None and not self._poll.poll(max(deadline - time.monotonic(), 0) * 1000):
+                return False
+            data = self.socket.recv(min(max(self.frames.missing, 1 << 16), 1 << 20))
+        except (OSError, ValueError) as error:
+            raise Closed(ENDED) from error
         if not data:
-            raise Closed("the connection has ended")
-        self.buffer += data
+            raise Closed(ENDED)
+        self.frames.feed(data)
         return True
 
     def is_idle(self) -> bool:
         """Whether it is open and nothing has come: on a connection in no use, something that comes is its end."""
-        return not self.closed and not select.select([self.socket], [], [], 0)[0]
+        return not self.closed and self.frames.empty and not self._poll.poll(0)
 
     def close(self) -> None:
-        """Also from another thread, which reads: its read ends."""
+        """Also from another thread, which reads: its read ends. In a forked child the parent's session goes on."""
         self.closed = True
-        with contextlib.suppress(OSError):
-            self.socket.shutdown(socket.SHUT_RDWR)
+        if self.is_ours():
+            with contextlib.suppress(OSError):
+                self.socket.shutdown(socket.SHUT_RDWR)
         self.socket.close()
 
 
-class Pool:
-    """The connections of a client: those in no use, and how many there are."""
+def _poll(sock: socket.socket) -> select.poll:
+    """What says whether something has come. Unlike `select.select` it takes each descriptor, also one above 1,023."""
+    poll = select.poll()
+    poll.register(sock, select.POLLIN)
+    return poll
 
-    def __init__(self, connect: Callable[[], Connection], most: int) -> None:
-        self.connect, self.most, self.count = connect, most, 0
-        self.free: List[Connection] = []
-        self.closed = False
-        self.changed = threading.Condition()
 
-    def take(self) -> Connection:
-        """One that is in no use, a new one where there is none, or the next that is given back where there are as many as may be."""
-        with self.changed:
-            while not self.closed:
-                while self.free:
-                    connection = self.free.pop()
-                    if connection.is_idle():
-                        return connection
-                    self._drop(connection)
-                if self.count < self.most:
-                    self.count += 1
-                    break
-                self.changed.wait()
-            else:
-                raise Closed("the client was closed")
-        try:
-            return self.connect()
-        except BaseException:
-            with self.changed:
-                self.count -= 1
-                self.changed.notify()
-            raise
+def _leave() -> None:
+    """In a forked child: its copies of the descriptors would keep the parent's sessions open after the parent's end."""
+    for connection in list(_OPEN):
+        connection.socket.close()
+    _OPEN.clear()
 
-    def _drop(self, connection: Connection) -> None:
-        connection.close()
-        self.count -= 1
 
-    def give(self, connection: Connection) -> None:
-        with self.changed:
-            if connection.closed or self.closed:
-                self._drop(connection)
-            else:
-                self.free.append(connection)
-            self.changed.notify()
-
-    def close(self) -> None:
-        with self.changed:
-            self.closed = True
-            while self.free:
-                self._drop(self.free.pop())
+os.register_at_fork(after_in_child=_leave)

@@ -1,3 +1,4 @@
+# SPDX-License-Identifier: Apache-2.0
 """What the client raises: a class for each refusal of the server, and for what may come of a transaction."""
 
 from __future__ import annotations
@@ -9,11 +10,11 @@ class Error(Exception):
     """What this module raises."""
 
 
-class Closed(Error):
+class Closed(Error, ConnectionError):
     """The connection has ended, and what its transaction did is undone."""
 
 
-class TimedOut(Closed):
+class TimedOut(Closed, TimeoutError):
     """No reply came within the client's `timeout`; the connection was closed for it."""
 
 
@@ -27,7 +28,24 @@ class NotConnected(Closed):
 
 
 class NotServed(NotConnected):
-    """The server accepts no more connections: it has served as many as its `--connections` says."""
+    """The server refused the connection: it serves as many as its `--connections` says."""
+
+
+class ConnectTimeout(NotConnected, TimedOut):
+    """The server did not answer a new connection within the client's `connect_timeout`. Nothing was asked."""
+
+
+class PoolTimeout(NotConnected, TimedOut):
+    """All connections of the client were in use for as long as its `pool_timeout`. Nothing was asked."""
+
+
+class WrongThread(Error):
+    """A transaction was used by another thread than the one that opened it."""
+
+
+class WrongProcess(Error):
+    """A transaction, events or a mirror of the parent process were used in a forked child. Its client can be used: it opens connections of
+    its own."""
 
 
 class Restart(Error):
@@ -46,7 +64,7 @@ class NoMore(Aborted):
     """The transaction was restarted once more than its retries. Nothing of it stays."""
 
 
-class LockTimeout(Error):
+class LockTimeout(Error, TimeoutError):
     """An operation waited for a lock for longer than the client's `lock_timeout`. Its level was aborted: nothing of it stays."""
 
 

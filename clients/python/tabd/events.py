@@ -1,3 +1,4 @@
+# SPDX-License-Identifier: Apache-2.0
 """What a subscription tells."""
 
 from __future__ import annotations

@@ -1,17 +1,23 @@
+# SPDX-License-Identifier: Apache-2.0
 """A copy of tables that follows their events."""
 
 from __future__ import annotations
 
 import contextlib
+import os
 import threading
 import time
-from typing import Any, Callable, Dict, List, Optional, Set, Union
+import weakref
+from typing import Any, Callable, Iterator, List, Optional, Sequence, Set, Tuple
 
-from .client import Client, subscribe
-from .connection import Connection, result
-from .errors import AlreadySubscribed, Closed, NoExists, NotSubscribed, OutboxFull, OverflowPending
-from .events import Batch, Begin, Delete, DeleteObject, End, Event, Item, Overflow, Write
-from .terms import Record, Term, encode
+from .client import Client
+from .connection import Connection
+from .copies import Copies
+from .errors import AlreadySubscribed, Closed, NoExists, NotSubscribed, OutboxFull, OverflowPending, WrongProcess
+from .events import End, Item, Overflow
+from .subscriptions import subscription
+from .terms import Record, Term
+from .wire import result
 
 
 class Mirror:
@@ -27,55 +33,79 @@ class Mirror:
     several changes may be seen with some of them and without the later ones. In either way nothing is seen that was aborted, and no commit
     before an earlier one. Once all tables have started this holds of all of them together, since one connection tells of all; who reads
     several times reads inside the condition of `wait`, where nothing is applied meanwhile. A commit is seen some time after it was
-    answered; who has to wait for one waits for its number or its last change (`wait`)."""
+    answered; who has to wait for one waits for its number or its last change (`wait`).
+
+    An error that ends the thread, other than the end of a connection, is `fault`. `wait`, `read`, `all_keys` and `records` raise it. `close`, or
+    the end of the last reference to the mirror, ends the thread and its connection."""
 
     def __init__(self, client: Client, *names: str, pause: float = 0.2) -> None:
-        self._connect, self.names, self.pause = client._connect, names, pause
-        self._changed = threading.Condition()
-        self._types: Dict[str, str] = {}
-        self._copies: Dict[str, Dict[bytes, List[Record]]] = {name: {} for name in names}
-        self._started: Set[str] = set()
-        self._connection: Optional[Connection] = None
-        self._closing = threading.Event()
-        self.overflows = self.connections = 0
-        self.commit: Optional[int] = None
-        self.fault: Optional[Exception] = None
-        self._thread = threading.Thread(target=self._run, daemon=True)
+        # The thread knows the follower alone, so that it does not keep the mirror.
+        self._follower = follower = Follower(client._connect, names, pause)
+        self._where = client._address
+        self._thread = threading.Thread(target=follower.run, name="tabd.Mirror", daemon=True)
+        self._end = weakref.finalize(self, follower.stop)
         self._thread.start()
 
-    # What is seen
+    def __repr__(self) -> str:
+        state = "failed" if self.fault is not None else "live" if self.live else "not live"
+        return f"<tabd.Mirror of {', '.join(map(repr, self.names))} of {self._where}, {state}>"
+
+    @property
+    def names(self) -> Tuple[str, ...]:
+        return tuple(self._follower.names)
+
+    @property
+    def pause(self) -> float:
+        return self._follower.pause
+
+    @property
+    def fault(self) -> Optional[Exception]:
+        """What has ended the thread."""
+        return self._follower.fault
+
+    @property
+    def connections(self) -> int:
+        """How many were opened."""
+        return self._follower.connections
+
+    @property
+    def overflows(self) -> int:
+        """How often events were lost, and the copy started again."""
+        return self._follower.copies.overflows
+
+    @property
+    def commit(self) -> Optional[int]:
+        return self._follower.copies.commit
 
     @property
     def live(self) -> bool:
-        return len(self._started) == len(self.names)
+        return self._follower.copies.live
 
     def read(self, name: str, key: Term) -> List[Record]:
         """The copy's records of the key, in the order of their insertion."""
-        with self._changed:
-            return list(self._copies[name].get(encode(key), ()))
+        with self._follower.held() as copies:
+            return copies.read(name, key)
 
     def all_keys(self, name: str) -> List[Any]:
         """The copy's keys, each once, in the server's order."""
-        with self._changed:
-            return [records[0][1] for _, records in sorted(self._copies[name].items())]
+        with self._follower.held() as copies:
+            return copies.all_keys(name)
 
     def records(self, name: str) -> List[Record]:
         """All records of the copy, in the order of `all_keys`."""
-        with self._changed:
-            return [record for _, records in sorted(self._copies[name].items()) for record in records]
+        with self._follower.held() as copies:
+            return copies.records(name)
 
     def wait(self, condition: Callable[[Mirror], Any], seconds: Optional[float] = None) -> bool:
-        """Waits until the condition holds, which is asked after each change; whether it did in time."""
-        with self._changed:
-            return self._changed.wait_for(lambda: bool(condition(self)), seconds)
+        """Waits until the condition holds, which is asked after each change; whether it did in time. Raises `Closed` if the mirror is closed
+        meanwhile."""
+        return self._follower.wait(lambda: bool(condition(self)), seconds)
 
     def close(self) -> None:
         """Ends the thread and its connection. The copy stays as it is."""
-        self._closing.set()
-        connection = self._connection
-        if connection is not None:
-            connection.close()
-        self._thread.join()
+        self._end()
+        if threading.current_thread() is not self._thread:
+            self._thread.join()
 
     def __enter__(self) -> Mirror:
         return self
@@ -83,36 +113,93 @@ class Mirror:
     def __exit__(self, *_: object) -> None:
         self.close()
 
-    # How it is kept
 
-    def _run(self) -> None:
-        while not self._closing.is_set():
-            try:
-                self._connection = connection = self._connect()
-                self.connections += 1
-                self._follow(connection)
-            except Closed:
-                pass
-            except Exception as error:
-                self.fault = error
-                raise
-            finally:
-                self._drop()
-            self._closing.wait(self.pause)
+class Follower:
+    """What the thread of a mirror does, and what it has."""
+
+    def __init__(self, connect: Callable[[], Connection], names: Sequence[str], pause: float) -> None:
+        self.connect, self.names, self.pause = connect, names, pause
+        self.process = os.getpid()
+        self.changed = threading.Condition()
+        self.copies = Copies(names)
+        self.connection: Optional[Connection] = None
+        self.closing = threading.Event()
+        self.connections = 0
+        self.fault: Optional[Exception] = None
+
+    @contextlib.contextmanager
+    def held(self) -> Iterator[Copies]:
+        """The copies, to which nothing is applied meanwhile."""
+        self._check_process()
+        with self.changed:
+            self._check()
+            yield self.copies
+
+    def wait(self, condition: Callable[[], bool], seconds: Optional[float]) -> bool:
+        def holds() -> bool:
+            self._check()
+            if condition():
+                return True
+            if self.closing.is_set():
+                raise Closed("the mirror was closed")
+            return False
+
+        self._check_process()
+        with self.changed:
+            return self.changed.wait_for(holds, seconds)
+
+    def _check_process(self) -> None:
+        """A forked child has no thread that follows, and the parent's may hold the lock for good."""
+        if self.process != os.getpid():
+            raise WrongProcess("the mirror is the parent process's: a forked child makes its own")
+
+    def _check(self) -> None:
+        if self.fault is not None:
+            raise self.fault
+
+    def stop(self) -> None:
+        """The thread ends soon."""
+        self.closing.set()
+        connection = self.connection
+        if connection is not None:
+            connection.close()
+
+    def run(self) -> None:
+        try:
+            while not self.closing.is_set():
+                self._run_once()
+                self.closing.wait(self.pause)
+        finally:
+            with self.changed:
+                self.changed.notify_all()
+
+    def _run_once(self) -> None:
+        """Follows on a connection until it ends."""
+        try:
+            self.connection = connection = self.connect()
+            self.connections += 1
+            self._follow(connection)
+        except Closed:
+            pass
+        except Exception as error:
+            # Whoever reads or waits is told.
+            self.fault = error
+            self.closing.set()
+        finally:
+            self._drop()
 
     def _drop(self) -> None:
-        with self._changed:
-            self._started.clear()
-            self.commit = None
-            self._changed.notify_all()
-        if self._connection is not None:
-            self._connection.close()
+        with self.changed:
+            self.copies.stop()
+            self.changed.notify_all()
+        if self.connection is not None:
+            self.connection.close()
 
     def _follow(self, connection: Connection) -> None:
         """Applies what comes, and asks for the tables that are not watched."""
         watched: Set[str] = set()
         due = 0.0
-        while not self._closing.is_set():
+        while not self.closing.is_set():
             missing = len(watched) < len(self.names)
             if missing and time.monotonic() >= due:
                 self._watch(connection, watched)
@@ -144,9 +231,9 @@ class Mirror:
         """Whether the table is watched. How an event is applied depends on the type; where another table took the name meanwhile, the
         subscription is ended again, if it is not the old table's, which has ended by itself."""
         info = ("table_info", name, "type")
-        self._types[name] = first = result(connection.ask(info))
+        self.copies.types[name] = first = result(connection.ask(info))
         try:
-            subscribe(connection, name, True, False)
+            result(connection.ask(subscription(name, True, False)))
         except AlreadySubscribed:
             return True
         second = connection.ask(info)
@@ -154,53 +241,11 @@ class Mirror:
             return True
         with contextlib.suppress(NotSubscribed):
             result(connection.ask(("unsubscribe", ("table", name, "simple"))))
-            self._types[name] = second
+            self.copies.types[name] = second
         return False
 
     def _apply(self, item: Item) -> None:
         """A batch at once, so that no one sees a part of it."""
-        with self._changed:
-            if isinstance(item, Batch):
-                for change in item.changes:
-                    self._take(change)
-                self.commit = item.commit
-            else:
-                self._take(item)
-            self._changed.notify_all()
-
-    def _take(self, event: Event) -> None:
-        if isinstance(event, Begin):
-            self._begin(event)
-        elif isinstance(event, End):
-            self._copies[event.table] = {}
-            self._started.discard(event.table)
-        elif isinstance(event, Overflow):
-            self.overflows += 1
-            self._started.clear()
-            self.commit = None
-        elif isinstance(event, Delete):
-            self._copies[event.table].pop(encode(event.key), None)
-        else:
-            self._change(event)
-
-    def _begin(self, event: Begin) -> None:
-        copy: Dict[bytes, List[Record]] = {}
-        for record in event.records or ():
-            copy.setdefault(encode(record[1]), []).append(record)
-        self._copies[event.table] = copy
-        self._started.add(event.table)
-
-    def _change(self, event: Union[Write, DeleteObject]) -> None:
-        record = event.record
-        copy, key = self._copies[record[0]], encode(record[1])
-        if isinstance(event, DeleteObject):
-            kept = [one for one in copy.get(key, ()) if one != record]
-        elif self._types[record[0]] == "set":
-            kept = [record]
-        else:
-            there = copy.get(key, [])
-            kept = there if record in there else [*there, record]
-        if kept:
-            copy[key] = kept
-        else:
-            copy.pop(key, None)
+        with self.changed:
+            self.copies.apply(item)
+            self.changed.notify_all()

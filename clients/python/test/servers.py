@@ -2,6 +2,7 @@
 
 from __future__ import annotations
 
+import contextlib
 import io
 import os
 import socket
@@ -9,16 +10,23 @@ import subprocess
 import sys
 import threading
 import time
-from typing import Any, List, Optional, Tuple
+import unittest
+from typing import Any, Iterator, List, Optional, Tuple
 
 HERE = os.path.dirname(os.path.abspath(__file__))
-sys.path[:0] = [os.path.join(HERE, ".."), os.path.join(HERE, "..", "..", "..", "examples")]
-# The examples' own spelling of terms, so that none of the client's is compared with itself.
-from frames import frame, read, take  # noqa: E402
+sys.path.insert(0, os.path.join(HERE, ".."))
+from spelled import frame, read, take  # noqa: E402
+
+from tabd import connection  # noqa: E402
+
+# A machine that does much else lets a new connection wait.
+connection.OPENING_SECONDS = 60.0
 
 PROGRAM = os.environ.get("TABD", "")
+# What needs the program is skipped without it.
+needs_program = unittest.skipUnless(os.access(PROGRAM, os.X_OK), "TABD names no program")
 # So long a script waits for what a wrong client sends ahead.
-QUIET = 0.05
+QUIET = 0.03
 
 
 class Server:
@@ -51,6 +59,10 @@ class Server:
         self.kill()
 
 
+class Ahead(Tuple[Any, Any]):
+    """A step, whose request comes together with the next one."""
+
+
 class Replies:
     """In place of one reply: none, or several."""
 
@@ -73,10 +85,11 @@ class Script:
 
     def _play(self) -> None:
         connection, _ = self.listener.accept()
-        stream = connection.makefile("rb")
+        # It must not read more than it is asked for: what is ahead is looked for in the socket.
+        stream = connection.makefile("rb", buffering=0)
         try:
-            for wanted, reply in self.steps:
-                self._step(connection, stream, wanted, reply)
+            for step in self.steps:
+                self._step(connection, stream, step)
             if stream.read(1):
                 self.fault = "a request behind the last step"
         except (OSError, ValueError) as error:
@@ -84,7 +97,8 @@ class Script:
         stream.close()
         connection.close()
 
-    def _step(self, connection: socket.socket, stream: Any, wanted: Any, reply: Any) -> None:
+    def _step(self, connection: socket.socket, stream: Any, step: Tuple[Any, Any]) -> None:
+        wanted, reply = step
         payload = io.BytesIO(take(stream, int.from_bytes(take(stream, 4), "big")))
         take(payload, 1)
         found = read(payload)
@@ -96,7 +110,9 @@ class Script:
         except socket.timeout:
             ahead = b""
         connection.settimeout(None)
-        if ahead:
+        if isinstance(step, Ahead) and not ahead:
+            raise ValueError(f"nothing came together with {wanted!r}")
+        if ahead and not isinstance(step, Ahead):
             raise ValueError(f"something was sent behind {wanted!r}, before its reply")
         if reply is None:
             raise ConnectionAbortedError("as the script says")
@@ -108,3 +124,28 @@ class Script:
         self.thread.join(5)
         self.listener.close()
         return "it goes on" if self.thread.is_alive() else self.fault
+
+
+@contextlib.contextmanager
+def refusing() -> Iterator[int]:
+    """The port of a server that is full: it refuses each connection, and has closed it before anything comes."""
+    listener = socket.socket()
+    listener.bind(("127.0.0.1", 0))
+    listener.listen()
+
+    def serve() -> None:
+        with contextlib.suppress(OSError):
+            while True:
+                connection, _ = listener.accept()
+                connection.sendall(frame(("reply", ("error", ("system_limit", "sessions")))))
+                connection.close()
+
+    thread = threading.Thread(target=serve, daemon=True)
+    thread.start()
+    try:
+        yield listener.getsockname()[1]
+    finally:
+        with contextlib.suppress(OSError):
+            listener.shutdown(socket.SHUT_RDWR)
+        listener.close()
+        thread.join(5)

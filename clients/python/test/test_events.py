@@ -11,12 +11,12 @@ import unittest
 from typing import Dict, List, Optional, Tuple
 from unittest import mock
 
-from servers import Server
+from servers import Server, needs_program
 
 import tabd
 
 SET, BAG = "person", "call"
-SECONDS = 20.0
+SECONDS = 60.0
 COUNT, VALUE = 200, b"v" * 4000
 
 
@@ -76,6 +76,7 @@ def change(client: tabd.Client, chance: random.Random, keys: range) -> None:
         pass
 
 
+@needs_program
 class Served(unittest.TestCase):
     def setUp(self) -> None:
         self.serve("--outbox", "16")
@@ -216,13 +217,13 @@ class Batches(Served):
 
         def ended(mirror: tabd.Mirror) -> bool:
             seen.append((mirror.commit, sum(record[2] for records in copies(mirror).values() for record in records)))
-            return mirror.commit == 101
+            return mirror.commit == 41
 
         with tabd.Mirror(self.client, "a", "b") as mirror:
             self.assertTrue(mirror.wait(lambda one: one.live, SECONDS))
             self.assertIsNone(mirror.commit)
             chances = [random.Random(seed) for seed in range(4)]
-            writers = [threading.Thread(target=lambda one: [move(one) for _ in range(25)], args=(chance,)) for chance in chances]
+            writers = [threading.Thread(target=lambda one: [move(one) for _ in range(10)], args=(chance,)) for chance in chances]
             for thread in writers:
                 thread.start()
             self.assertTrue(mirror.wait(ended, SECONDS))
@@ -287,8 +288,8 @@ class Mirrors(Served):
             flooding = threading.Thread(target=self.flood)
             flooding.start()
             mirror.wait(lambda one: flooding.join() or True, SECONDS)
-            assert mirror._connection is not None
-            widen(mirror._connection.socket)
+            assert mirror._follower.connection is not None
+            widen(mirror._follower.connection.socket)
             self.client.run(lambda t: [t.delete(SET, number) for number in range(1, COUNT)])
             self.client.run(lambda t: t.write((BAG, 1, 1)))
             self.same(mirror)
@@ -299,8 +300,8 @@ class Mirrors(Served):
         self.make_tables()
         with tabd.Mirror(self.client, SET, pause=0.05) as mirror:
             self.assertTrue(mirror.wait(lambda one: one.live, SECONDS))
-            assert mirror._connection is not None
-            mirror._connection.close()
+            assert mirror._follower.connection is not None
+            mirror._follower.connection.close()
             self.client.run(lambda t: t.write((SET, 1, 1)))
             self.same(mirror)
             self.assertEqual(mirror.connections, 2)

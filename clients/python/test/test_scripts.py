@@ -6,12 +6,15 @@ import socket
 import unittest
 from typing import Any, Callable, Tuple
 
-from servers import Replies, Script
+from servers import Ahead, Replies, Script
 
 import tabd
 
 OK, ATOMIC = "ok", ("atomic", "ok")
-BEGIN = ("begin", ("tid", 7))
+# A transaction's comes together with its first request. That of a level comes alone, as the transaction's does before a level, and where a wait
+# for a lock is to be given up.
+BEGIN = Ahead(("begin", ("tid", 7)))
+ALONE = ("begin", ("tid", 7))
 COMMIT = ("commit", ("atomic", 1))
 ABORT = (("abort", "client"), ("aborted", "client"))
 # What waits, and the abort that ends the first wait of a connection.
@@ -48,7 +51,8 @@ class Scripts(unittest.TestCase):
                 t.write(("t", key, key))
             return "done"
 
-        steps = [BEGIN, (write(1), OK), (write(2), "restart"), (write(1), OK), (write(2), OK), (write(3), OK), COMMIT]
+        # Its age is asked for before its first operation.
+        steps = [ALONE, (write(1), OK), (write(2), "restart"), (write(1), OK), (write(2), OK), (write(3), OK), COMMIT]
         self.assertEqual(self.play(lambda client: client.run(function), *steps), "done")
         self.assertEqual(calls, [7, 7])
 
@@ -105,7 +109,7 @@ class Scripts(unittest.TestCase):
             with t.transaction() as inner:
                 inner.write(("t", 2, 2))
 
-        once = [(write(1), OK), BEGIN]
+        once = [(write(1), OK), ALONE]
         steps = [BEGIN, *once, (write(2), "restart"), *once, (write(2), OK), ("commit", ATOMIC), COMMIT]
         self.play(lambda client: client.run(function), *steps)
         self.assertEqual(len(calls), 2)
@@ -124,7 +128,7 @@ class Scripts(unittest.TestCase):
 
             client.run(outer)
 
-        self.play(play, BEGIN, BEGIN, (write(2), "restart"), BEGIN, (write(2), OK), ("commit", ATOMIC), COMMIT)
+        self.play(play, ALONE, ALONE, (write(2), "restart"), ALONE, (write(2), OK), ("commit", ATOMIC), COMMIT)
         self.assertEqual(calls, ["outer", "inner"] * 2)
 
     def test_a_caught_refusal_has_ended_its_level(self) -> None:
@@ -148,7 +152,7 @@ class Scripts(unittest.TestCase):
             t.write(("t", 2, 2))
 
         refused = ("aborted", ("no_exists", "t"))
-        self.play(lambda client: client.run(function), BEGIN, BEGIN, (write(1), refused), (write(2), OK), COMMIT)
+        self.play(lambda client: client.run(function), ALONE, ALONE, (write(1), refused), (write(2), OK), COMMIT)
 
     def test_a_limit_leaves_the_transaction_open(self) -> None:
         def function(t: tabd.Transaction) -> None:
@@ -185,7 +189,7 @@ class Scripts(unittest.TestCase):
     def hasty(self, do: Callable[[tabd.Client], Any], *steps: Tuple[Any, Any]) -> Any:
         """With a client that waits for no lock for long."""
         script = Script(*steps)
-        with tabd.Client(script.port, lock_timeout=0.1) as client:
+        with tabd.Client(script.port, lock_timeout=0.3) as client:
             try:
                 return do(client)
             finally:
@@ -207,7 +211,7 @@ class Scripts(unittest.TestCase):
                 client.run(lambda t: read(t, levels - 1))
             client.run(lambda t: None)
 
-        self.hasty(do, *[BEGIN] * levels, WAIT, *steps, BEGIN, COMMIT)
+        self.hasty(do, *[ALONE] * levels, WAIT, *steps, BEGIN, COMMIT)
 
     def test_a_wait_is_given_up(self) -> None:
         self.given_up(GIVEN_UP)
@@ -229,7 +233,7 @@ class Scripts(unittest.TestCase):
                     inner.read("t", 1)
             t.write(("t", 1, 1))
 
-        self.hasty(lambda client: client.run(function), BEGIN, BEGIN, WAIT, GIVEN_UP, (write(1), OK), COMMIT)
+        self.hasty(lambda client: client.run(function), ALONE, ALONE, WAIT, GIVEN_UP, (write(1), OK), COMMIT)
 
     def test_no_server(self) -> None:
         with socket.socket() as held:

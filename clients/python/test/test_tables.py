@@ -8,14 +8,13 @@ import threading
 import time
 import unittest
 from typing import Any, Callable, List, Type
-from unittest import mock
 
-from servers import Server
+from servers import Server, needs_program
 
 import tabd
-from tabd import connection
 
 
+@needs_program
 class Tables(unittest.TestCase):
     def setUp(self) -> None:
         self.server = Server()
@@ -38,6 +37,45 @@ class Tables(unittest.TestCase):
         self.assertEqual(call.info("index"), [3, 4])
         call.delete()
         self.refused(tabd.NoExists, ("no_exists", "call"), call.info, "size")
+
+    def test_a_tables_own_operations(self) -> None:
+        table = self.client.create_table("t")
+        self.assertEqual((len(table), bool(table)), (0, True))
+        self.assertIsNone(table.write(("t", 1, "a")))
+        table.write(("t", 2, "b"))
+        self.assertEqual((table.read(1), table.read(3), table.keys(), len(table)), ([("t", 1, "a")], [], [1, 2], 2))
+        # In a transaction they are operations of it.
+        with self.assertRaises(tabd.Aborted), self.client.transaction() as t:
+            table.write(("t", 3, "c"))
+            with t.transaction():
+                table.delete(1)
+                self.assertEqual(table.keys(), [2, 3])
+            self.assertEqual(len(table), 2)
+            t.abort("why")
+        table.delete(2)
+        self.assertEqual(table.keys(), [1])
+        self.refused(tabd.BadType, ("bad_type", "t", ("u", 1, 1)), table.write, ("u", 1, 1))
+        self.refused(tabd.BadType, ("bad_type", "t", [1, 1]), table.write, [1, 1])
+        with self.assertRaises(tabd.BadTerm):
+            table.delete(None)
+        self.assertEqual(table.keys(), [1])
+        # Without a key it is the table that is deleted.
+        table.delete()
+        self.refused(tabd.NoExists, ("no_exists", "t"), table.read, 1)
+        self.client.create_table("t").drop()
+        self.refused(tabd.NoExists, ("no_exists", "t"), table.info, "size")
+
+    def test_what_a_transaction_shows(self) -> None:
+        self.client.create_table("t")
+        with self.client.transaction() as t:
+            self.assertEqual(repr(t), "<tabd.Transaction of age None, level 1, open>")
+            t.write(("t", 1, 1))
+            self.assertEqual(repr(t), "<tabd.Transaction of age 1, level 1, open>")
+        self.assertEqual(repr(t), "<tabd.Transaction of age 1, level 1, committed>")
+        with self.client.events("t") as events:
+            self.assertEqual(repr(events), "<tabd.Events of 't', open>")
+        self.assertEqual(repr(events), "<tabd.Events of 't', closed>")
+        self.assertEqual(repr(self.client), f"<tabd.Client of 127.0.0.1:{self.server.port}, 1 of 8 connections>")
 
     def test_operations_on_a_set(self) -> None:
         self.client.create_table("t", ["key", "val"], index=["val"])
@@ -182,14 +220,6 @@ class Tables(unittest.TestCase):
         self.assertGreater(len(calls), 90, "nothing was restarted, so nothing is shown")
         client.close()
 
-    def test_the_server_serves_no_more(self) -> None:
-        with Server(connections=1) as server, mock.patch.object(connection, "OPENING_SECONDS", 0.3):
-            first = tabd.Client(server.port)
-            first.create_table("t")
-            with self.assertRaises(tabd.NotServed):
-                tabd.Client(server.port).create_table("t")
-            first.close()
-
     def test_a_reply_that_takes_too_long(self) -> None:
         self.client.create_table("t")
         patient = tabd.Client(self.server.port, timeout=0.3)
@@ -203,6 +233,7 @@ class Tables(unittest.TestCase):
 
         def older() -> None:
             with patient.transaction() as t:
+                self.assertGreater(t.age, 0, "it is begun before the other")
                 thread.start()
                 inside.wait(10)
                 t.read("t", 1)
@@ -236,6 +267,7 @@ class Tables(unittest.TestCase):
         thread = threading.Thread(target=younger)
         began = time.monotonic()
         with hasty.transaction() as t:
+            self.assertGreater(t.age, 0, "it is begun before the other")
             thread.start()
             inside.wait(10)
             with self.assertRaises(tabd.LockTimeout):
@@ -249,6 +281,7 @@ class Tables(unittest.TestCase):
         self.assertEqual(hasty.run(lambda t: [t.read("t", key) for key in (1, 2, 3)]), [[("t", 1, 1)], [], [("t", 3, 3)]])
 
 
+@needs_program
 class AtASocketFile(unittest.TestCase):
     def setUp(self) -> None:
         self.folder = tempfile.TemporaryDirectory()

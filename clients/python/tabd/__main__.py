@@ -1,0 +1,9 @@
+"""`python3 -m tabd`: the operator's programs, which tabd/cli has."""
+
+from __future__ import annotations
+
+import sys
+
+from .cli import main
+
+sys.exit(main())

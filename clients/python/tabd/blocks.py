@@ -1,0 +1,124 @@
+# SPDX-License-Identifier: Apache-2.0
+"""Blocks that run in a transaction: once (`Client.transaction`), or again until no lock is lost (`Client.attempts`)."""
+
+from __future__ import annotations
+
+from types import TracebackType
+from typing import TYPE_CHECKING, Iterator, Optional, Type
+
+from .errors import Error, NoMore, Restart
+from .transactions import Session, Transaction, finish
+
+if TYPE_CHECKING:
+    from .client import Client
+
+
+class Block:
+    """`with client.transaction() as t`, once."""
+
+    def __init__(self, client: Client) -> None:
+        self._client = client
+        self._transaction: Optional[Transaction] = None
+
+    def __enter__(self) -> Transaction:
+        if self._transaction is not None:
+            raise Error("a block is entered once: each has a transaction() of its own")
+        self._transaction = opened(self._client, None)
+        return self._transaction
+
+    def __exit__(self, kind: Optional[Type[BaseException]], error: Optional[BaseException], trace: Optional[TracebackType]) -> None:
+        transaction = self._transaction
+        assert transaction is not None
+        try:
+            finish(transaction, kind is None)
+        finally:
+            if transaction.level == 1:
+                self._client._end(transaction._session)
+
+
+def opened(client: Client, kept: Optional[Session]) -> Transaction:
+    """A level in this thread's transaction, or the first level: of the transaction that is done again, or of a new one."""
+    outer = client._session()
+    if outer is not None:
+        return outer.open()
+    session = kept or Session(client._pool.take(), client._lock_timeout)
+    transaction = session.open()
+    client._here.session = session
+    return transaction
+
+
+class Attempts(Iterator["Attempt"]):
+    """The attempts of a block: there is another one after each that lost a lock, and none after any other."""
+
+    def __init__(self, client: Client, retries: Optional[int], whole: bool = False) -> None:
+        self._client, self._left = client, retries
+        # Whether the block can't leave the loop but by an error.
+        self._whole = whole
+        self._started = self._again = False
+        # That of the attempt that lost a lock: its transaction is still open at the server, with its age.
+        self._session: Optional[Session] = None
+
+    def __next__(self) -> Attempt:
+        if self._started and not self._again:
+            raise StopIteration
+        self._started, self._again = True, False
+        return Attempt(self)
+
+    def _open(self) -> Transaction:
+        transaction = opened(self._client, self._session)
+        self._session = None
+        return transaction
+
+    def _finish(self, transaction: Transaction, error: Optional[BaseException]) -> bool:
+        """Whether the block is done again. A block that has caught `Restart` and ends as if all were well may have left the loop, so
+        that `Restart` is raised anew."""
+        session = transaction._session
+        if transaction.level > 1:
+            finish(transaction, error is None)
+            return False
+        try:
+            try:
+                finish(transaction, error is None)
+            except Restart as fault:
+                if not self._whole:
+                    raise
+                error = fault
+            if session.restarted and isinstance(error, Exception):
+                self._count()
+                self._again, self._session = True, session
+        finally:
+            if self._again:
+                self._client._leave(session)
+            else:
+                self._client._end(session)
+        return self._again
+
+    def _count(self) -> None:
+        if self._left is not None:
+            if self._left <= 0:
+                raise NoMore("nomore")
+            self._left -= 1
+
+    def __del__(self) -> None:
+        """The loop was left between two attempts. No reply is waited for here: the end of the connection ends its transaction."""
+        session = getattr(self, "_session", None)
+        if session is not None:
+            session.connection.close()
+
+
+class Attempt:
+    """`with attempt as t`, once."""
+
+    def __init__(self, attempts: Attempts) -> None:
+        self._attempts = attempts
+        self._transaction: Optional[Transaction] = None
+
+    def __enter__(self) -> Transaction:
+        if self._transaction is not None:
+            raise Error("an attempt is entered once: the loop gives the next one")
+        self._transaction = self._attempts._open()
+        return self._transaction
+
+    def __exit__(self, kind: Optional[Type[BaseException]], error: Optional[BaseException], trace: Optional[TracebackType]) -> bool:
+        assert self._transaction is not None
+        return self._attempts._finish(self._transaction, error)

@@ -1,0 +1,37 @@
+# SPDX-License-Identifier: Apache-2.0
+"""What a decorator of functions that run in a transaction needs to know of them."""
+
+from __future__ import annotations
+
+import contextlib
+import inspect
+from typing import Any
+
+
+def check_plain(function: Any) -> None:
+    """Raises TypeError for a function whose call gives something that does its work later, after the commit."""
+    if not callable(function):
+        raise TypeError(f"{function!r} is no function")
+    if inspect.iscoroutinefunction(function) or inspect.isasyncgenfunction(function):
+        raise TypeError(f"{function!r} is a coroutine function: tabd.aio has the client for asyncio")
+    if inspect.isgeneratorfunction(function):
+        raise TypeError(f"{function!r} is a generator function: it would run after the commit")
+
+
+def transaction_place(function: Any) -> int:
+    """Where the transaction stands among the parameters: in front, or of a method behind `self` or `cls`."""
+    try:
+        first = next(iter(inspect.signature(function).parameters), "")
+    except (TypeError, ValueError):
+        return 0
+    return 1 if first in ("self", "cls") else 0
+
+
+def without_parameter(run: Any, place: int) -> None:
+    """Shows the signature that the callers see."""
+    with contextlib.suppress(TypeError, ValueError):
+        signature = inspect.signature(run)
+        parameters = list(signature.parameters.values())
+        if len(parameters) > place and parameters[place].kind in (inspect.Parameter.POSITIONAL_ONLY, inspect.Parameter.POSITIONAL_OR_KEYWORD):
+            del parameters[place]
+        run.__signature__ = signature.replace(parameters=parameters)

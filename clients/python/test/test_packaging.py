@@ -1,0 +1,77 @@
+"""What packaging/ has: the completion, the units, and with TABD_LONG=1 the packages."""
+
+from __future__ import annotations
+
+import os
+import shutil
+import subprocess
+import sys
+import tempfile
+import unittest
+from typing import List
+
+from servers import HERE, PROGRAM
+
+PACKAGING = os.path.join(HERE, "..", "..", "..", "packaging")
+UNITS = ("tabd.service", "tabd-socket.service", "tabd-keep.service")
+# What `systemd-analyze security` may rate a unit, times ten.
+MOST = 20
+
+
+def said(*words: str) -> str:
+    return subprocess.run(words, check=True, stdout=subprocess.PIPE, text=True).stdout
+
+
+def is_program() -> bool:
+    """Whether TABD is the program itself, and no script that starts it."""
+    if not PROGRAM or not os.path.isfile(PROGRAM):
+        return False
+    with open(PROGRAM, "rb") as file:
+        return file.read(4) == b"\x7fELF"
+
+
+@unittest.skipUnless(os.path.isdir(PACKAGING), "the client stands alone")
+class Packaging(unittest.TestCase):
+    def completed(self, *words: str) -> List[str]:
+        """What bash offers for the last word."""
+        script = f". {PACKAGING}/tabd-cli.bash; COMP_WORDS=(\"$@\"); COMP_CWORD=$(($# - 1)); _tabd_cli; printf '%s\\n' \"${{COMPREPLY[@]}}\""
+        return said("bash", "-c", script, "bash", *words).split()
+
+    def test_completion(self) -> None:
+        sys.path.insert(0, PACKAGING)
+        self.addCleanup(sys.path.remove, PACKAGING)
+        import manual
+
+        with open(os.path.join(PACKAGING, "tabd-cli.bash"), encoding="utf-8") as file:
+            self.assertEqual(file.read(), manual.completion_of_client(), "packaging/manual.py writes it anew")
+        self.assertEqual(self.completed("tabd-cli", "re"), ["read", "restore"])
+        self.assertEqual(self.completed("tabd-cli", "--server", "4000", "dr"), ["drop"])
+        self.assertEqual(self.completed("tabd-cli", "watch", "--d"), ["--dump", "--detailed"])
+
+    @unittest.skipUnless(shutil.which("systemd-analyze"), "there is no systemd-analyze")
+    def test_units(self) -> None:
+        for unit in UNITS:
+            path = os.path.join(PACKAGING, unit)
+            with self.subTest(unit):
+                said("systemd-analyze", "security", "--offline=true", "--no-pager", f"--threshold={MOST}", path)
+
+    @unittest.skipUnless(os.environ.get("TABD_LONG") and shutil.which("dpkg-deb") and is_program(), "TABD_LONG is not set, or no package can be built")
+    def test_packages(self) -> None:
+        with tempfile.TemporaryDirectory() as folder:
+            paths = said(sys.executable, os.path.join(PACKAGING, "deb"), PROGRAM, folder).split()
+            root = os.path.join(folder, "root")
+            for path in paths:
+                said("dpkg-deb", "-x", path, root)
+            version = said(PROGRAM, "--version").split()[1]
+            self.assertEqual(said(os.path.join(root, "usr/bin/tabd"), "--version"), f"tabd {version}\n")
+            modules = os.path.join(root, "usr/lib/python3/dist-packages")
+            words = [sys.executable, os.path.join(root, "usr/bin/tabd-cli"), "--version"]
+            done = subprocess.run(words, env={**os.environ, "PYTHONPATH": modules}, cwd="/", stdout=subprocess.PIPE, text=True, check=True)
+            self.assertTrue(done.stdout.startswith("tabd-cli "))
+            for name in ("tabd", "tabd-cli"):
+                page = subprocess.run(["man", "-l", f"{root}/usr/share/man/man1/{name}.1.gz"], stdout=subprocess.PIPE, text=True, check=True).stdout
+                self.assertIn("EXIT STATUS", page)
+
+
+if __name__ == "__main__":
+    unittest.main()
