@@ -2,14 +2,18 @@
 """What the documents name is there, and the bytes that docs/PROTOCOL.md prints are what the built program answers.
 
     documents.py PROGRAM
+    documents.py --write | --reset
 
-Of README.md, CONTRIBUTING.md, docs/*.md and the clients' README.md: each file that is named in backticks or by a link is in the
+Of the documents at the top, docs/*.md and the clients' README.md: each file that is named in backticks or by a link is in the
 repository; so is each section that is named with its document, and each crate, function, type and definition (`Type::function` in
 an `impl` of that type, in a table's row that names one file in that file, and under a heading of a crate as a word of its code,
-or of tab_model's or tab_proto's); each `--option` is in the program's help, in that of `rt`, or in the text of a script that the
-same line names. docs/MAP.md has each file of definitions. The frames of docs/PROTOCOL.md, "Bytes", are sent as they stand there,
+or of tab_model's or tab_proto's); each `--option` is in the program's help, in that of `rt`, in tests/conftest.py, or in the text of a
+script that the same line names. docs/MAP.md has each file of definitions. The frames of docs/PROTOCOL.md, "Bytes", are sent as they stand there,
 and spell the terms beside them. One line tells each that differs; the last line is `N passed, M failed`, and the status 1 where
 one failed. It takes some seconds.
+
+No word of the table in CONTRIBUTING.md, "Write", is used more often than .ci/words.tsv says. `--write` lowers its numbers to what is
+there, and `--reset` sets them.
 """
 
 import glob
@@ -23,9 +27,9 @@ import sys
 HERE = os.path.dirname(os.path.abspath(__file__))
 TOP = os.path.dirname(HERE)
 sys.path.insert(0, os.path.join(TOP, "examples"))
+import words  # noqa: E402
 from frames import frame, read, spell, take  # noqa: E402
-
-DOCUMENTS = ["README.md", "CONTRIBUTING.md", "docs/*.md", "clients/*/README.md"]
+from words import DOCUMENTS  # noqa: E402
 
 # What a document names and the repository doesn't have, with the reason.
 ELSEWHERE = {
@@ -43,7 +47,9 @@ ELSEWHERE = {
 # aren't.
 PROTOCOL, MNESIA = "docs/PROTOCOL.md", "docs/MNESIA.md"
 # Programs whose options are theirs, where they stand before them in a line.
-OTHERS = ("erlc", "pip", "mypy", "redis-server", "apt-get")
+OTHERS = ("erlc", "dialyzer", "pip", "mypy", "redis-server", "apt-get")
+# Where the options of the tests stand.
+TESTS = "tests/conftest.py"
 # Crates whose words each document of a crate may say: definitions and commands.
 SHARED = ("tab_model", "tab_proto")
 
@@ -81,7 +87,7 @@ class Tree:
     def __init__(self):
         self.files, self.words, self.owned, self.texts = set(), {}, {}, {}
         for folder, below, names in os.walk(TOP):
-            below[:] = [it for it in below if it not in (".git", "out", "__pycache__")]
+            below[:] = [it for it in below if it not in (".git", "out", "__pycache__") and not it.endswith("_cache")]
             self.files |= {os.path.relpath(os.path.join(folder, name), TOP) for name in names}
         for path in self.files:
             self.add(path)
@@ -113,7 +119,7 @@ class Tree:
     def has(self, path, document):
         """A path stands below the top, the crates, or the document's own folder; a definition's without its ending."""
         place = re.sub(r"\b[A-Z_]{2,}\b", "*", path).rstrip("/")
-        for base in ("", "crates", "crates/*", "crates/*/src", "clients/*", os.path.dirname(document)):
+        for base in ("", "crates", "crates/*", "crates/*/src", "clients/*", "clients/erlang/tabd", os.path.dirname(document)):
             if any(glob.glob(os.path.join(TOP, base, place + ending)) for ending in ("", ".antt", ".rt")):
                 return True
         return False
@@ -195,7 +201,7 @@ class Document:
                 scripts = [text for path, text in self.tree.texts.items() if os.path.basename(path) in re.findall(r"[\w.]+", before)]
                 own = before.rpartition("`")[2] if before.count("`") % 2 else before
                 of_rt = rt is None or re.search(rf"{option}\b", rt)
-                known = option in program or any(option in text for text in scripts) or "rt " in own and of_rt
+                known = option in program or any(option in text for text in (*scripts, self.tree.texts[TESTS])) or "rt " in own and of_rt
                 self.check(known, f"no option {option}")
 
 
@@ -326,6 +332,8 @@ def term_faults(program, text):
 def main():
     if len(sys.argv) != 2:
         sys.exit(__doc__)
+    if sys.argv[1] in ("--write", "--reset"):
+        return words.write(reset=sys.argv[1] == "--reset")
     program, tree = os.path.abspath(sys.argv[1]), Tree()
     helps = "".join(text_of([program, *words, "--help"]) for words in ([], ["serve"], ["replay"])) + "--help --version"
     rt, faults, count = text_of(["rt", "help"]), [], 0
@@ -343,6 +351,8 @@ def main():
                 faults += [f"{path}: {it}" for it in listing_faults(program, listing)]
             faults += [f"{path}: {it}" for it in term_faults(program, document.text)]
             count += sum(len(it.terms) for it in pages)
+    counted, risen = words.faults()
+    faults, count = faults + risen, count + counted
     for fault in faults:
         print(fault)
     print(f"{count - len(faults)} passed, {len(faults)} failed")

@@ -1,6 +1,6 @@
 #!/usr/bin/env python3
-"""Runs the sessions of README.md against `tabd serve --forever` of the built program, in their order, and compares what is printed there;
-and its pipe, of which a reader takes one line.
+"""Runs the sessions of README.md and of docs/TUTORIAL.md, in their order, and compares what is printed there; and README's pipe, of which a
+reader takes one line. Each document's `$` lines say which servers of the built program it needs, and each server gets a free port.
 
     readme.py PROGRAM
 
@@ -20,26 +20,27 @@ TOP = os.path.join(os.path.dirname(os.path.abspath(__file__)), "..")
 SESSION = re.compile(r"^```(pycon|erlang)\n(.*?)^```", re.M | re.S)
 # What makes frames, and what shows them.
 PIPE = re.compile(r"`(\S+ ask) \| \(cd crates/tabd && rt run -- replay\) \| (\S+ show)`")
-PORT = "4000"
+DOCUMENTS = ("README.md", "docs/TUTORIAL.md")
+# A line that starts a server, with its port.
+SERVER = re.compile(r"^    \$ .*\bserve --port (\d+) (.*)$", re.M)
 # The shell's prompt and an expression, and what it printed.
 PROMPT = re.compile(r"^\d+> (.*)\n((?:(?!\d+> ).*\n)*)", re.M)
 
 
-def serve(program):
-    words = [program, "serve", "--port", "0", "--connections", "16", "--forever"]
-    server = subprocess.Popen(words, stdout=subprocess.PIPE, text=True)
+def serve(program, options):
+    server = subprocess.Popen([program, "serve", "--port", "0", *options.split()], stdout=subprocess.PIPE, text=True)
     return server, server.stdout.readline().strip().rsplit(":", 1)[1]
 
 
 class Python:
     """One session, whose names stay from block to block."""
 
-    def __init__(self):
+    def __init__(self, path):
         sys.path.insert(0, f"{TOP}/clients/python")
-        self.names = {}
+        self.path, self.names = path, {}
 
     def differs(self, text):
-        test = doctest.DocTestParser().get_doctest(text, self.names, "README.md", "README.md", 0)
+        test = doctest.DocTestParser().get_doctest(text, self.names, self.path, self.path, 0)
         told = []
         doctest.DocTestRunner().run(test, out=told.append, clear_globs=False)
         self.names = test.globs
@@ -51,7 +52,7 @@ class Erlang:
 
     def __init__(self, room):
         self.room = room
-        sources = [f"{TOP}/clients/erlang/src/{it}" for it in sorted(os.listdir(f"{TOP}/clients/erlang/src")) if it.endswith(".erl")]
+        sources = [f"{TOP}/clients/erlang/tabd/src/{it}" for it in sorted(os.listdir(f"{TOP}/clients/erlang/tabd/src")) if it.endswith(".erl")]
         subprocess.run(["erlc", "-o", room, *sources], check=True)
 
     def differs(self, text):
@@ -77,31 +78,41 @@ def pipe_differs(text, program):
     return "" if told == ("(1, 'ok')\n", "") else f"{words}: {told}\n"
 
 
+def differences(path, program, erlang):
+    """Of each session that is run, what differs."""
+    with open(f"{TOP}/{path}", encoding="utf-8") as file:
+        text = file.read()
+    shells = {"pycon": Python(path), "erlang": erlang}
+    servers = {port: serve(program, options) for port, options in SERVER.findall(text)}
+    try:
+        for kind, session in SESSION.findall(text):
+            if not shells[kind]:
+                print("no erlc: Erlang's session was left out, and what comes after it")
+                return
+            for port, (_, free) in servers.items():
+                session = re.sub(rf"\b{port}\b", free, session)
+            yield shells[kind].differs(session)
+    finally:
+        for server, _ in servers.values():
+            server.kill()
+            server.wait()
+
+
 def main():
     if len(sys.argv) != 2:
         sys.exit(__doc__)
+    program = os.path.abspath(sys.argv[1])
     with open(f"{TOP}/README.md", encoding="utf-8") as file:
-        text = file.read()
-    sessions = SESSION.findall(text)
-    server, port = serve(os.path.abspath(sys.argv[1]))
-    told = pipe_differs(text, os.path.abspath(sys.argv[1]))
-    print(told, end="")
-    passed, failed = (0, 1) if told else (1, 0)
+        differ = [pipe_differs(file.read(), program)]
     with tempfile.TemporaryDirectory() as room:
-        shells = {"pycon": Python(), "erlang": Erlang(room) if shutil.which("erlc") else None}
-        try:
-            for kind, text in sessions:
-                if not shells[kind]:
-                    print("no erlc: Erlang's session was left out, and what comes after it")
-                    break
-                told = shells[kind].differs(text.replace(PORT, port))
-                print(told, end="")
-                passed, failed = (passed, failed + 1) if told else (passed + 1, failed)
-        finally:
-            server.kill()
-            server.wait()
-    print(f"{passed} passed, {failed} failed")
-    sys.exit(1 if failed or not passed else 0)
+        erlang = Erlang(room) if shutil.which("erlc") else None
+        for path in DOCUMENTS:
+            found = list(differences(path, program, erlang))
+            differ += found or [f"{path}: no session was run\n"]
+    print("".join(differ), end="")
+    failed = sum(map(bool, differ))
+    print(f"{len(differ) - failed} passed, {failed} failed")
+    sys.exit(1 if failed else 0)
 
 
 if __name__ == "__main__":

@@ -14,8 +14,9 @@ import sys
 import time
 
 HERE = os.path.dirname(os.path.abspath(__file__))
-sys.path.insert(0, os.path.join(HERE, "..", ".ci"))
-from memory import (  # noqa: E402
+sys.path.insert(0, os.path.join(HERE, ".."))
+from tests.lib.checks import HERE_OK, OK, same, script, side_by_side  # noqa: E402
+from tests.lib.holding import (  # noqa: E402
     ALL_KEYS,
     ALL_RECORDS,
     BY_INDEX,
@@ -35,14 +36,12 @@ from memory import (  # noqa: E402
     long_reads,
     long_record,
     measured,
-    payload,
     size_of,
     small_record,
     table,
     whole_reads,
 )
-from server import HERE_OK, OK, same, script, side_by_side  # noqa: E402
-from frames import spell  # noqa: E402
+from tests.lib.wire import spell  # noqa: E402
 
 RECORDS, TRANSACTIONS, SCANS, DUMPS, READERS, ASKED = 100_000, 1_024, 64, 32, 12, 100
 # As many as a transaction may have, but one.
@@ -73,7 +72,7 @@ def idle_readers(count, answer):
 
 def follow(mirror):
     """The events of the one-shot, each of which has one record more than the one before."""
-    sizes = [len(payload(mirror)) for _ in range(WRITES)]
+    sizes = [len(mirror.payload()) for _ in range(WRITES)]
     same("their growth", {after - before for before, after in zip(sizes, sizes[1:])}, {len(spell(bag_record(0)))})
 
 

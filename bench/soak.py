@@ -16,9 +16,9 @@ import threading
 import time
 
 HERE = os.path.dirname(os.path.abspath(__file__))
-sys.path.insert(0, os.path.join(HERE, "..", ".ci"))
-from metrics import Metered, watch, write  # noqa: E402
-from server import ATOMIC, CREATE, HERE_OK, Differs, same, script  # noqa: E402
+sys.path.insert(0, os.path.join(HERE, ".."))
+from tests.lib.checks import ATOMIC, CREATE, same, script, watch, write  # noqa: E402
+from tests.lib.servers import Metered  # noqa: E402
 
 CLIENTS, HOT, COLD = 16, 3, 100_000
 LINE = 30.0
@@ -109,7 +109,7 @@ def lines(server, told, begun, end):
 
 
 def soak(program, seconds):
-    with Metered(program, 32, None, ("--idle", "60")) as server:
+    with Metered(program, 32, "--idle", "60") as server:
         # The server is killed where it hangs; not before the end.
         server.limit.cancel()
         first = server.connect()
@@ -137,7 +137,7 @@ def soak(program, seconds):
         server.has(sessions=0, open_transactions=0, **{name: told[name] for name in COUNTED})
         page = server.page()
         print(f"{told['connections']} connections, {page['commits_total']} commits, {page['restarts_total']} restarts, {page['waits_total']} waits, {page['overflows_total']} overflows, {page['items_sent_total']} items: as told")
-        same("what it said", set(server.ended().splitlines()) - {f"tabd: session {number} was idle" for number in range(told["connections"] + 10)}, set())
+        same("what it said", set(server.stopped().splitlines()) - {f"tabd: session {number} was idle" for number in range(told["connections"] + 10)}, set())
 
 
 def main():
@@ -145,7 +145,7 @@ def main():
         sys.exit(__doc__)
     try:
         soak(os.path.abspath(sys.argv[1]), float(sys.argv[2]) if sys.argv[2:] else 3600.0)
-    except (Differs, OSError, ValueError) as error:
+    except (AssertionError, OSError, ValueError) as error:
         sys.exit(f"{type(error).__name__} {error}")
 
 

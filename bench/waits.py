@@ -16,8 +16,9 @@ import sys
 import time
 
 HERE = os.path.dirname(os.path.abspath(__file__))
-sys.path.insert(0, os.path.join(HERE, "..", ".ci"))
-from memory import (  # noqa: E402
+sys.path.insert(0, os.path.join(HERE, ".."))
+from tests.lib.checks import ATOMIC, HERE_OK, OK, same, script, side_by_side  # noqa: E402
+from tests.lib.holding import (  # noqa: E402
     ALL_KEYS,
     ALL_RECORDS,
     DUMP,
@@ -28,12 +29,11 @@ from memory import (  # noqa: E402
     fill,
     long_reads,
     long_record,
-    payload,
     size_of,
     small_record,
     table,
 )
-from server import ATOMIC, HERE_OK, OK, Connection, same, script, side_by_side  # noqa: E402
+from tests.lib.wire import Connection  # noqa: E402
 
 RECORDS, BAGGED, WRITES, DUMPS, READS, FINDS, WATCHERS = 100_000, 6_000, 899, 32, 999, 99, 60
 # As many commands on tables as make a journal full, by two, and transactions behind them.
@@ -106,11 +106,11 @@ def many_dumps(server, client):
         client.send(DUMP)
         for _ in range(DUMPS):
             for request in (NO_MORE, DUMP):
-                payload(client)
-                payload(client)
+                client.payload()
+                client.payload()
                 client.send(request)
-        payload(client)
-        payload(client)
+        client.payload()
+        client.payload()
         script_end(client)
 
     return work
@@ -118,8 +118,8 @@ def many_dumps(server, client):
 
 def script_end(client):
     client.send(NO_MORE)
-    payload(client)
-    payload(client)
+    client.payload()
+    client.payload()
 
 
 def watched(server, client, name, count, request, size, events):
@@ -134,7 +134,7 @@ def watched(server, client, name, count, request, size, events):
         ask_long(client, request, size)
         for mirror in mirrors:
             for _ in range(events):
-                payload(mirror)
+                mirror.payload()
             script((mirror, ("unsubscribe", table_at), HERE_OK))
             mirror.event()
             mirror.close()

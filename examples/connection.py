@@ -1,3 +1,4 @@
+# SPDX-License-Identifier: Apache-2.0
 """A connection to `tabd serve`: one request at a time, and the events that come between."""
 
 import io

@@ -1,4 +1,5 @@
 #!/usr/bin/env python3
+# SPDX-License-Identifier: Apache-2.0
 """Requests for `tabd replay` as frames, and its replies as terms, with Python's standard library alone.
 
     frames.py ask                 a session that stands in this file, as frames on standard output

@@ -1,4 +1,5 @@
 #!/usr/bin/env python3
+# SPDX-License-Identifier: Apache-2.0
 """A load on `tabd serve`, with Python's standard library alone.
 
     load.py PROGRAM              as load.py crates/tabd/out/tabd

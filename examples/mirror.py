@@ -1,4 +1,5 @@
 #!/usr/bin/env python3
+# SPDX-License-Identifier: Apache-2.0
 """Mirrors two tables of `tabd replay` by their dumps and events, with Python's standard library alone.
 
     mirror.py PROGRAM [WORD ..]        as mirror.py crates/tabd/out/tabd

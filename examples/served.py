@@ -1,4 +1,5 @@
 #!/usr/bin/env python3
+# SPDX-License-Identifier: Apache-2.0
 """Several writers and a mirror of `tabd serve`, each on a connection of its own, with Python's standard library alone.
 
     served.py PROGRAM            as served.py crates/tabd/out/tabd

@@ -1,15 +1,18 @@
-"""Transactions alone, on plain tables: what history.py holds a served run against. It shares no code with the server.
+"""Transactions alone, on plain tables: what the judge (judging.py) holds a served run against, and the sessions of sessions.py a replay.
+It shares no code with the server.
 
 A table's records stand by their keys' spellings, and those of a key in the order of their insertion. Tables are never changed:
 each change makes new ones, so those of every commit can be kept.
 """
 
-from frames import spell
+from typing import Any, Dict, Tuple
+
+from tests.lib.wire import spell
 
 # Of each table its type; both have a key, a class, by which there is an index, and a value.
 KINDS = {"t": "set", "b": "bag"}
 OPTIONS = {tab: [("type", kind), ("attributes", ["key", "class", "value"]), ("index", ["class"])] for tab, kind in KINDS.items()}
-EMPTY = {tab: {} for tab in KINDS}
+EMPTY: Dict[str, Dict[bytes, Any]] = {tab: {} for tab in KINDS}
 SIZE, INDEXED = 4, 3
 UPDATES = ("write", "delete", "delete_object")
 
@@ -49,7 +52,7 @@ def updated(tables, update):
     key, rows = spell(what[1]), tables[what[0]]
     old = rows.get(key, ())
     if name == "delete":
-        new = ()
+        new: Tuple[Any, ...] = ()
     elif name == "delete_object":
         new = tuple(record for record in old if record != what)
     elif KINDS[what[0]] == "set":

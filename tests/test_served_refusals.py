@@ -1,77 +1,27 @@
-#!/usr/bin/env python3
-"""Refuses the built program's server one allocation or thread, each in turn, while one connection is served, and asks on another.
-
-    served_refusals.py PROGRAM
+"""A server with one allocation or thread refused, each in turn, while one connection is served, and another asks.
 
 Each case is run once for each allocation and each thread that the server makes for one request, one connection or one event: with the
 nth refused. The session is told `no_memory` and goes on, or, where memory was refused for a connection, a thread, a reply's frame or an
-event, it is closed with no frame; how many were is told. No lock, level or request is left of it: another connection
+event, it is closed with no frame. No lock, level or request is left of it: another connection
 writes the same key and changes the table's indexes. What was told `no_memory` is told its reply when it is asked again. From the
-allocations of many commits it is seen which is the first that folds the journal of a server whose words don't set it. Wants a
-C compiler, for a `malloc` that refuses. One line tells each run that differs; the last line is `N passed, M failed`, and the status 1
-where one failed.
+allocations of many commits it is seen which is the first that folds the journal of a server whose words don't set it.
 """
 
 import collections
-import concurrent.futures
-import mmap
-import os
+import itertools
 import select
-import struct
 import subprocess
 import sys
-import tempfile
 import time
+from typing import Any, Counter, List
 
-HERE = os.path.dirname(os.path.abspath(__file__))
-sys.path.insert(0, os.path.join(HERE, "..", "examples"))
-from connection import Connection  # noqa: E402
-from server import ATOMIC, HERE_OK, OK, Differs, event, same, watch, write  # noqa: E402
+import pytest
 
-# While the first number of CONTROL is not 0, allocations and threads are counted in the second, and the one with that number refused.
-MALLOC = r"""
-#define _GNU_SOURCE
-#include <dlfcn.h>
-#include <errno.h>
-#include <fcntl.h>
-#include <pthread.h>
-#include <stdlib.h>
-#include <sys/mman.h>
-
-static long *control;
-static void *(*allocate)(size_t), *(*move)(void *, size_t);
-
-__attribute__((constructor)) static void start(void) {
-    int file = open(getenv("CONTROL"), O_RDWR);
-    control = mmap(0, 2 * sizeof(long), PROT_READ | PROT_WRITE, MAP_SHARED, file, 0);
-}
-
-static int refuses(void) {
-    long nth = control && control != MAP_FAILED ? __atomic_load_n(control, __ATOMIC_SEQ_CST) : 0;
-    return nth && __atomic_add_fetch(control + 1, 1, __ATOMIC_SEQ_CST) == nth;
-}
-
-void *malloc(size_t size) {
-    if (!allocate)
-        allocate = (void *(*)(size_t))dlsym(RTLD_NEXT, "malloc");
-    return refuses() ? 0 : allocate(size);
-}
-
-void *realloc(void *room, size_t size) {
-    if (!move)
-        move = (void *(*)(void *, size_t))dlsym(RTLD_NEXT, "realloc");
-    return refuses() ? 0 : move(room, size);
-}
-
-int pthread_create(pthread_t *thread, const pthread_attr_t *how, void *(*run)(void *), void *given) {
-    int (*create)(pthread_t *, const pthread_attr_t *, void *(*)(void *), void *) = dlsym(RTLD_NEXT, "pthread_create");
-    return refuses() ? EAGAIN : create(thread, how, run, given);
-}
-"""
+from tests.lib.checks import ATOMIC, HERE_OK, MARK, OK, event, same, watch, write
+from tests.lib.refusing import NO_MEMORY, RefusedServer, built
 
 # The frame that is read takes the first allocations: the bytes, the payload, and the list of the frames.
 OF_A_FRAME = 3
-NO_MEMORY, MARK = ("error", "no_memory"), ("mnesia_table_begin", "t", "simple")
 # So many runs in which nothing was refused, and none is left.
 NONE_LEFT = 2
 # No request takes so many: it is counted, and nothing refused.
@@ -80,45 +30,7 @@ COUNTED, COUNTS = 1_000_000, 3
 JOURNAL = 1024
 # An end that no reply tells takes so many seconds at most; who waits for a lock was told nothing for so many.
 PATIENCE, QUIET = 20.0, 0.05
-SHIM = os.environ.get("TABD_SHIM", "")
-CREATES = [("create_table", name, []) for name in ("t", "u", "w")]
-
-
-class Server:
-    """One whose allocations can be refused, for so many connections."""
-
-    def __init__(self, program, count, *words):
-        self.file = tempfile.TemporaryFile()
-        self.file.truncate(16)
-        self.control = mmap.mmap(self.file.fileno(), 16)
-        env = {"LD_PRELOAD": SHIM, "CONTROL": f"/proc/self/fd/{self.file.fileno()}"}
-        asked = [program, "serve", "--port", "0", "--connections", str(count), *words]
-        pipe = subprocess.PIPE
-        self.process = subprocess.Popen(asked, stdout=pipe, stderr=pipe, text=True, env=env, pass_fds=[self.file.fileno()])
-        self.port = int(self.process.stdout.readline().rsplit(":", 1)[1])
-
-    def __enter__(self):
-        return self
-
-    def __exit__(self, *_):
-        self.process.kill()
-        self.process.communicate()
-        self.control.close()
-        self.file.close()
-
-    def refuse(self, nth):
-        self.control[:] = struct.pack("ll", nth, 0)
-
-    def made(self):
-        """How many allocations and threads were made since; from here on none is refused."""
-        nth, count = struct.unpack("ll", self.control[:])
-        self.control[:8] = struct.pack("l", 0)
-        self.nth = nth
-        return count
-
-    def ends(self):
-        _, err = self.process.communicate(timeout=PATIENCE)
-        same("its end", (self.process.returncode, err), (0, ""))
+CREATES: List[Any] = [("create_table", name, []) for name in ("t", "u", "w")]
 
 
 class Closed(Exception):
@@ -130,7 +42,7 @@ def received(connection):
         return connection.receive()
     except (ConnectionError, ValueError):
         if connection.stream.read():
-            raise Differs("it is closed inside a frame") from None
+            raise AssertionError("it is closed inside a frame") from None
         raise Closed from None
 
 
@@ -218,9 +130,9 @@ class Case:
             # An age that it used up is not told.
             same("again", asked(first, self.request)[0], self.reply[0])
 
-    def run(self, program, nth):
-        with Server(program, 3, *self.words) as server:
-            first, second, other = connections = [Connection(server.port) for _ in range(3)]
+    def run(self, serve, nth):
+        with serve("--connections", "3", *self.words) as server:
+            first, second, other = connections = [server.connect() for _ in range(3)]
             script(*((other, create, ATOMIC) for create in CREATES), (first, "commit", ("error", "no_transaction")))
             script(*((connections[who - 1], request, reply) for who, request, reply in self.before))
             if (1, watch(), HERE_OK) in self.before:
@@ -249,13 +161,13 @@ class Case:
             return "were closed for an event"
         if told == "closed" and nth >= self.all:
             return "were closed for a reply's frame"
-        raise Differs(f"told {told}, wanted {self.reply}")
+        raise AssertionError(f"told {told}, wanted {self.reply}")
 
-    def counted(self, program):
+    def counted(self, serve):
         """How many allocations it takes where none is refused. A thread of a connection that begins late takes some beside them."""
         self.all = sys.maxsize
         for _ in range(COUNTS):
-            self.run(program, COUNTED)
+            self.run(serve, COUNTED)
             self.all = min(self.all, self.count)
 
 
@@ -267,12 +179,12 @@ class Watched:
     def __init__(self, name, before=(), *words):
         self.name, self.before, self.words, self.number = name, before, words, len(before) + 1
 
-    def counted(self, program):
+    def counted(self, serve):
         pass
 
-    def run(self, program, nth):
-        with Server(program, 2, *self.words) as server:
-            first, second = Connection(server.port), Connection(server.port)
+    def run(self, serve, nth):
+        with serve("--connections", "2", *self.words) as server:
+            first, second = server.connect(), server.connect()
             script(*((second, create, ATOMIC) for create in CREATES), (first, watch(), HERE_OK))
             same("begin marker", first.event(), MARK)
             script(*((second, request, reply) for _, request, reply in self.before), (second, "begin", ("tid", self.number)))
@@ -284,8 +196,7 @@ class Watched:
                 told = "closed"
             end = self.told(first, told)
             made = server.made()
-            if made < nth and end != "had its reply":
-                raise Differs(f"nothing refused, and told {told}, and {end}")
+            assert made >= nth or end == "had its reply", f"nothing refused, and told {told}"
             if told == NO_MEMORY:
                 script((second, "commit", ("atomic", self.number)))
                 same("again", self.told(first, ("atomic", self.number)), "had its reply")
@@ -328,19 +239,18 @@ class Joins:
     def __init__(self, name, *words):
         self.name, self.words = name, words
 
-    def counted(self, program):
+    def counted(self, serve):
         pass
 
-    def run(self, program, nth):
-        with Server(program, 2, *self.words) as server:
-            second = Connection(server.port)
+    def run(self, serve, nth):
+        with serve("--connections", "2", *self.words) as server:
+            second = server.connect()
             script(*((second, create, ATOMIC) for create in CREATES))
             server.refuse(nth)
-            first = Connection(server.port)
+            first = server.connect()
             end = self.joined(first)
             made = server.made()
-            if made < nth and end != "had its reply":
-                raise Differs(f"nothing refused, and {end}")
+            assert made >= nth or end == "had its reply", "nothing refused"
             probe(second)
             first.close()
             if self.words:
@@ -363,7 +273,7 @@ class Joins:
     def seat_is_free(self, server):
         end = time.monotonic() + PATIENCE
         while time.monotonic() < end:
-            other = Connection(server.port)
+            other = server.connect()
             try:
                 if asked(other, "begin")[0] == "tid":
                     return
@@ -372,7 +282,7 @@ class Joins:
             finally:
                 other.close()
             time.sleep(0.002)
-        raise Differs("no seat is free")
+        raise AssertionError("no seat is free")
 
 
 TID, IN_T = ("tid", 1), [(1, "begin", ("tid", 1)), (1, write(1, "a"), OK)]
@@ -392,7 +302,7 @@ HELD = [(2, "begin", ("tid", 1)), (2, ("wread", ("w", 1)), [])]
 FULL = [(2, ("transaction", [("write", ("w", number, 0))], 0), ("atomic", [OK])) for number in range(16)]
 WAITS = [(1, "begin", ("tid", 1)), (1, write(1, "a"), OK), (2, "begin", ("tid", 2)), (2, ("read", "u", 1), [])]
 
-CASES = [
+CASES: List[Any] = [
     Case("a begin", [], "begin", TID),
     Case("a child's begin", IN_T, "begin", TID, True),
     Case("a write", IN_U, ("write", ("u", 1, "a")), OK, True),
@@ -408,7 +318,9 @@ CASES = [
     Case("a read of no table", [(1, "begin", TID), (1, "begin", TID)], ("read", "nosuch", 1), ("aborted", ("no_exists", "nosuch")), True),
     Case("a write that waits", WAITS, ("write", ("u", 1, "a")), OK, True, True),
     Case("a commit", IN_T, "commit", ("atomic", 1), True),
-    Case("a commit that folds", [*FULL, (1, "begin", ("tid", 17)), (1, write(1, "a"), OK)], "commit", ("atomic", 17), True, words=("--journal", "16")),
+    Case(
+        "a commit that folds", [*FULL, (1, "begin", ("tid", 17)), (1, write(1, "a"), OK)], "commit", ("atomic", 17), True, words=("--journal", "16")
+    ),
     Case("a child's commit", [*IN_T, (1, "begin", TID), (1, write(1, "b"), OK)], "commit", ATOMIC, True),
     Case("an abort", IN_T, ("abort", ("why", [1, b"x"])), ("aborted", ("why", [1, b"x"])), True),
     Case("a new table", [], ("create_table", "v", [("attributes", ["k", "v", "w"]), ("index", ["w"])]), ATOMIC),
@@ -429,66 +341,45 @@ CASES = [
 ]
 
 
-def all_ends(one):
-    """How the runs of a case ended, and what differs, for each allocation until none is left."""
-    program, case = one
-    ends, faults, nth = collections.Counter(), [], 0
-    try:
-        case.counted(program)
-        while ends["none"] < NONE_LEFT and len(faults) < 5:
-            nth += 1
-            try:
-                ends[case.run(program, nth)] += 1
-            except (Differs, Closed, OSError, ValueError, subprocess.TimeoutExpired) as error:
-                faults.append(f"{case.name}, allocation {nth}: {type(error).__name__} {error}")
-    except (Differs, Closed, OSError, ValueError, subprocess.TimeoutExpired) as error:
-        faults.append(f"{case.name}: {type(error).__name__} {error}")
-    return ends, faults
+@pytest.fixture(scope="session")
+def refused(tabd, tmp_path_factory):
+    """Starts a server of some words whose allocations can be refused."""
+    library = built("refusing_server", tmp_path_factory.mktemp("refusing"))
+    serve = lambda *words: RefusedServer(tabd, library, *words)
+    with serve("--connections", "1") as server:
+        server.refuse(COUNTED)
+        server.connect().ask("begin")
+        if not server.made():
+            pytest.skip("the program has an allocator of its own, and no allocation can be refused it")
+    return serve
 
 
-def journal_faults(program):
+@pytest.mark.parametrize("case", CASES, ids=[case.name for case in CASES])
+def test_refused(refused, case):
+    """For each allocation until none is left; how often the runs ended in each way is printed."""
+    ends: Counter[str] = collections.Counter()
+    faults: List[str] = []
+    case.counted(refused)
+    for nth in itertools.count(1):
+        if ends["none"] == NONE_LEFT or len(faults) == 5:
+            break
+        try:
+            ends[case.run(refused, nth)] += 1
+        except (AssertionError, Closed, OSError, ValueError, subprocess.TimeoutExpired) as error:
+            faults.append(f"allocation {nth}: {type(error).__name__} {error}")
+    print(ends)
+    assert not faults
+
+
+def test_a_journal_that_no_word_sets(refused):
     """A commit that folds takes more allocations. The table's entry stands before the commits, so as many fold nothing as the
     journal has entries, but one."""
     made = []
-    try:
-        with Server(program, 1) as server:
-            connection = Connection(server.port)
-            script((connection, CREATES[0], ATOMIC))
-            for number in range(1, JOURNAL + 10):
-                server.refuse(COUNTED)
-                script((connection, ("transaction", [write(1, number)], 0), ("atomic", [OK])))
-                made.append(server.made())
-            same("the last commit that folds nothing", max(n for n, count in enumerate(made, 1) if count == min(made)), JOURNAL - 1)
-    except (Differs, Closed, OSError, ValueError) as error:
-        yield f"a journal that no word sets: {type(error).__name__} {error}"
-
-
-def shim(folder):
-    source, built = f"{folder}/malloc.c", f"{folder}/malloc.so"
-    with open(source, "w", encoding="utf-8") as file:
-        file.write(MALLOC)
-    subprocess.run(["cc", "-shared", "-fPIC", "-O1", "-o", built, source, "-ldl", "-lpthread"], check=True)
-    return built
-
-
-def main():
-    global SHIM
-    if len(sys.argv) != 2:
-        sys.exit(__doc__)
-    program = os.path.abspath(sys.argv[1])
-    with tempfile.TemporaryDirectory() as folder:
-        SHIM = shim(folder)
-        with concurrent.futures.ProcessPoolExecutor(2 * os.cpu_count()) as pool:
-            told = list(pool.map(all_ends, [(program, case) for case in CASES]))
-        journal = list(journal_faults(program))
-    total = sum((ends for ends, _ in told), collections.Counter())
-    faults = [fault for _, found in told for fault in found] + journal
-    for fault in faults:
-        print(fault)
-    print(", ".join(f"{count} {end}" for end, count in total.items() if end != "none"))
-    print(f"{sum(total.values()) - total['none'] + (not journal)} passed, {len(faults)} failed")
-    sys.exit(1 if faults else 0)
-
-
-if __name__ == "__main__":
-    main()
+    with refused("--connections", "1") as server:
+        connection = server.connect()
+        script((connection, CREATES[0], ATOMIC))
+        for number in range(1, JOURNAL + 10):
+            server.refuse(COUNTED)
+            script((connection, ("transaction", [write(1, number)], 0), ("atomic", [OK])))
+            made.append(server.made())
+    assert max(n for n, count in enumerate(made, 1) if count == min(made)) == JOURNAL - 1, "the last commit that folds nothing"

@@ -1,18 +1,17 @@
-"""Wrong servers for history.py: each stands between the clients and a server that is right, and breaks one rule.
+"""Wrong servers for test_history.py: each stands between the clients and a server that is right, and breaks one rule.
 
 A wrong server sees each request before the server does, and each frame before its client does, and says what goes on. So it
 can lose a lock, by asking for a record outside of the client's transaction, and drop, double or swap what is told.
 """
 
-import io
 import select
 import socket
 import threading
 import time
 from collections import deque
+from typing import Any, Deque, Dict, List, Set
 
-from connection import Connection
-from frames import frame, read, spell
+from tests.lib.wire import Connection, Term, frame, spell, term_of
 
 # Every so many of a kind are done wrong.
 OFTEN = 23
@@ -26,7 +25,9 @@ class Link:
         self.client.setsockopt(socket.IPPROTO_TCP, socket.TCP_NODELAY, 1)
         # The requests that are not answered yet, the open levels, the keys that the transaction may have changed, what is held
         # back, and whatever else a wrong server notes of it.
-        self.pending, self.depth, self.touched, self.held, self.notes = deque(), 0, set(), [], {}
+        self.pending: Deque[Term] = deque()
+        self.depth, self.touched, self.held = 0, set(), []  # type: int, Set[Any], List[Term]
+        self.notes: Dict[Any, Any] = {}
         # Whether it watches all at level detailed, so that the order of the commits is read off it.
         self.records = False
 
@@ -48,7 +49,7 @@ class Link:
 
     def pass_on(self, end, data):
         while len(data) >= 4 and len(data) >= (size := 4 + int.from_bytes(data[:4], "big")):
-            term = read(io.BytesIO(data[5:size]))
+            term = term_of(bytes(data[:size]))
             del data[:size]
             if end is self.client:
                 self.asked(term)
@@ -106,7 +107,8 @@ class Wrong:
     small, spares = False, False
 
     def __init__(self, port):
-        self.port, self.count, self.notes, self.lock = port, 0, {}, threading.Lock()
+        self.port, self.count, self.lock = port, 0, threading.Lock()
+        self.notes: Dict[Any, Any] = {}
         self.listener = socket.create_server(("127.0.0.1", 0))
         self.aside, self.aside_lock = Connection(port), threading.Lock()
         threading.Thread(target=self.accept, daemon=True).start()

@@ -1,4 +1,4 @@
-"""Scripts of sessions for `streams.py`: each request with its session and the reply that docs/PROTOCOL.md says, by hand.
+"""Scripts of sessions for streams.py: each request with its session and the reply that docs/PROTOCOL.md says, by hand.
 
 A script is a name, the capacity of the outboxes, and steps: the session, the request, and the reply.
 """

@@ -1,6 +1,8 @@
-"""One-shots for refusals.py: what was asked before each, the one-shot of session 1, its reply, and what a probe finds behind
+"""One-shots for test_refusals.py: what was asked before each, the one-shot of session 1, its reply, and what a probe finds behind
 it where it was refused memory. Replies are those that docs/PROTOCOL.md says, by hand.
 """
+
+from typing import Any, List
 
 OK, ATOMIC, HERE = "ok", ("atomic", "ok"), ("ok", "nonode@nohost")
 TABLES = [
@@ -51,14 +53,14 @@ def shot(*parts, retries=2):
 
 def deep(levels):
     """So many inner ones, each inside the one before."""
-    parts = [("write", ("t", 1, "deep"))]
+    parts: List[Any] = [("write", ("t", 1, "deep"))]
     for _ in range(levels):
         parts = [("transaction", parts)]
     return parts
 
 
 def deep_told(levels):
-    told = [OK]
+    told: List[Any] = [OK]
     for _ in range(levels):
         told = [("atomic", told)]
     return told

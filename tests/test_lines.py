@@ -1,25 +1,20 @@
-#!/usr/bin/env python3
-"""Runs the built program over command lines and sessions, and compares exit status, standard output and standard error.
-
-    lines.py PROGRAM
+"""The built program over command lines and sessions: exit status, standard output and standard error.
 
 What stands between the proved function `run` and the operating system has no contract: the words of the process, its
-streams, its status. Expected values are written here by hand; streams.py has the streams that another program made. One line
-tells each case that differs; the last line is `N passed, M failed`, and the status 1 where one failed.
+streams, its status. Expected values are written here by hand; test_streams.py has the streams that another program made.
 """
 
 import os
 import resource
 import socket
 import subprocess
-import sys
+from typing import Any, List
 
-HERE = os.path.dirname(os.path.abspath(__file__))
-sys.path.insert(0, os.path.join(HERE, "..", "examples"))
-from frames import frame  # noqa: E402
+import pytest
 
-DAMAGED = b"tabd: damaged input\n"
-DEVICE = b"tabd: device\n"
+from tests.lib.streams import DAMAGED, DEVICE
+from tests.lib.wire import Term, frame, frames
+
 LONGEST = 1_048_576
 GREATEST = 4_294_967_295
 # A process that reads what follows has so many bytes of addresses: room for the bytes that came, and not for all that their
@@ -27,9 +22,10 @@ GREATEST = 4_294_967_295
 LITTLE = 64 * 1_048_576
 # The same for a process that reads a map as long as a payload may be: the pairs, with room for as many again, take 16 MB.
 FOR_A_MAP = 48 * 1_048_576
+ASKED, CLOSED = frame((1, "join")), DEVICE + b"tabd: a standard stream is closed\n"
 
 # Words, the status, and what standard output and standard error begin with; where a text is empty, nothing stands there.
-WORDS = [
+WORDS: List[Any] = [
     ([], 2, b"", b"error: "),
     (["nosuch"], 2, b"", b"error: "),
     (["servo"], 2, b"", b"error: "),
@@ -66,10 +62,6 @@ WORDS = [
 ]
 
 
-def frames(*terms):
-    return b"".join(frame(term) for term in terms)
-
-
 def longest(size):
     """A session that writes a record in a payload of so many bytes."""
     start = [(1, "join"), (1, ("create_table", "t", [])), (1, "begin")]
@@ -79,8 +71,8 @@ def longest(size):
 
 def commits(count):
     """As many transactions of one write, and what is answered."""
-    asked = [(1, "join"), (1, ("create_table", "t", []))]
-    told = [(1, "ok"), (1, ("atomic", "ok"))]
+    asked: List[Term] = [(1, "join"), (1, ("create_table", "t", []))]
+    told: List[Term] = [(1, "ok"), (1, ("atomic", "ok"))]
     for number in range(1, count + 1):
         asked += [(1, "begin"), (1, ("write", ("t", number % 7, number))), (1, "commit")]
         told += [(1, ("tid", number)), (1, "ok"), (1, ("atomic", number))]
@@ -89,7 +81,7 @@ def commits(count):
 
 def begins(count):
     """As many transactions that are aborted at once: each has the next age."""
-    asked, told = [(1, "join")], [(1, "ok")]
+    asked, told = [(1, "join")], [(1, "ok")]  # type: List[Term], List[Term]
     for age in range(1, count + 1):
         asked += [(1, "begin"), (1, ("abort", "why"))]
         told += [(1, ("tid", age)), (1, ("aborted", "why"))]
@@ -101,7 +93,7 @@ def used_up():
     read, levels, operations = ("read", "t", 1), 16, 1000
     limit = {what: (1, ("error", ("system_limit", what))) for what in ("nesting", "operations")}
     children = levels - 1
-    steps = [((1, "join"), (1, "ok")), ((1, ("create_table", "t", [])), (1, ("atomic", "ok")))]
+    steps: List[Term] = [((1, "join"), (1, "ok")), ((1, ("create_table", "t", [])), (1, ("atomic", "ok")))]
     steps += [((1, "begin"), (1, ("tid", 1)))] * levels + [((1, read), (1, []))] * (operations - children)
     steps += [((1, "begin"), limit["nesting"]), ((1, read), limit["operations"]), ((1, "commit"), (1, ("atomic", "ok")))]
     steps += [((1, "begin"), limit["operations"])] + [((1, "commit"), (1, ("atomic", "ok")))] * (children - 1)
@@ -112,8 +104,8 @@ def used_up():
 def watched(count):
     """64 sessions watch as many commits; all but the last take each batch, and the last is told of its overflow."""
     sessions, last = range(1, 65), 64
-    asked = [(session, "join") for session in sessions] + [(1, ("create_table", "t", []))]
-    told = [(session, "ok") for session in sessions] + [(1, ("atomic", "ok"))]
+    asked: List[Term] = [(session, "join") for session in sessions] + [(1, ("create_table", "t", []))]
+    told: List[Term] = [(session, "ok") for session in sessions] + [(1, ("atomic", "ok"))]
     begun, none = ("mnesia_table_begin", "t", "simple"), "empty"
     batches = [
         ("batch", number, [("mnesia_table_event", ("write", ("t", number % 7, number), ("tid", number)))])
@@ -147,7 +139,7 @@ def payloads(*each):
 
 def nested(levels):
     """A tuple in a tuple, with so many levels in all."""
-    term = ()
+    term: Term = ()
     for _ in range(levels - 1):
         term = (term,)
     return term
@@ -161,22 +153,6 @@ def odd_payloads():
     no_term, no_command = (0, ("error", "badterm")), (0, ("error", "badcommand"))
     asked = payloads(lists, tuples, binary) + frames((1, nested(63)), (1, nested(64)), (1, "join"))
     return asked, frames(no_term, no_term, no_command, (1, no_command[1]), no_term, (1, "ok"))
-
-
-def streams():
-    """Name, further words, input, output, status and standard error of a replay."""
-    begun = frames((1, "ok"), (1, ("atomic", "ok")), (1, ("tid", 1)))
-    return [
-        ("the greatest session", [], frames((GREATEST, "join")), frames((GREATEST, "ok")), 0, b""),
-        ("the longest payload", [], longest(LONGEST), begun + frames((1, "ok")), 0, b""),
-        ("a payload that is too long", [], longest(LONGEST + 1), begun, 3, DAMAGED),
-        ("the longest and the deepest", [], *odd_payloads(), 0, b""),
-        ("10,000 commits", [], *commits(10_000), 0, b""),
-        # Past ages of two bytes.
-        ("65,540 begins", [], *begins(65_540), 0, b""),
-        ("both limits", [], *used_up(), 0, b""),
-        ("64 subscribers", [], *watched(70), 0, b""),
-    ]
 
 
 def run(program, words, **streams):
@@ -198,95 +174,97 @@ def longest_map():
     return payloads(head + count.to_bytes(4, "big") + pairs), frames((1, ("error", "badcommand")))
 
 
-def memory_faults(program):
-    """Counts reserve no more than the bytes that came, and a map little more than its pairs."""
-    for what, (given, told), size in [("counts", announced(), LITTLE), ("a map", longest_map(), FOR_A_MAP)]:
-        limit = lambda size=size: resource.setrlimit(resource.RLIMIT_AS, (size, size))
-        found = run(program, ["replay"], input=given, stdout=subprocess.PIPE, preexec_fn=limit)
-        yield None if found == (0, told, b"") else f"{what} in little memory: {found}"
-
-
 def is_told(wanted, found):
     return found.startswith(wanted) if wanted else not found
 
 
-def word_faults(program):
-    for words, status, out, err in WORDS:
-        found = run(program, words, stdin=subprocess.DEVNULL, stdout=subprocess.PIPE)
-        right = found[0] == status and is_told(out, found[1]) and is_told(err, found[2])
-        yield None if right else f"{words}: {found}"
+@pytest.mark.parametrize("words, status, out, err", WORDS, ids=[" ".join(map(str, words)) or "none" for words, *_ in WORDS])
+def test_words(tabd, words, status, out, err):
+    found = run(tabd, words, stdin=subprocess.DEVNULL, stdout=subprocess.PIPE)
+    assert found[0] == status and is_told(out, found[1]) and is_told(err, found[2]), found
 
 
-def stream_faults(program):
-    for name, words, given, told, status, err in streams():
-        found = run(program, ["replay", *words], input=given, stdout=subprocess.PIPE)
-        yield None if found == (status, told, err) else f"{name}: status {found[0]}, {len(found[1])} bytes, {found[2]}"
+BEGUN = frames((1, "ok"), (1, ("atomic", "ok")), (1, ("tid", 1)))
+# Input and output, made when they are needed, status and standard error of a replay.
+STREAMS = [
+    pytest.param(lambda: (frames((GREATEST, "join")), frames((GREATEST, "ok"))), 0, b"", id="the greatest session"),
+    pytest.param(lambda: (longest(LONGEST), BEGUN + frames((1, "ok"))), 0, b"", id="the longest payload"),
+    pytest.param(lambda: (longest(LONGEST + 1), BEGUN), 3, DAMAGED, id="a payload that is too long"),
+    pytest.param(odd_payloads, 0, b"", id="the longest and the deepest"),
+    pytest.param(lambda: commits(10_000), 0, b"", id="10,000 commits"),
+    # Past ages of two bytes.
+    pytest.param(lambda: begins(65_540), 0, b"", id="65,540 begins"),
+    pytest.param(used_up, 0, b"", id="both limits"),
+    pytest.param(lambda: watched(70), 0, b"", id="64 subscribers"),
+]
 
 
-def device_faults(program):
-    """A reply that can't be written, and an input that can't be read."""
-    asked = frames((1, "join"))
-    if os.path.exists("/dev/full"):
-        with open("/dev/full", "wb") as full:
-            status, _, err = run(program, ["replay"], input=asked, stdout=full)
-            yield None if (status, err) == (1, DEVICE) else f"a full output: {status}, {err}"
+@pytest.mark.parametrize("stream, status, err", STREAMS)
+def test_stream(tabd, stream, status, err):
+    given, told = stream()
+    found = run(tabd, ["replay"], input=given, stdout=subprocess.PIPE)
+    assert (found[0], found[2]) == (status, err)
+    is_same = found[1] == told
+    assert is_same, f"{len(found[1])} bytes, wanted {len(told)}"
+
+
+@pytest.mark.parametrize("stream, size", [(announced, LITTLE), (longest_map, FOR_A_MAP)], ids=["counts", "a map"])
+def test_in_little_memory(tabd, plain, stream, size):
+    """Counts reserve no more than the bytes that came, and a map little more than its pairs."""
+    given, told = stream()
+    limit = lambda: resource.setrlimit(resource.RLIMIT_AS, (size, size))
+    assert run(tabd, ["replay"], input=given, stdout=subprocess.PIPE, preexec_fn=limit) == (0, told, b"")
+
+
+@pytest.fixture
+def full():
+    """A device that has no room."""
+    with open("/dev/full", "wb") as file:
+        yield file
+
+
+def test_a_full_output(tabd, full):
+    status, _, err = run(tabd, ["replay"], input=ASKED, stdout=full)
+    assert (status, err) == (1, DEVICE)
+
+
+def test_an_output_that_no_one_reads(tabd):
     end, start = os.pipe()
     os.close(end)
-    status, _, err = run(program, ["replay"], input=asked, stdout=start)
+    status, _, err = run(tabd, ["replay"], input=ASKED, stdout=start)
     os.close(start)
-    yield None if (status, err) == (1, DEVICE) else f"an output that no one reads: {status}, {err}"
-    folder = os.open(HERE, os.O_RDONLY)
-    found = run(program, ["replay"], stdin=folder, stdout=subprocess.PIPE)
+    assert (status, err) == (1, DEVICE)
+
+
+def test_a_folder_as_input(tabd):
+    folder = os.open("/", os.O_RDONLY)
+    found = run(tabd, ["replay"], stdin=folder, stdout=subprocess.PIPE)
     os.close(folder)
-    yield None if found == (1, b"", DEVICE) else f"a folder as input: {found}"
-    yield from closed_faults(program, asked)
+    assert found == (1, b"", DEVICE)
 
 
-def closed_faults(program, asked):
-    """A standard stream that is closed; errors that can't be written, which change no status."""
-    for file, wanted in [(0, (1, b"", DEVICE)), (1, (1, b"", DEVICE)), (2, (3, frames((1, "ok")), b""))]:
-        closed = lambda file=file: os.close(file)
-        found = run(program, ["replay"], input=asked + b"\0" * (file == 2), stdout=subprocess.PIPE, preexec_fn=closed)
-        yield None if found == wanted else f"stream {file} is closed: {found}"
-    if os.path.exists("/dev/full"):
-        with open("/dev/full", "wb") as errors:
-            done = subprocess.run([program, "replay"], input=asked + b"\0", stdout=subprocess.PIPE, stderr=errors, timeout=100, check=False)
-        found = done.returncode, done.stdout
-        yield None if found == (3, frames((1, "ok"))) else f"errors that are full: {found}"
+@pytest.mark.parametrize("file, wanted", [(0, (1, b"", DEVICE)), (1, (1, b"", DEVICE)), (2, (3, frames((1, "ok")), b""))])
+def test_a_closed_stream(tabd, file, wanted):
+    """A standard stream is closed; errors can't be written, which changes no status."""
+    found = run(tabd, ["replay"], input=ASKED + b"\0" * (file == 2), stdout=subprocess.PIPE, preexec_fn=lambda: os.close(file))
+    assert found == wanted
 
 
-def port_faults(program):
-    """A port that another has."""
+def test_errors_that_are_full(tabd, full):
+    done = subprocess.run([tabd, "replay"], input=ASKED + b"\0", stdout=subprocess.PIPE, stderr=full, timeout=100, check=False)
+    assert (done.returncode, done.stdout) == (3, frames((1, "ok")))
+
+
+@pytest.mark.parametrize("more, wanted", [([], DEVICE), (["--log"], DEVICE + b"tabd: Address already in use (os error 98)\n")], ids=["", "--log"])
+def test_a_port_that_is_taken(tabd, more, wanted):
     with socket.create_server(("127.0.0.1", 0)) as taken:
-        port = taken.getsockname()[1]
-        for more, wanted in (([], DEVICE), (["--log"], DEVICE + b"tabd: Address already in use (os error 98)\n")):
-            words = ["serve", "--port", str(port), "--connections", "1", *more]
-            found = run(program, words, stdin=subprocess.DEVNULL, stdout=subprocess.PIPE)
-            yield None if found == (1, b"", wanted) else f"a port that is taken, {more}: {found}"
+        words = ["serve", "--port", str(taken.getsockname()[1]), "--connections", "1", *more]
+        assert run(tabd, words, stdin=subprocess.DEVNULL, stdout=subprocess.PIPE) == (1, b"", wanted)
 
 
-def serve_faults(program):
-    """A server with a standard stream that is closed, whose number a client's socket would get."""
+@pytest.mark.parametrize("file, reason", [(0, CLOSED), (1, CLOSED), (2, b"")])
+def test_a_server_with_a_closed_stream(tabd, file, reason):
+    """Its number is one that a client's socket would get."""
     words = ["serve", "--port", "0", "--connections", "1", "--log"]
-    reason = DEVICE + b"tabd: a standard stream is closed\n"
-    for file, wanted in [(0, (1, b"", reason)), (1, (1, b"", reason)), (2, (1, b"", b""))]:
-        try:
-            found = run(program, words, stdin=subprocess.DEVNULL, stdout=subprocess.PIPE, preexec_fn=lambda file=file: os.close(file))
-        except subprocess.TimeoutExpired:
-            found = "it serves"
-        yield None if found == wanted else f"a server whose stream {file} is closed: {found}"
-
-
-def main():
-    if len(sys.argv) != 2:
-        sys.exit(__doc__)
-    program = os.path.abspath(sys.argv[1])
-    tried = [fault for faults in (word_faults, stream_faults, memory_faults, device_faults, port_faults, serve_faults) for fault in faults(program)]
-    failed = [fault for fault in tried if fault]
-    for fault in failed:
-        print(fault)
-    print(f"{len(tried) - len(failed)} passed, {len(failed)} failed")
-    sys.exit(1 if failed else 0)
-
-
-main()
+    found = run(tabd, words, stdin=subprocess.DEVNULL, stdout=subprocess.PIPE, preexec_fn=lambda: os.close(file))
+    assert found == (1, b"", reason)

@@ -7,12 +7,17 @@ tables at its time. No two transactions hold conflicting locks at once, who is r
 has exactly the events since its begin marker.
 """
 
+import ast
 import bisect
 import itertools
 import math
+from typing import Any, Dict, Iterator, List, Tuple
 
-from model import EMPTY, Alone, conflict, events, lock_of, whole
-from frames import spell
+from tests.lib.model import EMPTY, Alone, conflict, events, lock_of, whole
+from tests.lib.wire import spell
+
+# Some values are so long that sockets fill up; none of the bag, whose keys have many records.
+LONG = bytes(4000)
 
 
 class Undecided(Exception):
@@ -88,6 +93,59 @@ class OneShot:
                 yield lock_of(part), self.sent, self.got
 
 
+class Log:
+    """What a subscriber was told, by its name: the terms that came with their times, and the subscriptions' begins and ends with theirs,
+    as they were granted. Whether it records the order of all commits, and whether it vanished."""
+
+    def __init__(self, name, records):
+        self.name, self.records, self.vanished, self.frames, self.marks = name, records, False, [], []
+
+    def fields(self):
+        return {name: getattr(self, name) for name in ("name", "records", "vanished", "frames", "marks")}
+
+
+class Run:
+    """What all clients were told, and the number and the age of the last commit, which reads all and writes to all tables."""
+
+    def __init__(self, attempts, shots, logs, closing, outbox):
+        self.attempts, self.shots, self.logs, self.closing, self.outbox = attempts, shots, logs, closing, outbox
+
+    def save(self, path):
+        """A record: a line for each transaction and subscriber, as a Python literal, in which LONG and inf stand for themselves."""
+        rows = [("run", {"closing": self.closing, "outbox": self.outbox})]
+        rows += [(type(it).__name__, vars(it)) for it in [*self.attempts, *self.shots]] + [("Log", log.fields()) for log in self.logs]
+        with open(path, "w", encoding="utf-8") as file:
+            file.writelines(shown(repr(row)) + "\n" for row in rows)
+
+    @staticmethod
+    def load(path):
+        made: Dict[str, List[Any]] = {"run": [], "Attempt": [], "OneShot": [], "Log": []}
+        with open(path, encoding="utf-8") as file:
+            for kind, fields in map(value_of, file):
+                kinds = {"run": Run, "Attempt": Attempt, "OneShot": OneShot, "Log": Log}
+                it: Any = object.__new__(kinds[kind])
+                vars(it).update(fields)
+                made[kind].append(it)
+        [run] = made["run"]
+        return Run(made["Attempt"], made["OneShot"], made["Log"], run.closing, run.outbox)
+
+
+def shown(text):
+    return text.replace(repr(LONG), "LONG")
+
+
+def value_of(line):
+    """The value of a record's line."""
+    tree = ast.parse(line.strip(), mode="eval")
+    names = {"LONG": ast.Constant(LONG), "inf": ast.Constant(math.inf)}
+
+    class Named(ast.NodeTransformer):
+        def visit_Name(self, node):
+            return names[node.id]
+
+    return ast.literal_eval(Named().visit(tree).body)
+
+
 def flat(parts):
     for part in parts:
         yield from flat(part[1]) if part[0] == "transaction" else [part]
@@ -138,24 +196,24 @@ def stretches(frames):
     is behind None; it watches both tables again from their second marker on."""
     age, marks = None, 0
     for kind, group in itertools.groupby((term for term, _ in frames), lambda term: term[0] == "mnesia_table_event" and term[1][-1][1]):
-        group = list(group)
+        told = list(group)
         if kind:
             if marks >= len(EMPTY) and age != "gap":
-                yield age, (kind, group)
+                yield age, (kind, told)
             age = kind if marks >= len(EMPTY) else "gap"
             continue
-        for term in group:
+        for term in told:
             if term[0] == "mnesia_overflow":
                 age, marks = "gap", 0
             marks += term[0] == "mnesia_table_begin"
 
 
 class Judge:
-    """Of a round that ended with a commit of this number and age, the last that changed something."""
+    """Of a run that ended with a commit, the last that changed something."""
 
-    def __init__(self, attempts, shots, watchers, closing, outbox):
-        self.attempts, self.shots, self.watchers = attempts, shots, watchers
-        (self.closing, self.last), self.outbox = closing, outbox
+    def __init__(self, run):
+        self.attempts, self.shots, self.watchers = run.attempts, run.shots, run.logs
+        (self.closing, self.last), self.outbox = run.closing, run.outbox
 
     def faults(self):
         """All that are found; the order first, on which the rest stands."""
@@ -177,7 +235,7 @@ class Judge:
     def recorded(self):
         """The events of all commits in their order, each commit's together: an age, and their terms. Where one recorder missed some,
         another goes on."""
-        after = {}
+        after: Dict[Any, Any] = {}
         for watcher in self.watchers:
             for age, group in stretches(watcher.frames) if watcher.records else []:
                 if after.setdefault(age, group) != group:
@@ -213,7 +271,7 @@ class Judge:
         """Whether something of it survives, which is the same on all tables for those replies."""
         if isinstance(who, OneShot):
             return True
-        depths = [[]]
+        depths: List[List[Any]] = [[]]
         for move, reply, *_ in who.steps:
             if move == "begin":
                 depths.append([])
@@ -315,7 +373,8 @@ class Judge:
     def locks(self):
         """Two who surely held conflicting locks at once."""
         spans = sorted((start, end, Owner(it), lock) for it in self.attempts for lock, start, end in it.locks())
-        held, most = [], 0
+        held: List[Any] = []
+        most = 0
         for start, end, owner, lock in spans:
             held = [one for one in held if one[1] > start]
             most = max(most, len({whose.age for _, _, whose, _ in held}))
@@ -374,7 +433,8 @@ class Follower:
         return [terms[self.level[tab]] for tab, terms in self.judge.batches[place] if tab in self.level]
 
     def follow(self):
-        frames, marks = self.watcher.frames, iter(self.watcher.marks)
+        frames: List[Any] = self.watcher.frames
+        marks: Iterator[Any] = iter(self.watcher.marks)
         place = 0
         while place < len(frames):
             term, got = frames[place]
@@ -386,7 +446,7 @@ class Follower:
             else:
                 self.mark(term, got, next(marks, None))
             place += 1
-        if not self.watcher.vanished and (self.level or next(marks, None)):
+        if not self.watcher.vanished and (self.level or list(marks)):
             raise Differs(f"it was never told the end of {list(self.level)}")
 
     def batch(self, frames, got):
@@ -410,7 +470,7 @@ class Follower:
             return
         old = rows.get(spell(what[1]), ())
         if len(what) == 2:
-            new = ()
+            new: Tuple[Any, ...] = ()
         elif event[0] != "write":
             new = tuple(record for record in old if record != what)
         else:

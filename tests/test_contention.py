@@ -1,12 +1,8 @@
-#!/usr/bin/env python3
-"""Runs `tabd serve` of the built program where clients meet: at one record, in opposite orders, behind a lock that is held.
+"""`tabd serve` where clients meet: at one record, in opposite orders, behind a lock that is held.
 
-    contention.py PROGRAM
-
-Who is told to restart rests first, until the lock that it died for is free, for a tenth of a second at most; the oldest goes
+A session that is told to restart rests first, until the lock that it died for is free, for a tenth of a second at most; the oldest goes
 first. A one-shot's steps stand together. No contract speaks of how long anyone waits, so it is shown here, by counts and by
-bounds of time. Other work on the machine moves them, so a case that differs is run again, twice at most. Needs a C compiler as
-`cc`. One line tells each case that differs; the last line is `N passed, M failed`, and the status 1 where one failed.
+bounds of time. Other work on the machine moves them, so a case that differs is run again, twice at most.
 """
 
 import os
@@ -14,12 +10,16 @@ import random
 import select
 import statistics
 import subprocess
-import tempfile
 import threading
 import time
+from typing import List
 
-from server import ATOMIC, CREATE, HERE, OK, Connection, Differs, main, same, script, serve, side_by_side, waits, write
-from frames import frame, take
+import pytest
+
+from tests.lib.checks import ATOMIC, CREATE, OK, one_shot, script, side_by_side, waits, write
+from tests.lib.wire import frame
+
+served, pytestmark = pytest.mark.served, [pytest.mark.serial, pytest.mark.tries(3)]
 
 READ = ("read", "t", 1)
 WREAD = ("wread", ("t", 1))
@@ -38,10 +38,6 @@ TRIES, PAUSE = 15, 2.0
 KEYS, ASKED = 30_000, 50
 
 
-def one_shot(*parts, retries=0):
-    return ("transaction", list(parts), retries)
-
-
 def timed(call, *given):
     """What it gives, and how many seconds it took."""
     began = time.monotonic()
@@ -49,8 +45,7 @@ def timed(call, *given):
 
 
 def between(what, least, seconds, most):
-    if not least <= seconds <= most:
-        raise Differs(f"{what}: {seconds:.3f} s, wanted {least} to {most}")
+    assert least <= seconds <= most, f"{what}: {seconds:.3f} s, wanted {least} to {most}"
 
 
 def middle(what, seconds, most):
@@ -60,7 +55,7 @@ def middle(what, seconds, most):
 def opened(*connections):
     """Each has a transaction, in the order of their ages."""
     for connection in connections:
-        same("begin", connection.ask("begin")[0], "tid")
+        assert connection.ask("begin")[0] == "tid", "begin"
 
 
 def resting(holder, *others):
@@ -81,72 +76,81 @@ def table_of(connection):
 def received_after(connection, reply):
     """The reply that is due, and when it came."""
     found, seconds = timed(connection.receive)
-    same("reply", found, ("reply", reply))
+    assert found == ("reply", reply)
     return seconds
 
 
-def a_restart_comes(older, younger):
+@served(2)
+def test_a_restart_comes(clients):
     """One thread drives both: the restart comes while the other's transaction is open, and the younger goes on behind it."""
+    older, younger = clients
     script((older, CREATE, ATOMIC))
     opened(older, younger)
     script((older, write(5, "a"), OK))
     reply, seconds = timed(younger.ask, ("read", "t", 5))
-    same("reply", reply, "restart")
+    assert reply == "restart"
     between("a rest", 0.05, seconds, 0.1 + LATE)
     script((older, "commit", ("atomic", 1)), (younger, write(6, "c"), OK), (younger, "commit", ("atomic", 2)))
 
 
-def two_upgrades(older, younger):
+@served(2)
+def test_two_upgrades(clients):
     """Both read, both write: the older waits until the younger was restarted."""
+    older, younger = clients
     script((older, CREATE, ATOMIC))
     opened(older, younger)
     script((older, READ, []), (younger, READ, []))
     older.send(write(1, "a"))
     waits(older)
-    same("the younger", younger.ask(write(1, "b")), "restart")
-    same("the older", older.receive(), ("reply", OK))
+    assert younger.ask(write(1, "b")) == "restart", "the younger"
+    assert older.receive() == ("reply", OK), "the older"
     script((older, "commit", ("atomic", 1)), (younger, READ, [("t", 1, "a")]))
 
 
-def no_overtaking(first, second, third):
+@served(3)
+def test_no_overtaking(clients):
     """Who asks behind a request that is queued and older rests, though the lock that is held would let it pass."""
+    first, second, third = clients
     script((first, CREATE, ATOMIC))
     opened(first, second, third)
     script((second, READ, []))
     first.send(("write_lock_table", "t"))
     waits(first)
     script((third, ("read", "t", 2), "restart"), (second, "commit", ("atomic", 1)))
-    same("the first", first.receive(), ("reply", OK))
+    assert first.receive() == ("reply", OK), "the first"
     script((first, ("abort", "no"), ("aborted", "no")), (third, ("read", "t", 2), []))
 
 
-def phantom(reader, writer):
+@served(2)
+def test_phantom(clients):
     """A look-up by an index is not joined by a record that was not there."""
+    reader, writer = clients
     create = ("create_table", "x", [("attributes", ["k", "v"]), ("index", ["v"])])
     script((reader, create, ATOMIC))
     opened(reader, writer)
     script((reader, ("index_read", "x", "q", "v"), []), (writer, ("write", ("x", 9, "q")), "restart"))
 
 
-def an_end_wakes(end):
+@served(2)
+@pytest.mark.parametrize("end", [("abort", "why"), "commit"], ids=["an abort", "a commit"])
+def test_an_end_wakes(clients, end):
     """Who rests is told to restart as soon as the holder's transaction ends, and then goes on."""
-
-    def case(holder, other):
-        table_of(holder)
-        took = []
-        for _ in range(ROUNDS):
-            resting(holder, other)
-            holder.ask(end)
-            took.append(received_after(other, "restart"))
-            script((other, WREAD, [("t", 1, 0)]))
-            same("commit", other.ask("commit")[0], "atomic")
-        middle("the rest", took, AT_ONCE)
-
-    return case
+    holder, other = clients
+    table_of(holder)
+    took = []
+    for _ in range(ROUNDS):
+        resting(holder, other)
+        holder.ask(end)
+        took.append(received_after(other, "restart"))
+        script((other, WREAD, [("t", 1, 0)]))
+        assert other.ask("commit")[0] == "atomic", "commit"
+    middle("the rest", took, AT_ONCE)
 
 
-def an_end_grants(older, holder):
+@served(2)
+def test_a_commit_grants(clients):
     """Who waits has its lock as soon as the holder's transaction ends."""
+    older, holder = clients
     table_of(holder)
     took = []
     for _ in range(ROUNDS):
@@ -156,30 +160,33 @@ def an_end_grants(older, holder):
         time.sleep(0.02)
         holder.ask("commit")
         took.append(received_after(older, [("t", 1, 0)]))
-        same("commit", older.ask("commit")[0], "atomic")
+        assert older.ask("commit")[0] == "atomic", "commit"
     middle("the wait", took, AT_ONCE)
 
 
-def the_oldest_first(holder, older, younger):
+@served(3)
+def test_the_oldest_first(clients):
     """Of two that rest for one record the older goes on first, and the younger not before its end, if it ends soon."""
+    holder, older, younger = clients
     table_of(holder)
     early = 0
     for _ in range(ROUNDS):
         resting(holder, older, younger)
         holder.ask("commit")
         received_after(older, "restart")
-        same("the older", older.ask(WREAD), [("t", 1, 0)])
+        assert older.ask(WREAD) == [("t", 1, 0)], "the older"
         early += bool(select.select([younger.socket], [], [], 0)[0])
         older.ask("commit")
         received_after(younger, "restart")
-        same("the younger", younger.ask(WREAD), [("t", 1, 0)])
+        assert younger.ask(WREAD) == [("t", 1, 0)], "the younger"
         younger.ask("commit")
-    if early > ROUNDS / 2:
-        raise Differs(f"the younger went on first {early} times of {ROUNDS}")
+    assert early <= ROUNDS / 2, f"the younger went on first {early} times of {ROUNDS}"
 
 
-def an_idle_one_is_passed(holder, older, younger):
+@served(3)
+def test_an_idle_one_is_passed(clients):
     """The older was told to go on and does nothing: the younger goes on all the same, after a nap or two."""
+    holder, older, younger = clients
     table_of(holder)
     took = []
     for _ in range(ROUNDS):
@@ -187,40 +194,45 @@ def an_idle_one_is_passed(holder, older, younger):
         holder.ask("commit")
         received_after(older, "restart")
         took.append(received_after(younger, "restart"))
-        same("the younger", younger.ask(WREAD), [("t", 1, 0)])
+        assert younger.ask(WREAD) == [("t", 1, 0)], "the younger"
         script((older, ("abort", "no"), ("aborted", "no")))
-        same("commit", younger.ask("commit")[0], "atomic")
+        assert younger.ask("commit")[0] == "atomic", "commit"
     middle("the rest", took, 0.05)
 
 
-def one_vanishes(holder, first, second):
+@served(3)
+def test_one_vanishes(clients):
     """Who vanishes while it rests leaves, and what it held is free; the next goes on."""
+    holder, first, second = clients
     table_of(holder)
     resting(holder, first, second)
     first.break_off()
     holder.ask("commit")
     received_after(second, "restart")
-    same("it left", holder.ask(one_shot(write(2, 1), retries=1)), ("atomic", [OK]))
+    assert holder.ask(one_shot(write(2, 1), retries=1)) == ("atomic", [OK]), "it left"
 
 
-def opposite_orders(*connections):
+@served(2)
+def test_opposite_orders(clients):
     """One-shots of forty writes in opposite orders: a one-shot's steps stand together, so none is ever restarted."""
     keys = list(range(40))
 
     def write_all(connection, order):
         for number in range(100):
             told = connection.ask(one_shot(*(write(key, number) for key in order)))
-            same("one-shot", told, ("atomic", [OK] * len(keys)))
+            assert told == ("atomic", [OK] * len(keys)), "one-shot"
 
-    script((connections[0], CREATE, ATOMIC))
-    side_by_side([(write_all, (connections[0], keys)), (write_all, (connections[1], keys[::-1]))])
+    script((clients[0], CREATE, ATOMIC))
+    side_by_side([(write_all, (clients[0], keys)), (write_all, (clients[1], keys[::-1]))])
 
 
-def a_one_shot_is_patient(holder, other):
+@served(2)
+def test_a_one_shot_is_patient(clients):
     """Its retries are its patience, a tenth of a second each."""
+    holder, other = clients
     script((holder, CREATE, ATOMIC), (holder, "begin", ("tid", 1)), (holder, WREAD, []))
     told, seconds = timed(other.ask, one_shot(write(2, 1), write(1, 2), retries=1))
-    same("no more", told, ("aborted", "nomore"))
+    assert told == ("aborted", "nomore"), "no more"
     between("two attempts", 0.1, seconds, 0.2 + LATE)
     other.send(one_shot(write(2, 1), write(1, 2), retries=200))
     waits(other)
@@ -229,30 +241,35 @@ def a_one_shot_is_patient(holder, other):
     received_after(other, ("atomic", [OK, OK]))
 
 
-def long_answers(asker, other):
+@served(2)
+def test_long_answers(clients):
     """A one-shot that is told much lets others in between its answers: another's read waits at most a quarter of it."""
+    asker, other = clients
     script((asker, CREATE, ATOMIC))
     for first in range(0, KEYS, 1_000):
         script((asker, one_shot(*(write(key, 0) for key in range(first, first + 1_000))), ("atomic", [OK] * 1_000)))
 
     def ask_all():
         asker.send(one_shot(*[("all_keys", "t")] * ASKED))
-        take(asker.stream, int.from_bytes(take(asker.stream, 4), "big"))
+        asker.payload()
 
     def read_on():
         time.sleep(0.02)
         while whole.is_alive():
             waited.append(timed(other.ask, one_shot(READ))[1])
 
-    waited, took = [], []
+    waited: List[float] = []
+    took: List[float] = []
     whole = threading.Thread(target=lambda: took.append(timed(ask_all)[1]))
     whole.start()
     read_on()
     whole.join()
+    assert took, "it was not answered"
     between("another's read", 0, max(waited), took[0] / 4)
 
 
-def raises(*connections):
+@served(16)
+def test_sixteen_raise(clients):
     """Sixteen raise one record, each after a read for a write; how often they are restarted."""
     each, restarts = 25, []
 
@@ -261,22 +278,23 @@ def raises(*connections):
         while True:
             found = connection.ask(WREAD)
             if found != "restart" and connection.ask(write(1, found[0][2] + 1)) == OK:
-                return same("commit", connection.ask("commit")[0], "atomic")
+                break
             restarts.append(connection)
+        assert connection.ask("commit")[0] == "atomic", "commit"
 
     def raise_all(connection):
         for _ in range(each):
             attempt(connection)
 
-    table_of(connections[0])
-    side_by_side([(raise_all, (one,)) for one in connections])
-    count = each * len(connections)
-    same("sum", connections[0].ask(one_shot(READ)), ("atomic", [[("t", 1, count)]]))
-    if len(restarts) > 2 * count:
-        raise Differs(f"{len(restarts)} restarts of {count} transactions")
+    table_of(clients[0])
+    side_by_side([(raise_all, (one,)) for one in clients])
+    count = each * len(clients)
+    assert clients[0].ask(one_shot(READ)) == ("atomic", [[("t", 1, count)]]), "sum"
+    assert len(restarts) <= 2 * count, f"{len(restarts)} restarts of {count} transactions"
 
 
-def mixed(*connections):
+@served(16)
+def test_mixed_load(clients):
     """Transactions and one-shots over three records, in opposite orders, some of which abort, for a while: no one-shot is
     given up, the sum is right, and no one stands still."""
     end, raised, longest = time.monotonic() + SECONDS, [], [0.0]
@@ -288,13 +306,14 @@ def mixed(*connections):
             if found != "restart" and connection.ask(write(0, found[0][2] + 1)) == OK:
                 break
         if chance.random() < 0.1:
-            return same("abort", connection.ask(("abort", "no")), ("aborted", "no"))
-        same("commit", connection.ask("commit")[0], "atomic")
-        raised.append(1)
+            assert connection.ask(("abort", "no")) == ("aborted", "no"), "abort"
+        else:
+            assert connection.ask("commit")[0] == "atomic", "commit"
+            raised.append(1)
 
     def write_both(connection, keys, value):
         told = connection.ask(one_shot(*(write(key, value) for key in keys), retries=1000))
-        same("one-shot", told, ("atomic", [OK, OK]))
+        assert told == ("atomic", [OK, OK]), "one-shot"
 
     def load(connection, seed):
         chance, keys = random.Random(seed), (1, 2) if seed % 2 else (2, 1)
@@ -305,72 +324,45 @@ def mixed(*connections):
                 seconds = timed(write_both, connection, keys, chance.randrange(1000))[1]
             longest[0] = max(longest[0], seconds)
 
-    first = connections[0]
+    first = clients[0]
     script((first, CREATE, ATOMIC), (first, one_shot(write(0, 0), write(1, 0), write(2, 0)), ("atomic", [OK] * 3)))
-    side_by_side([(load, given) for given in zip(connections, range(len(connections)))])
+    side_by_side([(load, given) for given in zip(clients, range(len(clients)))])
     told = first.ask(one_shot(("read", "t", 0), ("read", "t", 1), ("read", "t", 2)))[1]
-    same("sum", told[0][0][2], len(raised))
-    same("both", told[1][0][2], told[2][0][2])
+    assert told[0][0][2] == len(raised), "sum"
+    assert told[1][0][2] == told[2][0][2], "both"
     between("the longest", 0, longest[0], LATE)
 
 
-def again_of(program, load):
-    """Which share of the commits at one record came behind one of the same connection, by a client that loses no time."""
-    server, port = serve(program, TAKERS + 1, [])
-    try:
-        first = Connection(port)
-        script((first, CREATE, ATOMIC))
-        first.close()
-        reply = b"\x83h\x02w\x05reply".hex()
-        plan = [f"1 {reply} {frame(step).hex()}\n" for step in ("begin", ("wread", ("t", 1)), write(1, 7), "commit")]
-        words = [load, "frames", str(port), str(TAKERS), str(TURNS)]
-        told = subprocess.run(words, input="".join(plan), capture_output=True, text=True, check=True, timeout=60).stdout
-        rounds, _, wrong, again = map(float, told.split())
-        same("replies that differ", (rounds > 0, wrong), (True, 0))
-        return again
-    finally:
-        server.kill()
-        server.wait()
+@pytest.fixture(scope="module")
+def load(tmp_path_factory):
+    """A client that loses no time, in C."""
+    built = str(tmp_path_factory.mktemp("load") / "load")
+    source = os.path.join(os.path.dirname(__file__), "..", "bench", "beside.c")
+    subprocess.run(["cc", "-O2", "-pthread", "-o", built, source], check=True)
+    return built
 
 
-def turns_fault(program):
+def again_of(server, load):
+    """Which share of the commits at one record came behind one of the same connection."""
+    first = server.connect()
+    script((first, CREATE, ATOMIC))
+    first.close()
+    reply = b"\x83h\x02w\x05reply".hex()
+    plan = [f"1 {reply} {frame(step).hex()}\n" for step in ("begin", WREAD, write(1, 7), "commit")]
+    words = [load, "frames", str(server.place), str(TAKERS), str(TURNS)]
+    told = subprocess.run(words, input="".join(plan), capture_output=True, text=True, check=True, timeout=60).stdout
+    rounds, _, wrong, again = map(float, told.split())
+    assert (rounds > 0, wrong) == (True, 0), "replies that differ"
+    return again
+
+
+@pytest.mark.tries(1)
+def test_turns_at_one_record(serve, load):
     """Sessions that meet at one record take turns: a session whose next transaction comes at once does not have the record again and
     again, before those who wait for it are awake."""
-    try:
-        with tempfile.TemporaryDirectory() as folder:
-            load = os.path.join(folder, "load")
-            source = os.path.join(HERE, "..", "bench", "beside.c")
-            subprocess.run(["cc", "-O2", "-pthread", "-o", load, source], check=True)
-            found = []
-            for _ in range(TRIES):
-                found.append(again_of(program, load))
-                if found[-1] <= MOST_AGAIN:
-                    return None
-                time.sleep(PAUSE)
-        raise Differs(f"shares {found}, wanted {MOST_AGAIN} at most")
-    except (Differs, OSError, ValueError, subprocess.SubprocessError) as error:
-        return f"turns at one record: {type(error).__name__} {error}"
-
-
-# A name, how many connections, further words of the server, and what is done on them.
-CASES = [
-    ("a restart comes", 2, [], a_restart_comes),
-    ("two upgrades", 2, [], two_upgrades),
-    ("no overtaking", 3, [], no_overtaking),
-    ("phantom", 2, [], phantom),
-    ("an abort wakes", 2, [], an_end_wakes(("abort", "why"))),
-    ("a commit wakes", 2, [], an_end_wakes("commit")),
-    ("a commit grants", 2, [], an_end_grants),
-    ("the oldest first", 3, [], the_oldest_first),
-    ("an idle one is passed", 3, [], an_idle_one_is_passed),
-    ("one vanishes", 3, [], one_vanishes),
-    ("opposite orders", 2, [], opposite_orders),
-    ("a one-shot is patient", 2, [], a_one_shot_is_patient),
-    ("long answers", 2, [], long_answers),
-    ("sixteen raise", 16, [], raises),
-    ("mixed load", 16, [], mixed),
-]
-
-
-if __name__ == "__main__":
-    main(CASES, __doc__, [turns_fault], attempts=3)
+    found: List[float] = []
+    while len(found) < TRIES and not any(share <= MOST_AGAIN for share in found):
+        time.sleep(PAUSE if found else 0)
+        with serve("--connections", str(TAKERS + 1)) as server:
+            found.append(again_of(server, load))
+    assert min(found) <= MOST_AGAIN, f"shares {found}"

@@ -1,37 +1,21 @@
-#!/usr/bin/env python3
-"""Runs `tabd serve` of the built program under clients that meet, and judges the whole run by what they were told.
-
-    history.py PROGRAM [SECONDS [SEED]]     rounds of random transactions for so many seconds, 20 where it is not said
-    history.py PROGRAM wrong [NAME ..]      shorter ones, with each wrong server of standin.py between, which has to be found
+"""Clients that meet at a server, and log what they are told, for the judge (judging.py).
 
 Six clients make random transactions on few keys of a set and a bag: reads, writes, looks at whole tables, nested levels,
-failing operations, requests that are sent ahead, one-shots; some give up what waits, by an abort; some vanish, with or without their commit. Others watch, at both
-levels, with dumps and without: two recorders who read at once, and some who read late, leave off, begin anew or vanish. Then
-judge.py looks for a run of these transactions alone that explains all that was told. What the clients ask is made up by the
-seed; when they ask it is not. One line tells what each round had, and one each fault; the last line is `N passed, M failed`, and
-the status 1 where one failed.
+failing operations, requests that are sent ahead, one-shots; some give up what waits, by an abort; some vanish, with or without their
+commit. Others watch, at both levels, with dumps and without: two recorders who read at once, and some who read late, leave off, begin anew
+or vanish. What the clients ask is made up by the seed; when they ask it is not.
 """
 
-import io
-import os
 import random
 import select
-import socket
-import subprocess
-import sys
 import threading
 import time
+from typing import Any
 
-HERE = os.path.dirname(os.path.abspath(__file__))
-sys.path.insert(0, os.path.join(HERE, "..", "examples"))
-from connection import PATIENCE, Connection  # noqa: E402
-from frames import frame, read  # noqa: E402
-from judge import Attempt, Differs, Judge, OneShot, Undecided, is_operation  # noqa: E402
-from model import KINDS, OPTIONS  # noqa: E402
-from standin import WRONG, Wrong  # noqa: E402
+from tests.lib.judging import LONG, Attempt, Differs, Log, OneShot, Run, is_operation
+from tests.lib.model import KINDS, OPTIONS
+from tests.lib.wire import PATIENCE, Connection, term_of
 
-SECONDS, ROUND, SHORT = 20.0, 4.0, 1.2
-TRIES = 3
 WRITERS, VANISHING, CONNECTIONS, OUTBOX = 6, 24, 44, 96
 KEYS, CLASSES, COMMON = [1, 2, "a", (1, 2)], [0, 1], 3
 # What a client asks in a transaction, and how often.
@@ -39,8 +23,6 @@ OPERATIONS = {
     "read": 30, "wread": 14, "write": 36, "delete": 6, "delete_object": 6, "index_read": 3, "match_object": 4, "all_keys": 2,
     "read_lock_table": 1, "write_lock_table": 1, "fail": 2,
 }  # fmt: skip
-# Some values are so long that sockets fill up; none of the bag, whose keys have many records.
-LONG = bytes(4000)
 now = time.monotonic
 
 
@@ -98,7 +80,8 @@ class Writer:
 
     def __init__(self, game, number, connection=None):
         self.game, self.chance, self.connection = game, Chance(game.seed, number), connection or Connection(game.port)
-        self.attempt, self.depth, self.given_up = None, 0, 0
+        self.attempt: Any = None
+        self.depth, self.given_up = 0, 0
 
     def ask(self, what):
         sent = now()
@@ -197,7 +180,7 @@ class Writer:
         move, sent = self.chance.operation(), now()
         if self.chance.random() < 0.5:
             self.attempt.ended("maybe", sent, float("inf"))
-            self.connection.socket.sendall(frame("commit") * self.depth)
+            self.connection.send(*["commit"] * self.depth)
         else:
             self.attempt.ended("vanished", sent, float("inf"), last=(move, None, sent, float("inf")))
             self.connection.send(move)
@@ -209,7 +192,7 @@ class Writer:
         """A transaction in one piece: what follows a restart in it stands alone."""
         moves = ["begin", *(self.chance.operation(fails=False) for _ in range(self.chance.randrange(1, 6))), "commit"]
         sent = now()
-        self.connection.socket.sendall(b"".join(map(frame, moves)))
+        self.connection.send(*moves)
         for at, move in enumerate(moves):
             term = self.connection.receive()
             if term[0] != "reply":
@@ -231,15 +214,14 @@ class Writer:
         shot.got = now()
 
 
-class Watcher:
+class Watcher(Log):
     """A client that watches tables, and logs what it is told and when."""
 
     def __init__(self, game, name, tabs, level, dump, records=False, small=False, vanishes=False):
-        self.game, self.name, self.tabs, self.level, self.dump = game, name, tabs, level, ("dump",) * dump
-        self.records, self.small, self.vanishes, self.vanished = records, small, vanishes, False
+        super().__init__(name, records)
+        self.game, self.tabs, self.level, self.dump, self.small, self.vanishes = game, tabs, level, ("dump",) * dump, small, vanishes
         self.chance, self.connection = Chance(game.seed, name), Connection(game.port, small)
-        # The terms that came with their times, and the subscriptions' begins and ends with theirs, as they were granted.
-        self.frames, self.marks, self.replies, self.data = [], [], [], bytearray()
+        self.replies, self.data = [], bytearray()
         self.watched = set()
         game.watchers.append(self)
 
@@ -251,7 +233,7 @@ class Watcher:
         self.data += more
         place, got = 0, now()
         while len(self.data) >= place + 4 and len(self.data) >= (end := place + 4 + int.from_bytes(self.data[place : place + 4], "big")):
-            term = read(io.BytesIO(self.data[place + 5 : end]))
+            term = term_of(bytes(self.data[place:end]))
             place = end
             if term[0] == "reply":
                 self.replies.append(term[1])
@@ -318,8 +300,8 @@ class Watcher:
             self.unsubscribe(self.chance.choice(sorted(self.watched)))
 
     def finish(self):
-        """Unsubscribes, and reads up to its last marker; with more room, for else each frame takes its time."""
-        self.connection.socket.setsockopt(socket.SOL_SOCKET, socket.SO_RCVBUF, 1_048_576)
+        """Unsubscribes, and reads up to its last marker."""
+        self.connection.widen()
         end = now() + PATIENCE
         while self.watched and now() < end:
             self.unsubscribe(min(self.watched))
@@ -396,104 +378,12 @@ class Game:
         last.note("commit", *last.ask("commit"))
         return self.attempts[-1].number, self.attempts[-1].age
 
-    def faults(self):
-        closing = self.play()
-        return self.failed or Judge(self.attempts, self.shots, self.watchers, closing, OUTBOX).faults()
+    def run(self):
+        """Plays the round, and has all that was told in it. Undecided where no recorder has the whole order."""
+        return Run(self.attempts, self.shots, self.watchers, self.play(), OUTBOX)
 
     def told(self):
         events = sum(len(watcher.frames) for watcher in self.watchers)
         ends = {end: sum(it.end == end for it in self.attempts) for end in ("commit", "restart", "aborted", "vanished", "maybe")}
         overflows = sum(term[0] == "mnesia_overflow" for watcher in self.watchers for term, _ in watcher.frames)
         return f"{ends}, {self.given_up} given up, {len(self.shots)} one-shots, {events} events, {overflows} overflows"
-
-
-def shown(fault):
-    return fault.replace(repr(LONG), "LONG")
-
-
-def serve(program, seed):
-    """Every other one has a journal that is always full."""
-    words = ["serve", "--port", "0", "--connections", str(CONNECTIONS), "--outbox", str(OUTBOX), "--journal", str([16, 1024][seed % 2]), "--abort-waits"]
-    server = subprocess.Popen([program, *words], stdout=subprocess.PIPE, stderr=subprocess.PIPE, text=True)
-    return server, int(server.stdout.readline().rsplit(":", 1)[1])
-
-
-def fill(port, server):
-    """The connections that are left, so that the server ends by itself."""
-    for _ in range(CONNECTIONS):
-        try:
-            Connection(port).close()
-        except OSError:
-            break
-    try:
-        _, err = server.communicate(timeout=PATIENCE)
-    except subprocess.TimeoutExpired:
-        return ["the server does not end"]
-    return [] if (server.returncode, err) == (0, "") else [f"the server ended with {server.returncode}, {err}"]
-
-
-def round_faults(program, seed, seconds, between=None):
-    """Of a server behind another one that is wrong nothing is given up: that one counts on a reply to each request."""
-    server, port = serve(program, seed)
-    try:
-        game = Game(between(port) if between else port, seed, seconds, between is None)
-        faults = game.faults()
-        print(f"seed {seed}: {game.told()}")
-        return faults or ([] if between else fill(port, server))
-    except (Differs, OSError, ValueError) as error:
-        return [f"{type(error).__name__} {error}"]
-    finally:
-        server.kill()
-        server.communicate()
-
-
-def rounds(program, seconds, seed):
-    """Faults of each round, until the time is used up. One whose recorders both missed something shows nothing, and is made
-    again; three in a row are a fault."""
-    end, undecided, took = now() + seconds, 0, 0
-    while now() + took < end:
-        seed, began = seed + 1, now()
-        try:
-            yield f"seed {seed}", round_faults(program, seed, ROUND)
-            undecided = 0
-        except Undecided:
-            undecided += 1
-            print(f"seed {seed}: undecided")
-            if undecided == 3:
-                yield f"seed {seed}", ["no recorder got all events, three times"]
-        took = now() - began
-
-
-def wrong_ones(program, names):
-    """Each wrong server has to be found, in one of some short rounds; and who only stands between is not."""
-    for wrong in [it for it in [Wrong, *WRONG] if not names or it.__name__ in names]:
-        faults, seconds = [], ROUND if wrong.small else SHORT
-        between = lambda port, wrong=wrong: wrong(port).listener.getsockname()[1]
-        for seed in range(1, 1 + TRIES if wrong is not Wrong else 2):
-            try:
-                faults = faults or round_faults(program, seed, seconds, between)
-            except Undecided:
-                continue
-        print(f"{wrong.__name__}: {shown(faults[0])[:200] if faults else 'nothing'}")
-        yield wrong.__name__, [] if bool(faults) == (wrong is not Wrong) else ["it is not found", *faults]
-
-
-def main():
-    if len(sys.argv) < 2:
-        sys.exit(__doc__)
-    program, words = os.path.abspath(sys.argv[1]), sys.argv[2:]
-    passed, failed = 0, 0
-    if words[:1] == ["wrong"]:
-        tried = wrong_ones(program, words[1:])
-    else:
-        tried = rounds(program, float(words[0]) if words else SECONDS, int(words[1]) if len(words) > 1 else 0)
-    for name, faults in tried:
-        passed, failed = passed + (not faults), failed + bool(faults)
-        for fault in faults[:5]:
-            print(f"{name}: {shown(fault)[:2000]}")
-    print(f"{passed} passed, {failed} failed")
-    sys.exit(1 if failed or not passed else 0)
-
-
-if __name__ == "__main__":
-    main()

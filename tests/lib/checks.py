@@ -1,0 +1,86 @@
+"""Checks that many cases make, and the requests and events that they name. Standard library alone, since bench/ uses them too."""
+
+import socket
+import threading
+from typing import Any, Callable, List, Tuple
+
+from tests.lib.wire import PATIENCE, Connection, Term
+
+OK, ATOMIC, HERE_OK = "ok", ("atomic", "ok"), ("ok", "nonode@nohost")
+CREATE: Term = ("create_table", "t", [])
+MARK, END = ("mnesia_table_begin", "t", "simple"), ("mnesia_table_end", "t", "unsubscribed")
+LIMIT = ("reply", ("error", ("system_limit", "sessions")))
+# Nothing has come after so many seconds: it waits.
+QUIET = 0.2
+
+
+def write(key: Term, value: Term) -> Term:
+    return ("write", ("t", key, value))
+
+
+def event(key: Term, value: Term, age: int) -> Term:
+    return ("mnesia_table_event", ("write", ("t", key, value), ("tid", age)))
+
+
+def watch(*dump: str) -> Term:
+    return ("subscribe", ("table", "t", "simple"), *dump)
+
+
+def one_shot(*parts: Term, retries: int = 0) -> Term:
+    return ("transaction", list(parts), retries)
+
+
+def differs(what: str, found: object, wanted: object) -> str:
+    """Outside of pytest an assertion shows no values."""
+    return f"{what}: {found!r:.500}, wanted {wanted!r:.500}"
+
+
+def same(what: str, found: object, wanted: object) -> None:
+    __tracebackhide__ = True
+    assert found == wanted, differs(what, found, wanted)
+
+
+def holds(what: str, condition: object) -> None:
+    """For values that are too long to be shown."""
+    __tracebackhide__ = True
+    if not condition:
+        raise AssertionError(what)
+
+
+def script(*steps: Tuple[Connection, Term, Term]) -> None:
+    """Each step is asked on a connection, and its reply is as it stands."""
+    __tracebackhide__ = True
+    for line, (connection, request, wanted) in enumerate(steps):
+        reply = connection.ask(request)
+        assert reply == wanted, differs(f"step {line}, {request!r:.200}", reply, wanted)
+
+
+def waits(connection: Connection) -> None:
+    """Nothing comes on it."""
+    connection.socket.settimeout(QUIET)
+    try:
+        found = connection.socket.recv(1, socket.MSG_PEEK)
+    except TimeoutError:
+        return
+    finally:
+        connection.socket.settimeout(PATIENCE)
+    raise AssertionError(f"while it waits {found!r} comes")
+
+
+def side_by_side(jobs: List[Tuple[Callable[..., Any], Tuple[Any, ...]]]) -> None:
+    """Each in a thread; the first that differs."""
+    failed: List[Exception] = []
+
+    def run(job: Callable[..., Any], given: Tuple[Any, ...]) -> None:
+        try:
+            job(*given)
+        except Exception as error:
+            failed.append(error)
+
+    threads = [threading.Thread(target=run, args=one) for one in jobs]
+    for thread in threads:
+        thread.start()
+    for thread in threads:
+        thread.join()
+    if failed:
+        raise failed[0]

@@ -1,0 +1,234 @@
+"""What one client makes a server hold in memory: tables, transactions, dumps and events, for test_memory.py and bench/."""
+
+import time
+
+from tests.lib.checks import ATOMIC, HERE_OK, OK, holds, one_shot, script, write
+from tests.lib.servers import Server
+from tests.lib.wire import frame, take
+
+# The entries of the journal where no word says how many.
+JOURNAL = 1_024
+MEGABYTE = 1_000_000
+ALL_KEYS, ALL_RECORDS = ("all_keys", "t"), ("match_object", ("t", "_", "_"))
+HALF, BY_INDEX, INDEXED = ("match_object", ("t", "_", 0)), ("index_read", "t", 0, "val"), [("index", ["val"])]
+WATCHED = ("table", "t", "detailed")
+DUMP, NO_MORE = ("subscribe", WATCHED, "dump"), ("unsubscribe", WATCHED)
+
+
+class Held(Server):
+    """With the journal that a server has, or one that the words say."""
+
+    # What a row of bench/memory.py has found besides.
+    remark = ""
+
+    def __init__(self, program, *words):
+        super().__init__(program, "--connections", "64", "--forever", *words)
+
+
+def size_of(reply):
+    return len(frame(("reply", reply))) - 4
+
+
+def ask_long(client, request, size):
+    """Of the reply it is looked only whether it has so many bytes."""
+    client.send(request)
+    found = client.payload()
+    assert len(found) == size, f"{str(request)[:80]}: {len(found)} bytes in place of {size}, {found[:80]}"
+
+
+def transaction(client, requests, size):
+    """One that is committed, whose replies have so many bytes each."""
+    assert client.ask("begin")[0] == "tid", "begin"
+    for request in requests:
+        ask_long(client, request, size)
+    assert client.ask("commit")[0] == "atomic", "commit"
+
+
+def commit_nothing(client, count=JOURNAL):
+    """So many commits that tell nothing: of the journal's entries the oldest go."""
+    client.send(*[one_shot()] * count)
+    wanted = frame(("reply", ("atomic", []))) * count
+    holds("commits of nothing", take(client.stream, len(wanted)) == wanted)
+
+
+def fill(client, record, count, each):
+    """Writes the records of so many keys, so many in a one-shot."""
+    for first in range(0, count, each):
+        keys = range(first, min(first + each, count))
+        size = size_of(("atomic", [OK] * len(keys)))
+        ask_long(client, ("transaction", [("write", record(key)) for key in keys], 0), size)
+
+
+def small_record(key):
+    return ("t", key, key)
+
+
+def halved(key):
+    return ("t", key, key % 2)
+
+
+def long_record(size):
+    return lambda key: ("t", key, bytes([key % 256]) * size)
+
+
+def table(record, count, each=10, options=()):
+    """Makes one of these records, of which few are in the journal at once: what it forgets would be room for what is measured."""
+
+    def make(client):
+        script((client, ("create_table", record(0)[0], list(options)), ATOMIC))
+        fill(client, record, count, each)
+
+    return make
+
+
+def long_reads(transactions, reads):
+    """Transactions that read one record so often, of which the journal tells."""
+
+    def hold(server, client):
+        [record] = client.ask(("transaction", [("read", "t", 0)], 0))[1][0]
+        for _ in range(transactions):
+            transaction(client, [("read", "t", 0)] * reads, size_of([record]))
+        commit_nothing(client, JOURNAL - transactions - 10)
+        return server.kilobytes()
+
+    return hold
+
+
+def short_reads(count):
+    """One-shots of as many operations as one may ask. The journal is full by these long before it has as many entries as it may."""
+    request, size = ("transaction", [("match_object", ("t", "_", "none"))] * 999, 0), size_of(("atomic", [[]] * 999))
+
+    def hold(server, client):
+        for _ in range(count):
+            ask_long(client, request, size)
+        return server.kilobytes()
+
+    return hold
+
+
+def whole_reads(request, answer, count, writes=False):
+    """Transactions that each ask for all of the table; where each writes before, a record of its own."""
+    size = size_of(answer)
+
+    def hold(server, client):
+        for turn in range(count):
+            # As long as the one that it takes the place of.
+            key = 1_000 + turn * 7_919 % (len(answer) - 1_000)
+            assert client.ask("begin")[0] == "tid", "begin"
+            if writes:
+                script((client, write(key, key + 1), OK))
+            ask_long(client, request, size)
+            assert client.ask("commit")[0] == "atomic", "commit"
+        return server.kilobytes()
+
+    return hold
+
+
+def queue(mirror, client, requests):
+    """Sends them in one piece, so that no reply has to be read before the next is asked, and waits until all are done."""
+    mirror.send(*requests, ("create_table", "done", []))
+    while client.ask(("table_info", "done", "size")) != 0:
+        time.sleep(0.01)
+    script((client, ("delete_table", "done"), ATOMIC))
+
+
+def begin_mark(records):
+    return ("mnesia_table_begin", "t", "detailed", records)
+
+
+def dumps(count, records):
+    """A session that takes nothing subscribes with a dump and ends that, so often."""
+    size = len(frame(begin_mark(records))) - 4
+
+    def hold(server, client):
+        mirror = server.connect()
+        queue(mirror, client, [DUMP, NO_MORE] * count)
+        held = server.kilobytes()
+        # A reply and a marker for each subscription and for its end, and the reply to what stands behind them.
+        found = [len(mirror.payload()) for _ in range(4 * count + 1)]
+        assert found.count(size) == count, "dumps"
+        return held
+
+    return hold
+
+
+def old_records(record, count):
+    """All of a table's records are deleted in a one-shot, and told to a session that takes nothing."""
+
+    def hold(server, client):
+        mirror = server.connect()
+        script((mirror, ("subscribe", WATCHED), HERE_OK))
+        assert mirror.event() == ("mnesia_table_begin", "t", "detailed"), "begin marker"
+        script((client, ("transaction", [("delete", ("t", key)) for key in range(count)], 0), ("atomic", [OK] * count)))
+        held = server.kilobytes()
+        holds("old records", [mirror.event()[1][3] for _ in range(count)] == [[record(key)] for key in range(count)])
+        return held
+
+    return hold
+
+
+def measured(server, make, hold):
+    """The kilobytes that it holds with a table alone, and with what one client makes it hold."""
+    client = server.connect()
+    make(client)
+    commit_nothing(client)
+    return server.kilobytes(), hold(server, client)
+
+
+def begin_peak(server):
+    """The peak is that of what comes from here on."""
+    with open(f"/proc/{server.process.pid}/clear_refs", "w", encoding="ascii") as file:
+        file.write("5")
+
+
+def answers(count, answer):
+    """At its peak, a one-shot that asks for all keys so often, half of it in a child."""
+    asked, size = [ALL_KEYS] * (count // 2), size_of(("atomic", [answer] * (count // 2) + [("atomic", [answer] * (count // 2))]))
+
+    def hold(server, client):
+        begin_peak(server)
+        ask_long(client, ("transaction", [*asked, ("transaction", asked)], 0), size)
+        return server.kilobytes("VmHWM")
+
+    return hold
+
+
+def bag_record(number):
+    """All are of one key, and as long as each other."""
+    return ("t", 0, 1_000 + number)
+
+
+def bag_writes(records, count):
+    """At its peak, so many writes of a one-shot to a key of so many records, told to a session that takes nothing."""
+    written = [bag_record(records + number) for number in range(count)]
+
+    def hold(server, client):
+        mirror = server.connect()
+        script((mirror, ("subscribe", WATCHED), HERE_OK))
+        assert mirror.event() == ("mnesia_table_begin", "t", "detailed"), "begin marker"
+        begin_peak(server)
+        script((client, ("transaction", [("write", record) for record in written], 0), ("atomic", [OK] * count)))
+        held = server.kilobytes("VmHWM")
+        for place, record in enumerate(written):
+            tag, name, what, old, _ = mirror.event()[1]
+            assert (tag, name, what) == ("write", "t", record), "a write"
+            holds("the records before it", old == [bag_record(number) for number in range(records + place)])
+        return held
+
+    return hold
+
+
+def of_ten(number):
+    """One of ten of its key."""
+    return ("t", number // 10, number)
+
+
+def rows(record, count):
+    """A table of so many, which the tables that the journal starts from have too."""
+
+    def hold(server, client):
+        fill(client, record, count, 500)
+        commit_nothing(client)
+        return server.kilobytes()
+
+    return hold

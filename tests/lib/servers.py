@@ -1,0 +1,184 @@
+"""A `tabd serve` for a test or a measurement: with any words, at a port or a socket file, and what it holds and counts."""
+
+import http.client
+import os
+import re
+import resource
+import subprocess
+import threading
+import time
+from typing import Any, Callable, Dict, Optional, Tuple, TypeVar
+
+from tests.lib.checks import LIMIT, same
+from tests.lib.wire import Connection, Place, Term, frame
+
+# A thread of the server may still be about to end so many seconds after its connection did; an end takes so many at most.
+PATIENCE, TO_END = 20.0, 60
+# What a session that has ended did is counted after so many seconds at most, and memory is given back after so many.
+COUNTED, SETTLED = 5.0, 0.3
+# A line that never comes would be waited for without an end.
+LONGEST = 250
+
+
+Self = TypeVar("Self", bound="Server")
+
+
+class Server:
+    """With these words, at a port, or at the socket file of a path; options are those of Popen."""
+
+    def __init__(self, program: str, *words: str, path: Optional[str] = None, **options: Any) -> None:
+        where = ["--socket", path] if path else ["--port", "0"]
+        pipes: Any = {"stdin": subprocess.DEVNULL, "stdout": subprocess.PIPE, "stderr": subprocess.PIPE}
+        self.process = subprocess.Popen([program, "serve", *where, *words], text=True, **pipes, **options)
+        line = self.line()
+        if not line.startswith("listening on "):
+            raise OSError(f"the server does not start: {line}{self.process.communicate()[1]}")
+        said = line.removeprefix("listening on ").removesuffix("\n")
+        self.place: Place = said if path else int(said.rsplit(":", 1)[1])
+        self.limit = threading.Timer(LONGEST, self.process.kill)
+        self.limit.daemon = True
+        self.limit.start()
+
+    def __enter__(self: Self) -> Self:
+        return self
+
+    def __exit__(self, *_: object) -> None:
+        self.limit.cancel()
+        self.process.kill()
+        self.process.communicate()
+
+    def line(self) -> str:
+        """The next that it says."""
+        return self.process.stdout.readline()  # type: ignore[union-attr]
+
+    def log(self) -> str:
+        """The next line on standard error."""
+        return self.process.stderr.readline()  # type: ignore[union-attr]
+
+    def connect(self, small: bool = False) -> Connection:
+        return Connection(self.place, small)
+
+    def ends(self, status: int = 0, said: str = "") -> None:
+        """By itself, and says no more than this, on standard error."""
+        __tracebackhide__ = True
+        out, errors = self.process.communicate(timeout=TO_END)
+        assert (self.process.returncode, out, errors) == (status, "", said), "its end"
+
+    def is_stopped(self, said: str = "") -> None:
+        """A signal ends it, and it has not ended before, nor said more than this on standard error."""
+        __tracebackhide__ = True
+        assert self.stopped() == said, "what it said"
+
+    def stopped(self) -> str:
+        """What it said on standard error up to a signal that ends it."""
+        assert self.process.poll() is None, "it runs"
+        self.process.terminate()
+        return self.process.communicate()[1]
+
+    def seated(self) -> Tuple[Connection, Term]:
+        """A connection that has a seat, as soon as one is free, and its first reply."""
+        end = time.monotonic() + PATIENCE
+        while time.monotonic() < end:
+            connection = self.connect()
+            try:
+                connection.send("begin")
+                if (found := connection.receive()) != LIMIT:
+                    return connection, found[1]
+            except (OSError, ValueError):
+                # It was closed before the request was sent, or read, or answered.
+                pass
+            connection.close()
+            time.sleep(0.01)
+        raise AssertionError("no seat is free")
+
+    def status(self) -> Dict[str, str]:
+        with open(f"/proc/{self.process.pid}/status", encoding="ascii") as file:
+            return dict(line.split(":", 1) for line in file)  # type: ignore[misc]
+
+    def kilobytes(self, name: str = "VmRSS") -> int:
+        """What it holds once it has given back what it may."""
+        time.sleep(SETTLED)
+        return int(self.status()[name].split()[0])
+
+    def held(self) -> Tuple[int, int, int]:
+        """What it holds: threads, descriptors, kilobytes."""
+        status = self.status()
+        return int(status["Threads"]), len(os.listdir(f"/proc/{self.process.pid}/fd")), int(status["VmRSS"].split()[0])
+
+    def settled(self, wanted: Tuple[int, int]) -> Tuple[int, int, int]:
+        """What it holds, once its threads and descriptors are as many as wanted."""
+        end = time.monotonic() + PATIENCE
+        while (found := self.held())[:2] != wanted and time.monotonic() < end:
+            time.sleep(0.01)
+        return found
+
+    def used(self) -> float:
+        """The seconds of a processor that it has used."""
+        with open(f"/proc/{self.process.pid}/stat", encoding="ascii") as file:
+            fields = file.read().rsplit(")", 1)[1].split()
+        return (int(fields[11]) + int(fields[12])) / os.sysconf("SC_CLK_TCK")
+
+
+def descriptors(count: int) -> Callable[[], None]:
+    """For `preexec_fn`: so many at most."""
+    return lambda: resource.setrlimit(resource.RLIMIT_NOFILE, (count, count))
+
+
+def forever(program: str, seats: int, *words: str, **options: Any) -> Server:
+    """Serves so many connections at once and never ends. Its journal is soon full, and grows no more."""
+    return Server(program, "--connections", str(seats), "--forever", "--journal", "16", *words, **options)
+
+
+class Client(Connection):
+    """Counts the bytes of what it sends and is sent."""
+
+    def __init__(self, place: Place, small: bool = False) -> None:
+        super().__init__(place, small)
+        self.sent, self.received = 0, 0
+
+    def send(self, *requests: Term) -> None:
+        self.sent += sum(len(frame(it)) for it in requests)
+        super().send(*requests)
+
+    def receive(self) -> Term:
+        term = super().receive()
+        self.received += len(frame(term))
+        return term
+
+
+class Metered(Server):
+    """One that never ends, whose counters can be asked."""
+
+    def __init__(self, program: str, seats: int, *words: str) -> None:
+        super().__init__(program, "--connections", str(seats), "--forever", "--journal", "16", "--metrics", "0", *words)
+        found = re.fullmatch(r"metrics on 127\.0\.0\.1:(\d+)\n", self.line())
+        assert found, "where its counters are"
+        self.pages = int(found[1])
+
+    def connect(self, small: bool = False) -> Client:
+        return Client(self.place, small)
+
+    def ask(self, method: str = "GET", path: str = "/metrics") -> Tuple[int, Optional[str], str]:
+        """The status, the kind and the text."""
+        connection = http.client.HTTPConnection("127.0.0.1", self.pages, timeout=10)
+        connection.request(method, path)
+        reply = connection.getresponse()
+        return reply.status, reply.getheader("Content-Type"), reply.read().decode()
+
+    def page(self) -> Dict[str, int]:
+        """Each metric's value, as Prometheus reads it: two lines of comments before each."""
+        status, kind, text = self.ask()
+        same("the page", (status, kind), (200, "text/plain; version=0.0.4"))
+        found = re.findall(r"# HELP tabd_(\w+) .+\n# TYPE tabd_\1 (\w+)\ntabd_\1 (\d+)\n", text)
+        same("its lines", "".join(f"tabd_{name} {value}\n" for name, _, value in found), re.sub("#.*\n", "", text))
+        for name, kind, _ in found:
+            same(name, kind, "counter" if name.endswith("_total") else "gauge")
+        return {name: int(value) for name, _, value in found}
+
+    def has(self, **wanted: int) -> None:
+        """These metrics, once all is counted that has happened."""
+        __tracebackhide__ = True
+        end = time.monotonic() + COUNTED
+        while (found := {name: self.page()[name] for name in wanted}) != wanted and time.monotonic() < end:
+            time.sleep(0.02)
+        assert found == wanted, "metrics"

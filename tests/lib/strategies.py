@@ -1,0 +1,118 @@
+"""What the properties are tried with: terms, encodings of terms, steps of transactions, options of tables, and subscriptions."""
+
+import itertools
+from typing import Any, Callable, List
+
+from hypothesis import strategies as st
+
+from tests.lib.model import INDEXED, OPTIONS
+from tests.lib.wire import Map, Term, spell
+
+EDGES = [0, 1, 255, 256, -1, 2**31 - 1, 2**31, -(2**31), -(2**31) - 1, 2**127 - 1, -(2**127)]
+INTEGERS = st.one_of(st.integers(0, 300), st.sampled_from(EDGES), st.integers(-(2**127), 2**127 - 1))
+ATOMS = st.text(st.characters(blacklist_categories=["Cs"]), max_size=6)
+LEAVES = st.one_of(INTEGERS, ATOMS, st.binary(max_size=6))
+
+
+def sorted_map(pairs: List[Any]) -> Map:
+    """In the order in which the program writes the keys."""
+    return Map(sorted(pairs, key=lambda pair: spell(pair[0])))
+
+
+def above(inner: st.SearchStrategy[Term]) -> st.SearchStrategy[Term]:
+    """Terms that are one level deeper."""
+    many = st.lists(inner, max_size=4)
+    pairs = st.lists(st.tuples(inner, inner), max_size=4, unique_by=lambda pair: spell(pair[0]))
+    return st.one_of(many, many.map(tuple), pairs.map(sorted_map))
+
+
+def terms(depth: int = 4) -> st.SearchStrategy[Term]:
+    return LEAVES if depth == 1 else st.one_of(LEAVES, above(terms(depth - 1)))
+
+
+KEYS: List[Term] = [1, "a", -1, 300, (1, 2), b"x", []]
+# A step has few choices, each by its place in a list, so that it is shrunk in few tries.
+ENDS: List[Term] = ["begin", "commit", ("abort", "why")]
+
+
+def updates(tabs: List[str], keys: List[Term], values: List[Term]) -> List[Term]:
+    rows = list(itertools.product(tabs, keys, values, values))
+    return [*[("write", row) for row in rows], *[("delete_object", row) for row in rows], *[("delete", row) for row in itertools.product(tabs, keys)]]
+
+
+def looks(tabs: List[str], keys: List[Term], values: List[Term]) -> List[Term]:
+    one = list(itertools.product(tabs, keys))
+    patterns = itertools.product(tabs, [*keys, "_"], [*values, "_"], ["_"])
+    found: List[Term] = [("read", *it) for it in one]
+    found += [("wread", it) for it in one] + [("match_object", it) for it in patterns]
+    found += [("index_read", *it) for it in itertools.product(tabs, values, [INDEXED, "class"])]
+    return found + list(itertools.product(["all_keys", "read_lock_table", "write_lock_table"], tabs))
+
+
+def failing(keys: List[Term]) -> List[Term]:
+    """Of a table that is not there, of records that do not fit, and by what is no index."""
+    rows = [("no", key, 0, 0) for key in keys] + list(itertools.product(OPTIONS, keys))
+    by_no_index = [("index_read", tab, 0, "value") for tab in OPTIONS]
+    return [("read", "no", 1), *itertools.product(["write", "delete_object", "match_object"], rows), *by_no_index]
+
+
+def of_any(*lists: List[Term]) -> st.SearchStrategy[Term]:
+    return st.one_of(*map(st.sampled_from, lists))
+
+
+ALONE = (list(OPTIONS), KEYS, [0, 1, "v"])
+MEETING = (["t"], [1, "a"], [0])
+MOVES = of_any(updates(*ALONE), looks(*ALONE), ENDS, failing(KEYS))
+STEPS = st.lists(st.tuples(st.just(0), MOVES), max_size=16)
+MEETING_STEPS = st.lists(st.tuples(st.integers(0, 2), of_any(updates(*MEETING), looks(*MEETING), ENDS, ["retry"])), max_size=24)
+
+NAMES = st.sampled_from(["k", "v", "w"])
+OPTION = st.one_of(
+    st.tuples(st.just("type"), st.sampled_from(["set", "bag", "list"])),
+    st.tuples(st.just("attributes"), st.one_of(st.lists(st.one_of(NAMES, st.just(1)), max_size=4), st.just("k"))),
+    st.tuples(st.just("index"), st.one_of(st.lists(st.one_of(NAMES, st.integers(1, 6), st.just("val")), max_size=3), st.just("v"))),
+    st.tuples(st.just("ram_copies"), st.sampled_from([[], ["n"], "n"])),
+    st.tuples(st.just("record_name"), st.sampled_from(["o", "other"])),
+    st.sampled_from(["type", ("nosuch", 1), ("type", "set", 1)]),
+)
+TABLE_OPTIONS = st.lists(OPTION, max_size=4)
+
+WATCHERS = 2
+TABS, LEVELS = st.sampled_from(list(OPTIONS)), st.sampled_from(["simple", "detailed"])
+WHO = st.integers(1, WATCHERS)
+WATCHED = st.tuples(st.just("table"), TABS, LEVELS)
+COMMITS = st.lists(st.sampled_from(updates(list(OPTIONS), [1, "a"], [0, 1])), max_size=3).map(lambda parts: ("transaction", parts, 0))
+# Session 0 commits, and makes and deletes tables; the others watch and take.
+WATCHING = st.lists(
+    st.one_of(
+        st.tuples(st.just(0), COMMITS),
+        st.tuples(st.just(0), COMMITS),
+        st.tuples(st.just(0), TABS.flatmap(lambda tab: st.sampled_from([("delete_table", tab), ("create_table", tab, OPTIONS[tab])]))),
+        st.tuples(WHO, st.one_of(st.tuples(st.just("subscribe"), WATCHED), st.tuples(st.just("subscribe"), WATCHED, st.just("dump")))),
+        st.tuples(WHO, st.tuples(st.just("unsubscribe"), WATCHED)),
+        st.tuples(WHO, st.just("take")),
+    ),
+    max_size=20,
+)
+
+
+def otherwise(draw: Callable[[Any], Any], term: Term) -> bytes:
+    """An encoding of a term that is read, and may be another than the one that is written."""
+    pick = lambda *ways: draw(st.sampled_from(ways))()
+    if isinstance(term, int):
+        size = max(1, (abs(term).bit_length() + 7) // 8)
+        big = lambda: b"n" + bytes([size + 1, term < 0]) + abs(term).to_bytes(size + 1, "little")
+        return pick(lambda: spell(term), big)
+    if isinstance(term, str):
+        text = term.encode()
+        return pick(lambda: spell(term), lambda: b"v" + len(text).to_bytes(2, "big") + text)
+    if isinstance(term, bytes):
+        return spell(term)
+    if isinstance(term, Map):
+        pairs = draw(st.permutations([otherwise(draw, key) + otherwise(draw, value) for key, value in term]))
+        return b"t" + len(pairs).to_bytes(4, "big") + b"".join(pairs)
+    parts = [otherwise(draw, part) for part in term]
+    count = len(parts).to_bytes(4, "big")
+    if isinstance(term, tuple):
+        return pick(lambda: b"h" + bytes([len(parts)]) + b"".join(parts), lambda: b"i" + count + b"".join(parts))
+    return b"l" + count + b"".join(parts) + b"j"

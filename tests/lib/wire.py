@@ -1,0 +1,99 @@
+"""Frames of terms, in the form of examples/frames.py, and a connection to `tabd serve`."""
+
+import io
+import socket
+import struct
+from collections import deque
+from typing import Any, Deque, List, Tuple, Union
+
+from examples.frames import Map, frame, read, spell, take
+
+__all__ = ["Connection", "Map", "PATIENCE", "Place", "Term", "frame", "frames", "frames_of", "read", "spell", "take", "term_of"]
+
+Term = Any
+# A port, or the path of a socket file.
+Place = Union[int, str]
+# A reply or an event that has not come after so many seconds is an error.
+PATIENCE = 30
+
+
+def frames(*terms: Term) -> bytes:
+    return b"".join(map(frame, terms))
+
+
+def frames_of(data: bytes) -> Tuple[List[bytes], bytes]:
+    """Whole frames, and what stands behind them."""
+    found = []
+    while len(data) >= 4 and len(data) >= (end := 4 + int.from_bytes(data[:4], "big")):
+        found.append(data[:end])
+        data = data[end:]
+    return found, data
+
+
+def term_of(data: bytes) -> Term:
+    """The term of a frame."""
+    return read(io.BytesIO(data[5:]))
+
+
+class Connection:
+    """Asks one request at a time, and keeps the events that come between. Where the room is small, little stands between the server
+    and a client that does not read; of a socket file the server's own room decides."""
+
+    def __init__(self, place: Place, small: bool = False) -> None:
+        self.socket = socket.socket(socket.AF_UNIX if isinstance(place, str) else socket.AF_INET)
+        self.socket.settimeout(PATIENCE)
+        if isinstance(place, str):
+            self.socket.connect(place)
+        else:
+            if small:
+                self.socket.setsockopt(socket.SOL_SOCKET, socket.SO_RCVBUF, 4096)
+                self.socket.setsockopt(socket.IPPROTO_TCP, socket.TCP_MAXSEG, 536)
+            self.socket.connect(("127.0.0.1", place))
+            self.socket.setsockopt(socket.IPPROTO_TCP, socket.TCP_NODELAY, 1)
+        self.stream = self.socket.makefile("rb")
+        self.events: Deque[Term] = deque()
+
+    def payload(self) -> bytes:
+        """The next frame's, not taken apart."""
+        return take(self.stream, int.from_bytes(take(self.stream, 4), "big"))
+
+    def receive(self) -> Term:
+        """The next frame's term."""
+        return read(io.BytesIO(self.payload()[1:]))
+
+    def send(self, *requests: Term) -> None:
+        """In one piece."""
+        self.socket.sendall(frames(*requests))
+
+    def reply(self) -> Term:
+        """The next reply. Events that come before it are kept."""
+        while True:
+            term = self.receive()
+            if isinstance(term, tuple) and term[0] == "reply":
+                return term[1]
+            self.events.append(term)
+
+    def ask(self, request: Term) -> Term:
+        self.send(request)
+        return self.reply()
+
+    def event(self) -> Term:
+        """The next event, which it waits for."""
+        return self.events.popleft() if self.events else self.receive()
+
+    def widen(self) -> None:
+        """It reads with more room, for else each frame takes its time."""
+        self.socket.setsockopt(socket.SOL_SOCKET, socket.SO_RCVBUF, 1_048_576)
+
+    def half_close(self) -> None:
+        """It sends nothing more."""
+        self.socket.shutdown(socket.SHUT_WR)
+
+    def break_off(self) -> None:
+        """Closes at once: what was sent and not read is lost."""
+        self.socket.setsockopt(socket.SOL_SOCKET, socket.SO_LINGER, struct.pack("ii", 1, 0))
+        self.close()
+
+    def close(self) -> None:
+        self.stream.close()
+        self.socket.close()

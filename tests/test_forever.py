@@ -1,0 +1,347 @@
+"""`tabd serve --forever`, which serves as many connections at once as it is told to and never ends.
+
+Each case has a server of its own: one at a port, and where the two kinds of socket may differ one at a socket file too.
+"""
+
+import random
+import signal
+import time
+
+import pytest
+
+from tests.lib.checks import ATOMIC, CREATE, HERE_OK, LIMIT, MARK, OK, event, script, waits, watch, write
+from tests.lib.servers import descriptors, forever
+from tests.lib.wire import frame
+
+NOT_ACCEPTED = "tabd: no connection was accepted\n"
+# Those that are run at a socket file too: what waits, breaks off, is idle, or leaves a descriptor.
+at_both = pytest.mark.parametrize("place", ["at a port", "at a file"])
+seats = pytest.mark.seats
+pytestmark = pytest.mark.serial
+
+
+@pytest.fixture
+def place():
+    return "at a port"
+
+
+@pytest.fixture
+def server(request, tabd, tmp_path, place):
+    mark = request.node.get_closest_marker("seats")
+    files = mark.kwargs.get("files")
+    path = str(tmp_path / "socket") if place == "at a file" else None
+    with forever(tabd, *mark.args, path=path, preexec_fn=descriptors(files) if files else None) as server:
+        yield server
+
+
+@seats(8)
+@at_both
+def test_the_ninth_is_told(server):
+    """Who finds no seat is told so and closed, and the others go on; who leaves makes room."""
+    connections = [server.connect() for _ in range(8)]
+    for age, connection in enumerate(connections, 1):
+        script((connection, "begin", ("tid", age)))
+    ninth = server.connect()
+    assert (ninth.receive(), ninth.stream.read()) == (LIMIT, b""), "the ninth"
+    script(*((connection, "commit", ("atomic", number)) for number, connection in enumerate(connections, 1)))
+    connections[3].close()
+    tenth, found = server.seated()
+    assert found == ("tid", 9), "the tenth"
+    assert connections[0].ask("begin") == ("tid", 10), "the others"
+    server.is_stopped()
+
+
+@seats(2)
+@at_both
+def test_a_pause(server):
+    """Who alone asks, and has asked often, is waited for with no use of a processor, and keeps its transaction meanwhile."""
+    connection = server.connect()
+    script((connection, CREATE, ATOMIC), (connection, "begin", ("tid", 1)))
+    for number in range(100):
+        assert connection.ask(write(1, number)) == OK, "write"
+    before = server.used()
+    time.sleep(1)
+    used = server.used() - before
+    assert used <= 0.1, f"{used:.2f} seconds of a processor in one in which no one asked"
+    script((connection, ("read", "t", 1), [("t", 1, 99)]), (connection, "commit", ("atomic", 1)))
+    server.is_stopped()
+
+
+def at_last(connection, request):
+    """The reply, where whoever broke off may leave later than a restarted request rests."""
+    for _ in range(100):
+        if (reply := connection.ask(request)) != "restart":
+            return reply
+    return "restart"
+
+
+@seats(2)
+@at_both
+def test_tables_outlive_connections(server):
+    """All have left, one in the midst of a transaction, and what was committed is there for who comes."""
+    first, second = server.connect(), server.connect()
+    script((first, CREATE, ATOMIC), (first, ("transaction", [write(1, "a")], 0), ("atomic", [OK])))
+    script((second, "begin", ("tid", 2)), (second, write(1, "b"), OK))
+    first.close()
+    second.break_off()
+    third, found = server.seated()
+    assert found[0] == "tid", "the third"
+    assert at_last(third, ("wread", ("t", 1))) == [("t", 1, "a")], "it left"
+    server.is_stopped()
+
+
+@seats(8)
+@at_both
+def test_a_thousand_through_a_seat(server, sanitizer):
+    """A thousand connections, one after the other, leave no thread, no descriptor and no memory."""
+    for connection in (held := [server.connect() for _ in range(7)]):
+        assert connection.ask("begin")[0] == "tid", "begin"
+    script((held[0], "commit", ("atomic", 1)), (held[0], CREATE, ATOMIC))
+    before = server.settled(server.held()[:2])
+    for number in range(1000):
+        connection, _ = server.seated()
+        script((connection, write(number % 5, number), OK), (connection, "commit", ("atomic", number + 2)))
+        connection.close()
+        if number == 100:
+            before = (*before[:2], server.settled(before[:2])[2])
+    after = server.settled(before[:2])
+    assert after[:2] == before[:2], "threads and descriptors"
+    assert sanitizer or after[2] - before[2] <= 1000, f"{after[2] - before[2]} kilobytes more"
+    server.is_stopped()
+
+
+@seats(64, files=20)
+@at_both
+def test_no_descriptor_is_left(server):
+    """Where no connection can be accepted it says so, once and not at each attempt, and goes on as soon as one can."""
+    connections = [server.connect() for _ in range(12)]
+    time.sleep(2)
+    # A descriptor that is free again may be too few for the next, so there may be a line for each connection that ends.
+    for connection in connections:
+        connection.break_off()
+    last, found = server.seated()
+    assert found[0] == "tid", "the last"
+    said = server.stopped().splitlines(keepends=True)
+    assert set(said) == {NOT_ACCEPTED}, "what it said"
+    assert len(said) <= len(connections), f"it said so {len(said)} times"
+
+
+@seats(3, "--idle", "1")
+@at_both
+@pytest.mark.tries(3)
+def test_idle(server):
+    """A transaction from which nothing comes ends, with its connection, and what it held is free. Who waits for its lock, and who has
+    no transaction, is not idle, though nothing comes from either."""
+    older, younger, mirror = server.connect(), server.connect(), server.connect()
+    script((older, CREATE, ATOMIC), (mirror, watch(), HERE_OK), (older, "begin", ("tid", 1)))
+    script((younger, "begin", ("tid", 2)), (younger, write(1, "b"), OK))
+    assert mirror.event() == MARK, "begin marker"
+    older.send(("read", "t", 1))
+    assert younger.stream.read() == b"", "its end"
+    assert older.receive() == ("reply", []), "who waits"
+    script((older, write(1, "a"), OK), (older, "commit", ("atomic", 1)))
+    assert mirror.event() == event(1, "a", 1), "event"
+    # Half of a request, and no transaction.
+    mirror.socket.sendall(frame("begin")[:5])
+    time.sleep(2.5)
+    mirror.socket.sendall(frame("begin")[5:])
+    assert mirror.receive() == ("reply", ("tid", 3)), "who has none"
+    script((mirror, "commit", ("atomic", 2)), (older, "begin", ("tid", 4)), (older, "commit", ("atomic", 3)))
+    server.is_stopped("tabd: session 2 was idle\n")
+
+
+@seats(3, "--idle", "60")
+@at_both
+def test_a_server_that_is_stopped(server):
+    """A server that is stopped and goes on keeps its sessions and their transactions, with a time limit on their reads too: of a session from
+    which a request is expected, and of one that waits for a lock."""
+    older, younger, quiet = server.connect(), server.connect(), server.connect()
+    script((older, CREATE, ATOMIC), (older, "begin", ("tid", 1)), (younger, "begin", ("tid", 2)), (younger, write(1, "b"), OK))
+    older.send(("read", "t", 1))
+    waits(older)
+    for sent in (signal.SIGSTOP, signal.SIGCONT):
+        server.process.send_signal(sent)
+        time.sleep(0.2)
+    script((younger, write(1, "c"), OK), (younger, "commit", ("atomic", 1)), (quiet, "begin", ("tid", 3)))
+    assert older.receive() == ("reply", [("t", 1, "c")]), "who waited"
+    server.is_stopped()
+
+
+@seats(2, "--idle", "1")
+@at_both
+@pytest.mark.tries(3)
+def test_a_reader_that_takes_nothing(server):
+    """Who reads nothing for so long has left, so that its seat is free."""
+    reader, writer = server.connect(small=True), server.connect()
+    script((reader, CREATE, ATOMIC), (reader, watch(), HERE_OK))
+    for number in range(400):
+        script((writer, ("transaction", [write(number % 5, b"v" * 4000)], 0), ("atomic", [OK])))
+    other, found = server.seated()
+    assert found[0] == "tid", "the seat"
+    # It says so once the seat is free.
+    assert server.log() == "tabd: session 1 was idle\n", "what it said"
+    server.is_stopped()
+
+
+@seats(2, "--log", "--outbox", "16")
+@at_both
+def test_a_log(server):
+    """Each start, end, overflow and refusal of a seat has a line."""
+    reader = server.connect(small=True)
+    assert server.log() == "tabd: session 1 has started\n", "a start"
+    writer = server.connect()
+    assert server.log() == "tabd: session 2 has started\n", "another"
+    third = server.connect()
+    assert (third.receive(), server.log()) == (LIMIT, "tabd: no seat for a connection\n"), "the third"
+    script((writer, CREATE, ATOMIC), (reader, watch(), HERE_OK))
+    for number in range(1, 201):
+        script((writer, ("transaction", [write(number % 5, b"v" * 4000)], 0), ("atomic", [OK])))
+    reader.widen()
+    while (told := reader.event())[0] != "mnesia_overflow":
+        pass
+    assert server.log() == f"tabd: session 1 lost its events from commit {told[1]} on\n", "an overflow"
+    writer.break_off()
+    assert server.log() == "tabd: session 2 has ended\n", "an end"
+    reader.close()
+    assert server.log() == "tabd: session 1 has ended\n", "another"
+    server.is_stopped()
+
+
+@seats(3)
+@at_both
+def test_broken_off_behind_a_wait(server):
+    """Who breaks off while it waits has left at once, also where a further request stands unread, and what it held is free."""
+    older, younger, third = server.connect(), server.connect(), server.connect()
+    script((older, CREATE, ATOMIC), (older, "begin", ("tid", 1)), (older, write(2, "a"), OK))
+    script((younger, "begin", ("tid", 2)), (younger, write(1, "b"), OK))
+    older.send(("read", "t", 1))
+    waits(older)
+    older.send(("read", "t", 3))
+    waits(older)
+    older.break_off()
+    script((third, "begin", ("tid", 3)))
+    assert at_last(third, ("wread", ("t", 2))) == [], "what it held"
+    script((younger, "commit", ("atomic", 1)))
+    server.is_stopped()
+
+
+@seats(2)
+@at_both
+def test_half_closed_behind_a_wait(server):
+    """Who sends nothing more while it waits, with a further request unread, has not broken off: it is told both replies."""
+    older, younger = server.connect(), server.connect()
+    script((older, CREATE, ATOMIC), (older, "begin", ("tid", 1)), (younger, "begin", ("tid", 2)), (younger, write(1, "b"), OK))
+    older.send(("read", "t", 1))
+    waits(older)
+    older.send(("read", "t", 3))
+    older.half_close()
+    waits(older)
+    script((younger, "commit", ("atomic", 1)))
+    assert [older.receive()[1] for _ in range(2)] == [[("t", 1, "b")], []], "the replies"
+    assert older.stream.read() == b"", "its end"
+    server.is_stopped()
+
+
+ABORT = ("abort", "no")
+ABORTED = ("aborted", "no")
+
+
+def held(server):
+    """An older session with two levels, whose read waits for a younger's write, and the younger."""
+    older, younger = server.connect(), server.connect()
+    script((older, CREATE, ATOMIC), (older, "begin", ("tid", 1)), (older, "begin", ("tid", 1)))
+    script((younger, "begin", ("tid", 2)), (younger, write(1, "b"), OK))
+    older.send(("read", "t", 1))
+    waits(older)
+    return older, younger
+
+
+@seats(2, "--abort-waits")
+@at_both
+def test_an_abort_ends_a_wait(server):
+    """It is answered alone, and ends one level. What it drops is asked for no more; the next operation waits as before."""
+    older, younger = held(server)
+    script((older, ABORT, ABORTED))
+    older.send(("read", "t", 1))
+    waits(older)
+    # In pieces, of which the first are no frame.
+    for byte in frame(ABORT):
+        older.socket.sendall(bytes([byte]))
+        time.sleep(0.01)
+    assert older.receive() == ("reply", ABORTED), "in pieces"
+    script((older, "commit", ("error", "no_transaction")), (younger, write(2, "c"), OK), (younger, "commit", ("atomic", 1)))
+    server.is_stopped()
+
+
+@seats(2, "--abort-waits")
+@at_both
+def test_an_abort_in_the_same_piece(server):
+    """Of what came at once the abort behind the operation ends its wait, and what comes behind that is answered."""
+    older, younger = held(server)
+    script((older, ABORT, ABORTED))
+    older.send(("read", "t", 2), ("read", "t", 1), ABORT, "begin")
+    assert [older.receive()[1] for _ in range(3)] == [[], ABORTED, ("tid", 3)], "the replies"
+    # Behind one that does not wait it is answered behind it.
+    older.send(("read", "t", 2), ABORT)
+    assert [older.receive()[1] for _ in range(2)] == [[], ABORTED], "the replies"
+    script((younger, "commit", ("atomic", 1)))
+    server.is_stopped()
+
+
+@seats(2, "--abort-waits")
+def test_others_are_answered_behind(server):
+    """Another request behind a wait is answered behind it, and so is an abort behind that one."""
+    older, younger = held(server)
+    older.send(("read", "t", 2), ABORT)
+    waits(older)
+    script((younger, "commit", ("atomic", 1)))
+    assert [older.receive()[1] for _ in range(3)] == [[("t", 1, "b")], [], ABORTED], "the replies"
+    server.is_stopped()
+
+
+@seats(2)
+def test_an_abort_is_answered_behind(server):
+    """Without the word an abort is answered behind what waits."""
+    older, younger = held(server)
+    older.send(ABORT)
+    waits(older)
+    script((younger, "commit", ("atomic", 1)))
+    assert [older.receive()[1] for _ in range(2)] == [[("t", 1, "b")], ABORTED], "the replies"
+    server.is_stopped()
+
+
+@seats(3, "--abort-waits")
+def test_an_abort_ends_a_one_shot(server):
+    """A one-shot that waits, for a younger's lock behind an older's, is given up."""
+    first, one_shot, younger = server.connect(), server.connect(), server.connect()
+    script((first, CREATE, ATOMIC), (first, "begin", ("tid", 1)), (first, write(1, "a"), OK))
+    one_shot.send(("transaction", [write(1, "b"), write(2, "b")], 1000))
+    waits(one_shot)
+    script((younger, "begin", ("tid", 3)), (younger, write(2, "c"), OK), (first, "commit", ("atomic", 1)))
+    waits(one_shot)
+    one_shot.send(ABORT)
+    assert [one_shot.receive()[1] for _ in range(2)] == [("aborted", "nowait"), ("error", "no_transaction")], "the replies"
+    script((younger, "commit", ("atomic", 2)), (first, "begin", ("tid", 4)), (first, ("read", "t", 1), [("t", 1, "a")]))
+    server.is_stopped()
+
+
+@seats(2, "--abort-waits")
+@at_both
+def test_an_abort_beside_a_commit(server):
+    """An abort comes about when the lock is free: the operation is answered, and the abort behind it, or the abort alone."""
+    chance = random.Random(1)
+    older, younger = server.connect(), server.connect()
+    script((older, CREATE, ATOMIC))
+    for turn in range(200):
+        script((older, "begin", ("tid", 2 * turn + 1)), (younger, "begin", ("tid", 2 * turn + 2)), (younger, write(1, turn), OK))
+        older.send(("read", "t", 1))
+        # Past the first nap, in which no abort is heard.
+        time.sleep(0.03)
+        younger.send("commit")
+        time.sleep(chance.random() * 0.0005)
+        older.send(("abort", turn))
+        found = older.receive()[1]
+        if found != ("aborted", turn):
+            assert (found, older.receive()[1]) == ([("t", 1, turn)], ("aborted", turn)), "the replies"
+        assert younger.receive()[1] == ("atomic", turn + 1), "the commit"
+    server.is_stopped()

@@ -1,0 +1,166 @@
+"""The memory that `tabd serve` holds for what its clients were told.
+
+What is read is shared with the table: what the journal's entries were told, and what waits in an outbox, takes little beside the table, and is
+given back when the last of them lets it go; what is not shared finds no memory where the system gives none. bench/memory.py measures more of
+it. Each case has a server of its own.
+"""
+
+import resource
+
+import pytest
+
+from tests.lib.checks import ATOMIC, CREATE, END, HERE_OK, OK, holds, script, write
+from tests.lib.holding import (
+    ALL_KEYS,
+    ALL_RECORDS,
+    BY_INDEX,
+    DUMP,
+    HALF,
+    INDEXED,
+    MEGABYTE,
+    NO_MORE,
+    Held,
+    answers,
+    ask_long,
+    bag_record,
+    bag_writes,
+    begin_mark,
+    commit_nothing,
+    dumps,
+    halved,
+    long_reads,
+    long_record,
+    measured,
+    of_ten,
+    old_records,
+    queue,
+    rows,
+    short_reads,
+    size_of,
+    small_record,
+    table,
+    transaction,
+    whole_reads,
+)
+
+pytestmark = pytest.mark.serial
+
+
+@pytest.fixture
+def held(tabd, request, passed, plain):
+    """Of the words of the mark `words`. Behind a case that passes it has said nothing."""
+    mark = request.node.get_closest_marker("words")
+    with Held(tabd, *(mark.args if mark else ())) as server:
+        yield server
+        if passed():
+            server.is_stopped()
+
+
+KEYS, RECORDS = list(range(20_000)), list(map(small_record, range(20_000)))
+EVEN = list(map(halved, range(0, 20_000, 2)))
+FULL = pytest.mark.words("--journal", "16")
+# Thirty megabytes.
+LONG, MANY = long_record(100_000), 300
+# A bound in kilobytes, and a table with what a client makes the server hold, made when they are needed: one that copies what it tells
+# holds more than 150,000 in each, one that builds an item before it sends it some 30,000 in each that is on its way, one whose journal copies its rows some
+# 70,000, one whose maps keep room for entries that don't come some 38,000 in "rows of a server", and one whose journal counts
+# entries alone some 225,000 in "operations in the journal".
+CASES = [
+    pytest.param(30_000, lambda: (table(long_record(MEGABYTE), 1), long_reads(1, 200)), id="reads of a long record"),
+    pytest.param(30_000, lambda: (table(small_record, 20_000), whole_reads(ALL_KEYS, KEYS, 300)), id="all keys"),
+    pytest.param(30_000, lambda: (table(small_record, 20_000), whole_reads(ALL_KEYS, KEYS, 300, True)), id="all keys behind a write"),
+    pytest.param(30_000, lambda: (table(small_record, 20_000), whole_reads(ALL_RECORDS, RECORDS, 100)), id="match_object of all"),
+    pytest.param(30_000, lambda: (table(halved, 20_000, options=INDEXED), whole_reads(HALF, EVEN, 300)), id="match_object of half"),
+    pytest.param(30_000, lambda: (table(halved, 20_000, options=INDEXED), whole_reads(BY_INDEX, EVEN, 300)), id="index_read of half"),
+    pytest.param(160_000, lambda: (table(small_record, 10), short_reads(250)), id="operations in the journal"),
+    pytest.param(30_000, lambda: (table(small_record, 20_000), answers(300, KEYS)), id="a one-shot's answers"),
+    pytest.param(34_000, lambda: (table(small_record, 1), rows(small_record, 100_000)), id="rows of a server", marks=FULL),
+    pytest.param(48_000, lambda: (table(of_ten, 1, options=[("type", "bag")]), rows(of_ten, 100_000)), id="rows of a bag", marks=FULL),
+    pytest.param(30_000, lambda: (table(long_record(100_000), 50), dumps(32, list(map(LONG, range(50))))), id="dumps in an outbox"),
+    pytest.param(8_000, lambda: (table(LONG, MANY), dumps(1, list(map(LONG, range(MANY))))), id="a dump on its way"),
+    pytest.param(8_000, lambda: (table(LONG, MANY), old_records(LONG, MANY)), id="old records on their way"),
+    pytest.param(30_000, lambda: (table(bag_record, 3_000, options=[("type", "bag")]), bag_writes(3_000, 100)), id="writes to a bag's key"),
+]
+
+
+@pytest.mark.parametrize("bound, case", CASES)
+def test_holds(held, bound, case):
+    """So many kilobytes at most beside the table."""
+    make, hold = case()
+    alone, all_of = measured(held, make, hold)
+    assert all_of - alone <= bound, "kilobytes"
+
+
+# More dumps of a record of a megabyte than a connection's buffers take up.
+QUEUED = 16
+ROUNDS, FIRST_ROUNDS, GROWTH = 40, 10, 8_000
+
+
+def test_the_last_lets_go(held):
+    """What a table, the journal and an outbox hold is given back with the last of them, whichever of the two that is."""
+    client, reader, mirror = (held.connect() for _ in range(3))
+    script((client, CREATE, ATOMIC))
+    for number in range(ROUNDS):
+        one_round(client, reader, mirror, ("t", 1, bytes([number]) * MEGABYTE), number % 2)
+        if number + 1 == FIRST_ROUNDS:
+            before = held.kilobytes()
+    growth = held.kilobytes() - before
+    assert growth <= GROWTH, f"{growth} kB more than after {FIRST_ROUNDS} rounds, {GROWTH} at most"
+
+
+def one_round(client, reader, mirror, record, outbox_first):
+    """A record is written, read, dumped, and told as the old record of an event; then the table has it no more."""
+    read = ("read", "t", 1)
+    script((client, ("transaction", [("write", record)], 0), ("atomic", [OK])))
+    transaction(reader, [read] * 10, size_of([record]))
+    ask_long(reader, ("transaction", [read, ALL_RECORDS], 0), size_of(("atomic", [[record]] * 2)))
+    # The last subscription goes on.
+    queue(mirror, client, ([DUMP, NO_MORE] * QUEUED)[:-1])
+    script((client, ("transaction", [write(1, "short")], 0), ("atomic", [OK])))
+    if outbox_first:
+        empty_outbox(mirror, record)
+    commit_nothing(client)
+    if not outbox_first:
+        empty_outbox(mirror, record)
+
+
+def empty_outbox(mirror, record):
+    told = [mirror.receive() for _ in range(4 * QUEUED)]
+    assert told.count(begin_mark([record])) == QUEUED, "dumps"
+    holds("old records", [term[1][3] for term in told if term[0] == "mnesia_table_event"] == [[record]])
+    script((mirror, NO_MORE, HERE_OK))
+    assert mirror.event() == END, "end marker"
+
+
+# What the system gives a server beside what it has: some of the writes below, and not all of them.
+ROOM = 60_000_000
+
+
+def writes_until_refused(client):
+    """Of a megabyte each, in the transaction that is open: how many are made."""
+    for key in range(1, 1_000):
+        reply = client.ask(("write", ("t", key, bytes(MEGABYTE))))
+        if reply != OK:
+            assert reply == ("error", "no_memory"), f"write {key}"
+            return key - 1
+    raise AssertionError("no write was refused")
+
+
+def test_no_more_memory(held):
+    """A write that finds no memory is told so. Aborted, its transaction gives back what it held: others are served, and nothing has
+    changed. With more memory it is made."""
+    client, other = held.connect(), held.connect()
+    script((client, CREATE, ATOMIC))
+    resource.prlimit(held.process.pid, resource.RLIMIT_AS, (held.kilobytes("VmSize") * 1024 + ROOM, resource.RLIM_INFINITY))
+    for number in range(3):
+        assert client.ask("begin")[0] == "tid", "begin"
+        made = writes_until_refused(client)
+        assert 20 < made, "writes"
+        script(
+            (client, ("abort", "r"), ("aborted", "r")),
+            (other, ("transaction", [write(0, number), ("all_keys", "t"), ("read", "t", 0)], 0), ("atomic", [OK, [0], [("t", 0, number)]])),
+        )
+    resource.prlimit(held.process.pid, resource.RLIMIT_AS, (resource.RLIM_INFINITY, resource.RLIM_INFINITY))
+    assert client.ask("begin")[0] == "tid", "begin"
+    script(*((client, ("write", ("t", key, bytes(MEGABYTE))), OK) for key in range(1, made + 20)))
+    assert client.ask("commit")[0] == "atomic", "commit"

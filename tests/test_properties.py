@@ -1,0 +1,311 @@
+"""Properties, for examples that hypothesis makes up, and shrinks where one does not hold.
+
+A replay is deterministic, also where sessions wait and are restarted, so each example is one run of some sessions in a program that goes on. What
+it is told is compared with a model (sessions.py). Each property has a fault planted in its model, which has to be found and shrunk. The examples
+are the same in each run, and few; `--examples N` makes up N others.
+"""
+
+import itertools
+from typing import Any, Callable, Iterator, List, Set
+
+import pytest
+import tabd as client
+from hypothesis import find, given, settings
+from hypothesis import strategies as st
+
+from tests.lib.asking import Replay, Step
+from tests.lib.model import OPTIONS, whole
+from tests.lib.sessions import Outboxes, Session, Sessions, created, mirrored
+from tests.lib.strategies import KEYS, MEETING_STEPS, STEPS, TABLE_OPTIONS, WATCHERS, WATCHING, otherwise, terms
+from tests.lib.wire import Map, Term, frame, spell
+
+ROOM = 3
+
+
+@pytest.fixture(scope="module")
+def replay(tabd: str) -> Iterator[Replay]:
+    replay = Replay(tabd, ROOM)
+    yield replay
+    replay.close()
+
+
+def least(strategy: st.SearchStrategy[Any], check: Callable[[Any], None]) -> Any:
+    """The least example for which a check fails, as it has to with a planted fault."""
+
+    def fails(example: Any) -> bool:
+        try:
+            check(example)
+        except AssertionError:
+            return True
+        return False
+
+    return find(strategy, fails, settings=settings(max_examples=2_000, derandomize=True, database=None, deadline=None))
+
+
+# Terms: written in one encoding, and read in each.
+
+
+def payload(encoding: bytes) -> bytes:
+    return (len(encoding) + 1).to_bytes(4, "big") + b"\x83" + encoding
+
+
+def written(replay: Replay, encoding: bytes) -> bytes:
+    """How the program writes what is encoded so: the reason of an abort."""
+    replay.fresh(1)
+    head = spell((replay.first, ("abort", 0)))[:-2]
+    _, told = replay.told(replay.frames([(0, "begin")]) + payload(head + encoding), 2)
+    wanted = spell((replay.first, ("aborted", 0)))[:-2]
+    assert told[5:].startswith(wanted)
+    return told[5 + len(wanted) :]
+
+
+@given(term=terms())
+def test_a_term_comes_back(replay: Replay, term: Term) -> None:
+    assert written(replay, spell(term)) == spell(term)
+
+
+@given(data=st.data(), term=terms())
+def test_other_encodings_are_read(replay: Replay, data: st.DataObject, term: Term) -> None:
+    assert written(replay, otherwise(data.draw, term)) == spell(term)
+
+
+def test_a_planted_map_is_found(replay: Replay) -> None:
+    """Its keys are written in falling order."""
+
+    def planted(term: Term) -> bytes:
+        if isinstance(term, Map):
+            pairs = [spell(key) + spell(value) for key, value in reversed(term)]
+            return b"t" + len(pairs).to_bytes(4, "big") + b"".join(pairs)
+        return spell(term)
+
+    def check(term: Term) -> None:
+        assert written(replay, spell(term)) == planted(term)
+
+    assert least(terms(), check) == [(0, 0), (1, 0)]
+
+
+# The Python client's codec.
+
+
+def of_client(term: Term) -> Any:
+    """A map is a dict there, or pairs where its keys can't be one's."""
+    if isinstance(term, Map):
+        pairs = tuple((of_client(key), of_client(value)) for key, value in term)
+        try:
+            return dict(pairs)
+        except TypeError:
+            return client.terms.Pairs(pairs)
+    return type(term)(map(of_client, term)) if isinstance(term, (list, tuple)) else term
+
+
+def check_codec(term: Term, spelled: Callable[[Term], bytes] = spell) -> None:
+    payload = b"\x83" + spelled(term)
+    assert client.terms.encode(of_client(term)) == payload
+    assert client.terms.decode(payload) == of_client(term)
+
+
+@given(term=terms())
+def test_the_client_encodes_and_decodes(term: Term) -> None:
+    check_codec(term)
+
+
+def test_a_planted_encoding_is_found() -> None:
+    """Of a list of small integers as one of terms."""
+    planted = lambda term: b"l\0\0\0\1a" + bytes(term) + b"j" if isinstance(term, list) and len(term) == 1 and term[0] in range(256) else spell(term)
+    assert least(terms(), lambda term: check_codec(term, planted)) == [0]
+
+
+# Keys: in the order of their encodings.
+
+
+def check_order(replay: Replay, keys: List[Term], order: Callable[[Term], Any] = spell) -> None:
+    replay.fresh(1)
+    told = [("write", ("t", key, 0, 0)) for key in keys]
+    wanted = sorted(keys, key=order)
+    [reply] = replay.ask([(0, ("transaction", [*told, ("all_keys", "t"), ("match_object", ("t", "_", 0, "_"))], 0))])
+    assert reply == ("atomic", [*["ok"] * len(keys), wanted, [("t", key, 0, 0) for key in wanted]])
+
+
+DIFFERENT_KEYS = st.lists(terms(3), max_size=8, unique_by=spell)
+
+
+@given(keys=DIFFERENT_KEYS)
+def test_keys_are_in_order(replay: Replay, keys: List[Term]) -> None:
+    check_order(replay, keys)
+
+
+def test_a_planted_order_is_found(replay: Replay) -> None:
+    """By the encodings without their first bytes."""
+    found = least(DIFFERENT_KEYS, lambda keys: check_order(replay, keys, lambda key: spell(key)[1:]))
+    assert len(found) == 2
+
+
+# Transactions, of one session and of several that meet.
+
+
+def check_sessions(replay: Replay, count: int, asked: List[Step], model: Callable[..., Sessions] = Sessions) -> None:
+    """The replies to steps behind a begin of each, and the tables behind them once all have left."""
+    replay.fresh(count)
+    asked = [*((who, "begin") for who in range(count)), *asked]
+    looks = ("transaction", [("match_object", (tab, "_", "_", "_")) for tab in OPTIONS], 0)
+    found = replay.ask([*asked, *((who, "leave") for who in range(count)), (count, "join"), (count, looks)])
+    alone = model(count, replay.age, replay.number)
+    for at, (who, move) in enumerate(asked):
+        assert found[at] == alone.tell(who, move), f"step {at}, session {who}: {move}"
+    assert found[-1] == ("atomic", [whole(alone.tables[tab]) for tab in OPTIONS])
+
+
+@given(asked=STEPS)
+def test_a_session_alone(replay: Replay, asked: List[Step]) -> None:
+    check_sessions(replay, 1, asked)
+
+
+@given(asked=MEETING_STEPS)
+def test_sessions_that_meet(replay: Replay, asked: List[Step]) -> None:
+    check_sessions(replay, 3, asked)
+
+
+class KeepsAChild(Sessions):
+    """A child's changes stay where it is aborted."""
+
+    def done(self, session: Session, move: Term) -> Term:
+        if len(self.alone(session).saved) > 1 and move[0] == "abort":
+            super().done(session, "commit")
+            return ("aborted", move[1])
+        return super().done(session, move)
+
+
+class LosesAReadLock(Sessions):
+    """A read is not kept from a write."""
+
+    def operation(self, session: Session, move: Term) -> Term:
+        reply = super().operation(session, move)
+        if move[0] == "read" and session.locks:
+            session.locks.pop()
+        return reply
+
+
+class RestartsForAYounger(Sessions):
+    """Who meets a younger one does not wait."""
+
+    def waits(self, session: Session, opposed: List[int]) -> bool:
+        return False
+
+
+class GrantsARetry(Sessions):
+    """A retry looks at no one."""
+
+    def retry(self, session: Session) -> Term:
+        others, self.sessions = self.sessions, [session]
+        reply = super().retry(session)
+        self.sessions = others
+        return reply
+
+
+@pytest.mark.parametrize("model, most", [(KeepsAChild, 4), (LosesAReadLock, 2), (RestartsForAYounger, 2), (GrantsARetry, 3)])
+def test_a_planted_session_is_found(replay: Replay, model: Callable[..., Sessions], most: int) -> None:
+    """In so many steps at most behind the begins."""
+    found = least(MEETING_STEPS, lambda asked: check_sessions(replay, 3, asked, model))
+    assert len(found) <= most, found
+
+
+# The options of tables.
+
+
+def check_options(replay: Replay, options: List[Term], model: Callable[[str, List[Term]], Term] = created) -> None:
+    replay.fresh(1)
+    wanted = model("o", options)
+    infos = [(0, ("table_info", "o", what)) for what in ("type", "attributes", "index")]
+    _, reply, kind, names, index = replay.ask([(0, ("delete_table", "o")), (0, ("create_table", "o", options)), *infos])
+    if wanted[0] == "bad_def":
+        assert reply == ("aborted", wanted)
+    else:
+        assert reply == ("atomic", "ok")
+        assert (kind, names, sorted(index)) == wanted
+
+
+@given(options=TABLE_OPTIONS)
+def test_options(replay: Replay, options: List[Term]) -> None:
+    check_options(replay, options)
+
+
+def test_a_planted_option_is_found(replay: Replay) -> None:
+    """That the key may have an index."""
+
+    def planted(tab: str, options: List[Term]) -> Term:
+        found = created(tab, options)
+        return ("set", ["key", "val"], [2]) if found == ("bad_def", tab, ("index", 2)) else found
+
+    assert least(TABLE_OPTIONS, lambda options: check_options(replay, options, planted)) == [("index", [2])]
+
+
+# Subscriptions: of each session its slice of the commits, through an outbox of few items.
+
+
+def check_outboxes(replay: Replay, asked: List[Step], model: Callable[..., Outboxes] = Outboxes) -> None:
+    """The replies; and a mirror, that follows the items alone, ends with the tables."""
+    replay.fresh(WATCHERS + 1)
+    asked = [*asked, *[(who, "take") for who in range(1, WATCHERS + 1) for _ in range(ROOM + 2)]]
+    found = replay.ask(asked)
+    outboxes = model(WATCHERS, ROOM, replay.age, replay.number)
+    for at, (who, request) in enumerate(asked):
+        assert found[at] == outboxes.tell(who, request), f"step {at}, session {who}: {request}"
+    for who in range(1, WATCHERS + 1):
+        items = [reply for (other, request), reply in zip(asked, found) if (other, request) == (who, "take") and reply != "empty"]
+        for tab, copy in mirrored(items).items():
+            assert copy == sorted(whole(outboxes.tables[tab]), key=repr), f"a copy of {tab}"
+
+
+@given(asked=WATCHING)
+def test_subscriptions_and_mirrors(replay: Replay, asked: List[Step]) -> None:
+    check_outboxes(replay, asked)
+
+
+class NumbersAnOverflowLate(Outboxes):
+    """By the commit behind the first of which nothing was told."""
+
+    def put(self, watcher: Any, item: Term, number: int) -> None:
+        super().put(watcher, item, number + (item[0] == "batch"))
+
+
+class KeepsADeletedTable(Outboxes):
+    """No marker says that a table is gone."""
+
+    def put(self, watcher: Any, item: Term, number: int) -> None:
+        if item[0] != "mnesia_table_end":
+            super().put(watcher, item, number)
+
+
+@pytest.mark.parametrize("model, most", [(NumbersAnOverflowLate, ROOM + 1), (KeepsADeletedTable, 2)])
+def test_a_planted_outbox_is_found(replay: Replay, model: Callable[..., Outboxes], most: int) -> None:
+    found = least(WATCHING, lambda asked: check_outboxes(replay, asked, model))
+    assert len(found) <= most, found
+
+
+# The splitter: frames that come in any pieces.
+
+
+def check_pieces(replay: Replay, pieces: Any, is_read: Callable[[int, Set[int]], bool] = lambda *_: True) -> None:
+    """Writes in one transaction, cut at these places of its bytes. Each frame is answered, or those that are read with what is planted."""
+    keys, cuts = pieces
+    replay.fresh(1)
+    each = [replay.frames([(0, what)]) for what in ("begin", *(("write", ("t", key, 0, 0)) for key in keys))]
+    ends = list(itertools.accumulate(map(len, each)))
+    places = {cut for cut in cuts if cut < ends[-1]}
+    replies = replay.told(b"".join(each), len(each), places)
+    assert replies[1:] == [frame((replay.first, "ok")) for first in ends[:-1] if is_read(first, places)]
+
+
+PIECES = st.tuples(st.lists(st.sampled_from(KEYS), max_size=5), st.lists(st.integers(1, 150), max_size=8))
+
+
+@given(pieces=PIECES)
+def test_frames_in_pieces(replay: Replay, pieces: Any) -> None:
+    check_pieces(replay, pieces)
+
+
+def test_a_planted_splitter_is_found(replay: Replay) -> None:
+    """A frame is lost that is cut in its length."""
+    is_read = lambda first, places: not any(first < place < first + 4 for place in places)
+    keys, cuts = least(PIECES, lambda pieces: check_pieces(replay, pieces, is_read))
+    assert (len(keys), len(cuts)) == (1, 1)

@@ -1,0 +1,188 @@
+"""The replay with one allocation refused, each in turn: a step that is told `no_memory` is asked again.
+
+Each stream of streams.py, but those that take a thousand operations and those that are damaged, is asked frame by frame, once
+for each allocation that it makes: with the nth refused. What is answered `{error, no_memory}` is asked again at once, and then
+all replies are the stream's. A run may end with status 1 and its line instead where memory was refused at the start or for the
+frame itself, behind the replies to all earlier frames. A one-shot uses up an age, so each of one_shots.py has runs of its own, with a probe
+behind it: it left no level, no lock, no request and no change. On a connection each larger allocation is refused, so that a long frame finds
+no memory: it is answered so, and the session goes on. No contract ties an answer to memory that was refused, so this is where it is seen.
+With `--wrong` the program is each of a few wrong ones, which end by themselves where they are refused memory, and each has to be found in
+each stream.
+"""
+
+import collections
+import itertools
+import time
+from typing import Counter, List
+
+import pytest
+
+from tests.lib.checks import ATOMIC, CREATE
+from tests.lib.one_shots import ONE_SHOTS, PROBED
+from tests.lib.refusing import NO_MEMORY, RefusedReplay, built, is_no_memory
+from tests.lib.streams import streams
+from tests.lib.wire import frame
+
+# Streams of which every frame is asked with a thousand before it, and those that are no whole frames.
+LEFT_OUT = {"limit operations", "child count", "one shot operations", "sessions and tables", "damage cut", "damage too long"}
+# A frame that is read takes so many allocations: the bytes, the list of the frames, and the payload, where it is not empty.
+OF_A_FRAME, OF_AN_EMPTY = 3, 2
+# A vector that is not there yet may be tried twice: so many runs with no refusal, and no allocation is left.
+NONE_LEFT = 2
+# Wrong programs: the first allocation since a piece at whose refusal one ends, and the status.
+WRONG = [
+    pytest.param({"ENDS": "1", "WRONG": "1"}, id="it ends at each refusal"),
+    pytest.param({"ENDS": str(OF_A_FRAME + 1), "WRONG": "1"}, id="it ends where a step is refused memory"),
+    pytest.param({"ENDS": str(OF_A_FRAME + 1), "WRONG": "0"}, id="it ends where a step is refused memory, and says nothing"),
+]
+LINE = b"tabd: no memory\n"
+
+
+class OneShot:
+    """A one-shot behind what is asked before it, as a stream; and what stands behind it."""
+
+    words = ["replay"]
+
+    def __init__(self, name, before, request, reply, after):
+        self.name, self.before, self.request, self.reply, self.after = name, before, request, reply, after
+        steps = [*before, (1, request, reply)]
+        self.given = [frame((session, asked)) for session, asked, _ in steps]
+        self.told = [frame((session, told)) for session, _, told in steps]
+
+
+ROWS = [stream for stream in streams() if stream.name not in LEFT_OUT and stream.given and b"\x77\x0btransaction" not in stream.all]
+SHOTS = list(itertools.starmap(OneShot, ONE_SHOTS))
+
+
+@pytest.fixture(scope="session")
+def library(tmp_path_factory):
+    return built("refusing_replay", tmp_path_factory.mktemp("refusing"))
+
+
+@pytest.fixture(scope="session")
+def replay(tabd, library):
+    """Starts a replay of some words whose nth allocation is refused."""
+    start = lambda words, nth, *more, **wrong: RefusedReplay(tabd, library, words, nth, *more, **wrong)
+    with start(["replay"], 1) as run:
+        run.ask(frame((1, "join")))
+        if not run.ended()[0]:
+            pytest.skip("the program has an allocator of its own, and no allocation can be refused it")
+    return start
+
+
+def end_of(run, case, is_whole):
+    """How a run ended: `whole`, where all frames of the case were answered, or where its growth was refused: at the `start`, for a
+    `frame`; `none` where nothing was refused."""
+    where, status, err = run.ended()
+    if is_whole:
+        assert (status, err) == (0, b""), "all is answered"
+        return "asked again" if run.refused else "whole" if where else "none"
+    assert where, f"it ended at frame {run.answered + 1}, and nothing was refused: status {status}, {err}"
+    reads, since = where
+    assert (status, err) == (1, LINE)
+    is_there = not run.refused and run.answered == max(reads - 1, 0)
+    assert is_there, f"it ended at frame {run.answered + 1}, and memory was refused at frame {reads}"
+    if not reads:
+        return "start"
+    of_it = OF_A_FRAME if len(case.given[reads - 1]) > 4 else OF_AN_EMPTY
+    assert since <= of_it, f"it ended at frame {reads} for allocation {since}, which is not the frame's"
+    return "frame"
+
+
+def count_before(replay, stream):
+    """How many allocations are made before a frame is read."""
+    with replay(stream.words, 0) as run:
+        for given, wanted in zip(stream.given, stream.told):
+            assert run.ask(given) == wanted, f"frame {run.answered}, and nothing was refused"
+        where, status, err = run.ended()
+    assert (status, err) == (0, b""), "nothing refused"
+    return dict(zip(where[::2], where[1::2]))[0]
+
+
+def row_end(run, stream):
+    """How the run of a stream ended."""
+    is_whole = all(run.asked(given, wanted) for given, wanted in zip(stream.given, stream.told))
+    return end_of(run, stream, is_whole)
+
+
+def one_shot_end(run, case):
+    """How the run of a one-shot ended, of which memory was refused to the one-shot alone."""
+    for given, wanted in zip(case.given[:-1], case.told):
+        assert run.ask(given) == wanted, f"before it frame {run.answered}"
+    told = run.ask(case.given[-1])
+    if told is not None and is_no_memory(told, case.told[-1]):
+        run.refused += 1
+        probe(run, case)
+    else:
+        assert told in (None, case.told[-1]), f"told {told}, wanted {case.told[-1]}"
+    return end_of(run, case, told is not None)
+
+
+def probe(run, case):
+    """No level, no lock, no request and no change is left of it; asked again it is told what it is told."""
+    # An age that it used up is not told.
+    ages = 1 + sum(asked == "begin" or asked[0] == "transaction" for _, asked, _ in case.before)
+    begun = run.ask(frame((1, "begin")))
+    age = next((age for age in (ages, ages + 1) if begun == frame((1, ("tid", age)))), None)
+    assert age, f"a begin behind it is told {begun}"
+    steps = [(1, "commit", ("atomic", 2)), (2, "begin", ("tid", age + 1)), *PROBED, (2, ("abort", "probe"), ("aborted", "probe"))]
+    for session, asked, wanted in [*steps, *case.after, (1, case.request, case.reply)]:
+        told = run.ask(frame((session, asked)))
+        assert told == frame((session, wanted)), f"behind it {asked} is told {told}, wanted {wanted}"
+
+
+def faults_of(replay, does, stream, start, **wrong):
+    """What differs, for each allocation until none is left; how often the runs ended in each way is printed."""
+    ends: Counter[str] = collections.Counter()
+    faults: List[str] = []
+    before = count_before(replay, stream)
+    for nth in itertools.count(1):
+        if ends["none"] == NONE_LEFT or not start and nth > before:
+            break
+        try:
+            with replay(stream.words, nth, start, **wrong) as run:
+                ends[does(run, stream)] += 1
+        except AssertionError as differs:
+            faults.append(f"allocation {nth}: {differs}")
+    print(ends)
+    return faults
+
+
+def test_the_start(replay):
+    assert not faults_of(replay, row_end, ROWS[0], 0)
+
+
+@pytest.mark.parametrize("stream", ROWS, ids=[stream.name for stream in ROWS])
+def test_stream(replay, stream):
+    assert not faults_of(replay, row_end, stream, 1)[:5]
+
+
+@pytest.mark.parametrize("case", SHOTS, ids=[case.name for case in SHOTS])
+def test_one_shot(replay, case):
+    assert not faults_of(replay, one_shot_end, case, len(case.given))[:5]
+
+
+@pytest.mark.wrong
+@pytest.mark.parametrize("stream", ROWS, ids=[stream.name for stream in ROWS])
+@pytest.mark.parametrize("wrong", WRONG)
+def test_a_wrong_program_is_found(replay, wrong, stream):
+    assert faults_of(replay, row_end, stream, 1, **wrong)
+
+
+@pytest.mark.wrong
+@pytest.mark.parametrize("case", SHOTS, ids=[case.name for case in SHOTS])
+@pytest.mark.parametrize("wrong", WRONG)
+def test_a_wrong_program_is_found_by_a_one_shot(replay, wrong, case):
+    assert faults_of(replay, one_shot_end, case, len(case.given), **wrong)
+
+
+def test_a_served_frame(replay, serve, library):
+    """A frame on a connection for which no memory is found, cut in several ways, between two that find some."""
+    connection = serve("--connections", "1", env={"LD_PRELOAD": library, "LARGEST": "300000"}).connect()
+    short, long = frame(("read", "t", 1)), frame(("write", ("t", 1, bytes(900_000))))
+    assert [connection.ask(CREATE), connection.ask("begin")] == [ATOMIC, ("tid", 1)]
+    for cut in (0, 1, 4, 70_000, 400_000, len(long) - 1):
+        connection.socket.sendall(short + long[:cut])
+        time.sleep(0.05)
+        connection.socket.sendall(long[cut:] + short)
+        assert [connection.receive() for _ in range(3)] == [("reply", reply) for reply in ([], NO_MEMORY, [])], f"cut at {cut}"

@@ -1,0 +1,72 @@
+"""The streams over connections to `tabd serve --batches`, a connection for each session, in lock-step.
+
+What a session is answered is the stream's reply; each item that a `take` of the stream is told comes on the session's connection by
+itself, in the stream's order and as one frame. So what a mailbox hands over is compared with what a ring did. An operation that is
+answered `waiting` has its reply where the stream's `retry` has it. Left out are streams that a connection can't ask: those of a session
+that isn't joined, of an outbox that overflows, of requests while one waits, and of payloads that are no request.
+"""
+
+import pytest
+
+from tests.lib.checks import waits
+from tests.lib.streams import streams
+from tests.lib.wire import term_of
+
+# With fewer streams than these something is left out that was not.
+LEAST = 38
+# What no connection is told, or only where its outbox is full.
+LEFT_OUT = [("error", word) for word in ("badsession", "waiting", "not_waiting", "overflow_untold")]
+
+
+def steps_of(stream):
+    """The session, request and reply of each frame; None where a payload is no request, or a reply is one that is left out."""
+    steps = []
+    for given, told in zip(stream.given, stream.told):
+        try:
+            session, request = term_of(given)
+            answered, reply = term_of(told)
+        except (ValueError, TypeError, OSError, IndexError):
+            return None
+        if answered != session or request == "leave" or reply in LEFT_OUT or "mnesia_overflow" in str(reply) or "outbox" in str(reply):
+            return None
+        steps.append((session, request, reply))
+    return steps
+
+
+class Session:
+    """A connection, and whether an operation waits on it."""
+
+    def __init__(self, connection):
+        self.connection, self.waits = connection, False
+
+    def step(self, request, reply):
+        if request == "take":
+            if reply != "empty":
+                assert self.connection.event() == reply, "an item"
+            return
+        if request != "retry":
+            self.connection.send(request)
+        self.waits = reply == "waiting"
+        if self.waits:
+            waits(self.connection)
+        else:
+            assert self.connection.reply() == reply, request
+
+
+ASKED = [(stream.name, steps) for stream in streams() if (steps := steps_of(stream)) and any(step[1] == "join" for step in steps)]
+
+
+def test_so_many_streams_are_asked():
+    assert len(ASKED) >= LEAST
+
+
+@pytest.mark.parametrize("steps", [steps for _, steps in ASKED], ids=[name for name, _ in ASKED])
+def test_served(serve, steps):
+    joined = [session for session, request, _ in steps if request == "join"]
+    server = serve("--connections", str(len(joined)), "--batches")
+    sessions = {}
+    for session, request, reply in steps:
+        if request == "join":
+            sessions[session] = Session(server.connect())
+        else:
+            sessions[session].step(request, reply)

@@ -1,0 +1,503 @@
+"""`tabd serve` with several connections on it: what each is told.
+
+What a server's threads answer comes from behind a lock, of which no contract speaks: that sessions go on beside an open
+transaction, that who waits is woken, that each raise of a hot record counts once, that mirrors end with the table's records,
+that who reads too slowly overflows alone. Each case has a server of its own, which has to end by itself when the connections
+are closed.
+"""
+
+import random
+import resource
+import select
+import threading
+import time
+from typing import Any, List
+
+import pytest
+
+from tests.lib.checks import ATOMIC, CREATE, END, HERE_OK, MARK, OK, QUIET, event, holds, script, side_by_side, waits, watch, write
+from tests.lib.wire import frame
+
+served = pytest.mark.served
+
+
+# A commit that writes the key of its number, which is its age too, as it is sent.
+def alone(number, value):
+    return event(number, value, number)
+
+
+def in_batch(number, value):
+    return ("batch", number, [event(number, value, number)])
+
+
+def by_events(number, events):
+    return events
+
+
+def by_commits(number, events):
+    return [("batch", number, events)]
+
+
+def too_long(connection):
+    connection.socket.sendall((1_048_577).to_bytes(4, "big"))
+    assert connection.receive() == ("reply", ("error", "badterm")), "too long"
+    assert connection.stream.read() == b"", "its end"
+
+
+def too_long_behind_others(connection):
+    """What stands before it in one piece is answered, what stands behind it is not."""
+    connection.socket.sendall(frame(("read", "t", 2)) + (1_048_577).to_bytes(4, "big") + frame("commit"))
+    assert connection.receive() == ("reply", []), "before it"
+    assert connection.receive() == ("reply", ("error", "badterm")), "too long"
+    assert connection.stream.read() == b"", "its end"
+
+
+def cut(connection):
+    """Its stream ends inside a frame: nothing is told, and the stream the other way ends too."""
+    connection.socket.sendall(frame("commit")[:-1])
+    connection.half_close()
+    assert connection.stream.read() == b"", "its end"
+
+
+def unread(connection):
+    """It reads nothing until a reply can't be written, and is gone then."""
+    script((connection, write(2, bytes(500_000)), OK))
+    connection.socket.sendall(frame(("read", "t", 2)) * 40)
+    time.sleep(QUIET)
+    connection.break_off()
+
+
+@served(3)
+def test_others_go_on(clients):
+    """Sessions go on while another's transaction is open, and who watches is told of what they commit."""
+    first, second, third = clients
+    script(
+        (first, CREATE, ATOMIC),
+        (third, watch(), HERE_OK),
+        (first, "begin", ("tid", 1)),
+        (first, write(1, "a"), OK),
+        (second, "begin", ("tid", 2)),
+        (second, write(2, "b"), OK),
+        (second, "commit", ("atomic", 1)),
+    )
+    assert third.event() == MARK, "begin marker"
+    assert third.event() == event(2, "b", 2), "event"
+    script(
+        (second, "begin", ("tid", 3)),
+        (second, ("read", "t", 2), [("t", 2, "b")]),
+        # The younger waits for no one: the key is the older's.
+        (second, ("read", "t", 1), "restart"),
+        (first, "commit", ("atomic", 2)),
+        (second, ("read", "t", 1), [("t", 1, "a")]),
+    )
+    assert third.event() == event(1, "a", 1), "event"
+    script((third, ("unsubscribe", ("table", "t", "simple")), HERE_OK))
+    assert third.event() == END, "end marker"
+
+
+@served(2)
+@pytest.mark.parametrize(
+    "end, reply, found",
+    [
+        (("abort", "why"), ("aborted", "why"), 1),
+        ("commit", ("atomic", 2), 2),
+        ("leave", None, 1),
+        ("break", None, 1),
+    ],
+    ids=["by an abort", "by a commit", "by an end", "by a broken connection"],
+)
+def test_woken(clients, end, reply, found):
+    """Who waits is told the record as soon as the other's transaction ends, in each way."""
+    older, younger = clients
+    script(
+        (older, CREATE, ATOMIC),
+        (older, ("transaction", [write(1, 1)], 0), ("atomic", [OK])),
+        (older, "begin", ("tid", 2)),
+        (younger, "begin", ("tid", 3)),
+        (younger, write(1, 2), OK),
+    )
+    older.send(("read", "t", 1))
+    waits(older)
+    if end == "leave":
+        younger.close()
+    elif end == "break":
+        younger.break_off()
+    else:
+        script((younger, end, reply))
+    assert older.receive() == ("reply", [("t", 1, found)]), "who waits"
+    script((older, "commit", ("atomic", 3 if end == "commit" else 2)))
+
+
+@served(3)
+def test_a_queue_is_left(clients):
+    """A queued request is dropped with its session: who stands behind it alone is woken."""
+    first, second, third = clients
+    script(
+        (first, CREATE, ATOMIC),
+        (first, "begin", ("tid", 1)),
+        (second, "begin", ("tid", 2)),
+        (third, "begin", ("tid", 3)),
+        (third, ("read", "t", 1), []),
+    )
+    second.send(write(1, "b"))
+    waits(second)
+    first.send(("read", "t", 1))
+    waits(first)
+    second.break_off()
+    assert first.receive() == ("reply", []), "behind it"
+    script((third, "commit", ("atomic", 1)), (first, "commit", ("atomic", 2)))
+
+
+@pytest.mark.parametrize(
+    "count",
+    [
+        pytest.param(4, id="four", marks=served(4)),
+        pytest.param(16, id="sixteen, journal of 16", marks=served(16, "--journal", "16")),
+    ],
+)
+def test_raise(clients, count):
+    """A hot record is raised on each connection; each raise counts once, and has a number of its own."""
+    each = 100 // count
+    total = each * count
+    numbers: List[int] = []
+
+    def attempt(connection):
+        found = connection.ask(("wread", ("t", 1)))
+        return found != "restart" and connection.ask(write(1, found[0][2] + 1)) == OK
+
+    def raise_all(connection):
+        for turn in range(each):
+            connection.ask("begin")
+            while not attempt(connection):
+                pass
+            word, number = connection.ask("commit")
+            assert word == "atomic", "commit"
+            numbers.append(number)
+
+    first = clients[0]
+    script((first, CREATE, ATOMIC), (first, ("transaction", [write(1, 0)], 0), ("atomic", [OK])))
+    side_by_side([(raise_all, (one,)) for one in clients])
+    assert sorted(numbers) == list(range(2, total + 2)), "numbers"
+    assert first.ask(("transaction", [("read", "t", 1)], 0)) == ("atomic", [[("t", 1, total)]]), "value"
+
+
+def copy_of(log):
+    """The table as events leave it that begins with record 2."""
+    copy = {2: 2}
+    for _, (word, record, _) in log:
+        if word == "write":
+            copy[record[1]] = record[2]
+        else:
+            copy.pop(record[1], None)
+    return copy
+
+
+# Nobody is to overflow, also where the machine does much else.
+@served(4, "--outbox", "1024")
+def test_two_mirrors(clients):
+    """Two write and delete; each mirror gets the same events, and ends with the table's records."""
+    one, other, *mirrors = clients
+    each = 60
+    logs: List[Any] = []
+
+    def commit_all(connection, seed):
+        chance = random.Random(seed)
+        for turn in range(each):
+            key = chance.randrange(5)
+            what = ("delete", ("t", key)) if turn % 5 == 0 else write(key, chance.randrange(1000))
+            assert connection.ask(("transaction", [what], 1000))[0] == "atomic", "commit"
+
+    def follow(mirror, log):
+        while not log or log[-1][1][:2] != ("write", ("t", "last", 0)):
+            log.append(mirror.event())
+
+    script((one, CREATE, ATOMIC), (one, ("transaction", [write(2, 2)], 0), ("atomic", [OK])))
+    for mirror in mirrors:
+        script((mirror, watch("dump"), HERE_OK))
+        assert mirror.event() == ("mnesia_table_begin", "t", "simple", [("t", 2, 2)]), "begin marker"
+        logs.append([])
+    following = [threading.Thread(target=follow, args=given, daemon=True) for given in zip(mirrors, logs)]
+    for thread in following:
+        thread.start()
+    side_by_side([(commit_all, (one, 1)), (commit_all, (other, 2))])
+    script((one, ("transaction", [write("last", 0)], 0), ("atomic", [OK])))
+    for thread in following:
+        thread.join(10)
+    assert [len(log) for log in logs] == [2 * each + 1] * len(logs), "events"
+    assert all(log == logs[0] for log in logs), "logs"
+    one.ask("begin")
+    table = {key: one.ask(("read", "t", key)) for key in [*range(5), "last"]}
+    assert copy_of(logs[0]) == {key: rows[0][2] for key, rows in table.items() if rows}, "the copies"
+
+
+@pytest.mark.parametrize(
+    "sent",
+    [
+        pytest.param(alone, id="of events", marks=served(3, "--outbox", "16", small=True)),
+        pytest.param(in_batch, id="of batches", marks=served(3, "--outbox", "16", "--batches", small=True)),
+    ],
+)
+def test_a_slow_reader(clients, sent):
+    """Who reads nothing overflows, and is told so behind what it was sent; the other gets each commit, and no one waits."""
+    idle, writer, reader = clients
+    value, count = b"v" * 4000, 200
+    script((writer, CREATE, ATOMIC), (idle, watch(), HERE_OK), (reader, watch(), HERE_OK))
+    assert reader.event() == MARK, "begin marker"
+    for number in range(1, count + 1):
+        script((writer, ("transaction", [write(number, value)], 0), ("atomic", [OK])))
+        assert reader.event() == sent(number, value), "who reads"
+    idle.widen()
+    assert idle.event() == MARK, "begin marker"
+    number = 1
+    while (told := idle.event())[0] == sent(number, value)[0]:
+        assert told == sent(number, value), "who reads slowly"
+        number += 1
+    assert told == ("mnesia_overflow", number), "overflow"
+    assert number < count, "so many at most"
+    # It may watch anew.
+    script((idle, watch(), HERE_OK), (writer, ("transaction", [write(count + 1, 0)], 0), ("atomic", [OK])))
+    assert idle.event() == MARK, "begin marker"
+    assert idle.event() == sent(count + 1, 0), "event"
+
+
+@served(2, "--outbox", "1")
+def test_an_outbox_of_one_item(clients):
+    """Of an outbox of one item who is told of commits faster than it reads overflows, and is told so also where nothing came before."""
+    watcher, writer = clients
+    script((writer, CREATE, ATOMIC))
+    for first in range(1, 400, 40):
+        numbers = range(first, first + 40)
+        script((watcher, watch(), HERE_OK))
+        assert watcher.event() == MARK, "begin marker"
+        for number in numbers:
+            writer.send(("transaction", [write(number, 0)], 0))
+        for _ in numbers:
+            assert writer.receive() == ("reply", ("atomic", [OK])), "a commit"
+        for number in numbers:
+            told = watcher.event()
+            if told == ("mnesia_overflow", number):
+                break
+            assert told == event(number, 0, number), "event"
+        else:
+            script((watcher, ("unsubscribe", ("table", "t", "simple")), HERE_OK))
+            assert watcher.event() == END, "end marker"
+
+
+@pytest.mark.parametrize(
+    "size",
+    [
+        pytest.param(3, id="of three items", marks=served(2, "--outbox", "3")),
+        pytest.param(64, id="that no word sets", marks=served(2)),
+    ],
+)
+def test_an_outbox(clients, size):
+    """Behind a commit that is being sent an outbox holds so many, and the next overflows. The commit has no end before it is read, as
+    16 MB stand in no socket."""
+    idle, writer = clients
+    value, keys, next_one = bytes(1_000_000), range(16), size + 2
+    script((writer, CREATE, ATOMIC), (idle, watch(), HERE_OK), (writer, "begin", ("tid", 1)))
+    assert idle.event() == MARK, "begin marker"
+    script(*((writer, write(key, value), OK) for key in keys), (writer, "commit", ("atomic", 1)))
+    # Of the long commit something has come, so it stands in the outbox no more.
+    assert bool(select.select([idle.socket], [], [], 10)[0]), "it is sent"
+    script(*((writer, ("transaction", [write(0, number)], 0), ("atomic", [OK])) for number in range(2, next_one + 1)))
+    holds("the long one", [idle.event() for _ in keys] == [event(key, value, 1) for key in keys])
+    assert [idle.event() for _ in range(size)] == [event(0, number, number) for number in range(2, next_one)], "behind it"
+    assert idle.event() == ("mnesia_overflow", next_one), "the next"
+
+
+@served(2, "--outbox", "1024")
+def test_beside_long_replies(clients):
+    """A reply that is longer than a socket's room stands together, while others' commits are told to the same connection."""
+    reader, writer = clients
+    each, rows = 20, [("u", key, bytes([key]) * 200_000) for key in range(40)]
+    all_rows = ("match_object", ("u", "_", "_"))
+    script((writer, CREATE, ATOMIC), (writer, ("create_table", "u", []), ATOMIC), (reader, watch(), HERE_OK))
+    script(*((writer, ("transaction", [("write", row)], 0), ("atomic", [OK])) for row in rows))
+    script((reader, "begin", ("tid", len(rows) + 1)))
+    assert reader.event() == MARK, "begin marker"
+    for first in range(0, 5 * each, each):
+        reader.send(all_rows)
+        time.sleep(QUIET)
+        script(*((writer, ("transaction", [write(key, 0)], 0), ("atomic", [OK])) for key in range(first, first + each)))
+        # Where the machine does much else, events may come before it.
+        while (term := reader.receive())[0] != "reply":
+            reader.events.append(term)
+        holds("the reply is whole", term == ("reply", rows))
+        for key in range(first, first + each):
+            assert reader.event() == event(key, 0, len(rows) + 2 + key), "event"
+    script((reader, "commit", ("atomic", len(rows) + 5 * each + 1)))
+    holds("a one-shot's", reader.ask(("transaction", [all_rows] * 2, 0)) == ("atomic", [rows] * 2))
+
+
+@pytest.mark.parametrize(
+    "sent",
+    [
+        pytest.param(by_events, id="of events", marks=served(2)),
+        pytest.param(by_commits, id="in batches", marks=served(2, "--batches")),
+    ],
+)
+def test_long_items(clients, sent):
+    """A dump, and commits with long old records, come whole, in order with short commits. All are made before the dump is read, which has
+    no end before that, so they are there at once behind it."""
+    def changed(number, changes):
+        return sent(number, [("mnesia_table_event", ("write", "t", ("t", key, 0), old, ("tid", number))) for key, old in changes])
+    mirror, writer = clients
+    rows, detailed = [("t", key, bytes([key]) * 1_000_000) for key in range(16)], ("table", "t", "detailed")
+    script((writer, CREATE, ATOMIC), *((writer, ("transaction", [("write", row)], 0), ("atomic", [OK])) for row in rows))
+    mirror.send(("subscribe", detailed, "dump"))
+    assert bool(select.select([mirror.socket], [], [], 10)[0]), "it is told"
+    items: List[Any] = [("mnesia_table_begin", "t", "detailed", rows)]
+    for number, keys in enumerate(([16], [17], [0, 1, 2], [18], [3], [4, 19], [20]), len(rows) + 1):
+        script((writer, ("transaction", [write(key, 0) for key in keys], 0), ("atomic", [OK] * len(keys))))
+        items += changed(number, [(key, rows[key : key + 1]) for key in keys])
+    mirror.send(("unsubscribe", detailed))
+    items.append(END)
+    replies: List[Any] = []
+    while len(replies) < 2:
+        term = mirror.receive()
+        (replies if term[0] == "reply" else mirror.events).append(term)
+    assert replies == [("reply", HERE_OK)] * 2, "replies"
+    for line, item in enumerate(items):
+        holds(f"item {line}", mirror.event() == item)
+
+
+@served(3, "--batches")
+def test_batches(clients):
+    """A commit's events come in one frame, with its number, where what the session watches was changed; markers come as ever."""
+    one, other, mirror = clients
+    script(
+        (one, CREATE, ATOMIC),
+        (one, ("create_table", "u", []), ATOMIC),
+        (mirror, watch("dump"), HERE_OK),
+        (other, watch(), HERE_OK),
+        (one, ("transaction", [write(1, "a"), ("delete", ("t", 1)), ("write", ("u", 1, 1)), write(2, "b")], 0), ("atomic", [OK] * 4)),
+        (one, ("transaction", [("write", ("u", 2, 2))], 0), ("atomic", [OK])),
+        (one, ("transaction", [write(3, "c")], 0), ("atomic", [OK])),
+        (mirror, ("unsubscribe", ("table", "t", "simple")), HERE_OK),
+        (one, ("delete_table", "t"), ATOMIC),
+    )
+    deletion = ("mnesia_table_event", ("delete", ("t", 1), ("tid", 1)))
+    commits = [("batch", 1, [event(1, "a", 1), deletion, event(2, "b", 1)]), in_batch(3, "c")]
+    ends: List[Any] = [(mirror, ([],), "unsubscribed"), (other, (), "deleted")]
+    for connection, mark, end in ends:
+        assert connection.event() == ("mnesia_table_begin", "t", "simple", *mark), "begin marker"
+        assert [connection.event(), connection.event()] == commits, "commits"
+        assert connection.event() == ("mnesia_table_end", "t", end), "end marker"
+
+
+@served(5, "--batches", "--outbox", "1024")
+def test_four_move_amounts(clients):
+    """Each moves amounts between two accounts, a move in a transaction. Who applies whole commits never sees another sum, and the
+    commits' numbers rise by one."""
+    mirror, *writers = clients
+    each, first = 50, {"a": 1000, "b": 1000}
+
+    def attempt(connection, changes):
+        for key, amount in changes:
+            found = connection.ask(("wread", ("t", key)))
+            if found == "restart" or connection.ask(write(key, found[0][2] + amount)) != OK:
+                return False
+        return True
+
+    def move_all(connection, seed):
+        chance = random.Random(seed)
+        for _ in range(each):
+            one, other = chance.sample(list(first), 2)
+            amount = chance.randrange(1, 100)
+            connection.ask("begin")
+            while not attempt(connection, [(one, -amount), (other, amount)]):
+                pass
+            assert connection.ask("commit")[0] == "atomic", "commit"
+
+    def follow():
+        accounts = dict(first)
+        for wanted in range(2, each * len(writers) + 2):
+            word, number, events = mirror.event()
+            assert (word, number) == ("batch", wanted), "a commit"
+            for _, (_, (_, key, value), _) in events:
+                accounts[key] = value
+            assert sum(accounts.values()) == sum(first.values()), f"the sum behind commit {number}"
+
+    setup = [write(key, value) for key, value in first.items()]
+    script((writers[0], CREATE, ATOMIC), (writers[0], ("transaction", setup, 0), ("atomic", [OK, OK])), (mirror, watch(), HERE_OK))
+    assert mirror.event() == MARK, "begin marker"
+    side_by_side([(follow, ()), *((move_all, (one, seed)) for seed, one in enumerate(writers))])
+
+
+@served(1)
+def test_refused(clients):
+    """What is no term or no command is told so, and the session goes on; a payload that is too long ends it."""
+    [connection] = clients
+    script((connection, "join", ("error", "badcommand")), (connection, (1, "begin"), ("error", "badcommand")))
+    connection.socket.sendall(b"\0\0\0\1\x82")
+    assert connection.receive() == ("reply", ("error", "badterm")), "no term"
+    script((connection, "begin", ("tid", 1)))
+    connection.socket.sendall((1_048_577).to_bytes(4, "big"))
+    assert connection.receive() == ("reply", ("error", "badterm")), "too long"
+    assert connection.stream.read() == b"", "its end"
+
+
+@served(2)
+@pytest.mark.parametrize(
+    "end",
+    [
+        pytest.param(too_long, id="a length too long"),
+        pytest.param(too_long_behind_others, id="a length too long behind others"),
+        pytest.param(cut, id="a frame that is cut"),
+        pytest.param(unread, id="replies that are not read"),
+    ],
+)
+def test_frees(clients, end):
+    """A session whose stream ends so leaves, and what it held is free."""
+    first, second = clients
+    script((first, CREATE, ATOMIC))
+    first.socket.sendall(b"\0\0\0\0")
+    assert first.receive() == ("reply", ("error", "badterm")), "an empty frame"
+    first.socket.sendall(b"\0\0\0\x0a\x83\x46" + bytes(8))
+    assert first.receive() == ("reply", ("error", "badterm")), "a float"
+    script((first, "begin", ("tid", 1)), (first, write(1, "a"), OK), (first, ("write_lock_table", "t"), OK))
+    end(first)
+    script((second, "begin", ("tid", 2)))
+    # An end that no reply tells takes its time.
+    found = next((found for _ in range(50) if (found := second.ask(("read", "t", 1))) != "restart"), "restart")
+    assert found == [], "its lock"
+    script(
+        (second, write(1, "b"), OK),
+        (second, "commit", ("atomic", 1)),
+        (second, ("delete_table", "t"), ATOMIC),
+    )
+
+
+@served(2)
+def test_names_of_any_length(clients):
+    """Names of any length come back as they were sent: of up to 22 bytes, which stand in the term, and longer ones, which are shared."""
+    client, mirror = clients
+    for letter, size in [("n", size) for size in (1, 21, 22, 23, 24, 254)] + [("ä", 10), ("ä", 11), ("ä", 12), ("ä", 254)]:
+        name, attribute, one, other, value = (letter * size + last for last in ("", "i", "k", "l", "v"))
+        first, second = (name, one, value), (name, other, value)
+        script(
+            (client, ("create_table", name, [("attributes", ["key", attribute]), ("index", [attribute])]), ATOMIC),
+            (mirror, ("subscribe", ("table", name, "detailed")), HERE_OK),
+            (client, ("transaction", [("write", second), ("write", first)], 0), ("atomic", [OK, OK])),
+            (client, ("transaction", [("index_read", name, value, attribute), ("match_object", (name, "_", value))], 0),
+             ("atomic", [[first, second]] * 2)),
+            (client, ("transaction", [("delete", (name, one)), ("all_keys", name)], 0), ("atomic", [OK, [other]])),
+        )
+        assert mirror.event() == ("mnesia_table_begin", name, "detailed"), "begin marker"
+        for wanted in ("write", name, second, []), ("write", name, first, []), ("delete", name, (name, one), [first]):
+            assert mirror.event()[1][:4] == wanted, "an event"
+
+
+def test_an_accept_that_fails(serve):
+    """With no more handles to be had, the connection that comes next is closed with no frame, and no more are accepted. Who is there
+    is served to its end, and the server ends with status 1."""
+    server = serve("--connections", "4")
+    first = server.connect()
+    script((first, CREATE, ATOMIC), (first, "begin", ("tid", 1)))
+    # The accept that waits has its handle already.
+    resource.prlimit(server.process.pid, resource.RLIMIT_NOFILE, (3, 3))
+    assert server.connect().stream.read() == b"", "the next"
+    script((first, write(1, "a"), OK), (first, "commit", ("atomic", 1)))
+    first.close()
+    server.ends(1, "tabd: device\n")

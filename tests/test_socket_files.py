@@ -1,0 +1,225 @@
+"""`tabd serve --socket`: what becomes of the socket file, and what is said of it.
+
+What clients are told over a socket file, test_forever.py tries. Each case has a folder of its own.
+"""
+
+import os
+import resource
+import socket
+import stat
+import subprocess
+import tempfile
+
+import pytest
+
+from tests.lib.checks import ATOMIC, CREATE, HERE_OK, MARK, OK, event, script, watch, write
+from tests.lib.servers import Server
+from tests.lib.wire import Connection
+
+DEVICE = "tabd: device\n"
+IN_USE = DEVICE + "tabd: Address already in use (os error 98)\n"
+# A start or an end takes so many seconds at most.
+PATIENCE = 10
+
+
+class Place:
+    """The program, in a folder where a socket file may stand."""
+
+    def __init__(self, program, folder):
+        self.program, self.folder, self.path = program, folder, os.path.join(folder, "socket")
+
+    def server(self, *more, path=None, connections=2, **options):
+        """A server that says where it listens."""
+        server = Server(self.program, "--connections", str(connections), *more, path=path or self.path, **options)
+        assert server.place == (path or self.path), "where it listens"
+        return server
+
+    def refused(self, told, *more, path=None, **options):
+        """A start fails, and says no more than this on standard error."""
+        words = [self.program, "serve", "--socket", path or self.path, "--connections", "2", *more]
+        done = subprocess.run(words, stdin=subprocess.DEVNULL, capture_output=True, text=True, timeout=PATIENCE, check=False, **options)
+        assert (done.returncode, done.stdout, done.stderr) == (1, "", told), "a start that fails"
+
+    def file(self):
+        found = os.lstat(self.path)
+        return found.st_ino, stat.S_IFMT(found.st_mode), stat.S_IMODE(found.st_mode)
+
+
+@pytest.fixture
+def place(tabd):
+    """In a short path, since that of a socket file is."""
+    with tempfile.TemporaryDirectory() as folder:
+        yield Place(tabd, folder)
+
+
+def is_served(path):
+    """A transaction that comes to a file is answered."""
+    connection = Connection(path)
+    script((connection, "begin", ("tid", 1)), (connection, ("abort", "no"), ("aborted", "no")))
+    connection.close()
+
+
+@pytest.mark.parametrize("umask, wanted", [(0o177, 0o600), (0o117, 0o660)], ids=["for one user", "for a group"])
+def test_mode(place, umask, wanted):
+    """The umask says who may connect."""
+    with place.server(umask=umask):
+        assert place.file()[1:] == (stat.S_IFSOCK, wanted)
+
+
+def test_requests_and_events(place):
+    """Requests and events, and the end of a server whose connections are closed: the file is gone."""
+    with place.server() as server:
+        first, second = Connection(place.path), Connection(place.path)
+        script((first, CREATE, ATOMIC), (second, watch(), HERE_OK), (first, "begin", ("tid", 1)))
+        script((first, write(1, "a"), OK), (first, "commit", ("atomic", 1)))
+        assert second.event() == MARK, "begin marker"
+        assert second.event() == event(1, "a", 1), "event"
+        first.close()
+        second.close()
+        server.ends()
+        assert os.listdir(place.folder) == [], "the folder"
+
+
+def test_with_counters(place):
+    """The port of the counters stays on loopback."""
+    with place.server("--metrics", "0") as server:
+        port = int(server.line().removeprefix("metrics on 127.0.0.1:"))
+        socket.create_connection(("127.0.0.1", port)).close()
+        is_served(place.path)
+
+
+def test_left_by_a_kill(place):
+    """A file at which no one listens any more is taken over."""
+    with place.server():
+        pass
+    left = place.file()
+    with place.server():
+        is_served(place.path)
+    # A signal leaves it too.
+    with place.server("--forever") as server:
+        server.process.terminate()
+        server.process.wait(PATIENCE)
+        assert place.file()[1] == left[1], "the file"
+    with place.server():
+        is_served(place.path)
+
+
+def test_in_use(place):
+    """A file at which a server listens stays, and so does that server."""
+    # A start that is refused has connected, to see whether a server listens, and that server may not have seen it go yet.
+    with place.server("--forever", connections=3):
+        before = place.file()
+        place.refused(DEVICE)
+        place.refused(IN_USE, "--log")
+        assert place.file() == before, "the file"
+        is_served(place.path)
+
+
+def make_file(place):
+    with open(place.path, "w", encoding="ascii") as file:
+        file.write("kept")
+
+
+def look_at_file(place):
+    with open(place.path, encoding="ascii") as file:
+        assert file.read() == "kept", "the file"
+
+
+def make_link(place):
+    """To a socket file at which no one listens."""
+    with socket.socket(socket.AF_UNIX) as left:
+        left.bind(place.path + ".left")
+    os.symlink(place.path + ".left", place.path)
+
+
+def look_at_link(place):
+    assert (os.readlink(place.path), os.path.exists(place.path)) == (place.path + ".left", True), "the link"
+
+
+def look_at_folder(place):
+    assert os.listdir(place.path) == [], "the folder"
+
+
+@pytest.mark.parametrize(
+    "make, look",
+    [(make_file, look_at_file), (lambda place: os.mkdir(place.path), look_at_folder), (make_link, look_at_link)],
+    ids=["a file", "a folder", "a link"],
+)
+def test_no_socket(place, make, look):
+    """What is no socket file stays as it is."""
+    make(place)
+    place.refused(IN_USE, "--log")
+    look(place)
+
+
+def test_no_accept(place):
+    """A server that ends since it can't accept removes its file too."""
+    with place.server(connections=4) as server:
+        first = Connection(place.path)
+        script((first, CREATE, ATOMIC))
+        # The accept that waits has its handle already.
+        resource.prlimit(server.process.pid, resource.RLIMIT_NOFILE, (3, 3))
+        assert Connection(place.path).stream.read() == b"", "the next"
+        first.close()
+        server.ends(1, DEVICE)
+        assert os.listdir(place.folder) == [], "the folder"
+
+
+def test_exchanged(place):
+    """A file that has taken the place of the server's own is not its to remove."""
+    with place.server() as server:
+        connections = [Connection(place.path) for _ in range(2)]
+        with socket.socket(socket.AF_UNIX) as other:
+            other.bind(place.path + ".other")
+            os.rename(place.path + ".other", place.path)
+            before = place.file()
+            for connection in connections:
+                connection.close()
+            server.ends()
+            assert place.file() == before, "the file"
+
+
+def test_removed(place):
+    """Nor does it mind that the file is gone."""
+    with place.server() as server:
+        connections = [Connection(place.path) for _ in range(2)]
+        os.unlink(place.path)
+        for connection in connections:
+            connection.close()
+        server.ends()
+
+
+def test_no_page(place):
+    """A start that fails behind the file's making removes it."""
+    with socket.create_server(("127.0.0.1", 0)) as taken:
+        place.refused(IN_USE, "--log", "--metrics", str(taken.getsockname()[1]))
+        assert os.listdir(place.folder) == [], "the folder"
+
+
+def test_a_closed_stream(place):
+    """A standard stream is closed, whose number the socket would get."""
+    for file, told in [(0, DEVICE + "tabd: a standard stream is closed\n"), (1, DEVICE + "tabd: a standard stream is closed\n"), (2, "")]:
+        place.refused(told, "--log", preexec_fn=lambda file=file: os.close(file))
+        assert os.listdir(place.folder) == [], "the folder"
+
+
+def test_a_long_path(place):
+    """A path has 107 bytes at most."""
+    most = os.path.join(place.folder, "x" * (106 - len(place.folder)))
+    assert len(most) == 107, "its length"
+    with place.server(path=most):
+        is_served(most)
+    os.unlink(most)
+    place.refused(DEVICE + "tabd: path must be shorter than SUN_LEN\n", "--log", path=most + "x")
+    assert os.listdir(place.folder) == [], "the folder"
+
+
+def test_no_folder(place):
+    """The folder has to be there."""
+    place.refused(DEVICE + "tabd: No such file or directory (os error 2)\n", "--log", path=os.path.join(place.folder, "none", "socket"))
+
+
+def test_a_relative_path(place):
+    """A path from the folder in which the server was started."""
+    with place.server(path="socket", cwd=place.folder):
+        is_served(place.path)
