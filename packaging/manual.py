@@ -1,0 +1,164 @@
+"""The manual pages and the completions for bash, made of what the programs say of themselves and of docs/RUNNING.md."""
+
+import argparse
+import re
+import subprocess
+from typing import Dict, Iterator, List, Tuple
+
+ROW = re.compile(r"\| `(--[a-z-]+)(?: ([A-Z]+))?` \| (.*) \|\s*$")
+STATUS = re.compile(r"\| (\d+) \| (.*) \| (.*) \|\s*$")
+OPTION = re.compile(r"\s+(?:-\w, )?(--[a-z-]+)(?: <([A-Z]+)>)?\s{2,}(.*)$")
+COMMAND = re.compile(r"  ([a-z]+)\s{2,}(.*)$")
+
+
+def plain(text: str) -> str:
+    """Text of a page in Markdown, for roff: spans are bold, links are their words."""
+    text = re.sub(r"\[([^]]*)\]\([^)]*\)", r"\1", text).replace("\\", "\\e").replace("-", "\\-")
+    text = re.sub(r"`([^`]*)`", r"\\fB\1\\fR", text)
+    return "\n".join("\\&" + line if line.startswith((".", "'")) else line for line in text.splitlines())
+
+
+def section(page: str, heading: str) -> str:
+    """What stands under a heading of a page."""
+    found = re.search(rf"^## {re.escape(heading)}\n(.*?)(?=^## |\Z)", page, re.M | re.S)
+    return found.group(1) if found else ""
+
+
+def paragraphs(text: str) -> Iterator[str]:
+    """The paragraphs of running text: no tables, examples and lists."""
+    for block in re.split(r"\n\s*\n", text):
+        if block.strip() and not re.match(r"\s*[|\-#]|\s{4}", block):
+            yield " ".join(block.split())
+
+
+def help_of(program: str, *words: str) -> str:
+    return subprocess.run([program, *words, "--help"], check=True, stdout=subprocess.PIPE, text=True).stdout
+
+
+def options_of(program: str, command: str) -> List[Tuple[str, str, str]]:
+    """A command's options, by its help: each with what it takes and what it does."""
+    found = (OPTION.match(line) for line in help_of(program, command).splitlines())
+    return [(match.group(1), match.group(2) or "", match.group(3)) for match in found if match is not None]
+
+
+def commands_of(program: str) -> List[Tuple[str, str]]:
+    found = (COMMAND.match(line) for line in help_of(program).splitlines())
+    return [(match.group(1), match.group(2)) for match in found if match is not None]
+
+
+def _options(program: str, command: str, page: str) -> List[str]:
+    """An option each, in the page's words, or where it has none in those of the help."""
+    rows = {match.group(1): match.group(3) for match in map(ROW.match, page.splitlines()) if match is not None} if command == "serve" else {}
+    lines: List[str] = []
+    for option, takes, text in options_of(program, command):
+        name = f"\\fB{plain(option)}\\fR" + (f" \\fI{takes}\\fR" if takes else "")
+        lines += [".TP", name, plain(rows.get(option, text))]
+    return lines
+
+
+def of_server(program: str, running: str) -> str:
+    """tabd(1)."""
+    with open(running, encoding="utf-8") as file:
+        page = file.read()
+    version = subprocess.run([program, "--version"], check=True, stdout=subprocess.PIPE, text=True).stdout.split()[1]
+    about = help_of(program).splitlines()[0]
+    lines = [f'.TH TABD 1 "" "tabd {version}" "tabd"', ".SH NAME", f"tabd \\- {plain(about[0].lower() + about[1:])}"]
+    lines += [".SH SYNOPSIS", ".B tabd serve", "(\\fB\\-\\-port\\fR \\fIPORT\\fR | \\fB\\-\\-socket\\fR \\fIPATH\\fR)"]
+    lines += ["\\fB\\-\\-connections\\fR \\fICOUNT\\fR [\\fIoptions\\fR]", ".br", ".B tabd replay", "[\\fB\\-\\-outbox\\fR \\fIITEMS\\fR]"]
+    lines += [".SH DESCRIPTION", *_joined(paragraphs(page.split("\n## ")[0].split("\n", 1)[1]))]
+    for command, text in commands_of(program):
+        if command == "help":
+            continue
+        lines += [f".SH {command.upper()}", plain(text) + ".", *_options(program, command, section(page, "Start"))]
+    lines += [".SH WHO MAY CONNECT", *_joined(paragraphs(section(page, "Who may connect")))]
+    lines += [".SH EXIT STATUS"]
+    for line in section(page, "The end").splitlines():
+        match = STATUS.match(line)
+        if match is not None:
+            told = "" if match.group(3) == "none" else f" (standard error: {match.group(3)})"
+            lines += [".TP", f"\\fB{match.group(1)}\\fR", plain(match.group(2) + told)]
+    lines += [".SH SEE ALSO", ".BR tabd\\-cli (1),", "/usr/share/doc/tabd/RUNNING.md, /usr/share/doc/tabd/PROTOCOL.md"]
+    return "\n".join(lines) + "\n"
+
+
+def _joined(texts: Iterator[str]) -> List[str]:
+    return [line for text in texts for line in (".PP", plain(text))]
+
+
+def completion_of_server(program: str) -> str:
+    """The completion of `tabd` for bash."""
+    commands = {command: [option for option, _, _ in options_of(program, command)] for command, _ in commands_of(program) if command != "help"}
+    return _completion("tabd", commands, ["--help", "--version"], {"--socket"})
+
+
+# The client's program, by its parser.
+
+
+def _parsers() -> Tuple[argparse.ArgumentParser, Dict[str, argparse.ArgumentParser]]:
+    from tabd.cli import parser
+
+    whole = parser()
+    [commands] = [action for action in whole._actions if isinstance(action, argparse._SubParsersAction)]
+    return whole, dict(commands.choices)
+
+
+def _words_of(parser: argparse.ArgumentParser) -> List[str]:
+    return [option for action in parser._actions for option in action.option_strings if option.startswith("--")]
+
+
+def completion_of_client() -> str:
+    """The completion of `tabd-cli` for bash."""
+    whole, commands = _parsers()
+    return _completion("tabd-cli", {name: _words_of(parser) for name, parser in commands.items()}, _words_of(whole), {"--server"})
+
+
+def _completion(name: str, commands: Dict[str, List[str]], before: List[str], files: "set[str]") -> str:
+    """A function for bash: the command, then its options; a word that is no option, or that follows one which takes a path, is a file."""
+    function = "_" + name.replace("-", "_")
+    cases = "\n".join(f"        {command}) words=\"{' '.join(options)}\" ;;" for command, options in commands.items())
+    return f"""# Completion of {name} for bash; packaging/manual.py makes it of what the program says of itself.
+{function}() {{
+    local word="${{COMP_WORDS[COMP_CWORD]}}" before="${{COMP_WORDS[COMP_CWORD - 1]}}" command="" words="" at
+    for ((at = 1; at < COMP_CWORD; at++)); do
+        case "${{COMP_WORDS[at]}}" in
+            {'|'.join(commands)}) command="${{COMP_WORDS[at]}}"; break ;;
+        esac
+    done
+    COMPREPLY=()
+    case "$before" in
+        {'|'.join(sorted(files))}) COMPREPLY=($(compgen -f -- "$word")); return ;;
+    esac
+    case "$command" in
+        "") words="{' '.join([*commands, *before])}" ;;
+{cases}
+    esac
+    if [[ -n "$command" && "$word" != -* ]]; then
+        COMPREPLY=($(compgen -f -- "$word"))
+    else
+        COMPREPLY=($(compgen -W "$words" -- "$word"))
+    fi
+}}
+complete -F {function} {name}
+"""
+
+
+def of_client(version: str) -> str:
+    """tabd-cli(1)."""
+    whole, commands = _parsers()
+    about = plain((whole.description or "").rstrip(".").lower())
+    lines = [f'.TH TABD\\-CLI 1 "" "tabd {version}" "tabd"', ".SH NAME", f"tabd\\-cli \\- {about}"]
+    lines += [".SH SYNOPSIS", ".B tabd\\-cli", "[\\fB\\-\\-server\\fR \\fISERVER\\fR] \\fICOMMAND\\fR ..."]
+    lines += [".SH DESCRIPTION", "The server is that of \\fB\\-\\-server\\fR, or of the variable \\fBTABD_SERVER\\fR:"]
+    lines += ["a port, HOST:PORT, or the path of a socket file."]
+    lines += ["Values are terms of Erlang. With \\fB\\-\\-json\\fR each command writes JSON."]
+    for name, parser in commands.items():
+        words = " ".join(str(action.metavar) for action in parser._actions if not action.option_strings)
+        lines += [f".SS {plain(name)} {plain(words)}", plain((parser.description or "").capitalize()) + "."]
+        for action in parser._actions:
+            if action.help and action.dest not in ("help", "json", "server"):
+                takes = f" \\fI{action.metavar or (action.dest.upper() if action.nargs != 0 else '')}\\fR" if action.option_strings else ""
+                title = plain(action.option_strings[-1]) if action.option_strings else str(action.metavar)
+                lines += [".TP", f"\\fB{title}\\fR{takes}", plain(action.help)]
+    lines += [".SH EXIT STATUS", ".TP", ".B 0", "It is done.", ".TP", ".B 1", "The server refused it, or wasn't there; standard error has one line."]
+    lines += [".TP", ".B 2", "The words on the command line are wrong.", ".SH SEE ALSO", ".BR tabd (1),", "/usr/share/doc/python3\\-tabd/OPERATING.md"]
+    return "\n".join(lines) + "\n"
