@@ -13,7 +13,13 @@ if TYPE_CHECKING:
     from .client import Client
 
 
-class Block:
+class Entered:
+    """What a `with` has entered. It has the session while this thread is in the session's transaction by it, and no longer: an interrupt
+    may come at any line, and what the thread does next must not be done in a transaction that no block will end."""
+
+    session: Optional[Session] = None
+
+class Block(Entered):
     """`with client.transaction() as t`, once."""
 
     def __init__(self, client: Client) -> None:
@@ -23,27 +29,41 @@ class Block:
     def __enter__(self) -> Transaction:
         if self._transaction is not None:
             raise Error("a block is entered once: each has a transaction() of its own")
-        self._transaction = opened(self._client, None)
+        self._transaction = opened(self._client, self, None)
         return self._transaction
 
     def __exit__(self, kind: Optional[Type[BaseException]], error: Optional[BaseException], trace: Optional[TracebackType]) -> None:
         transaction = self._transaction
         assert transaction is not None
         try:
-            finish(transaction, kind is None)
+            try:
+                finish(transaction, kind is None)
+            finally:
+                if transaction.level == 1:
+                    self._client._end(transaction._session)
         finally:
+            self.session = None
             if transaction.level == 1:
-                self._client._end(transaction._session)
+                abandon(transaction._session)
 
 
-def opened(client: Client, kept: Optional[Session]) -> Transaction:
+def abandon(session: Session) -> None:
+    """Ends a transaction that an interrupt has kept from its end, by the end of its connection. No reply is waited for."""
+    if not session.over:
+        session.over = True
+        session.connection.close()
+        # Its place in the pool is free once nothing refers to it.
+        del session.connection
+
+
+def opened(client: Client, block: Entered, kept: Optional[Session]) -> Transaction:
     """A level in this thread's transaction, or the first level: of the transaction that is done again, or of a new one."""
     outer = client._session()
     if outer is not None:
         return outer.open()
     session = kept or Session(client._pool.take(), client._lock_timeout)
     transaction = session.open()
-    client._here.session = session
+    client._enter(block, session)
     return transaction
 
 
@@ -64,8 +84,8 @@ class Attempts(Iterator["Attempt"]):
         self._started, self._again = True, False
         return Attempt(self)
 
-    def _open(self) -> Transaction:
-        transaction = opened(self._client, self._session)
+    def _open(self, block: Entered) -> Transaction:
+        transaction = opened(self._client, block, self._session)
         self._session = None
         return transaction
 
@@ -87,9 +107,7 @@ class Attempts(Iterator["Attempt"]):
                 self._count()
                 self._again, self._session = True, session
         finally:
-            if self._again:
-                self._client._leave(session)
-            else:
+            if not self._again:
                 self._client._end(session)
         return self._again
 
@@ -103,10 +121,10 @@ class Attempts(Iterator["Attempt"]):
         """The loop was left between two attempts. No reply is waited for here: the end of the connection ends its transaction."""
         session = getattr(self, "_session", None)
         if session is not None:
-            session.connection.close()
+            abandon(session)
 
 
-class Attempt:
+class Attempt(Entered):
     """`with attempt as t`, once."""
 
     def __init__(self, attempts: Attempts) -> None:
@@ -116,9 +134,16 @@ class Attempt:
     def __enter__(self) -> Transaction:
         if self._transaction is not None:
             raise Error("an attempt is entered once: the loop gives the next one")
-        self._transaction = self._attempts._open()
+        self._transaction = self._attempts._open(self)
         return self._transaction
 
     def __exit__(self, kind: Optional[Type[BaseException]], error: Optional[BaseException], trace: Optional[TracebackType]) -> bool:
-        assert self._transaction is not None
-        return self._attempts._finish(self._transaction, error)
+        transaction, again = self._transaction, False
+        assert transaction is not None
+        try:
+            again = self._attempts._finish(transaction, error)
+            return again
+        finally:
+            self.session = None
+            if transaction.level == 1 and not again:
+                abandon(transaction._session)

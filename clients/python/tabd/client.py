@@ -7,10 +7,11 @@ import contextlib
 import functools
 import inspect
 import threading
+import weakref
 from typing import TYPE_CHECKING, Any, Callable, Iterator, Optional, Sequence, TypeVar, Union, overload
 
 from .address import HOST, PORT, Where, address
-from .blocks import Attempts, Block
+from .blocks import Attempts, Block, Entered
 from .connection import Connection
 from .decorated import check_plain, transaction_place, without_parameter
 from .errors import Closed, OutcomeUnknown
@@ -85,30 +86,38 @@ class Client:
             self._pool.give(connection)
 
     def _session(self) -> Optional[Session]:
-        """That of this thread's transaction. A forked child has none."""
-        session: Optional[Session] = getattr(self._here, "session", None)
-        if session is not None and (session.over or not session.connection.is_ours()):
+        """That of this thread's transaction. A forked child has none. Its block is not kept by this: one that an interrupt ends before its
+        first line or at its end is gone with its frame."""
+        block: Optional[Entered] = getattr(self._here, "block", _nothing)()
+        session = None if block is None else block.session
+        if session is None or session.over or not session.connection.is_ours():
             return None
         return session
 
+    def _enter(self, block: Entered, session: Session) -> None:
+        """This thread is in the block's transaction."""
+        block.session = session
+        self._here.block = weakref.ref(block)
+
     def _end(self, session: Session) -> None:
         """Ends it, and gives its connection back."""
-        self._leave(session)
+        connection = session.connection
         try:
             session.finish()
+        except BaseException:
+            connection.close()
+            raise
         finally:
-            self._pool.give(session.connection)
-
-    def _leave(self, session: Session) -> None:
-        """This thread is in no transaction."""
-        if getattr(self._here, "session", None) is session:
-            self._here.session = None
+            # A transaction that the caller keeps does not keep the connection.
+            session.over = True
+            del session.connection
+            self._pool.give(connection)
 
     def _ask(self, request: Term) -> Any:
         """Asks on this thread's transaction's connection, where the server refuses what can't be in one, or on a free one."""
         session = self._session()
         if session is not None:
-            return session.ask(request)
+            return session.ask_besides(request)
         with self._lease() as connection:
             return connection.ask(request)
 
@@ -118,7 +127,7 @@ class Client:
         if session is not None:
             # Where a transaction is open the server refuses it.
             session.begin()
-            return session.ask(request)
+            return session.ask_besides(request)
         connection = self._pool.take()
         try:
             return _once(connection, request)
@@ -214,6 +223,10 @@ class Client:
     def events(self, *names: str, dump: bool = False, detailed: bool = False) -> Events:
         """The events of the tables, on a connection of its own, and so in one order."""
         return Events(self._connect(), names, dump, detailed)
+
+
+def _nothing() -> None:
+    """The block of a thread that has been in none."""
 
 
 def _once(connection: Connection, request: Term) -> Any:

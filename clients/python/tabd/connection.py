@@ -49,8 +49,8 @@ class Connection:
     def __init__(self, address: Address, timeout: Optional[float] = None, connect_timeout: Optional[float] = None) -> None:
         self.timeout, self.closed = timeout, False
         self.process = os.getpid()
-        # How many requests were given up.
-        self.given_up = 0
+        # How many times a request was sent, and how many were given up.
+        self.asked = self.given_up = 0
         self.told: Deque[Item] = collections.deque()
         self.frames = Frames()
         seconds = OPENING_SECONDS if connect_timeout is None else connect_timeout
@@ -98,6 +98,7 @@ class Connection:
         """The reply. Events that come before it are kept."""
         data = frame(request)
         self.check()
+        self.asked += 1
         try:
             self._send(data)
             return self._reply()
@@ -110,6 +111,7 @@ class Connection:
         is open. So it is done in the transaction that was begun, or not at all."""
         data = BEGIN + frame(request)
         self.check()
+        self.asked += 1
         try:
             self._send(data)
             begun = self._reply()
@@ -123,6 +125,7 @@ class Connection:
         is asked, which ends its wait. Its own reply may have come before the abort's; else it is None."""
         data = frame(request)
         self.check()
+        self.asked += 1
         with self._or_closed():
             self._send(data)
             term = self._next_reply(time.monotonic() + seconds)

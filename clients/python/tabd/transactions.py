@@ -5,6 +5,7 @@ from __future__ import annotations
 
 import contextlib
 import threading
+import weakref
 from types import TracebackType
 from typing import TYPE_CHECKING, Any, List, NoReturn, Optional, Tuple, Type
 
@@ -26,37 +27,65 @@ class Session:
     def __init__(self, connection: Connection, lock_timeout: Optional[float] = None) -> None:
         self.connection, self.lock_timeout = connection, lock_timeout
         self.thread = threading.get_ident()
-        self.levels: List[Transaction] = []
+        # Each is kept by its block alone: with what an interrupt has kept from its end the connection is gone too, which ends it.
+        self.levels: List[weakref.ref[Transaction]] = []
         self.age: Optional[int] = None
         # After a restart the server has the transaction open at its first level, empty, with the same age.
         self.restarted = self.over = False
+        # How many requests of the connection have changed the levels here as they did at the server.
+        self.settled = connection.asked
+
+    @property
+    def under_way(self) -> bool:
+        """An interrupt came after a request was sent, and before its reply has changed the levels here."""
+        return self.settled != self.connection.asked
+
+    def settle(self) -> None:
+        self.settled = self.connection.asked
 
     def open(self) -> Transaction:
         """A transaction, also one that is done again after a restart, or a level in it."""
         if self.levels:
-            self.levels[-1].check()
+            self.innermost().check()
             self.begin()
-            result(self.ask("begin"))
+            self.answered(self.ask("begin"))
         self.restarted = False
         transaction = Transaction(self, len(self.levels) + 1)
-        self.levels.append(transaction)
+        self.levels.append(weakref.ref(transaction))
+        self.settle()
         return transaction
+
+    def ask_besides(self, request: Term) -> Any:
+        """The reply to a request that changes no level."""
+        reply = self.ask(request)
+        self.settle()
+        return reply
+
+    def answered(self, reply: Any) -> Any:
+        """What the reply gives. A request that is refused has changed no level."""
+        if isinstance(reply, tuple) and reply[0] == "error":
+            self.settle()
+        return result(reply)
 
     def innermost(self) -> Transaction:
         """The level that takes operations."""
         if not self.levels:
             raise Restart() if self.restarted else Ended("the transaction has ended")
-        return self.levels[-1]
+        innermost = self.levels[-1]()
+        if innermost is None:
+            raise Ended("the block of the innermost level was not left")
+        return innermost
 
     def begin(self) -> int:
         """The transaction's age. It is begun where it is not."""
         if self.age is None:
             self._begun(self.ask("begin"))
+            self.settle()
         assert self.age is not None
         return self.age
 
     def _begun(self, reply: Any) -> None:
-        _, self.age = result(reply)
+        _, self.age = self.answered(reply)
 
     def ask(self, request: Term) -> Any:
         """The reply. Where the connection ends, so do all levels."""
@@ -89,7 +118,10 @@ class Session:
 
     def end_all(self, error: Exception) -> None:
         while self.levels:
-            self.levels.pop().fault = error
+            level = self.levels[-1]()
+            if level is not None:
+                level.fault = error
+            self.levels.pop()
 
     def restart(self) -> Restart:
         error = Restart("a lock was lost to an older transaction: the transaction is to be done again, as Client.attempts and Client.run do")
@@ -98,16 +130,16 @@ class Session:
         return error
 
     def finish(self) -> None:
-        """Ends what a restart has left open. Where a level could not be ended, the connection is closed, which ends it."""
-        self.over = True
-        if self.connection.closed or not self.connection.is_ours():
-            return
-        if self.levels:
-            self.connection.close()
-        elif self.restarted:
-            self.restarted = False
-            with contextlib.suppress(Closed):
-                self.connection.ask(("abort", "client"))
+        """Ends what a restart has left open. If a level could not be ended, or an interrupt came between a request and its reply, the
+        connection is closed, which ends the transaction."""
+        if not self.connection.closed and self.connection.is_ours():
+            if self.levels or self.under_way:
+                self.connection.close()
+                self.end_all(Ended("the transaction has ended"))
+            elif self.restarted:
+                self.restarted = False
+                with contextlib.suppress(Closed):
+                    self.connection.ask(("abort", "client"))
 
 
 class Transaction(Operations[List[Record], List[Any], None]):
@@ -142,25 +174,29 @@ class Transaction(Operations[List[Record], List[Any], None]):
         if session.thread != threading.get_ident():
             raise WrongThread("a transaction is used by the thread that opened it: each thread opens its own")
         session.connection.check_process()
-        if session.levels[-1] is not self:
+        if session.levels[-1]() is not self:
             raise Error("a level in this one is open: it takes the operations")
 
     def _operate(self, operation: Term) -> Any:
         self.check()
         session = self._session
         if session.lock_timeout is None:
-            reply = session.ask_begun(operation)
+            in_time, reply = True, session.ask_begun(operation)
         else:
             in_time, reply = session.ask_in_time(operation, session.lock_timeout)
-            if not in_time:
-                raise self._give_up(reply)
-        if reply == "ok":
-            return None
+        error = self._levels_after(reply) if in_time else self._give_up(reply)
+        session.settle()
+        if error is not None:
+            raise error
+        return None if reply == "ok" else result(reply)
+
+    def _levels_after(self, reply: Any) -> Optional[Exception]:
+        """What is raised if the reply ends levels, which are ended here too."""
         if reply == "restart":
-            raise session.restart()
+            return self._session.restart()
         if isinstance(reply, tuple) and reply[0] == "aborted":
-            raise self._end(refusal(reply[1]))
-        return result(reply)
+            return self._end(refusal(reply[1]))
+        return None
 
     def _give_up(self, reply: Any) -> Exception:
         """An abort was asked behind the operation, which may have got this reply before: it has ended one level more than the reply did."""
@@ -170,12 +206,13 @@ class Transaction(Operations[List[Record], List[Any], None]):
             return error
         self._end(error)
         if isinstance(reply, tuple) and reply[0] == "aborted" and self._session.levels:
-            self._session.levels[-1]._end(error)
+            self._session.innermost()._end(error)
         return error
 
     def _end(self, fault: Exception) -> Exception:
-        self._session.levels.pop()
+        # In this order, as an interrupt may come after each call.
         self.fault = fault
+        self._session.levels.pop()
         return fault
 
     def transaction(self) -> Level:
@@ -192,30 +229,33 @@ class Transaction(Operations[List[Record], List[Any], None]):
     def _finish(self) -> None:
         """Commits it. One whose fault was caught has no commit."""
         self.check()
+        session = self._session
         try:
-            reply = self._session.ask_begun("commit")
+            reply = session.ask_begun("commit")
         except Closed as error:
             if self.level > 1:
                 raise
             self.fault = OutcomeUnknown("the connection has ended while a commit was under way")
             raise self.fault from error
-        reply = result(reply)
+        reply = session.answered(reply)
         if self.level == 1:
             self.commit = reply[1]
         self._end(Ended("the transaction was committed"))
+        session.settle()
 
     def _undo(self) -> None:
         """Ends it with nothing of it, and the levels in it that are still open."""
         session = self._session
-        if session.thread != threading.get_ident():
-            # Its own thread may be in a request.
+        if session.under_way or session.thread != threading.get_ident():
+            # The levels are unknown, or its own thread may be in a request.
             session.connection.close()
-        with contextlib.suppress(Closed, WrongProcess):
+        with contextlib.suppress(Closed, WrongProcess, Ended):
             while self.fault is None:
-                innermost = session.levels[-1]
+                innermost = session.innermost()
                 if session.age is not None:
                     session.ask(("abort", "client"))
                 innermost._end(Ended("the transaction was aborted"))
+                session.settle()
 
 
 class Level:

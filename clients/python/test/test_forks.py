@@ -114,7 +114,7 @@ class Forks(unittest.TestCase):
                     try:
                         # As a child that goes on behind the block does.
                         try:
-                            self.client._here.session, block = None, self.client.transaction()
+                            self.client._here.block, block = (lambda: None), self.client.transaction()
                             block._transaction = t
                             try:
                                 leave()
