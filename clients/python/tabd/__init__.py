@@ -1,5 +1,5 @@
 # SPDX-License-Identifier: Apache-2.0
-"""A client of `tabd serve`, with Python's standard library alone; `tabd.aio` has it for asyncio.
+"""A client of `tabd serve` that needs only Python's standard library; `tabd.aio` is the client for asyncio.
 
     import tabd
 

@@ -1,5 +1,5 @@
 # SPDX-License-Identifier: Apache-2.0
-"""Where a server listens: a port of a host, or a socket file."""
+"""The address of a server: a port of a host, or a socket file."""
 
 from __future__ import annotations
 

@@ -1,5 +1,5 @@
 # SPDX-License-Identifier: Apache-2.0
-"""The tables of a mirror: their records, as their events tell."""
+"""The tables of a mirror: their records, as of the events that were applied."""
 
 from __future__ import annotations
 
@@ -11,7 +11,7 @@ from .terms import Record, Term, encode
 
 
 class Copies:
-    """The copy of each table by the spelling of its keys, whose order is the server's."""
+    """The copy of each table, sorted by its encoded keys, in the server's order."""
 
     def __init__(self, names: Sequence[str]) -> None:
         self.names = names

@@ -19,7 +19,7 @@ def check_plain(function: Any) -> None:
 
 
 def transaction_place(function: Any) -> int:
-    """Where the transaction stands among the parameters: in front, or of a method behind `self` or `cls`."""
+    """The index of the transaction among the parameters: 0, or 1 in a method, after `self` or `cls`."""
     try:
         first = next(iter(inspect.signature(function).parameters), "")
     except (TypeError, ValueError):

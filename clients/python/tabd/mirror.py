@@ -23,23 +23,23 @@ from .wire import result
 class Mirror:
     """A copy of tables, kept by their events in a thread of its own.
 
-    Where its connection ends it opens another every `pause` seconds until there is one; where its events overflowed it subscribes anew; and a
-    table that isn't there is asked for every `pause` seconds. In each case the copy starts again with the table's records. `live` says whether
-    each table has started so and the connection stands; where it does not, the copy is as old as that.
+    If its connection ends, it tries to open another every `pause` seconds. If its events overflowed, it subscribes again. If a table does not
+    exist, it asks for the table every `pause` seconds. In each case the copy starts again with the table's records. `live` says whether each
+    table has started and the connection is open. If not, the copy is as old as the last event before that.
 
-    What may be seen. Of a server with `--batches` the copy of a table is the table's records after some commit: each commit is applied whole, and
-    `commit` is the number of the last, or None where none was since the copy started again. Without, some changes of the next commit
-    may be seen too: events come one by one, and nothing tells the last one of a commit. So a commit of one change is seen whole, and one of
-    several changes may be seen with some of them and without the later ones. In either way nothing is seen that was aborted, and no commit
-    before an earlier one. Once all tables have started this holds of all of them together, since one connection tells of all; who reads
-    several times reads inside the condition of `wait`, where nothing is applied meanwhile. A commit is seen some time after it was
-    answered; who has to wait for one waits for its number or its last change (`wait`).
+    What may be seen. With `--batches` at the server, the copy of a table is the table's records after some commit: each commit is applied whole.
+    `commit` is the number of the last one, or None if none was applied since the copy started again. Without `--batches`, some changes of the
+    next commit may be seen too: events arrive one by one, and none says that it is the last of its commit. So a commit of one change is seen
+    whole, and one of several changes may be seen with only the first of them. In both cases aborted changes are never seen, and commits are
+    seen in their order. Once all tables have started this is so for all of them together, since their events come over one connection. For
+    several reads of the same state, read inside the condition of `wait`: nothing is applied meanwhile. A commit is seen some time after its
+    reply. To wait for a commit, wait for its number or its last change (`wait`).
 
     An error that ends the thread, other than the end of a connection, is `fault`. `wait`, `read`, `all_keys` and `records` raise it. `close`, or
     the end of the last reference to the mirror, ends the thread and its connection."""
 
     def __init__(self, client: Client, *names: str, pause: float = 0.2) -> None:
-        # The thread knows the follower alone, so that it does not keep the mirror.
+        # The thread refers only to the follower, so that it does not keep the mirror.
         self._follower = follower = Follower(client._connect, names, pause)
         self._where = client._address
         self._thread = threading.Thread(target=follower.run, name="tabd.Mirror", daemon=True)
@@ -182,7 +182,7 @@ class Follower:
         except Closed:
             pass
         except Exception as error:
-            # Whoever reads or waits is told.
+            # Each read and each wait raises it.
             self.fault = error
             self.closing.set()
         finally:

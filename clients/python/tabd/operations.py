@@ -9,7 +9,7 @@ from .errors import Aborted, NoMore, refusal
 from .terms import Record, Term
 from .wire import result
 
-# What an operation gives: records, keys, and nothing where something is done.
+# The results of operations: records, keys, and nothing for a change.
 Records = TypeVar("Records")
 Keys = TypeVar("Keys")
 Done = TypeVar("Done")
@@ -32,7 +32,7 @@ class Operations(Generic[Records, Keys, Done]):
         return records
 
     def write(self, record: Record) -> Done:
-        """Writes a record: in a set in the place of the one with its key, in a bag behind its key's others."""
+        """Writes a record: in a set it replaces the one with its key, in a bag it comes after the others of its key."""
         done: Done = self._operate(("write", record))
         return done
 
@@ -42,7 +42,7 @@ class Operations(Generic[Records, Keys, Done]):
         return done
 
     def delete_object(self, record: Record) -> Done:
-        """Deletes the record, where this one is there."""
+        """Deletes the record if the table has it."""
         done: Done = self._operate(("delete_object", record))
         return done
 
@@ -86,7 +86,7 @@ class Gathered(Operations[Shot, Shot, Shot]):
         return self
 
     def child(self, operations: Gathered[Any]) -> Shot:
-        """A level. Its answer is ("atomic", answers), or ("aborted", reason) where it ended so; the rest goes on then."""
+        """A level. Its answer is ("atomic", answers), or ("aborted", reason) if it aborted; the other operations go on then."""
         shot: Shot = self._operate(("transaction", list(operations._operations)))
         return shot
 

@@ -12,12 +12,12 @@ from typing import Callable, Dict, List, Optional
 from .connection import Connection
 from .errors import Closed, PoolTimeout
 
-# A place whose connection was lost to an interrupt is free without a notice: who waits looks again after so long.
+# An interrupt may free a slot without a notification, so a waiting thread looks again after so many seconds.
 LOOK_SECONDS = 0.5
 
 
 class Place:
-    """A connection's place in the pool, which is free again once nothing refers to it, however its user ended."""
+    """A connection's slot in the pool, which is free again once nothing refers to it, however its user ended."""
 
 
 class PooledConnection(Connection):
@@ -25,7 +25,7 @@ class PooledConnection(Connection):
 
 
 class _Connections:
-    """Those of one process: the ones in no use, and the places of all."""
+    """The connections of one process: those not in use, and the slots of all."""
 
     def __init__(self) -> None:
         self.free: List[PooledConnection] = []
@@ -75,7 +75,7 @@ class Pool:
         return len(self._here().places)
 
     def take(self) -> PooledConnection:
-        """One that is in no use, a new one where there is none, or the next that is given back where there are as many as may be."""
+        """A connection that is not in use; if there is none, a new one; if there are as many as allowed, the next that is given back."""
         here, deadline = self._here(), None if self.timeout is None else time.monotonic() + self.timeout
         with here.lock:
             while True:

@@ -22,16 +22,16 @@ def subscription(name: str, dump: bool, detailed: bool) -> Term:
 class Events(Iterator[Event]):
     """The events of tables, in the order of the commits, and within one in the order of the operations: `for event in events`.
 
-    None is merged with another, and what an abort undid has none. They begin with `Begin` of each table. After `Overflow` the tables are
-    subscribed to anew, and `Begin` comes again: what was between is not told, but with `dump` all records are. They end when each table was
-    deleted, by `close`, or by `Closed` where the connection has ended."""
+    No event is merged with another, and aborted changes have none. They begin with `Begin` of each table. After `Overflow` it subscribes to the
+    tables again, and `Begin` comes again: the events between are lost, but with `dump` the new `Begin` has all records. The iteration ends when
+    each table was deleted or after `close`; it raises `Closed` if the connection has ended."""
 
     def __init__(self, connection: Connection, names: Sequence[str], dump: bool, detailed: bool) -> None:
         self._connection, self._dump, self._detailed = connection, dump, detailed
         self._watched: Set[str] = set()
-        # The changes of a batch that are still to be told.
+        # The changes of a batch that were not returned yet.
         self._changes: Deque[Change] = collections.deque()
-        # Where it was told of an overflow it is to subscribe anew.
+        # After an overflow was returned, it has to subscribe again.
         self._names, self._lost = names, False
         try:
             self._subscribe()
@@ -59,7 +59,7 @@ class Events(Iterator[Event]):
                 self._connection.told.append(End(name, "deleted"))
 
     def next(self, seconds: Optional[float] = None) -> Optional[Event]:
-        """The next event, or None where none came within so many seconds."""
+        """The next event, or None if none came within so many seconds."""
         self._connection.check_process()
         if self._changes:
             return self._changes.popleft()

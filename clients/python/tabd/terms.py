@@ -14,7 +14,7 @@ Record = Tuple[Any, ...]
 
 # Levels of a term, at most.
 MOST_LEVELS = 64
-# Atoms that are kept, of those that were read and of those that were spelled.
+# How many atoms are cached, of those that were decoded and of those that were encoded.
 MOST_ATOMS = 4096
 
 _LENGTH, _COUNT = struct.Struct(">I"), struct.Struct(">H")
@@ -57,7 +57,7 @@ def _spell_atom(atom: str) -> bytes:
 
 
 def _kept_atom(atom: str) -> bytes:
-    """The spelling of an atom, which is kept, since a client says the same ones again and again."""
+    """The encoding of an atom, from a cache, since a client sends the same ones again and again."""
     spelled = _spell_atom(atom)
     if len(_SPELLED) >= MOST_ATOMS:
         _SPELLED.clear()
@@ -70,7 +70,7 @@ def _spell_many(tag: bytes, terms: Sequence[Any], levels: int) -> bytes:
 
 
 def _spell_tuple(terms: Tuple[Any, ...], levels: int) -> bytes:
-    """Its small elements are spelled here, which spares a call for each."""
+    """Small elements are encoded here, which saves a call for each."""
     if len(terms) > 255:
         return _spell_many(b"i", terms, levels - 1)
     if levels == 1 and terms:
@@ -140,7 +140,7 @@ def _atom(text: bytes) -> str:
 
 
 def _many(data: bytes, at: int, count: int) -> Tuple[List[Any], int]:
-    """So many terms from an offset on, and the offset behind them, which is behind the data if a part of a term is missing.
+    """So many terms from an offset on, and the offset after them, which is greater than the data's length if a part of a term is missing.
 
     The tags of most terms are read here, in the order of how often they come; each call for one would cost as much again."""
     terms: List[Any] = []

@@ -13,7 +13,7 @@ from .terms import Term, decode_part, encode, no_term
 MOST_BYTES = 1_048_576
 # What a client sends first. A server that serves the connection replies that no transaction is open, and nothing is changed.
 GREETING: Term = "commit"
-# What a server replies, to no request, where it serves as many connections as it may.
+# What a server sends, without a request, if it serves as many connections as it may.
 FULL = ("error", ("system_limit", "sessions"))
 
 _LENGTH = struct.Struct(">I")

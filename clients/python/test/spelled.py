@@ -1,4 +1,4 @@
-"""Frames and terms in a second spelling, so that none of the client's is compared with itself: what the scripts of the tests say."""
+"""A second encoder and decoder of frames and terms, for the scripts of the tests, so that the client's is not compared with itself."""
 
 from __future__ import annotations
 
@@ -39,7 +39,7 @@ def number(stream: BinaryIO, size: int) -> int:
 
 
 def read(stream: BinaryIO) -> Any:
-    """The term of a spelling that tabd writes, other than a map, a great integer or a long atom or tuple."""
+    """Decodes a term as tabd encodes it, except for a map, a large integer and a long atom or tuple."""
     tag = take(stream, 1)
     if tag == b"a":
         return number(stream, 1)

@@ -193,8 +193,8 @@ class Cancellation(Loops):
 
         self.play(test, connections=1)
 
-    def test_while_a_reply_is_due(self) -> None:
-        """The connection is closed, and its place is the next one's."""
+    def test_while_a_reply_is_pending(self) -> None:
+        """The connection is closed, and its slot is free for the next one."""
 
         async def test(client: tabd.aio.Client) -> None:
             other = tabd.aio.Client(self.port)
@@ -226,7 +226,7 @@ class Cancellation(Loops):
         self.play(test, connections=1)
 
     def test_at_any_time(self) -> None:
-        """Each connection that goes on has its own replies alone."""
+        """Each connection that goes on gets only its own replies."""
 
         async def test(client: tabd.aio.Client) -> None:
             chance = random.Random(1)
@@ -250,7 +250,7 @@ class Cancellation(Loops):
 
         self.play(test, "--forever", connections=2, pool_timeout=SECONDS)
 
-    def test_while_one_waits_for_a_place(self) -> None:
+    def test_while_one_waits_for_a_connection(self) -> None:
         async def test(client: tabd.aio.Client) -> None:
             async with client.transaction() as t:
                 await put(t, 1)
@@ -367,7 +367,7 @@ class Events(Loops):
         self.play(test, "--batches")
 
     def test_more_than_are_kept(self) -> None:
-        """A task that reads late has all of them, in order, or an overflow and the records anew."""
+        """A task that reads late gets all of them, in order, or an overflow and the records again."""
 
         async def test(client: tabd.aio.Client) -> None:
             count = 200

@@ -50,7 +50,7 @@ class Attempts(Scripted):
                     put(t, 2)
             self.assertEqual((t.commit, t.age), (1, 7))
 
-        # The transaction is open at the server with its age: it is not begun anew.
+        # The transaction is open at the server with its age: it is not begun again.
         again = [(write(1), OK), (write(2), RESTART), (write(1), RESTART)]
         self.play(do, BEGIN, *again, (write(1), OK), (write(2), OK), COMMIT)
         self.assertEqual(seen, [0, 1, 2])
@@ -127,7 +127,7 @@ class Attempts(Scripted):
         self.assertEqual(self.play(do, BEGIN, (write(1), OK), COMMIT, BEGIN, (write(2), OK), COMMIT), 5)
 
     def test_a_break_between_attempts_gives_all_back(self) -> None:
-        """The connection is closed, and with it its transaction, and the place is the next one's."""
+        """The connection is closed, which ends its transaction, and the slot is free for the next one."""
         script = Script(BEGIN, (write(1), RESTART))
         with tabd.Client(script.port, connections=1, pool_timeout=2.0) as client:
             for attempt in client.attempts():
@@ -142,8 +142,8 @@ class Attempts(Scripted):
                 client.run(lambda t: None)
             self.assertNotIsInstance(raised.exception, tabd.PoolTimeout)
 
-    def test_a_block_that_catches_restart_is_told_at_its_end(self) -> None:
-        """It may have left the loop by a return, so it can't be done again in silence."""
+    def test_a_block_that_catches_restart_raises_it_at_its_end(self) -> None:
+        """It may have ended the loop by a return, so it can't be repeated silently."""
 
         def do(client: tabd.Client) -> int:
             for attempt in client.attempts():
@@ -195,10 +195,10 @@ class Attempts(Scripted):
 
 
 class Begins(Scripted):
-    """`begin` is sent together with the first request, which must be done in that transaction alone."""
+    """`begin` is sent together with the first request, which must only be done in that transaction."""
 
     def test_a_refused_begin(self) -> None:
-        """The server refuses the operation too, and the next one begins anew."""
+        """The server refuses the operation too, and the next one begins the transaction again."""
 
         def do(client: tabd.Client) -> None:
             with client.transaction() as t:

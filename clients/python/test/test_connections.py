@@ -40,7 +40,7 @@ def stopped(server: Server) -> Iterator[None]:
 
 
 def hurry(connection: Connection) -> None:
-    """As if its client had a short `timeout`, which the opening would be too long for on a machine that does much else."""
+    """Sets a short `timeout` after the connection is open: on a busy machine, opening one might take longer than that."""
     connection.timeout = 0.3
     connection.socket.settimeout(0.3)
 
@@ -56,7 +56,7 @@ class Errors(unittest.TestCase):
             (tabd.LockTimeout, TimeoutError),
         ):
             self.assertTrue(issubclass(error, base) and issubclass(error, tabd.Error), error)
-        # No connection was had, so nothing was asked.
+        # There was no connection, so nothing was asked.
         for error in (tabd.NotServed, tabd.ConnectTimeout, tabd.PoolTimeout):
             self.assertTrue(issubclass(error, tabd.NotConnected), error)
 
@@ -131,7 +131,7 @@ class TimeLimits(unittest.TestCase):
 
     @needs_program
     def test_a_server_that_serves_no_more(self) -> None:
-        """Without --forever it says nothing to who comes later."""
+        """Without --forever it sends nothing to a client that connects later."""
         with Server(connections=1) as server, tabd.Client(server.port) as first:
             first.create_table("t")
             self.within(5, tabd.ConnectTimeout, lambda: tabd.Client(server.port, connect_timeout=0.3).create_table("u"))
@@ -192,7 +192,7 @@ class Interrupted(KeyboardInterrupt):
 
 @needs_program
 class Places(unittest.TestCase):
-    """Each place in the pool is given back, whatever ends its use. A client with one place shows it at once."""
+    """Each slot of the pool is given back, whatever ends its use. A client with one slot shows it at once."""
 
     def setUp(self) -> None:
         server = Server(connections=64)
@@ -216,7 +216,7 @@ class Places(unittest.TestCase):
                 self.table.info("size")
             self.assertEqual(self.table.info("size"), 0)
 
-    def test_while_a_reply_is_due(self) -> None:
+    def test_while_a_reply_is_pending(self) -> None:
         calls = (lambda: self.table.info("size"), self.client.one_shot().read("t", 1).run, lambda: self.client.run(lambda t: t.read("t", 1)))
         for call in calls:
             with mock.patch("tabd.connection.Connection._next_reply", side_effect=Interrupted), self.assertRaises(Interrupted):

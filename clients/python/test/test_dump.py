@@ -1,4 +1,4 @@
-"""`tabd-cli dump` and `restore`: beside writers, with files that were cut or changed, and for what is hard to write again.
+"""`tabd-cli dump` and `restore`: with concurrent writers, with files that were cut or changed, and with tables that are hard to write again.
 
 TABD_LONG=1 takes 100 dumps, and measures a million records."""
 
@@ -156,14 +156,14 @@ class Beside(Dumped):
         commits = sum(len(writer.commits) for writer in writers)
         self.assertGreater(commits, 0)
         if LONG:
-            print(f"\n{times} dumps beside {WRITERS} writers: {seconds / times:.3f} s each, {commits / seconds:.0f} commits a second")
+            print(f"\n{times} dumps with {WRITERS} writers: {seconds / times:.3f} s each, {commits / seconds:.0f} commits a second")
 
     def test_beside_writers(self) -> None:
         self.beside(DUMPS)
 
 
 class BesideNarrow(Beside):
-    """Where the outbox has room for one marker the tables are asked for one by one."""
+    """If the outbox has room for one marker, the tables are subscribed to one by one."""
 
     words = ("--forever", "--outbox", "1")
 
@@ -270,7 +270,7 @@ class Restored(Dumped):
         self.assertEqual(os.listdir(self.folder), ["x.tabd"])
 
     def test_damage_is_refused(self) -> None:
-        """Cut at 200 places and with one byte changed at 200 places, those at the ends of frames among them."""
+        """Cut at 200 offsets and with one byte changed at 200 offsets, among them those at the ends of frames."""
         client = self.client(self.server)
         client.create_table("t")
         shot = client.one_shot()
@@ -298,7 +298,7 @@ class Restored(Dumped):
         self.assertEqual(client.table_info("t", "size"), 0)
 
     def test_failed_restore_leaves_nothing(self) -> None:
-        """The second table can't be made where the server has 256."""
+        """The second table can't be created if the server has 256."""
         client = self.client(self.server)
         for name in ("one", "two"):
             client.create_table(name)

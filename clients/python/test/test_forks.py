@@ -21,7 +21,7 @@ SECONDS = 60
 
 
 def forked(do: Callable[[], Any]) -> Tuple[int, int]:
-    """A child that does this, and a descriptor of what it tells: what came of it, or the name of the error."""
+    """A child that calls `do`, and a descriptor from which its result, or the name of its error, can be read."""
     reading, writing = os.pipe()
     sys.stdout.flush()
     child = os.fork()
@@ -29,7 +29,7 @@ def forked(do: Callable[[], Any]) -> Tuple[int, int]:
         os.close(writing)
         return child, reading
     try:
-        # It ends also where it waits for a reply that its parent reads.
+        # It also ends if it waits for a reply that its parent reads.
         signal.alarm(SECONDS)
         os.close(reading)
         try:
@@ -112,7 +112,7 @@ class Forks(unittest.TestCase):
                 if child == 0:
                     signal.alarm(SECONDS)
                     try:
-                        # As a child that goes on behind the block does.
+                        # As a child does that goes on after the block.
                         try:
                             self.client._here.block, block = (lambda: None), self.client.transaction()
                             block._transaction = t
@@ -142,7 +142,7 @@ class Forks(unittest.TestCase):
             t.write(("t", 3, 3))
         self.assertEqual(self.table.keys(), [1, 2, 3])
 
-    def test_a_child_closes_its_descriptors_alone(self) -> None:
+    def test_a_child_closes_only_its_descriptors(self) -> None:
         other = tabd.Client(self.server.port, connections=1)
         self.addCleanup(other.close)
         events = self.table.events()

@@ -1,4 +1,4 @@
-"""`tabd-cli keep` beside writers, where the server and the keeper are killed and started again.
+"""`tabd-cli keep` with concurrent writers, while the server and the keeper are killed and started again.
 
 TABD_LONG=1 kills 20 times, TABD_KILLS=50 so often."""
 
@@ -65,8 +65,8 @@ class Keeping:
 
 
 class Writer(threading.Thread):
-    """Adds one to a number, in two tables at once, and moves money; notes the number of each commit. `value` is what the tables had at the
-    last commit that was answered, and `unknown` whether one was under way when the connection ended."""
+    """Adds one to a number, in two tables at once, and moves money; notes the number of each commit. `value` is the tables' number as of the
+    last commit that had a reply, and `unknown` whether a commit was under way when the connection ended."""
 
     def __init__(self, test: "Kept", number: int, seed: int) -> None:
         super().__init__(daemon=True)
@@ -203,7 +203,7 @@ class Kept(Patient):
             self.wait_for(writers, chance.randrange(20, 200))
             self.kill_and_start(chance, kill_keeper)
             restored = next(at for at in range(before, len(self.lines)) if self.lines[at].startswith("restored"))
-            # Of this run are the lines behind the restore before.
+            # The lines of this run come after the previous restore.
             since = max([at for at in range(restored) if self.lines[at].startswith("restored")], default=-1) + 1
             kept = [int(line.split()[1]) for line in self.lines[since:restored]]
             commit = int(self.lines[restored].split()[1])
@@ -294,7 +294,7 @@ class Folder(unittest.TestCase):
                 except Failure as failure:
                     self.assertIn("damaged", str(failure))
                 else:
-                    # A length that points behind the end can't be told from a write that did not end.
+                    # A length that is greater than the rest of the file looks like a write that did not end.
                     self.assertEqual(found, self.wanted(len(found) // 2))
 
     def test_two_keepers(self) -> None:
@@ -357,7 +357,7 @@ class Foreign(Patient):
         return list(found)
 
     def test_no_line_before_it_is_on_the_disk(self) -> None:
-        """Nothing is acknowledged where the disk takes no more."""
+        """Nothing is acknowledged if the disk is full."""
         full = mock.patch("tabd.cli.store.os.fdatasync", side_effect=OSError(28, "No space left on device"))
         with self.started("--batches") as (server, client):
             client.create_table("t", index=["val"])
@@ -375,7 +375,7 @@ class Foreign(Patient):
             self.assertEqual(self.records(client), [("t", 1, b"kept")])
 
     def test_tables_that_were_written(self) -> None:
-        """It changes neither side until it is told which counts."""
+        """It changes neither side without `--take`."""
         for foreign, wanted in (("server", b"new"), ("folder", b"kept")):
             with self.subTest(foreign), self.started("--batches") as (server, client):
                 client.create_table("t", index=["val"])
@@ -406,7 +406,7 @@ class Foreign(Patient):
             with self.assertRaisesRegex(Failure, "--batches"):
                 self.keep_for(server, lambda: True)
 
-    def test_half_a_restore_is_made_anew(self) -> None:
+    def test_half_a_restore_is_done_again(self) -> None:
         """A keeper that was ended while it restored."""
         store = Store(self.folder)
         token = store.token
@@ -440,7 +440,7 @@ class Foreign(Patient):
             self.assertEqual(self.records(other), [("t", 1, b"kept")])
 
     def test_second_attempt_at_a_dump(self) -> None:
-        """What the first attempt was told is older than the second's dump."""
+        """The events of the first attempt are older than the second's dump."""
 
         def together(taking: Taking) -> int:
             taking.wire.send(frame(("subscribe", ("table", "t", "simple"), "dump")) + frame("commit"))

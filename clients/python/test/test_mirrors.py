@@ -27,7 +27,7 @@ def holds_soon(condition: Callable[[], Any]) -> bool:
 @needs_program
 class Ends(unittest.TestCase):
     def setUp(self) -> None:
-        # So few places that a mirror that is left holds the last one.
+        # So few connections that a mirror that was not closed has the last one.
         self.server = Server("--forever", connections=2)
         self.addCleanup(self.server.kill)
         self.client = tabd.Client(self.server.port, connections=1)
@@ -87,7 +87,7 @@ class Ends(unittest.TestCase):
             self.assertIsNone(gone(), "something refers to it")
             thread.join(SECONDS)
             self.assertFalse(thread.is_alive())
-            # The server has its place for the next.
+            # The server can serve another connection.
 
     def test_a_full_server_is_asked_again(self) -> None:
         with tabd.Client(self.server.port, connections=1) as other:

@@ -46,7 +46,7 @@ class Package(unittest.TestCase):
 
     @needs_program
     def test_the_readme_runs(self) -> None:
-        """It prints what stands in the comments of its lines."""
+        """It prints what the comments of its lines say."""
         blocks = re.findall(r"^```python\n(.*?)^```", text_of("README.md"), re.M | re.S)
         printed, names = io.StringIO(), {"__name__": "readme"}
         with Server() as server, contextlib.redirect_stdout(printed):

@@ -30,10 +30,10 @@ def is_program() -> bool:
         return file.read(4) == b"\x7fELF"
 
 
-@unittest.skipUnless(os.path.isdir(PACKAGING), "the client stands alone")
+@unittest.skipUnless(os.path.isdir(PACKAGING), "the client was copied without the repository")
 class Packaging(unittest.TestCase):
     def completed(self, *words: str) -> List[str]:
-        """What bash offers for the last word."""
+        """The completions that bash offers for the last argument."""
         script = f". {PACKAGING}/tabd-cli.bash; COMP_WORDS=(\"$@\"); COMP_CWORD=$(($# - 1)); _tabd_cli; printf '%s\\n' \"${{COMPREPLY[@]}}\""
         return said("bash", "-c", script, "bash", *words).split()
 
@@ -43,7 +43,7 @@ class Packaging(unittest.TestCase):
         import manual
 
         with open(os.path.join(PACKAGING, "tabd-cli.bash"), encoding="utf-8") as file:
-            self.assertEqual(file.read(), manual.completion_of_client(), "packaging/manual.py writes it anew")
+            self.assertEqual(file.read(), manual.completion_of_client(), "packaging/manual.py generates it again")
         self.assertEqual(self.completed("tabd-cli", "re"), ["read", "restore"])
         self.assertEqual(self.completed("tabd-cli", "--server", "4000", "dr"), ["drop"])
         self.assertEqual(self.completed("tabd-cli", "watch", "--d"), ["--dump", "--detailed"])

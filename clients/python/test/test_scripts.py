@@ -11,8 +11,8 @@ from servers import Ahead, Replies, Script
 import tabd
 
 OK, ATOMIC = "ok", ("atomic", "ok")
-# A transaction's comes together with its first request. That of a level comes alone, as the transaction's does before a level, and where a wait
-# for a lock is to be given up.
+# A transaction's `begin` is sent together with its first request. It is sent separately before a level and if a wait for a lock has a time limit;
+# a level's always is.
 BEGIN = Ahead(("begin", ("tid", 7)))
 ALONE = ("begin", ("tid", 7))
 COMMIT = ("commit", ("atomic", 1))

@@ -105,10 +105,10 @@ class Client:
             self._pool.give(connection)
 
     async def _ask_once(self, request: Term) -> Any:
-        """Asks for a change. Where no reply comes it may have been made."""
+        """Asks for a change. If no reply comes, the change may have been made."""
         session = self._session()
         if session is not None:
-            # Where a transaction is open the server refuses it.
+            # The server refuses it if a transaction is open.
             await session.begin()
             return await session.ask(request)
         connection = await self._pool.take()
@@ -120,8 +120,8 @@ class Client:
             self._pool.give(connection)
 
     def transaction(self) -> Block:
-        """A transaction for as long as the block runs: `async with client.transaction() as t`. At its end it commits, or where an error leaves
-        the block, a cancellation too, nothing of it stays. `Restart` may leave the block, which `attempts` and `run` do again."""
+        """A transaction for as long as the block runs: `async with client.transaction() as t`. At the end of the block it commits. An error
+        that leaves the block, or a cancellation, undoes it. `Restart` may leave the block; `attempts` and `run` then repeat it."""
         return Block(self)
 
     def attempts(self, retries: Optional[int] = None) -> Attempts:
@@ -134,8 +134,8 @@ class Client:
         return Attempts(self, retries)
 
     async def run(self, function: Callable[[Transaction], Awaitable[Value]], retries: Optional[int] = None) -> Value:
-        """Awaits the function with a transaction, and commits; gives what it gave. Where a lock was lost it is called again, as
-        `tabd.Client.run` says."""
+        """Awaits the function with a transaction, commits, and returns the function's result. If a lock was lost the function is called
+        again, as by `tabd.Client.run`."""
         async for attempt in Attempts(self, retries, whole=True):
             async with attempt as transaction:
                 value = await function(transaction)
@@ -152,7 +152,7 @@ class Client:
     ) -> Callable[Concatenate[Owner, Given], Awaitable[Value]]: ...
 
     def transactional(self, function: Callable[..., Awaitable[Value]]) -> Callable[..., Awaitable[Value]]:
-        """A decorator of a coroutine function: its first parameter is the transaction, or of a method the one behind `self` or `cls`."""
+        """A decorator of a coroutine function whose first parameter, in a method the one after `self` or `cls`, is the transaction."""
         if not inspect.iscoroutinefunction(function):
             raise TypeError(f"{function!r} is no coroutine function: tabd.Client is the client for others")
         place = transaction_place(function)

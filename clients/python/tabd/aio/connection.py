@@ -191,7 +191,7 @@ class Connection(asyncio.Protocol):
 
     @contextlib.contextmanager
     def _request(self) -> Iterator[None]:
-        """Where no reply was taken it may still come: no other request can be asked here."""
+        """If its reply was not taken, the reply may still come: then no other request can be asked on this connection."""
         self.check()
         self._asking = True
         try:
@@ -239,7 +239,7 @@ class Connection(asyncio.Protocol):
         return self._replies.popleft()
 
     async def item(self, seconds: Optional[float] = None) -> Optional[Item]:
-        """The next event or batch, or None where none came within so many seconds. Nothing is lost where the task is cancelled."""
+        """The next event or batch, or None if none came within so many seconds. Nothing is lost if the task is cancelled."""
         if not self.told:
             self.check()
             if self._paused:
@@ -258,7 +258,7 @@ class Connection(asyncio.Protocol):
         return not poll.poll(0)
 
     def close(self) -> None:
-        """At once: who waits for a reply is told. In a forked child the parent's session goes on, and the loop is not asked."""
+        """Closes at once; a task that waits for a reply gets `Closed`. In a forked child the parent's session goes on, and the loop is not used."""
         self.closed = True
         if not self.is_ours():
             return _close(self.socket)

@@ -21,9 +21,9 @@ class Events(AsyncIterator[Event]):
         self._connect, self._names, self._dump, self._detailed = connect, names, dump, detailed
         self._connection: Optional[Connection] = None
         self._watched: Set[str] = set()
-        # The changes of a batch that are still to be told.
+        # The changes of a batch that were not returned yet.
         self._changes: Deque[Change] = collections.deque()
-        # Where it was told of an overflow it is to subscribe anew.
+        # After an overflow was returned, it has to subscribe again.
         self._lost = self._closed = False
 
     def __repr__(self) -> str:
@@ -58,7 +58,7 @@ class Events(AsyncIterator[Event]):
                 connection.told.append(End(name, "deleted"))
 
     async def next(self, seconds: Optional[float] = None) -> Optional[Event]:
-        """The next event, or None where none came within so many seconds."""
+        """The next event, or None if none came within so many seconds."""
         if self._closed:
             raise Closed("the events were closed")
         connection = await self._opened()

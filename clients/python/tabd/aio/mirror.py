@@ -25,7 +25,7 @@ class Mirror:
     Nothing is applied while a task reads without an `await` between: `read`, `all_keys` and `records` give what is there at once."""
 
     def __init__(self, client: Client, *names: str, pause: float = 0.2) -> None:
-        # The task knows the follower alone, so that it does not keep the mirror.
+        # The task refers only to the follower, so that it does not keep the mirror.
         self._follower = follower = Follower(client._connect, names, pause)
         self._where = client._address
         self._task = asyncio.get_running_loop().create_task(follower.run())
@@ -62,7 +62,7 @@ class Mirror:
 
     @property
     def live(self) -> bool:
-        """Whether each table has started, and the connection stands."""
+        """Whether each table has started, and the connection is open."""
         return self._follower.copies.live
 
     def read(self, name: str, key: Term) -> List[Record]:
@@ -183,7 +183,7 @@ class Follower:
         except Closed:
             pass
         except Exception as error:
-            # Whoever reads or waits is told.
+            # Each read and each wait raises it.
             self.fault = error
             self.closing.set()
         finally:

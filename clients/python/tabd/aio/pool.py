@@ -47,7 +47,7 @@ class _Connections:
         try:
             await asyncio.wait({waiter}, timeout=seconds)
         except BaseException:
-            # It was woken, and another has to go in its place.
+            # This task was woken, but can't go on: another one has to.
             if waiter.done():
                 self.wake()
             raise
@@ -78,7 +78,7 @@ class Pool:
         return len(self._connections.places)
 
     async def take(self) -> Connection:
-        """One that is in no use, a new one where there is none, or the next that is given back where there are as many as may be."""
+        """A connection that is not in use; if there is none, a new one; if there are as many as allowed, the next that is given back."""
         here, loop = self._here(), asyncio.get_running_loop()
         end = None if self.timeout is None else loop.time() + self.timeout
         while True:

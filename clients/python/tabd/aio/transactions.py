@@ -44,14 +44,14 @@ class Session:
         return self.levels[-1]
 
     async def begin(self) -> int:
-        """The transaction's age. It is begun where it is not."""
+        """The transaction's age. Begins the transaction if it has not begun."""
         if self.age is None:
             _, self.age = result(await self.ask("begin"))
         assert self.age is not None
         return self.age
 
     async def ask(self, request: Term) -> Any:
-        """The reply. Where the connection ends, so do all levels."""
+        """The reply. If the connection ends, all levels end."""
         with self._ends():
             return await self.connection.ask(request)
 
@@ -65,7 +65,7 @@ class Session:
         return reply
 
     async def operate(self, operation: Term) -> Any:
-        """The reply. Where none came in time, the error of the level is raised."""
+        """The reply. Raises the error of the level if none came in time."""
         if self.lock_timeout is None:
             return await self.ask_begun(operation)
         await self.begin()
@@ -96,7 +96,7 @@ class Session:
         return error
 
     def give_up(self, reply: Any) -> Exception:
-        """An abort was asked behind the operation, which may have got this reply before: it has ended one level more than the reply did."""
+        """The operation got this reply although an abort was sent after it: the abort has ended one level more than the reply did."""
         error = LockTimeout(f"no lock within {self.lock_timeout} s")
         if reply == "restart":
             self.end_all(error)
@@ -107,7 +107,7 @@ class Session:
         return error
 
     async def finish(self) -> None:
-        """Ends what a restart has left open. Where a level could not be ended, the connection is closed, which ends it."""
+        """Ends the levels that a restart did not end. If a level cannot be ended, the connection is closed, which ends it."""
         self.over = True
         if self.connection.closed or not self.connection.is_ours():
             return
@@ -123,7 +123,7 @@ class Transaction(Operations[Awaitable[List[Record]], Awaitable[List[Any]], Awai
     """An open transaction, or a level in one: `Client.transaction`, `Client.attempts` and `Client.run` make it. Its operations are as those
     of `tabd.Transaction`, and awaited one after another.
 
-    Where a task is cancelled while an operation is under way, the connection is closed, and nothing of the transaction stays."""
+    If a task is cancelled while an operation is under way, the connection is closed, which undoes the transaction."""
 
     def __init__(self, session: Session, level: int) -> None:
         self._session, self.level = session, level
@@ -311,7 +311,7 @@ class Attempts(AsyncIterator["Attempt"]):
             self._left -= 1
 
     def __del__(self) -> None:
-        """The loop was left between two attempts: the end of the connection ends its transaction."""
+        """The loop ended between two attempts: closing the connection ends its transaction."""
         session = getattr(self, "_session", None)
         if session is not None:
             session.connection.close()

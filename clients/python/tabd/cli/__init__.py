@@ -1,7 +1,7 @@
-"""The operator's programs: `python3 -m tabd`, or `tabd-cli` where it is installed.
+"""The operator's programs: `python3 -m tabd`, or `tabd-cli` if it is installed.
 
-A module has a group of them. Each adds its commands to the parser (`add`), and a command's function gets the words and gives its status.
-Errors are one line on standard error, with status 1; wrong words on the command line have status 2."""
+A module has a group of them. Each adds its commands to the parser (`add`). A command's function takes the parsed arguments and returns the
+status. Errors are one line on standard error, with status 1; wrong arguments have status 2."""
 
 from __future__ import annotations
 
@@ -39,7 +39,7 @@ def parser() -> argparse.ArgumentParser:
 
 
 def _silence() -> None:
-    """Nobody reads standard output any more: what is left in its buffer goes nowhere."""
+    """Discards the rest of standard output's buffer after its reader has closed it."""
     os.dup2(os.open(os.devnull, os.O_WRONLY), sys.stdout.fileno())
 
 

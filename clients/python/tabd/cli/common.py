@@ -12,7 +12,7 @@ import tabd
 
 from .text import Fault, parse, plain, show
 
-# What a refusal means, behind its term.
+# The meaning of a refusal, printed after its term.
 MEANINGS: Dict[Type[tabd.Refused], str] = {
     tabd.NoExists: "there is no such table",
     tabd.AlreadyExists: "there is such a table",
@@ -34,7 +34,7 @@ class Failure(Exception):
 
 
 class Usage(Exception):
-    """Ends the program with status 2: the words on the command line are wrong."""
+    """Ends the program with status 2: the arguments on the command line are wrong."""
 
 
 def explain(error: Exception) -> str:
@@ -72,7 +72,7 @@ def client_of(words: argparse.Namespace) -> tabd.Client:
 
 
 def term_of(text: str) -> Any:
-    """A term from a word of the command line."""
+    """A term from an argument of the command line."""
     try:
         return parse(text)
     except Fault as fault:
@@ -95,7 +95,7 @@ def say_object(words: argparse.Namespace, named: Dict[str, Any]) -> None:
 
 
 def number(least: int, most: int = MOST) -> Callable[[str], int]:
-    """A word's type: an integer within limits."""
+    """An argument's type: an integer within limits."""
 
     def read(text: str) -> int:
         if not text.isdecimal() or not least <= int(text) <= most:
@@ -107,7 +107,7 @@ def number(least: int, most: int = MOST) -> Callable[[str], int]:
 
 
 def fraction(least: float) -> Callable[[str], float]:
-    """A word's type: a number from this one on."""
+    """An argument's type: a number of at least `least`."""
 
     def read(text: str) -> float:
         try:
@@ -122,7 +122,7 @@ def fraction(least: float) -> Callable[[str], float]:
 
 
 class Progress:
-    """A line that is written over, on a terminal alone."""
+    """A line that is overwritten; written only to a terminal."""
 
     def __init__(self) -> None:
         self.shown = sys.stderr.isatty()

@@ -3,13 +3,13 @@
 Why a dump is the state of one commit. A transaction takes the read lock of each table, one after another. Once it has them all, no other
 transaction has a write lock in any of them, so none that has changed one of the tables can commit, and no schema command on them is done
 (`{locked, Tab}`), until this one ends. Inside it the tables are subscribed to with a dump, each of which is the table's records as they are
-committed; then it commits, and is answered N. So all dumps are the tables as they were from the moment of the last lock to commit N:
-each is the state behind commit N, and they are of one state though they were asked for one after another.
+committed; then it commits, and the reply has the commit's number N. So all dumps are the tables as they were from the moment of the last lock
+to commit N. Each is the state after commit N, so together they are one state, although they were asked for one after another.
 
-The locks are held for the round trips alone, not while records are sent: the subscriptions and the commit are sent together, and the
-server holds the records that a dump has as they were. Where the outbox has no room for a begin marker of each table, they are asked for
-again one by one, as the markers are read, and the locks are held as long. Wait-die lets the transaction have its locks at last: it
-keeps its age when it is restarted, so no other is older for good.
+The transaction has the locks only for the round trips, not while records are sent: the subscriptions and the commit are sent together, and the
+server keeps the records of a dump as they were. If the outbox has no room for a begin marker of each table, the tables are subscribed to
+again, one by one, as the markers are read; the transaction has the locks until then. By wait-die the transaction gets its locks in the end: it
+keeps its age when it is restarted, so no transaction stays older forever.
 
 The file is frames, as a connection has them, so that whoever can read the protocol can read it:
 
@@ -75,7 +75,7 @@ def lock(wire: Wire, names: Sequence[str]) -> None:
 
 
 def _is_locked(wire: Wire, name: str) -> bool:
-    """Whether the lock was had; else all locks were lost, and it begins anew, with its age."""
+    """Whether the lock was granted; if not, all locks were lost, and the transaction begins again with the same age."""
     reply = wire.ask(("read_lock_table", name))
     if reply == "restart":
         return False
@@ -89,7 +89,7 @@ def definition(wire: Wire, name: str) -> Definition:
 
 
 class Taking:
-    """Tables that are written to a file as they come. What else comes meanwhile goes to `told`."""
+    """Tables that are written to a file as they arrive. `told` is called with everything else that arrives meanwhile."""
 
     def __init__(self, wire: Wire, names: Sequence[str], out: Summed, told: Callable[[Any], None]) -> None:
         self.wire, self.names, self.out, self.other = wire, names, out, told
@@ -97,7 +97,7 @@ class Taking:
         self.counts: Dict[str, int] = {}
 
     def run(self, together: bool) -> int:
-        """The number of the commit whose state was written. `OutboxFull` where the markers had no room together."""
+        """The number of the commit whose state was written. Raises `OutboxFull` if the outbox had no room for all markers."""
         lock(self.wire, self.names)
         self.definitions = {name: definition(self.wire, name) for name in self.names}
         self.out.write(frame(("tabd_dump", 1)))
@@ -209,7 +209,7 @@ class Source:
     def __init__(self, file: IO[bytes], path: str) -> None:
         self.file, self.path, self.commit = file, path, 0
         self.tables: List[Definition] = []
-        # Where the frame of each table's records begins.
+        # The offset of the frame of each table's records.
         self.places: Dict[str, int] = {}
         self._check()
         try:
@@ -267,7 +267,7 @@ class Source:
 
 @contextlib.contextmanager
 def opened(path: str) -> Iterator[Source]:
-    """A dump's file, where it is whole; else `Failure`."""
+    """A dump's file. Raises `Failure` if it is not whole."""
     with open(path, "rb") as file:
         yield Source(file, path)
 
@@ -286,7 +286,7 @@ def exists(wire: Wire, name: str) -> bool:
 
 
 def fill(connect: Callable[[], Wire], source: Source, said: Callable[[int], None]) -> None:
-    """Makes a dump's tables and writes their records. Where it fails, and the server goes on, it deletes the tables that it made."""
+    """Creates a dump's tables and writes their records. If it fails, and the server goes on, it deletes the tables that it created."""
     for careful in (False, True):
         made: List[str] = []
         with connect() as wire:
@@ -338,7 +338,7 @@ def restore(words: argparse.Namespace) -> int:
 
 def add(command: Callable[..., argparse.ArgumentParser]) -> None:
     added = command("dump", dump, "write tables to a file, as of one commit")
-    added.add_argument("file", metavar="FILE", help="is written beside and renamed: it is whole or not there")
+    added.add_argument("file", metavar="FILE", help="the file to write; it is written under another name and renamed, so it is complete or absent")
     added.add_argument("table", metavar="TABLE", nargs="+")
     added = command("restore", restore, "make the tables of a dump again, with their records")
     added.add_argument("file", metavar="FILE", help="a dump; one that was cut or altered is refused, and nothing is changed")

@@ -1,18 +1,18 @@
 """`keep FOLDER TABLE..`: keeps tables on a disk, and makes them again for a server that comes back empty.
 
-What it does. It takes a dump of the tables as of one commit (dump.py), and writes the commits behind it to a log as they come, each whole
-(store.py). When the log has outgrown the dump, events were lost by an overflow, a table comes or goes or has another index, or the
-connection ended, it begins a new dump; the older dump and its log count until the new one is there. So the folder always has the tables as
-of one commit.
+What it does. It takes a dump of the tables as of one commit (dump.py), and writes the commits after it to a log as they arrive, each whole
+(store.py). It begins a new dump when the log is larger than the dump, an overflow lost events, a table was created or deleted or has another
+index, or the connection ended. The older dump and its log are valid until the new one is complete. So the folder always has the tables as of
+one commit.
 
 What is promised. `kept N` is printed when commit N, and all before it, are on the disk. After the server has ended, the tables are restored as of
-the last commit that was kept, or a later one. What was committed and had not reached the keeper is lost: the server doesn't wait for it.
+the last commit that was kept, or a later one. Commits that did not reach the keeper are lost: the server doesn't wait for it.
 
-Which server it is. Nothing in the protocol tells a server that was started again from the one before, and its tables may have been made again by
-other clients. So the keeper marks the server, in a table of its own: `{tabd_kept, Name, {State, Token}}`, where Name is what `--name` says,
-Token is the folder's, and State is `restoring` while it makes the tables, and `live` afterwards. A server without the folder's mark is
-another than the one that was kept: its tables are restored. Clients that wait for `live` see the tables only as of a whole commit; a keeper that
-was ended while it restored finds `restoring`, deletes what it made, and begins again.
+Which server it is. The protocol cannot distinguish a server that was started again from the one before, and other clients may have created its
+tables again. So the keeper marks the server, in a table of its own: `{tabd_kept, Name, {State, Token}}`. Name is the value of `--name`, Token is
+the folder's, and State is `restoring` while the keeper creates the tables, and `live` afterwards. A server without the folder's mark is not the
+one that was kept: its tables are restored. Clients that wait for `live` see the tables only as of a whole commit. A keeper that was ended while it
+restored finds `restoring`, deletes what it created, and begins again.
 """
 
 from __future__ import annotations
@@ -44,7 +44,7 @@ class Again(Exception):
 
 
 class Settings(NamedTuple):
-    """The words of the command line."""
+    """The options of the command line."""
 
     names: List[str]
     name: str
@@ -86,7 +86,7 @@ class Keeper:
     # The whole
 
     def run(self) -> None:
-        """Goes on until it is ended; returns by an error alone that it can't mend."""
+        """Runs until the process is ended; only an error from which it can't recover ends it."""
         noted = ""
         while True:
             try:
@@ -135,7 +135,7 @@ class Keeper:
             return ""
         raise Failure(
             f"another folder's keeper is called {self.settings.name} at this server: --name gives this one another name, "
-            "--take server puts it in the other's place"
+            "--take server replaces the other keeper"
         )
 
     def set_mark(self, side: Wire, state: str) -> None:
@@ -149,7 +149,7 @@ class Keeper:
         refuse(side.reply(told.append))
         while not any(isinstance(item, Batch) for item in told):
             if any(item[0] == "mnesia_table_event" for item in told):
-                raise Failure("the server has to run with --batches: nothing else tells where a commit ends")
+                raise Failure("the server has to run with --batches, which mark the end of each commit")
             told.append(side.next())
         refuse(side.ask(("unsubscribe", what)))
 
@@ -215,8 +215,8 @@ class Keeper:
         """Takes a dump of the tables that are there, as the next generation; gives the connection that follows it."""
         names = [name for name in self.names if exists(side, name)]
         self.definitions = {name: definition(side, name) for name in names}
-        # The dump is of another connection. As long as this one is answered, no other server is at the address: a dump of one that was started
-        # meanwhile, and has not been restored, must not take the older one's place.
+        # The dump uses another connection. As long as this one gets replies, no other server is at the address: a dump of a server that was
+        # started meanwhile, and has not been restored, must not replace the older dump.
         wire, taken = take(self._connect_anew, names, self.store.begin(), self._told, lambda: side.ask("commit"))
         self.store.begun()
         self.dump_size, self.last = taken.size, taken.commit
@@ -227,7 +227,7 @@ class Keeper:
         return wire
 
     def _connect_anew(self) -> Wire:
-        """A connection for a dump. What the one before was told is older than that dump, or in it."""
+        """A connection for a dump. The events of the connection before are older than that dump, or in it."""
         self.pending, self.pending_size, self.why = [], 0, None
         return self.connect()
 
@@ -313,7 +313,7 @@ def keep(words: argparse.Namespace) -> int:
 
 def add(command: Callable[..., argparse.ArgumentParser]) -> None:
     added = command("keep", keep, "keep tables on a disk, and restore them to a server that comes back empty")
-    added.add_argument("folder", metavar="FOLDER", help="is made where it is not there")
+    added.add_argument("folder", metavar="FOLDER", help="the keeper's folder; created if it does not exist")
     added.add_argument("table", metavar="TABLE", nargs="+")
     added.add_argument("--name", default="keep", help="the keeper's name in the server's table tabd_kept; keep without it")
     every = "write to the disk each so many milliseconds; 0, at once, without it"

@@ -23,9 +23,9 @@ WANTED_BYTES = MOST_BYTES // 4
 class Loader:
     """Sends operations in their order.
 
-    A record that a `write` had by itself may be too long or too deep for a one-shot, by a few bytes and two levels. One that is too long
-    shows; for one that is too deep `BadTerm` is raised, when requests behind it may have been done: the tables are then to be made anew, and
-    a careful loader sends one request at a time, and each operation by itself where a one-shot is refused so."""
+    A record that fits a `write` of its own may be too long or too deep for a one-shot, by a few bytes or two levels. A record that is too long
+    is found before it is sent. For one that is too deep `BadTerm` is raised, possibly after later requests were done: the tables then have to be
+    created again, by a careful loader. It sends one request at a time, and each operation by itself if a one-shot is refused so."""
 
     def __init__(self, wire: Wire, careful: bool = False, said: Callable[[int], None] = lambda count: None) -> None:
         self.wire, self.careful, self.said = wire, careful, said
@@ -74,7 +74,7 @@ class Loader:
             self._count(count)
 
     def finish(self) -> None:
-        """Sends the rest, and takes all replies."""
+        """Sends the remaining operations, and takes all replies."""
         self.flush()
         self.settle(0)
 

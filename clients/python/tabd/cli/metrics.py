@@ -54,7 +54,7 @@ def samples(body: str) -> Dict[str, float]:
 
 
 def by_table(page: Dict[str, float], metric: str) -> Optional[Dict[str, float]]:
-    """The metric's value for each table, or None where the page names none."""
+    """The metric's value for each table, or None if the page has no table."""
     found: Dict[str, float] = {}
     for name, value in page.items():
         label = LABEL.search(name) if name.startswith(metric + "{") else None

@@ -121,7 +121,7 @@ def add(command: Command) -> None:
         return added
 
     table("read", read, "the records of a key").add_argument("key", metavar="KEY", help="a term, as 7, alice, <<\"text\">> or {a, 1}")
-    table("all", everything, "all records, in the order of their keys").add_argument("--keys", action="store_true", help="the keys alone")
+    table("all", everything, "all records, in the order of their keys").add_argument("--keys", action="store_true", help="only the keys")
     table("match", match, "the records that fit a pattern").add_argument(
         "pattern", metavar="PATTERN", nargs="+", help="a tuple as '{route, _, 7}', or a term for each attribute; _ fits every term"
     )

@@ -1,15 +1,15 @@
-"""The folder of `keep`: a dump, and a log of the commits behind it.
+"""The folder of `keep`: a dump, and a log of the commits after it.
 
     token            which folder this is: the server is marked with it
     lock             is locked while a keeper runs
     G.dump           the tables as of one commit, as `tabd-cli dump` writes them; of several the one with the greatest G counts
-    G.log            the commits behind it: chunks of a length and a CRC-32 (4 bytes each, the highest first) and so many bytes, which are
+    G.log            the commits after it: chunks of a length and a CRC-32 (4 bytes each, the highest first) and so many bytes, which are
                      whole frames `{batch, N, Events}` as the server sent them
 
-A chunk is what is written and synchronized (fdatasync) at once, so a crash leaves at most one that is cut, at the end: it was acknowledged to
-no one, and is left out. A chunk with a wrong sum and something behind it is damage, and is refused.
+A chunk is what is written and synchronized (fdatasync) at once, so a crash leaves at most one truncated chunk, at the end. It was not
+acknowledged, and is skipped. A chunk with a wrong sum that is not the last one is damage, and is refused.
 
-A generation begins with its empty log, then its dump is renamed into its place, and then the older one is removed. So at each moment the
+A generation begins with an empty log; then its dump is renamed to its name, and then the older generation is removed. So at each moment the
 newest dump and its log are the tables as of the last commit that was acknowledged, or of a later one.
 
 Why files of its own and not sqlite3. The log takes the frames as they come, undecoded, and the server's own dump is the compacted state. Commits of
@@ -75,7 +75,7 @@ class Store:
         return token
 
     def _newest(self) -> int:
-        """The newest generation, 0 where there is none."""
+        """The newest generation, 0 if there is none."""
         found = [re.fullmatch(r"(\d+)\.dump", name) for name in os.listdir(self.folder)]
         return max([int(match.group(1)) for match in found if match is not None], default=0)
 

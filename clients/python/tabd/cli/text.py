@@ -6,11 +6,11 @@
     <<"text">> <<1, 2>> <<>>   binaries; text with characters over 127 is written <<"text"/utf8>>
     "ab"                       the list of the characters' codes, [97,98]
 
-In quotes a backslash begins `\\n`, `\\r`, `\\t`, `\\0`, `\\e`, `\\s`, `\\xHH` and `\\x{H..}`, or stands before the character that is meant. A
-word that begins with a capital is a variable in Erlang, so it is refused. Floats are no terms of tabd.
+In quotes a backslash begins `\\n`, `\\r`, `\\t`, `\\0`, `\\e`, `\\s`, `\\xHH` and `\\x{H..}`, or escapes the character after it. A name
+that begins with a capital is a variable in Erlang, so it is refused. tabd has no floats.
 
-`show` writes what `parse` reads back as the same term. A list is written as a list of integers, never as a string, since nothing tells the
-two apart. A binary that is printable text is written as text.
+`show` writes a text that `parse` reads back as the same term. A list of integers is never written as a string, since both are the same
+term. A binary that is printable text is written as text.
 """
 
 from __future__ import annotations
@@ -35,7 +35,7 @@ RESERVED = frozenset(
 
 
 class Fault(ValueError):
-    """A text that is no term; the message says where."""
+    """A text that is no term; the message has the column."""
 
 
 class _Parser:
@@ -51,7 +51,7 @@ class _Parser:
         self.at = found.end()
 
     def take(self, word: str) -> bool:
-        """Whether the word comes next, which is then taken."""
+        """Whether `word` comes next; if so, it is consumed."""
         self.skip()
         if not self.text.startswith(word, self.at):
             return False
@@ -99,7 +99,7 @@ class _Parser:
             self.at += 1
             return "_"
         if self.text[self.at : self.at + 1].isalpha() or self.text.startswith("_", self.at):
-            raise self.fault("a word that begins so is a variable in Erlang: write an atom in single quotes")
+            raise self.fault("a name that begins so is a variable in Erlang: write an atom in single quotes")
         raise self.fault("a term is missing" if self.at >= len(self.text) else "no term begins so")
 
     def integer(self, found: "re.Match[str]") -> int:
@@ -140,7 +140,7 @@ class _Parser:
         except TypeError:
             return Pairs(tuple(pairs))
         if len(found) < len(pairs):
-            raise self.fault("a key of the map stands twice")
+            raise self.fault("a key of the map occurs twice")
         return found
 
     def binary(self) -> bytes:
@@ -177,7 +177,7 @@ class _Parser:
         return "".join(letters)
 
     def letter(self) -> str:
-        """One character, which a backslash may spell."""
+        """One character, possibly an escape sequence."""
         letter = self.text[self.at : self.at + 1]
         if not letter:
             raise self.fault("the quote doesn't end")
@@ -202,7 +202,7 @@ def parse(text: str) -> Any:
     term = parser.term()
     parser.skip()
     if parser.at < len(text):
-        raise parser.fault("something stands behind the term")
+        raise parser.fault("there is text after the term")
     return term
 
 

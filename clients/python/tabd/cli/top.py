@@ -34,7 +34,7 @@ LEVELS = (
 
 
 def lines_of(page: Dict[str, float], before: Dict[str, float], seconds: float) -> List[str]:
-    """What is shown: totals with their rates since the page before, then the rest."""
+    """The lines to show: totals with their rates since the previous page, then the other metrics."""
     lines = [f"{'':24}{'a second':>14}{'in all':>18}"]
     for name, metric in RATES:
         if metric in page:

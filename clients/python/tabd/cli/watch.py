@@ -14,7 +14,7 @@ from .text import plain, show
 
 
 def described(event: tabd.Event) -> Tuple[str, Dict[str, Any]]:
-    """An event's word and its parts, as terms."""
+    """An event's name and its parts, as terms."""
     if isinstance(event, tabd.Begin):
         return "begin", {"table": event.table, **({} if event.records is None else {"records": event.records})}
     if isinstance(event, tabd.End):

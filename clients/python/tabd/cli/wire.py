@@ -59,7 +59,7 @@ class Dumped(NamedTuple):
 
     table: str
     records: int
-    # Where in the frame the first record begins.
+    # The offset of the first record in the frame.
     start: int
 
 
@@ -70,8 +70,8 @@ class Batch(NamedTuple):
 
 
 class Wire:
-    """A connection. `next` gives the terms of frames one after another, but a dump's frame by its beginning alone: `body` reads its bytes. A
-    batch it leaves as it is."""
+    """A connection. `next` returns the terms of frames one after another. Of a dump's frame it reads only the beginning: `body` reads its
+    records. A batch is returned as bytes."""
 
     def __init__(self, port: Union[int, str], host: str, timeout: Optional[float] = None) -> None:
         self.buffer, self.at, self.left = b"", 0, 0
@@ -124,7 +124,7 @@ class Wire:
             raise tabd.Closed("the connection has ended") from error
 
     def fill(self) -> None:
-        """Reads a piece behind what the buffer has."""
+        """Reads a piece into the buffer, after its content."""
         try:
             piece = self.socket.recv(PIECE)
         except socket.timeout as error:
@@ -153,7 +153,7 @@ class Wire:
             yield piece
 
     def next(self) -> Any:
-        """The next frame's term; or a `Batch`; or a `Dumped`, behind which `body` is to be read."""
+        """The next frame's term; or a `Batch`; or a `Dumped`, after which `body` has to be called."""
         length = int.from_bytes(self.peek(4), "big")
         head = self.peek(4 + min(len(BEGIN), length))[4:]
         if head == BEGIN:
@@ -199,12 +199,12 @@ class Wire:
         return left >= 4 and (left >= 4 + length or length > 4 * PIECE)
 
     def ask(self, request: Any) -> Any:
-        """The reply to a request; what comes before it is left out."""
+        """The reply to a request; frames that arrive before it are dropped."""
         self.send(frame(request))
         return self.reply()
 
     def reply(self, told: Optional[Callable[[Any], None]] = None) -> Any:
-        """The next reply. What comes before it goes to `told`, which may read a dump's body."""
+        """The next reply. `told` is called with what arrives before it, and may read a dump's body."""
         while True:
             term = self.next()
             if not isinstance(term, (Batch, Dumped)) and term[0] == "reply":
@@ -228,7 +228,7 @@ def dumped(head: bytes) -> Dumped:
 
 
 def _atom(data: bytes, at: int) -> Tuple[str, int]:
-    """The atom at a place, and the place behind it."""
+    """The atom at an offset, and the offset after it."""
     wide = {119: 1, 118: 2}[data[at]]
     start = at + 1 + wide
     end = start + int.from_bytes(data[at + 1 : start], "big")
@@ -236,7 +236,7 @@ def _atom(data: bytes, at: int) -> Tuple[str, int]:
 
 
 def commit_of(data: bytes, at: int) -> int:
-    """The commit's number in the payload of a batch, which is at this place."""
+    """The commit's number in the payload of a batch, which is at this offset."""
     at += len(BATCH)
     number: int = tabd.decode(b"\x83" + data[at : after_term(data, at, len(data))])
     return number
@@ -288,7 +288,7 @@ def elements(pieces: Iterable[bytes], found: Dumped) -> Iterator[bytes]:
         cut = min(skip, len(piece))
         skip -= cut
         for record in records.feed(piece[cut:]):
-            # Behind the last record is the list's tail, which is a term too.
+            # After the last record is the list's tail, which is a term too.
             if left:
                 left -= 1
                 yield record
@@ -297,7 +297,7 @@ def elements(pieces: Iterable[bytes], found: Dumped) -> Iterator[bytes]:
 
 
 def after_term(data: bytes, at: int, end: int) -> int:
-    """The place behind the term at a place, or -1 where the data ends before it."""
+    """The offset after the term at an offset, or -1 if the data ends before it."""
     left = 1
     while left:
         if at + 5 > end and at + _HEADS.get(data[at] if at < end else 0, 6) > end:
@@ -330,7 +330,7 @@ _HEADS = {97: 2, 98: 5, 104: 2, 105: 5, 106: 1, 107: 3, 108: 5, 109: 5, 110: 3, 
 
 
 def _after_rare(data: bytes, at: int, tag: int) -> Tuple[int, int]:
-    """The place behind a term's head and its bytes, and how many terms are in it."""
+    """The offset after a term's head and its bytes, and how many terms are in it."""
     if tag == 110:
         return at + 3 + data[at + 1], 0
     if tag == 107:
