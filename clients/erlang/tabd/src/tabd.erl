@@ -9,12 +9,12 @@
 %% A call does what the Mnesia Reference Manual says of its namesake, and docs/MNESIA.md has what differs. What matters most:
 %%
 %% <ul>
-%% <li>A process in a transaction has one of the pool's connections until it ends; where all are in use others wait. A process that watches
-%% tables has one of its own, for good. The server serves as many in all as its `--connections' says; with `--forever' as many at
-%% once.</li>
-%% <li>A fun is run again where it lost a lock, as in Mnesia, and whatever it returned or caught then is left out.</li>
-%% <li>An operation that is refused `no_exists' or `bad_type' has ended its transaction, or the inner one that it stands in: a fun that
-%% catches the exit can't go on. Its next operation exits with the same reason, and where it returns it is aborted for it.</li>
+%% <li>A process in a transaction has one of the pool's connections until it ends; if all are in use other processes wait. A process that
+%% watches tables has one of its own, until it ends. The server serves as many in all as its `--connections' says; with `--forever' as many
+%% at once.</li>
+%% <li>A fun is run again if it lost a lock, as in Mnesia, and whatever it returned or caught then is ignored.</li>
+%% <li>An operation that is refused `no_exists' or `bad_type' has ended its transaction, or the inner one that it belongs to: a fun that
+%% catches the exit can't go on. Its next operation exits with the same reason, and if it returns it is aborted with that reason.</li>
 %% <li>There is no dirty access: a dirty call is a transaction of one operation, in one request. In a transaction it exits with
 %% `in_transaction'.</li>
 %% <li>Floats, pids, references, ports, funs and integers over 128 bits can't be kept: `{aborted, {badterm, Operation}}'.</li>
@@ -63,7 +63,7 @@
 -type lock() :: read | write | sticky_write.
 -type event_of() :: {table, atom()} | {table, atom(), simple | detailed}.
 
-%% Restarts of a one-shot, at most: each rests for a tenth of a second at most.
+%% Restarts of a one-shot, at most. The back-off before each is a tenth of a second at most.
 -define(PATIENCE, 1000).
 
 %%% A client
@@ -79,10 +79,10 @@ start(Options) -> start(tabd, Options).
 %% @doc Starts a client under a name. The options are `port' (else 4000) and `host' (else this machine) of the server, or `socket', its
 %% socket file; `connections', how many the pool opens at most (else 8); `timeout', how many milliseconds a call waits at most for a
 %% connection to be opened (never more than 10,000), for one of the pool to be free, and for each reply; `lock_timeout', how many an
-%% operation waits for its lock, where the server runs with `--abort-waits'.
+%% operation waits for its lock, if the server runs with `--abort-waits'.
 %%
-%% It is `{error, {bad_option, Option}}' where one is not such; `{error, {already_started, Pid}}' where a client of that name was started with
-%% others, and `ok' where with the same; `{error, {no_connection, Reason}}' where there is no server, or it serves no more connections.
+%% Returns `{error, {bad_option, Option}}' for an option that is not valid; `{error, {already_started, Pid}}' if a client of that name runs with
+%% other options, and `ok' if with the same; `{error, {no_connection, Reason}}' if there is no server, or it serves no more connections.
 -spec start(atom(), options()) -> ok | {error, term()}.
 start(Name, Options) when is_atom(Name) ->
     case tabd_options:checked(Options) of
@@ -103,7 +103,7 @@ started({error, {already_started, Pid}} = Error, _, Settings) ->
 started(Error, _, _) ->
     Error.
 
-%% @doc As `start/1', for a supervisor. Connections are opened where they are needed.
+%% @doc As `start/1', for a supervisor. Connections are opened when they are needed.
 -spec start_link(options()) -> {ok, pid()} | {error, term()}.
 start_link(Options) -> start_link(tabd, Options).
 
@@ -267,7 +267,7 @@ match_object(Tab, Pattern, Lock) ->
     lock_if_write(Tab, Lock),
     match_object(Pattern).
 
-%% @doc The records that fit: of the pattern's key, or by the index of an attribute, whose value stands in the pattern.
+%% @doc The records that match: of the pattern's key, or by the index of an attribute whose value is bound in the pattern.
 -spec index_match_object(tuple(), attribute()) -> records().
 index_match_object(Pattern, Attr) ->
     is_record(Pattern),
@@ -303,7 +303,7 @@ select(Tab, Spec) -> tabd_query:select(fun operate/1, Tab, Spec).
 -spec select(atom(), ets:match_spec(), lock()) -> [term()].
 select(Tab, Spec, Lock) -> lock_if_write(Tab, Lock), select(Tab, Spec).
 
-%% @doc So many of them, and what `select/1' gives the next by; `$end_of_table' where there are none.
+%% @doc So many of them, with a continuation for `select/1'; `$end_of_table' if there are none.
 -spec select(atom(), ets:match_spec(), pos_integer(), lock()) -> tabd_query:chunk().
 select(Tab, Spec, Count, Lock) -> tabd_query:chunk(Count, select(Tab, Spec, Lock)).
 
@@ -428,7 +428,7 @@ dirty_prev(Tab, Key) -> tabd_query:prev(fun dirty/1, Tab, Key).
 -spec dirty_update_counter({atom(), term()}, integer()) -> non_neg_integer().
 dirty_update_counter({Tab, Key}, Increment) -> dirty_update_counter(Tab, Key, Increment).
 
-%% @doc Adds to the counter of the key, which is 0 where there is none and never below; its new value. A transaction that reads and writes.
+%% @doc Adds to the counter of the key and returns its new value. A missing counter is 0, and none is less. A transaction that reads and writes.
 -spec dirty_update_counter(atom(), term(), integer()) -> non_neg_integer().
 dirty_update_counter(Tab, Key, Increment) ->
     is_transaction() andalso abort(in_transaction),
@@ -516,7 +516,7 @@ table_info(Tab, Item) -> tabd_info:table(Tab, Item).
 -spec system_info(atom()) -> term().
 system_info(Item) -> tabd_info:system(Item).
 
-%% @doc The error with a text in place of its first word.
+%% @doc The error with a text instead of its name.
 -spec error_description(term()) -> term().
 error_description(Error) -> tabd_info:description(Error).
 
@@ -539,8 +539,8 @@ less(infinity) -> infinity;
 less(Timeout) -> Timeout - 20.
 
 %% @doc Sends the table's events to the caller, until it unsubscribes or ends: `{mnesia_table_event, Event}' as Mnesia's, but that its last
-%% element is `{tid, Age}'. Where the subscription ends otherwise the caller is sent `{mnesia_table_end, Tab, deleted}' or, with the
-%% connection, `{mnesia_table_end, Tab, closed}'; and `{mnesia_overflow, Commit}' where events from that commit on were lost, and all its
+%% element is `{tid, Age}'. If the subscription ends otherwise the caller receives `{mnesia_table_end, Tab, deleted}' or, with the
+%% connection, `{mnesia_table_end, Tab, closed}'; and `{mnesia_overflow, Commit}' if events from that commit on were lost, and all its
 %% subscriptions have ended.
 -spec subscribe(event_of()) -> {ok, node()} | {error, term()}.
 subscribe(What) -> subscribe_as(What, []).

@@ -35,7 +35,7 @@
     %% Of the last transaction: its age, and since when it was restarted, in milliseconds.
     age = none :: none | pos_integer(),
     restarted = none :: none | integer(),
-    %% The process that is told the events, and the level at which each table is watched.
+    %% The process that receives the events, and the level at which each table is watched.
     watcher :: pid() | undefined,
     watched = #{} :: #{atom() => simple | detailed},
     %% The caller that waits for the end marker of a table that it no longer watches.
@@ -46,12 +46,12 @@
 %% ended at the server.
 -type outcome() :: {reply, term()} | {closed, term()} | {undone, lock_timeout}.
 
-%% @doc Opens a connection. The pool is told when it is served; else the process ends with `{shutdown, {closed, Reason}}'.
+%% @doc Opens a connection. The pool is notified when the server serves it; else the process ends with `{shutdown, {closed, Reason}}'.
 -spec start(pid(), tabd_options:settings()) -> {ok, pid()}.
 start(Pool, Settings) ->
     gen_server:start(?MODULE, {Pool, Settings}, []).
 
-%% @doc The reply to a request. Behind `closed' the process has ended: no other is given it.
+%% @doc The reply to a request. After `closed' the process has ended and must not be used again.
 -spec request(pid(), term()) -> outcome().
 request(Connection, Request) ->
     Payload = term_to_binary(Request),
@@ -67,7 +67,7 @@ request(Connection, Request) ->
             {reply, {error, badterm}}
     end.
 
-%% @doc The process that used it has ended: it is given back once all that this one left open is undone.
+%% @doc The process that used it has ended: it is given back once its open transaction is undone.
 -spec orphan(pid()) -> ok.
 orphan(Connection) ->
     gen_server:cast(Connection, orphan).
@@ -140,7 +140,7 @@ send(Request, Payload, {Caller, _} = From, #state{settings = #{timeout := Limit,
     Asked = #asked{from = From, request = Request, limit = timer(Limit, reply), lock = lock_timer(Lock, Request)},
     sent(gen_tcp:send(State#state.socket, Payload), State#state{asked = Asked, watcher = Caller}).
 
-%% Where it fails otherwise, the socket's end is told too.
+%% After any other failure the end of the socket is reported too.
 sent({error, timeout}, State) -> ended_late(State);
 sent(_, State) -> {noreply, State}.
 
@@ -161,8 +161,8 @@ may_wait(Request) when is_tuple(Request) ->
 may_wait(_) ->
     false.
 
-%% Where a reply is due it may be long in coming, since its operation waits for a lock: then the server undoes all, at the
-%% connection's end.
+%% If a reply is pending it may take long, since its operation waits for a lock. Closing the connection makes the server undo
+%% everything.
 handle_cast(orphan, #state{asked = none} = State) ->
     undo(undo, State);
 handle_cast(_, State) ->
@@ -198,7 +198,7 @@ handle_info({'DOWN', _, process, _, _}, State) ->
 ended_late(State) ->
     {stop, {shutdown, {closed, timeout}}, closed(State)}.
 
-%% An abort was sent while the operation waited. Its reply comes alone, where it ended the wait; else it is the second. A one-shot's
+%% An abort was sent while the operation waited. If it ended the wait, its reply is the only one; else it is the second. A one-shot's
 %% reply is always the first.
 replied(Reply, #asked{lock = late, first = none, request = Request} = Asked, State) when Reply =/= {aborted, ?LATE}; element(1, Request) =:= transaction ->
     {noreply, State#state{asked = Asked#asked{first = {reply, Reply}}}};
@@ -233,7 +233,7 @@ answered(Last, #asked{from = From, lock = late, first = First, request = Request
 answered(Reply, #asked{from = From, request = {unsubscribe, {table, Tab, _}}}, #state{watched = Watched} = State) when
     element(1, Reply) =:= ok, is_map_key(Tab, Watched)
 ->
-    %% The end marker is still to come; no event comes behind it.
+    %% The end marker is still to come; no event comes after it.
     _ = timer(map_get(timeout, State#state.settings), {ending, Tab, From}),
     {noreply, State#state{ending = (State#state.ending)#{Tab => From}}};
 answered(Reply, #asked{from = From, request = Request}, State) ->
@@ -243,8 +243,8 @@ answer(From, Outcome, State) ->
     gen_server:reply(From, Outcome),
     {noreply, State}.
 
-%% What the replies to an operation and to the abort behind it say. The abort ended the innermost level, as it was behind the operation:
-%% where a refusal had ended one already, two are gone, and all is undone; behind a restart that level was the first.
+%% The outcome of an operation, from its reply and the reply to the abort after it. The abort ended the innermost level after the operation:
+%% if a refusal has ended a level before, two have ended, and everything is undone; after a restart that level was the first.
 outcome({reply, {aborted, nowait}}, _, transaction) -> {reply, {aborted, lock_timeout}};
 outcome(First, _, transaction) -> First;
 outcome({reply, restart}, _, _) -> {undone, lock_timeout};
@@ -282,7 +282,7 @@ ended(Tab, #state{ending = Ending} = State) ->
     end,
     State#state{watched = maps:remove(Tab, State#state.watched), ending = maps:remove(Tab, Ending)}.
 
-%% A process that watches a table is told.
+%% Notifies the process that watches tables.
 closed(#state{watcher = Watcher} = State) ->
     _ = [Watcher ! {mnesia_table_end, Tab, closed} || Tab <- maps:keys(State#state.watched)],
     lists:foldl(fun ended/2, State, maps:keys(State#state.watched)).

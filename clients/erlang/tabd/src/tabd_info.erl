@@ -85,7 +85,7 @@ system(version) ->
     end;
 system(Item) -> exit({aborted, {badarg, Item}}).
 
-%% Where others have all connections, one of them is open.
+%% If other processes have all connections, one of them is open.
 is_running() ->
     case tabd_pool:is_connected(tabd_transaction:client()) of
         true -> yes;
@@ -110,7 +110,7 @@ known(Tab) ->
             false
     end.
 
-%% @doc A text for an error, in place of its first word.
+%% @doc A text for an error, instead of its name.
 -spec description(term()) -> term().
 description({error, Reason}) -> description(Reason);
 description({aborted, Reason}) -> description(Reason);
@@ -128,13 +128,13 @@ texts() ->
         no_transaction => "Operation not allowed outside transactions",
         node_not_running => "Node not running",
         system_limit => "Some system_limit was exhausted",
-        %% Of tabd alone.
+        %% Only of tabd.
         already_started => "A client of this name was started with other options",
         bad_def => "The options of a table, or its attribute, are not such",
         bad_option => "An option of the client is unknown, or its value is not such",
         badterm => "The operation has a value that can't be kept",
         in_transaction => "Not allowed in a transaction",
-        lock_timeout => "A lock was not had in time",
+        lock_timeout => "A lock was not granted in time",
         locked => "A transaction has a lock in the table",
         no_connection => "The server can't be reached, or the connection has ended",
         no_memory => "The server has no memory left",

@@ -14,8 +14,8 @@
     lock_timeout := timeout()
 }.
 
-%% @doc Reads a port, a map or a list of options. `bad_option' has the first option that is unknown, that stands twice, whose value is not
-%% such, or that goes with no other that is given.
+%% @doc Reads a port, a map or a list of options. `bad_option' has the first option that is unknown, that occurs twice, whose value is not
+%% valid, or that can't be combined with another one.
 -spec checked(term()) -> {ok, settings()} | {error, {bad_option, term()}}.
 checked(Port) when is_integer(Port) -> checked([{port, Port}]);
 checked(Options) when is_map(Options) -> checked(maps:to_list(Options));

@@ -1,6 +1,6 @@
 %% @private
-%% The connections of a client: those in no use, and which process has which. One is opened where all are in use, up to a number; beyond it
-%% a process that wants one waits. A process that watches tables has one of its own, which is not among them.
+%% The connections of a client: those not in use, and the process that uses each other one. If all are in use another one is opened, up to a
+%% limit; beyond it a process that wants one waits. A process that watches tables has one of its own, which is not counted.
 %%
 %% The pool answers each caller itself, and sees the end of each connection: so no caller waits for a process that is no more.
 -module(tabd_pool).
@@ -31,7 +31,7 @@
 -spec start(start | start_link, atom(), tabd_options:settings()) -> {ok, pid()} | {error, term()}.
 start(Start, Name, Settings) -> gen_server:Start({local, Name}, ?MODULE, Settings, []).
 
-%% @doc A connection for the caller alone, until it gives it back or ends; and how long a one-shot may rest for its locks.
+%% @doc A connection for exclusive use by the caller, until it gives it back or ends; and how long a one-shot may back off for its locks.
 -spec take(atom()) -> {ok, pid(), timeout()} | failure().
 take(Name) -> call(Name, take).
 
@@ -95,7 +95,7 @@ handle_call(known, _, State) ->
 handle_call(is_connected, _, #state{count = Count, opening = Opening} = State) ->
     {reply, Count > length([take || {take, _} <- maps:values(Opening)]), State}.
 
-%% One that is free, a new one, or a place in the queue.
+%% A free connection, a new one, or an entry in the queue.
 serve(From, #state{free = [Connection | Free]} = State) ->
     lend(take, From, Connection, State#state{free = Free});
 serve(From, #state{count = Count, settings = #{connections := Most}} = State) when Count < Most ->

@@ -2,7 +2,7 @@
 %% What the server has no operation for: match variables, match specifications, walks and QLC. Records and keys come over the connection, and
 %% are matched here.
 %%
-%% A function takes the operation by which it asks: in the caller's transaction or dirty activity, or alone.
+%% `Ask' is the function that asks the server: in the caller's transaction or dirty activity, or in a one-shot.
 -module(tabd_query).
 
 -export([match/2, index_match/4, select/3, chunk/2, records/2, table/2]).
@@ -14,14 +14,14 @@
 -type chunk() :: {[term()], chunk_rest()} | '$end_of_table'.
 -type chunk_rest() :: {tabd_select, pos_integer(), [term()]} | '$end_of_table'.
 
-%% @doc The records that fit. A match variable, as `'$1'', takes any term, and the same one at each of its places; a map takes each map that
-%% has its pairs. The server knows neither: it is asked with `'_'' there.
+%% @doc The records that match. A match variable, as `'$1'', matches any term, and the same one at each occurrence; a map matches each map
+%% that has its pairs. The server knows neither: the request has `'_'' instead.
 -spec match(ask(), tuple()) -> [tuple()].
 match(Ask, Pattern) ->
     Wide = widened(Pattern),
     matching(Pattern, Wide, Ask({match_object, Wide})).
 
-%% @doc Those that fit: of the pattern's key, or by the index of an attribute, whose value stands in the pattern.
+%% @doc The records that match: of the pattern's key, or by the index of an attribute whose value is bound in the pattern.
 -spec index_match(ask(), atom(), tuple(), atom() | pos_integer()) -> [tuple()].
 index_match(Ask, Tab, Pattern, Attr) ->
     Position = position(Tab, Attr),
@@ -89,7 +89,7 @@ chunk(Count, Found) when length(Found) > Count ->
 chunk(_, Found) ->
     {Found, '$end_of_table'}.
 
-%% @doc All records of the table, behind a lock of it.
+%% @doc All records of the table, after a lock of the table.
 -spec records(ask(), atom()) -> [tuple()].
 records(Ask, Tab) ->
     ok = Ask({read_lock_table, Tab}),

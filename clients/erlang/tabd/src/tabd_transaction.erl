@@ -61,7 +61,7 @@ lent(Do) ->
             Reason
     end.
 
-%% @doc Asks on the transaction's connection, where the server refuses what can't be in one, or on a free one.
+%% @doc Asks on the transaction's connection, on which the server refuses what a transaction can't do; without a transaction on a free one.
 -spec ask(term()) -> tabd_connection:outcome() | {no_connection, term()} | {node_not_running, node()}.
 ask(Request) ->
     case context() of
@@ -204,8 +204,8 @@ lost(Reason, Context) ->
 
 %%% Operations
 
-%% @doc Does an operation in the caller's transaction, or in a dirty activity alone. The next one is sent behind its reply: one that was sent
-%% ahead of a restart would be done in the restarted transaction, without what came before it.
+%% @doc Does an operation in the caller's transaction, or as a one-shot in a dirty activity. The next one is sent after its reply: one that was
+%% sent before a restart would be done in the restarted transaction, without the operations before it.
 -spec operate(term()) -> term().
 operate(Request) ->
     case context() of
@@ -258,7 +258,7 @@ dirty(Operation) ->
         {aborted, Reason} -> exit({aborted, reason(Reason)})
     end.
 
-%% It rests for a tenth of a second at most before each attempt, and no abort ends that.
+%% The back-off before each attempt is a tenth of a second at most, and no abort ends it.
 in_time(Connection, Operation, Deadline) ->
     Left = max(0, Deadline - erlang:monotonic_time(millisecond)),
     case tabd_connection:request(Connection, {transaction, [Operation], max(1, min(1000, (Left + 99) div 100))}) of

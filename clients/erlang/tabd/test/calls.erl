@@ -1,5 +1,5 @@
-%% A program of Mnesia: QLC, activities, walks, indexes and dirty calls. It is compiled as it is, and for tabd by the parse transform `tabd_mnesia'
-%% alone, and prints the same on both. It shows lists sorted, since the order of keys is not Mnesia's to promise.
+%% A program of Mnesia: QLC, activities, walks, indexes and dirty calls. It is compiled as it is, and for tabd with the parse transform
+%% `tabd_mnesia', and prints the same on both. It prints lists sorted, since Mnesia promises no order of keys.
 -module(calls).
 -export([main/0]).
 -include_lib("stdlib/include/qlc.hrl").

@@ -1,4 +1,4 @@
-%% Programs of Mnesia that are compiled for tabd by the parse transform: one of this folder, and OTP's examples where they are installed.
+%% Programs of Mnesia that are compiled for tabd by the parse transform: one of this folder, and OTP's examples if they are installed.
 -module(mnesia_cases).
 
 -export([cases/0]).
@@ -108,7 +108,7 @@ tpcb() ->
         {File, _, _} -> room("tpcb", fun(Room, Port) -> tpcb(File, Room, Port) end)
     end.
 
-%% Its own words that numbers in the tables are over 128 bits are given otherwise; its balances are verified by itself, and here.
+%% Numbers of over 128 bits in its tables are replaced by the patch; it verifies its balances itself, and so does this case.
 tpcb(File, Room, Port) ->
     Patched = filename:join(Room, "mnesia_tpcb.erl"),
     Patch = io_lib:format("patch -s -o '~s' '~s' '~s'", [Patched, File, filename:join(get(here), "mnesia_tpcb.patch")]),

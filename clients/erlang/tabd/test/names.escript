@@ -4,15 +4,15 @@
 %% The table of docs/MNESIA.md, "Calls": what each name that Mnesia exports is in the client. names.escript EBIN, EBIN being the folder of the
 %% client's compiled modules.
 %%
-%% The names are those of Mnesia where it is installed; a line on standard error tells each that the rows below do not have, and each
-%% that the client has or lacks otherwise than they say. The status is 1 then.
+%% The names are those of the installed Mnesia. A line on standard error reports each name that the rows below do not have, and each that the
+%% client has or lacks contrary to its row. The status is 1 then.
 -mode(compile).
 
 main([Ebin]) ->
     true = code:add_patha(Ebin),
     Exports = [Export || {Name, _} = Export <- mnesia:module_info(exports), Name =/= module_info],
     Client = tabd:module_info(exports),
-    Faults = [{Call, "stands in no row, or in two"} || Call <- Exports, length([row || {_, Calls, _} <- rows(), lists:member(Call, Calls)]) =/= 1]
+    Faults = [{Call, "is in no row, or in two"} || Call <- Exports, length([row || {_, Calls, _} <- rows(), lists:member(Call, Calls)]) =/= 1]
         ++ [{Call, "is no name of Mnesia's"} || {_, Calls, _} <- rows(), Call <- Calls, not lists:member(Call, Exports)]
         ++ [{Call, "is otherwise in the client"} || {Is, Calls, _} <- rows(), Call <- Calls, lists:member(Call, Client) =:= (Is =:= none)],
     io:format("| Mnesia | The client | How it differs, or what to write instead |~n|---|---|---|~n"),
@@ -24,7 +24,7 @@ word(same) -> "same";
 word(differs) -> "differs";
 word(none) -> "not there".
 
-%% A name has its arities behind it.
+%% Each name with its arities.
 spelled([{Name, Arity} | Calls]) ->
     {Same, Others} = lists:splitwith(fun({Other, _}) -> Other =:= Name end, Calls),
     Arities = lists:join($,, [integer_to_list(It) || It <- [Arity | [It || {_, It} <- Same]]]),

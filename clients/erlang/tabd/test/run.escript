@@ -1,10 +1,10 @@
 #!/usr/bin/env escript
 %%! -kernel logger_level none
 %% Tests of the Erlang client: run.escript PROGRAM [CASE], PROGRAM being the built tabd. They need no more than Debian's erlang-base; a case
-%% that needs more is left out where that is not there, and a line says so.
+%% that needs more is skipped if that is not installed, and a line says so.
 %%
-%% Each `*_cases.erl' runs in a node of its own, beside the others. A line tells each case that differs; the last line is
-%% `N passed, M failed', and the status 1 where one failed. CASE is a part of the names of the cases that run.
+%% Each `*_cases.erl' runs in a node of its own, concurrently. A line reports each case that fails; the last line is
+%% `N passed, M failed', and the status is 1 if one failed. CASE is a part of the names of the cases that run.
 -mode(compile).
 
 main([Program | Part]) ->

@@ -11,7 +11,7 @@ main(Module, [Ebin, Program, Here | Part]) ->
     io:format("counted ~b ~b~n", [length(Cases) - length(Failed), length(Failed)]),
     halt(0).
 
-%% Each in a process of its own, with what it starts. A case that is left out says why.
+%% Runs a case in a process of its own, and stops the clients that it started. A case that is skipped prints the reason.
 passes(Name, Case, Names) ->
     Run = fun() ->
         [put(Key, Value) || {Key, Value} <- Names],
@@ -26,10 +26,10 @@ passes(Name, Case, Names) ->
     told(Name, Result).
 
 told(_, normal) -> true;
-told(Name, {left_out, Why}) -> io:format("~s: left out, ~s~n", [Name, Why]), true;
+told(Name, {left_out, Why}) -> io:format("~s: skipped, ~s~n", [Name, Why]), true;
 told(Name, Result) -> io:format("~s: ~p~n", [Name, Result]), false.
 
-%% Ends the case where both are not equal.
+%% Ends the case if the two are not equal.
 same(Found, Found) -> ok;
 same(Found, Wanted) -> exit({found, Found, wanted, Wanted}).
 
@@ -41,7 +41,7 @@ serve(Connections, Words) -> serve(Connections, 0, 20, Words).
 
 serve(Connections, At, Left) -> serve(Connections, At, Left, []).
 
-%% A shell stands between, which kills the server when this end of its input is closed: by `kill', or with the case that has failed.
+%% The server runs in a shell that kills it when this end of the shell's input is closed: by `kill', or with the case that has failed.
 serve(Connections, At, Left, More) ->
     case started(["--port", integer_to_list(At), "--connections", integer_to_list(Connections) | More]) of
         {<<"listening on ", Address/binary>>, Server} ->
@@ -81,14 +81,14 @@ do(Fun) ->
     {atomic, Value} = tabd:transaction(Fun),
     Value.
 
-%% A server of one connection that plays a script: each request has to come, and nothing behind it before its reply; then its reply goes
-%% out, with events before and after it where it is `{Before, Reply, After}'. `close' ends the connection in its place, and `silent' is none.
+%% A server of one connection that plays a script: each request has to arrive, and nothing after it before its reply. Then the reply is sent,
+%% with events before and after it if it is `{Before, Reply, After}'. `close' ends the connection instead, and `silent' sends no reply.
 
 script(Steps) -> script(Steps, #{}).
 
 script(Steps, Options) -> scripts([Steps], Options).
 
-%% Of several connections, each behind the one before it.
+%% As `script', for several connections, one after another.
 scripts(Scripts, Options) -> ok = tabd:start(Options#{port => scripted(Scripts), connections => 1}).
 
 %% That connection is the one of a process that watches.

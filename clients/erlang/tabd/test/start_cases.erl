@@ -1,4 +1,4 @@
-%% How a client starts, what it is told where it can't, and several clients of one node.
+%% Starts of a client, the errors of starts that fail, and several clients of one node.
 -module(start_cases).
 
 -behaviour(supervisor).

@@ -11,8 +11,8 @@ cases() ->
         {"no connection is free in time", fun none_free/0},
         {"a reply that does not come", fun no_reply/0},
         {"a subscription whose reply or end does not come", fun no_reply_to_watcher/0},
-        {"a lock that is not had in time", fun no_lock/0},
-        {"a one-shot's lock that is not had in time", fun no_lock_alone/0},
+        {"a lock that is not granted in time", fun no_lock/0},
+        {"a one-shot's lock that is not granted in time", fun no_lock_for_a_one_shot/0},
         {"a transaction that is restarted for too long", fun restarted_long/0},
         {"a reply that crosses the abort of a wait", fun crossing/0},
         {"an abort of a wait that ended more than a level", fun two_levels/0},
@@ -95,14 +95,14 @@ no_lock() ->
     Waits = fun() -> holder(), catch Wait(1), again end,
     same(tabd:transaction(Waits), {aborted, lock_timeout}),
     free(),
-    %% An inner level alone is over.
+    %% Only an inner level is aborted.
     Inner = fun() -> tabd:write({t, 2, outer}), holder(), {tabd:transaction(fun() -> tabd:write({t, 3, 3}), Wait(1) end), tabd:write({t, 4, outer})} end,
     same(tabd:transaction(Inner), {atomic, {{aborted, lock_timeout}, ok}}),
     free(),
     same(do(fun() -> tabd:all_keys(t) end), [1, 2, 4]),
     kill(Server).
 
-%% Another process has a lock of the key 1: of two transactions, that which begins behind the other is the younger.
+%% Another process locks the key 1: of two transactions, the one that begins after the other is the younger.
 holder() ->
     Self = self(),
     spawn_link(fun() -> {atomic, ok} = tabd:transaction(fun() -> tabd:write({t, 1, 1}), Self ! {inside, self()}, receive free -> ok end end), Self ! free end),
@@ -112,8 +112,8 @@ free() ->
     get(holder) ! free,
     receive free -> ok end.
 
-%% A one-shot is the youngest: it rests and starts again.
-no_lock_alone() ->
+%% A one-shot is the youngest: it backs off and starts again.
+no_lock_for_a_one_shot() ->
     {Port, Server} = serve(8, ["--forever", "--abort-waits"]),
     ok = tabd:start(#{port => Port, lock_timeout => 4000}),
     {atomic, ok} = tabd:create_table(t, []),
