@@ -7,13 +7,13 @@
 Of the documents at the top, docs/*.md and the clients' README.md: each file that is named in backticks or by a link is in the
 repository; so is each section that is named with its document, and each crate, function, type and definition (`Type::function` in
 an `impl` of that type, in a table's row that names one file in that file, and under a heading of a crate as a word of its code,
-or of tab_model's or tab_proto's); each `--option` is in the program's help, in that of `rt`, in tests/conftest.py, or in the text of a
-script that the same line names. docs/MAP.md has each file of definitions. The frames of docs/PROTOCOL.md, "Bytes", are sent as they stand there,
-and spell the terms beside them. One line tells each that differs; the last line is `N passed, M failed`, and the status 1 where
-one failed. It takes some seconds.
+or of tab_model's or tab_proto's); each `--option` is in the program's help, in that of `rt`, in tests/conftest.py, in the text of a
+script that the same line names, or, on the page of tabd-cli, in its sources. docs/MAP.md has each file of definitions. The frames of
+docs/PROTOCOL.md, "Bytes", are sent as printed, and are the encoding of the terms next to them. One line reports each fault; the last line is
+`N passed, M failed`, and the status is 1 if one failed. It takes some seconds.
 
-No word of the table in CONTRIBUTING.md, "Write", is used more often than .ci/words.tsv says. `--write` lowers its numbers to what is
-there, and `--reset` sets them.
+No word of the table in CONTRIBUTING.md, "Write", is used more often than .ci/words.tsv allows. `--write` lowers its numbers to the current
+counts, and `--reset` sets them.
 """
 
 import glob
@@ -48,8 +48,10 @@ ELSEWHERE = {
 PROTOCOL, MNESIA = "docs/PROTOCOL.md", "docs/MNESIA.md"
 # Programs whose options are theirs, where they stand before them in a line.
 OTHERS = ("erlc", "dialyzer", "pip", "mypy", "redis-server", "apt-get")
-# Where the options of the tests stand.
+# The file that has the options of the tests.
 TESTS = "tests/conftest.py"
+# A page of tabd-cli, whose options are in this folder.
+OPERATING, CLI = "docs/OPERATING.md", "clients/python/tabd/cli/"
 # Crates whose words each document of a crate may say: definitions and commands.
 SHARED = ("tab_model", "tab_proto")
 
@@ -193,6 +195,8 @@ class Document:
             self.check(path and f"\n## {' '.join(head.split())}" in read_text(path), f"no section {head!r} in {name}")
 
     def options(self, program, rt):
+        if self.path == OPERATING:
+            program += "".join(text for path, text in self.tree.texts.items() if path.startswith(CLI))
         for line in self.text.split("\n"):
             for found in OPTION.finditer(line):
                 option, before = found[0], line[: found.start()]
