@@ -1,14 +1,14 @@
 #!/usr/bin/env python3
-"""`tabd serve` beside Mnesia and Redis: the same loads on each in turn, on this machine, as rows of a table.
+"""`tabd serve` compared with Mnesia and Redis: the same loads on each in turn, on this machine, as rows of a table.
 
     beside.py PROGRAM                     as beside.py crates/tabd/out/tabd
     beside.py PROGRAM --into README.md    puts the table into the document, between the lines that name this program
 
 Needs Debian's erlang-base, erlang-mnesia, redis-server and gcc with libc6-dev: run `apt-get update`, then `apt-get install` them. Mnesia
-stands behind a server of the same frames (beside.escript); Redis keeps nothing on the disk. All have 10,000 records with values of 32
-bytes, and each connection asks and waits for the reply (beside.c). A figure is how often tabd's rate is the other's: the median of
+runs in a server of the same frames (beside.escript); Redis keeps nothing on the disk. All have 10,000 records with values of 32
+bytes, and each connection asks and waits for the reply (beside.c). A figure is tabd's rate divided by the other's: the median of
 five rounds, in each of which every server is measured once, and the least and the greatest. Other work on the machine moves them: a
-document gets figures of an idle machine alone. LOAD_MS gives the milliseconds of a run, 1,500 where it is not set, and ROUNDS the rounds.
+document gets only figures of an idle machine. LOAD_MS is the milliseconds of a run, 1,500 if it is not set, and ROUNDS the rounds.
 """
 
 import os
@@ -26,7 +26,7 @@ from frames import frame, read, spell, take  # noqa: E402
 
 MILLISECONDS = int(os.environ.get("LOAD_MS", "1500"))
 ROUNDS = int(os.environ.get("ROUNDS", "5"))
-# So many processes may want a processor, before figures go into a document.
+# At most so many other processes may run if figures go into a document.
 IDLE = 0.5
 KEYS, VALUE = 10_000, bytes(range(97, 123)) + b"abcdef"
 # A key that no request has by chance: its places are those of the keys.
@@ -152,12 +152,14 @@ def figure(ratios):
 
 
 def rows(load_program, servers):
+    """A row for each load, whose cells have a figure for each number of connections."""
     for text, load, of_redis in LOADS:
+        cells = []
         for connections in CONNECTIONS:
             rounds = [{name: rate(load_program, it, load, connections)[0] for name, it in servers.items()} for _ in range(ROUNDS)]
-            beside = [figure([it["tabd"] / it[name] for it in rounds]) for name in ("Mnesia", "Redis")]
             tabd = statistics.median(it["tabd"] for it in rounds)
-            yield f"| {text} (Redis: {of_redis}) | {connections} | {tabd:,.0f} | {beside[0]} | {beside[1]} |"
+            cells.append([f"{tabd:,.0f}", *(figure([it["tabd"] / it[name] for it in rounds]) for name in ("Mnesia", "Redis"))])
+        yield f"| {text} ({of_redis}) | {' | '.join('; '.join(it) for it in zip(*cells))} |"
 
 
 def version(*words):
@@ -165,7 +167,7 @@ def version(*words):
 
 
 def head():
-    """What was measured where."""
+    """The servers' versions, the machine, and the head of the table."""
     vsn = 'application:load(mnesia), {ok, V} = application:get_key(mnesia, vsn), io:format("~s", [V]), halt().'
     mnesia = version("erl", "-noshell", "-eval", vsn)
     redis = re.search(r"v=(\S+)", version("redis-server", "--version"))[1]
@@ -173,12 +175,12 @@ def head():
         found = re.search(r"model name\s*: (.*)", file.read())
     processor = found[1] if found else os.uname().machine
     return [
-        f"tabd's rate divided by that of Mnesia {mnesia} behind a server of the same frames, and by that of Redis {redis}, over sockets on one machine of",
-        f"{os.cpu_count()} hardware threads ({processor}), {time.strftime('%Y-%m-%d')}: {KEYS:,} records with values of {len(VALUE)} bytes. Each figure is the median of {ROUNDS}",
-        "measurements, with the least and the greatest in brackets (`bench/beside.py`).",
+        f"Each figure is tabd's rate divided by that of Mnesia {mnesia}, through a server of the same frames, or of Redis {redis}, on the same machine.",
+        f"The median of {ROUNDS} measurements is followed by the least and the greatest (`bench/beside.py`, {time.strftime('%Y-%m-%d')}).",
+        f"All use sockets on one machine of {os.cpu_count()} hardware threads ({processor}), and {KEYS:,} records with values of {len(VALUE)} bytes.",
         "",
-        "| Load | Connections | tabd, rounds a second | times Mnesia's rate | times Redis's rate |",
-        "|---|---|---|---|---|",
+        f"| Load (and Redis's commands) | tabd, rounds a second, with {CONNECTIONS[0]} and {CONNECTIONS[1]} connections | times Mnesia's rate | times Redis's rate |",
+        "|---|---|---|---|",
     ]
 
 
@@ -189,7 +191,7 @@ def put_into(path, lines):
     mark = r"(<!-- bench/beside\.py -->\n).*?(<!-- end -->\n)"
     text, count = re.subn(mark, lambda found: found[1] + "\n".join(lines) + "\n" + found[2], text, flags=re.S)
     if count != 1:
-        sys.exit(f"{path}: no place for the table")
+        sys.exit(f"{path}: no lines that name this program")
     with open(path, "w", encoding="utf-8") as file:
         file.write(text)
 
@@ -208,7 +210,7 @@ def main():
         load_program = os.path.join(folder, "beside")
         subprocess.run(["cc", "-O2", "-pthread", "-o", load_program, os.path.join(HERE, "beside.c")], check=True)
         try:
-            # A connection that was closed may have its seat for a moment yet.
+            # A connection that was closed may still be counted for a moment.
             servers["tabd"] = Framed(words[0], "serve", "--port", "0", "--connections", "64", "--forever")
             servers["Mnesia"] = Framed("escript", os.path.join(HERE, "beside.escript"))
             servers["Redis"] = Redis()
