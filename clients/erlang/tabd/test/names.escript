@@ -34,9 +34,9 @@ rows() -> same() ++ differs() ++ absent().
 
 same() ->
     [
-        {same, names([{transaction, [1, 2, 3]}, {is_transaction, 0}, {abort, 1}]), "the fun is run again where it lost a lock; in one another they are levels, 16 at most"},
+        {same, names([{transaction, [1, 2, 3]}, {is_transaction, 0}, {abort, 1}]), "the fun is run again if it lost a lock; nested ones are levels, 16 at most"},
         {same, names([{read, [1, 2, 3]}, {wread, 1}, {write, [1, 3]}, {delete, [1, 3]}, {delete_object, [1, 3]}, {index_read, 3}, {all_keys, 1}]), "`sticky_write` is `write`"},
-        {same, names([{match_object, [1, 3]}]), "what the server itself does with a pattern is under \"Patterns\""},
+        {same, names([{match_object, [1, 3]}]), "\"Patterns\" says how the server matches a pattern"},
         {same, names([{read_lock_table, 1}, {write_lock_table, 1}]), ""},
         {same, names([{add_table_index, 2}, {del_table_index, 2}, {wait_for_tables, 2}, {error_description, 1}, {stop, 0}]), ""},
         {same, names([{table, [1, 2]}]), "a key, or a value that has an index, is looked up; for other queries all records come over the connection"}
@@ -46,11 +46,11 @@ differs() ->
     [
         {differs, names([{start, [0, 1]}]), "`tabd:start(Port)`, or with the client's options; `start/0` takes them from the application's environment"},
         {differs, names([{sync_transaction, [1, 2, 3]}]), "is `transaction`, since there is one copy"},
-        {differs, names([{activity, [2, 3, 4]}]), "kinds as below; of access modules `mnesia` and `mnesia_frag` alone, which are the same"},
+        {differs, names([{activity, [2, 3, 4]}]), "kinds as below; of access modules only `mnesia` and `mnesia_frag`, which are the same"},
         {differs, names([{async_dirty, [1, 2]}, {sync_dirty, [1, 2]}, {ets, [1, 2]}]),
-            "each operation is a transaction of its own, which waits for locks; in a transaction it is, as in Mnesia, one in it"},
+            "each operation is a transaction of its own, which waits for locks; in a transaction it is, as in Mnesia, an operation of it"},
         {differs, names([{s_write, 1}, {s_delete, 1}, {s_delete_object, 1}]), "the lock is an ordinary one, and ends with the transaction"},
-        {differs, names([{lock, 2}]), "gives `ok`, where Mnesia may give a list of nodes; it takes tables and records"},
+        {differs, names([{lock, 2}]), "returns `ok`; Mnesia may return a list of nodes. It accepts tables and records"},
         {differs, names([{index_match_object, [2, 4]}]), "a write lock is taken too, which Mnesia refuses"},
         {differs, names([{select, [1, 2, 3, 4]}, {foldl, [3, 4]}, {foldr, [3, 4]}]), "the table is locked, and all its records come over the connection"},
         {differs, names([{first, 1}, {next, 2}, {last, 1}, {prev, 2}]),
@@ -58,16 +58,16 @@ differs() ->
         {differs, names([{dirty_read, [1, 2]}, {dirty_write, [1, 2]}, {dirty_delete, [1, 2]}, {dirty_delete_object, [1, 2]}, {dirty_index_read, 3},
                          {dirty_match_object, [1, 2]}, {dirty_all_keys, 1}, {dirty_index_match_object, [2, 3]}, {dirty_select, 2}, {dirty_first, 1},
                          {dirty_next, 2}, {dirty_last, 1}, {dirty_prev, 2}]),
-            "by one-shots, each a transaction in one request. It waits for locks, and in a transaction it exits with `in_transaction`, where Mnesia's goes past it. Else as the call without `dirty_`"},
+            "a one-shot, which is a transaction in one request. It waits for locks. In a transaction it exits with `in_transaction`; Mnesia's ignores the transaction. Else as the call without `dirty_`"},
         {differs, names([{dirty_update_counter, [2, 3]}]), "a transaction that reads and writes"},
         {differs, names([{create_table, [1, 2]}]), "options under \"Tables\""},
-        {differs, names([{delete_table, 1}]), "`{locked, Tab}` while a transaction has a lock in the table, where Mnesia waits"},
-        {differs, names([{clear_table, 1}]), "deletes the table and makes it again, which is no single step: in between it is not there, its subscriptions end, and it is refused as `delete_table` is"},
+        {differs, names([{delete_table, 1}]), "`{locked, Tab}` while a transaction has a lock in the table; Mnesia waits"},
+        {differs, names([{clear_table, 1}]), "deletes the table and creates it again, in two steps: in between it does not exist, its subscriptions end, and it is refused as `delete_table` is"},
         {differs, names([{table_info, 2}]),
-            "`type`, `attributes`, `index`, `size`, `arity`, `wild_pattern`, `all`, and what Mnesia says of every table with one copy in this node's memory; no `memory`, `cookie`, `version`"},
+            "`type`, `attributes`, `index`, `size`, `arity`, `wild_pattern`, `all`, and Mnesia's values for a table with one copy in this node's memory; no `memory`, `cookie`, `version`"},
         {differs, names([{system_info, 1}]),
             "`is_running`; `tables` that this client made or waited for, since the server has no list of all; `db_nodes` and the like are this node; no counters"},
-        {differs, names([{subscribe, 1}, {unsubscribe, 1}]), "tables alone, as under \"Events\"; `subscribe(What, dump)` besides"}
+        {differs, names([{subscribe, 1}, {unsubscribe, 1}]), "only tables, as under \"Events\"; `subscribe(What, dump)` is new"}
     ].
 
 absent() ->
@@ -77,11 +77,11 @@ absent() ->
             "leave it out: nothing is on a disk, and the tables are in one server"},
         {none, names([{add_table_copy, 3}, {del_table_copy, 2}, {move_table_copy, 3}, {change_table_copy_type, 3}, {change_config, 2}, {add_backend_type, 2}]),
             "leave it out: each node is a client of the server that has the tables"},
-        {none, names([{change_table_access_mode, 2}]), "say by the socket file's permissions which programs may connect"},
+        {none, names([{change_table_access_mode, 2}]), "the socket file's permissions decide which programs may connect"},
         {none, names([{activate_checkpoint, 1}, {deactivate_checkpoint, 1}, {backup, [1, 2]}, {backup_checkpoint, [2, 3]}, {restore, 2}, {traverse_backup, [4, 6]},
                       {install_fallback, [1, 2]}, {uninstall_fallback, [0, 1]}, {dump_to_textfile, 1}, {load_textfile, 1}]),
             "read the tables in one transaction that locks them, and write a file; write the records in transactions of up to 1,000 operations"},
-        {none, names([{transform_table, [3, 4]}]), "read all records, delete the table, make it with other attributes, and write the records"},
+        {none, names([{transform_table, [3, 4]}]), "read all records, delete the table, create it with other attributes, and write the records"},
         {none, names([{read_table_property, 2}, {write_table_property, 2}, {delete_table_property, 2}]), "a record in a table of the program's own"},
         {none, names([{dirty_slot, 2}]), "`dirty_all_keys/1`"},
         {none, names([{lock_table, 2}]), "`lock({table, Tab}, Kind)`"},
