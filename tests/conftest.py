@@ -24,7 +24,7 @@ def pytest_addoption(parser: pytest.Parser) -> None:
     parser.addoption("--tabd", metavar="PATH", default=BUILT, help="the program to test (default: $TABD, or crates/tabd/out/tabd)")
     parser.addoption("--rounds", type=int, default=4, help="so many rounds of test_history.py, of four seconds each (default: 4)")
     parser.addoption("--seed", type=int, default=1, help="the seed of the first round; each that follows has the next (default: 1)")
-    parser.addoption("--examples", type=int, help="so many examples of each property, made up anew (default: 40, the same in each run)")
+    parser.addoption("--examples", type=int, help="so many new examples of each property (default: 40, the same in each run)")
     parser.addoption("--wrong", action="store_true", help="also that each wrong server and program is found, in some minutes")
     parser.addoption("--gate", action="store_true", help="a case that cannot run on this program or this machine fails")
 
@@ -64,7 +64,7 @@ def pytest_collection_modifyitems(config: pytest.Config, items: List[pytest.Item
 
 
 def pytest_runtest_protocol(item: pytest.Item, nextitem: Any) -> Any:
-    """A case that has several tries passes where one of them does."""
+    """A case that has several tries passes if one of them does."""
     marker = item.get_closest_marker("tries")
     if not marker:
         return None
@@ -111,20 +111,20 @@ def plain(sanitizer: bool) -> None:
 
 @pytest.fixture
 def passed(request: pytest.FixtureRequest) -> Callable[[], bool]:
-    """Whether the case has passed, for what is looked at behind it."""
+    """Whether the case has passed, for checks after it."""
     return lambda: not request.node.stash.get(FAILED, True)
 
 
 @pytest.fixture
 def serve(tabd: str) -> Iterator[Callable[..., Server]]:
-    """Starts servers of any words, which are killed behind the case."""
+    """Starts servers with any options, and kills them after the case."""
     with contextlib.ExitStack() as stack:
         yield lambda *words, **options: stack.enter_context(Server(tabd, *words, **options))
 
 
 @pytest.fixture
 def clients(serve: Callable[..., Server], passed: Callable[[], bool], request: pytest.FixtureRequest) -> Iterator[List[Connection]]:
-    """The connections of the mark `served`. Behind a case that passes they are closed, and the server has to end by itself."""
+    """The connections of the mark `served`. After a case that passes they are closed, and the server has to end by itself."""
     mark = request.node.get_closest_marker("served")
     count, *words = mark.args
     server = serve("--connections", str(count), *words)

@@ -2,7 +2,7 @@
 
     python3 -m tests.judge FILE
 
-A line for each fault; the status is 1 where there is one.
+A line for each fault; the status is 1 if there is one.
 """
 
 import sys

@@ -1,8 +1,8 @@
-"""`tabd serve` where clients meet: at one record, in opposite orders, behind a lock that is held.
+"""`tabd serve` with contending clients: at one record, in opposite orders, for a lock that another transaction has.
 
-A session that is told to restart rests first, until the lock that it died for is free, for a tenth of a second at most; the oldest goes
-first. A one-shot's steps stand together. No contract speaks of how long anyone waits, so it is shown here, by counts and by
-bounds of time. Other work on the machine moves them, so a case that differs is run again, twice at most.
+The reply `restart` is sent after a back-off, until the lock that the transaction died for is free, for a tenth of a second at most; the oldest
+goes first. A one-shot's steps are done together. No contract says how long a session waits, so it is tested here, by counts and by
+bounds of time. Other work on the machine changes them, so a case that fails is run again, twice at most.
 """
 
 import os
@@ -23,15 +23,15 @@ served, pytestmark = pytest.mark.served, [pytest.mark.serial, pytest.mark.tries(
 
 READ = ("read", "t", 1)
 WREAD = ("wread", ("t", 1))
-# A rest ends after a tenth of a second. Where the machine does much else, it may take so many seconds longer.
+# A back-off ends after a tenth of a second. On a busy machine it may take so many seconds longer.
 LATE = 2.0
-# So long it takes at most, in the middle of so many rounds, where an end wakes who rests or waits: who isn't woken looks again
-# after twenty milliseconds.
+# The most seconds, in the median of so many rounds, until the end of a transaction wakes a session that waits or backs off. A session that is
+# not woken looks again after twenty milliseconds.
 AT_ONCE, ROUNDS = 0.005, 15
 # So long the mixed load is run.
 SECONDS = 2.0
-# So many raise one record for so many milliseconds, and most of their commits come behind another's. Where the machine takes the
-# others' processors away one goes on alone, so it is tried so often, with so many seconds between.
+# So many connections raise one record for so many milliseconds, and most of their commits come after another connection's. If the machine
+# takes the others' processors away only one goes on, so the case has so many tries, with so many seconds between.
 TAKERS, TURNS, MOST_AGAIN = 8, 500, 0.5
 TRIES, PAUSE = 15, 2.0
 # A table of so many keys, all of which a one-shot asks for so many times.
@@ -59,7 +59,7 @@ def opened(*connections):
 
 
 def resting(holder, *others):
-    """The holder has record 1; each of the others has done something and rests for it."""
+    """The holder has locked record 1; each of the others has done something and backs off for it."""
     opened(holder, *others)
     script((holder, WREAD, [("t", 1, 0)]))
     for number, other in enumerate(others, 2):
@@ -74,7 +74,7 @@ def table_of(connection):
 
 
 def received_after(connection, reply):
-    """The reply that is due, and when it came."""
+    """The pending reply, and when it came."""
     found, seconds = timed(connection.receive)
     assert found == ("reply", reply)
     return seconds
@@ -82,14 +82,14 @@ def received_after(connection, reply):
 
 @served(2)
 def test_a_restart_comes(clients):
-    """One thread drives both: the restart comes while the other's transaction is open, and the younger goes on behind it."""
+    """One thread drives both: the restart comes while the other's transaction is open, and the younger goes on after it."""
     older, younger = clients
     script((older, CREATE, ATOMIC))
     opened(older, younger)
     script((older, write(5, "a"), OK))
     reply, seconds = timed(younger.ask, ("read", "t", 5))
     assert reply == "restart"
-    between("a rest", 0.05, seconds, 0.1 + LATE)
+    between("a back-off", 0.05, seconds, 0.1 + LATE)
     script((older, "commit", ("atomic", 1)), (younger, write(6, "c"), OK), (younger, "commit", ("atomic", 2)))
 
 
@@ -109,7 +109,7 @@ def test_two_upgrades(clients):
 
 @served(3)
 def test_no_overtaking(clients):
-    """Who asks behind a request that is queued and older rests, though the lock that is held would let it pass."""
+    """A request after an older queued one backs off, though it does not conflict with the granted lock."""
     first, second, third = clients
     script((first, CREATE, ATOMIC))
     opened(first, second, third)
@@ -134,7 +134,7 @@ def test_phantom(clients):
 @served(2)
 @pytest.mark.parametrize("end", [("abort", "why"), "commit"], ids=["an abort", "a commit"])
 def test_an_end_wakes(clients, end):
-    """Who rests is told to restart as soon as the holder's transaction ends, and then goes on."""
+    """A session in back-off gets `restart` as soon as the holder's transaction ends, and then goes on."""
     holder, other = clients
     table_of(holder)
     took = []
@@ -144,12 +144,12 @@ def test_an_end_wakes(clients, end):
         took.append(received_after(other, "restart"))
         script((other, WREAD, [("t", 1, 0)]))
         assert other.ask("commit")[0] == "atomic", "commit"
-    middle("the rest", took, AT_ONCE)
+    middle("the back-off", took, AT_ONCE)
 
 
 @served(2)
 def test_a_commit_grants(clients):
-    """Who waits has its lock as soon as the holder's transaction ends."""
+    """A session that waits gets its lock as soon as the holder's transaction ends."""
     older, holder = clients
     table_of(holder)
     took = []
@@ -166,7 +166,7 @@ def test_a_commit_grants(clients):
 
 @served(3)
 def test_the_oldest_first(clients):
-    """Of two that rest for one record the older goes on first, and the younger not before its end, if it ends soon."""
+    """Of two in back-off for one record the older goes on first, and the younger not before its end, if it ends soon."""
     holder, older, younger = clients
     table_of(holder)
     early = 0
@@ -185,7 +185,7 @@ def test_the_oldest_first(clients):
 
 @served(3)
 def test_an_idle_one_is_passed(clients):
-    """The older was told to go on and does nothing: the younger goes on all the same, after a nap or two."""
+    """The older got `restart` and does nothing: the younger goes on nevertheless, after one or two sleeps."""
     holder, older, younger = clients
     table_of(holder)
     took = []
@@ -197,12 +197,12 @@ def test_an_idle_one_is_passed(clients):
         assert younger.ask(WREAD) == [("t", 1, 0)], "the younger"
         script((older, ("abort", "no"), ("aborted", "no")))
         assert younger.ask("commit")[0] == "atomic", "commit"
-    middle("the rest", took, 0.05)
+    middle("the back-off", took, 0.05)
 
 
 @served(3)
 def test_one_vanishes(clients):
-    """Who vanishes while it rests leaves, and what it held is free; the next goes on."""
+    """A client that vanishes during a back-off leaves, and its locks are released; the next one goes on."""
     holder, first, second = clients
     table_of(holder)
     resting(holder, first, second)
@@ -214,7 +214,7 @@ def test_one_vanishes(clients):
 
 @served(2)
 def test_opposite_orders(clients):
-    """One-shots of forty writes in opposite orders: a one-shot's steps stand together, so none is ever restarted."""
+    """One-shots of forty writes in opposite orders: a one-shot's steps are done together, so none is ever restarted."""
     keys = list(range(40))
 
     def write_all(connection, order):
@@ -243,7 +243,7 @@ def test_a_one_shot_is_patient(clients):
 
 @served(2)
 def test_long_answers(clients):
-    """A one-shot that is told much lets others in between its answers: another's read waits at most a quarter of it."""
+    """A one-shot with a long reply lets other requests in between its members: another's read waits at most a quarter of it."""
     asker, other = clients
     script((asker, CREATE, ATOMIC))
     for first in range(0, KEYS, 1_000):
@@ -296,7 +296,7 @@ def test_sixteen_raise(clients):
 @served(16)
 def test_mixed_load(clients):
     """Transactions and one-shots over three records, in opposite orders, some of which abort, for a while: no one-shot is
-    given up, the sum is right, and no one stands still."""
+    given up, the sum is right, and each session makes progress."""
     end, raised, longest = time.monotonic() + SECONDS, [], [0.0]
 
     def raise_one(connection, chance):
@@ -343,7 +343,7 @@ def load(tmp_path_factory):
 
 
 def again_of(server, load):
-    """Which share of the commits at one record came behind one of the same connection."""
+    """The share of the commits at one record that came after one of the same connection."""
     first = server.connect()
     script((first, CREATE, ATOMIC))
     first.close()
@@ -358,8 +358,8 @@ def again_of(server, load):
 
 @pytest.mark.tries(1)
 def test_turns_at_one_record(serve, load):
-    """Sessions that meet at one record take turns: a session whose next transaction comes at once does not have the record again and
-    again, before those who wait for it are awake."""
+    """Sessions that contend for one record take turns: a session that begins its next transaction at once does not lock the record again and
+    again, before the sessions that wait for it are awake."""
     found: List[float] = []
     while len(found) < TRIES and not any(share <= MOST_AGAIN for share in found):
         time.sleep(PAUSE if found else 0)

@@ -1,6 +1,6 @@
-"""`tabd serve --forever`, which serves as many connections at once as it is told to and never ends.
+"""`tabd serve --forever`, which serves as many concurrent connections as its option says and never ends.
 
-Each case has a server of its own: one at a port, and where the two kinds of socket may differ one at a socket file too.
+Each case has a server of its own: one at a port, and if the two kinds of socket may differ one at a socket file too.
 """
 
 import random
@@ -36,8 +36,8 @@ def server(request, tabd, tmp_path, place):
 
 @seats(8)
 @at_both
-def test_the_ninth_is_told(server):
-    """Who finds no seat is told so and closed, and the others go on; who leaves makes room."""
+def test_the_ninth_is_refused(server):
+    """A connection too many is refused and closed, and the others go on; after one has left another is served."""
     connections = [server.connect() for _ in range(8)]
     for age, connection in enumerate(connections, 1):
         script((connection, "begin", ("tid", age)))
@@ -54,7 +54,7 @@ def test_the_ninth_is_told(server):
 @seats(2)
 @at_both
 def test_a_pause(server):
-    """Who alone asks, and has asked often, is waited for with no use of a processor, and keeps its transaction meanwhile."""
+    """The server waits for the only client, which has sent many requests, without using a processor, and keeps its transaction."""
     connection = server.connect()
     script((connection, CREATE, ATOMIC), (connection, "begin", ("tid", 1)))
     for number in range(100):
@@ -68,7 +68,7 @@ def test_a_pause(server):
 
 
 def at_last(connection, request):
-    """The reply, where whoever broke off may leave later than a restarted request rests."""
+    """The reply, although a session that broke off may leave later than a restarted request backs off."""
     for _ in range(100):
         if (reply := connection.ask(request)) != "restart":
             return reply
@@ -78,7 +78,7 @@ def at_last(connection, request):
 @seats(2)
 @at_both
 def test_tables_outlive_connections(server):
-    """All have left, one in the midst of a transaction, and what was committed is there for who comes."""
+    """All have left, one during a transaction, and the next client finds what was committed."""
     first, second = server.connect(), server.connect()
     script((first, CREATE, ATOMIC), (first, ("transaction", [write(1, "a")], 0), ("atomic", [OK])))
     script((second, "begin", ("tid", 2)), (second, write(1, "b"), OK))
@@ -92,7 +92,7 @@ def test_tables_outlive_connections(server):
 
 @seats(8)
 @at_both
-def test_a_thousand_through_a_seat(server, sanitizer):
+def test_a_thousand_connections(server, sanitizer):
     """A thousand connections, one after the other, leave no thread, no descriptor and no memory."""
     for connection in (held := [server.connect() for _ in range(7)]):
         assert connection.ask("begin")[0] == "tid", "begin"
@@ -112,8 +112,8 @@ def test_a_thousand_through_a_seat(server, sanitizer):
 
 @seats(64, files=20)
 @at_both
-def test_no_descriptor_is_left(server):
-    """Where no connection can be accepted it says so, once and not at each attempt, and goes on as soon as one can."""
+def test_out_of_descriptors(server):
+    """If no connection can be accepted it prints a line, once and not at each attempt, and goes on as soon as one can."""
     connections = [server.connect() for _ in range(12)]
     time.sleep(2)
     # A descriptor that is free again may be too few for the next, so there may be a line for each connection that ends.
@@ -130,22 +130,22 @@ def test_no_descriptor_is_left(server):
 @at_both
 @pytest.mark.tries(3)
 def test_idle(server):
-    """A transaction from which nothing comes ends, with its connection, and what it held is free. Who waits for its lock, and who has
-    no transaction, is not idle, though nothing comes from either."""
+    """An idle transaction ends, with its connection, and its locks are released. A session that waits for its lock, and a session without
+    a transaction, is not idle, though nothing comes from either."""
     older, younger, mirror = server.connect(), server.connect(), server.connect()
     script((older, CREATE, ATOMIC), (mirror, watch(), HERE_OK), (older, "begin", ("tid", 1)))
     script((younger, "begin", ("tid", 2)), (younger, write(1, "b"), OK))
     assert mirror.event() == MARK, "begin marker"
     older.send(("read", "t", 1))
     assert younger.stream.read() == b"", "its end"
-    assert older.receive() == ("reply", []), "who waits"
+    assert older.receive() == ("reply", []), "the one that waits"
     script((older, write(1, "a"), OK), (older, "commit", ("atomic", 1)))
     assert mirror.event() == event(1, "a", 1), "event"
     # Half of a request, and no transaction.
     mirror.socket.sendall(frame("begin")[:5])
     time.sleep(2.5)
     mirror.socket.sendall(frame("begin")[5:])
-    assert mirror.receive() == ("reply", ("tid", 3)), "who has none"
+    assert mirror.receive() == ("reply", ("tid", 3)), "the one without a transaction"
     script((mirror, "commit", ("atomic", 2)), (older, "begin", ("tid", 4)), (older, "commit", ("atomic", 3)))
     server.is_stopped("tabd: session 2 was idle\n")
 
@@ -163,7 +163,7 @@ def test_a_server_that_is_stopped(server):
         server.process.send_signal(sent)
         time.sleep(0.2)
     script((younger, write(1, "c"), OK), (younger, "commit", ("atomic", 1)), (quiet, "begin", ("tid", 3)))
-    assert older.receive() == ("reply", [("t", 1, "c")]), "who waited"
+    assert older.receive() == ("reply", [("t", 1, "c")]), "the one that waited"
     server.is_stopped()
 
 
@@ -171,14 +171,14 @@ def test_a_server_that_is_stopped(server):
 @at_both
 @pytest.mark.tries(3)
 def test_a_reader_that_takes_nothing(server):
-    """Who reads nothing for so long has left, so that its seat is free."""
+    """A client that reads nothing for so long is disconnected, so that another can be served."""
     reader, writer = server.connect(small=True), server.connect()
     script((reader, CREATE, ATOMIC), (reader, watch(), HERE_OK))
     for number in range(400):
         script((writer, ("transaction", [write(number % 5, b"v" * 4000)], 0), ("atomic", [OK])))
     other, found = server.seated()
-    assert found[0] == "tid", "the seat"
-    # It says so once the seat is free.
+    assert found[0] == "tid", "another is served"
+    # It prints the line once another can be served.
     assert server.log() == "tabd: session 1 was idle\n", "what it said"
     server.is_stopped()
 
@@ -186,7 +186,7 @@ def test_a_reader_that_takes_nothing(server):
 @seats(2, "--log", "--outbox", "16")
 @at_both
 def test_a_log(server):
-    """Each start, end, overflow and refusal of a seat has a line."""
+    """Each start, end and overflow of a session, and each refusal of a connection, has a line."""
     reader = server.connect(small=True)
     assert server.log() == "tabd: session 1 has started\n", "a start"
     writer = server.connect()
@@ -209,8 +209,8 @@ def test_a_log(server):
 
 @seats(3)
 @at_both
-def test_broken_off_behind_a_wait(server):
-    """Who breaks off while it waits has left at once, also where a further request stands unread, and what it held is free."""
+def test_broken_off_during_a_wait(server):
+    """A client that breaks off while it waits leaves at once, also if it has sent a further request, and its locks are released."""
     older, younger, third = server.connect(), server.connect(), server.connect()
     script((older, CREATE, ATOMIC), (older, "begin", ("tid", 1)), (older, write(2, "a"), OK))
     script((younger, "begin", ("tid", 2)), (younger, write(1, "b"), OK))
@@ -220,15 +220,15 @@ def test_broken_off_behind_a_wait(server):
     waits(older)
     older.break_off()
     script((third, "begin", ("tid", 3)))
-    assert at_last(third, ("wread", ("t", 2))) == [], "what it held"
+    assert at_last(third, ("wread", ("t", 2))) == [], "its lock is released"
     script((younger, "commit", ("atomic", 1)))
     server.is_stopped()
 
 
 @seats(2)
 @at_both
-def test_half_closed_behind_a_wait(server):
-    """Who sends nothing more while it waits, with a further request unread, has not broken off: it is told both replies."""
+def test_half_closed_during_a_wait(server):
+    """A client that half-closes while it waits, after a further request, has not broken off: it gets both replies."""
     older, younger = server.connect(), server.connect()
     script((older, CREATE, ATOMIC), (older, "begin", ("tid", 1)), (younger, "begin", ("tid", 2)), (younger, write(1, "b"), OK))
     older.send(("read", "t", 1))
@@ -259,7 +259,7 @@ def held(server):
 @seats(2, "--abort-waits")
 @at_both
 def test_an_abort_ends_a_wait(server):
-    """It is answered alone, and ends one level. What it drops is asked for no more; the next operation waits as before."""
+    """Only the abort is answered, and it ends one level. The dropped request is not queued any more; the next operation waits as before."""
     older, younger = held(server)
     script((older, ABORT, ABORTED))
     older.send(("read", "t", 1))
@@ -276,12 +276,12 @@ def test_an_abort_ends_a_wait(server):
 @seats(2, "--abort-waits")
 @at_both
 def test_an_abort_in_the_same_piece(server):
-    """Of what came at once the abort behind the operation ends its wait, and what comes behind that is answered."""
+    """In one piece, the abort after the operation ends its wait, and the requests after the abort are answered."""
     older, younger = held(server)
     script((older, ABORT, ABORTED))
     older.send(("read", "t", 2), ("read", "t", 1), ABORT, "begin")
     assert [older.receive()[1] for _ in range(3)] == [[], ABORTED, ("tid", 3)], "the replies"
-    # Behind one that does not wait it is answered behind it.
+    # An abort after an operation that does not wait is answered after it.
     older.send(("read", "t", 2), ABORT)
     assert [older.receive()[1] for _ in range(2)] == [[], ABORTED], "the replies"
     script((younger, "commit", ("atomic", 1)))
@@ -289,8 +289,8 @@ def test_an_abort_in_the_same_piece(server):
 
 
 @seats(2, "--abort-waits")
-def test_others_are_answered_behind(server):
-    """Another request behind a wait is answered behind it, and so is an abort behind that one."""
+def test_others_are_answered_after_a_wait(server):
+    """Another request after an operation that waits is answered after it, and so is an abort after that request."""
     older, younger = held(server)
     older.send(("read", "t", 2), ABORT)
     waits(older)
@@ -300,8 +300,8 @@ def test_others_are_answered_behind(server):
 
 
 @seats(2)
-def test_an_abort_is_answered_behind(server):
-    """Without the word an abort is answered behind what waits."""
+def test_an_abort_is_answered_after_a_wait(server):
+    """Without the option an abort is answered after the operation that waits."""
     older, younger = held(server)
     older.send(ABORT)
     waits(older)
@@ -312,7 +312,7 @@ def test_an_abort_is_answered_behind(server):
 
 @seats(3, "--abort-waits")
 def test_an_abort_ends_a_one_shot(server):
-    """A one-shot that waits, for a younger's lock behind an older's, is given up."""
+    """A one-shot that waits, for a younger transaction's lock after an older one's, is given up."""
     first, one_shot, younger = server.connect(), server.connect(), server.connect()
     script((first, CREATE, ATOMIC), (first, "begin", ("tid", 1)), (first, write(1, "a"), OK))
     one_shot.send(("transaction", [write(1, "b"), write(2, "b")], 1000))
@@ -327,15 +327,15 @@ def test_an_abort_ends_a_one_shot(server):
 
 @seats(2, "--abort-waits")
 @at_both
-def test_an_abort_beside_a_commit(server):
-    """An abort comes about when the lock is free: the operation is answered, and the abort behind it, or the abort alone."""
+def test_an_abort_at_a_commit(server):
+    """An abort comes about when the lock is free: the operation is answered, and the abort after it, or only the abort."""
     chance = random.Random(1)
     older, younger = server.connect(), server.connect()
     script((older, CREATE, ATOMIC))
     for turn in range(200):
         script((older, "begin", ("tid", 2 * turn + 1)), (younger, "begin", ("tid", 2 * turn + 2)), (younger, write(1, turn), OK))
         older.send(("read", "t", 1))
-        # Past the first nap, in which no abort is heard.
+        # After the first sleep, in which an abort is not noticed.
         time.sleep(0.03)
         younger.send("commit")
         time.sleep(chance.random() * 0.0005)

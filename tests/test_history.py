@@ -1,8 +1,8 @@
-"""`tabd serve` under clients that meet: the whole run is judged by what they were told.
+"""`tabd serve` with concurrent clients: the whole run is judged by their logs.
 
-A round plays the clients of game.py for some seconds, and judging.py looks for a run of these transactions alone that explains all that was told.
-A round that fails leaves its record, which `python3 -m tests.judge FILE` judges again. With `--wrong` each wrong server of standin.py stands
-between in some shorter rounds, and has to be found.
+A round plays the clients of game.py for some seconds, and judging.py looks for a serial run of these transactions that explains all logs.
+A round that fails leaves its record, which `python3 -m tests.judge FILE` judges again. With `--wrong` the clients of some shorter rounds use
+each wrong server of standin.py, which has to be found.
 """
 
 import os
@@ -17,7 +17,7 @@ from tests.lib.standin import WRONG, DropsAnEvent, Wrong
 
 TOP = os.path.dirname(os.path.dirname(os.path.abspath(__file__)))
 ROUND, TRIES, CONNECTIONS = 4.0, 3, 44
-# Of a wrong server the rounds are longer and longer: where the machine does much else, little happens in one.
+# The rounds with a wrong server get longer: on a busy machine little happens in one.
 ROUNDS = [1.2, 4.0, 8.0]
 
 
@@ -38,8 +38,8 @@ class Rounds:
         return self.start(*map(str, words))
 
     def faults(self, seed, seconds=ROUND, between=None):
-        """Of a round. Behind a wrong server nothing is given up: that one counts on a reply to each request. Undecided where the recorders
-        both missed something."""
+        """The faults of a round. With a wrong server no wait is aborted, since it relies on a reply to each request. Undecided if both
+        recorders missed something."""
         with self.serve(seed) as server:
             try:
                 game = Game(between(server.place) if between else server.place, seed, seconds, between is None)
@@ -57,7 +57,7 @@ class Rounds:
 
 
 def fill(server):
-    """The connections that are left, so that the server ends by itself."""
+    """Uses the remaining connections, so that the server ends by itself."""
     for _ in range(CONNECTIONS):
         try:
             server.connect().close()

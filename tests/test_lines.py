@@ -1,6 +1,6 @@
 """The built program over command lines and sessions: exit status, standard output and standard error.
 
-What stands between the proved function `run` and the operating system has no contract: the words of the process, its
+The code between the proved function `run` and the operating system has no contract: the arguments of the process, its
 streams, its status. Expected values are written here by hand; test_streams.py has the streams that another program made.
 """
 
@@ -24,7 +24,7 @@ LITTLE = 64 * 1_048_576
 FOR_A_MAP = 48 * 1_048_576
 ASKED, CLOSED = frame((1, "join")), DEVICE + b"tabd: a standard stream is closed\n"
 
-# Words, the status, and what standard output and standard error begin with; where a text is empty, nothing stands there.
+# Arguments, the status, and the beginnings of standard output and standard error; if a text is empty, the stream has to be empty.
 WORDS: List[Any] = [
     ([], 2, b"", b"error: "),
     (["nosuch"], 2, b"", b"error: "),
@@ -89,7 +89,7 @@ def begins(count):
 
 
 def used_up():
-    """The limits of levels and of operations, both reached: a begin is told the first, and once a level is free the other."""
+    """The limits of levels and of operations, both reached: the reply to a begin is the first, and after a level has ended the other."""
     read, levels, operations = ("read", "t", 1), 16, 1000
     limit = {what: (1, ("error", ("system_limit", what))) for what in ("nesting", "operations")}
     children = levels - 1
@@ -102,7 +102,7 @@ def used_up():
 
 
 def watched(count):
-    """64 sessions watch as many commits; all but the last take each batch, and the last is told of its overflow."""
+    """64 sessions watch as many commits; all but the last take each batch, and the last gets its overflow."""
     sessions, last = range(1, 65), 64
     asked: List[Term] = [(session, "join") for session in sessions] + [(1, ("create_table", "t", []))]
     told: List[Term] = [(session, "ok") for session in sessions] + [(1, ("atomic", "ok"))]
@@ -146,8 +146,8 @@ def nested(levels):
 
 
 def odd_payloads():
-    """What is no request is told so: as no command where it is a term, however long, and as no term where it is none, however
-    deep. What follows is served."""
+    """Payloads that are no request are refused: as no command if it is a term, however long, and as no term if it is none, however
+    deep. The requests after them are served."""
     binary = b"\x83m" + (LONGEST - 6).to_bytes(4, "big") + bytes(LONGEST - 6)
     lists, tuples = b"\x83" + b"\x6c" * (LONGEST - 1), b"\x83" + b"h\x01" * ((LONGEST - 1) // 2)
     no_term, no_command = (0, ("error", "badterm")), (0, ("error", "badcommand"))
@@ -179,7 +179,7 @@ def is_told(wanted, found):
 
 
 @pytest.mark.parametrize("words, status, out, err", WORDS, ids=[" ".join(map(str, words)) or "none" for words, *_ in WORDS])
-def test_words(tabd, words, status, out, err):
+def test_arguments(tabd, words, status, out, err):
     found = run(tabd, words, stdin=subprocess.DEVNULL, stdout=subprocess.PIPE)
     assert found[0] == status and is_told(out, found[1]) and is_told(err, found[2]), found
 

@@ -1,7 +1,7 @@
-"""The memory that `tabd serve` holds for what its clients were told.
+"""The memory that `tabd serve` uses for its replies and events.
 
-What is read is shared with the table: what the journal's entries were told, and what waits in an outbox, takes little beside the table, and is
-given back when the last of them lets it go; what is not shared finds no memory where the system gives none. bench/memory.py measures more of
+Replies share their records with the table: the replies in the journal's entries, and the items in an outbox, take little compared with the table,
+and are freed with their last owner. A request that needs memory is refused if the system has none. bench/memory.py measures more of
 it. Each case has a server of its own.
 """
 
@@ -48,7 +48,7 @@ pytestmark = pytest.mark.serial
 
 @pytest.fixture
 def held(tabd, request, passed, plain):
-    """Of the words of the mark `words`. Behind a case that passes it has said nothing."""
+    """A server with the options of the mark `words`. After a case that passes it has printed nothing."""
     mark = request.node.get_closest_marker("words")
     with Held(tabd, *(mark.args if mark else ())) as server:
         yield server
@@ -61,14 +61,14 @@ EVEN = list(map(halved, range(0, 20_000, 2)))
 FULL = pytest.mark.words("--journal", "16")
 # Thirty megabytes.
 LONG, MANY = long_record(100_000), 300
-# A bound in kilobytes, and a table with what a client makes the server hold, made when they are needed: one that copies what it tells
-# holds more than 150,000 in each, one that builds an item before it sends it some 30,000 in each that is on its way, one whose journal copies its rows some
-# 70,000, one whose maps keep room for entries that don't come some 38,000 in "rows of a server", and one whose journal counts
-# entries alone some 225,000 in "operations in the journal".
+# A bound in kilobytes, and a table with a client's requests, made when they are needed. Wrong servers use more: one that copies its replies more
+# than 150,000 in each case, one that builds an item before it sends it some 30,000 in each that is on its way, one whose journal copies its rows some
+# 70,000, one whose maps reserve room for entries that don't come some 38,000 in "rows of a server", and one whose journal limits
+# only entries some 225,000 in "operations in the journal".
 CASES = [
     pytest.param(30_000, lambda: (table(long_record(MEGABYTE), 1), long_reads(1, 200)), id="reads of a long record"),
     pytest.param(30_000, lambda: (table(small_record, 20_000), whole_reads(ALL_KEYS, KEYS, 300)), id="all keys"),
-    pytest.param(30_000, lambda: (table(small_record, 20_000), whole_reads(ALL_KEYS, KEYS, 300, True)), id="all keys behind a write"),
+    pytest.param(30_000, lambda: (table(small_record, 20_000), whole_reads(ALL_KEYS, KEYS, 300, True)), id="all keys after a write"),
     pytest.param(30_000, lambda: (table(small_record, 20_000), whole_reads(ALL_RECORDS, RECORDS, 100)), id="match_object of all"),
     pytest.param(30_000, lambda: (table(halved, 20_000, options=INDEXED), whole_reads(HALF, EVEN, 300)), id="match_object of half"),
     pytest.param(30_000, lambda: (table(halved, 20_000, options=INDEXED), whole_reads(BY_INDEX, EVEN, 300)), id="index_read of half"),
@@ -85,7 +85,7 @@ CASES = [
 
 @pytest.mark.parametrize("bound, case", CASES)
 def test_holds(held, bound, case):
-    """So many kilobytes at most beside the table."""
+    """At most so many kilobytes in addition to the table."""
     make, hold = case()
     alone, all_of = measured(held, make, hold)
     assert all_of - alone <= bound, "kilobytes"
@@ -109,7 +109,7 @@ def test_the_last_lets_go(held):
 
 
 def one_round(client, reader, mirror, record, outbox_first):
-    """A record is written, read, dumped, and told as the old record of an event; then the table has it no more."""
+    """A record is written, read, dumped, and sent as the old record of an event; then it is deleted."""
     read = ("read", "t", 1)
     script((client, ("transaction", [("write", record)], 0), ("atomic", [OK])))
     transaction(reader, [read] * 10, size_of([record]))
@@ -132,7 +132,7 @@ def empty_outbox(mirror, record):
     assert mirror.event() == END, "end marker"
 
 
-# What the system gives a server beside what it has: some of the writes below, and not all of them.
+# The memory that the server may use in addition: enough for some of the writes below, and not for all.
 ROOM = 60_000_000
 
 
@@ -147,8 +147,8 @@ def writes_until_refused(client):
 
 
 def test_no_more_memory(held):
-    """A write that finds no memory is told so. Aborted, its transaction gives back what it held: others are served, and nothing has
-    changed. With more memory it is made."""
+    """A write without memory is refused. The abort of its transaction frees its memory: others are served, and nothing has
+    changed. With more memory the write is done."""
     client, other = held.connect(), held.connect()
     script((client, CREATE, ATOMIC))
     resource.prlimit(held.process.pid, resource.RLIMIT_AS, (held.kilobytes("VmSize") * 1024 + ROOM, resource.RLIM_INFINITY))

@@ -1,4 +1,4 @@
-"""`tabd serve --metrics`: the counters of its page beside what its clients did and were told."""
+"""`tabd serve --metrics`: the counters of its page, compared with its clients' requests and replies."""
 
 import random
 import socket
@@ -16,7 +16,7 @@ PATIENCE = 2
 
 @pytest.fixture
 def server(tabd, request, passed):
-    """Of the words of the mark `words`, for four clients. Behind a case that passes it has said nothing."""
+    """A server with the options of the mark `words`, for four clients. After a case that passes it has printed nothing."""
     mark = request.node.get_closest_marker("words")
     with Metered(tabd, 4, *(mark.args if mark else ())) as server:
         yield server
@@ -25,7 +25,7 @@ def server(tabd, request, passed):
 
 
 def test_each_is_counted(server):
-    """One thing after the other, and each counter beside it."""
+    """One request after another, and the counters after each."""
     first, second, mirror = server.connect(), server.connect(), server.connect()
     script((first, CREATE, ATOMIC), (mirror, watch(), HERE_OK))
     server.has(sessions=3, sessions_started_total=3, tables=1, records=0, commits_total=0, journal_entries=2, items_sent_total=1)
@@ -51,7 +51,7 @@ def test_waits_and_restarts(server):
     waits(older)
     server.has(waits_total=1, restarts_total=0, open_transactions=2, commits_total=0)
     script((younger, "commit", ("atomic", 1)))
-    assert older.receive() == ("reply", [("t", 1, "b")]), "who waits"
+    assert older.receive() == ("reply", [("t", 1, "b")]), "the one that waits"
     script((younger, ("transaction", [write(1, "c")], 0), ("aborted", "nomore")))
     server.has(waits_total=1, restarts_total=1, given_up_total=1, open_transactions=1, commits_total=1, aborts_total=1)
     script((younger, "begin", ("tid", 4)), (younger, "begin", ("tid", 4)), (younger, write(1, "c"), "restart"), (younger, "commit", ("atomic", 2)))
@@ -91,7 +91,7 @@ def test_overflows(server):
 
 
 def test_many_clients(server):
-    """Four at once, at three records: each counter is the sum of what they were told."""
+    """Four concurrent clients, at three records: each counter is the sum over their replies."""
     clients = [server.connect() for _ in range(4)]
     script((clients[0], CREATE, ATOMIC))
     sums = [dict(commits_total=0, aborts_total=0, given_up_total=0) for _ in clients]
@@ -132,9 +132,9 @@ def test_other_requests(server):
     silent = socket.create_connection(("127.0.0.1", server.pages))
     begun = time.monotonic()
     server.page()
-    assert time.monotonic() - begun <= 2 * PATIENCE, "it waits for who says nothing"
+    assert time.monotonic() - begun <= 2 * PATIENCE, "it waits for a silent client"
     silent.close()
-    assert server.connect().ask("begin") == ("tid", 1), "a client beside"
+    assert server.connect().ask("begin") == ("tid", 1), "another client"
 
 
 def test_ends_by_itself(tabd, serve):

@@ -1,7 +1,7 @@
-"""Properties, for examples that hypothesis makes up, and shrinks where one does not hold.
+"""Properties, for examples that hypothesis generates, and shrinks if one fails.
 
-A replay is deterministic, also where sessions wait and are restarted, so each example is one run of some sessions in a program that goes on. What
-it is told is compared with a model (sessions.py). Each property has a fault planted in its model, which has to be found and shrunk. The examples
+A replay is deterministic, also if sessions wait and are restarted, so each example is one run of some sessions in a program that goes on. Its
+replies are compared with a model (sessions.py). Each property has a fault planted in its model, which has to be found and shrunk. The examples
 are the same in each run, and few; `--examples N` makes up N others.
 """
 
@@ -88,7 +88,7 @@ def test_a_planted_map_is_found(replay: Replay) -> None:
 
 
 def of_client(term: Term) -> Any:
-    """A map is a dict there, or pairs where its keys can't be one's."""
+    """The client's term: a map is a dict, or pairs if its keys can't be a dict's."""
     if isinstance(term, Map):
         pairs = tuple((of_client(key), of_client(value)) for key, value in term)
         try:
@@ -144,7 +144,7 @@ def test_a_planted_order_is_found(replay: Replay) -> None:
 
 
 def check_sessions(replay: Replay, count: int, asked: List[Step], model: Callable[..., Sessions] = Sessions) -> None:
-    """The replies to steps behind a begin of each, and the tables behind them once all have left."""
+    """Checks the replies to steps after a begin of each session, and the tables after all have left."""
     replay.fresh(count)
     asked = [*((who, "begin") for who in range(count)), *asked]
     looks = ("transaction", [("match_object", (tab, "_", "_", "_")) for tab in OPTIONS], 0)
@@ -156,7 +156,7 @@ def check_sessions(replay: Replay, count: int, asked: List[Step], model: Callabl
 
 
 @given(asked=STEPS)
-def test_a_session_alone(replay: Replay, asked: List[Step]) -> None:
+def test_one_session(replay: Replay, asked: List[Step]) -> None:
     check_sessions(replay, 1, asked)
 
 
@@ -166,7 +166,7 @@ def test_sessions_that_meet(replay: Replay, asked: List[Step]) -> None:
 
 
 class KeepsAChild(Sessions):
-    """A child's changes stay where it is aborted."""
+    """A child's changes stay if it is aborted."""
 
     def done(self, session: Session, move: Term) -> Term:
         if len(self.alone(session).saved) > 1 and move[0] == "abort":
@@ -186,7 +186,7 @@ class LosesAReadLock(Sessions):
 
 
 class RestartsForAYounger(Sessions):
-    """Who meets a younger one does not wait."""
+    """A transaction that meets a younger one does not wait."""
 
     def waits(self, session: Session, opposed: List[int]) -> bool:
         return False
@@ -204,7 +204,7 @@ class GrantsARetry(Sessions):
 
 @pytest.mark.parametrize("model, most", [(KeepsAChild, 4), (LosesAReadLock, 2), (RestartsForAYounger, 2), (GrantsARetry, 3)])
 def test_a_planted_session_is_found(replay: Replay, model: Callable[..., Sessions], most: int) -> None:
-    """In so many steps at most behind the begins."""
+    """In at most so many steps after the begins."""
     found = least(MEETING_STEPS, lambda asked: check_sessions(replay, 3, asked, model))
     assert len(found) <= most, found
 
@@ -243,7 +243,7 @@ def test_a_planted_option_is_found(replay: Replay) -> None:
 
 
 def check_outboxes(replay: Replay, asked: List[Step], model: Callable[..., Outboxes] = Outboxes) -> None:
-    """The replies; and a mirror, that follows the items alone, ends with the tables."""
+    """Checks the replies; and a mirror that uses only the items ends with the tables."""
     replay.fresh(WATCHERS + 1)
     asked = [*asked, *[(who, "take") for who in range(1, WATCHERS + 1) for _ in range(ROOM + 2)]]
     found = replay.ask(asked)
@@ -262,7 +262,7 @@ def test_subscriptions_and_mirrors(replay: Replay, asked: List[Step]) -> None:
 
 
 class NumbersAnOverflowLate(Outboxes):
-    """By the commit behind the first of which nothing was told."""
+    """Its number is that of the commit after the first whose events were lost."""
 
     def put(self, watcher: Any, item: Term, number: int) -> None:
         super().put(watcher, item, number + (item[0] == "batch"))
@@ -286,7 +286,7 @@ def test_a_planted_outbox_is_found(replay: Replay, model: Callable[..., Outboxes
 
 
 def check_pieces(replay: Replay, pieces: Any, is_read: Callable[[int, Set[int]], bool] = lambda *_: True) -> None:
-    """Writes in one transaction, cut at these places of its bytes. Each frame is answered, or those that are read with what is planted."""
+    """Writes in one transaction, cut at these offsets of its bytes. Each frame is answered, or those that are read with the planted fault."""
     keys, cuts = pieces
     replay.fresh(1)
     each = [replay.frames([(0, what)]) for what in ("begin", *(("write", ("t", key, 0, 0)) for key in keys))]

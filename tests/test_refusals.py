@@ -1,12 +1,12 @@
-"""The replay with one allocation refused, each in turn: a step that is told `no_memory` is asked again.
+"""The replay with one allocation refused, each in turn: a step with the reply `no_memory` is sent again.
 
 Each stream of streams.py, but those that take a thousand operations and those that are damaged, is asked frame by frame, once
-for each allocation that it makes: with the nth refused. What is answered `{error, no_memory}` is asked again at once, and then
-all replies are the stream's. A run may end with status 1 and its line instead where memory was refused at the start or for the
-frame itself, behind the replies to all earlier frames. A one-shot uses up an age, so each of one_shots.py has runs of its own, with a probe
-behind it: it left no level, no lock, no request and no change. On a connection each larger allocation is refused, so that a long frame finds
-no memory: it is answered so, and the session goes on. No contract ties an answer to memory that was refused, so this is where it is seen.
-With `--wrong` the program is each of a few wrong ones, which end by themselves where they are refused memory, and each has to be found in
+for each allocation that it makes: with the nth refused. A request with the reply `{error, no_memory}` is sent again at once, and then
+all replies are the stream's. A run may instead end with status 1 and its line if memory was refused at the start or for the
+frame itself, after the replies to all earlier frames. A one-shot uses up an age, so each of one_shots.py has runs of its own, with a probe
+after it: it left no level, no lock, no request and no change. On a connection each larger allocation is refused, so that there is no memory
+for a long frame: the reply says so, and the session goes on. No contract ties a reply to refused memory, so only these tests show it.
+With `--wrong` the program is each of a few wrong ones, which end by themselves if they are refused memory, and each has to be found in
 each stream.
 """
 
@@ -25,21 +25,21 @@ from tests.lib.wire import frame
 
 # Streams of which every frame is asked with a thousand before it, and those that are no whole frames.
 LEFT_OUT = {"limit operations", "child count", "one shot operations", "sessions and tables", "damage cut", "damage too long"}
-# A frame that is read takes so many allocations: the bytes, the list of the frames, and the payload, where it is not empty.
+# A frame that is read takes so many allocations: the bytes, the list of the frames, and the payload, if it is not empty.
 OF_A_FRAME, OF_AN_EMPTY = 3, 2
-# A vector that is not there yet may be tried twice: so many runs with no refusal, and no allocation is left.
+# The first allocation of a vector may be tried twice: after so many runs with no refusal there are no more allocations.
 NONE_LEFT = 2
 # Wrong programs: the first allocation since a piece at whose refusal one ends, and the status.
 WRONG = [
     pytest.param({"ENDS": "1", "WRONG": "1"}, id="it ends at each refusal"),
-    pytest.param({"ENDS": str(OF_A_FRAME + 1), "WRONG": "1"}, id="it ends where a step is refused memory"),
-    pytest.param({"ENDS": str(OF_A_FRAME + 1), "WRONG": "0"}, id="it ends where a step is refused memory, and says nothing"),
+    pytest.param({"ENDS": str(OF_A_FRAME + 1), "WRONG": "1"}, id="it ends if a step is refused memory"),
+    pytest.param({"ENDS": str(OF_A_FRAME + 1), "WRONG": "0"}, id="it ends if a step is refused memory, and prints nothing"),
 ]
 LINE = b"tabd: no memory\n"
 
 
 class OneShot:
-    """A one-shot behind what is asked before it, as a stream; and what stands behind it."""
+    """A one-shot after the requests before it, as a stream; and the replies to a probe after it."""
 
     words = ["replay"]
 
@@ -61,7 +61,7 @@ def library(tmp_path_factory):
 
 @pytest.fixture(scope="session")
 def replay(tabd, library):
-    """Starts a replay of some words whose nth allocation is refused."""
+    """Starts a replay with some options whose nth allocation is refused."""
     start = lambda words, nth, *more, **wrong: RefusedReplay(tabd, library, words, nth, *more, **wrong)
     with start(["replay"], 1) as run:
         run.ask(frame((1, "join")))
@@ -71,8 +71,8 @@ def replay(tabd, library):
 
 
 def end_of(run, case, is_whole):
-    """How a run ended: `whole`, where all frames of the case were answered, or where its growth was refused: at the `start`, for a
-    `frame`; `none` where nothing was refused."""
+    """How a run ended: `whole`, if all frames of the case were answered, or the refused allocation: at the `start`, for a
+    `frame`; `none` if nothing was refused."""
     where, status, err = run.ended()
     if is_whole:
         assert (status, err) == (0, b""), "all is answered"
@@ -106,7 +106,7 @@ def row_end(run, stream):
 
 
 def one_shot_end(run, case):
-    """How the run of a one-shot ended, of which memory was refused to the one-shot alone."""
+    """How the run of a one-shot ended, if memory was refused only to the one-shot."""
     for given, wanted in zip(case.given[:-1], case.told):
         assert run.ask(given) == wanted, f"before it frame {run.answered}"
     told = run.ask(case.given[-1])
@@ -114,25 +114,25 @@ def one_shot_end(run, case):
         run.refused += 1
         probe(run, case)
     else:
-        assert told in (None, case.told[-1]), f"told {told}, wanted {case.told[-1]}"
+        assert told in (None, case.told[-1]), f"replied {told}, wanted {case.told[-1]}"
     return end_of(run, case, told is not None)
 
 
 def probe(run, case):
-    """No level, no lock, no request and no change is left of it; asked again it is told what it is told."""
-    # An age that it used up is not told.
+    """It left no level, no lock, no request and no change; sent again it has its reply."""
+    # No reply has the age that it used up.
     ages = 1 + sum(asked == "begin" or asked[0] == "transaction" for _, asked, _ in case.before)
     begun = run.ask(frame((1, "begin")))
     age = next((age for age in (ages, ages + 1) if begun == frame((1, ("tid", age)))), None)
-    assert age, f"a begin behind it is told {begun}"
+    assert age, f"the reply to a begin after it is {begun}"
     steps = [(1, "commit", ("atomic", 2)), (2, "begin", ("tid", age + 1)), *PROBED, (2, ("abort", "probe"), ("aborted", "probe"))]
     for session, asked, wanted in [*steps, *case.after, (1, case.request, case.reply)]:
         told = run.ask(frame((session, asked)))
-        assert told == frame((session, wanted)), f"behind it {asked} is told {told}, wanted {wanted}"
+        assert told == frame((session, wanted)), f"the reply to {asked} after it is {told}, wanted {wanted}"
 
 
 def faults_of(replay, does, stream, start, **wrong):
-    """What differs, for each allocation until none is left; how often the runs ended in each way is printed."""
+    """The faults, for each allocation in turn; prints how often the runs ended in each way."""
     ends: Counter[str] = collections.Counter()
     faults: List[str] = []
     before = count_before(replay, stream)

@@ -1,7 +1,7 @@
 """A script of a book's calls with one allocation refused, each in turn: the test `refused` of tab_book_tests, as the gate built it.
 
 The script joins, makes steps of which some fold the journal, takes what a mailbox holds and audits; each call that found no memory is made
-again, and then all that is told has to be the script's. The test program beside the tested one (tab_book_tests/out) is run once for each of its
+again, and then all replies have to be the script's. The test program next to the tested one (tab_book_tests/out) is run once for each of its
 allocations, until a run meets no refusal. A refusal of the book itself ends a run, since a book is made once. The same test before any proof,
 with one refusal: `rt try --test --fail-alloc N -- refused` in crates/tab_book_tests.
 """
@@ -16,12 +16,12 @@ from tests.lib.refusing import built
 
 TEST = "refused::a_refused_step_is_made_again"
 NO_BOOK = b"no book"
-# The script makes far more allocations than this: where it seems to make fewer, none was refused.
+# The script makes far more allocations than this: if it seems to make fewer, none was refused.
 FEWEST = 100
 
 
 def run(tests, library, nth, report):
-    """The test's status, what it said, and whether its nth allocation was refused, which the library tells on the report."""
+    """The test's status, its output, and whether its nth allocation was refused, which the library writes to the report."""
     report.truncate(0)
     env = {"LD_PRELOAD": library, "NTH": str(nth), "REPORT": str(report.fileno())}
     done = subprocess.run(

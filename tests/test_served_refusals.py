@@ -1,10 +1,10 @@
 """A server with one allocation or thread refused, each in turn, while one connection is served, and another asks.
 
 Each case is run once for each allocation and each thread that the server makes for one request, one connection or one event: with the
-nth refused. The session is told `no_memory` and goes on, or, where memory was refused for a connection, a thread, a reply's frame or an
-event, it is closed with no frame. No lock, level or request is left of it: another connection
-writes the same key and changes the table's indexes. What was told `no_memory` is told its reply when it is asked again. From the
-allocations of many commits it is seen which is the first that folds the journal of a server whose words don't set it.
+nth refused. The session gets `no_memory` and goes on, or, if memory was refused for a connection, a thread, a reply's frame or an
+event, it is closed with no frame. It leaves no lock, level or request: another connection
+writes the same key and changes the table's indexes. A request that got `no_memory` gets its reply when it is sent again. The
+allocations of many commits show which is the first that folds the journal of a server whose options don't set it.
 """
 
 import collections
@@ -22,19 +22,19 @@ from tests.lib.refusing import NO_MEMORY, RefusedServer, built
 
 # The frame that is read takes the first allocations: the bytes, the payload, and the list of the frames.
 OF_A_FRAME = 3
-# So many runs in which nothing was refused, and none is left.
+# After so many runs in which nothing was refused there are no more allocations.
 NONE_LEFT = 2
 # No request takes so many: it is counted, and nothing refused.
 COUNTED, COUNTS = 1_000_000, 3
-# The entries of a journal that no word sets.
+# The entries of a journal by default.
 JOURNAL = 1024
-# An end that no reply tells takes so many seconds at most; who waits for a lock was told nothing for so many.
+# An end that no reply confirms takes at most so many seconds; a session waits for a lock if it got nothing for so many.
 PATIENCE, QUIET = 20.0, 0.05
 CREATES: List[Any] = [("create_table", name, []) for name in ("t", "u", "w")]
 
 
 class Closed(Exception):
-    """A connection was closed, behind so many whole frames of what was asked."""
+    """A connection was closed, after so many complete frames of replies."""
 
 
 def received(connection):
@@ -62,7 +62,7 @@ def replied(connection):
 
 
 def soon(what, connection, request, wanted):
-    """It is told so at last: who leaves takes a moment."""
+    """Waits for this reply: a session needs a moment to leave."""
     end = time.monotonic() + PATIENCE
     while (found := asked(connection, request)) != wanted and time.monotonic() < end:
         time.sleep(0.002)
@@ -75,7 +75,7 @@ def script(*steps):
 
 
 def free(connection, table):
-    """No lock is held or awaited in the table."""
+    """No transaction has or awaits a lock in the table."""
     soon(f"an index of {table}", connection, ("add_table_index", table, "val"), ATOMIC)
     soon(f"no index of {table}", connection, ("del_table_index", table, "val"), ATOMIC)
 
@@ -100,7 +100,7 @@ class Case:
         self.inside, self.waits, self.marks = inside, waits, marks
 
     def told(self, first, second):
-        """The reply. The second commits where the first waits for it, which may be refused too."""
+        """The reply. The second commits if the first waits for it; this may be refused too."""
         first.send(self.request)
         if self.waits and not select.select([first.socket], [], [], QUIET)[0]:
             try:
@@ -114,9 +114,9 @@ class Case:
             return "closed"
 
     def again(self, first, second, other):
-        """It was told `no_memory`, and nothing is left of it. Asked again it is told its reply."""
+        """After `no_memory` nothing is left of it. Sent again it gets its reply."""
         if self.waits:
-            # It waits again where the second's transaction is open yet, and ends.
+            # It waits again if the second's transaction is still open, and ends.
             first.send(self.request)
             second.close()
             same("again", replied(first), self.reply)
@@ -127,7 +127,7 @@ class Case:
             script((first, "commit", ("error", "no_transaction")))
             free(other, "t")
             free(other, "u")
-            # An age that it used up is not told.
+            # No reply has the age that it used up.
             same("again", asked(first, self.request)[0], self.reply[0])
 
     def run(self, serve, nth):
@@ -143,7 +143,7 @@ class Case:
             end = "none" if self.count < nth else self.judged(told, nth)
             if end == "none":
                 same("nothing refused, and the reply", told, self.reply)
-            if end == "told no_memory":
+            if end == "replied no_memory":
                 self.again(first, second, other)
             first.close()
             second.close()
@@ -154,17 +154,17 @@ class Case:
 
     def judged(self, told, nth):
         if told == NO_MEMORY:
-            return "told no_memory"
+            return "replied no_memory"
         if told == self.reply:
-            return "had its reply"
+            return "got its reply"
         if told == "closed" and self.marks and nth > OF_A_FRAME:
             return "were closed for an event"
         if told == "closed" and nth >= self.all:
             return "were closed for a reply's frame"
-        raise AssertionError(f"told {told}, wanted {self.reply}")
+        raise AssertionError(f"replied {told}, wanted {self.reply}")
 
     def counted(self, serve):
-        """How many allocations it takes where none is refused. A thread of a connection that begins late takes some beside them."""
+        """How many allocations it takes if none is refused. A thread of a connection that begins late takes some more."""
         self.all = sys.maxsize
         for _ in range(COUNTS):
             self.run(serve, COUNTED)
@@ -172,7 +172,7 @@ class Case:
 
 
 class Watched:
-    """The second commits what the first watches, behind what it committed before: the first is told each event once, or is closed."""
+    """The second changes a table that the first watches, after earlier commits: the first gets each event once, or is closed."""
 
     count, value = 6, b"v" * 3000
 
@@ -196,10 +196,10 @@ class Watched:
                 told = "closed"
             end = self.told(first, told)
             made = server.made()
-            assert made >= nth or end == "had its reply", f"nothing refused, and told {told}"
+            assert made >= nth or end == "got its reply", f"nothing refused, and replied {told}"
             if told == NO_MEMORY:
                 script((second, "commit", ("atomic", self.number)))
-                same("again", self.told(first, ("atomic", self.number)), "had its reply")
+                same("again", self.told(first, ("atomic", self.number)), "got its reply")
             if end != "were closed for an event":
                 self.next_event(first, second)
             first.close()
@@ -209,19 +209,19 @@ class Watched:
             return end if made >= nth else "none"
 
     def told(self, first, told):
-        """How the first was told what was committed: where it is closed, a beginning of it."""
+        """How the first received the committed events: if it is closed, a beginning of them."""
         if told == NO_MEMORY:
-            return "told no_memory"
+            return "replied no_memory"
         same("a commit", told, ("atomic", self.number))
         for key in range(self.count):
             try:
                 same("event", received(first), event(key, self.value, self.number))
             except Closed:
                 return "were closed for an event"
-        return "had its reply"
+        return "got its reply"
 
     def next_event(self, first, second):
-        """Nothing stands between what the first was told and the event of what is committed next."""
+        """The next frame of the first is the event of the next commit."""
         script((second, ("transaction", [write("next", 0)], 0), ("atomic", [OK])))
         same("the next event", received(first), event("next", 0, self.number + 1))
 
@@ -233,8 +233,8 @@ class WatchedLong(Watched):
 
 
 class Joins:
-    """A connection finds no memory or no thread: it is closed with no frame, and counts among those that are served; where the
-    server is to go on for good, its seat is free again."""
+    """There is no memory or no thread for a connection: it is closed with no frame, and counts among those that are served; with
+    `--forever` another can be served again."""
 
     def __init__(self, name, *words):
         self.name, self.words = name, words
@@ -250,7 +250,7 @@ class Joins:
             first = server.connect()
             end = self.joined(first)
             made = server.made()
-            assert made >= nth or end == "had its reply", "nothing refused"
+            assert made >= nth or end == "got its reply", "nothing refused"
             probe(second)
             first.close()
             if self.words:
@@ -268,7 +268,7 @@ class Joins:
             same("begin", told, ("tid", 1))
         except Closed:
             return "were closed for a connection"
-        return "had its reply"
+        return "got its reply"
 
     def seat_is_free(self, server):
         end = time.monotonic() + PATIENCE
@@ -282,7 +282,7 @@ class Joins:
             finally:
                 other.close()
             time.sleep(0.002)
-        raise AssertionError("no seat is free")
+        raise AssertionError("the server serves no more connections")
 
 
 TID, IN_T = ("tid", 1), [(1, "begin", ("tid", 1)), (1, write(1, "a"), OK)]
@@ -326,7 +326,7 @@ CASES: List[Any] = [
     Case("a new table", [], ("create_table", "v", [("attributes", ["k", "v", "w"]), ("index", ["w"])]), ATOMIC),
     Case("an index", IN_W, ("add_table_index", "w", "val"), ATOMIC),
     Case("an old table", IN_W, ("delete_table", "w"), ATOMIC),
-    Case("what is told of a table", RECORDS, ("table_info", "u", "attributes"), ["key", "val"]),
+    Case("a table's attributes", RECORDS, ("table_info", "u", "attributes"), ["key", "val"]),
     Case("a subscription with a dump", RECORDS, ("subscribe", ("table", "u", "detailed"), "dump"), HERE_OK, marks=True),
     Case("the end of one", [(1, watch(), HERE_OK)], ("unsubscribe", ("table", "t", "simple")), HERE_OK, marks=True),
     Case("a one-shot", [], ("transaction", [("write", ("u", 1, "a")), ("read", "u", 1)], 2), ("atomic", [OK, [("u", 1, "a")]])),
@@ -343,7 +343,7 @@ CASES: List[Any] = [
 
 @pytest.fixture(scope="session")
 def refused(tabd, tmp_path_factory):
-    """Starts a server of some words whose allocations can be refused."""
+    """Starts a server with some options whose allocations can be refused."""
     library = built("refusing_server", tmp_path_factory.mktemp("refusing"))
     serve = lambda *words: RefusedServer(tabd, library, *words)
     with serve("--connections", "1") as server:
@@ -356,7 +356,7 @@ def refused(tabd, tmp_path_factory):
 
 @pytest.mark.parametrize("case", CASES, ids=[case.name for case in CASES])
 def test_refused(refused, case):
-    """For each allocation until none is left; how often the runs ended in each way is printed."""
+    """Refuses each allocation in turn; prints how often the runs ended in each way."""
     ends: Counter[str] = collections.Counter()
     faults: List[str] = []
     case.counted(refused)
@@ -371,8 +371,8 @@ def test_refused(refused, case):
     assert not faults
 
 
-def test_a_journal_that_no_word_sets(refused):
-    """A commit that folds takes more allocations. The table's entry stands before the commits, so as many fold nothing as the
+def test_the_default_journal(refused):
+    """A commit that folds takes more allocations. The table's entry is before the commits, so as many fold nothing as the
     journal has entries, but one."""
     made = []
     with refused("--connections", "1") as server:

@@ -1,8 +1,8 @@
 """The streams over connections to `tabd serve --batches`, a connection for each session, in lock-step.
 
-What a session is answered is the stream's reply; each item that a `take` of the stream is told comes on the session's connection by
-itself, in the stream's order and as one frame. So what a mailbox hands over is compared with what a ring did. An operation that is
-answered `waiting` has its reply where the stream's `retry` has it. Left out are streams that a connection can't ask: those of a session
+A session's replies are the stream's; each item of a `take` of the stream is sent on the session's connection without a request,
+in the stream's order and as one frame. So the items of a mailbox are compared with those of a ring. An operation that is
+answered `waiting` has the reply of the stream's `retry`. Streams that a connection can't ask are skipped: those of a session
 that isn't joined, of an outbox that overflows, of requests while one waits, and of payloads that are no request.
 """
 
@@ -12,14 +12,14 @@ from tests.lib.checks import waits
 from tests.lib.streams import streams
 from tests.lib.wire import term_of
 
-# With fewer streams than these something is left out that was not.
+# With fewer streams than these one is skipped that was not skipped before.
 LEAST = 38
-# What no connection is told, or only where its outbox is full.
+# Replies that no connection gets, or only if its outbox is full.
 LEFT_OUT = [("error", word) for word in ("badsession", "waiting", "not_waiting", "overflow_untold")]
 
 
 def steps_of(stream):
-    """The session, request and reply of each frame; None where a payload is no request, or a reply is one that is left out."""
+    """The session, request and reply of each frame; None if a payload is no request, or a reply is one of LEFT_OUT."""
     steps = []
     for given, told in zip(stream.given, stream.told):
         try:

@@ -1,8 +1,8 @@
-"""`tabd serve` with several connections on it: what each is told.
+"""`tabd serve` with several connections: the replies and events of each.
 
-What a server's threads answer comes from behind a lock, of which no contract speaks: that sessions go on beside an open
-transaction, that who waits is woken, that each raise of a hot record counts once, that mirrors end with the table's records,
-that who reads too slowly overflows alone. Each case has a server of its own, which has to end by itself when the connections
+No contract covers the replies of a server's threads, which are made under a lock: that sessions go on during another's open
+transaction, that a waiting session is woken, that each increment of a contended record counts once, that mirrors end with the table's records,
+that only the session that reads too slowly overflows. Each case has a server of its own, which has to end by itself when the connections
 are closed.
 """
 
@@ -44,8 +44,8 @@ def too_long(connection):
     assert connection.stream.read() == b"", "its end"
 
 
-def too_long_behind_others(connection):
-    """What stands before it in one piece is answered, what stands behind it is not."""
+def too_long_after_others(connection):
+    """In one piece, the requests before it are answered, and those after it are not."""
     connection.socket.sendall(frame(("read", "t", 2)) + (1_048_577).to_bytes(4, "big") + frame("commit"))
     assert connection.receive() == ("reply", []), "before it"
     assert connection.receive() == ("reply", ("error", "badterm")), "too long"
@@ -53,7 +53,7 @@ def too_long_behind_others(connection):
 
 
 def cut(connection):
-    """Its stream ends inside a frame: nothing is told, and the stream the other way ends too."""
+    """Its stream ends inside a frame: there is no reply, and the stream the other way ends too."""
     connection.socket.sendall(frame("commit")[:-1])
     connection.half_close()
     assert connection.stream.read() == b"", "its end"
@@ -69,7 +69,7 @@ def unread(connection):
 
 @served(3)
 def test_others_go_on(clients):
-    """Sessions go on while another's transaction is open, and who watches is told of what they commit."""
+    """Sessions go on while another's transaction is open, and a watching session gets the events of their commits."""
     first, second, third = clients
     script(
         (first, CREATE, ATOMIC),
@@ -107,7 +107,7 @@ def test_others_go_on(clients):
     ids=["by an abort", "by a commit", "by an end", "by a broken connection"],
 )
 def test_woken(clients, end, reply, found):
-    """Who waits is told the record as soon as the other's transaction ends, in each way."""
+    """A session that waits gets the record as soon as the other's transaction ends, in each way."""
     older, younger = clients
     script(
         (older, CREATE, ATOMIC),
@@ -124,13 +124,13 @@ def test_woken(clients, end, reply, found):
         younger.break_off()
     else:
         script((younger, end, reply))
-    assert older.receive() == ("reply", [("t", 1, found)]), "who waits"
+    assert older.receive() == ("reply", [("t", 1, found)]), "the one that waits"
     script((older, "commit", ("atomic", 3 if end == "commit" else 2)))
 
 
 @served(3)
-def test_a_queue_is_left(clients):
-    """A queued request is dropped with its session: who stands behind it alone is woken."""
+def test_a_session_leaves_a_queue(clients):
+    """A queued request is dropped with its session: the request after it is woken."""
     first, second, third = clients
     script(
         (first, CREATE, ATOMIC),
@@ -144,7 +144,7 @@ def test_a_queue_is_left(clients):
     first.send(("read", "t", 1))
     waits(first)
     second.break_off()
-    assert first.receive() == ("reply", []), "behind it"
+    assert first.receive() == ("reply", []), "the request after it"
     script((third, "commit", ("atomic", 1)), (first, "commit", ("atomic", 2)))
 
 
@@ -192,7 +192,7 @@ def copy_of(log):
     return copy
 
 
-# Nobody is to overflow, also where the machine does much else.
+# No session may overflow, also on a busy machine.
 @served(4, "--outbox", "1024")
 def test_two_mirrors(clients):
     """Two write and delete; each mirror gets the same events, and ends with the table's records."""
@@ -238,23 +238,23 @@ def test_two_mirrors(clients):
     ],
 )
 def test_a_slow_reader(clients, sent):
-    """Who reads nothing overflows, and is told so behind what it was sent; the other gets each commit, and no one waits."""
+    """A client that reads nothing gets an overflow after the events that were sent; the other gets each commit, and no one waits."""
     idle, writer, reader = clients
     value, count = b"v" * 4000, 200
     script((writer, CREATE, ATOMIC), (idle, watch(), HERE_OK), (reader, watch(), HERE_OK))
     assert reader.event() == MARK, "begin marker"
     for number in range(1, count + 1):
         script((writer, ("transaction", [write(number, value)], 0), ("atomic", [OK])))
-        assert reader.event() == sent(number, value), "who reads"
+        assert reader.event() == sent(number, value), "the one that reads"
     idle.widen()
     assert idle.event() == MARK, "begin marker"
     number = 1
     while (told := idle.event())[0] == sent(number, value)[0]:
-        assert told == sent(number, value), "who reads slowly"
+        assert told == sent(number, value), "the one that reads slowly"
         number += 1
     assert told == ("mnesia_overflow", number), "overflow"
     assert number < count, "so many at most"
-    # It may watch anew.
+    # It may watch again.
     script((idle, watch(), HERE_OK), (writer, ("transaction", [write(count + 1, 0)], 0), ("atomic", [OK])))
     assert idle.event() == MARK, "begin marker"
     assert idle.event() == sent(count + 1, 0), "event"
@@ -262,7 +262,7 @@ def test_a_slow_reader(clients, sent):
 
 @served(2, "--outbox", "1")
 def test_an_outbox_of_one_item(clients):
-    """Of an outbox of one item who is told of commits faster than it reads overflows, and is told so also where nothing came before."""
+    """With an outbox of one item, a client overflows if commits come faster than it reads, and gets the overflow also if nothing was sent before."""
     watcher, writer = clients
     script((writer, CREATE, ATOMIC))
     for first in range(1, 400, 40):
@@ -287,28 +287,28 @@ def test_an_outbox_of_one_item(clients):
     "size",
     [
         pytest.param(3, id="of three items", marks=served(2, "--outbox", "3")),
-        pytest.param(64, id="that no word sets", marks=served(2)),
+        pytest.param(64, id="by default", marks=served(2)),
     ],
 )
 def test_an_outbox(clients, size):
-    """Behind a commit that is being sent an outbox holds so many, and the next overflows. The commit has no end before it is read, as
-    16 MB stand in no socket."""
+    """After a commit that is being sent an outbox has room for so many items, and the next one overflows. The commit's end is not sent before
+    its beginning is read, as no socket has room for 16 MB."""
     idle, writer = clients
     value, keys, next_one = bytes(1_000_000), range(16), size + 2
     script((writer, CREATE, ATOMIC), (idle, watch(), HERE_OK), (writer, "begin", ("tid", 1)))
     assert idle.event() == MARK, "begin marker"
     script(*((writer, write(key, value), OK) for key in keys), (writer, "commit", ("atomic", 1)))
-    # Of the long commit something has come, so it stands in the outbox no more.
+    # Something of the long commit has come, so it is not in the outbox any more.
     assert bool(select.select([idle.socket], [], [], 10)[0]), "it is sent"
     script(*((writer, ("transaction", [write(0, number)], 0), ("atomic", [OK])) for number in range(2, next_one + 1)))
     holds("the long one", [idle.event() for _ in keys] == [event(key, value, 1) for key in keys])
-    assert [idle.event() for _ in range(size)] == [event(0, number, number) for number in range(2, next_one)], "behind it"
+    assert [idle.event() for _ in range(size)] == [event(0, number, number) for number in range(2, next_one)], "the commits after it"
     assert idle.event() == ("mnesia_overflow", next_one), "the next"
 
 
 @served(2, "--outbox", "1024")
-def test_beside_long_replies(clients):
-    """A reply that is longer than a socket's room stands together, while others' commits are told to the same connection."""
+def test_during_long_replies(clients):
+    """A reply that is longer than a socket's buffer stays in one piece, while the events of others' commits go to the same connection."""
     reader, writer = clients
     each, rows = 20, [("u", key, bytes([key]) * 200_000) for key in range(40)]
     all_rows = ("match_object", ("u", "_", "_"))
@@ -320,7 +320,7 @@ def test_beside_long_replies(clients):
         reader.send(all_rows)
         time.sleep(QUIET)
         script(*((writer, ("transaction", [write(key, 0)], 0), ("atomic", [OK])) for key in range(first, first + each)))
-        # Where the machine does much else, events may come before it.
+        # On a busy machine events may come before it.
         while (term := reader.receive())[0] != "reply":
             reader.events.append(term)
         holds("the reply is whole", term == ("reply", rows))
@@ -339,14 +339,14 @@ def test_beside_long_replies(clients):
 )
 def test_long_items(clients, sent):
     """A dump, and commits with long old records, come whole, in order with short commits. All are made before the dump is read, which has
-    no end before that, so they are there at once behind it."""
+    no end before that, so they follow it at once."""
     def changed(number, changes):
         return sent(number, [("mnesia_table_event", ("write", "t", ("t", key, 0), old, ("tid", number))) for key, old in changes])
     mirror, writer = clients
     rows, detailed = [("t", key, bytes([key]) * 1_000_000) for key in range(16)], ("table", "t", "detailed")
     script((writer, CREATE, ATOMIC), *((writer, ("transaction", [("write", row)], 0), ("atomic", [OK])) for row in rows))
     mirror.send(("subscribe", detailed, "dump"))
-    assert bool(select.select([mirror.socket], [], [], 10)[0]), "it is told"
+    assert bool(select.select([mirror.socket], [], [], 10)[0]), "something is sent"
     items: List[Any] = [("mnesia_table_begin", "t", "detailed", rows)]
     for number, keys in enumerate(([16], [17], [0, 1, 2], [18], [3], [4, 19], [20]), len(rows) + 1):
         script((writer, ("transaction", [write(key, 0) for key in keys], 0), ("atomic", [OK] * len(keys))))
@@ -364,7 +364,7 @@ def test_long_items(clients, sent):
 
 @served(3, "--batches")
 def test_batches(clients):
-    """A commit's events come in one frame, with its number, where what the session watches was changed; markers come as ever."""
+    """A commit's events come in one frame, with its number, if it changed a table that the session watches; markers are the same."""
     one, other, mirror = clients
     script(
         (one, CREATE, ATOMIC),
@@ -388,7 +388,7 @@ def test_batches(clients):
 
 @served(5, "--batches", "--outbox", "1024")
 def test_four_move_amounts(clients):
-    """Each moves amounts between two accounts, a move in a transaction. Who applies whole commits never sees another sum, and the
+    """Each moves amounts between two accounts, one move in each transaction. A client that applies whole commits never sees another sum, and the
     commits' numbers rise by one."""
     mirror, *writers = clients
     each, first = 50, {"a": 1000, "b": 1000}
@@ -417,7 +417,7 @@ def test_four_move_amounts(clients):
             assert (word, number) == ("batch", wanted), "a commit"
             for _, (_, (_, key, value), _) in events:
                 accounts[key] = value
-            assert sum(accounts.values()) == sum(first.values()), f"the sum behind commit {number}"
+            assert sum(accounts.values()) == sum(first.values()), f"the sum after commit {number}"
 
     setup = [write(key, value) for key, value in first.items()]
     script((writers[0], CREATE, ATOMIC), (writers[0], ("transaction", setup, 0), ("atomic", [OK, OK])), (mirror, watch(), HERE_OK))
@@ -427,7 +427,7 @@ def test_four_move_amounts(clients):
 
 @served(1)
 def test_refused(clients):
-    """What is no term or no command is told so, and the session goes on; a payload that is too long ends it."""
+    """A payload that is no term or no command is refused, and the session goes on; a payload that is too long ends it."""
     [connection] = clients
     script((connection, "join", ("error", "badcommand")), (connection, (1, "begin"), ("error", "badcommand")))
     connection.socket.sendall(b"\0\0\0\1\x82")
@@ -443,13 +443,13 @@ def test_refused(clients):
     "end",
     [
         pytest.param(too_long, id="a length too long"),
-        pytest.param(too_long_behind_others, id="a length too long behind others"),
+        pytest.param(too_long_after_others, id="a length too long after others"),
         pytest.param(cut, id="a frame that is cut"),
         pytest.param(unread, id="replies that are not read"),
     ],
 )
 def test_frees(clients, end):
-    """A session whose stream ends so leaves, and what it held is free."""
+    """A session whose stream ends so leaves, and its locks are released."""
     first, second = clients
     script((first, CREATE, ATOMIC))
     first.socket.sendall(b"\0\0\0\0")
@@ -459,7 +459,7 @@ def test_frees(clients, end):
     script((first, "begin", ("tid", 1)), (first, write(1, "a"), OK), (first, ("write_lock_table", "t"), OK))
     end(first)
     script((second, "begin", ("tid", 2)))
-    # An end that no reply tells takes its time.
+    # An end that no reply confirms takes some time.
     found = next((found for _ in range(50) if (found := second.ask(("read", "t", 1))) != "restart"), "restart")
     assert found == [], "its lock"
     script(
@@ -471,7 +471,7 @@ def test_frees(clients, end):
 
 @served(2)
 def test_names_of_any_length(clients):
-    """Names of any length come back as they were sent: of up to 22 bytes, which stand in the term, and longer ones, which are shared."""
+    """Names of any length come back as they were sent: of up to 22 bytes, which are stored in the term, and longer ones, which are shared."""
     client, mirror = clients
     for letter, size in [("n", size) for size in (1, 21, 22, 23, 24, 254)] + [("ä", 10), ("ä", 11), ("ä", 12), ("ä", 254)]:
         name, attribute, one, other, value = (letter * size + last for last in ("", "i", "k", "l", "v"))
@@ -490,8 +490,8 @@ def test_names_of_any_length(clients):
 
 
 def test_an_accept_that_fails(serve):
-    """With no more handles to be had, the connection that comes next is closed with no frame, and no more are accepted. Who is there
-    is served to its end, and the server ends with status 1."""
+    """If there are no more handles, the next connection is closed with no frame, and no more are accepted. The existing ones
+    are served to their end, and the server ends with status 1."""
     server = serve("--connections", "4")
     first = server.connect()
     script((first, CREATE, ATOMIC), (first, "begin", ("tid", 1)))

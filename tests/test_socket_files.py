@@ -1,6 +1,6 @@
 """`tabd serve --socket`: what becomes of the socket file, and what is said of it.
 
-What clients are told over a socket file, test_forever.py tries. Each case has a folder of its own.
+test_forever.py tests the replies over a socket file. Each case has a folder of its own.
 """
 
 import os
@@ -23,15 +23,15 @@ PATIENCE = 10
 
 
 class Place:
-    """The program, in a folder where a socket file may stand."""
+    """The program, with a folder for a socket file."""
 
     def __init__(self, program, folder):
         self.program, self.folder, self.path = program, folder, os.path.join(folder, "socket")
 
     def server(self, *more, path=None, connections=2, **options):
-        """A server that says where it listens."""
+        """A server that has printed its address."""
         server = Server(self.program, "--connections", str(connections), *more, path=path or self.path, **options)
-        assert server.place == (path or self.path), "where it listens"
+        assert server.place == (path or self.path), "the address"
         return server
 
     def refused(self, told, *more, path=None, **options):
@@ -61,7 +61,7 @@ def is_served(path):
 
 @pytest.mark.parametrize("umask, wanted", [(0o177, 0o600), (0o117, 0o660)], ids=["for one user", "for a group"])
 def test_mode(place, umask, wanted):
-    """The umask says who may connect."""
+    """The umask sets the file's permissions."""
     with place.server(umask=umask):
         assert place.file()[1:] == (stat.S_IFSOCK, wanted)
 
@@ -88,7 +88,7 @@ def test_with_counters(place):
         is_served(place.path)
 
 
-def test_left_by_a_kill(place):
+def test_file_of_a_killed_server(place):
     """A file at which no one listens any more is taken over."""
     with place.server():
         pass
@@ -166,7 +166,7 @@ def test_no_accept(place):
 
 
 def test_exchanged(place):
-    """A file that has taken the place of the server's own is not its to remove."""
+    """The server does not remove a file that has replaced its own."""
     with place.server() as server:
         connections = [Connection(place.path) for _ in range(2)]
         with socket.socket(socket.AF_UNIX) as other:
@@ -190,7 +190,7 @@ def test_removed(place):
 
 
 def test_no_page(place):
-    """A start that fails behind the file's making removes it."""
+    """A start that fails after it has created the file removes it."""
     with socket.create_server(("127.0.0.1", 0)) as taken:
         place.refused(IN_USE, "--log", "--metrics", str(taken.getsockname()[1]))
         assert os.listdir(place.folder) == [], "the folder"

@@ -112,7 +112,7 @@ def no_reader(program, stream, count):
 def no_input(program, stream, count, more):
     """The input breaks off after so many replies, and after so many bytes of the next frame: the next read fails.
 
-    A socket whose other end is closed while bytes stand there unread is reset.
+    A socket whose other end is closed while it has unread bytes is reset.
     """
     child, ours, its, end, told = half(program, stream, count)
     ours.sendall(stream.given[count][:more])
@@ -126,7 +126,7 @@ def no_input(program, stream, count, more):
 
 
 def cuts(stream):
-    """Where the stream is cut, its end not among them."""
+    """The offsets at which the stream is cut, without its end."""
     if len(stream.all) <= CUT:
         return range(len(stream.all))
     ends: Set[int] = set()
@@ -138,7 +138,7 @@ def cuts(stream):
 
 
 def rooms(stream):
-    """Where the output is full: in a short one after each byte, else before the end of each of its first frames and at it."""
+    """The lengths at which the output is full: in a short one after each byte, else before the end of each of its first frames and at it."""
     if len(stream.all) <= SHORT:
         return range(sum(map(len, stream.told)))
     ends = list(itertools.accumulate(map(len, stream.told[:FAILING])))

@@ -7,7 +7,7 @@ from typing import Iterable, List, Sequence, Tuple
 from tests.lib.model import OPTIONS
 from tests.lib.wire import Term, frame, take, term_of
 
-# A session of a run, by its place, and what it asks.
+# A session of a run, by its index, and its request.
 Step = Tuple[int, Term]
 
 
@@ -29,7 +29,7 @@ class Replay:
         self.process.communicate()
 
     def fresh(self, count: int) -> None:
-        """Begins a run: the sessions of the one before leave, so many join, and the model's tables are made anew."""
+        """Begins a run: the sessions of the previous run leave, so many join, and the model's tables are created again."""
         left = [(who - self.count, "leave") for who in range(self.count)]
         made = [(0, request) for tab, options in OPTIONS.items() for request in (("delete_table", tab), ("create_table", tab, options))]
         self.first, self.count = self.first + self.count, count
@@ -39,7 +39,7 @@ class Replay:
         return b"".join(frame((self.first + who, what)) for who, what in steps)
 
     def told(self, given: bytes, count: int, cuts: Iterable[int] = ()) -> List[bytes]:
-        """The frames of so many replies to what is given at once, or cut at these places."""
+        """The frames of so many replies to input that is sent at once, or cut at these offsets."""
         places = [0, *sorted(cuts), len(given)]
         for piece in [self.frames(self.before), *(given[first:last] for first, last in zip(places, places[1:]))]:
             os.write(self.start, piece)
@@ -53,6 +53,6 @@ class Replay:
         return replies
 
     def ask(self, steps: Sequence[Step]) -> List[Term]:
-        """The replies to steps of the run's sessions; one that is behind the last joins besides."""
+        """The replies to steps of the run's sessions; a session with a greater index joins first."""
         self.count = max(self.count, *(who + 1 for who, _ in steps))
         return [term_of(one)[1] for one in self.told(self.frames(steps), len(steps))]

@@ -1,4 +1,4 @@
-"""Checks that many cases make, and the requests and events that they name. Standard library alone, since bench/ uses them too."""
+"""Checks of many cases, with their requests and events. It imports only the standard library, since bench/ uses it too."""
 
 import socket
 import threading
@@ -48,7 +48,7 @@ def holds(what: str, condition: object) -> None:
 
 
 def script(*steps: Tuple[Connection, Term, Term]) -> None:
-    """Each step is asked on a connection, and its reply is as it stands."""
+    """Sends each request on its connection, and compares its reply."""
     __tracebackhide__ = True
     for line, (connection, request, wanted) in enumerate(steps):
         reply = connection.ask(request)

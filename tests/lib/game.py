@@ -1,9 +1,9 @@
-"""Clients that meet at a server, and log what they are told, for the judge (judging.py).
+"""Concurrent clients of a server that log their replies and events, for the judge (judging.py).
 
-Six clients make random transactions on few keys of a set and a bag: reads, writes, looks at whole tables, nested levels,
-failing operations, requests that are sent ahead, one-shots; some give up what waits, by an abort; some vanish, with or without their
-commit. Others watch, at both levels, with dumps and without: two recorders who read at once, and some who read late, leave off, begin anew
-or vanish. What the clients ask is made up by the seed; when they ask it is not.
+Six clients make random transactions on few keys of a set and a bag: reads, writes, reads of whole tables, nested levels,
+failing operations, requests that are sent ahead, one-shots. Some abort an operation that waits; some vanish, with or without their
+commit. Others watch, at both levels, with dumps and without: two recorders that read at once, and some that read late, unsubscribe, subscribe
+again or vanish. The seed decides the clients' requests, but not their times.
 """
 
 import random
@@ -98,7 +98,7 @@ class Writer:
 
     def begun(self, reply, sent, got):
         if not isinstance(reply, tuple) or reply[0] != "tid":
-            raise Differs(f"begin was told {reply}")
+            raise Differs(f"the reply to begin was {reply}")
         self.attempt, self.depth = Attempt(reply[1], sent, got), 1
         self.game.attempts.append(self.attempt)
 
@@ -110,12 +110,12 @@ class Writer:
             self.game.attempts.append(self.attempt)
         elif move == "commit" and self.depth == 1:
             if not isinstance(reply, tuple) or reply[0] != "atomic" or not isinstance(reply[1], int):
-                raise Differs(f"commit was told {reply}")
+                raise Differs(f"the reply to commit was {reply}")
             self.attempt.ended("commit", sent, got, number=reply[1])
             self.depth = 0
         else:
             if reply == "waiting" or reply[:1] == ("error",):
-                raise Differs(f"{move} was told {reply}")
+                raise Differs(f"the reply to {move} was {reply}")
             self.attempt.steps.append((move, reply, sent, got))
             self.depth += (move == "begin") - (move == "commit" or reply[:1] == ("aborted",))
             if not self.depth:
@@ -123,7 +123,7 @@ class Writer:
         return self.depth > 0
 
     def move(self, left):
-        """The next move, with so many operations left."""
+        """The next move, with so many operations still to do."""
         if left > 0:
             level = self.chance.random()
             if self.depth < 4 and level < 0.08:
@@ -148,7 +148,7 @@ class Writer:
             going = self.note(move, *told)
 
     def give_up(self, move):
-        """An operation, and an abort behind it at once or where no reply has come soon: where the operation waits it is told nothing. Whether
+        """An operation, and an abort at once after it or if no reply comes soon: an operation that waits then has no reply. Returns whether
         the transaction goes on."""
         self.given_up += 1
         abort, sent, soon = ("abort", self.given_up), now(), self.chance.choice([0, 0.0005, 0.01, 0.03])
@@ -166,13 +166,13 @@ class Writer:
         if going:
             return self.note(abort, reply, asked, now())
         if reply != ("error", "no_transaction"):
-            raise Differs(f"{abort} was told {reply} outside")
+            raise Differs(f"the reply to {abort} was {reply} outside of a transaction")
         return False
 
     def reply(self):
         term = self.connection.receive()
         if term[0] != "reply":
-            raise Differs(f"a client that watches nothing was told {term}")
+            raise Differs(f"a client that watches nothing received {term}")
         return term[1]
 
     def vanish(self):
@@ -189,14 +189,14 @@ class Writer:
         self.connection = Connection(self.game.port)
 
     def ahead(self):
-        """A transaction in one piece: what follows a restart in it stands alone."""
+        """A transaction in one piece: after a restart the following requests are the whole transaction."""
         moves = ["begin", *(self.chance.operation(fails=False) for _ in range(self.chance.randrange(1, 6))), "commit"]
         sent = now()
         self.connection.send(*moves)
         for at, move in enumerate(moves):
             term = self.connection.receive()
             if term[0] != "reply":
-                raise Differs(f"{move} was told {term}")
+                raise Differs(f"the reply to {move} was {term}")
             self.note(move, term[1], sent, now()) if at else self.begun(term[1], sent, now())
 
     def one_shot(self):
@@ -215,7 +215,7 @@ class Writer:
 
 
 class Watcher(Log):
-    """A client that watches tables, and logs what it is told and when."""
+    """A client that watches tables, and logs its events and markers with their times."""
 
     def __init__(self, game, name, tabs, level, dump, records=False, small=False, vanishes=False):
         super().__init__(name, records)
@@ -266,7 +266,7 @@ class Watcher(Log):
             self.watched.add(tab)
 
     def unsubscribe(self, tab):
-        """Where it is not watched any more an overflow comes, or has come."""
+        """If the table is not watched any more, an overflow comes, or has come."""
         reply = self.ask(("unsubscribe", ("table", tab, self.level)))
         if reply[0] == "ok":
             self.watched.discard(tab)
@@ -379,7 +379,7 @@ class Game:
         return self.attempts[-1].number, self.attempts[-1].age
 
     def run(self):
-        """Plays the round, and has all that was told in it. Undecided where no recorder has the whole order."""
+        """Plays the round, and returns all replies and events. Undecided if no recorder has the whole order."""
         return Run(self.attempts, self.shots, self.watchers, self.play(), OUTBOX)
 
     def told(self):

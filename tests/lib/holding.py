@@ -1,4 +1,4 @@
-"""What one client makes a server hold in memory: tables, transactions, dumps and events, for test_memory.py and bench/."""
+"""Requests of one client that make a server keep memory: tables, transactions, dumps and events, for test_memory.py and bench/."""
 
 import time
 
@@ -6,7 +6,7 @@ from tests.lib.checks import ATOMIC, HERE_OK, OK, holds, one_shot, script, write
 from tests.lib.servers import Server
 from tests.lib.wire import frame, take
 
-# The entries of the journal where no word says how many.
+# The entries of the journal by default.
 JOURNAL = 1_024
 MEGABYTE = 1_000_000
 ALL_KEYS, ALL_RECORDS = ("all_keys", "t"), ("match_object", ("t", "_", "_"))
@@ -16,7 +16,7 @@ DUMP, NO_MORE = ("subscribe", WATCHED, "dump"), ("unsubscribe", WATCHED)
 
 
 class Held(Server):
-    """With the journal that a server has, or one that the words say."""
+    """With the default journal, or that of the options."""
 
     # What a row of bench/memory.py has found besides.
     remark = ""
@@ -45,7 +45,7 @@ def transaction(client, requests, size):
 
 
 def commit_nothing(client, count=JOURNAL):
-    """So many commits that tell nothing: of the journal's entries the oldest go."""
+    """So many empty commits: they push the oldest entries out of the journal."""
     client.send(*[one_shot()] * count)
     wanted = frame(("reply", ("atomic", []))) * count
     holds("commits of nothing", take(client.stream, len(wanted)) == wanted)
@@ -82,7 +82,7 @@ def table(record, count, each=10, options=()):
 
 
 def long_reads(transactions, reads):
-    """Transactions that read one record so often, of which the journal tells."""
+    """Transactions that each read one record so often, which the journal keeps."""
 
     def hold(server, client):
         [record] = client.ask(("transaction", [("read", "t", 0)], 0))[1][0]
@@ -107,12 +107,12 @@ def short_reads(count):
 
 
 def whole_reads(request, answer, count, writes=False):
-    """Transactions that each ask for all of the table; where each writes before, a record of its own."""
+    """Transactions that each read the whole table; with `writes` each first writes a record of its own."""
     size = size_of(answer)
 
     def hold(server, client):
         for turn in range(count):
-            # As long as the one that it takes the place of.
+            # As long as the record that it replaces.
             key = 1_000 + turn * 7_919 % (len(answer) - 1_000)
             assert client.ask("begin")[0] == "tid", "begin"
             if writes:
@@ -144,7 +144,7 @@ def dumps(count, records):
         mirror = server.connect()
         queue(mirror, client, [DUMP, NO_MORE] * count)
         held = server.kilobytes()
-        # A reply and a marker for each subscription and for its end, and the reply to what stands behind them.
+        # A reply and a marker for each subscription and for its end, and the reply to the request after them.
         found = [len(mirror.payload()) for _ in range(4 * count + 1)]
         assert found.count(size) == count, "dumps"
         return held
@@ -153,7 +153,7 @@ def dumps(count, records):
 
 
 def old_records(record, count):
-    """All of a table's records are deleted in a one-shot, and told to a session that takes nothing."""
+    """All of a table's records are deleted in a one-shot, and a session that reads nothing watches the table."""
 
     def hold(server, client):
         mirror = server.connect()
@@ -168,7 +168,7 @@ def old_records(record, count):
 
 
 def measured(server, make, hold):
-    """The kilobytes that it holds with a table alone, and with what one client makes it hold."""
+    """The server's kilobytes with only a table, and after one client's requests."""
     client = server.connect()
     make(client)
     commit_nothing(client)
@@ -199,7 +199,7 @@ def bag_record(number):
 
 
 def bag_writes(records, count):
-    """At its peak, so many writes of a one-shot to a key of so many records, told to a session that takes nothing."""
+    """The peak of so many writes of a one-shot to a key of so many records; a session that reads nothing watches the table."""
     written = [bag_record(records + number) for number in range(count)]
 
     def hold(server, client):

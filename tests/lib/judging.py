@@ -1,9 +1,9 @@
-"""Judges a served run by its clients' logs: whether it is one of transactions run alone, one after another.
+"""Judges a served run by its clients' logs: whether it equals a run of the transactions one after another.
 
-The order of the commits that change something is that of a recorder, who watches all tables at level detailed; their numbers
-are those of the replies. Run alone in that order (model.py), each has to give the replies that its client had and the events
-that the recorder had, in the time between its request and its reply. What ended otherwise has to be told what stood in the
-tables at its time. No two transactions hold conflicting locks at once, who is restarted met an older one, and each subscriber
+The order of the commits that change something is that of a recorder, which watches all tables at level detailed; their numbers
+are those of the replies. Run serially in that order (model.py), each has to give its client's replies and the recorder's
+events, in the time between its request and its reply. The replies of every other transaction have to be those of the
+tables at its time. No two transactions have conflicting locks at once, each restarted transaction met an older one, and each subscriber
 has exactly the events since its begin marker.
 """
 
@@ -33,7 +33,7 @@ class Attempt:
 
     def __init__(self, age, sent, got):
         self.age, self.began, self.steps = age, (sent, got), []
-        # How it ended, when that was asked for and when it was told; the operation that died or was never answered.
+        # How it ended, the times of that request and its reply; the operation that died or was never answered.
         self.end, self.sent, self.got, self.last = None, math.inf, math.inf, None
         self.number = None
         # Operations whose wait an abort has ended, and when they were asked.
@@ -46,23 +46,23 @@ class Attempt:
         return self.end in ("commit", "maybe")
 
     def alone(self, tables):
-        """Its updates where it is told what it was told; else the first move that is told something else."""
+        """Its updates if its replies, run serially, are those of the log; else the first move with another reply."""
         alone = Alone(tables)
         for move, reply, *_ in self.steps:
             told = alone.tell(move)
             wanted = ("tid", self.age) if move == "begin" else told
             if reply != wanted:
-                return None, f"{move} was told {reply}, alone {wanted}"
+                return None, f"the reply to {move} was {reply}, serially it is {wanted}"
         return alone.updates, None
 
     def locks(self):
-        """What it surely held, from when to when."""
+        """The locks that it surely had, with their times."""
         for move, _, _, got in self.steps:
             if is_operation(move) and got < self.sent:
                 yield lock_of(move), got, self.sent
 
     def asked(self):
-        """What it asked for, and in which time it may have held it or waited for it."""
+        """The locks that it requested, with the times in which it may have had them or waited for them."""
         until = self.got
         for move, _, sent, _ in self.steps + ([self.last] if self.last else []):
             if is_operation(move):
@@ -72,7 +72,7 @@ class Attempt:
 
 
 class OneShot:
-    """A transaction in one request. Its last write has a value that no other has, where it writes."""
+    """A transaction in one request. If it writes, its last write has a value that no other has."""
 
     def __init__(self, parts, tag, sent):
         self.parts, self.tag, self.sent, self.got, self.reply, self.age, self.number = parts, tag, sent, math.inf, None, None, None
@@ -94,7 +94,7 @@ class OneShot:
 
 
 class Log:
-    """What a subscriber was told, by its name: the terms that came with their times, and the subscriptions' begins and ends with theirs,
+    """The log of a subscriber, by its name: the received terms with their times, and the begins and ends of its subscriptions with theirs,
     as they were granted. Whether it records the order of all commits, and whether it vanished."""
 
     def __init__(self, name, records):
@@ -105,13 +105,13 @@ class Log:
 
 
 class Run:
-    """What all clients were told, and the number and the age of the last commit, which reads all and writes to all tables."""
+    """The logs of all clients, and the number and the age of the last commit, which reads all and writes to all tables."""
 
     def __init__(self, attempts, shots, logs, closing, outbox):
         self.attempts, self.shots, self.logs, self.closing, self.outbox = attempts, shots, logs, closing, outbox
 
     def save(self, path):
-        """A record: a line for each transaction and subscriber, as a Python literal, in which LONG and inf stand for themselves."""
+        """A record: a line for each transaction and subscriber, as a Python literal, with the names LONG and inf."""
         rows = [("run", {"closing": self.closing, "outbox": self.outbox})]
         rows += [(type(it).__name__, vars(it)) for it in [*self.attempts, *self.shots]] + [("Log", log.fields()) for log in self.logs]
         with open(path, "w", encoding="utf-8") as file:
@@ -175,7 +175,7 @@ class Commit:
 
 
 class Times:
-    """Which commits were surely made before a moment, and which may have been: their places in the order."""
+    """Which commits were surely made before a moment, and which may have been: their positions in the order."""
 
     def __init__(self, commits):
         places = list(enumerate(commits, 1))
@@ -186,14 +186,14 @@ class Times:
         self.least = list(itertools.accumulate((place for _, place in asked), min, initial=len(commits) + 1))
 
     def between(self, sent, got):
-        """The places whose tables something may have seen that was asked for and answered then."""
+        """The positions whose tables a request of these times may have seen."""
         first = self.greatest[bisect.bisect_left(self.over, sent)]
         return first, self.least[bisect.bisect_left(self.asked, -got)] - 1
 
 
 def stretches(frames):
-    """Of each commit that a recorder was told without a gap before it, the age of the one before, and its age and events. The first
-    is behind None; it watches both tables again from their second marker on."""
+    """Of each commit that a recorder received without a gap before it, the age of the one before, and its age and events. None is
+    before the first; it watches both tables again from their second marker on."""
     age, marks = None, 0
     for kind, group in itertools.groupby((term for term, _ in frames), lambda term: term[0] == "mnesia_table_event" and term[1][-1][1]):
         told = list(group)
@@ -216,7 +216,7 @@ class Judge:
         (self.closing, self.last), self.outbox = run.closing, run.outbox
 
     def faults(self):
-        """All that are found; the order first, on which the rest stands."""
+        """All faults; those of the order first, on which the other checks depend."""
         try:
             self.commits = self.order(self.recorded())
             self.run()
@@ -233,13 +233,13 @@ class Judge:
         return [fault for fault in found if fault]
 
     def recorded(self):
-        """The events of all commits in their order, each commit's together: an age, and their terms. Where one recorder missed some,
+        """The events of all commits in their order, each commit's together: an age, and their terms. If one recorder missed some,
         another goes on."""
         after: Dict[Any, Any] = {}
         for watcher in self.watchers:
             for age, group in stretches(watcher.frames) if watcher.records else []:
                 if after.setdefault(age, group) != group:
-                    raise Differs(f"behind age {age} one recorder is told {group}, another {after[age]}")
+                    raise Differs(f"after age {age} one recorder received {group}, another {after[age]}")
         groups, age = [], None
         while age in after:
             groups.append(after.pop(age))
@@ -285,7 +285,7 @@ class Judge:
         return bool(depths[0])
 
     def run(self):
-        """Each alone, on the tables of those before it."""
+        """Runs each serially, on the tables after those before it."""
         self.worlds, self.batches = [EMPTY], [None]
         for commit in self.commits:
             updates, fault = commit.who.alone(self.worlds[-1])
@@ -300,7 +300,7 @@ class Judge:
         self.touched = {tab: [at for at, told in enumerate(self.batches) if told and any(it[0] == tab for it in told)] for tab in EMPTY}
 
     def number(self):
-        """The commits' numbers: each once, and enough of them left for those who are told none."""
+        """The commits' numbers: each once, and enough other ones for the commits whose replies have none."""
         known = [it.number for it in self.attempts if it.end == "commit"]
         if len(set(known)) != len(known) or max(known) != self.closing:
             raise Differs("numbers of commits come twice, or are over the last one's")
@@ -309,14 +309,14 @@ class Judge:
         perhaps = [it for it in self.shots if it.reply is None] + [it for it in self.attempts if it.end == "maybe"]
         if not len(untold) <= len(free) <= len(untold) + len(perhaps):
             raise Differs(f"{len(free)} numbers are no attempt's, and {len(untold)} to {len(untold) + len(perhaps)} others committed")
-        # The numbers that are told of those who changed something, with their places in the order.
+        # The known numbers of the commits that changed something, with their positions in the order.
         self.told = [(commit.who.number, place) for place, commit in enumerate(self.commits) if commit.who.number]
         if self.told != sorted(self.told):
             raise Differs("the commits' numbers are in another order than their events")
         self.share(free)
 
     def share(self, free):
-        """The numbers that are left between two commits, for those between them that are told none."""
+        """The unused numbers between two commits, for those between them whose replies have none."""
         before, pending = 0, []
         for commit in [*self.commits, None]:
             number = commit.who.number if commit else self.closing + 1
@@ -340,7 +340,7 @@ class Judge:
         return against_time(commits) or against_time(named("commit", numbers)) or against_time(named("the begin of age", firsts))
 
     def seen_at(self, who):
-        """Where in the order all that was told to somebody who changed nothing may have stood."""
+        """The positions in the order that the replies of a transaction that changed nothing may have."""
         if isinstance(who, OneShot):
             return self.times.between(who.sent, who.got)
         if who.number is None:
@@ -351,14 +351,14 @@ class Judge:
         return max(first, before + under), min(last, before + over)
 
     def near(self, number):
-        """The commits that are told no number, between the last that is told one below this and the first above; and how many are
+        """The commits whose replies have no number, between the last with a lesser number and the first with a greater one; and how many are
         before them."""
         at = bisect.bisect(self.told, (number, 0))
         before = self.told[at - 1][1] + 1 if at else 0
         return before, self.commits[before : self.told[at][1] if at < len(self.told) else len(self.commits)]
 
     def readers(self):
-        """Those who changed nothing: what they were told stood in the tables at their time."""
+        """Checks transactions that changed nothing: their replies are those of the tables at their time."""
         wrote = {id(commit.who) for commit in self.commits}
         told = [it for it in self.attempts if it.steps] + [it for it in self.shots if it.reply and it.reply != ("aborted", "nomore")]
         for who in told:
@@ -371,7 +371,7 @@ class Judge:
                 yield f"{what}, at {first} to {last} of the order: {faults[-1] if faults else 'no such place'}"
 
     def locks(self):
-        """Two who surely held conflicting locks at once."""
+        """Finds two transactions that surely had conflicting locks at once."""
         spans = sorted((start, end, Owner(it), lock) for it in self.attempts for lock, start, end in it.locks())
         held: List[Any] = []
         most = 0
@@ -380,14 +380,14 @@ class Judge:
             most = max(most, len({whose.age for _, _, whose, _ in held}))
             for _, _, whose, other in held:
                 if whose.age != owner.age and conflict(lock, other):
-                    return f"ages {owner.age} and {whose.age} both hold {lock} and {other}"
+                    return f"ages {owner.age} and {whose.age} both have {lock} and {other}"
             held.append((start, end, owner, lock))
         return None if most > 2 else "transactions are open one after another"
 
     def restarts(self):
-        """Who was restarted met an older one, who held a lock or waited for it."""
+        """Checks that each restarted transaction met an older one that had a lock or waited for it."""
         asked = sorted((sent, until, Owner(it), lock) for it in [*self.attempts, *self.shots] for lock, sent, until in it.asked())
-        # Who vanished may have asked for it until the end.
+        # A client that vanished may have requested it until the end.
         gone, asked = [it for it in asked if it[1] == math.inf], [it for it in asked if it[1] < math.inf]
         starts, ends = [it[0] for it in asked], list(itertools.accumulate((it[1] for it in asked), max))
         ages = {id(commit.who): commit.age for commit in self.commits}
@@ -401,7 +401,7 @@ class Judge:
 
 
 class Owner:
-    """Stands behind equal times in a list that is sorted."""
+    """Comes after equal times in a sorted list."""
 
     def __init__(self, it):
         self.it, self.age = it, it.age
@@ -411,7 +411,7 @@ class Owner:
 
 
 class Follower:
-    """Follows what a subscriber was told, and where in the order of the commits it may have come so."""
+    """Follows a subscriber's log, and the positions in the order of the commits that it may be at."""
 
     def __init__(self, judge, watcher):
         self.judge, self.watcher = judge, watcher
@@ -447,13 +447,13 @@ class Follower:
                 self.mark(term, got, next(marks, None))
             place += 1
         if not self.watcher.vanished and (self.level or list(marks)):
-            raise Differs(f"it was never told the end of {list(self.level)}")
+            raise Differs(f"it never received the end of {list(self.level)}")
 
     def batch(self, frames, got):
-        """The events of one commit, which stand together."""
+        """The events of one commit, which have to be together."""
         for place in {self.next(place) for place in self.at}:
             owed = self.owed(place)
-            # Who vanished may have got some of them.
+            # A client that vanished may have received some of them.
             count = min(len(owed), len(frames)) if self.watcher.vanished else len(owed)
             if owed and frames[:count] == owed[:count]:
                 self.at = [place]
@@ -461,10 +461,10 @@ class Follower:
                 for term in owed:
                     self.mirror(term[1])
                 return count
-        raise Differs(f"told {frames[0]}, and the next is of {[self.owed(self.next(place))[:1] for place in self.at[:2]]}")
+        raise Differs(f"received {frames[0]}, and the next is of {[self.owed(self.next(place))[:1] for place in self.at[:2]]}")
 
     def mirror(self, event):
-        """A copy goes by the event alone."""
+        """A copy depends only on the event."""
         what = event[1] if len(event) == 3 else event[2]
         if (rows := self.copies.get(what[0])) is None:
             return
@@ -492,7 +492,7 @@ class Follower:
         else:
             at = []
         if not at:
-            raise Differs(f"told {term}, asked {request}, at none of {first} to {last} of the order")
+            raise Differs(f"received {term}, asked {request}, at none of {first} to {last} of the order")
         self.at = at
 
     def begin(self, term, request, at):
@@ -515,7 +515,7 @@ class Follower:
         return at
 
     def overflow(self, number):
-        """Its outbox held as much as it can when the commit came."""
+        """Its outbox was full when the commit came."""
         for place in {self.next(place) for place in self.at} - {len(self.judge.batches)}:
             commit, held = self.judge.commits[place - 1], self.items[-self.judge.outbox :]
             if commit.least <= number <= commit.most:

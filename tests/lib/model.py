@@ -1,7 +1,7 @@
-"""Transactions alone, on plain tables: what the judge (judging.py) holds a served run against, and the sessions of sessions.py a replay.
+"""A serial model of transactions, on plain tables. The judge (judging.py) compares a served run with it, and sessions.py a replay.
 It shares no code with the server.
 
-A table's records stand by their keys' spellings, and those of a key in the order of their insertion. Tables are never changed:
+A table's records are sorted by their encoded keys, and those of a key are in the order of their insertion. Tables are never changed:
 each change makes new ones, so those of every commit can be kept.
 """
 
@@ -125,7 +125,7 @@ class Alone:
         return [rows[key][0][1] for key in sorted(rows)] if name == "all_keys" else "ok"
 
     def members(self, parts):
-        """What the members of a one-shot are told, up to the end of the level that they began in."""
+        """The replies to the members of a one-shot, up to the end of the level that they began in."""
         depth, told = len(self.saved), []
         for part in parts:
             told.append(self.child(part[1]) if part[0] == "transaction" else self.tell(part))

@@ -1,5 +1,5 @@
-"""One-shots for test_refusals.py: what was asked before each, the one-shot of session 1, its reply, and what a probe finds behind
-it where it was refused memory. Replies are those that docs/PROTOCOL.md says, by hand.
+"""One-shots for test_refusals.py: the requests before each, the one-shot of session 1, its reply, and the replies to a probe after
+it if it was refused memory. Replies are those of docs/PROTOCOL.md, written by hand.
 """
 
 from typing import Any, List
@@ -38,7 +38,7 @@ PROBED = [
     (2, ("write_lock_table", "t"), OK),
     (2, ("write_lock_table", "b"), OK),
 ]
-# No lock is held or awaited in the tables.
+# No transaction has or awaits a lock in the tables.
 FREE = [
     (2, ("add_table_index", "t", "val"), ATOMIC),
     (2, ("del_table_index", "b", "val"), ATOMIC),

@@ -1,7 +1,7 @@
-// Refuses the allocation number NTH of those that are made once FROM pieces were read. What was refused is told on REPORT: how
-// many pieces had been read, and how many allocations made since the last. Where NTH is 0 this is told before each read instead.
-// Each of more than LARGEST bytes is refused too, where that is not 0. Where ENDS is not 0 the program is a wrong one: it ends at the
-// refusal of that allocation since a piece, and of each behind it, with the status of WRONG and its line.
+// Refuses the allocation number NTH of those that are made once FROM pieces were read. The refusal is reported on REPORT: how
+// many pieces had been read, and how many allocations made since the last. If NTH is 0 this is reported before each read instead.
+// Each of more than LARGEST bytes is refused too, if that is not 0. If ENDS is not 0 the program is a wrong one: it ends at the
+// refusal of that allocation since a piece, and of each later one, with the status of WRONG and its line.
 #define _GNU_SOURCE
 #include <dlfcn.h>
 #include <stdio.h>

@@ -1,4 +1,4 @@
-"""A `tabd serve` for a test or a measurement: with any words, at a port or a socket file, and what it holds and counts."""
+"""A `tabd serve` for a test or a measurement: with any options, at a port or a socket file, with its memory and its counters."""
 
 import http.client
 import os
@@ -24,7 +24,7 @@ Self = TypeVar("Self", bound="Server")
 
 
 class Server:
-    """With these words, at a port, or at the socket file of a path; options are those of Popen."""
+    """With these arguments, at a port, or at the socket file of a path; options are those of Popen."""
 
     def __init__(self, program: str, *words: str, path: Optional[str] = None, **options: Any) -> None:
         where = ["--socket", path] if path else ["--port", "0"]
@@ -76,7 +76,7 @@ class Server:
         return self.process.communicate()[1]
 
     def seated(self) -> Tuple[Connection, Term]:
-        """A connection that has a seat, as soon as one is free, and its first reply."""
+        """A connection that the server serves, as soon as it can serve one more, and its first reply."""
         end = time.monotonic() + PATIENCE
         while time.monotonic() < end:
             connection = self.connect()
@@ -89,7 +89,7 @@ class Server:
                 pass
             connection.close()
             time.sleep(0.01)
-        raise AssertionError("no seat is free")
+        raise AssertionError("the server serves no more connections")
 
     def status(self) -> Dict[str, str]:
         with open(f"/proc/{self.process.pid}/status", encoding="ascii") as file:
@@ -152,7 +152,7 @@ class Metered(Server):
     def __init__(self, program: str, seats: int, *words: str) -> None:
         super().__init__(program, "--connections", str(seats), "--forever", "--journal", "16", "--metrics", "0", *words)
         found = re.fullmatch(r"metrics on 127\.0\.0\.1:(\d+)\n", self.line())
-        assert found, "where its counters are"
+        assert found, "the address of its counters"
         self.pages = int(found[1])
 
     def connect(self, small: bool = False) -> Client:

@@ -25,12 +25,12 @@ class Session:
 
 
 def covers(one: Any, other: Any) -> bool:
-    """A lock that is held covers one that is asked for."""
+    """A lock that a transaction has covers one that it requests."""
     return one[0] == other[0] and one[1] in (None, other[1]) and (one[2] or not other[2])
 
 
 class Sessions:
-    """Several that meet, behind so many ages and commits."""
+    """Several sessions that meet, after so many ages and commits."""
 
     def __init__(self, count: int, age: int, number: int) -> None:
         self.sessions, self.queue = [Session() for _ in range(count)], []  # type: Tuple[List[Session], List[Session]]
@@ -114,7 +114,7 @@ class Sessions:
         return session.age is not None and all(session.age < age for age in opposed)
 
     def retry(self, session: Session) -> Term:
-        """It looks at those alone that wait before it, and never dies."""
+        """It meets only the requests that wait before it, and never dies."""
         if session.queued is None:
             return ("error", "not_waiting")
         move = session.queued
@@ -126,7 +126,7 @@ class Sessions:
 
 
 class Watcher:
-    """The tables that a session watches, each with its level, what waits in its outbox, and an overflow that is not told yet."""
+    """The tables that a session watches, each with its level, the items in its outbox, and a pending overflow."""
 
     def __init__(self) -> None:
         self.levels: Dict[str, str] = {}
@@ -159,7 +159,7 @@ class Outboxes:
         return ("mnesia_overflow", overflow) if overflow else "empty"
 
     def put(self, watcher: Watcher, item: Term, number: int) -> None:
-        """Where it finds no room all subscriptions end."""
+        """If there is no room for it, all subscriptions end."""
         if len(watcher.outbox) < self.room:
             watcher.outbox.append(item)
         else:
@@ -214,7 +214,7 @@ class Outboxes:
 
 
 def mirrored(items: List[Term]) -> Dict[str, List[Term]]:
-    """The tables that are watched with a dump in the end, by the items alone."""
+    """The tables that are watched with a dump in the end, built only from the items."""
     copies: Dict[str, Dict[Term, List[Term]]] = {}
     for item in items:
         if item[0] == "mnesia_table_begin" and len(item) == 4:

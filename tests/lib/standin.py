@@ -1,7 +1,7 @@
-"""Wrong servers for test_history.py: each stands between the clients and a server that is right, and breaks one rule.
+"""Wrong servers for test_history.py: each is a proxy between the clients and a right server, and breaks one rule.
 
-A wrong server sees each request before the server does, and each frame before its client does, and says what goes on. So it
-can lose a lock, by asking for a record outside of the client's transaction, and drop, double or swap what is told.
+A wrong server sees each request before the server does, and each frame before its client does, and decides what is passed on. So it
+can lose a lock, by a read outside of the client's transaction, and drop, double or swap frames.
 """
 
 import select
@@ -18,13 +18,13 @@ OFTEN = 23
 
 
 class Link:
-    """One client's connection, and the one that stands for it at the server."""
+    """One client's connection, and its connection to the server."""
 
     def __init__(self, wrong, client, port):
         self.wrong, self.client, self.server = wrong, client, Connection(port, small=wrong.small).socket
         self.client.setsockopt(socket.IPPROTO_TCP, socket.TCP_NODELAY, 1)
-        # The requests that are not answered yet, the open levels, the keys that the transaction may have changed, what is held
-        # back, and whatever else a wrong server notes of it.
+        # The pending requests, the open levels, the keys that the transaction may have changed, the frames that are kept
+        # back, and other notes of a wrong server.
         self.pending: Deque[Term] = deque()
         self.depth, self.touched, self.held = 0, set(), []  # type: int, Set[Any], List[Term]
         self.notes: Dict[Any, Any] = {}
@@ -102,7 +102,7 @@ class Link:
 
 class Wrong:
     """A stand-in that changes nothing: the others are it but for one rule. One that is small has little room for what a client
-    does not read; one that spares recorders tells other subscribers alone what is wrong."""
+    does not read; one that spares recorders sends wrong frames only to other subscribers."""
 
     small, spares = False, False
 
@@ -136,7 +136,7 @@ class Wrong:
         return term
 
     def told(self, link, term):
-        """What the client is told."""
+        """The frames that the client receives."""
         return [term]
 
     def gone(self, link):
@@ -146,7 +146,7 @@ class Wrong:
         return is_event(term) and not (self.spares and link.records) and self.now_and_then()
 
     def by_itself(self, link, request):
-        """Reads outside of the client's transaction, where that is told the same. Whether it did."""
+        """Reads outside of the client's transaction, if the reply is the same. Returns whether it did."""
         if link.pending or not link.depth:
             return False
         with self.aside_lock:
@@ -178,7 +178,7 @@ class DoublesAnEvent(Wrong):
 
 
 class HoldsBack(Wrong):
-    """Some frames stand behind the next."""
+    """Some frames come after the next one."""
 
     def is_held(self, link, term):
         return self.hits(link, term)
@@ -329,7 +329,7 @@ class TellsAnOldRead(Wrong):
 
 
 class TellsAReaderAnOldRead(Wrong):
-    """A one-shot that writes nothing is told what was there long ago."""
+    """The reply to a one-shot that writes nothing is that of old tables."""
 
     def replied(self, link, request, term):
         if request[0] == "read" and isinstance(term[1], list):

@@ -31,7 +31,7 @@ def terms(depth: int = 4) -> st.SearchStrategy[Term]:
 
 
 KEYS: List[Term] = [1, "a", -1, 300, (1, 2), b"x", []]
-# A step has few choices, each by its place in a list, so that it is shrunk in few tries.
+# A step has few choices, each an index of a list, so that it is shrunk in few tries.
 ENDS: List[Term] = ["begin", "commit", ("abort", "why")]
 
 

@@ -14,7 +14,7 @@ ROWS = os.path.join(os.path.dirname(os.path.abspath(__file__)), "streams.tsv")
 
 
 class Stream:
-    """A name, the words of the program, the frames of input and output, and what of no whole frame follows."""
+    """A name, the program's arguments, the frames of input and output, and the incomplete frame at the end."""
 
     def __init__(self, name: str, outbox: object, given: bytes, told: bytes, ended: str = "whole") -> None:
         self.name, self.words = name, ["replay", "--outbox", str(outbox)]

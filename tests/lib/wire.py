@@ -22,7 +22,7 @@ def frames(*terms: Term) -> bytes:
 
 
 def frames_of(data: bytes) -> Tuple[List[bytes], bytes]:
-    """Whole frames, and what stands behind them."""
+    """Complete frames, and the bytes after them."""
     found = []
     while len(data) >= 4 and len(data) >= (end := 4 + int.from_bytes(data[:4], "big")):
         found.append(data[:end])
@@ -36,8 +36,8 @@ def term_of(data: bytes) -> Term:
 
 
 class Connection:
-    """Asks one request at a time, and keeps the events that come between. Where the room is small, little stands between the server
-    and a client that does not read; of a socket file the server's own room decides."""
+    """Sends one request at a time, and keeps the events that come between. `small` makes the buffers between the server and a client
+    that does not read small; of a socket file the server's own buffer decides."""
 
     def __init__(self, place: Place, small: bool = False) -> None:
         self.socket = socket.socket(socket.AF_UNIX if isinstance(place, str) else socket.AF_INET)
