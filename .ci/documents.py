@@ -1,5 +1,5 @@
 #!/usr/bin/env python3
-"""What the documents name is there, and the bytes that docs/PROTOCOL.md prints are what the built program answers.
+"""Checks that the names in documents exist, and that the built program replies with the bytes that docs/PROTOCOL.md prints.
 
     documents.py PROGRAM
     documents.py --write | --reset
@@ -31,28 +31,28 @@ import words  # noqa: E402
 from frames import frame, read, spell, take  # noqa: E402
 from words import DOCUMENTS  # noqa: E402
 
-# What a document names and the repository doesn't have, with the reason.
+# Names in documents that the repository doesn't have, with the reason.
 ELSEWHERE = {
     "crates/tabd/out/tabd": "the program, once it is built",
     "path/to/tabd": "the same, for a client's reader",
-    "out/": "what a check keeps",
-    "BUILD.bazel": "what rt new writes",
-    "WHAT_IT_DOES.edit": "a name that stands for others",
+    "out/": "the results of a check",
+    "BUILD.bazel": "a file that rt new writes",
+    "WHAT_IT_DOES.edit": "a placeholder",
     "F/float": "a segment of a binary",
     "Vec::push_reserved": "a function of the kit",
     "anyhow": "a crate of the kit",
     "crossbeam_channel": "a crate of the kit",
 }
-# Documents whose names are not of this repository's code: words of a protocol, which are looked for in it, or functions of Mnesia, which
-# aren't.
+# Documents whose names are not of this repository's code: atoms of the protocol, which have to be in the code, or functions of Mnesia, which
+# don't.
 PROTOCOL, MNESIA = "docs/PROTOCOL.md", "docs/MNESIA.md"
-# Programs whose options are theirs, where they stand before them in a line.
+# Programs of which an option is if the program is before it in a line.
 OTHERS = ("erlc", "dialyzer", "pip", "mypy", "redis-server", "apt-get")
 # The file that has the options of the tests.
 TESTS = "tests/conftest.py"
 # A page of tabd-cli, whose options are in this folder.
 OPERATING, CLI = "docs/OPERATING.md", "clients/python/tabd/cli/"
-# Crates whose words each document of a crate may say: definitions and commands.
+# Crates whose names every section of a crate may use: definitions and commands.
 SHARED = ("tab_model", "tab_proto")
 
 SPAN = re.compile(r"`([^`\n]+)`")
@@ -110,7 +110,7 @@ class Tree:
                 self.own(text)
 
     def own(self, text):
-        """Functions, variants and fields stand one step in, under the head of their type."""
+        """Functions, variants and fields are indented by one step, under the head of their type."""
         owner = None
         for line in text.split("\n"):
             if line.startswith("impl") or TYPE.match(line):
@@ -119,7 +119,7 @@ class Tree:
                 self.owned.setdefault(owner, set()).add(found[1])
 
     def has(self, path, document):
-        """A path stands below the top, the crates, or the document's own folder; a definition's without its ending."""
+        """Whether a path is below the top, the crates, or the document's own folder; a definition's path has no ending."""
         place = re.sub(r"\b[A-Z_]{2,}\b", "*", path).rstrip("/")
         for base in ("", "crates", "crates/*", "crates/*/src", "clients/*", "clients/erlang/tabd", os.path.dirname(document)):
             if any(glob.glob(os.path.join(TOP, base, place + ending)) for ending in ("", ".antt", ".rt")):
@@ -210,7 +210,7 @@ class Document:
 
 
 def unlisted(tree):
-    """The files of specs that docs/MAP.md doesn't have: a row names one whole, and its neighbours by their last part."""
+    """The files of specs that docs/MAP.md doesn't have: a row has the full path of one, and the last part of its neighbours."""
     rows, named = [line for line in read_text("docs/MAP.md").split("\n") if line.startswith("|")], set()
     for row in rows:
         folder = ""
@@ -221,7 +221,7 @@ def unlisted(tree):
 
 
 def text_of(words):
-    """What a program prints; None where it isn't there."""
+    """A program's output; None if the program is not installed."""
     try:
         return subprocess.run(words, stdout=subprocess.PIPE, stderr=subprocess.STDOUT, text=True, check=False).stdout
     except OSError:
@@ -247,7 +247,7 @@ def term_of(text):
 
 
 class Listing:
-    """Frames that are asked and told, from a first one on, and the terms beside them."""
+    """Frames of requests and replies, from a first one on, and the terms next to them."""
 
     def __init__(self, lines):
         self.asked, self.told, self.terms = [], [], []
@@ -267,7 +267,7 @@ class Listing:
 
 
 def listings(text):
-    """Of the page, those blocks whose lines have frames. Bytes that don't fit beside their term stand on the next line."""
+    """The page's blocks whose lines have frames. Bytes that don't fit next to their term are on the next line."""
     text = re.sub(rf"\n +(?={BYTES.pattern}$)", "  ", text, flags=re.M)
     for block in re.findall(r"(?:^    .*\n)+", text, re.M):
         if BYTES.search(block):
@@ -282,7 +282,7 @@ def frames_of(data):
 
 
 def served(program, listing):
-    """What a connection is told: replies, and what comes between them, which no order ties to them."""
+    """The frames that a connection receives: replies, and events between them, in no order relative to them."""
     server = subprocess.Popen([program, "serve", "--port", "0", "--connections", "1"], stdout=subprocess.PIPE)
     try:
         port = int(server.stdout.readline().rsplit(b":", 1)[1])
@@ -316,11 +316,11 @@ def listing_faults(program, listing):
         if found != wanted:
             at = next((at for at, pair in enumerate(zip(found, wanted)) if pair[0] != pair[1]), min(len(found), len(wanted)))
             shown = [read(io.BytesIO(it[at][5:])) if at < len(it) else None for it in (found, wanted)]
-            yield f"frame {at + 1}: the program tells {shown[0]} ({found[at].hex() if at < len(found) else ''}), the page {shown[1]}"
+            yield f"frame {at + 1}: the program sends {shown[0]} ({found[at].hex() if at < len(found) else ''}), the page has {shown[1]}"
 
 
 def term_faults(program, text):
-    """The table of single terms: each is told back, as the reason of an abort, as it stands there."""
+    """The table of single terms: the reply to an abort with each as its reason has the bytes of the table."""
     rows = re.findall(r"^\| (`[^|]*` \| `[0-9A-F ]+` \|.*)$", text, re.M)
     cells = [cell for row in rows for cell in re.findall(r"`([^`]*)`", row)]
     terms = [(term, bytes.fromhex(digits)) for term, digits in zip(cells[::2], cells[1::2])]

@@ -1,14 +1,14 @@
 #!/usr/bin/env python3
-"""Finds each place of the program's crates that says itself that no memory was found, and compares with the list of them.
+"""Finds each line of the program's crates that returns NoMemory itself, and compares them with the list.
 
     no_memory.py            compares with no_memory.tsv
-    no_memory.py list       prints what stands in the crates, without reasons
+    no_memory.py list       prints the lines of the crates, without reasons
 
-A contract lets a call that takes memory answer NoMemory, and can't see whether memory was refused: a body that gives up is proved.
-So each place that names the answer as a value, and doesn't hand on a callee's, stands in no_memory.tsv with what was refused before
-it, or with why it stands where nothing was. A place that is new, gone or moved to another function fails. Not seen: a growth
-that no memory can serve, as of the greatest size, and an answer that is handed on where it was not given. One line tells each
-difference; the last line is `N passed, M failed`, and the status 1 where one failed.
+A contract lets a call that takes memory return NoMemory, and can't see whether memory was refused: a body that gives up is proved.
+So each line that has NoMemory as a value, and doesn't pass on a callee's, has a row in no_memory.tsv with the allocation that was refused
+before it, or the reason why it returns so without one. A line that is new, gone or moved to another function fails. Not found: a growth
+that no memory can serve, as of the greatest size, and an error that is passed on but was not returned. One line reports each
+difference; the last line is `N passed, M failed`, and the status is 1 if one failed.
 """
 
 import collections

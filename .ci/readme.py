@@ -1,10 +1,10 @@
 #!/usr/bin/env python3
-"""Runs the sessions of README.md and of docs/TUTORIAL.md, in their order, and compares what is printed there; and README's pipe, of which a
-reader takes one line. Each document's `$` lines say which servers of the built program it needs, and each server gets a free port.
+"""Runs the sessions of README.md and of docs/TUTORIAL.md, in their order, and compares their output with the document; and README's pipe, of
+which a reader takes one line. Each document's `$` lines start the servers of the built program that it needs, and each server gets a free port.
 
     readme.py PROGRAM
 
-Erlang's are left out where `erl` is not there, and a line says so. The last line is `N passed, M failed`, and the status 1 where one
+Erlang's sessions are skipped if `erl` is not installed, and a line says so. The last line is `N passed, M failed`, and the status is 1 if one
 failed.
 """
 
@@ -18,7 +18,7 @@ import tempfile
 
 TOP = os.path.join(os.path.dirname(os.path.abspath(__file__)), "..")
 SESSION = re.compile(r"^```(pycon|erlang)\n(.*?)^```", re.M | re.S)
-# What makes frames, and what shows them.
+# The program that writes frames, and the one that shows them.
 PIPE = re.compile(r"`(\S+ ask) \| \(cd crates/tabd && rt run -- replay\) \| (\S+ show)`")
 DOCUMENTS = ("README.md", "docs/TUTORIAL.md")
 # A line that starts a server, with its port.
@@ -70,16 +70,16 @@ class Erlang:
 
 
 def pipe_differs(text, program):
-    """A replay between two programs that make and show frames; who reads ends after a line, and none of them complains."""
+    """A replay between two programs that write and show frames; the reader ends after a line, and none of them prints an error."""
     found = PIPE.search(text)
-    words = f"{found[1]} | {program} replay | {found[2]} | head -n 1" if found else "echo 'no pipe is there'"
+    words = f"{found[1]} | {program} replay | {found[2]} | head -n 1" if found else "echo 'the document has no pipe'"
     ran = subprocess.run(words, shell=True, cwd=TOP, capture_output=True, text=True, timeout=60, check=False)
     told = ran.stdout, ran.stderr
     return "" if told == ("(1, 'ok')\n", "") else f"{words}: {told}\n"
 
 
 def differences(path, program, erlang):
-    """Of each session that is run, what differs."""
+    """The difference of each session that is run."""
     with open(f"{TOP}/{path}", encoding="utf-8") as file:
         text = file.read()
     shells = {"pycon": Python(path), "erlang": erlang}
@@ -87,7 +87,7 @@ def differences(path, program, erlang):
     try:
         for kind, session in SESSION.findall(text):
             if not shells[kind]:
-                print("no erlc: Erlang's session was left out, and what comes after it")
+                print("no erlc: Erlang's session was skipped, and those after it")
                 return
             for port, (_, free) in servers.items():
                 session = re.sub(rf"\b{port}\b", free, session)

@@ -13,9 +13,9 @@ NUMBERS = ".ci/words.tsv"
 DOCUMENTS = ["*.md", "docs/*.md", "clients/*/README.md", "clients/*/tabd/README.md"]
 SOURCES = ["crates/**/*.rt"]
 TABLE = re.compile(r"^\| Instead of \| Write \|\n\|.*\n((?:\|.*\n)+)", re.M)
-# A fence with its block, an indented block behind an empty line, and a span, which may go over the end of a line.
+# A fence with its block, an indented block after an empty line, and a span, which may go over the end of a line.
 CODE = re.compile(r"^ *```.*?^ *```|(?<=\n\n) {4}[^\n]*(?:\n {4}[^\n]*)*|`[^`]*`", re.M | re.S)
-# Texts and characters, which may have a `//`, and comments.
+# Strings and characters, which may have a `//`, and comments.
 COMMENT = re.compile(r'"(?:\\.|[^"\\])*"|\'(?:\\.|[^\'\\])\'|//([^\n]*)', re.S)
 
 
@@ -30,7 +30,7 @@ def files(patterns):
 
 
 def blank(found):
-    """Its lines, empty, so that those after it keep their numbers."""
+    """As many empty lines, so that those after it keep their numbers."""
     return "\n" * found[0].count("\n")
 
 
@@ -51,7 +51,7 @@ def listed():
 
 
 def places(words):
-    """For each word the lines that have it, once for each use."""
+    """The lines that have each word, once for each use."""
     found = {word: [] for word in words}
     one = re.compile(rf"(?<![\w-])({'|'.join(re.escape(it) for it in sorted(words, key=len, reverse=True))})(?![\w-])", re.I)
     for path in files(DOCUMENTS) + files(SOURCES):
@@ -69,7 +69,7 @@ def numbers():
 
 
 def write(reset):
-    """Lowers the numbers to what is there; `reset` sets them, and may raise them."""
+    """Lowers the numbers to the current counts; `reset` sets them, and may raise them."""
     old = numbers()
     new = {word: len(lines) if reset else min(len(lines), old.get(word, 0)) for word, lines in places(listed()).items()}
     with open(os.path.join(TOP, NUMBERS), "w", encoding="utf-8") as file:
@@ -79,7 +79,7 @@ def write(reset):
 
 
 def added():
-    """The lines that are new since the numbers were committed; none where git can't say."""
+    """The lines that are new since the numbers were committed; none if git does not know."""
     git = ["git", "-C", TOP]
     since = subprocess.run([*git, "log", "-1", "--format=%H", "--", NUMBERS], capture_output=True, text=True, check=False).stdout.strip()
     if not since:

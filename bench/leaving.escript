@@ -1,12 +1,12 @@
 #!/usr/bin/env escript
 %% -*- erlang -*-
 %%! -noinput -kernel logger_level none
-%% What it costs to leave Mnesia's process: leaving.escript PROGRAM [ROUNDS], PROGRAM being the built tabd, or the port of a server that runs.
+%% The cost of a call outside of Mnesia's process: leaving.escript PROGRAM [ROUNDS], PROGRAM being the built tabd, or the port of a running server.
 %% Needs Debian's erlang-mnesia.
 %%
 %% A process of this node writes a record of an integer and 32 bytes: to a RAM table of Mnesia in the node, and to tabd by the Erlang client and by a bare
-%% socket. Batches of 20 take turns, ROUNDS times (400 where it is not given). A row has microseconds for one write: the least of its batches and their
-%% median, and the least divided by that of Mnesia's row of the same kind. Other work on the machine moves the medians.
+%% socket. Batches of 20 take turns, ROUNDS times (400 by default). A row has microseconds for one write: the least of its batches and their
+%% median, and the least divided by that of Mnesia's row of the same kind. Other work on the machine changes the medians.
 -mode(compile).
 
 -define(BATCH, 20).
@@ -61,7 +61,7 @@ compiled() ->
     [{ok, _} = compile:file(File, [{outdir, Ebin}]) || File <- filelib:wildcard(Source)],
     Ebin.
 
-%% A shell stands between, which kills the server when this end of its input is closed.
+%% The server runs in a shell that kills it when this end of the shell's input is closed.
 port(Program) ->
     try
         list_to_integer(Program)

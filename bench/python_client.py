@@ -1,14 +1,14 @@
 #!/usr/bin/env python3
-"""Measures the processor time of the Python client, beside redis-py if that and redis-server are there.
+"""Measures the processor time of the Python client, and of redis-py if that and redis-server are installed.
 
     python_client.py PROGRAM [--seconds S]
 
 - begin, write, commit: `with client.transaction() as t: t.write(..)`; of Redis MULTI, SET, EXEC by a pipeline.
 - one-shot: a transaction of one write in one request.
-- read: all of a table of 17,001 records, from the request to the records, by the clock, and its decoding alone by record.
+- read: all of a table of 17,001 records, from the request to the records, by the clock, and only its decoding, for each record.
 
-Each figure is the least and the median of many short measurements, since what else runs on the machine adds to some of them. A line each, in
-microseconds of this process (user and system), for the read in milliseconds. Redis's lines are left out where it is not there.
+Each figure is the least and the median of many short measurements, since other work on the machine adds to some of them. A line each, in
+microseconds of this process (user and system), for the read in milliseconds. Redis's lines are skipped if it is not installed.
 """
 
 import argparse
@@ -131,7 +131,7 @@ def main():
             if theirs:
                 print(f"tabd's processor time by redis-py's: {ours[0] / theirs[0]:.2f} to {ours[1] / theirs[1]:.2f}")
             else:
-                print("redis-py or redis-server is not there: left out")
+                print("redis-py or redis-server is not installed: skipped")
             read(client, given.seconds)
     finally:
         server.kill()

@@ -1,12 +1,12 @@
 #!/usr/bin/env python3
-"""Runs `tabd serve` for long, with clients that come and go, and looks whether it stays as it was.
+"""Runs `tabd serve` for long, with clients that come and go, prints its memory, threads and descriptors, and checks its counters.
 
     soak.py PROGRAM [SECONDS]
 
-Sixteen clients connect, make some transactions at a few hot records and at many others, by themselves or as one-shots, commit, abort, fail or
-break off in the middle, close, and come again; two mirrors follow, and a reader takes its events too slowly and loses them. Each half minute a line
-tells what the server holds (kilobytes, threads, descriptors) and how many connections and commits there were. In the end all have left, and
-the counters have to be what the clients were told; the status is 1 where one is not. An hour where no SECONDS are given.
+Sixteen clients connect, make some transactions at a few contended records and at many others, as transactions or one-shots, commit, abort, fail or
+break off in the middle, close, and come again. Two mirrors follow, and a reader reads its events too slowly and loses them. Each half minute a line
+has the server's kilobytes, threads and descriptors, and the numbers of connections and commits. In the end all have left, and
+the counters have to be those of the clients' replies; the status is 1 if one is not. It runs for an hour if no SECONDS are given.
 """
 
 import os
