@@ -82,7 +82,8 @@ start(Options) -> start(tabd, Options).
 %% operation waits for its lock, where the server runs with `--abort-waits'.
 %%
 %% It is `{error, {bad_option, Option}}' where one is not such; `{error, {already_started, Pid}}' where a client of that name was started with
-%% others, and `ok' where with the same; `{error, {no_connection, Reason}}' where there is no server, or it serves no more connections.
+%% others, and `ok' where with the same; `{error, {no_connection, Reason}}' where there is no server, or it serves no more connections: a
+%% full server's Reason is `not_served', and that of a server that does not reply is `timeout'.
 -spec start(atom(), options()) -> ok | {error, term()}.
 start(Name, Options) when is_atom(Name) ->
     case tabd_options:checked(Options) of
