@@ -83,6 +83,7 @@ start(Options) -> start(tabd, Options).
 %%
 %% Returns `{error, {bad_option, Option}}' for an option that is not valid; `{error, {already_started, Pid}}' if a client of that name runs with
 %% other options, and `ok' if with the same; `{error, {no_connection, Reason}}' if there is no server, or it serves no more connections.
+%% The Reason of a full server is `not_served', and that of a server that does not reply is `timeout'.
 -spec start(atom(), options()) -> ok | {error, term()}.
 start(Name, Options) when is_atom(Name) ->
     case tabd_options:checked(Options) of

@@ -46,6 +46,8 @@
 %% ended at the server.
 -type outcome() :: {reply, term()} | {closed, term()} | {undone, lock_timeout}.
 
+-type step() :: {noreply, #state{}} | {stop, term(), #state{}}.
+
 %% @doc Opens a connection. The pool is notified when the server serves it; else the process ends with `{shutdown, {closed, Reason}}'.
 -spec start(pid(), tabd_options:settings()) -> {ok, pid()}.
 start(Pool, Settings) ->
@@ -77,10 +79,12 @@ orphan(Connection) ->
 stop(Connection) ->
     gen_server:cast(Connection, stop).
 
+-spec init({pid(), tabd_options:settings()}) -> {ok, #state{}, {continue, open}}.
 init({Pool, Settings}) ->
     monitor(process, Pool),
     {ok, #state{pool = Pool, settings = Settings}, {continue, open}}.
 
+-spec handle_continue(open, #state{}) -> step().
 handle_continue(open, #state{settings = #{address := Address, timeout := Timeout}} = State) ->
     %% `infinity', as an atom, is above every number.
     case open(Address, Timeout, erlang:monotonic_time(millisecond) + min(Timeout, ?OPENING)) of
@@ -104,26 +108,35 @@ open(Address, Timeout, Deadline) ->
 
 left(Deadline) -> max(0, Deadline - erlang:monotonic_time(millisecond)).
 
-%% Any request shows that the connection is served, and this one changes nothing. A server whose sessions are all in use answers to no
-%% request that they are, and closes the connection.
+%% Any request shows that the connection is served, and this one changes nothing. A full server sends a refusal, in reply to no request, and
+%% closes the connection: sending may fail then, and the refusal can still be read.
 greet(Socket, Deadline) ->
     _ = gen_tcp:send(Socket, term_to_binary(commit)),
     case gen_tcp:recv(Socket, 0, left(Deadline)) of
-        {ok, Payload} -> greeted(binary_to_term(Payload), Socket);
-        {error, _} -> not_served(Socket)
+        {ok, Payload} -> greeted(reply(Payload), Socket);
+        {error, Reason} -> not_opened(Reason, Socket)
     end.
 
-greeted({reply, {error, {system_limit, sessions}}}, Socket) -> not_served(Socket);
-greeted(_, Socket) ->
+greeted({reply, {error, {system_limit, sessions}}}, Socket) -> not_opened(not_served, Socket);
+greeted({reply, _}, Socket) ->
     case inet:setopts(Socket, [{active, true}]) of
         ok -> {ok, Socket};
-        {error, _} -> not_served(Socket)
+        {error, _} -> not_opened(closed, Socket)
+    end;
+greeted(_, Socket) -> not_opened(no_tabd_server, Socket).
+
+reply(Payload) ->
+    try
+        binary_to_term(Payload)
+    catch
+        error:badarg -> none
     end.
 
-not_served(Socket) ->
+not_opened(Reason, Socket) ->
     gen_tcp:close(Socket),
-    {error, not_served}.
+    {error, Reason}.
 
+-spec handle_call({request, term(), binary()}, gen_server:from(), #state{}) -> step() | {reply, outcome(), #state{}}.
 handle_call({request, {unsubscribe, {table, Tab, _}}, _}, From, State) ->
     %% As in Mnesia, at whichever level.
     case State#state.watched of
@@ -163,6 +176,7 @@ may_wait(_) ->
 
 %% If a reply is pending it may take long, since its operation waits for a lock. Closing the connection makes the server undo
 %% everything.
+-spec handle_cast(orphan | stop, #state{}) -> step().
 handle_cast(orphan, #state{asked = none} = State) ->
     undo(undo, State);
 handle_cast(_, State) ->
@@ -172,6 +186,7 @@ undo(From, #state{settings = #{timeout := Limit}} = State) ->
     Asked = #asked{from = From, request = {abort, client}, limit = timer(Limit, reply)},
     sent(gen_tcp:send(State#state.socket, term_to_binary({abort, client})), State#state{asked = Asked}).
 
+-spec handle_info(term(), #state{}) -> step().
 handle_info({tcp, _, Payload}, State) ->
     case binary_to_term(Payload) of
         {reply, Reply} -> replied(Reply, State#state.asked, State);

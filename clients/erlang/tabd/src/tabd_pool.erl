@@ -73,9 +73,12 @@ give(Pool, Connection) -> gen_server:cast(Pool, {give, Connection}).
 -spec opened(pid(), pid()) -> ok.
 opened(Pool, Connection) -> gen_server:cast(Pool, {opened, Connection}).
 
+-spec init(tabd_options:settings()) -> {ok, #state{}}.
 init(Settings) ->
     {ok, #state{settings = Settings}}.
 
+-spec handle_call(take | watch | watching | settings | known | is_connected, gen_server:from(), #state{}) ->
+    {noreply, #state{}} | {reply, term(), #state{}}.
 handle_call(take, From, State) ->
     {noreply, serve(From, State)};
 handle_call(watch, {Pid, _} = From, #state{watchers = Watchers} = State) ->
@@ -113,6 +116,7 @@ lend(Use, {Pid, _} = From, Connection, #state{leases = Leases, settings = #{lock
     gen_server:reply(From, case Use of take -> {ok, Connection, Lock}; watch -> {ok, Connection} end),
     State#state{leases = Leases#{Connection => {Pid, monitor(process, Pid)}}}.
 
+-spec handle_cast({opened | give, pid()} | {know, atom()}, #state{}) -> {noreply, #state{}}.
 handle_cast({opened, Connection}, #state{opening = Opening, watchers = Watchers} = State) ->
     {{Use, {Pid, _} = From}, Others} = maps:take(Connection, Opening),
     Lent = lend(Use, From, Connection, State#state{opening = Others}),
@@ -149,6 +153,7 @@ released(Connection, #state{leases = Leases} = State) ->
             State
     end.
 
+-spec handle_info({timeout, reference(), waiting} | {'DOWN', reference(), process, pid(), term()}, #state{}) -> {noreply, #state{}}.
 handle_info({timeout, Timer, waiting}, #state{waiting = Waiting} = State) ->
     {Late, InTime} = lists:partition(fun({_, It}) -> It =:= Timer end, queue:to_list(Waiting)),
     _ = [gen_server:reply(From, {error, {no_connection, timeout}}) || {From, _} <- Late],

@@ -1,4 +1,4 @@
-%% What docs/MNESIA.md says of each name of Mnesia is what the client has.
+%% What docs/MNESIA.md says of each name of Mnesia is what the client has, with a type.
 -module(names_cases).
 
 -export([cases/0]).
@@ -9,7 +9,19 @@
 -define(VERSION, "4.21.3").
 
 cases() ->
-    [{"docs/MNESIA.md has each name of Mnesia", fun names/0}].
+    [
+        {"docs/MNESIA.md has each name of Mnesia", fun names/0},
+        {"each exported function has a type", fun types/0}
+    ].
+
+types() ->
+    Sources = filelib:wildcard(filename:join([get(here), "..", "src", "*.erl"])),
+    same(length(Sources) > 5, true),
+    same([{filename:basename(Source), Function} || Source <- Sources, Function <- untyped(Source)], []).
+
+untyped(Source) ->
+    {ok, Forms} = epp:parse_file(Source, []),
+    lists:append([Functions || {attribute, _, export, Functions} <- Forms]) -- [Function || {attribute, _, spec, {Function, _}} <- Forms].
 
 names() ->
     _ = application:load(mnesia),

@@ -10,6 +10,7 @@
 cases() ->
     [
         {"a server that is full", fun full/0},
+        {"what is no server", fun no_server/0},
         {"options that are none", fun bad_options/0},
         {"a second start", fun second_start/0},
         {"a connection that dies before it is served", fun dies_opening/0},
@@ -32,6 +33,30 @@ full() ->
     gen_tcp:close(Last),
     same(served(100), {atomic, ok}),
     kill(Server).
+
+%% What each connection is sent before anything comes, and how the start ends. `not_served' is said of a full server only.
+no_server() ->
+    Refusal = term_to_binary({reply, {error, {system_limit, sessions}}}),
+    Starts = [
+        {Refusal, not_served},
+        {none, closed},
+        {<<"HTTP">>, no_tabd_server},
+        {term_to_binary(hello), no_tabd_server}
+    ],
+    [same([tabd:start(sending(Sent)) || _ <- lists:seq(1, 20)], [{error, {no_connection, Why}} || _ <- lists:seq(1, 20)]) || {Sent, Why} <- Starts].
+
+%% The port of a server that closes each connection at once, or after it has sent this.
+sending(Sent) ->
+    {ok, Listener} = gen_tcp:listen(0, [binary, {packet, 4}, {active, false}, {ip, {127, 0, 0, 1}}]),
+    spawn_link(fun() -> send_to_each(Listener, Sent) end),
+    {ok, Port} = inet:port(Listener),
+    Port.
+
+send_to_each(Listener, Sent) ->
+    {ok, Socket} = gen_tcp:accept(Listener),
+    Sent =:= none orelse gen_tcp:send(Socket, Sent),
+    gen_tcp:close(Socket),
+    send_to_each(Listener, Sent).
 
 %% After a while there is room for one more.
 served(Left) ->

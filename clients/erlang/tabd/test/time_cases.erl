@@ -31,7 +31,7 @@ within(Most, Fun) ->
 silent_server() ->
     {ok, Listener} = gen_tcp:listen(0, [{ip, {127, 0, 0, 1}}]),
     {ok, Port} = inet:port(Listener),
-    same(within(2000, fun() -> tabd:start(#{port => Port, timeout => 1000}) end), {error, {no_connection, not_served}}).
+    same(within(2000, fun() -> tabd:start(#{port => Port, timeout => 1000}) end), {error, ?LATE}).
 
 none_free() ->
     {Port, Server} = serve(8, ["--forever"]),
