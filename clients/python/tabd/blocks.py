@@ -48,16 +48,16 @@ class Block(Entered):
 
 
 def abandon(session: Session) -> None:
-    """Ends a transaction that an interrupt has kept from its end, by the end of its connection. No reply is waited for."""
+    """Ends a transaction whose end an interrupt has prevented, by closing its connection, without a wait for a reply."""
     if not session.over:
         session.over = True
         session.connection.close()
-        # Its place in the pool is free once nothing refers to it.
+        # Its slot in the pool is free once nothing refers to it.
         del session.connection
 
 
 def opened(client: Client, block: Entered, kept: Optional[Session]) -> Transaction:
-    """A level in this thread's transaction, or the first level: of the transaction that is done again, or of a new one."""
+    """A level in this thread's transaction, or the first level: of the transaction that is repeated, or of a new one."""
     outer = client._session()
     if outer is not None:
         return outer.open()
@@ -90,8 +90,8 @@ class Attempts(Iterator["Attempt"]):
         return transaction
 
     def _finish(self, transaction: Transaction, error: Optional[BaseException]) -> bool:
-        """Whether the block is done again. A block that has caught `Restart` and ends as if all were well may have left the loop, so
-        that `Restart` is raised anew."""
+        """Whether the block is repeated. A block that has caught `Restart` and ends normally may have left the loop, so
+        `Restart` is raised again."""
         session = transaction._session
         if transaction.level > 1:
             finish(transaction, error is None)
@@ -118,7 +118,7 @@ class Attempts(Iterator["Attempt"]):
             self._left -= 1
 
     def __del__(self) -> None:
-        """The loop was left between two attempts. No reply is waited for here: the end of the connection ends its transaction."""
+        """The loop ended between two attempts. Closing the connection ends its transaction, without a wait for a reply."""
         session = getattr(self, "_session", None)
         if session is not None:
             abandon(session)

@@ -36,15 +36,15 @@ class Client:
     """A client of the server at an address, for any number of threads and forked processes.
 
     The address is a port of 127.0.0.1, a port and a host, or a text: "HOST", "HOST:PORT", "tabd://HOST:PORT", "unix:///PATH", or the path of
-    a socket file, with a slash in it or of a file that is there. The port is 4000 where none is given. Nothing is opened before it is used.
+    a socket file, with a slash in it or of an existing file. The port is 4000 by default. No connection is opened before it is used.
 
-    It has at most `connections` connections, without those of `events` and mirrors: one for each thread that is in a transaction, others
+    It has at most `connections` connections, without those of `events` and mirrors: one for each thread in a transaction. Other threads
     wait, for at most `pool_timeout` seconds (then `PoolTimeout` is raised). `connect_timeout` is how many seconds the opening of a connection
-    may take, ten without it (`ConnectTimeout`). `timeout` is how many seconds a reply may take, a wait for a lock too (`TimedOut`, or
-    `OutcomeUnknown` of a commit); without it a client waits as long as it takes.
+    may take, ten by default (`ConnectTimeout`). `timeout` is how many seconds a reply may take, including a wait for a lock (`TimedOut`, or
+    `OutcomeUnknown` of a commit); without it a client waits without a limit.
 
-    `lock_timeout` is how many seconds an operation of a transaction may wait for a lock: then its level is aborted, `LockTimeout` is raised,
-    and the connection goes on. The server has to run with `--abort-waits`; another ends the wait once the lock is there."""
+    `lock_timeout` is how many seconds an operation of a transaction may wait for a lock. Then its level is aborted, `LockTimeout` is raised,
+    and the connection goes on. The server has to run with `--abort-waits`; without it the wait ends only when the lock is granted."""
 
     def __init__(
         self,
@@ -68,7 +68,7 @@ class Client:
         return f"<tabd.Client of {self._address}, {state}>"
 
     def close(self) -> None:
-        """Closes the connections: those that a transaction holds, once it has ended."""
+        """Closes the connections: those that a transaction uses, once it has ended."""
         self._pool.close()
 
     def __enter__(self) -> Client:
@@ -114,7 +114,7 @@ class Client:
             self._pool.give(connection)
 
     def _ask(self, request: Term) -> Any:
-        """Asks on this thread's transaction's connection, where the server refuses what can't be in one, or on a free one."""
+        """Asks on the connection of this thread's transaction, on which the server refuses what a transaction can't do, or on a free one."""
         session = self._session()
         if session is not None:
             return session.ask_besides(request)
@@ -122,10 +122,10 @@ class Client:
             return connection.ask(request)
 
     def _ask_once(self, request: Term) -> Any:
-        """Asks for a change. Where no reply comes it may have been made."""
+        """Asks for a change. If no reply comes, the change may have been made."""
         session = self._session()
         if session is not None:
-            # Where a transaction is open the server refuses it.
+            # The server refuses it if a transaction is open.
             session.begin()
             return session.ask_besides(request)
         connection = self._pool.take()
@@ -135,30 +135,30 @@ class Client:
             self._pool.give(connection)
 
     def transaction(self) -> Block:
-        """A transaction for as long as the block runs. At its end it commits, or where an error leaves the block, nothing of it stays.
-        In an open one of the same thread it is a level in it.
+        """A transaction for as long as the block runs. At the end of the block it commits; an error that leaves the block undoes it.
+        In an open transaction of the same thread it is a level of that one.
 
-        `Restart` may leave the block, at any operation: the block is to be done again then, which `attempts` and `run` do by themselves."""
+        `Restart` may leave the block, at any operation. The block then has to be repeated; `attempts` and `run` do so by themselves."""
         return Block(self)
 
     def attempts(self, retries: Optional[int] = None) -> Attempts:
-        """A block that is done again if it lost a lock, with the same age, so often as `retries` says (then `NoMore` is raised), or without
-        it as often as it takes:
+        """A block that is repeated if it lost a lock, with the same age: at most `retries` times (then `NoMore` is raised), or without
+        `retries` as often as necessary:
 
             for attempt in client.attempts():
                 with attempt as t:
                     t.write(("person", "alice", 30))
 
-        So the block should do nothing else that may not be done twice, and what comes of it is done behind the loop. Each other error leaves the
-        loop. In an open transaction of the same thread it is a level, and what is done again is the outermost block."""
+        So the block should do nothing that may not be repeated; put code that uses its result after the loop. Each other error leaves the
+        loop. In an open transaction of the same thread it is a level, and the outermost block is repeated."""
         return Attempts(self, retries)
 
     def run(self, function: Callable[[Transaction], Value], retries: Optional[int] = None) -> Value:
-        """Calls the function with a transaction, and commits; gives what it gave.
+        """Calls the function with a transaction, commits, and returns the function's result.
 
-        Where a lock was lost it is called again, with the same age, so often as `retries` says (then `NoMore` is raised), or without it as
-        often as it takes; so it should do nothing else that may not be done twice. Whatever it gives or raises then is left out. In an
-        open transaction of the same thread it is a level, and what is called again is the outermost function."""
+        If a lock was lost the function is called again, with the same age: at most `retries` times (then `NoMore` is raised), or without
+        `retries` as often as necessary. So it should do nothing that may not be repeated. Results and errors of calls before the last are
+        ignored. In an open transaction of the same thread it is a level, and the outermost function is called again."""
         if inspect.iscoroutinefunction(function):
             raise TypeError(f"{function!r} is a coroutine function: tabd.aio has the client for asyncio")
         for attempt in Attempts(self, retries, whole=True):
@@ -175,8 +175,8 @@ class Client:
     ) -> Callable[Concatenate[Owner, Given], Value]: ...
 
     def transactional(self, function: Callable[..., Value]) -> Callable[..., Value]:
-        """A decorator: the function's first parameter is the transaction that `run` gives it, and its caller gives the others. Of a method,
-        whose first parameter is `self` or `cls`, it is the second one."""
+        """A decorator: `run` passes the transaction as the function's first parameter, and the caller passes the others. In a method,
+        whose first parameter is `self` or `cls`, the transaction is the second one."""
         check_plain(function)
         place = transaction_place(function)
 
@@ -198,7 +198,7 @@ class Client:
     def create_table(
         self, name: str, attributes: Sequence[str] = ("key", "val"), type: str = "set", index: Sequence[Union[str, int]] = ()
     ) -> Table:
-        """Makes a table, of type "set" or "bag". The first attribute is the key; those of `index`, by name or position (the second is
+        """Creates a table, of type "set" or "bag". The first attribute is the key; those of `index`, by name or position (the second is
         at 3), have an index."""
         options = [("type", type), ("attributes", list(attributes)), ("index", list(index))]
         result(self._ask_once(("create_table", name, options)))
@@ -209,11 +209,11 @@ class Client:
         result(self._ask_once(("delete_table", name)))
 
     def add_table_index(self, name: str, attribute: Union[str, int]) -> None:
-        """Gives an attribute an index, by its name or position."""
+        """Adds an index of an attribute, by its name or position."""
         result(self._ask_once(("add_table_index", name, attribute)))
 
     def del_table_index(self, name: str, attribute: Union[str, int]) -> None:
-        """Ends the index of an attribute."""
+        """Deletes the index of an attribute."""
         result(self._ask_once(("del_table_index", name, attribute)))
 
     def table_info(self, name: str, item: str) -> Any:

@@ -43,8 +43,8 @@ def _opened(address: Address, seconds: float) -> socket.socket:
 
 
 class Connection:
-    """A session of the server. One request is under way at a time: the next is sent behind the last one's reply, since what is
-    sent ahead of a restart would be done in the restarted transaction, without what came before it."""
+    """A session of the server. One request is under way at a time: the next is sent after the last one's reply, since an operation that is
+    sent before a restart would be done in the restarted transaction, without the operations before it."""
 
     def __init__(self, address: Address, timeout: Optional[float] = None, connect_timeout: Optional[float] = None) -> None:
         self.timeout, self.closed = timeout, False
@@ -67,7 +67,7 @@ class Connection:
             self._greet(address, deadline, seconds)
 
     def _greet(self, address: Address, deadline: float, seconds: float) -> None:
-        """A request shows that the connection is served. A full server has refused it before it came."""
+        """Sends a request to find out whether the connection is served. A full server has refused the connection before the request."""
         try:
             # What was refused may be closed already, and the refusal is still to be read.
             with contextlib.suppress(Closed):
@@ -81,7 +81,7 @@ class Connection:
         self.socket.settimeout(self.timeout)
 
     def is_ours(self) -> bool:
-        """Whether it is of this process."""
+        """Whether this process has opened it."""
         return self.process == os.getpid()
 
     def check_process(self) -> None:
@@ -89,7 +89,7 @@ class Connection:
             raise WrongProcess("the connection is the parent process's: a forked child uses the client, which opens connections of its own")
 
     def check(self) -> None:
-        """It may be used: in this process, and while it is open."""
+        """Raises an error if it may not be used: in another process, or after its end."""
         self.check_process()
         if self.closed:
             raise Closed(ENDED)
@@ -107,8 +107,8 @@ class Connection:
             raise
 
     def begin(self, request: Term) -> Tuple[Any, Any]:
-        """The replies to `begin` and to the request, sent together: for an idle session, and a request that is refused where no transaction
-        is open. So it is done in the transaction that was begun, or not at all."""
+        """The replies to `begin` and to the request, sent together: for an idle session, and a request that is refused if no transaction
+        is open. So it is done in the transaction that `begin` opened, or not at all."""
         data = BEGIN + frame(request)
         self.check()
         self.asked += 1
@@ -121,8 +121,8 @@ class Connection:
             raise
 
     def ask_for(self, request: Term, seconds: float) -> Tuple[bool, Any]:
-        """Whether a reply came within so many seconds, and the reply. Where none came the request is given up: an abort of its level
-        is asked, which ends its wait. Its own reply may have come before the abort's; else it is None."""
+        """Whether a reply came within so many seconds, and the reply. If none came the request is given up: an abort of its level
+        is sent, which ends its wait. Its own reply may have come before the abort's; else it is None."""
         data = frame(request)
         self.check()
         self.asked += 1
@@ -142,7 +142,7 @@ class Connection:
 
     @contextlib.contextmanager
     def _or_closed(self) -> Iterator[None]:
-        """Where no reply was taken it may still come: no other request can be asked here."""
+        """If its reply was not taken, the reply may still come: then no other request can be asked on this connection."""
         try:
             yield
         except BaseException:
@@ -157,7 +157,7 @@ class Connection:
         return term[1]
 
     def _next_reply(self, deadline: Optional[float]) -> Any:
-        """The term of the next reply, or None where it is not there by the deadline."""
+        """The term of the next reply, or None if it has not come by the deadline."""
         while True:
             term = self._receive(deadline)
             if term is None or term[0] == "reply":
@@ -165,7 +165,7 @@ class Connection:
             self.told.append(item_of(term))
 
     def item(self, seconds: Optional[float] = None) -> Optional[Item]:
-        """The next event or batch, or None where none came within so many seconds."""
+        """The next event or batch, or None if none came within so many seconds."""
         if self.told:
             return self.told.popleft()
         self.check()
@@ -181,14 +181,14 @@ class Connection:
             raise Closed(ENDED) from error
 
     def _receive(self, deadline: Optional[float]) -> Any:
-        """The next frame's term, or None where it is not there by the deadline."""
+        """The next frame's term, or None if it has not come by the deadline."""
         while True:
             term = self.frames.next()
             if term is not None or not self._read(deadline):
                 return term
 
     def _read(self, deadline: Optional[float]) -> bool:
-        """Takes what has come, or waits for it until the deadline."""
+        """Takes the bytes that have come, or waits for some until the deadline."""
         try:
             if deadline is not None and not self._poll.poll(max(deadline - time.monotonic(), 0) * 1000):
                 return False
@@ -201,11 +201,11 @@ class Connection:
         return True
 
     def is_idle(self) -> bool:
-        """Whether it is open and nothing has come: on a connection in no use, something that comes is its end."""
+        """Whether it is open and nothing has come: on a connection that is not in use, anything that comes is its end."""
         return not self.closed and self.frames.empty and not self._poll.poll(0)
 
     def close(self) -> None:
-        """Also from another thread, which reads: its read ends. In a forked child the parent's session goes on."""
+        """Closes it, also while another thread reads: that read ends. In a forked child the parent's session goes on."""
         self.closed = True
         if self.is_ours():
             with contextlib.suppress(OSError):
@@ -214,7 +214,7 @@ class Connection:
 
 
 def _poll(sock: socket.socket) -> select.poll:
-    """What says whether something has come. Unlike `select.select` it takes each descriptor, also one above 1,023."""
+    """An object that polls for bytes. Unlike `select.select` it accepts every descriptor, also one above 1,023."""
     poll = select.poll()
     poll.register(sock, select.POLLIN)
     return poll

@@ -9,7 +9,7 @@ from typing import Any
 
 
 def check_plain(function: Any) -> None:
-    """Raises TypeError for a function whose call gives something that does its work later, after the commit."""
+    """Raises TypeError for a function whose result does its work later, after the commit."""
     if not callable(function):
         raise TypeError(f"{function!r} is no function")
     if inspect.iscoroutinefunction(function) or inspect.isasyncgenfunction(function):

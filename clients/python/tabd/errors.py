@@ -49,7 +49,7 @@ class WrongProcess(Error):
 
 
 class Restart(Error):
-    """A lock was lost to an older transaction: this one is to be done again, as `Client.run` does."""
+    """A lock was lost to an older transaction: this one has to be repeated, as `Client.run` does."""
 
 
 class Aborted(Error):
@@ -101,7 +101,7 @@ class BadDef(Refused):
 
 
 class Locked(Refused):
-    """A transaction holds or awaits a lock in the table."""
+    """A transaction has or awaits a lock in the table."""
 
 
 class SystemLimit(Refused):

@@ -19,8 +19,8 @@ class Begin:
 
 @dataclass(frozen=True)
 class Write:
-    """A record was written. `age` is its transaction's; `old` has the key's records just before, where `detailed` was asked for; `commit`
-    is the number that its commit was answered, where the server tells it (`--batches`)."""
+    """A record was written. `age` is its transaction's; `old` has the key's records just before, if `detailed` was given; `commit`
+    is the number of its commit, if the server sends it (`--batches`)."""
 
     record: Record
     age: int
@@ -30,7 +30,7 @@ class Write:
 
 @dataclass(frozen=True)
 class Delete:
-    """A key was deleted, also where it had no record."""
+    """A key was deleted, also if it had no record."""
 
     table: str
     key: Term
@@ -41,7 +41,7 @@ class Delete:
 
 @dataclass(frozen=True)
 class DeleteObject:
-    """A record was deleted, also where it was not there."""
+    """A record was deleted, also if the table did not have it."""
 
     record: Record
     age: int

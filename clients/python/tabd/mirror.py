@@ -97,8 +97,8 @@ class Mirror:
             return copies.records(name)
 
     def wait(self, condition: Callable[[Mirror], Any], seconds: Optional[float] = None) -> bool:
-        """Waits until the condition holds, which is asked after each change; whether it did in time. Raises `Closed` if the mirror is closed
-        meanwhile."""
+        """Waits until the condition, which is checked after each change, is true. Returns whether it became true in
+        time. Raises `Closed` if the mirror is closed meanwhile."""
         return self._follower.wait(lambda: bool(condition(self)), seconds)
 
     def close(self) -> None:

@@ -27,7 +27,7 @@ class Session:
     def __init__(self, connection: Connection, lock_timeout: Optional[float] = None) -> None:
         self.connection, self.lock_timeout = connection, lock_timeout
         self.thread = threading.get_ident()
-        # Each is kept by its block alone: with what an interrupt has kept from its end the connection is gone too, which ends it.
+        # Only its block keeps each one: if an interrupt ends a block early, its connection is closed too, which ends the transaction.
         self.levels: List[weakref.ref[Transaction]] = []
         self.age: Optional[int] = None
         # After a restart the server has the transaction open at its first level, empty, with the same age.
@@ -44,7 +44,7 @@ class Session:
         self.settled = self.connection.asked
 
     def open(self) -> Transaction:
-        """A transaction, also one that is done again after a restart, or a level in it."""
+        """A transaction, also a repeated one after a restart, or a level in it."""
         if self.levels:
             self.innermost().check()
             self.begin()
@@ -73,11 +73,11 @@ class Session:
             raise Restart() if self.restarted else Ended("the transaction has ended")
         innermost = self.levels[-1]()
         if innermost is None:
-            raise Ended("the block of the innermost level was not left")
+            raise Ended("the block of the innermost level has not ended")
         return innermost
 
     def begin(self) -> int:
-        """The transaction's age. It is begun where it is not."""
+        """The transaction's age. Begins the transaction if it has not begun."""
         if self.age is None:
             self._begun(self.ask("begin"))
             self.settle()
@@ -88,7 +88,7 @@ class Session:
         _, self.age = self.answered(reply)
 
     def ask(self, request: Term) -> Any:
-        """The reply. Where the connection ends, so do all levels."""
+        """The reply. If the connection ends, all levels end."""
         try:
             return self.connection.ask(request)
         except Closed as error:
@@ -130,7 +130,7 @@ class Session:
         return error
 
     def finish(self) -> None:
-        """Ends what a restart has left open. If a level could not be ended, or an interrupt came between a request and its reply, the
+        """Ends the levels that a restart did not end. If a level could not be ended, or an interrupt came between a request and its reply, the
         connection is closed, which ends the transaction."""
         if not self.connection.closed and self.connection.is_ours():
             if self.levels or self.under_way:
@@ -145,9 +145,9 @@ class Session:
 class Transaction(Operations[List[Record], List[Any], None]):
     """An open transaction, or a level in one, of one thread: `Client.transaction`, `Client.attempts` and `Client.run` make it.
 
-    An operation that is refused `NoExists`, `BadType` or `NoIndex` has ended its level, at the server too. Where that error is
-    caught, each further operation of the level raises it again, and so does the level's end. So does `Restart` of all levels.
-    `commit` is the commit's number, once it is done."""
+    An operation that is refused `NoExists`, `BadType` or `NoIndex` ends its level, at the server too. If that error is
+    caught, each further operation of the level raises it again, and so does the level's end. `Restart` does the same to all levels.
+    `commit` is the commit's number, after the commit."""
 
     def __init__(self, session: Session, level: int) -> None:
         self._session, self.level = session, level
@@ -160,14 +160,14 @@ class Transaction(Operations[List[Record], List[Any], None]):
 
     @property
     def age(self) -> int:
-        """Which transaction of the run this is, as the events of its changes say. It is begun at the server with its first operation, or
-        here: of two transactions the one with the lesser age waits for a lock where the other would be restarted."""
+        """The number of the transaction in the server's run, as in the events of its changes. The transaction begins at the server with its
+        first operation, or here. If two transactions need the same lock, the one with the lesser age waits, and the other is restarted."""
         if self._session.age is None:
             self.check()
         return self._session.begin()
 
     def check(self) -> None:
-        """It is open, its innermost level, and used where it was opened."""
+        """Checks that it is open, is the innermost level, and is used in the thread that opened it."""
         session = self._session
         if self.fault is not None:
             raise self.fault
@@ -199,7 +199,7 @@ class Transaction(Operations[List[Record], List[Any], None]):
         return None
 
     def _give_up(self, reply: Any) -> Exception:
-        """An abort was asked behind the operation, which may have got this reply before: it has ended one level more than the reply did."""
+        """The operation got this reply although an abort was sent after it: the abort has ended one level more than the reply did."""
         error = LockTimeout(f"no lock within {self._session.lock_timeout} s")
         if reply == "restart":
             self._session.end_all(error)
@@ -216,18 +216,18 @@ class Transaction(Operations[List[Record], List[Any], None]):
         return fault
 
     def transaction(self) -> Level:
-        """A level in this one, as `with t.transaction() as inner`: its changes are this one's once it ends, and none of them stays
-        where it ends by an error."""
+        """A level in this one, as `with t.transaction() as inner`: its changes become this one's when it ends, and are undone if it
+        ends by an error."""
         self.check()
         return Level(self._session)
 
     def abort(self, reason: Term) -> NoReturn:
-        """Ends this level, with nothing of it: raises `Aborted`."""
+        """Undoes this level and raises `Aborted`."""
         self.check()
         raise Aborted(reason)
 
     def _finish(self) -> None:
-        """Commits it. One whose fault was caught has no commit."""
+        """Commits it. A level whose fault was caught is not committed."""
         self.check()
         session = self._session
         try:
@@ -244,7 +244,7 @@ class Transaction(Operations[List[Record], List[Any], None]):
         session.settle()
 
     def _undo(self) -> None:
-        """Ends it with nothing of it, and the levels in it that are still open."""
+        """Undoes it, and ends the levels in it that are still open."""
         session = self._session
         if session.under_way or session.thread != threading.get_ident():
             # The levels are unknown, or its own thread may be in a request.
@@ -259,7 +259,7 @@ class Transaction(Operations[List[Record], List[Any], None]):
 
 
 class Level:
-    """A level for as long as the block runs: it commits at its end, or where an error leaves the block, nothing of it stays."""
+    """A level for as long as the block runs: it commits at the end of the block; an error that leaves the block undoes it."""
 
     def __init__(self, session: Session) -> None:
         self._session = session
@@ -275,7 +275,7 @@ class Level:
 
 
 def finish(transaction: Transaction, commit: bool) -> None:
-    """Commits, and aborts what could not commit or is not to."""
+    """Commits, or aborts a level that can't or must not commit."""
     if not commit:
         return transaction._undo()
     try:
@@ -297,8 +297,8 @@ class OneShot(Gathered["OneShot"]):
         self._client = client
 
     def run(self, retries: int = 100) -> List[Any]:
-        """One answer for each operation, in their order. Where it has to restart it rests for a tenth of a second at most, so often
-        as `retries` says; then `NoMore` is raised. At most 1,000 retries."""
+        """One answer for each operation, in their order. If it has to restart, it backs off for a tenth of a second at most, and repeats the
+        operations, at most `retries` times; then `NoMore` is raised. `retries` is at most 1,000."""
         if self._client is None:
             raise Error("a level of a one-shot is not run by itself")
         return self._answers(self._client._ask_once(self._request(retries)))

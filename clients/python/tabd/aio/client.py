@@ -56,7 +56,7 @@ class Client:
         return f"<tabd.aio.Client of {self._address}, {state}>"
 
     async def close(self) -> None:
-        """Closes the connections: those that a transaction holds, once it has ended."""
+        """Closes the connections: those that a transaction uses, once it has ended."""
         self._pool.close()
         # The loop closes what was aborted in its next round.
         await asyncio.sleep(0)
@@ -125,7 +125,7 @@ class Client:
         return Block(self)
 
     def attempts(self, retries: Optional[int] = None) -> Attempts:
-        """A block that is done again if it lost a lock, as `tabd.Client.attempts` says:
+        """A block that is repeated if it lost a lock, as by `tabd.Client.attempts`:
 
             async for attempt in client.attempts():
                 async with attempt as t:

@@ -29,7 +29,7 @@ _OPEN: weakref.WeakSet[Connection] = weakref.WeakSet()
 
 
 async def _in_time(doing: Awaitable[Value], seconds: float) -> Value:
-    """What it gives, or asyncio.TimeoutError. Unlike `asyncio.wait_for` before Python 3.12 it loses no cancellation."""
+    """Its result, or asyncio.TimeoutError. Unlike `asyncio.wait_for` before Python 3.12 it loses no cancellation."""
     task = asyncio.ensure_future(doing)
     try:
         await asyncio.wait({task}, timeout=seconds)

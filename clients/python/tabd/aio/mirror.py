@@ -78,8 +78,8 @@ class Mirror:
         return self._follower.checked().records(name)
 
     async def wait(self, condition: Callable[[Mirror], Any], seconds: Optional[float] = None) -> bool:
-        """Waits until the condition holds, which is asked after each change; whether it did in time. Raises what has ended the task, and
-        `Closed` if the mirror is closed meanwhile."""
+        """Waits until the condition, which is checked after each change, is true. Returns whether it became true in
+        time. Raises the error that has ended the task, and `Closed` if the mirror is closed meanwhile."""
         return await self._follower.wait(lambda: bool(condition(self)), seconds)
 
     async def close(self) -> None:

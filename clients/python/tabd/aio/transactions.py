@@ -27,7 +27,7 @@ class Session:
         self.restarted = self.over = False
 
     async def open(self) -> Transaction:
-        """A transaction, also one that is done again after a restart, or a level in it."""
+        """A transaction, also a repeated one after a restart, or a level in it."""
         if self.levels:
             self.levels[-1].check()
             await self.begin()
@@ -246,7 +246,7 @@ class Block:
 
 
 async def opened(client: Client, kept: Optional[Session]) -> Transaction:
-    """A level in this task's transaction, or the first level: of the transaction that is done again, or of a new one."""
+    """A level in this task's transaction, or the first level: of the transaction that is repeated, or of a new one."""
     outer = client._session()
     if outer is not None:
         return await outer.open()
