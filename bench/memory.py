@@ -59,7 +59,7 @@ def idle_readers(count, answer):
     def read_all(reader):
         same("begin", reader.ask("begin")[0], "tid")
         ask_long(reader, ALL_RECORDS, size)
-        # An abort, since the journal holds what a commit was told.
+        # An abort, since the journal keeps the replies of a commit.
         script((reader, ("abort", "read"), ("aborted", "read")))
 
     def hold(server, _):

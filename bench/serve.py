@@ -56,7 +56,7 @@ def requests(what, client):
         "one read": ["begin", reads[0], "commit"],
         "a thousand reads": ["begin", *reads, "commit"],
         "all keys": ["begin", ("all_keys", "t"), "commit"],
-        # An abort, since the journal holds what a commit was told.
+        # An abort, since the journal keeps the replies of a commit.
         "a reply of 20 MB": ["begin", ("match_object", ("t", "_", "_")), ("abort", "read")],
     }
     return [frame(request) for request in rounds[what]]

@@ -13,8 +13,8 @@ PATIENCE = 10
 
 
 class Connection:
-    """To a port, or to the path of a socket file. Where the room is small, little stands between the server and who does not read;
-    of a socket file the server's own room decides."""
+    """A connection to a port, or to the path of a socket file. `small` makes the buffers between the server and a client that does not
+    read small; of a socket file the server's own buffer decides."""
 
     def __init__(self, place, small=False):
         if isinstance(place, str):

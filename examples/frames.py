@@ -1,8 +1,8 @@
 #!/usr/bin/env python3
 # SPDX-License-Identifier: Apache-2.0
-"""Requests for `tabd replay` as frames, and its replies as terms, with Python's standard library alone.
+"""Requests for `tabd replay` as frames, and its replies as terms, with only Python's standard library.
 
-    frames.py ask                 a session that stands in this file, as frames on standard output
+    frames.py ask                 an example session, as frames on standard output
     frames.py ask REQUEST ..      the frames of these requests
     frames.py ask --file FILE     the frames of a file's lines, each a request; - is standard input
     frames.py show                the terms of the frames on standard input, a line each
@@ -16,8 +16,8 @@ of at most 128 bits, bytes a binary, a tuple a tuple, a list a list, and a dict 
 
     (1, ("write", ("person", 1, b"alice")))
 
-In a file, empty lines and what follows a # outside quotes are skipped. A request that is no such literal is told with
-its number, its line in a file; nothing is written then, and the exit status is 2. It is 2 as well where `show` meets
+In a file, empty lines and comments after a # outside quotes are skipped. If a request is no such literal, its number, or its
+line in a file, is printed; nothing else is written, and the exit status is 2. It is also 2 if `show` reads
 bytes that are no frame of a term, after the terms before them. Any term can be asked, also one that is no request.
 """
 
@@ -80,7 +80,7 @@ def spell_map(pairs):
 
 
 def spell(term):
-    """The one spelling of a term that tabd itself writes."""
+    """Encodes a term as tabd does."""
     if type(term) is int:
         return spell_integer(term)
     if isinstance(term, str):
@@ -118,7 +118,7 @@ def many(stream, count):
 
 
 def read(stream):
-    """The term of a spelling that tabd writes."""
+    """Decodes a term as tabd encodes it."""
     tag = number(stream, 1)
     if tag == 97:
         return number(stream, 1)
@@ -209,8 +209,8 @@ def main():
     parser.add_argument("request", nargs="*", help="a request to ask, as a Python literal")
     words = parser.parse_args()
     if words.request and words.file or words.what == "show" and (words.request or words.file):
-        parser.error("requests are asked by words or by a file, and nothing is asked by show")
-    # Who reads may end first, as `head` does: then this ends too, silently.
+        parser.error("ask takes requests as arguments or from a file, and show takes none")
+    # The reader may end first, as `head` does: then this ends too, silently.
     if hasattr(signal, "SIGPIPE"):
         signal.signal(signal.SIGPIPE, signal.SIG_DFL)
     if words.what == "show":

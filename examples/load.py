@@ -1,16 +1,16 @@
 #!/usr/bin/env python3
 # SPDX-License-Identifier: Apache-2.0
-"""A load on `tabd serve`, with Python's standard library alone.
+"""A load on `tabd serve`, with only Python's standard library.
 
     load.py PROGRAM              as load.py crates/tabd/out/tabd
-    load.py PROGRAM COMMITS      so many of each of the sixteen writers, 400 where it is not given
+    load.py PROGRAM COMMITS      that many of each of the sixteen writers, 400 by default
 
-Writers commit transactions, made up by a seed, and make them again where they are restarted; every fourth is a one-shot. Now
+Writers commit random transactions, from a seed, and repeat them if they are restarted; every fourth is a one-shot. Now
 and then a writer breaks its connection off, in the middle of a transaction or while it waits for a reply, and goes on with a
 new one, until 64 connections were made. Mirrors subscribe with a dump and follow the events; all but the first stop reading
-at times, so that their outboxes overflow, and subscribe anew. In the end the copies are compared with the table, and the
-server has to end by itself when all connections are closed. The last line has the memory that the server held after a tenth of
-the commits and at the end; the status is 1 where something differs. It takes less than a minute.
+at times, so that their outboxes overflow, and subscribe again. In the end the copies are compared with the table, and the
+server has to end by itself when all connections are closed. The last line has the server's memory after a tenth of
+the commits and at the end; the status is 1 if something differs. It takes less than a minute.
 """
 
 import random
@@ -30,7 +30,7 @@ SECONDS = 35 + COMMITS // 10
 
 
 class Load:
-    """What the threads share: the commits so far, and how many connections may still be made anew."""
+    """The threads' shared counts: the commits so far, and how many new connections may still be made."""
 
     def __init__(self, port, process):
         self.port, self.process, self.lock = port, process, threading.Lock()
@@ -46,7 +46,7 @@ class Load:
             return is_left
 
     def commit(self, number=None):
-        """Keeps the number of a commit, which a one-shot is not told, and the memory after the first tenth."""
+        """Keeps the number of a commit, which a one-shot's reply does not have, and the memory after the first tenth."""
         with self.lock:
             self.commits += 1
             if number:
@@ -148,7 +148,7 @@ def side_by_side(load, mirrors):
 
 
 def ends(server):
-    """The status with which the server ends by itself, once every connection is closed; None where some session is left."""
+    """The status with which the server ends by itself, once every connection is closed; None if a session has not ended."""
     try:
         return server.wait(5)
     except subprocess.TimeoutExpired:
@@ -169,12 +169,12 @@ def main():
     status = ends(server)
     wrong = load.failed + [f"mirror {at} differs" for at, mirror in enumerate(mirrors) if not mirror or mirror.copy != table]
     if len(set(load.told)) != len(load.told):
-        wrong.append("a commit's number was told twice")
+        wrong.append("two replies have the same commit number")
     # Of a connection that was broken off it is not known whether its last request was a commit.
     if not load.commits + 2 <= last <= load.commits + 2 + broken:
-        wrong.append(f"{load.commits} commits were told, and the last has the number {last}")
+        wrong.append(f"{load.commits} commits had replies, and the last has the number {last}")
     if status != 0:
-        wrong.append("sessions are left" if status is None else f"the server ended with {status}")
+        wrong.append("a session has not ended" if status is None else f"the server ended with {status}")
     for line in wrong:
         print(line)
     print(f"{load.commits} commits in {seconds:.1f} s, {broken} connections broken off")

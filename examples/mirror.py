@@ -1,13 +1,13 @@
 #!/usr/bin/env python3
 # SPDX-License-Identifier: Apache-2.0
-"""Mirrors two tables of `tabd replay` by their dumps and events, with Python's standard library alone.
+"""Mirrors two tables of `tabd replay` by their dumps and events, with only Python's standard library.
 
-    mirror.py PROGRAM [WORD ..]        as mirror.py crates/tabd/out/tabd
+    mirror.py PROGRAM [OPTION ..]      as mirror.py crates/tabd/out/tabd
 
-Session 1 commits transactions, made up by a seed; session 2 watches a set and a bag, and takes what it is told now and then.
-A begin marker has the table's records, and each batch the events of one commit. Where session 2 took too seldom, its post
-overflowed: it is told so after what came before, its copy is old, and it subscribes anew. In the end the copies are
-compared with the tables, which session 1 reads. The last line says how much was told; the status is 1 where a copy differs.
+Session 1 commits random transactions, from a seed; session 2 watches a set and a bag, and takes its items now and then.
+A begin marker has the table's records, and each batch the events of one commit. If session 2 takes too seldom, its outbox
+overflows: it gets the overflow after the items before it, its copy is out of date, and it subscribes again. In the end the copies are
+compared with the tables, which session 1 reads. The last line has the numbers of items; the status is 1 if a copy differs.
 """
 
 import random
@@ -71,7 +71,7 @@ class Mirror:
         self.told["events"] += 1
 
     def follow(self, item):
-        """Whether something was told."""
+        """Whether an item was taken."""
         if item == "empty":
             return False
         if item[0] == "mnesia_table_begin":

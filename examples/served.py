@@ -1,13 +1,13 @@
 #!/usr/bin/env python3
 # SPDX-License-Identifier: Apache-2.0
-"""Several writers and a mirror of `tabd serve`, each on a connection of its own, with Python's standard library alone.
+"""Several writers and a mirror of `tabd serve`, each on a connection of its own, with only Python's standard library.
 
     served.py PROGRAM            as served.py crates/tabd/out/tabd
 
-Each writer commits transactions, made up by a seed, and makes them again where they are restarted; every fourth is a
-one-shot. The mirror subscribes with a dump and follows the events; where it was too slow its mailbox overflowed, and it
-subscribes anew. In the end its copy is compared with the table, and the number of commits with those that the writers were
-told. The last line says how much was told; the status is 1 where something differs.
+Each writer commits random transactions, from a seed, and repeats them if they are restarted; every fourth is a
+one-shot. The mirror subscribes with a dump and follows the events; if it is too slow its outbox overflows, and it
+subscribes again. In the end its copy is compared with the table, and the number of commits with the writers' replies.
+The last line has the numbers of commits and events; the status is 1 if something differs.
 """
 
 import random

@@ -258,7 +258,7 @@ class Watcher(Log):
         if reply == ("ok", "nonode@nohost"):
             self.marks.append((request, sent, got))
         elif reply[1] not in ("overflow", "outbox_full", ("not_subscribed", request[1][1])):
-            raise Differs(f"{self.name}: {request} was told {reply}")
+            raise Differs(f"{self.name}: the reply to {request} was {reply}")
         return reply
 
     def subscribe(self, tab):

@@ -84,7 +84,7 @@ class OneShot:
         alone = Alone(tables)
         told = alone.one_shot(self.parts)
         if self.reply is not None and self.reply != told:
-            return None, f"the one-shot {self.parts} was told {self.reply}, alone {told}"
+            return None, f"the reply to the one-shot {self.parts} was {self.reply}, serially it is {told}"
         return alone.updates, None
 
     def asked(self):
@@ -257,7 +257,7 @@ class Judge:
             tags = [term[1][-3][3] for term in told if len(term[1][-3]) == 4]
             who = by_age.get(age) or next((by_tag[tag] for tag in tags if tag in by_tag), None)
             if who is None or id(who) in seen:
-                raise Differs(f"events of age {age} are of no commit, or are told twice: {told}")
+                raise Differs(f"events of age {age} are of no commit, or were sent twice: {told}")
             seen.add(id(who))
             commits.append(Commit(who, age, told))
         for who in [*by_age.values(), *by_tag.values()]:

@@ -20,13 +20,13 @@
     for event in person.events(dump=True):
         print(event)
 
-Terms. A str is an atom, bytes are a binary; an int, a tuple, a list and a dict are what they are called, and `Pairs` is a
-map with a key that Python can't hash. There is no term for a float, a bool and None. A record is a tuple: the table's name,
-the key, and the other attributes. What was written is what is read.
+Terms. A str is an atom, bytes are a binary; an int is an integer, a tuple a tuple, a list a list and a dict a map, and `Pairs` is a
+map with a key that Python can't hash. There is no term for a float, a bool or None. A record is a tuple: the table's name,
+the key, and the other attributes. A record is read as it was written.
 
-Connections. A transaction holds a connection until it has ended, and `events` and a `Mirror` each hold one of their own. The
-server serves as many connections in all as its `--connections` says, also those that have ended, and it ends when all of them have; with
-`--forever` as many at once, and it never ends. So a client opens one where all that it has are in use, and keeps it.
+Connections. A transaction uses a connection until it has ended, and `events` and a `Mirror` each use one of their own. The
+server serves as many connections in all as its `--connections` says, including ended ones, and ends when all of them have ended; with
+`--forever` it serves as many at once, and never ends. So a client opens a connection only if all that it has are in use, and keeps it.
 """
 
 from __future__ import annotations

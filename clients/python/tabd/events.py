@@ -1,5 +1,5 @@
 # SPDX-License-Identifier: Apache-2.0
-"""What a subscription tells."""
+"""The events of a subscription."""
 
 from __future__ import annotations
 
@@ -93,7 +93,7 @@ def _change(event: Record, commit: Optional[int] = None) -> Change:
 
 
 def item_of(term: Record) -> Item:
-    """What a frame that is no reply tells."""
+    """The event, batch or marker of a frame that is no reply."""
     kind = term[0]
     if kind == "mnesia_table_event":
         return _change(term[1])

@@ -228,8 +228,8 @@ class Follower:
                 return
 
     def _subscribe(self, connection: Connection, name: str) -> bool:
-        """Whether the table is watched. How an event is applied depends on the type; where another table took the name meanwhile, the
-        subscription is ended again, if it is not the old table's, which has ended by itself."""
+        """Subscribes to the table; returns whether it is watched. The table's type decides how an event is applied. If another table got the
+        name meanwhile, the subscription is ended again, unless it is the old table's, which has ended by itself."""
         info = ("table_info", name, "type")
         self.copies.types[name] = first = result(connection.ask(info))
         try:

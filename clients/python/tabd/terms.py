@@ -1,5 +1,5 @@
 # SPDX-License-Identifier: Apache-2.0
-"""Terms: what they are in Python, and their spelling in Erlang's external term format."""
+"""Terms as Python values, and their encoding in Erlang's external term format."""
 
 from __future__ import annotations
 
@@ -103,7 +103,7 @@ def _spell_map(pairs: Sequence[Tuple[Any, Any]], levels: int) -> bytes:
 
 
 def _spell(term: Any, levels: int) -> bytes:
-    """The one spelling that the server writes of a term, of at most so many levels."""
+    """Encodes a term as the server does, with at most so many levels."""
     if levels == 0:
         raise no_term(term, f"a term has at most {MOST_LEVELS} levels")
     if isinstance(term, tuple):
