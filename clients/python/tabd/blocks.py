@@ -19,6 +19,7 @@ class Entered:
 
     session: Optional[Session] = None
 
+
 class Block(Entered):
     """`with client.transaction() as t`, once."""
 
@@ -60,7 +61,7 @@ def opened(client: Client, block: Entered, kept: Optional[Session]) -> Transacti
     """A level in this thread's transaction, or the first level: of the transaction that is repeated, or of a new one."""
     outer = client._session()
     if outer is not None:
-        return outer.open()
+        return outer.open_level()
     session = kept or Session(client._pool.take(), client._lock_timeout)
     transaction = session.open()
     client._enter(block, session)

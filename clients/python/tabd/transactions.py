@@ -18,6 +18,8 @@ from .wire import result
 if TYPE_CHECKING:
     from .client import Client
 
+LOST = "a lock was lost to an older transaction: the transaction is to be done again, as Client.attempts and Client.run do"
+
 
 class Session:
     """A connection with a transaction open, and its levels from the first to the innermost.
@@ -44,12 +46,18 @@ class Session:
         self.settled = self.connection.asked
 
     def open(self) -> Transaction:
-        """A transaction, also a repeated one after a restart, or a level in it."""
-        if self.levels:
-            self.innermost().check()
-            self.begin()
-            self.answered(self.ask("begin"))
+        """The first level, also of a transaction that is repeated after a restart."""
         self.restarted = False
+        return self._opened()
+
+    def open_level(self) -> Transaction:
+        """A level in the innermost one."""
+        self.innermost().check()
+        self.begin()
+        self.answered(self.ask("begin"))
+        return self._opened()
+
+    def _opened(self) -> Transaction:
         transaction = Transaction(self, len(self.levels) + 1)
         self.levels.append(weakref.ref(transaction))
         self.settle()
@@ -70,7 +78,7 @@ class Session:
     def innermost(self) -> Transaction:
         """The level that takes operations."""
         if not self.levels:
-            raise Restart() if self.restarted else Ended("the transaction has ended")
+            raise Restart(LOST) if self.restarted else Ended("the transaction has ended")
         innermost = self.levels[-1]()
         if innermost is None:
             raise Ended("the block of the innermost level has not ended")
@@ -124,7 +132,7 @@ class Session:
             self.levels.pop()
 
     def restart(self) -> Restart:
-        error = Restart("a lock was lost to an older transaction: the transaction is to be done again, as Client.attempts and Client.run do")
+        error = Restart(LOST)
         self.restarted = True
         self.end_all(error)
         return error
@@ -171,6 +179,9 @@ class Transaction(Operations[List[Record], List[Any], None]):
         session = self._session
         if self.fault is not None:
             raise self.fault
+        if session.over:
+            # In a child process, which has left the parent's block.
+            raise Ended("the transaction's block has ended")
         if session.thread != threading.get_ident():
             raise WrongThread("a transaction is used by the thread that opened it: each thread opens its own")
         session.connection.check_process()
@@ -246,6 +257,8 @@ class Transaction(Operations[List[Record], List[Any], None]):
     def _undo(self) -> None:
         """Undoes it, and ends the levels in it that are still open."""
         session = self._session
+        if session.over:
+            return
         if session.under_way or session.thread != threading.get_ident():
             # The levels are unknown, or its own thread may be in a request.
             session.connection.close()
@@ -266,7 +279,7 @@ class Level:
         self._transaction: Optional[Transaction] = None
 
     def __enter__(self) -> Transaction:
-        self._transaction = self._session.open()
+        self._transaction = self._session.open_level()
         return self._transaction
 
     def __exit__(self, kind: Optional[Type[BaseException]], error: Optional[BaseException], trace: Optional[TracebackType]) -> None:

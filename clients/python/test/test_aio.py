@@ -74,6 +74,35 @@ class Transactions(Loops):
 
         self.play(test)
 
+    def test_a_level_that_is_of_no_open_transaction(self) -> None:
+        """What it did would be another transaction's, or be committed without what came before it."""
+
+        async def test(client: tabd.aio.Client) -> None:
+            async with client.transaction() as t:
+                await put(t, 1)
+                level = t.transaction()
+            async with client.transaction() as t:
+                await put(t, 2)
+                with self.assertRaises(tabd.Ended):
+                    await level.__aenter__()
+            async with client.transaction() as older:
+                await put(older, 3)
+
+                async def younger() -> None:
+                    async with client.transaction() as t:
+                        try:
+                            await put(t, 3)
+                        except tabd.Restart:
+                            pass
+                        async with client.transaction() as inner:
+                            await put(inner, 4)
+
+                with self.assertRaises(tabd.Restart):
+                    await asyncio.ensure_future(younger())
+            self.assertEqual(await client.table("t").keys(), [1, 2, 3])
+
+        self.play(test)
+
     def test_a_tables_own_operations(self) -> None:
         async def test(client: tabd.aio.Client) -> None:
             table = client.table("t")

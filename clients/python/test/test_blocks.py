@@ -194,6 +194,49 @@ class Attempts(Scripted):
         self.play(do, BEGIN, COMMIT, BEGIN, COMMIT)
 
 
+class Levels(Scripted):
+    def test_a_level_that_is_entered_after_its_transaction(self) -> None:
+        """It is no level of the thread's next one."""
+
+        def do(client: tabd.Client) -> None:
+            with client.transaction() as t:
+                put(t, 1)
+                level = t.transaction()
+            with client.transaction() as t:
+                put(t, 2)
+                with self.assertRaises(tabd.Ended):
+                    level.__enter__()
+
+        self.play(do, BEGIN, (write(1), OK), COMMIT, BEGIN, (write(2), OK), COMMIT)
+
+    def test_a_level_after_a_caught_restart(self) -> None:
+        """What it did would be committed without what came before it."""
+
+        def do(client: tabd.Client) -> None:
+            with client.transaction() as t:
+                try:
+                    put(t, 1)
+                except tabd.Restart:
+                    pass
+                with client.transaction() as inner:
+                    put(inner, 2)
+
+        with self.assertRaises(tabd.Restart):
+            self.play(do, BEGIN, (write(1), RESTART), ABORT)
+
+    def test_an_outer_block_that_is_left_first(self) -> None:
+        def do(client: tabd.Client) -> None:
+            block = client.transaction()
+            t = block.__enter__()
+            level = t.transaction()
+            put(level.__enter__(), 1)
+            block.__exit__(KeyError, KeyError("mine"), None)
+            with self.assertRaises(tabd.Ended):
+                level.__exit__(None, None, None)
+
+        self.play(do, ALONE, ALONE, (write(1), OK), ABORT, ABORT)
+
+
 class Begins(Scripted):
     """`begin` is sent together with the first request, which must only be done in that transaction."""
 

@@ -125,11 +125,12 @@ class Forks(unittest.TestCase):
                         except tabd.WrongProcess:
                             pass
                         self.client.close()
-                        os.write(writing, b"closed")
+                        calls: List[Callable[[], Any]] = [lambda: t.read("t", 1), t.transaction, lambda: t.abort("why")]  # noqa: B023
+                        os.write(writing, " ".join(map(error_of, calls)).encode())
                     finally:
                         os._exit(0)
                 os.close(writing)
-                self.assertEqual(told_by((child, reading)), "closed")
+                self.assertEqual(told_by((child, reading)), "Ended Ended Ended")
                 t.write(("t", 2, "parent"))
             self.assertEqual(self.table.keys(), [1, 2])
             self.client.run(lambda t: [t.delete("t", key) for key in (1, 2)])

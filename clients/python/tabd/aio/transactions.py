@@ -10,6 +10,7 @@ from typing import TYPE_CHECKING, Any, AsyncIterator, Awaitable, Iterator, List,
 from ..errors import Aborted, Closed, Ended, Error, LockTimeout, NoMore, OutcomeUnknown, Restart, WrongProcess, refusal
 from ..operations import Gathered, Operations
 from ..terms import Record, Term
+from ..transactions import LOST
 from ..wire import result
 from .connection import Connection
 
@@ -26,13 +27,19 @@ class Session:
         self.age: Optional[int] = None
         self.restarted = self.over = False
 
-    async def open(self) -> Transaction:
-        """A transaction, also a repeated one after a restart, or a level in it."""
-        if self.levels:
-            self.levels[-1].check()
-            await self.begin()
-            result(await self.ask("begin"))
+    def open(self) -> Transaction:
+        """The first level, also of a transaction that is repeated after a restart."""
         self.restarted = False
+        return self._opened()
+
+    async def open_level(self) -> Transaction:
+        """A level in the innermost one."""
+        self.innermost().check()
+        await self.begin()
+        result(await self.ask("begin"))
+        return self._opened()
+
+    def _opened(self) -> Transaction:
         transaction = Transaction(self, len(self.levels) + 1)
         self.levels.append(transaction)
         return transaction
@@ -40,7 +47,7 @@ class Session:
     def innermost(self) -> Transaction:
         """The level that takes operations."""
         if not self.levels:
-            raise Restart() if self.restarted else Ended("the transaction has ended")
+            raise Restart(LOST) if self.restarted else Ended("the transaction has ended")
         return self.levels[-1]
 
     async def begin(self) -> int:
@@ -90,7 +97,7 @@ class Session:
             self.levels.pop().fault = error
 
     def restart(self) -> Restart:
-        error = Restart("a lock was lost to an older transaction: the transaction is to be done again, as Client.attempts and Client.run do")
+        error = Restart(LOST)
         self.restarted = True
         self.end_all(error)
         return error
@@ -214,7 +221,7 @@ class Level:
         self._transaction: Optional[Transaction] = None
 
     async def __aenter__(self) -> Transaction:
-        self._transaction = await self._session.open()
+        self._transaction = await self._session.open_level()
         return self._transaction
 
     async def __aexit__(self, kind: Optional[Type[BaseException]], error: Optional[BaseException], trace: Optional[TracebackType]) -> None:
@@ -249,9 +256,9 @@ async def opened(client: Client, kept: Optional[Session]) -> Transaction:
     """A level in this task's transaction, or the first level: of the transaction that is repeated, or of a new one."""
     outer = client._session()
     if outer is not None:
-        return await outer.open()
+        return await outer.open_level()
     session = kept or Session(await client._pool.take(), client._lock_timeout)
-    transaction = await session.open()
+    transaction = session.open()
     client._enter(session)
     return transaction
 
