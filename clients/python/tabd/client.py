@@ -5,7 +5,6 @@ from __future__ import annotations
 
 import contextlib
 import functools
-import inspect
 import threading
 import weakref
 from typing import TYPE_CHECKING, Any, Callable, Iterator, Optional, Sequence, TypeVar, Union, overload
@@ -159,8 +158,7 @@ class Client:
         If a lock was lost the function is called again, with the same age: at most `retries` times (then `NoMore` is raised), or without
         `retries` as often as necessary. So it should do nothing that may not be repeated. Results and errors of calls before the last are
         ignored. In an open transaction of the same thread it is a level, and the outermost function is called again."""
-        if inspect.iscoroutinefunction(function):
-            raise TypeError(f"{function!r} is a coroutine function: tabd.aio has the client for asyncio")
+        check_plain(function)
         for attempt in Attempts(self, retries, whole=True):
             with attempt as transaction:
                 value = function(transaction)

@@ -8,14 +8,23 @@ import inspect
 from typing import Any
 
 
+# Flags of a function whose call does not run its body.
+LATER = inspect.CO_COROUTINE | inspect.CO_GENERATOR | inspect.CO_ASYNC_GENERATOR
+
+
 def check_plain(function: Any) -> None:
     """Raises TypeError for a function whose result does its work later, after the commit."""
+    if inspect.isfunction(function) and not function.__code__.co_flags & LATER:
+        return
     if not callable(function):
         raise TypeError(f"{function!r} is no function")
-    if inspect.iscoroutinefunction(function) or inspect.isasyncgenfunction(function):
-        raise TypeError(f"{function!r} is a coroutine function: tabd.aio has the client for asyncio")
-    if inspect.isgeneratorfunction(function):
-        raise TypeError(f"{function!r} is a generator function: it would run after the commit")
+    # An object may be called as a function.
+    called = function if inspect.isroutine(function) else function.__call__
+    for one in (function, called):
+        if inspect.iscoroutinefunction(one) or inspect.isasyncgenfunction(one):
+            raise TypeError(f"{function!r} is a coroutine function: tabd.aio has the client for asyncio")
+        if inspect.isgeneratorfunction(one):
+            raise TypeError(f"{function!r} is a generator function: it would run after the commit")
 
 
 def transaction_place(function: Any) -> int:

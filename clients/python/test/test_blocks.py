@@ -2,6 +2,7 @@
 
 from __future__ import annotations
 
+import functools
 import gc
 import inspect
 import threading
@@ -341,11 +342,15 @@ class Decorated(Scripted):
         async def both(t: tabd.Transaction) -> Any:
             yield 1
 
-        for function in (coroutine, generator, both, 5):
-            with self.assertRaises(TypeError):
-                CLIENT.transactional(function)  # type: ignore[call-overload]
-        with self.assertRaises(TypeError):
-            CLIENT.run(coroutine)
+        class Called:
+            async def __call__(self, t: tabd.Transaction) -> None: ...
+
+        for function in (coroutine, generator, both, functools.partial(generator), Called(), 5):
+            with self.subTest(function=function):
+                with self.assertRaises(TypeError):
+                    CLIENT.transactional(function)  # type: ignore[call-overload]
+                with self.assertRaises(TypeError):
+                    CLIENT.run(function)  # type: ignore[arg-type]
 
 
 class OtherThreads(Scripted):
