@@ -22,7 +22,7 @@ import time
 
 HERE = os.path.dirname(os.path.abspath(__file__))
 sys.path.insert(0, os.path.join(HERE, "..", "examples"))
-from frames import frame, read, spell, take  # noqa: E402
+from frames import frame, spell, take  # noqa: E402
 
 MILLISECONDS = int(os.environ.get("LOAD_MS", "1500"))
 ROUNDS = int(os.environ.get("ROUNDS", "5"))

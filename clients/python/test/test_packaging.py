@@ -55,7 +55,7 @@ class Packaging(unittest.TestCase):
             with self.subTest(unit):
                 said("systemd-analyze", "security", "--offline=true", "--no-pager", f"--threshold={MOST}", path)
 
-    @unittest.skipUnless(os.environ.get("TABD_LONG") and shutil.which("dpkg-deb") and is_program(), "TABD_LONG is not set, or no package can be built")
+    @unittest.skipUnless(os.environ.get("TABD_LONG") and shutil.which("dpkg-deb") and is_program(), "no TABD_LONG, or no package can be built")
     def test_packages(self) -> None:
         with tempfile.TemporaryDirectory() as folder:
             paths = said(sys.executable, os.path.join(PACKAGING, "deb"), PROGRAM, folder).split()
