@@ -15,7 +15,7 @@ use tab_model::{Change, Kind};
 use tab_rows::Rows;
 use tab_term::Term;
 
-/// The keys of a table that had no records before these changes, each once, in ascending order.
+/// The keys of a table without records after these changes, each once, in ascending order.
 pub fn keys_after(alloc: Global, kind: Kind, changes: &[Change]) -> Result<SharedTerms, AllocError>
     ensures { IfOk result (λ found. found ≡ plain_terms (keys (rows_after kind [] changes.now))) }
 {
