@@ -1,6 +1,6 @@
 //! The words of tabd's command line, and what they ask for.
 //!
-//! A crate of its own, since no crate can stand on a program: another program that starts servers reads their words by `words`.
+//! A crate of its own, since no crate can depend on a program: another program that starts servers reads their words by `words`.
 
 #![tactic(auto)]
 
